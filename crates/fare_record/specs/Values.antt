@@ -1,0 +1,23 @@
+-- What contracts see of a tap and of its record.
+use Rattle.std.specs.Prelude.{ℕ}
+use Rattle.fare_record.specs.Limits.{IsNumber}
+
+-- a tap: what was used, when, and the traffic day of that moment
+pub record TapValue : Type 0 where
+  pub product : ℕ
+  pub token : ℕ
+  pub moment : ℕ
+  pub day : ℕ
+
+-- a numbered tap: its device, its place in all taps of the device, the owner of its product, and its place in that owner's taps of the device
+pub record RecordValue : Type 0 where
+  pub device : ℕ
+  pub link : ℕ
+  pub owner : ℕ
+  pub lane : ℕ
+  pub tap : TapValue
+
+-- both numbers are within their limits
+pub record IsRecord (r : RecordValue) : Type 0 where
+  pub link : IsNumber r.link
+  pub lane : IsNumber r.lane
