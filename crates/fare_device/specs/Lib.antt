@@ -1,0 +1,4 @@
+pub mod SchemeWords
+pub mod TrafficDay
+pub mod DeviceWords
+pub mod Tapping

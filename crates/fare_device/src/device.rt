@@ -1,0 +1,152 @@
+ghost use Rattle.std.specs.Prelude.{◌≡◌, ◌↔◌, ◌+◌, ◌-◌, ℕ, None, IsSome, IfSome, IfNone, IfOk, IfErr, OnErr, length, slice_get};
+ghost use Rattle.fare_device.specs.SchemeWords.{position_of_device};
+ghost use Rattle.fare_device.specs.DeviceWords.{fresh_device, last_link};
+ghost use Rattle.fare_device.specs.Tapping.{IsTapped, TapRefused};
+
+use crate::Scheme;
+use fare_record::{Day, DeviceId, LAST_NUMBER, Moment, ProductId, Record, Tap, Token};
+use std::alloc::Global;
+use std::marker::Model;
+use thiserror::Error;
+
+/// Why no device was made.
+#[derive(Clone, Copy, PartialEq, Eq, Debug, Error)]
+pub enum DeviceFault {
+    /// The device is not registered.
+    #[error("unknown device")]
+    UnknownDevice,
+    /// There was no memory for it.
+    #[error("no memory")]
+    Memory,
+}
+
+/// Why a tap was not numbered.
+#[derive(Clone, Copy, PartialEq, Eq, Debug, Error)]
+pub enum TapRefusal {
+    /// The product is not registered.
+    #[error("unknown product")]
+    UnknownProduct,
+    /// The tap's day is before the open day.
+    #[error("the day is closed")]
+    DayClosed,
+    /// The tap's day is after the open day.
+    #[error("the day is ahead")]
+    DayAhead,
+    /// All link numbers were given out.
+    #[error("the numbers are spent")]
+    NumbersSpent,
+    /// There was no memory to keep the tap.
+    #[error("no memory")]
+    Memory,
+}
+
+/// A device: a validator that numbers the taps of its open day and keeps them until they are acknowledged.
+#[derive(Debug, Drop)]
+pub struct Device {
+    id: DeviceId,
+    day: Day,
+    waiting: Vec<Record>,
+    base: u64,
+    cursor: u64,
+    lanes: Vec<u64>,
+}
+
+impl Model for Device {
+    ghost use Rattle.fare_device.specs.DeviceWords.{DeviceValue, IsDeviceValue};
+
+    ghost Value = { DeviceValue };
+
+    ghost view = { λ a. record { id = a.id; day = a.day; waiting = a.waiting.items; base = a.base; cursor = a.cursor; lanes = a.lanes.items } };
+
+    ghost invariant = { λ a. IsDeviceValue (record { id = a.id; day = a.day; waiting = a.waiting.items; base = a.base; cursor = a.cursor; lanes = a.lanes.items }) };
+}
+
+impl Device {
+    /// A device that has numbered nothing; its open day is the scheme's first. `UnknownDevice` where it is
+    /// not registered, `Memory` where there was none.
+    pub fn new(alloc: Global, id: DeviceId, scheme: &Scheme) -> Result<Device, DeviceFault>
+        ensures made { IfOk result (λ device. device ≡ fresh_device id scheme.now.start (length scheme.now.owners)) }
+        ensures known { IfOk result (λ _. IsSome (position_of_device scheme.now id)) }
+        ensures unknown { IfErr result (λ fault. (fault ≡ DeviceFault.UnknownDevice) ↔ (position_of_device scheme.now id ≡ None)) }
+    {
+        if scheme.device_position(id).is_none() {
+            return Err(DeviceFault::UnknownDevice);
+        }
+        let Ok(lanes) = vec![in alloc; 0; scheme.owners()] else {
+            return Err(DeviceFault::Memory);
+        };
+        Ok(Device {
+            id,
+            day: scheme.start(),
+            waiting: Vec::new(alloc),
+            base: 0,
+            cursor: 0,
+            lanes,
+        })
+    }
+
+    /// Its id.
+    pub fn id(&self) -> DeviceId
+        ensures { result ≡ self.now.id }
+    {
+        self.id
+    }
+
+    /// Numbers a tap and keeps it at the end of those that wait. `day` is the traffic day of `moment`, and
+    /// the scheme is the one that the device was made with. Answers the numbered record, or the first refusal
+    /// that applies, in the order `UnknownProduct`, `DayClosed`, `DayAhead`, `NumbersSpent`, `Memory`; then
+    /// the device is as before.
+    pub fn tap(
+        &mut self,
+        scheme: &Scheme,
+        product: ProductId,
+        token: Token,
+        moment: Moment,
+        day: Day,
+    ) -> Result<Record, TapRefusal>
+        requires made_with { length self.old.lanes ≡ length scheme.now.owners }
+        ensures ok { IfOk result (λ r. IsTapped scheme.now self.old product token moment day r self.new) }
+        ensures err { OnErr result (self.new ≡ self.old) }
+        ensures cause { IfErr result (TapRefused scheme.now self.old product day) }
+    {
+        let Some(owner) = scheme.owner_of(product) else {
+            return Err(TapRefusal::UnknownProduct);
+        };
+        if day < self.day {
+            return Err(TapRefusal::DayClosed);
+        }
+        if day > self.day {
+            return Err(TapRefusal::DayAhead);
+        }
+        let last = self.base + self.waiting.len() as u64;
+        if last >= LAST_NUMBER {
+            return Err(TapRefusal::NumbersSpent);
+        }
+        let Some(place) = scheme.owner_position(owner) else {
+            unreachable!()
+        };
+        let lane = self.lanes[place] + 1;
+        let tap = Tap::new(product, token, moment, day);
+        let numbered = Record::new(self.id, last + 1, owner, lane, tap);
+        if self.waiting.push(numbered).is_err() {
+            return Err(TapRefusal::Memory);
+        }
+        self.lanes[place] = lane;
+        Ok(numbered)
+    }
+
+    /// The first tap that was not sent, which counts as sent from now on; None where all were sent.
+    pub fn next_frame(&mut self) -> Option<Record>
+        ensures some { IfSome result (λ r. slice_get self.old.waiting (self.old.cursor - self.old.base) ≡ Some r) }
+        ensures moves { IfSome result (λ _. self.new ≡ record self.old { cursor = self.old.cursor + 1 }) }
+        ensures none { IfNone result (self.old.cursor ≡ last_link self.old) }
+        ensures stays { IfNone result (self.new ≡ self.old) }
+    {
+        let place = (self.cursor - self.base) as usize;
+        if place >= self.waiting.len() {
+            return None;
+        }
+        self.cursor += 1;
+        Some(self.waiting[place])
+    }
+}
