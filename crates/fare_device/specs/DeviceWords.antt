@@ -1,7 +1,6 @@
 -- What contracts see of a device.
 use Rattle.std.specs.Prelude.{ℕ, ◌≡◌, ◌+◌, ◌≤◌, List, [], length, Some, slice_get, replicate}
 use Rattle.fare_record.specs.Values.{RecordValue}
-use Rattle.fare_record.specs.Limits.{IsNumber}
 
 -- a device: its open day, the taps that are not acknowledged, how many were acknowledged before them, the greatest link number that was sent, and how many taps each owner has, in order of registration
 pub record DeviceValue : Type 0 where

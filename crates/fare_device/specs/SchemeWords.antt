@@ -1,5 +1,5 @@
 -- What a scheme registers, and the words that read it. Each list is in order of registration.
-use Rattle.std.specs.Prelude.{ℕ, ◌≡◌, ◌≤◌, ◌==◌, List, [], ◌∷◌, Option, Some, None, option_map, option_and_then, find, position}
+use Rattle.std.specs.Prelude.{ℕ, ◌≤◌, ◌==◌, List, [], ◌∷◌, Option, option_map, option_and_then, find, position}
 use Rattle.fare_device.specs.declared.scheme.Tariff.{Tariff}
 
 -- an owner and how many items its lane queue holds

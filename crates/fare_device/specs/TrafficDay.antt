@@ -1,5 +1,5 @@
 -- Traffic days, which begin at 04:30:00.
-use Rattle.std.specs.Prelude.{ℕ, ◌+◌, ◌-◌, ◌*◌, ◌/◌, ◌<◌, ◌≤◌, Option, Some, None, if◌then◌else◌, ◌&&◌, nat_le}
+use Rattle.std.specs.Prelude.{ℕ, ◌-◌, ◌/◌, Option, Some, None, if◌then◌else◌, ◌&&◌, nat_le}
 
 -- the traffic day of a moment: whole days since 1970-01-01T04:30:00Z, where that is a day from 0 to 100,000
 abbrev pub traffic_day_of : ℕ → Option ℕ

@@ -108,6 +108,7 @@ impl Device {
         ensures ok { IfOk result (λ r. IsTapped scheme.now self.old product token moment day r self.new) }
         ensures err { OnErr result (self.new ≡ self.old) }
         ensures cause { IfErr result (TapRefused scheme.now self.old product day) }
+        ensures lanes { length self.new.lanes ≡ length self.old.lanes }
     {
         let Some(owner) = scheme.owner_of(product) else {
             return Err(TapRefusal::UnknownProduct);
@@ -141,6 +142,7 @@ impl Device {
         ensures moves { IfSome result (λ _. self.new ≡ record self.old { cursor = self.old.cursor + 1 }) }
         ensures none { IfNone result (self.old.cursor ≡ last_link self.old) }
         ensures stays { IfNone result (self.new ≡ self.old) }
+        ensures lanes { length self.new.lanes ≡ length self.old.lanes }
     {
         let place = (self.cursor - self.base) as usize;
         if place >= self.waiting.len() {

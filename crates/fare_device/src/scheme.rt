@@ -177,7 +177,8 @@ impl Scheme {
 
     /// The device at a position in order of registration, from 0.
     pub fn device_at(&self, position: usize) -> Option<DeviceId>
-        ensures { result ≡ option_map (λ x. x.id) (slice_get self.now.devices position) }
+        ensures value { result ≡ option_map (λ x. x.id) (slice_get self.now.devices position) }
+        ensures known { IfSome result (λ device. IsSome (position_of_device self.now device)) }
     {
         if position == 0 {
             Some(self.device)

@@ -1,4 +1,4 @@
-use Rattle.std.proofs.Common.{◌≡◌, ◌<◌, ◌≤◌, ◌+◌, ℕ, length, refl, arith, inl, inr}
+use Rattle.std.proofs.Common.{◌≡◌, ◌<◌, ◌≤◌, ◌+◌, length, refl, arith, inl, inr}
 use Rattle.std.proofs.lemmas.Grind.{common_steps}
 use Rattle.std.proofs.lemmas.Option.{slice_get_read}
 use Rattle.fare_device.proofs.Places.{slice_get-set_cases}
@@ -12,14 +12,14 @@ invariant_of-self-2 c =
     let here : place < length lanes = grind (arith, common_steps) in
     let longer : length c.push.new.self.items ≡ length c.self.inside.waiting.items + 1 = grind (arith, common_steps) in
     let lane : c.index.result.now ≤ c.self.inside.base + length c.self.inside.waiting.items =
-        was.lanes place c.index.result.now (slice_get_read lanes (length lanes) place c.index.result.now refl here c.index.ensures) in
+    was.lanes place c.index.result.now (slice_get_read lanes (length lanes) place c.index.result.now refl here c.index.ensures) in
     record {
       few = omega arith;
       base = was.base;
       cursor = omega (arith, was.cursor);
       lanes = λ k n e.
-        elim (slice_get-set_cases lanes place (c.index.result.now + 1) k n e) [
-          inl new ↦ omega arith
-        | inr old ↦ omega (arith, was.lanes k n old)
-        ];
+          elim (slice_get-set_cases lanes place (c.index.result.now + 1) k n e) [
+            | inl new ↦ omega arith
+            | inr old ↦ omega (arith, was.lanes k n old)
+          ];
     }

@@ -1,0 +1,12 @@
+pub mod Places
+pub mod NextRows
+pub mod Lists
+pub mod TableLemmas
+pub mod Kept
+pub mod Stepping
+pub mod Showing
+pub mod ShowTap
+pub mod ShowCollect
+pub mod ShowForward
+pub mod Running
+pub mod Starting

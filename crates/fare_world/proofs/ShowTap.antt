@@ -1,0 +1,329 @@
+-- What a world shows after a tap and a send.
+use Rattle.std.proofs.Common.{◌≡◌, ◌≢◌, ℕ, ◌+◌, ◌-◌, ◌<◌, ◌≤◌, List, [], ◌∷◌, ◌++◌, length, take, set, get_or, Some, None, true, false, refl, sym, ap, ◌∙◌, subst, arith}
+use Rattle.std.specs.Prelude.{◌==◌, slice_get, slice_index, if◌then◌else◌, Option, IfSome, is_some}
+use Rattle.std.proofs.lemmas.Bool.Decides.{nat_tests, Decides-eqb}
+use Rattle.std.proofs.lemmas.List.{take-append-le, length_push}
+use Rattle.std.proofs.lemmas.List.Quantifiers.{position-Some}
+use Rattle.std.proofs.lemmas.Option.{slice_get-get_or, slice_get_within}
+use Rattle.fare_record.specs.Values.{RecordValue, TapValue}
+use Rattle.fare_record.specs.Lanes.{part}
+use Rattle.fare_device.specs.SchemeWords.{SchemeValue, OwnerEntry, owner_of, position_of_device, position_of_owner}
+use Rattle.fare_device.specs.TrafficDay.{traffic_day_of}
+use Rattle.fare_device.specs.DeviceWords.{DeviceValue, last_link}
+use Rattle.fare_device.specs.Tapping.{IsTapped}
+use Rattle.fare_world.specs.declared.event.Event.TheVariants as event
+use Rattle.fare_world.specs.declared.reply.Refusal.{Refusal}
+use Rattle.fare_world.specs.declared.reply.Refusal.TheVariants.{UnknownDevice, BadMoment, UnknownProduct, DayClosed, DayAhead, NumbersSpent}
+use Rattle.fare_world.specs.declared.reply.Reply.{Reply}
+use Rattle.fare_world.specs.declared.reply.Reply.TheVariants.{Idle, Refused, Recorded, Sent}
+use Rattle.fare_world.specs.System.{put, Tapped, DeviceState, System, numbered_for, arrived_of}
+use Rattle.fare_world.specs.Steps.{next_record, with_tap, tap_for, tap_on, tap, sent, send_next, send}
+use Rattle.std.proofs.Common.{inl, inr, length-set}
+use Rattle.std.proofs.lemmas.List.{set-get_or}
+use Rattle.std.proofs.lemmas.Option.{slice_get_read}
+use Rattle.fare_device.specs.Tapping.{TapRefused}
+use Rattle.fare_device.specs.declared.device.TapRefusal.{TapRefusal}
+use Rattle.fare_device.specs.declared.device.TapRefusal.TheVariants as why
+use Rattle.fare_device.proofs.Places.{slice_get-set_cases}
+use Rattle.fare_world.specs.declared.world.World.{World}
+use Rattle.fare_world.specs.Rooms.{HasRooms}
+use Rattle.fare_world.specs.Whole.{shape}
+use Rattle.fare_world.specs.Shown.{entry}
+use Rattle.fare_world.specs.Shown.{IsDevice, IsSystem, IsAt, IsPacketOf, IsDeviceOf, ShowsDevice, Shape, Shows}
+use Rattle.fare_world.proofs.Lists.{if_all, Each2-push, length-Each2, part-push, take-part-push, drop-push, slice_get-drop}
+use Rattle.fare_world.proofs.TableLemmas.{put_all, put_both, put_here, slice_get-set_same, slice_get-set_other, entry-set, devices_apart, owners_apart}
+use Rattle.fare_world.proofs.Kept.{moves_step, device_changes}
+use Rattle.fare_world.proofs.Showing.{Answers, answers_by, grows_by_tap, grows_by_none, shows_devices, last_link_is, device_shown}
+
+-- TAP, down to its tests
+tap_on_known : (sc : SchemeValue) (s : System) (d k p t m : ℕ) → position_of_device sc d ≡ Some k → tap sc s d p t m ≡ tap_on sc s d p t m (traffic_day_of m)
+tap_on_known sc s d k p t m at = ap (λ o. if is_some o then tap_on sc s d p t m (traffic_day_of m) else (s, Refused UnknownDevice)) at
+
+tap_on_day : (sc : SchemeValue) (s : System) (d k p t m day : ℕ) → position_of_device sc d ≡ Some k → traffic_day_of m ≡ Some day → tap sc s d p t m ≡ tap_for s d (record { product = p; token = t; moment = m; day = day }) (owner_of sc p)
+tap_on_day sc s d k p t m day at dated = tap_on_known sc s d k p t m at ∙ ap (tap_on sc s d p t m) dated
+
+pub shown_unknown : (sc : SchemeValue) (h : Shape) (s : System) (d p t m : ℕ) → Shows sc h s → position_of_device sc d ≡ None → Answers sc h (tap sc s d p t m) (Refused UnknownDevice)
+shown_unknown sc h s d p t m w none = answers_by sc h (Refused UnknownDevice) (tap sc s d p t m) (s, Refused UnknownDevice) (ap (λ o. if is_some o then tap_on sc s d p t m (traffic_day_of m) else (s, Refused UnknownDevice)) none) refl w
+
+pub shown_bad_moment : (sc : SchemeValue) (h : Shape) (s : System) (d k p t m : ℕ) → Shows sc h s → position_of_device sc d ≡ Some k → traffic_day_of m ≡ None → Answers sc h (tap sc s d p t m) (Refused BadMoment)
+shown_bad_moment sc h s d k p t m w at none = answers_by sc h (Refused BadMoment) (tap sc s d p t m) (s, Refused BadMoment) (tap_on_known sc s d k p t m at ∙ ap (tap_on sc s d p t m) none) refl w
+
+pub shown_unknown_product : (sc : SchemeValue) (h : Shape) (s : System) (d k p t m day : ℕ) → Shows sc h s → position_of_device sc d ≡ Some k → traffic_day_of m ≡ Some day → owner_of sc p ≡ None → Answers sc h (tap sc s d p t m) (Refused UnknownProduct)
+shown_unknown_product sc h s d k p t m day w at dated none =
+    answers_by sc h (Refused UnknownProduct) (tap sc s d p t m) (s, Refused UnknownProduct) (tap_on_day sc s d k p t m day at dated ∙ ap (tap_for s d (record { product = p; token = t; moment = m; day = day })) none) refl w
+
+-- a refusal that comes after the product is known
+refused_for : (sc : SchemeValue) (h : Shape) (s : System) (d k p t m day : ℕ) (why : Refusal) → Shows sc h s → position_of_device sc d ≡ Some k → traffic_day_of m ≡ Some day → (o : Option ℕ) → owner_of sc p ≡ o → is_some o ≡ true → ((o : ℕ) → tap_for s d (record { product = p; token = t; moment = m; day = day }) (Some o) ≡ (s, Refused why)) → Answers sc h (tap sc s d p t m) (Refused why)
+refused_for sc h s d k p t m day why w at dated None owned some goes = absurd (cc)
+refused_for sc h s d k p t m day why w at dated (Some o) owned some goes =
+    answers_by sc h (Refused why) (tap sc s d p t m) (s, Refused why) (tap_on_day sc s d k p t m day at dated ∙ ap (tap_for s d (record { product = p; token = t; moment = m; day = day })) owned ∙ goes o) refl w
+
+pub shown_day_closed : (sc : SchemeValue) (h : Shape) (s : System) (d k p t m day : ℕ) (x : DeviceValue) → Shows sc h s → position_of_device sc d ≡ Some k → traffic_day_of m ≡ Some day → h.devices d ≡ Some x → is_some (owner_of sc p) ≡ true → day < x.day → Answers sc h (tap sc s d p t m) (Refused DayClosed)
+shown_day_closed sc h s d k p t m day x w at dated here known lt =
+    let early : day < (s.devices d).day = omega (arith, (device_shown sc h s d x w here).day) in
+    refused_for sc h s d k p t m day DayClosed w at dated (owner_of sc p) refl known (λ o. grind (arith, nat_tests))
+
+pub shown_day_ahead : (sc : SchemeValue) (h : Shape) (s : System) (d k p t m day : ℕ) (x : DeviceValue) → Shows sc h s → position_of_device sc d ≡ Some k → traffic_day_of m ≡ Some day → h.devices d ≡ Some x → is_some (owner_of sc p) ≡ true → x.day < day → Answers sc h (tap sc s d p t m) (Refused DayAhead)
+shown_day_ahead sc h s d k p t m day x w at dated here known lt =
+    let late : (s.devices d).day < day = omega (arith, (device_shown sc h s d x w here).day) in
+    refused_for sc h s d k p t m day DayAhead w at dated (owner_of sc p) refl known (λ o. grind (arith, nat_tests))
+
+pub shown_spent : (sc : SchemeValue) (h : Shape) (s : System) (d k p t m day : ℕ) (x : DeviceValue) → Shows sc h s → position_of_device sc d ≡ Some k → traffic_day_of m ≡ Some day → h.devices d ≡ Some x → is_some (owner_of sc p) ≡ true → day ≡ x.day → 1099511627775 ≤ last_link x → Answers sc h (tap sc s d p t m) (Refused NumbersSpent)
+shown_spent sc h s d k p t m day x w at dated here known same full =
+    let sd = device_shown sc h s d x w here in
+    let current : day ≡ (s.devices d).day = same ∙ sd.day in
+    let spent : 1099511627775 ≤ length (s.devices d).taps = omega (arith, last_link_is sc d (s.devices d) x (w.system.devices d) sd) in
+    refused_for sc h s d k p t m day NumbersSpent w at dated (owner_of sc p) refl known (λ o. grind (arith, nat_tests))
+
+tap_goes : (s : System) (d o : ℕ) (tv : TapValue) → tv.day ≡ (s.devices d).day → length (s.devices d).taps < 1099511627775 → tap_for s d tv (Some o) ≡ (with_tap s d (next_record s d o tv), Recorded (length (s.devices d).taps + 1) (length (numbered_for s o d) + 1))
+tap_goes s d o tv current few = grind (arith, nat_tests)
+
+-- the device with the tap at its end
+tapped_device : (sc : SchemeValue) (d : ℕ) (v : DeviceState) (x new : DeviceValue) (p t m day : ℕ) (r : RecordValue) → IsDevice d v → IsDeviceOf sc d v x → length x.lanes ≡ length sc.owners → IsTapped sc x p t m day r new → r.lane ≡ length (part r.owner v.taps) + 1 → IsDeviceOf sc d (record v { taps = v.taps ++ r ∷ [] }) new
+tapped_device sc d v x new p t m day r is sd long did lane =
+    subst (IsDeviceOf sc d (record v { taps = v.taps ++ r ∷ [] })) (sym did.value)
+    (record {
+      id = sd.id;
+      day = sd.day;
+      waiting = ap (λ l. l ++ r ∷ []) sd.waiting ∙ sym (drop-push v.base v.taps r (omega (arith, is.base, is.cursor)));
+      base = sd.base;
+      cursor = sd.cursor;
+      lanes = counts;
+    })
+  where
+    none : OwnerEntry
+    none = record { id = 0; lane = 0 }
+
+    within : did.place < length x.lanes
+    within = omega (arith, long, (position-Some (λ y. y.id == r.owner) sc.owners did.place none did.at).0)
+
+    same_Some : (a b : ℕ) → Some a ≡ Some b → a ≡ b
+    same_Some a b e = cc
+
+    counts : (o place n : ℕ) → position_of_owner sc o ≡ Some place → slice_get (set x.lanes did.place r.lane) place ≡ Some n → n ≡ length (part o (v.taps ++ r ∷ []))
+    counts o place n at e =
+        if_all (r.owner == o) (λ l. part o (v.taps ++ r ∷ []) ≡ l → n ≡ length (part o (v.taps ++ r ∷ []))) (part o v.taps ++ r ∷ []) (part o v.taps)
+        (λ mine f.
+        let me : r.owner ≡ o = (Decides-eqb r.owner o).0 mine in
+        let here : did.place ≡ place = same_Some did.place place (sym did.at ∙ ap (position_of_owner sc) me ∙ at) in
+        let is_lane : r.lane ≡ n = same_Some r.lane n (sym (slice_get-set_same x.lanes did.place r.lane within) ∙ ap (slice_get (set x.lanes did.place r.lane)) here ∙ e) in
+        omega (arith, is_lane, lane, ap length f, length_push (part o v.taps) r, ap (λ z. length (part z v.taps)) me))
+        (λ other f.
+        let differ : place ≢ did.place = λ q. not_other (owners_apart sc r.owner o place (did.at ∙ ap Some (sym q)) at) other in
+        sd.lanes o place n at (sym (slice_get-set_other x.lanes did.place place r.lane differ) ∙ e) ∙ ap length (sym f))
+        (part-push o v.taps r)
+      where
+        not_other : r.owner ≡ o → (r.owner == o) ≡ false → ⊥
+        not_other q apart = absurd (grind (arith, nat_tests))
+
+pub shown_tap : (sc : SchemeValue) (h : Shape) (s : System) (d k p t m day : ℕ) (x new : DeviceValue) (r : RecordValue) → Shows sc h s → position_of_device sc d ≡ Some k → traffic_day_of m ≡ Some day → h.devices d ≡ Some x → length x.lanes ≡ length sc.owners → IsTapped sc x p t m day r new → Answers sc (record h { devices = put h.devices d (Some new) }) (tap sc s d p t m) (Recorded r.link r.lane)
+shown_tap sc h s d k p t m day x new r w at dated here long did =
+    answers_by sc (record h { devices = put h.devices d (Some new) }) (Recorded r.link r.lane) (tap sc s d p t m) (with_tap s d r, Recorded r.link r.lane) goes refl
+    (shows_devices sc h s g (put h.devices d (Some new)) h.nexts w system (grows_by_tap s d after r refl)
+    (put_both (λ j a b. ShowsDevice sc j b a) h.devices s.devices d (Some new) after w.devices (tapped_device sc d v x new p t m day r is sd long did lane))
+    (put_all (λ j a. IfSome (h.nexts j) (λ n. n ≡ a.next)) s.devices d after w.nexts (w.nexts d))
+    (put_all (λ j a. a.upto ≡ (s.devices j).upto) s.devices d after (λ j. refl) refl)
+    (λ o. put_all (λ j a. arrived_of o a ≡ arrived_of o (s.devices j)) s.devices d after (λ j. refl) (ap (part o) (take-append-le v.upto v.taps (r ∷ []) is.upto)))
+    (λ o. put_all (λ j a. take (s.lanes o j).took (part o a.taps) ≡ take (s.lanes o j).took (numbered_for s o j)) s.devices d after (λ j. refl) (take-part-push (s.lanes o d).took o v.taps r (w.system.took o d))))
+  where
+    v : DeviceState
+    v = s.devices d
+
+    is : IsDevice d v
+    is = w.system.devices d
+
+    sd : IsDeviceOf sc d v x
+    sd = device_shown sc h s d x w here
+
+    tv : TapValue
+    tv = record { product = p; token = t; moment = m; day = day }
+
+    none : OwnerEntry
+    none = record { id = 0; lane = 0 }
+
+    within : did.place < length x.lanes
+    within = omega (arith, long, (position-Some (λ y. y.id == r.owner) sc.owners did.place none did.at).0)
+
+    count : slice_index x.lanes did.place ≡ length (part r.owner v.taps)
+    count = sd.lanes r.owner did.place (slice_index x.lanes did.place) did.at (slice_get-get_or x.lanes did.place 0 within)
+
+    last : last_link x ≡ length v.taps
+    last = last_link_is sc d v x is sd
+
+    same : r ≡ next_record s d r.owner tv
+    same = did.is ∙ (λ i. record { device = sd.id i; link = last i + 1; owner = r.owner; lane = count i + 1; tap = tv })
+
+    lane : r.lane ≡ length (part r.owner v.taps) + 1
+    lane = ap (λ (z : RecordValue). z.lane) same
+
+    link : r.link ≡ length v.taps + 1
+    link = ap (λ (z : RecordValue). z.link) same
+
+    after : DeviceState
+    after = record v { taps = v.taps ++ r ∷ [] }
+
+    g : ℕ → DeviceState
+    g = put s.devices d after
+
+    goes : tap sc s d p t m ≡ (with_tap s d r, Recorded r.link r.lane)
+    goes =
+        tap_on_day sc s d k p t m day at dated ∙ ap (tap_for s d tv) did.owner ∙ tap_goes s d r.owner tv (did.current ∙ sd.day) (omega (arith, did.few, last))
+        ∙ (λ i. (with_tap s d (sym same i), Recorded (sym link i) (sym lane i)))
+
+    system : IsSystem (record s { devices = g })
+    system = subst (λ (y : System × Reply). IsSystem y.0) goes (moves_step sc s (event.Tap d p t m) w.system).system
+
+-- SEND
+send_known : (sc : SchemeValue) (s : System) (d k : ℕ) → position_of_device sc d ≡ Some k → send sc s d ≡ send_next s d
+send_known sc s d k at = ap (λ o. if is_some o then send_next s d else (s, Refused UnknownDevice)) at
+
+send_rests : (s : System) (d : ℕ) → length (s.devices d).taps ≤ (s.devices d).cursor → send_next s d ≡ (s, Idle)
+send_rests s d past = grind (arith, nat_tests)
+
+send_goes : (s : System) (d : ℕ) → (s.devices d).cursor < length (s.devices d).taps → send_next s d ≡ (sent s d, Sent (length s.air + 1) ((s.devices d).cursor + 1))
+send_goes s d unsent = grind (arith, nat_tests)
+
+pub shown_send_unknown : (sc : SchemeValue) (h : Shape) (s : System) (d : ℕ) → Shows sc h s → position_of_device sc d ≡ None → Answers sc h (send sc s d) (Refused UnknownDevice)
+shown_send_unknown sc h s d w none =
+    answers_by sc h (Refused UnknownDevice) (send sc s d) (s, Refused UnknownDevice) (ap (λ o. if is_some o then send_next s d else (s, Refused UnknownDevice)) none) refl w
+
+pub shown_idle : (sc : SchemeValue) (h : Shape) (s : System) (d k : ℕ) (x : DeviceValue) → Shows sc h s → position_of_device sc d ≡ Some k → h.devices d ≡ Some x → x.cursor ≡ last_link x → Answers sc h (send sc s d) Idle
+shown_idle sc h s d k x w at here all =
+    let sd = device_shown sc h s d x w here in
+    answers_by sc h Idle (send sc s d) (s, Idle) (send_known sc s d k at ∙ send_rests s d (omega (arith, sd.cursor, last_link_is sc d (s.devices d) x (w.system.devices d) sd))) refl w
+
+pub shown_send : (sc : SchemeValue) (h : Shape) (s : System) (d k : ℕ) (x : DeviceValue) (r : RecordValue) (n : ℕ) → Shows sc h s → position_of_device sc d ≡ Some k → h.devices d ≡ Some x → slice_get x.waiting (x.cursor - x.base) ≡ Some r → n ≡ length h.air + 1 → Answers sc (record h { devices = put h.devices d (Some (record x { cursor = x.cursor + 1 })); air = h.air ++ r ∷ [] }) (send sc s d) (Sent n r.link)
+shown_send sc h s d k x r n w at here e count =
+    answers_by sc (record h { devices = put h.devices d (Some new); air = h.air ++ r ∷ [] }) (Sent n r.link) (send sc s d) (sent s d, Sent (length s.air + 1) (v.cursor + 1)) goes (λ i. Sent (number i) (link i))
+    (record {
+      system = system;
+      devices = devices.devices;
+      nexts = devices.nexts;
+      air = Each2-push (IsPacketOf g) s.air h.air (Tapped d (v.cursor + 1)) r devices.air (subst (λ l. IsAt l (v.cursor + 1) r) (ap (λ (z : DeviceState). z.taps) (sym (put_here s.devices d after))) (record { positive = omega arith; here = ap (slice_get v.taps) (omega arith) ∙ place }));
+      inbox = devices.inbox;
+      hand = devices.hand;
+      upto = devices.upto;
+      rows = devices.rows;
+      owners = devices.owners;
+    })
+  where
+    v : DeviceState
+    v = s.devices d
+
+    is : IsDevice d v
+    is = w.system.devices d
+
+    sd : IsDeviceOf sc d v x
+    sd = device_shown sc h s d x w here
+
+    new : DeviceValue
+    new = record x { cursor = x.cursor + 1 }
+
+    after : DeviceState
+    after = record v { cursor = v.cursor + 1 }
+
+    g : ℕ → DeviceState
+    g = put s.devices d after
+
+    place : slice_get v.taps v.cursor ≡ Some r
+    place =
+        let from : v.cursor ≡ v.base + (x.cursor - x.base) = omega (arith, sd.cursor, sd.base, is.base) in
+        ap (slice_get v.taps) from ∙ sym (slice_get-drop v.base v.taps (x.cursor - x.base)) ∙ ap (λ l. slice_get l (x.cursor - x.base)) (sym sd.waiting) ∙ e
+
+    unsent : v.cursor < length v.taps
+    unsent = slice_get_within v.taps v.cursor r place
+
+    goes : send sc s d ≡ (sent s d, Sent (length s.air + 1) (v.cursor + 1))
+    goes = send_known sc s d k at ∙ send_goes s d unsent
+
+    number : n ≡ length s.air + 1
+    number = count ∙ ap (λ j. j + 1) (sym (length-Each2 (IsPacketOf s.devices) s.air h.air w.air))
+
+    link : r.link ≡ v.cursor + 1
+    link = (is.numbered v.cursor r place).link
+
+    system : IsSystem (sent s d)
+    system = subst (λ (y : System × Reply). IsSystem y.0) goes (moves_step sc s (event.Send d) w.system).system
+
+    devices : Shows sc (record h { devices = put h.devices d (Some new); nexts = h.nexts }) (record s { devices = g })
+    devices = shows_devices sc h s g (put h.devices d (Some new)) h.nexts w (device_changes s d after w.system refl (record { base = omega (arith, is.base); cursor = omega (arith, unsent); upto = is.upto; few = is.few; numbered = is.numbered })) (grows_by_none s d after refl)
+        (put_both (λ j a b. ShowsDevice sc j b a) h.devices s.devices d (Some new) after w.devices (record { id = sd.id; day = sd.day; waiting = sd.waiting; base = sd.base; cursor = ap (λ j. j + 1) sd.cursor; lanes = sd.lanes }))
+        (put_all (λ j a. IfSome (h.nexts j) (λ n. n ≡ a.next)) s.devices d after w.nexts (w.nexts d))
+        (put_all (λ j a. a.upto ≡ (s.devices j).upto) s.devices d after (λ j. refl) refl)
+        (λ o. put_all (λ j a. arrived_of o a ≡ arrived_of o (s.devices j)) s.devices d after (λ j. refl) refl)
+        (λ o. put_all (λ j a. take (s.lanes o j).took (part o a.taps) ≡ take (s.lanes o j).took (numbered_for s o j)) s.devices d after (λ j. refl) refl)
+
+-- THE CODE'S TABLES
+-- a device that the code read
+device_read : (w : World) (d k : ℕ) (x : DeviceValue) → position_of_device w.scheme d ≡ Some k → k < length w.devices.items → x ≡ get_or w.devices.items k x → (shape w).devices d ≡ Some x
+device_read w d k x at within e = ap (λ o. entry o w.devices.items) at ∙ slice_get_read w.devices.items (length w.devices.items) k x refl within e
+
+-- and wrote
+device_write : (w : World) (d k : ℕ) (x : DeviceValue) → position_of_device w.scheme d ≡ Some k → k < length w.devices.items → (λ e. entry (position_of_device w.scheme e) (set w.devices.items k x)) ≡ put (shape w).devices d (Some x)
+device_write w d k x at within = λ i e. entry-set (position_of_device w.scheme) (devices_apart w.scheme) w.devices.items d k x at within e i
+
+-- or wrote as it was
+device_same : (w : World) (k : ℕ) (x new : DeviceValue) → x ≡ get_or w.devices.items k x → new ≡ x → (λ e. entry (position_of_device w.scheme e) (set w.devices.items k new)) ≡ (shape w).devices
+device_same w k x new e same = λ i d. entry (position_of_device w.scheme d) (written i)
+  where
+    written : set w.devices.items k new ≡ w.devices.items
+    written = ap (set w.devices.items k) (same ∙ e) ∙ set-get_or w.devices.items k x
+
+pub world_tapped : (w : World) (s : System) (d k p t m day : ℕ) (x new : DeviceValue) (r : RecordValue) (link lane : ℕ) → Shows w.scheme (shape w) s → position_of_device w.scheme d ≡ Some k → k < length w.devices.items → x ≡ get_or w.devices.items k x → traffic_day_of m ≡ Some day → IsTapped w.scheme x p t m day r new → link ≡ r.link → lane ≡ r.lane
+    → Answers w.scheme (record (shape w) { devices = λ e. entry (position_of_device w.scheme e) (set w.devices.items k new) }) (tap w.scheme s d p t m) (Recorded link lane)
+world_tapped w s d k p t m day x new r link lane sh at within e dated did same_link same_lane =
+    let here = device_read w d k x at within e in
+    let long = w.rooms.lanes k x (slice_get_read w.devices.items (length w.devices.items) k x refl within e) in
+    subst (λ (q : (ℕ → Option DeviceValue) × Reply). Answers w.scheme (record (shape w) { devices = q.0 }) (tap w.scheme s d p t m) q.1)
+    (λ i. (sym (device_write w d k new at within) i, Recorded (sym same_link i) (sym same_lane i)))
+    (shown_tap w.scheme (shape w) s d k p t m day x new r sh at dated here long did)
+
+-- what a refusal of the device says of the tap
+abbrev pub AnswersRefused : World → (ℕ → Option DeviceValue) → System → ℕ → ℕ → ℕ → ℕ → TapRefusal → Type 0
+AnswersRefused w devices s d p t m why.UnknownProduct = Answers w.scheme (record (shape w) { devices = devices }) (tap w.scheme s d p t m) (Refused UnknownProduct)
+AnswersRefused w devices s d p t m why.DayClosed = Answers w.scheme (record (shape w) { devices = devices }) (tap w.scheme s d p t m) (Refused DayClosed)
+AnswersRefused w devices s d p t m why.DayAhead = Answers w.scheme (record (shape w) { devices = devices }) (tap w.scheme s d p t m) (Refused DayAhead)
+AnswersRefused w devices s d p t m why.NumbersSpent = Answers w.scheme (record (shape w) { devices = devices }) (tap w.scheme s d p t m) (Refused NumbersSpent)
+AnswersRefused w devices s d p t m why.Memory = Unit {0}
+
+refused_as_it_was : (w : World) (s : System) (d k p t m day : ℕ) (x : DeviceValue) (e : TapRefusal) → Shows w.scheme (shape w) s → position_of_device w.scheme d ≡ Some k → (shape w).devices d ≡ Some x → traffic_day_of m ≡ Some day → TapRefused w.scheme x p day e → AnswersRefused w (shape w).devices s d p t m e
+refused_as_it_was w s d k p t m day x why.UnknownProduct sh at here dated cause = shown_unknown_product w.scheme (shape w) s d k p t m day sh at dated cause
+refused_as_it_was w s d k p t m day x why.DayClosed sh at here dated cause = shown_day_closed w.scheme (shape w) s d k p t m day x sh at dated here cause.0 cause.1
+refused_as_it_was w s d k p t m day x why.DayAhead sh at here dated cause = shown_day_ahead w.scheme (shape w) s d k p t m day x sh at dated here cause.0 cause.1
+refused_as_it_was w s d k p t m day x why.NumbersSpent sh at here dated cause = shown_spent w.scheme (shape w) s d k p t m day x sh at dated here cause.0 cause.1 cause.2
+refused_as_it_was w s d k p t m day x why.Memory sh at here dated cause = tt
+
+pub world_refused : (w : World) (s : System) (d k p t m day : ℕ) (x new : DeviceValue) (e f : TapRefusal) → Shows w.scheme (shape w) s → position_of_device w.scheme d ≡ Some k → k < length w.devices.items → x ≡ get_or w.devices.items k x → traffic_day_of m ≡ Some day → new ≡ x → TapRefused w.scheme x p day e → e ≡ f
+    → AnswersRefused w (λ j. entry (position_of_device w.scheme j) (set w.devices.items k new)) s d p t m f
+world_refused w s d k p t m day x new e f sh at within read dated same cause is =
+    subst (λ (q : (ℕ → Option DeviceValue) × TapRefusal). AnswersRefused w q.0 s d p t m q.1) (λ i. (sym (device_same w k x new read same) i, is i))
+    (refused_as_it_was w s d k p t m day x e sh at (device_read w d k x at within read) dated cause)
+
+pub world_sent : (w : World) (s : System) (d k : ℕ) (x new : DeviceValue) (r : RecordValue) (air : List RecordValue) (n link : ℕ) → Shows w.scheme (shape w) s → position_of_device w.scheme d ≡ Some k → k < length w.devices.items → x ≡ get_or w.devices.items k x → slice_get x.waiting (x.cursor - x.base) ≡ Some r → new ≡ record x { cursor = x.cursor + 1 } → air ≡ w.air.items ++ r ∷ [] → n ≡ length air → link ≡ r.link
+    → Answers w.scheme (record (shape w) { devices = λ e. entry (position_of_device w.scheme e) (set w.devices.items k new); air = air }) (send w.scheme s d) (Sent n link)
+world_sent w s d k x new r air n link sh at within e place is pushed count same_link =
+    let here = device_read w d k x at within e in
+    let long : n ≡ length w.air.items + 1 = count ∙ ap length pushed ∙ length_push w.air.items r in
+    subst (λ (q : (ℕ → Option DeviceValue) × List RecordValue × ℕ). Answers w.scheme (record (shape w) { devices = q.0; air = q.1 }) (send w.scheme s d) (Sent n q.2))
+    (λ i. ((sym (device_write w d k new at within) ∙ refl) i, sym pushed i, sym same_link i))
+    (subst (λ (y : DeviceValue). Answers w.scheme (record (shape w) { devices = put (shape w).devices d (Some y); air = w.air.items ++ r ∷ [] }) (send w.scheme s d) (Sent n r.link)) (sym is)
+    (shown_send w.scheme (shape w) s d k x r n sh at here place long))
+
+pub world_idle : (w : World) (s : System) (d k : ℕ) (x new : DeviceValue) (air : List RecordValue) → Shows w.scheme (shape w) s → position_of_device w.scheme d ≡ Some k → k < length w.devices.items → x ≡ get_or w.devices.items k x → x.cursor ≡ last_link x → new ≡ x → air ≡ w.air.items
+    → Answers w.scheme (record (shape w) { devices = λ e. entry (position_of_device w.scheme e) (set w.devices.items k new); air = air }) (send w.scheme s d) Idle
+world_idle w s d k x new air sh at within e all same kept =
+    subst (λ (q : (ℕ → Option DeviceValue) × List RecordValue). Answers w.scheme (record (shape w) { devices = q.0; air = q.1 }) (send w.scheme s d) Idle) (λ i. (sym (device_same w k x new e same) i, sym kept i))
+    (shown_idle w.scheme (shape w) s d k x sh at (device_read w d k x at within e) all)
+
+-- a device with as many lanes takes the place of another
+pub rooms_of_device : (w : World) (k : ℕ) (x new : DeviceValue) → k < length w.devices.items → x ≡ get_or w.devices.items k x → length new.lanes ≡ length x.lanes → HasRooms w.scheme (set w.devices.items k new) w.nexts.items w.owners.items
+rooms_of_device w k x new within e long = record {
+  device_count = length-set w.devices.items k new ∙ w.rooms.device_count;
+  next_count = w.rooms.next_count;
+  owner_count = w.rooms.owner_count;
+  lanes = λ j y f. elim (slice_get-set_cases w.devices.items k new j y f) [
+    | inl is ↦ ap (λ (z : DeviceValue). length z.lanes) (sym is) ∙ long ∙ w.rooms.lanes k x (slice_get_read w.devices.items (length w.devices.items) k x refl within e)
+    | inr is ↦ w.rooms.lanes j y is
+  ];
+  cursors = w.rooms.cursors;
+}

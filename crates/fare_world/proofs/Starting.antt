@@ -1,0 +1,131 @@
+-- A new world stands at the start.
+use Rattle.std.proofs.Common.{◌≡◌, ℕ, zero, suc, List, [], ◌∷◌, ◌++◌, length, get_or, Some, None, refl, sym, ap, ◌∙◌, subst, inl, inr}
+use Rattle.std.specs.Prelude.{◌==◌, slice_get, Option, IfSome, option_map, replicate}
+use Rattle.std.proofs.lemmas.Bool.Decides.{Decides-eqb}
+use Rattle.std.proofs.lemmas.List.{length-replicate}
+use Rattle.std.proofs.lemmas.List.Quantifiers.{position-Some}
+use Rattle.std.proofs.lemmas.Option.{slice_get-get_or}
+use Rattle.fare_device.specs.SchemeWords.{SchemeValue, DeviceEntry, OwnerEntry, position_of_device, position_of_owner}
+use Rattle.fare_device.specs.DeviceWords.{DeviceValue, fresh_device}
+use Rattle.fare_world.specs.declared.owner.Owner.{Owner}
+use Rattle.fare_world.specs.declared.world.World.{World}
+use Rattle.fare_world.specs.System.{start}
+use Rattle.fare_world.specs.Rooms.{HasRooms}
+use Rattle.fare_world.specs.Shown.{IsDeviceOf, ShowsDevice, IsOwnerOf, Each2, Both, IsPacketOf, IsArrivedOf, IsRoutedOf, entry, Shows}
+use Rattle.fare_world.specs.Fresh.{IsFreshDevice, AreFreshDevices, IsFreshOwner, AreFreshOwners}
+use Rattle.fare_world.specs.Tables.{upto_in, rows_in}
+use Rattle.fare_world.specs.Whole.{owner_shape, shape}
+use Rattle.fare_world.proofs.Places.{slice_get-push_cases}
+use Rattle.fare_world.proofs.Stepping.{start_is}
+
+slice_get-replicate : {A : Type 0} (n : ℕ) (a : A) (k : ℕ) (x : A) → slice_get (replicate n a) k ≡ Some x → x ≡ a
+slice_get-replicate zero a k x e = absurd (cc)
+slice_get-replicate (suc n) a zero x e = cc
+slice_get-replicate (suc n) a (suc k) x e = slice_get-replicate n a k x e
+
+-- one device more
+pub one_device_more : (sc : SchemeValue) (xs : List DeviceValue) (x : DeviceValue) → ((k : ℕ) (y : DeviceValue) → slice_get xs k ≡ Some y → IsFreshDevice sc k y) → IsFreshDevice sc (length xs) x → (k : ℕ) (y : DeviceValue) → slice_get (xs ++ x ∷ []) k ≡ Some y → IsFreshDevice sc k y
+one_device_more sc xs x all is k y e = elim (slice_get-push_cases xs x k y e) [
+  | inl was ↦ all k y was
+  | inr new ↦ subst (λ n. IsFreshDevice sc n y) (sym new.0) (subst (IsFreshDevice sc (length xs)) new.1 is)
+]
+
+-- and one owner
+pub one_owner_more : (sc : SchemeValue) (xs : List Owner) (x : Owner) → ((k : ℕ) (y : Owner) → slice_get xs k ≡ Some y → IsFreshOwner sc k y) → IsFreshOwner sc (length xs) x → (k : ℕ) (y : Owner) → slice_get (xs ++ x ∷ []) k ≡ Some y → IsFreshOwner sc k y
+one_owner_more sc xs x all is k y e = elim (slice_get-push_cases xs x k y e) [
+  | inl was ↦ all k y was
+  | inr new ↦ subst (λ n. IsFreshOwner sc n y) (sym new.0) (subst (IsFreshOwner sc (length xs)) new.1 is)
+]
+
+same_some : {A : Type 0} (x y : A) → Some x ≡ Some y → x ≡ y
+same_some x y e = cc
+
+-- the device of a position has the id that stands there
+device_id : (sc : SchemeValue) (d k i : ℕ) → position_of_device sc d ≡ Some k → option_map (λ e. e.id) (slice_get sc.devices k) ≡ Some i → i ≡ d
+device_id sc d k i at is =
+    let none : DeviceEntry = record { id = 0; station = 0; buffer = 0 } in
+    let found = position-Some (λ x. x.id == d) sc.devices k none at in
+    let here : slice_get sc.devices k ≡ Some (get_or sc.devices k none) = slice_get-get_or sc.devices k none found.0 in
+    let same : Some (get_or sc.devices k none).id ≡ Some i = sym (ap (option_map (λ (e : DeviceEntry). e.id)) here) ∙ is in
+    sym (same_some (get_or sc.devices k none).id i same) ∙ (Decides-eqb (get_or sc.devices k none).id d).0 found.1
+
+owner_id : (sc : SchemeValue) (o k i : ℕ) → position_of_owner sc o ≡ Some k → option_map (λ e. e.id) (slice_get sc.owners k) ≡ Some i → i ≡ o
+owner_id sc o k i at is =
+    let none : OwnerEntry = record { id = 0; lane = 0 } in
+    let found = position-Some (λ x. x.id == o) sc.owners k none at in
+    let here : slice_get sc.owners k ≡ Some (get_or sc.owners k none) = slice_get-get_or sc.owners k none found.0 in
+    let same : Some (get_or sc.owners k none).id ≡ Some i = sym (ap (option_map (λ (e : OwnerEntry). e.id)) here) ∙ is in
+    sym (same_some (get_or sc.owners k none).id i same) ∙ (Decides-eqb (get_or sc.owners k none).id o).0 found.1
+
+fresh_lanes : (sc : SchemeValue) (d : ℕ) (x : DeviceValue) → x ≡ fresh_device x.id sc.start (length sc.owners) → x.id ≡ d → IsDeviceOf sc d ((start sc).devices d) x
+fresh_lanes sc d x fresh id = record {
+  id = id;
+  day = ap (λ (z : DeviceValue). z.day) fresh;
+  waiting = ap (λ (z : DeviceValue). z.waiting) fresh;
+  base = ap (λ (z : DeviceValue). z.base) fresh;
+  cursor = ap (λ (z : DeviceValue). z.cursor) fresh;
+  lanes = λ o k n at e. slice_get-replicate (length sc.owners) 0 k n (ap (λ (z : DeviceValue). slice_get z.lanes k) (sym fresh) ∙ e);
+}
+
+-- a new world, part by part
+pub starts : (w : World) → AreFreshDevices w.scheme w.devices.items → w.nexts.items ≡ replicate (length w.scheme.devices) 1 → w.air.items ≡ [] → w.inbox.items ≡ [] → w.hand ≡ None → ((d : ℕ) → upto_in w.outbox d ≡ 0) → ((o d : ℕ) → rows_in w.outbox o d ≡ []) → AreFreshOwners w.scheme w.owners.items → Shows w.scheme (shape w) (start w.scheme)
+starts w devices nexts air inbox hand upto rows owners = record {
+  system = start_is sc;
+  devices = λ d. device d (position_of_device sc d) refl;
+  nexts = λ d. next (position_of_device sc d);
+  air = subst (Each2 (IsPacketOf (start sc).devices) []) (sym air) tt;
+  inbox = subst (Each2 (IsArrivedOf (start sc).devices) []) (sym inbox) tt;
+  hand = subst (Both (IsArrivedOf (start sc).devices) None) (sym hand) tt;
+  upto = upto;
+  rows = rows;
+  owners = λ o. owner o (position_of_owner sc o) refl;
+}
+  where
+    sc : SchemeValue
+    sc = w.scheme
+
+    device : (d : ℕ) (p : Option ℕ) → position_of_device sc d ≡ p → ShowsDevice sc d ((start sc).devices d) (entry p w.devices.items)
+    device d None at = refl
+    device d (Some k) at = found (slice_get w.devices.items k) refl
+      where
+        found : (o : Option DeviceValue) → slice_get w.devices.items k ≡ o → ShowsDevice sc d ((start sc).devices d) o
+        found None e = refl
+        found (Some x) e = let is = devices.each k x e in fresh_lanes sc d x is.fresh (device_id sc d k x.id at is.at)
+
+    next : (p : Option ℕ) → IfSome (entry p w.nexts.items) (λ n. n ≡ 1)
+    next None = tt
+    next (Some k) = found (slice_get w.nexts.items k) refl
+      where
+        found : (o : Option ℕ) → slice_get w.nexts.items k ≡ o → IfSome o (λ n. n ≡ 1)
+        found None e = tt
+        found (Some n) e = slice_get-replicate (length sc.devices) 1 k n (ap (λ l. slice_get l k) (sym nexts) ∙ e)
+
+    owner : (o : ℕ) (p : Option ℕ) → position_of_owner sc o ≡ p → IfSome (option_map (owner_shape sc) (entry p w.owners.items)) (IsOwnerOf (start sc).devices o ((start sc).owners o) ((start sc).lanes o))
+    owner o None at = tt
+    owner o (Some k) at = found (slice_get w.owners.items k) refl
+      where
+        found : (y : Option Owner) → slice_get w.owners.items k ≡ y → IfSome (option_map (owner_shape sc) y) (IsOwnerOf (start sc).devices o ((start sc).owners o) ((start sc).lanes o))
+        found None e = tt
+        found (Some x) e =
+            let is = owners.each k x e in
+            record {
+              id = owner_id sc o k x.ledger.owner at is.at;
+              taken = is.taken;
+              queue = subst (Each2 (IsRoutedOf (start sc).devices o) []) (sym is.queue) tt;
+              hand = subst (Both (IsRoutedOf (start sc).devices o) None) (sym is.hand) tt;
+              cursors = λ d n f. cursor d (position_of_device sc d) n f;
+            }
+          where
+            cursor : (d : ℕ) (p : Option ℕ) (n : ℕ) → entry p x.cursors.items ≡ Some n → n ≡ 0
+            cursor d None n f = absurd (cc)
+            cursor d (Some j) n f = slice_get-replicate (length sc.devices) 0 j n (ap (λ l. slice_get l j) (sym (owners.each k x e).cursors) ∙ f)
+
+-- and its lengths
+pub fresh_rooms : (sc : SchemeValue) (devices : List DeviceValue) (nexts : List ℕ) (owners : List Owner) → AreFreshDevices sc devices → nexts ≡ replicate (length sc.devices) 1 → AreFreshOwners sc owners → HasRooms sc devices nexts owners
+fresh_rooms sc devices nexts owners d n o = record {
+  device_count = d.count;
+  next_count = ap length n ∙ length-replicate {A = ℕ} (length sc.devices) 1;
+  owner_count = o.count;
+  lanes = λ k x e. ap (λ (z : DeviceValue). length z.lanes) (d.each k x e).fresh ∙ length-replicate {A = ℕ} (length sc.owners) 0;
+  cursors = λ k x e. ap length (o.each k x e).cursors ∙ length-replicate {A = ℕ} (length sc.devices) 0;
+}

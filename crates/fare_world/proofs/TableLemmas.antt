@@ -1,0 +1,81 @@
+-- Tables with another value at one place.
+use Rattle.std.proofs.Common.{◌≡◌, ◌≢◌, ℕ, zero, suc, ◌<◌, List, [], ◌∷◌, length, set, get_or, Some, None, Bool, true, false, refl, sym, ap, ◌∙◌, subst, arith, length-set}
+use Rattle.std.specs.Prelude.{◌==◌, slice_get, Option, if◌then◌else◌, position}
+use Rattle.std.proofs.lemmas.Bool.Decides.{nat_tests, Decides-eqb}
+use Rattle.std.proofs.lemmas.List.{get_or-set_same}
+use Rattle.std.proofs.lemmas.List.Quantifiers.{position-Some}
+use Rattle.std.proofs.lemmas.Option.{slice_get-get_or}
+use Rattle.fare_device.specs.SchemeWords.{SchemeValue, DeviceEntry, OwnerEntry, position_of_device, position_of_owner}
+use Rattle.fare_world.specs.System.{put, put2}
+use Rattle.fare_world.specs.Shown.{entry}
+use Rattle.fare_world.proofs.Lists.{if_all}
+
+-- what holds of each entry holds after a write, if it holds of the new one
+pub put_all : {A : Type 0} (P : ℕ → A → Type 0) (f : ℕ → A) (k : ℕ) (v : A) → ((j : ℕ) → P j (f j)) → P k v → (j : ℕ) → P j (put f k v j)
+put_all P f k v each one j = if_all (j == k) (λ a. P j a) v (f j) (λ e. subst (λ i. P i v) (sym ((Decides-eqb j k).0 e)) one) (λ _. each j)
+
+-- the same, where the others are known to be others
+pub put_apart : {A : Type 0} (P : ℕ → A → Type 0) (f : ℕ → A) (k : ℕ) (v : A) → ((j : ℕ) → (j == k) ≡ false → P j (f j)) → P k v → (j : ℕ) → P j (put f k v j)
+put_apart P f k v each one j = if_all (j == k) (λ a. P j a) v (f j) (λ e. subst (λ i. P i v) (sym ((Decides-eqb j k).0 e)) one) (each j)
+
+-- two tables that change at one place
+pub put_both : {A B : Type 0} (P : ℕ → A → B → Type 0) (f : ℕ → A) (g : ℕ → B) (k : ℕ) (v : A) (w : B) → ((j : ℕ) → P j (f j) (g j)) → P k v w → (j : ℕ) → P j (put f k v j) (put g k w j)
+put_both P f g k v w each one j = if_both (j == k) (P j) v (f j) w (g j) (λ e. subst (λ i. P i v w) (sym ((Decides-eqb j k).0 e)) one) (λ _. each j)
+  where
+    if_both : {A B : Type 0} (b : Bool) (Q : A → B → Type 0) (x y : A) (z w : B) → (b ≡ true → Q x z) → (b ≡ false → Q y w) → Q (if b then x else y) (if b then z else w)
+    if_both true Q x y z w p q = p refl
+    if_both false Q x y z w p q = q refl
+
+pub put2_all : {A : Type 0} (P : ℕ → ℕ → A → Type 0) (f : ℕ → ℕ → A) (o d : ℕ) (v : A) → ((p e : ℕ) → P p e (f p e)) → P o d v → (p e : ℕ) → P p e (put2 f o d v p e)
+put2_all P f o d v each one = put_all (λ p g. (e : ℕ) → P p e (g e)) f o (put (f o) d v) each (put_all (P o) (f o) d v (each o) one)
+
+-- the entry that was written
+pub put_here : {A : Type 0} (f : ℕ → A) (k : ℕ) (v : A) → put f k v k ≡ v
+put_here f k v = ap (λ b. if b then v else f k) ((Decides-eqb k k).1 refl)
+
+-- ENTRIES BY POSITION
+pub slice_get-set_same : {A : Type 0} (xs : List A) (k : ℕ) (v : A) → k < length xs → slice_get (set xs k v) k ≡ Some v
+slice_get-set_same xs k v lt = slice_get-get_or (set xs k v) k v (omega (arith, length-set xs k v)) ∙ ap Some (get_or-set_same xs k v v lt)
+
+pub slice_get-set_other : {A : Type 0} (xs : List A) (k j : ℕ) (v : A) → j ≢ k → slice_get (set xs k v) j ≡ slice_get xs j
+slice_get-set_other [] k j v apart = refl
+slice_get-set_other (x ∷ xs) zero zero v apart = absurd (apart refl)
+slice_get-set_other (x ∷ xs) zero (suc j) v apart = refl
+slice_get-set_other (x ∷ xs) (suc k) zero v apart = refl
+slice_get-set_other (x ∷ xs) (suc k) (suc j) v apart = slice_get-set_other xs k j v (λ e. apart (ap suc e))
+
+-- two ids do not stand at one position
+abbrev pub IsApart : (ℕ → Option ℕ) → Type 0
+IsApart at = (d e k : ℕ) → at d ≡ Some k → at e ≡ Some k → d ≡ e
+
+pub entry-set : {A : Type 0} (at : ℕ → Option ℕ) → IsApart at → (xs : List A) (d k : ℕ) (v : A) → at d ≡ Some k → k < length xs → (e : ℕ) → entry (at e) (set xs k v) ≡ put (λ j. entry (at j) xs) d (Some v) e
+entry-set at apart xs d k v is lt = put_apart (λ e a. entry (at e) (set xs k v) ≡ a) (λ j. entry (at j) xs) d (Some v) (λ e other. elsewhere e other (at e) refl) (ap (λ p. entry p (set xs k v)) is ∙ slice_get-set_same xs k v lt)
+  where
+    elsewhere : (e : ℕ) → (e == d) ≡ false → (p : Option ℕ) → at e ≡ p → entry (at e) (set xs k v) ≡ entry (at e) xs
+    elsewhere e other None g = ap (λ p. entry p (set xs k v)) g ∙ sym (ap (λ p. entry p xs) g)
+    elsewhere e other (Some j) g =
+        let differ : j ≢ k = λ same. absurd (not_same (apart e d k (g ∙ ap Some same) is) other) in
+        ap (λ p. entry p (set xs k v)) g ∙ slice_get-set_other xs k j v differ ∙ sym (ap (λ p. entry p xs) g)
+      where
+        not_same : e ≡ d → (e == d) ≡ false → ⊥
+        not_same same differ = absurd (grind (arith, nat_tests))
+
+devices_stand_apart : (xs : List DeviceEntry) → IsApart (λ d. position (λ x. x.id == d) xs)
+devices_stand_apart xs d e k p q =
+    let none : DeviceEntry = record { id = 0; station = 0; buffer = 0 } in
+    let a = (position-Some (λ x. x.id == d) xs k none p).1 in
+    let b = (position-Some (λ x. x.id == e) xs k none q).1 in
+    sym ((Decides-eqb (get_or xs k none).id d).0 a) ∙ (Decides-eqb (get_or xs k none).id e).0 b
+
+owners_stand_apart : (xs : List OwnerEntry) → IsApart (λ o. position (λ x. x.id == o) xs)
+owners_stand_apart xs d e k p q =
+    let none : OwnerEntry = record { id = 0; lane = 0 } in
+    let a = (position-Some (λ x. x.id == d) xs k none p).1 in
+    let b = (position-Some (λ x. x.id == e) xs k none q).1 in
+    sym ((Decides-eqb (get_or xs k none).id d).0 a) ∙ (Decides-eqb (get_or xs k none).id e).0 b
+
+pub devices_apart : (sc : SchemeValue) → IsApart (position_of_device sc)
+devices_apart sc = devices_stand_apart sc.devices
+
+pub owners_apart : (sc : SchemeValue) → IsApart (position_of_owner sc)
+owners_apart sc = owners_stand_apart sc.owners

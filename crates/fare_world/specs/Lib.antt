@@ -1,0 +1,11 @@
+pub mod System
+pub mod Steps
+pub mod Headline
+pub mod RowWords
+pub mod Stores
+pub mod LaneWords
+pub mod Tables
+pub mod Rooms
+pub mod Shown
+pub mod Fresh
+pub mod Whole

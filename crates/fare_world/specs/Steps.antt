@@ -1,0 +1,195 @@
+-- What each event does to the system of numbers, and its reply: the refusals in order, each once.
+use Rattle.std.specs.Prelude.{ℕ, ◌+◌, ◌-◌, ◌==◌, Bool, List, [], ◌∷◌, ◌++◌, length, Option, Some, None, if◌then◌else◌, slice_get, nat_lt, is_some}
+use Rattle.fare_record.specs.Values.{RecordValue, TapValue}
+use Rattle.fare_device.specs.SchemeWords.{SchemeValue, owner_of, position_of_device, position_of_owner}
+use Rattle.fare_device.specs.TrafficDay.{traffic_day_of}
+use Rattle.fare_world.specs.declared.event.Event.{Event}
+use Rattle.fare_world.specs.declared.event.Event.TheVariants as event
+use Rattle.fare_world.specs.declared.reply.Refusal.TheVariants.{UnknownDevice, UnknownOwner, BadMoment, UnknownProduct, DayClosed, DayAhead, NumbersSpent, NoPacket, Old, Ahead, HandFull, Duplicate, Gap}
+use Rattle.fare_world.specs.declared.reply.Reply.{Reply}
+use Rattle.fare_world.specs.declared.reply.Reply.TheVariants.{Idle, Empty, Refused, Recorded, Sent, Accepted, Drawn, Stored, Forwarded, Fetched, Taken, Upto, Count}
+use Rattle.fare_world.specs.System.{put, put2, Packet, Tapped, Arrived, Tap_of, Routed, Lane_of, System, numbered_for, arrived_of}
+
+-- the device, or the owner, is registered
+abbrev pub knows_device : SchemeValue → ℕ → Bool
+knows_device sc device = is_some (position_of_device sc device)
+
+abbrev pub knows_owner : SchemeValue → ℕ → Bool
+knows_owner sc owner = is_some (position_of_owner sc owner)
+
+-- TAP
+-- the record of the device's next tap for an owner
+abbrev pub next_record : System → ℕ → ℕ → TapValue → RecordValue
+next_record s device owner tap = record {
+  device = device;
+  link = length (s.devices device).taps + 1;
+  owner = owner;
+  lane = length (numbered_for s owner device) + 1;
+  tap = tap;
+}
+
+abbrev pub with_tap : System → ℕ → RecordValue → System
+with_tap s device r = record s { devices = put s.devices device (record (s.devices device) { taps = (s.devices device).taps ++ r ∷ [] }) }
+
+abbrev pub tap_for : System → ℕ → TapValue → Option ℕ → System × Reply
+tap_for s device tap None = (s, Refused UnknownProduct)
+tap_for s device tap (Some owner) =
+    if nat_lt tap.day (s.devices device).day then (s, Refused DayClosed) else
+    if nat_lt (s.devices device).day tap.day then (s, Refused DayAhead) else
+    if nat_lt (length (s.devices device).taps) 1099511627775 then
+    (with_tap s device (next_record s device owner tap), Recorded (length (s.devices device).taps + 1) (length (numbered_for s owner device) + 1))
+    else (s, Refused NumbersSpent)
+
+abbrev pub tap_on : SchemeValue → System → ℕ → ℕ → ℕ → ℕ → Option ℕ → System × Reply
+tap_on sc s device product token moment None = (s, Refused BadMoment)
+tap_on sc s device product token moment (Some day) =
+    tap_for s device (record { product = product; token = token; moment = moment; day = day }) (owner_of sc product)
+
+abbrev pub tap : SchemeValue → System → ℕ → ℕ → ℕ → ℕ → System × Reply
+tap sc s device product token moment =
+    if knows_device sc device then tap_on sc s device product token moment (traffic_day_of moment) else (s, Refused UnknownDevice)
+
+-- SEND
+abbrev pub sent : System → ℕ → System
+sent s device = record s {
+  air = s.air ++ Tapped device ((s.devices device).cursor + 1) ∷ [];
+  devices = put s.devices device (record (s.devices device) { cursor = (s.devices device).cursor + 1 });
+}
+
+abbrev pub send_next : System → ℕ → System × Reply
+send_next s device =
+    if nat_lt (s.devices device).cursor (length (s.devices device).taps) then
+    (sent s device, Sent (length s.air + 1) ((s.devices device).cursor + 1))
+    else (s, Idle)
+
+abbrev pub send : SchemeValue → System → ℕ → System × Reply
+send sc s device = if knows_device sc device then send_next s device else (s, Refused UnknownDevice)
+
+-- ARRIVE
+abbrev pub accepted : System → ℕ → ℕ → System
+accepted s device link = record s {
+  inbox = s.inbox ++ Tap_of device link ∷ [];
+  devices = put s.devices device (record (s.devices device) { next = link + 1 });
+}
+
+abbrev pub comes : System → Option Packet → System × Reply
+comes s None = (s, Refused NoPacket)
+comes s (Some (Tapped device link)) =
+    if nat_lt link (s.devices device).next then (s, Refused Old) else
+    if nat_lt (s.devices device).next link then (s, Refused Ahead) else
+    (accepted s device link, Accepted)
+
+-- packets are numbered from 1
+abbrev pub packet_at : System → ℕ → Option Packet
+packet_at s packet = if packet == 0 then None else slice_get s.air (packet - 1)
+
+abbrev pub arrive : System → ℕ → System × Reply
+arrive s packet = comes s (packet_at s packet)
+
+-- DRAW
+abbrev pub draw_from : System → List Arrived → Option Arrived → System × Reply
+draw_from s inbox (Some held) = (s, Refused HandFull)
+draw_from s [] None = (s, Empty)
+draw_from s (Tap_of device link ∷ rest) None = (record s { inbox = rest; hand = Some (Tap_of device link) }, Drawn device link)
+
+abbrev pub draw : System → System × Reply
+draw s = draw_from s s.inbox s.hand
+
+-- STORE
+abbrev pub stored : System → ℕ → System
+stored s device = record s {
+  hand = None;
+  devices = put s.devices device (record (s.devices device) { upto = (s.devices device).upto + 1 });
+}
+
+abbrev pub store_from : System → Option Arrived → System × Reply
+store_from s None = (s, Idle)
+store_from s (Some (Tap_of device link)) =
+    if nat_lt link ((s.devices device).upto + 1) then (record s { hand = None }, Refused Duplicate) else
+    if nat_lt ((s.devices device).upto + 1) link then (record s { hand = None }, Refused Gap) else
+    (stored s device, Stored device link)
+
+abbrev pub store : System → System × Reply
+store s = store_from s s.hand
+
+-- FORWARD
+abbrev pub forwarded : System → ℕ → ℕ → System
+forwarded s owner device = record s {
+  owners = put s.owners owner (record (s.owners owner) { queue = (s.owners owner).queue ++ Lane_of device ((s.lanes owner device).forward + 1) ∷ [] });
+  lanes = put2 s.lanes owner device (record (s.lanes owner device) { forward = (s.lanes owner device).forward + 1 });
+}
+
+abbrev pub forward_next : System → ℕ → ℕ → System × Reply
+forward_next s owner device =
+    if nat_lt (s.lanes owner device).forward (length (arrived_of owner (s.devices device))) then
+    (forwarded s owner device, Forwarded ((s.lanes owner device).forward + 1))
+    else (s, Idle)
+
+abbrev pub forward : SchemeValue → System → ℕ → ℕ → System × Reply
+forward sc s owner device =
+    if knows_owner sc owner then
+    if knows_device sc device then forward_next s owner device else (s, Refused UnknownDevice)
+    else (s, Refused UnknownOwner)
+
+-- FETCH
+abbrev pub fetch_from : System → ℕ → List Routed → Option Routed → System × Reply
+fetch_from s owner queue (Some held) = (s, Refused HandFull)
+fetch_from s owner [] None = (s, Empty)
+fetch_from s owner (Lane_of device lane ∷ rest) None =
+    (record s { owners = put s.owners owner (record { queue = rest; hand = Some (Lane_of device lane) }) }, Fetched device lane)
+
+abbrev pub fetch : SchemeValue → System → ℕ → System × Reply
+fetch sc s owner =
+    if knows_owner sc owner then fetch_from s owner (s.owners owner).queue (s.owners owner).hand else (s, Refused UnknownOwner)
+
+-- TAKE
+abbrev pub emptied : System → ℕ → System
+emptied s owner = record s { owners = put s.owners owner (record (s.owners owner) { hand = None }) }
+
+abbrev pub took : System → ℕ → ℕ → System
+took s owner device = record s {
+  owners = put s.owners owner (record (s.owners owner) { hand = None });
+  lanes = put2 s.lanes owner device (record (s.lanes owner device) { took = (s.lanes owner device).took + 1 });
+}
+
+abbrev pub take_from : System → ℕ → Option Routed → System × Reply
+take_from s owner None = (s, Idle)
+take_from s owner (Some (Lane_of device lane)) =
+    if nat_lt lane ((s.lanes owner device).took + 1) then (emptied s owner, Refused Duplicate) else
+    if nat_lt ((s.lanes owner device).took + 1) lane then (emptied s owner, Refused Gap) else
+    (took s owner device, Taken device lane)
+
+abbrev pub take_event : SchemeValue → System → ℕ → System × Reply
+take_event sc s owner = if knows_owner sc owner then take_from s owner (s.owners owner).hand else (s, Refused UnknownOwner)
+
+-- UPTO and COUNT
+abbrev pub upto : SchemeValue → System → ℕ → System × Reply
+upto sc s device = if knows_device sc device then (s, Upto (s.devices device).upto) else (s, Refused UnknownDevice)
+
+abbrev pub count : SchemeValue → System → ℕ → ℕ → System × Reply
+count sc s owner device =
+    if knows_owner sc owner then
+    if knows_device sc device then (s, Count (s.lanes owner device).took) else (s, Refused UnknownDevice)
+    else (s, Refused UnknownOwner)
+
+-- what an event changes, and its reply
+abbrev pub step : SchemeValue → System → Event → System × Reply
+step sc s (event.Tap device product token moment) = tap sc s device product token moment
+step sc s (event.Send device) = send sc s device
+step sc s (event.Arrive packet) = arrive s packet
+step sc s event.Draw = draw s
+step sc s event.Store = store s
+step sc s (event.Forward owner device) = forward sc s owner device
+step sc s (event.Fetch owner) = fetch sc s owner
+step sc s (event.Take owner) = take_event sc s owner
+step sc s (event.Upto device) = upto sc s device
+step sc s (event.Count owner device) = count sc s owner device
+
+-- the system after a list of events, and their replies
+abbrev pub after : SchemeValue → System → List Event → System
+after sc s [] = s
+after sc s (e ∷ es) = after sc (step sc s e).0 es
+
+abbrev pub replies : SchemeValue → System → List Event → List Reply
+replies sc s [] = []
+replies sc s (e ∷ es) = (step sc s e).1 ∷ replies sc (step sc s e).0 es

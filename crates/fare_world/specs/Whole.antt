@@ -1,0 +1,65 @@
+-- What is seen of a world, and what its calls do.
+use Rattle.std.specs.Prelude.{◌≡◌, ◌≤◌, ℕ, List, take, length, IfSome, option_map, Result, MatchResult}
+use Rattle.fare_record.specs.Lanes.{lane_of}
+use Rattle.fare_device.specs.SchemeWords.{SchemeValue, position_of_device, position_of_owner}
+use Rattle.fare_world.specs.declared.event.Event.{Event}
+use Rattle.fare_world.specs.declared.reply.Reply.{Reply}
+use Rattle.fare_world.specs.declared.owner.Owner.{Owner}
+use Rattle.fare_world.specs.declared.world.World.{World}
+use Rattle.fare_world.specs.declared.world.Fault.{Fault}
+use Rattle.fare_world.specs.System.{System}
+use Rattle.fare_world.specs.Steps.{step, after, replies}
+use Rattle.fare_world.specs.Headline.{numbered, IsPrefixOf}
+use Rattle.fare_world.specs.Tables.{upto_in, rows_in, taken_in}
+use Rattle.fare_world.specs.Shown.{entry, OwnerShape, Shape, Shows}
+
+abbrev pub owner_shape : SchemeValue → Owner → OwnerShape
+owner_shape sc x = record {
+  owner = x.ledger.owner;
+  taken = taken_in x.ledger;
+  queue = x.queue.items;
+  hand = x.hand;
+  cursors = λ device. entry (position_of_device sc device) x.cursors.items;
+}
+
+abbrev pub shape : World → Shape
+shape w = record {
+  devices = λ device. entry (position_of_device w.scheme device) w.devices.items;
+  nexts = λ device. entry (position_of_device w.scheme device) w.nexts.items;
+  air = w.air.items;
+  inbox = w.inbox.items;
+  hand = w.hand;
+  upto = upto_in w.outbox;
+  rows = rows_in w.outbox;
+  owners = λ owner. option_map (owner_shape w.scheme) (entry (position_of_owner w.scheme owner) w.owners.items);
+}
+
+-- the world stands at this system
+pub record StandsAt (w : World) (s : System) : Type 0 where
+  pub shows : Shows w.scheme (shape w) s
+
+-- one event: at whatever system the world stood, the reply is the step's and the world stands at the system after it
+pub record IsStepped (old new : World) (e : Event) (r : Reply) : Type 0 where
+  pub scheme : new.scheme ≡ old.scheme
+  pub reply : (s : System) → StandsAt old s → r ≡ (step old.scheme s e).1
+  pub stands : (s : System) → StandsAt old s → StandsAt new (step old.scheme s e).0
+
+-- nothing that is seen of the world has changed
+pub record IsUnchanged (old new : World) : Type 0 where
+  pub scheme : new.scheme ≡ old.scheme
+  pub seen : shape new ≡ shape old
+
+abbrev pub Applied : World → World → Event → Result Reply Fault → Type 0
+Applied old new e result = MatchResult result (IsStepped old new e) (λ _. IsUnchanged old new)
+
+-- what a run of events did, up to the event at which it stopped: at whatever system the world stood, the replies and the system after are those of the events before it
+pub record HasRun (old new : World) (events : List Event) (answered : List Reply) : Type 0 where
+  pub scheme : new.scheme ≡ old.scheme
+  pub within : length answered ≤ length events
+  pub answers : (s : System) → StandsAt old s → answered ≡ replies old.scheme s (take (length answered) events)
+  pub stands : (s : System) → StandsAt old s → StandsAt new (after old.scheme s (take (length answered) events))
+
+-- what each owner has taken from each device, as its ledger tells, is where the list begins that the device numbered for the owner, as the events and their replies tell
+abbrev pub TakenInOrder : World → List Event → List Reply → Type 0
+TakenInOrder w events answered =
+    (owner device : ℕ) → IfSome ((shape w).owners owner) (λ x. IsPrefixOf (x.taken device) (lane_of owner device (numbered w.scheme events answered)))

@@ -1,0 +1,72 @@
+use fare_record::DeviceId;
+
+/// Why a line or an event was refused. A refusal changes nothing, but for those of `Store` and `Take`, which
+/// empty the hand.
+#[derive(Clone, Copy, PartialEq, Eq, Debug)]
+pub enum Refusal {
+    /// An event came before the scheme was sealed.
+    Unsealed,
+    /// A scheme line came after it.
+    Sealed,
+    /// A number of a scheme line is out of its range.
+    Range,
+    /// The device is not registered.
+    UnknownDevice,
+    /// The owner is not registered.
+    UnknownOwner,
+    /// The moment is of no traffic day from 0 to 100,000.
+    BadMoment,
+    /// The product is not registered.
+    UnknownProduct,
+    /// The tap's traffic day is before the device's open day.
+    DayClosed,
+    /// The tap's traffic day is after the device's open day.
+    DayAhead,
+    /// The device has given out all link numbers.
+    NumbersSpent,
+    /// The air has no packet of this number.
+    NoPacket,
+    /// The station has accepted this link before.
+    Old,
+    /// The station accepts an earlier link first.
+    Ahead,
+    /// The hand holds an item already.
+    HandFull,
+    /// The item was stored or taken before.
+    Duplicate,
+    /// An earlier number is to be stored or taken first.
+    Gap,
+}
+
+/// What an event, or a line of a trace, is answered.
+#[derive(Clone, Copy, PartialEq, Eq, Debug)]
+pub enum Reply {
+    /// A scheme line was accepted.
+    Done,
+    /// There was nothing to do.
+    Idle,
+    /// The queue was empty.
+    Empty,
+    /// Nothing was done, and why.
+    Refused(Refusal),
+    /// The tap got these numbers.
+    Recorded { link: u64, lane: u64 },
+    /// The air gained this packet, with the tap of this link.
+    Sent { packet: u64, link: u64 },
+    /// The station put the packet's tap into the inbox.
+    Accepted,
+    /// The writer drew the tap of this device and link.
+    Drawn { device: DeviceId, link: u64 },
+    /// The outbox stored the tap of this device and link.
+    Stored { device: DeviceId, link: u64 },
+    /// The lane queue gained the tap of this lane number.
+    Forwarded { lane: u64 },
+    /// The owner fetched the tap of this device and lane number.
+    Fetched { device: DeviceId, lane: u64 },
+    /// The owner's ledger took the tap of this device and lane number.
+    Taken { device: DeviceId, lane: u64 },
+    /// How many taps of the device the outbox has had.
+    Upto(u64),
+    /// How many taps of the device the owner's ledger holds.
+    Count(u64),
+}

@@ -1,0 +1,73 @@
+ghost use Rattle.std.specs.Prelude.{◌≡◌, IfOk};
+ghost use Rattle.fare_world.specs.System.{start};
+ghost use Rattle.fare_world.specs.Fresh.{AreFreshDevices, AreFreshOwners};
+ghost use Rattle.fare_world.specs.Whole.{StandsAt};
+
+use crate::ledger::Ledger;
+use crate::outbox::Outbox;
+use crate::owner::Owner;
+use crate::world::{Fault, World};
+use fare_device::{Device, DeviceFault, Scheme};
+use std::alloc::Global;
+use std::collections::VecDeque;
+
+impl World {
+    /// A new world: nothing was numbered, sent, stored or taken, and each device's open day is the scheme's
+    /// first. `Memory` where there was none.
+    pub fn new(alloc: Global, scheme: Scheme) -> Result<World, Fault>
+        ensures scheme { IfOk result (λ world. world.scheme ≡ scheme) }
+        ensures start { IfOk result (λ world. StandsAt world (start scheme)) }
+    {
+        let devices = fresh_devices(alloc, &scheme)?;
+        let nexts = vec![in alloc; 1; devices.len()]?;
+        let owners = fresh_owners(alloc, &scheme)?;
+        Ok(World {
+            scheme,
+            devices,
+            nexts,
+            air: Vec::new(alloc),
+            inbox: VecDeque::new(alloc),
+            hand: None,
+            outbox: Outbox::new(alloc),
+            owners,
+        })
+    }
+}
+
+// The scheme's devices, none of which has numbered anything.
+fn fresh_devices(alloc: Global, scheme: &Scheme) -> Result<Vec<Device>, Fault>
+    ensures { IfOk result (λ devices. AreFreshDevices scheme.now devices.items) }
+{
+    let mut devices = Vec::new(alloc);
+    for place in 0..scheme.devices() {
+        let Some(id) = scheme.device_at(place) else {
+            unreachable!()
+        };
+        match Device::new(alloc, id, scheme) {
+            Ok(device) => devices.push(device)?,
+            Err(DeviceFault::Memory) => return Err(Fault::Memory),
+            Err(DeviceFault::UnknownDevice) => unreachable!(),
+        }
+    }
+    Ok(devices)
+}
+
+// The scheme's owners, none of which has fetched or taken anything.
+fn fresh_owners(alloc: Global, scheme: &Scheme) -> Result<Vec<Owner>, Fault>
+    ensures { IfOk result (λ owners. AreFreshOwners scheme.now owners.items) }
+{
+    let mut owners = Vec::new(alloc);
+    for place in 0..scheme.owners() {
+        let Some(id) = scheme.owner_at(place) else {
+            unreachable!()
+        };
+        let cursors = vec![in alloc; 0; scheme.devices()]?;
+        owners.push(Owner {
+            ledger: Ledger::new(alloc, id),
+            queue: VecDeque::new(alloc),
+            hand: None,
+            cursors,
+        })?;
+    }
+    Ok(owners)
+}

@@ -1,0 +1,59 @@
+ghost use Rattle.fare_world.specs.Whole.{Applied};
+ghost use Rattle.fare_world.specs.declared.event.Event.TheVariants as event;
+
+use crate::world::{Fault, World};
+use crate::{Refusal, Reply};
+use fare_device::{TapRefusal, traffic_day};
+use fare_record::{DeviceId, Moment, ProductId, Token};
+
+impl World {
+    // A tap on a device.
+    pub(super) fn tap(
+        &mut self,
+        device: DeviceId,
+        product: ProductId,
+        token: Token,
+        moment: Moment,
+    ) -> Result<Reply, Fault>
+        ensures { Applied self.old self.new (event.Tap device product token moment) result }
+    {
+        let Some(place) = self.scheme.device_position(device) else {
+            return Ok(Reply::Refused(Refusal::UnknownDevice));
+        };
+        let Ok(day) = traffic_day(moment) else {
+            return Ok(Reply::Refused(Refusal::BadMoment));
+        };
+        match self.devices[place].tap(&self.scheme, product, token, moment, day) {
+            Ok(row) => Ok(Reply::Recorded {
+                link: row.link(),
+                lane: row.lane(),
+            }),
+            Err(TapRefusal::UnknownProduct) => Ok(Reply::Refused(Refusal::UnknownProduct)),
+            Err(TapRefusal::DayClosed) => Ok(Reply::Refused(Refusal::DayClosed)),
+            Err(TapRefusal::DayAhead) => Ok(Reply::Refused(Refusal::DayAhead)),
+            Err(TapRefusal::NumbersSpent) => Ok(Reply::Refused(Refusal::NumbersSpent)),
+            Err(TapRefusal::Memory) => Err(Fault::Memory),
+        }
+    }
+
+    // The next unsent tap of a device goes into the air.
+    pub(super) fn send(&mut self, device: DeviceId) -> Result<Reply, Fault>
+        ensures { Applied self.old self.new (event.Send device) result }
+    {
+        let Some(place) = self.scheme.device_position(device) else {
+            return Ok(Reply::Refused(Refusal::UnknownDevice));
+        };
+        // The room comes first, since the device moves on with its answer.
+        self.air.reserve(1)?;
+        let Some(row) = self.devices[place].next_frame() else {
+            return Ok(Reply::Idle);
+        };
+        if self.air.push(row).is_err() {
+            unreachable!()
+        }
+        Ok(Reply::Sent {
+            packet: self.air.len() as u64,
+            link: row.link(),
+        })
+    }
+}
