@@ -18,3 +18,6 @@ pub use line::{Line, SchemeLine};
 pub use print::print_reply;
 pub use stream::{ReplayFault, replay};
 pub use text::{ParseFault, parse};
+
+#[cfg(test)]
+mod tests;

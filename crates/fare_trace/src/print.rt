@@ -1,4 +1,5 @@
-ghost use Rattle.std.specs.Prelude.{◌≡◌, ◌∷◌, ◌++◌, OnOk, OnErr, length, map, take};
+ghost use Rattle.std.specs.Prelude.{◌≡◌, [], ◌∷◌, ◌++◌, OnOk, OnErr, length, map, take};
+ghost use Rattle.std.specs.Fmt.{decimal};
 ghost use Rattle.fare_trace.specs.Replies.{refusal_name, reply_text, words_line};
 
 use fare_world::{Refusal, Reply};
@@ -56,59 +57,71 @@ fn append_line(first: &[u8], rest: &[&[u8]], out: &mut Vec<u8>) -> Result<(), Al
     appended
 }
 
+/// Appends a name and a number.
+fn append_number(name: &[u8], number: u64, out: &mut Vec<u8>) -> Result<(), AllocError>
+    ensures appended { OnOk result (out.new.items ≡ out.old.items ++ words_line (name.now ∷ decimal number ∷ [])) }
+    ensures kept { OnErr result (out.new.items ≡ out.old.items) }
+{
+    append_line(name, &[Buffer::new().format(number).as_bytes()], out)
+}
+
+/// Appends a name, a number, a word and a number.
+fn append_numbers(
+    name: &[u8],
+    first: u64,
+    word: &[u8],
+    second: u64,
+    out: &mut Vec<u8>,
+) -> Result<(), AllocError>
+    ensures appended { OnOk result (out.new.items ≡ out.old.items ++ words_line (name.now ∷ decimal first ∷ word.now ∷ decimal second ∷ [])) }
+    ensures kept { OnErr result (out.new.items ≡ out.old.items) }
+{
+    let mut one = Buffer::new();
+    let mut two = Buffer::new();
+    let first = one.format(first).as_bytes();
+    let second = two.format(second).as_bytes();
+    append_line(name, &[first, word, second], out)
+}
+
+/// Appends the two numbers of a record.
+fn append_record(link: u64, lane: u64, out: &mut Vec<u8>) -> Result<(), AllocError>
+    ensures appended { OnOk result (out.new.items ≡ out.old.items ++ reply_text (Reply.Recorded link lane)) }
+    ensures kept { OnErr result (out.new.items ≡ out.old.items) }
+{
+    let mut one = Buffer::new();
+    let mut two = Buffer::new();
+    let link = one.format(link).as_bytes();
+    let lane = two.format(lane).as_bytes();
+    append_line(b"record", &[link, lane], out)
+}
+
 /// Appends a reply's line, ended by a line feed. The error is want of memory, and after it `out` is as before.
 pub fn print_reply(reply: &Reply, out: &mut Vec<u8>) -> Result<(), AllocError>
     ensures appended { OnOk result (out.new.items ≡ out.old.items ++ reply_text reply.now) }
     ensures kept { OnErr result (out.new.items ≡ out.old.items) }
 {
-    let mut one = Buffer::new();
-    let mut two = Buffer::new();
     match *reply {
         Reply::Done => append_line(b"ok", &[], out),
         Reply::Idle => append_line(b"idle", &[], out),
         Reply::Empty => append_line(b"empty", &[], out),
-        Reply::Refused(refusal) => append_line(b"refused", &[name_of(refusal)], out),
-        Reply::Recorded { link, lane } => {
-            let (link, lane) = (one.format(link).as_bytes(), two.format(lane).as_bytes());
-            append_line(b"record", &[link, lane], out)
-        }
-        Reply::Sent { packet, link } => {
-            let (packet, link) = (one.format(packet).as_bytes(), two.format(link).as_bytes());
-            append_line(b"packet", &[packet, b"link", link], out)
-        }
         Reply::Accepted => append_line(b"accepted", &[], out),
+        Reply::Refused(refusal) => append_line(b"refused", &[name_of(refusal)], out),
+        Reply::Recorded { link, lane } => append_record(link, lane, out),
+        Reply::Sent { packet, link } => append_numbers(b"packet", packet, b"link", link, out),
         Reply::Drawn { device, link } => {
-            let (device, link) = (
-                one.format(device.get()).as_bytes(),
-                two.format(link).as_bytes(),
-            );
-            append_line(b"drawn", &[device, b"link", link], out)
+            append_numbers(b"drawn", u64::from(device.get()), b"link", link, out)
         }
         Reply::Stored { device, link } => {
-            let (device, link) = (
-                one.format(device.get()).as_bytes(),
-                two.format(link).as_bytes(),
-            );
-            append_line(b"stored", &[device, b"link", link], out)
+            append_numbers(b"stored", u64::from(device.get()), b"link", link, out)
         }
-        Reply::Forwarded { lane } => {
-            append_line(b"forwarded", &[b"lane", one.format(lane).as_bytes()], out)
-        }
+        Reply::Forwarded { lane } => append_number(b"forwarded lane", lane, out),
         Reply::Fetched { device, lane } => {
-            let (device, lane) = (
-                one.format(device.get()).as_bytes(),
-                two.format(lane).as_bytes(),
-            );
-            append_line(b"fetched", &[device, b"lane", lane], out)
+            append_numbers(b"fetched", u64::from(device.get()), b"lane", lane, out)
         }
         Reply::Taken { device, lane } => {
-            let (device, lane) = (
-                one.format(device.get()).as_bytes(),
-                two.format(lane).as_bytes(),
-            );
-            append_line(b"taken", &[device, b"lane", lane], out)
+            append_numbers(b"taken", u64::from(device.get()), b"lane", lane, out)
         }
-        Reply::Upto(number) => append_line(b"upto", &[one.format(number).as_bytes()], out),
-        Reply::Count(number) => append_line(b"count", &[one.format(number).as_bytes()], out),
+        Reply::Upto(number) => append_number(b"upto", number, out),
+        Reply::Count(number) => append_number(b"count", number, out),
     }
 }
