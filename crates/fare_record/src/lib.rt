@@ -3,14 +3,24 @@
 //! tests them again, and no call here takes memory.
 #![tactic(auto)]
 
-mod ids;
+mod day;
+mod device_id;
+mod moment;
+mod operator_id;
+mod owner_id;
+mod product_id;
 mod record;
+mod station_id;
 mod tap;
-mod time;
 mod token;
 
-pub use ids::{DeviceId, OperatorId, OwnerId, ProductId, StationId};
+pub use day::Day;
+pub use device_id::DeviceId;
+pub use moment::Moment;
+pub use operator_id::OperatorId;
+pub use owner_id::OwnerId;
+pub use product_id::ProductId;
 pub use record::{LAST_NUMBER, Record};
+pub use station_id::StationId;
 pub use tap::Tap;
-pub use time::{Day, Moment};
 pub use token::Token;

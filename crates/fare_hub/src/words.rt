@@ -1,0 +1,175 @@
+ghost use Rattle.std.specs.Prelude.{◌≡◌, ℕ, Bool, None, IfOk, IfErr, map, option_map, codes};
+ghost use Rattle.clap.specs.Words.{rows_of, found_of, first_of, subcommand_of, subcommand_rows_of};
+ghost use Rattle.fare_hub.specs.CommandLine.{hub_app};
+ghost use Rattle.fare_hub.specs.Jobs.{IsStore, IsNumber, IsTurns, JobIn, JobOf, RefusedFor, FailsOn};
+ghost use Rattle.fare_hub.specs.declared.words.WordsFault.TheVariants.{Memory};
+
+use crate::command::hub_command;
+use clap::ArgMatches;
+use clap::error::ErrorKind;
+use std::alloc::{AllocError, Global};
+use thiserror::Error;
+
+/// The most turns that may be asked for.
+const MOST_TURNS: u32 = 1_000_000_000;
+
+/// What the program is asked to do.
+#[derive(Debug, Drop)]
+pub enum Job<'a> {
+    /// Replay a trace from standard input to standard output, over lists or over tables.
+    Replay {
+        sql: bool,
+    },
+    /// Serve stations on a port of 127.0.0.1, for a number of turns, with the outbox's database at a path.
+    Serve {
+        port: u16,
+        turns: u32,
+        path: &'a str,
+    },
+}
+
+/// Why there is no job.
+#[derive(Debug, Drop, Error)]
+pub enum WordsFault {
+    /// The words ask for the program's help or version, which is this text.
+    #[error("{0}")]
+    Asked(String),
+    /// The words are no job: this text says why.
+    #[error("{0}")]
+    Refused(String),
+    /// There was no memory.
+    #[error("no memory")]
+    Memory,
+}
+
+impl From<AllocError> for WordsFault {
+    ghost from_gives = { λ _ e. e ≡ Memory };
+
+    fn from(_error: AllocError) -> WordsFault {
+        WordsFault::Memory
+    }
+}
+
+/// What clap makes of the words.
+fn matches_of<'a>(alloc: Global, words: &'a [&'a str]) -> Result<ArgMatches<'a>, WordsFault>
+    ensures ok { IfOk result (λ m. subcommand_rows_of m ≡ subcommand_of hub_app (map (λ word. word.now) words.now)) }
+    ensures err { IfErr result (FailsOn (map (λ word. word.now) words.now)) }
+{
+    let command = hub_command(alloc)?;
+    match command.try_get_matches_from(words) {
+        Ok(matches) => Ok(matches),
+        Err(error) => match error.kind() {
+            ErrorKind::OutOfMemory => Err(WordsFault::Memory),
+            ErrorKind::DisplayHelp => Err(WordsFault::Asked(error.to_string(alloc)?)),
+            ErrorKind::DisplayVersion => Err(WordsFault::Asked(error.to_string(alloc)?)),
+            _ => Err(WordsFault::Refused(error.to_string(alloc)?)),
+        },
+    }
+}
+
+/// The text of an option, if it was given.
+fn text_of<'a>(matches: &ArgMatches<'a>, id: &str) -> Option<&'a str>
+    ensures { option_map (λ text. text.now) result ≡ first_of id.now (rows_of (found_of matches.now)) }
+{
+    matches.get_str(id)
+}
+
+/// Whether the store is tables.
+fn store_of(alloc: Global, matches: &ArgMatches<'_>) -> Result<bool, WordsFault>
+    ensures ok { IfOk result (IsStore (first_of (codes "store") (rows_of (found_of matches.now)))) }
+    ensures err { IfErr result (RefusedFor ((sql : Bool) → IsStore (first_of (codes "store") (rows_of (found_of matches.now))) sql → ⊥)) }
+{
+    match text_of(matches, "store") {
+        None => Ok(false),
+        Some("plain") => Ok(false),
+        Some("sql") => Ok(true),
+        Some(store) => Err(WordsFault::Refused(format!(in alloc;
+            "error: invalid value '{store}' for '--store <STORE>'\n  [possible values: plain, sql]\n\nFor more information, try '--help'.\n"
+        )?)),
+    }
+}
+
+/// The port.
+fn port_of(alloc: Global, matches: &ArgMatches<'_>) -> Result<u16, WordsFault>
+    ensures ok { IfOk result (IsNumber 16 (first_of (codes "port") (rows_of (found_of matches.now)))) }
+    ensures err { IfErr result (RefusedFor ((n : ℕ) → IsNumber 16 (first_of (codes "port") (rows_of (found_of matches.now))) n → ⊥)) }
+{
+    let text = "error: the port is a number from 0 to 65,535\n";
+    let Some(port) = text_of(matches, "port") else {
+        return Err(WordsFault::Refused(String::from_str(alloc, text)?));
+    };
+    match port.parse::<u16>() {
+        Ok(port) => Ok(port),
+        Err(_) => Err(WordsFault::Refused(String::from_str(alloc, text)?)),
+    }
+}
+
+/// The number of turns.
+fn turns_of(alloc: Global, matches: &ArgMatches<'_>) -> Result<u32, WordsFault>
+    ensures ok { IfOk result (IsTurns (first_of (codes "turns") (rows_of (found_of matches.now)))) }
+    ensures err { IfErr result (RefusedFor ((n : ℕ) → IsTurns (first_of (codes "turns") (rows_of (found_of matches.now))) n → ⊥)) }
+{
+    let text = "error: the turns are a number from 1 to 1,000,000,000\n";
+    let Some(turns) = text_of(matches, "turns") else {
+        return Err(WordsFault::Refused(String::from_str(alloc, text)?));
+    };
+    match turns.parse::<u32>() {
+        Ok(turns) if turns >= 1 && turns <= MOST_TURNS => Ok(turns),
+        _ => Err(WordsFault::Refused(String::from_str(alloc, text)?)),
+    }
+}
+
+/// The path of the outbox's database.
+fn path_of<'a>(alloc: Global, matches: &ArgMatches<'a>) -> Result<&'a str, WordsFault>
+    ensures ok { IfOk result (λ path. first_of (codes "outbox") (rows_of (found_of matches.now)) ≡ Some path.now) }
+    ensures err { IfErr result (RefusedFor (first_of (codes "outbox") (rows_of (found_of matches.now)) ≡ None)) }
+{
+    match text_of(matches, "outbox") {
+        Some(path) => Ok(path),
+        None => {
+            let text = "error: the outbox is the path of a database\n";
+            Err(WordsFault::Refused(String::from_str(alloc, text)?))
+        }
+    }
+}
+
+/// The job of `replay`.
+fn replay_job<'a>(alloc: Global, matches: &ArgMatches<'a>) -> Result<Job<'a>, WordsFault>
+    ensures ok { IfOk result (JobIn (codes "replay") (rows_of (found_of matches.now))) }
+    ensures err { IfErr result (RefusedFor ((job : Job) → JobIn (codes "replay") (rows_of (found_of matches.now)) job → ⊥)) }
+{
+    let sql = store_of(alloc, matches)?;
+    Ok(Job::Replay { sql })
+}
+
+/// The job of `serve`.
+fn serve_job<'a>(alloc: Global, matches: &ArgMatches<'a>) -> Result<Job<'a>, WordsFault>
+    ensures ok { IfOk result (JobIn (codes "serve") (rows_of (found_of matches.now))) }
+    ensures err { IfErr result (RefusedFor ((job : Job) → JobIn (codes "serve") (rows_of (found_of matches.now)) job → ⊥)) }
+{
+    let port = port_of(alloc, matches)?;
+    let turns = turns_of(alloc, matches)?;
+    let path = path_of(alloc, matches)?;
+    Ok(Job::Serve { port, turns, path })
+}
+
+/// The job that the words ask for, which are those after the program's name. `Asked` where they ask for help
+/// or the version; `Refused` where clap does not take them, or a store, port or number of turns is none;
+/// `Memory` where there was none.
+pub fn read_words<'a>(alloc: Global, words: &'a [&'a str]) -> Result<Job<'a>, WordsFault>
+    ensures job { IfOk result (JobOf (subcommand_of hub_app (map (λ word. word.now) words.now))) }
+    ensures fault { IfErr result (FailsOn (map (λ word. word.now) words.now)) }
+{
+    let matches = matches_of(alloc, words)?;
+    match matches.subcommand() {
+        Some(("replay", inner)) => replay_job(alloc, inner),
+        Some(("serve", inner)) => serve_job(alloc, inner),
+        _ => {
+            let text = "error: the command is replay or serve\n";
+            Err(WordsFault::Refused(String::from_str(alloc, text)?))
+        }
+    }
+}
+
+#[cfg(test)]
+mod tests;

@@ -1,0 +1,9 @@
+pub mod Cuts
+pub mod Rows
+pub mod Numbers
+pub mod Keywords
+pub mod Spelling
+pub mod Texts
+pub mod Printing
+pub mod Words
+pub mod Weaving

@@ -1,0 +1,32 @@
+-- What the parts of the reader answer.
+use Rattle.std.specs.Prelude.{ℕ, ◌<◌, List, [], ◌∷◌, ◌++◌, ◌≡◌, Bool, true, false, Option, Some, None}
+use Rattle.std.specs.List.{AllByRecursion}
+use Rattle.fare_trace.specs.declared.keyword.Keyword.{Keyword}
+use Rattle.fare_trace.specs.declared.line.Line.{Line}
+use Rattle.fare_trace.specs.Grammar.{AreOf, Fits, keyword_kinds, line_keyword, line_numbers, line_text, numbers_text}
+
+-- a text that is empty or begins with a byte that passes
+abbrev pub BeginsWith : (ℕ → Bool) → List ℕ → Type 0
+BeginsWith p [] = Unit {0}
+BeginsWith p (b ∷ bs) = p b ≡ true
+
+-- a text cut at its first byte that passes
+pub record CutsAt (p : ℕ → Bool) (text front rest : List ℕ) : Type 0 where
+  pub is : text ≡ front ++ rest
+  pub lacks : AllByRecursion (λ b. p b ≡ false) front
+  pub begins : BeginsWith p rest
+
+-- the numbers below 2^64 that a text spells, if it spells any
+abbrev pub ReadsNumbers : List ℕ → Option (List ℕ) → Type 0
+ReadsNumbers text None = (ns : List ℕ) → AllByRecursion (λ n. n < 18446744073709551616) ns → text ≡ numbers_text ns → ⊥
+ReadsNumbers text (Some ns) = AllByRecursion (λ n. n < 18446744073709551616) ns × (text ≡ numbers_text ns)
+
+-- the line of a keyword and numbers, if there is one
+abbrev pub Builds : Keyword → List ℕ → Option Line → Type 0
+Builds k ns None = AreOf (keyword_kinds k) ns → ⊥
+Builds k ns (Some l) = (line_keyword l ≡ k) × (line_numbers l ≡ ns) × Fits l
+
+-- the line that a text spells, if it spells one
+abbrev pub ReadsLine : List ℕ → Option Line → Type 0
+ReadsLine text None = (l : Line) → Fits l → text ≡ line_text l → ⊥
+ReadsLine text (Some l) = Fits l × (text ≡ line_text l)

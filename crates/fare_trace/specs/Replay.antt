@@ -1,0 +1,37 @@
+-- What a replay reads and writes.
+use Rattle.std.specs.Prelude.{ℕ, ◌≤◌, List, Option, Result, Ok, Err, IfSome, ◌≡◌, ◌⊎◌, length, Vec}
+use Rattle.std.specs.Global.{Global}
+use Rattle.std.specs.Io.KnownBytes.{Appends, Keeps}
+use Rattle.fare_trace.specs.declared.line.Line.{Line}
+use Rattle.fare_trace.specs.declared.stream.ReplayFault.{ReplayFault}
+use Rattle.fare_trace.specs.declared.stream.ReplayFault.TheVariants.{Read, BadLine, Memory, Write}
+use Rattle.fare_trace.specs.Lines.{Spells, FirstBadLine}
+use Rattle.fare_trace.specs.Replies.{replies_text}
+use Rattle.fare_trace.specs.Answers.{Drafting, answers}
+
+-- the bytes of the replies to lines
+abbrev pub output_of : List Line → List ℕ
+output_of lines = replies_text (answers Drafting lines)
+
+-- an input is at most 16,777,216 bytes
+abbrev pub IsShort : List ℕ → Type 0
+IsShort input = length input ≤ 16777216
+
+-- all bytes of the reader, or a fault of the reader or of memory
+abbrev pub ReadsAll : Result (Vec ℕ Global) ReplayFault → Option (List ℕ) → Type 0
+ReadsAll (Ok bytes) known = IsShort bytes.items × IfSome known (λ input. bytes.items ≡ input)
+ReadsAll (Err fault) known = (fault ≡ Read) ⊎ (fault ≡ Memory)
+
+-- the input spells lines, and what was written is the replies to them and nothing else
+pub record Replays (old new : Option (List ℕ)) (input : List ℕ) : Type 0 where
+  pub short : IsShort input
+  pub lines : List Line
+  pub spelled : Spells lines input
+  pub written : Appends old new (output_of lines)
+
+-- what each fault says; only after Write may something have been written
+abbrev pub ReplayFails : Option (List ℕ) → Option (List ℕ) → Option (List ℕ) → ReplayFault → Type 0
+ReplayFails known old new Read = Keeps old new
+ReplayFails known old new (BadLine number) = Keeps old new × IfSome known (λ input. IsShort input × FirstBadLine input number)
+ReplayFails known old new Memory = Keeps old new
+ReplayFails known old new Write = IfSome known (λ input. IsShort input × ((lines : List Line) × Spells lines input))

@@ -1,0 +1,56 @@
+-- The text of a reply: its words with one space between each two, ended by a line feed.
+use Rattle.std.specs.Prelude.{ℕ, List, [], ◌∷◌, ◌++◌, codes}
+use Rattle.std.specs.List.{join_with_byte, flat_map}
+use Rattle.std.specs.Fmt.{decimal}
+use Rattle.fare_world.specs.declared.reply.Reply.{Reply}
+use Rattle.fare_world.specs.declared.reply.Reply.TheVariants as reply
+use Rattle.fare_world.specs.declared.reply.Refusal.{Refusal}
+use Rattle.fare_world.specs.declared.reply.Refusal.TheVariants as refusal
+
+-- the name of a refusal
+abbrev pub refusal_name : Refusal → List ℕ
+refusal_name refusal.Unsealed = codes "Unsealed"
+refusal_name refusal.Sealed = codes "Sealed"
+refusal_name refusal.Range = codes "Range"
+refusal_name refusal.UnknownDevice = codes "UnknownDevice"
+refusal_name refusal.UnknownOwner = codes "UnknownOwner"
+refusal_name refusal.BadMoment = codes "BadMoment"
+refusal_name refusal.UnknownProduct = codes "UnknownProduct"
+refusal_name refusal.DayClosed = codes "DayClosed"
+refusal_name refusal.DayAhead = codes "DayAhead"
+refusal_name refusal.NumbersSpent = codes "NumbersSpent"
+refusal_name refusal.NoPacket = codes "NoPacket"
+refusal_name refusal.Old = codes "Old"
+refusal_name refusal.Ahead = codes "Ahead"
+refusal_name refusal.HandFull = codes "HandFull"
+refusal_name refusal.Duplicate = codes "Duplicate"
+refusal_name refusal.Gap = codes "Gap"
+
+-- the words of a reply
+abbrev pub reply_words : Reply → List (List ℕ)
+reply_words reply.Done = codes "ok" ∷ []
+reply_words reply.Idle = codes "idle" ∷ []
+reply_words reply.Empty = codes "empty" ∷ []
+reply_words (reply.Refused name) = codes "refused" ∷ refusal_name name ∷ []
+reply_words (reply.Recorded link lane) = codes "record" ∷ decimal link ∷ decimal lane ∷ []
+reply_words (reply.Sent packet link) = codes "packet" ∷ decimal packet ∷ codes "link" ∷ decimal link ∷ []
+reply_words reply.Accepted = codes "accepted" ∷ []
+reply_words (reply.Drawn device link) = codes "drawn" ∷ decimal device ∷ codes "link" ∷ decimal link ∷ []
+reply_words (reply.Stored device link) = codes "stored" ∷ decimal device ∷ codes "link" ∷ decimal link ∷ []
+reply_words (reply.Forwarded lane) = codes "forwarded" ∷ codes "lane" ∷ decimal lane ∷ []
+reply_words (reply.Fetched device lane) = codes "fetched" ∷ decimal device ∷ codes "lane" ∷ decimal lane ∷ []
+reply_words (reply.Taken device lane) = codes "taken" ∷ decimal device ∷ codes "lane" ∷ decimal lane ∷ []
+reply_words (reply.Upto number) = codes "upto" ∷ decimal number ∷ []
+reply_words (reply.Count number) = codes "count" ∷ decimal number ∷ []
+
+-- words with one space between each two, ended by a line feed
+abbrev pub words_line : List (List ℕ) → List ℕ
+words_line words = join_with_byte 32 words ++ (10 ∷ [])
+
+-- the one spelling of a reply
+abbrev pub reply_text : Reply → List ℕ
+reply_text r = words_line (reply_words r)
+
+-- the spellings of replies, one after the other
+abbrev pub replies_text : List Reply → List ℕ
+replies_text rs = flat_map reply_text rs

@@ -1,0 +1,127 @@
+ghost use Rattle.std.specs.Prelude.{◌≡◌, [], ◌∷◌, ◌++◌, OnOk, OnErr, length, map, take};
+ghost use Rattle.std.specs.Fmt.{decimal};
+ghost use Rattle.fare_trace.specs.Replies.{refusal_name, reply_text, words_line};
+
+use fare_world::{Refusal, Reply};
+use itoa::Buffer;
+use std::alloc::AllocError;
+
+/// The name of a refusal.
+fn name_of(refusal: Refusal) -> &'static [u8]
+    ensures { result.now ≡ refusal_name refusal }
+{
+    match refusal {
+        Refusal::Unsealed => b"Unsealed",
+        Refusal::Sealed => b"Sealed",
+        Refusal::Range => b"Range",
+        Refusal::UnknownDevice => b"UnknownDevice",
+        Refusal::UnknownOwner => b"UnknownOwner",
+        Refusal::BadMoment => b"BadMoment",
+        Refusal::UnknownProduct => b"UnknownProduct",
+        Refusal::DayClosed => b"DayClosed",
+        Refusal::DayAhead => b"DayAhead",
+        Refusal::NumbersSpent => b"NumbersSpent",
+        Refusal::NoPacket => b"NoPacket",
+        Refusal::Old => b"Old",
+        Refusal::Ahead => b"Ahead",
+        Refusal::HandFull => b"HandFull",
+        Refusal::Duplicate => b"Duplicate",
+        Refusal::Gap => b"Gap",
+    }
+}
+
+/// Appends words with one space between each two, and a line feed. After an error some of it may stand there.
+fn append_words(first: &[u8], rest: &[&[u8]], out: &mut Vec<u8>) -> Result<(), AllocError>
+    ensures appended { OnOk result (out.new.items ≡ out.old.items ++ words_line (first.now ∷ map (λ word. word.now) rest.now)) }
+    ensures front { take (length out.old.items) out.new.items ≡ out.old.items }
+{
+    out.extend_from_slice(first)?;
+    for word in rest {
+        out.push(b' ')?;
+        out.extend_from_slice(word)?;
+    }
+    out.push(b'\n')?;
+    Ok(())
+}
+
+/// Appends words with one space between each two, and a line feed. After an error `out` is as before.
+fn append_line(first: &[u8], rest: &[&[u8]], out: &mut Vec<u8>) -> Result<(), AllocError>
+    ensures appended { OnOk result (out.new.items ≡ out.old.items ++ words_line (first.now ∷ map (λ word. word.now) rest.now)) }
+    ensures kept { OnErr result (out.new.items ≡ out.old.items) }
+{
+    let length = out.len();
+    let appended = append_words(first, rest, out);
+    if appended.is_err() {
+        out.truncate(length);
+    }
+    appended
+}
+
+/// Appends a name and a number.
+fn append_number(name: &[u8], number: u64, out: &mut Vec<u8>) -> Result<(), AllocError>
+    ensures appended { OnOk result (out.new.items ≡ out.old.items ++ words_line (name.now ∷ decimal number ∷ [])) }
+    ensures kept { OnErr result (out.new.items ≡ out.old.items) }
+{
+    append_line(name, &[Buffer::new().format(number).as_bytes()], out)
+}
+
+/// Appends a name, a number, a word and a number.
+fn append_numbers(
+    name: &[u8],
+    first: u64,
+    word: &[u8],
+    second: u64,
+    out: &mut Vec<u8>,
+) -> Result<(), AllocError>
+    ensures appended { OnOk result (out.new.items ≡ out.old.items ++ words_line (name.now ∷ decimal first ∷ word.now ∷ decimal second ∷ [])) }
+    ensures kept { OnErr result (out.new.items ≡ out.old.items) }
+{
+    let mut one = Buffer::new();
+    let mut two = Buffer::new();
+    let first = one.format(first).as_bytes();
+    let second = two.format(second).as_bytes();
+    append_line(name, &[first, word, second], out)
+}
+
+/// Appends the two numbers of a record.
+fn append_record(link: u64, lane: u64, out: &mut Vec<u8>) -> Result<(), AllocError>
+    ensures appended { OnOk result (out.new.items ≡ out.old.items ++ reply_text (Reply.Recorded link lane)) }
+    ensures kept { OnErr result (out.new.items ≡ out.old.items) }
+{
+    let mut one = Buffer::new();
+    let mut two = Buffer::new();
+    let link = one.format(link).as_bytes();
+    let lane = two.format(lane).as_bytes();
+    append_line(b"record", &[link, lane], out)
+}
+
+/// Appends a reply's line, ended by a line feed. The error is want of memory, and after it `out` is as before.
+pub fn print_reply(reply: &Reply, out: &mut Vec<u8>) -> Result<(), AllocError>
+    ensures appended { OnOk result (out.new.items ≡ out.old.items ++ reply_text reply.now) }
+    ensures kept { OnErr result (out.new.items ≡ out.old.items) }
+{
+    match *reply {
+        Reply::Done => append_line(b"ok", &[], out),
+        Reply::Idle => append_line(b"idle", &[], out),
+        Reply::Empty => append_line(b"empty", &[], out),
+        Reply::Accepted => append_line(b"accepted", &[], out),
+        Reply::Refused(refusal) => append_line(b"refused", &[name_of(refusal)], out),
+        Reply::Recorded { link, lane } => append_record(link, lane, out),
+        Reply::Sent { packet, link } => append_numbers(b"packet", packet, b"link", link, out),
+        Reply::Drawn { device, link } => {
+            append_numbers(b"drawn", u64::from(device.get()), b"link", link, out)
+        }
+        Reply::Stored { device, link } => {
+            append_numbers(b"stored", u64::from(device.get()), b"link", link, out)
+        }
+        Reply::Forwarded { lane } => append_number(b"forwarded lane", lane, out),
+        Reply::Fetched { device, lane } => {
+            append_numbers(b"fetched", u64::from(device.get()), b"lane", lane, out)
+        }
+        Reply::Taken { device, lane } => {
+            append_numbers(b"taken", u64::from(device.get()), b"lane", lane, out)
+        }
+        Reply::Upto(number) => append_number(b"upto", number, out),
+        Reply::Count(number) => append_number(b"count", number, out),
+    }
+}

@@ -1,0 +1,328 @@
+use crate::{Line, ParseFault, ReplayFault, SchemeLine, parse, print_reply, replay};
+use fare_record::DeviceId;
+use fare_world::{Event, Refusal, Reply};
+use std::io;
+use std::io::{Read, Write};
+use std::test::Fail;
+
+/// Gives one byte a read, after an interrupted one, and ends or fails where there is none left.
+#[derive(Drop)]
+struct Bytewise {
+    bytes: &'static [u8],
+    interrupts: bool,
+    fails: bool,
+}
+
+impl Read for Bytewise {
+    fn read(&mut self, buf: &mut [u8]) -> io::Result<usize> {
+        if self.interrupts {
+            self.interrupts = false;
+            return Err(io::ErrorKind::Interrupted.into());
+        }
+        if self.bytes.is_empty() || buf.is_empty() {
+            return if self.fails {
+                Err(io::ErrorKind::Other.into())
+            } else {
+                Ok(0)
+            };
+        }
+        buf[0] = self.bytes[0];
+        self.bytes = &self.bytes[1..];
+        Ok(1)
+    }
+}
+
+/// Gives bytes without end.
+#[derive(Drop)]
+struct Endless;
+
+impl Read for Endless {
+    fn read(&mut self, buf: &mut [u8]) -> io::Result<usize> {
+        Ok(buf.len())
+    }
+}
+
+/// Takes no byte.
+#[derive(Drop)]
+struct Closed;
+
+impl Write for Closed {
+    fn write(&mut self, _buf: &[u8]) -> io::Result<usize> {
+        Err(io::ErrorKind::BrokenPipe.into())
+    }
+
+    fn flush(&mut self) -> io::Result<()> {
+        Ok(())
+    }
+}
+
+/// Takes each byte, and then keeps none.
+#[derive(Drop)]
+struct Lossy;
+
+impl Write for Lossy {
+    fn write(&mut self, buf: &[u8]) -> io::Result<usize> {
+        Ok(buf.len())
+    }
+
+    fn flush(&mut self) -> io::Result<()> {
+        Err(io::ErrorKind::Other.into())
+    }
+}
+
+const ONE_TAP: &[u8] = b"demo 1 4 4 4
+tap 1 1 77 1704100000
+send 1
+arrive 1
+draw
+store
+forward 1 1
+fetch 1
+take 1
+upto 1
+count 1 1
+";
+
+const ONE_TAP_ANSWERED: &[u8] = b"ok
+record 1 1
+packet 1 link 1
+accepted
+drawn 1 link 1
+stored 1 link 1
+forwarded lane 1
+fetched 1 lane 1
+taken 1 lane 1
+upto 1
+count 1
+";
+
+const OUT_OF_ORDER_AND_REPEAT: &[u8] = b"demo 1 4 4 4
+tap 1 1 77 1704100000
+tap 1 1 77 1704100000
+send 1
+send 1
+arrive 2
+arrive 1
+arrive 1
+arrive 2
+";
+
+const OUT_OF_ORDER_AND_REPEAT_ANSWERED: &[u8] = b"ok
+record 1 1
+record 2 2
+packet 1 link 1
+packet 2 link 2
+refused Ahead
+accepted
+refused Old
+accepted
+";
+
+#[test]
+fn replays_traces(rt: HostRuntime) -> Result<(), Fail> {
+    let cases: [(&[u8], &[u8]); 3] = [
+        (ONE_TAP, ONE_TAP_ANSWERED),
+        (OUT_OF_ORDER_AND_REPEAT, OUT_OF_ORDER_AND_REPEAT_ANSWERED),
+        (
+            b"draw\ndemo 1 4096 1024 1024\ndraw\ndemo 1 4 4 4\ndemo 1 0 0 0\nupto 1\n",
+            b"refused Unsealed\nok\nempty\nrefused Sealed\nrefused Sealed\nupto 0\n",
+        ),
+    ];
+    for (input, want) in cases {
+        let mut reader = input;
+        let mut output = Vec::new(rt.alloc());
+        let result = replay(rt.alloc(), &mut reader, &mut output);
+        assert_eq!(rt; result, Ok(()));
+        assert_eq!(rt; output.as_slice(), want);
+    }
+    Ok(())
+}
+
+#[test]
+fn answers_before_the_seal(rt: HostRuntime) -> Result<(), Fail> {
+    let cases: [(&[u8], &[u8]); 2] = [
+        (b"", b""),
+        (
+            b"send 1\ndemo 1 0 4 4\ndemo 1 4 1025 4\nupto 1",
+            b"refused Unsealed\nrefused Range\nrefused Range\nrefused Unsealed\n",
+        ),
+    ];
+    for (input, want) in cases {
+        let mut reader = input;
+        let mut output = Vec::new(rt.alloc());
+        let result = replay(rt.alloc(), &mut reader, &mut output);
+        assert_eq!(rt; result, Ok(()));
+        assert_eq!(rt; output.as_slice(), want);
+    }
+    Ok(())
+}
+
+#[test]
+fn reads_in_pieces(rt: HostRuntime) -> Result<(), Fail> {
+    let mut reader = Bytewise {
+        bytes: b"send 1\ndraw",
+        interrupts: true,
+        fails: false,
+    };
+    let mut output = Vec::new(rt.alloc());
+    let result = replay(rt.alloc(), &mut reader, &mut output);
+    assert_eq!(rt; result, Ok(()));
+    assert_eq!(rt;
+        output.as_slice(),
+        &b"refused Unsealed\nrefused Unsealed\n"[..]
+    );
+    Ok(())
+}
+
+#[test]
+fn faults_write_nothing(rt: HostRuntime) -> Result<(), Fail> {
+    let mut output = Vec::new(rt.alloc());
+    let mut bad: &[u8] = b"tap 1";
+    let result = replay(rt.alloc(), &mut bad, &mut output);
+    assert_eq!(rt; result, Err(ReplayFault::BadLine { line: 1 }));
+    let mut late: &[u8] = b"draw\nstore\ntake 0\n";
+    let result = replay(rt.alloc(), &mut late, &mut output);
+    assert_eq!(rt; result, Err(ReplayFault::BadLine { line: 3 }));
+    let mut broken = Bytewise {
+        bytes: b"send 1\ndraw\n",
+        interrupts: false,
+        fails: true,
+    };
+    let result = replay(rt.alloc(), &mut broken, &mut output);
+    assert_eq!(rt; result, Err(ReplayFault::Read));
+    let result = replay(rt.alloc(), &mut Endless, &mut output);
+    assert_eq!(rt; result, Err(ReplayFault::Read));
+    assert!(rt; output.is_empty());
+    Ok(())
+}
+
+#[test]
+fn a_writer_fails(rt: HostRuntime) -> Result<(), Fail> {
+    let mut input: &[u8] = b"draw\n";
+    let result = replay(rt.alloc(), &mut input, &mut Closed);
+    assert_eq!(rt; result, Err(ReplayFault::Write));
+    let mut input: &[u8] = b"draw\n";
+    let result = replay(rt.alloc(), &mut input, &mut Lossy);
+    assert_eq!(rt; result, Err(ReplayFault::Write));
+    Ok(())
+}
+
+#[test]
+fn parses_lines(rt: HostRuntime) -> Result<(), Fail> {
+    let lines = parse(
+        rt.alloc(),
+        b"demo 1 0 4294967295 7\narrive 18446744073709551615\ndraw",
+    )?;
+    assert_eq!(rt; lines.len(), 3);
+    let demo = SchemeLine::Demo {
+        devices: 1,
+        buffer: 0,
+        inbox: 4294967295,
+        lane: 7,
+    };
+    assert_eq!(rt; lines[0], Line::Setup(demo));
+    let arrive = Event::Arrive {
+        packet: 18446744073709551615,
+    };
+    assert_eq!(rt; lines[1], Line::Step(arrive));
+    assert_eq!(rt; lines[2], Line::Step(Event::Draw));
+    Ok(())
+}
+
+#[test]
+fn reads_the_greatest_numbers(rt: HostRuntime) -> Result<(), Fail> {
+    let lines = parse(
+        rt.alloc(),
+        b"tap 4294967295 4294967295 9223372036854775807 8640200000
+tap 1 1 1 0
+send 4294967295
+arrive 0
+forward 65535 1
+fetch 65535
+take 65535
+upto 4294967295
+count 65535 4294967295
+",
+    )?;
+    assert_eq!(rt; lines.len(), 9);
+    Ok(())
+}
+
+#[test]
+fn refuses_bad_lines(rt: HostRuntime) -> Result<(), Fail> {
+    let cases: [(&[u8], u64); 22] = [
+        (b"\n", 1),
+        (b"draw\n\n", 2),
+        (b"draw ", 1),
+        (b" draw", 1),
+        (b"draw\r\n", 1),
+        (b"Draw", 1),
+        (b"draw 1", 1),
+        (b"tap 1", 1),
+        (b"send  1", 1),
+        (b"send 1 ", 1),
+        (b"send +1", 1),
+        (b"send 01", 1),
+        (b"send 0", 1),
+        (b"send 4294967296", 1),
+        (b"store\nforward 65536 1", 2),
+        (b"arrive 18446744073709551616", 1),
+        (b"tap 1 1 0 0", 1),
+        (b"tap 1 1 9223372036854775808 0", 1),
+        (b"tap 1 1 1 8640200001", 1),
+        (b"demo 2 4 4 4", 1),
+        (b"demo 1 4 4 4294967296", 1),
+        (b"owner 1 4", 1),
+    ];
+    for (text, number) in cases {
+        let fault = parse(rt.alloc(), text).err();
+        assert_eq!(rt;
+            fault,
+            Some(ParseFault::BadLine { line: number }),
+            "{number}"
+        );
+    }
+    Ok(())
+}
+
+#[test]
+fn prints_replies(rt: HostRuntime) -> Result<(), Fail> {
+    let device = DeviceId::new(4294967295).unwrap();
+    let replies = [
+        Reply::Done,
+        Reply::Idle,
+        Reply::Empty,
+        Reply::Refused(Refusal::UnknownDevice),
+        Reply::Recorded { link: 5, lane: 4 },
+        Reply::Sent { packet: 9, link: 5 },
+        Reply::Accepted,
+        Reply::Drawn { device, link: 5 },
+        Reply::Stored { device, link: 5 },
+        Reply::Forwarded { lane: 4 },
+        Reply::Fetched { device, lane: 4 },
+        Reply::Taken { device, lane: 4 },
+        Reply::Upto(18446744073709551615),
+        Reply::Count(0),
+    ];
+    let mut text = Vec::new(rt.alloc());
+    for reply in &replies {
+        print_reply(reply, &mut text)?;
+    }
+    let want: &[u8] = b"ok
+idle
+empty
+refused UnknownDevice
+record 5 4
+packet 9 link 5
+accepted
+drawn 4294967295 link 5
+stored 4294967295 link 5
+forwarded lane 4
+fetched 4294967295 lane 4
+taken 4294967295 lane 4
+upto 18446744073709551615
+count 0
+";
+    assert_eq!(rt; text.as_slice(), want);
+    Ok(())
+}

@@ -1,0 +1,63 @@
+ghost use Rattle.std.specs.Prelude.{◌≡◌, MatchResult};
+ghost use Rattle.fare_trace.specs.Lines.{Spells};
+ghost use Rattle.fare_trace.specs.Faults.{Refuses};
+ghost use Rattle.fare_trace.specs.declared.text.ParseFault.TheVariants.{Memory};
+
+use crate::build::read_line;
+use crate::cut::cut_at;
+use crate::line::Line;
+use fare_world::Event;
+use std::alloc::{AllocError, AllocFailed, Global};
+use thiserror::Error;
+
+/// Why a text was not read.
+#[derive(Clone, Copy, PartialEq, Eq, Debug, Error)]
+pub enum ParseFault {
+    /// The text is no trace: this is the number of its first bad line, counted from 1.
+    #[error("bad line {line}")]
+    BadLine { line: u64 },
+    /// There was no memory for the lines.
+    #[error("no memory")]
+    Memory,
+}
+
+impl From<AllocError> for ParseFault {
+    ghost from_gives = { λ _ e. e ≡ Memory };
+
+    fn from(_error: AllocError) -> ParseFault {
+        ParseFault::Memory
+    }
+}
+
+impl<T: Drop> From<AllocFailed<T>> for ParseFault {
+    ghost from_gives = { λ _ e. e ≡ Memory };
+
+    fn from(_error: AllocFailed<T>) -> ParseFault {
+        ParseFault::Memory
+    }
+}
+
+/// The lines that a text spells. Each line ends with a line feed, which the last one may lack. `BadLine` with
+/// the first line that is none, where there is one; `Memory` where there was none for the lines before it.
+pub fn parse(alloc: Global, text: &[u8]) -> Result<Vec<Line>, ParseFault>
+    ensures { MatchResult result (λ lines. Spells lines.items text.now) (Refuses text.now) }
+{
+    // The check finds the variants of `Event` below `Line` only where a local names them.
+    let _event: Option<Event> = None;
+    let mut lines = Vec::new(alloc);
+    let mut rest = text;
+    let mut number: u64 = 1;
+    while !rest.is_empty() {
+        let (line, after) = cut_at(rest, b'\n');
+        match read_line(alloc, line)? {
+            Some(line) => lines.push(line)?,
+            None => return Err(ParseFault::BadLine { line: number }),
+        }
+        number += 1;
+        match after {
+            [] => return Ok(lines),
+            [_, next @ ..] => rest = next,
+        }
+    }
+    Ok(lines)
+}
