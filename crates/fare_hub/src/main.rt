@@ -19,9 +19,15 @@ use words::{Job, WordsFault, read_words};
 const REFUSED: u8 = 2;
 
 /// One line on standard error, and status 1.
-fn fail<D: Display + Drop>(rt: &HostRuntime, line: D) -> ExitCode {
+fn fail<R: Eprint, D: Display + Drop>(rt: &R, line: D) -> ExitCode {
     let _ = eprintln!(rt; "{line}");
     ExitCode::FAILURE
+}
+
+/// A text on standard error, and the status of refused words.
+fn refuse<R: Eprint, D: Display + Drop>(rt: &R, text: D) -> ExitCode {
+    let _ = eprint!(rt; "{text}");
+    ExitCode::from(REFUSED)
 }
 
 /// Replays standard input to standard output.
@@ -42,18 +48,22 @@ fn run(rt: &HostRuntime, words: &[&str]) -> ExitCode {
             Ok(()) => ExitCode::SUCCESS,
             Err(_) => fail(rt, "write failed"),
         },
-        Err(WordsFault::Refused(text)) => {
-            let _ = eprint!(rt; "{text}");
-            ExitCode::from(REFUSED)
-        }
+        Err(WordsFault::Refused(text)) => refuse(rt, text),
         Err(WordsFault::Memory) => fail(rt, "no memory"),
     }
 }
 
 fn main(rt: HostRuntime) -> ExitCode {
     let alloc = rt.alloc();
-    let Ok(args) = env::args(&rt) else {
-        return fail(&rt, "no memory");
+    let args = match env::args(&rt) {
+        Ok(args) => args,
+        Err(error) => {
+            return if error.kind() == io::ErrorKind::InvalidData {
+                refuse(&rt, "error: a word is not UTF-8\n")
+            } else {
+                fail(&rt, "no memory")
+            };
+        }
     };
     let Ok(args) = args.collect::<Vec<String>>(alloc) else {
         return fail(&rt, "no memory");
