@@ -1,7 +1,7 @@
 ghost use Rattle.std.specs.Prelude.{◌≡◌, ◌↔◌, None, IsOk, OnOk, IfOk, OnErr, IfErr, IsTrue, IfSome, unwrap_or, nat_eq, Some, is_some};
 ghost use Rattle.std.specs.List.{list_any};
 ghost use Rattle.fare_record.specs.Limits.{IsDay};
-ghost use Rattle.fare_scheme.specs.Ranges.{IsCapacity};
+ghost use Rattle.fare_scheme.specs.Ranges.{IsBuffer, IsCapacity};
 ghost use Rattle.fare_scheme.specs.Registering.{empty_draft, is_registered, uncapped as uncapped_product, owner_refusal, operator_refusal, station_refusal, product_refusal, device_refusal, caps_refusal, with_owner, with_operator, with_station, with_product, with_device, with_caps};
 ghost use Rattle.fare_scheme.specs.Sealing.{lacks_a_kind, seal_refusal, IsSealedFrom};
 
@@ -74,8 +74,15 @@ impl Model for Draft {
     }) };
 }
 
+// What a device's buffer may hold.
+pub(crate) fn is_buffer(buffer: u32) -> bool
+    ensures { IsTrue result ↔ IsBuffer buffer }
+{
+    (1..=MOST_BUFFER).contains(&buffer)
+}
+
 // What an inbox, an acknowledgement line or a lane queue may hold.
-fn is_capacity(capacity: u32) -> bool
+pub(crate) fn is_capacity(capacity: u32) -> bool
     ensures { IsTrue result ↔ IsCapacity capacity }
 {
     (1..=MOST_CAPACITY).contains(&capacity)
@@ -262,7 +269,7 @@ impl Draft {
         let Some(parent) = self.registered_station(station) else {
             return Err(AddFault::UnknownParent);
         };
-        if !(1..=MOST_BUFFER).contains(&buffer) {
+        if !is_buffer(buffer) {
             return Err(AddFault::Range);
         }
         if self.devices.len() >= MOST_DEVICES {

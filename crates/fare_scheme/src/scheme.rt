@@ -161,4 +161,70 @@ impl Scheme {
     {
         self.operators.get_index_of(&operator)
     }
+
+    /// The number of stations.
+    pub fn station_count(&self) -> usize
+        ensures value { result ≡ length self.now.stations }
+        ensures valid { IsScheme self.now }
+    {
+        self.stations.len()
+    }
+
+    /// The station at a position.
+    pub fn station_at(&self, position: usize) -> Option<StationId>
+        ensures { result ≡ id_at self.now.stations position }
+    {
+        self.stations.get_index(position).map(|(id, _)| *id)
+    }
+
+    /// The position of a station.
+    pub fn station_position(&self, station: StationId) -> Option<usize>
+        ensures { result ≡ position_of_station self.now station }
+    {
+        self.stations.get_index_of(&station)
+    }
+
+    /// The number of products.
+    pub fn product_count(&self) -> usize
+        ensures value { result ≡ length self.now.products }
+        ensures valid { IsScheme self.now }
+    {
+        self.products.len()
+    }
+
+    /// The product at a position.
+    pub fn product_at(&self, position: usize) -> Option<ProductId>
+        ensures { result ≡ id_at self.now.products position }
+    {
+        self.products.get_index(position).map(|(id, _)| *id)
+    }
+
+    /// The position of a product.
+    pub fn product_position(&self, product: ProductId) -> Option<usize>
+        ensures { result ≡ position_of_product self.now product }
+    {
+        self.products.get_index_of(&product)
+    }
+
+    /// The number of devices.
+    pub fn device_count(&self) -> usize
+        ensures value { result ≡ length self.now.devices }
+        ensures valid { IsScheme self.now }
+    {
+        self.devices.len()
+    }
+
+    /// The device at a position.
+    pub fn device_at(&self, position: usize) -> Option<DeviceId>
+        ensures { result ≡ id_at self.now.devices position }
+    {
+        self.devices.get_index(position).map(|(id, _)| *id)
+    }
+
+    /// The position of a device.
+    pub fn device_position(&self, device: DeviceId) -> Option<usize>
+        ensures { result ≡ position_of_device self.now device }
+    {
+        self.devices.get_index_of(&device)
+    }
 }
