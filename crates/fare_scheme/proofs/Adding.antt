@@ -1,5 +1,5 @@
 -- A draft stays lawful as it grows.
-use Rattle.std.proofs.Common.{◌≡◌, ℕ, ◌+◌, ◌<◌, ◌≤◌, Bool, if◌then◌else◌, true, false, cond, ◌||◌, ◌==◌, tests, zero, suc, eqb-true, List, [], ◌∷◌, ◌++◌, length, nat_eq, Option, Some, None, is_some, All, Contains, refl, sym, ◌∙◌, ap, subst, arith, length-append, rules}
+use Rattle.std.proofs.Common.{◌≡◌, ℕ, ◌<◌, ◌≤◌, Bool, if◌then◌else◌, true, false, cond, ◌||◌, ◌==◌, tests, eqb-true, List, [], ◌∷◌, ◌++◌, length, nat_eq, Option, Some, None, is_some, All, Contains, refl, sym, ◌∙◌, ap, subst, arith, length-append, rules}
 use Rattle.std.specs.List.{IsDistinct, list_any}
 use Rattle.std.specs.Map.{lookup, keys_of}
 use Rattle.std.proofs.lemmas.List.Elements.{All-nil, All-head, All-tail, All-push, All-weaker, Contains-append_left}
@@ -9,12 +9,12 @@ use Rattle.indexmap.proofs.CallerLemmas.{insert_entry-new, Contains-list_any}
 use Rattle.fare_record.specs.Limits.{IsOwnerId, IsOperatorId, IsStationId, IsProductId, IsDeviceId}
 use Rattle.fare_scheme.specs.declared.entry.Product.{Product}
 use Rattle.fare_scheme.specs.declared.entry.Placement.{Placement}
-use Rattle.fare_scheme.specs.Ranges.{IsCapacity, IsBuffer, IsFare}
+use Rattle.fare_scheme.specs.Ranges.{IsCapacity, IsBuffer}
 use Rattle.fare_day.specs.declared.zone.Zone.{Zone}
-use Rattle.fare_scheme.specs.Values.{DraftValue, SchemeValue}
+use Rattle.fare_scheme.specs.Values.{DraftValue}
 use Rattle.fare_scheme.specs.Sealing.{lacks_a_kind}
-use Rattle.fare_scheme.specs.Facts.{IsScheme, IsRegistered, IsTariff, AreOwners, AreOperators, AreStations, AreProducts, AreDevices, IsDraft}
-use Rattle.fare_scheme.specs.Registering.{empty_draft, with_owner, with_operator, with_station, with_product, with_device}
+use Rattle.fare_scheme.specs.Facts.{IsScheme, IsRegistered, IsTariff, IsDraft}
+use Rattle.fare_scheme.specs.Registering.{empty_draft, with_owner, with_operator, with_station}
 
 -- what is found stays found
 pub lookup-more : {X : Type 0} (test : ℕ → Bool) (es more : List (ℕ × X)) → is_some (lookup test es) ≡ true → is_some (lookup test (es ++ more)) ≡ true

@@ -1,5 +1,5 @@
 -- A draft stays lawful as a product's caps are set.
-use Rattle.std.proofs.Common.{◌≡◌, ℕ, ◌≤◌, Bool, if◌then◌else◌, true, false, cond, eqb-true, List, [], ◌∷◌, suc, length, map, nat_eq, Option, Some, All, refl, sym, ◌∙◌, ap, subst, arith}
+use Rattle.std.proofs.Common.{◌≡◌, ℕ, Bool, if◌then◌else◌, true, false, cond, eqb-true, List, [], ◌∷◌, suc, length, map, nat_eq, Some, refl, sym, ◌∙◌, ap, subst}
 use Rattle.std.specs.List.{IsDistinct, AllByRecursion}
 use Rattle.std.specs.Map.{lookup, keys_of, set_value}
 use Rattle.std.proofs.lemmas.List.Elements.{All-map, All-weaker}

@@ -1,5 +1,5 @@
 -- What holds of the lists of every draft and every scheme.
-use Rattle.std.specs.Prelude.{◌≡◌, ◌≢◌, ℕ, ◌≤◌, List, [], Option, IfSome, length, nat_eq, All, Contains, IsSome}
+use Rattle.std.specs.Prelude.{ℕ, ◌≤◌, List, IfSome, length, nat_eq, All, Contains, IsSome}
 use Rattle.std.specs.List.{IsDistinct}
 use Rattle.std.specs.Map.{lookup, keys_of}
 use Rattle.fare_record.specs.Limits.{IsOwnerId, IsOperatorId, IsStationId, IsProductId, IsDeviceId, IsDay}

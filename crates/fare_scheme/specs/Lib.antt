@@ -4,3 +4,4 @@ pub mod Words
 pub mod Facts
 pub mod Registering
 pub mod Sealing
+pub mod Demo

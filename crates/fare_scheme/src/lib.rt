@@ -4,11 +4,15 @@
 //! are in range, and each look-up by id or position takes the same time however many entries there are.
 #![tactic(auto)]
 
+mod demo;
 mod draft;
 mod entry;
 mod fault;
 mod scheme;
+#[cfg(test)]
+mod tests;
 
+pub use demo::{DemoFault, DemoSize};
 pub use draft::Draft;
 pub use entry::{Placement, Product, Tariff};
 pub use fault::{AddFault, CapsFault, OutOfRange, SealFault};

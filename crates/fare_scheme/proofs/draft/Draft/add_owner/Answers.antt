@@ -1,4 +1,4 @@
-use Rattle.std.proofs.Common.{◌≡◌, ◌<◌, [], ◌∷◌, ◌++◌, length, nat_eq, sym, ◌∙◌, ap, subst, arith, rules, refl}
+use Rattle.std.proofs.Common.{◌≡◌, ◌<◌, [], ◌∷◌, ◌++◌, length, sym, ◌∙◌, ap, arith, rules, refl}
 use Rattle.fare_record.specs.Limits.{IsOwnerId}
 use Rattle.fare_scheme.specs.Ranges.{IsCapacity}
 use Rattle.fare_scheme.specs.contracts.draft.Draft.{the_view}

@@ -1,4 +1,4 @@
-use Rattle.std.proofs.Common.{◌≡◌, ◌<◌, ◌≤◌, [], ◌∷◌, ◌++◌, length, nat_eq, true, is_some, sym, ◌∙◌, ap, arith, refl}
+use Rattle.std.proofs.Common.{◌≡◌, ◌<◌, [], ◌∷◌, ◌++◌, length, true, sym, ◌∙◌, ap, arith, refl}
 use Rattle.fare_record.specs.Limits.{IsProductId}
 use Rattle.fare_scheme.specs.Facts.{IsTariff}
 use Rattle.fare_scheme.specs.Registering.{is_registered, uncapped}

@@ -1,4 +1,4 @@
-use Rattle.std.proofs.Common.{◌≡◌, ◌<◌, [], ◌∷◌, ◌++◌, Contains, length, nat_eq, true, is_some, sym, ◌∙◌, ap, subst, arith, refl}
+use Rattle.std.proofs.Common.{◌≡◌, ◌<◌, [], ◌∷◌, ◌++◌, length, nat_eq, true, sym, ◌∙◌, ap, arith, refl}
 use Rattle.std.specs.List.{list_any}
 use Rattle.fare_record.specs.Limits.{IsStationId}
 use Rattle.fare_scheme.specs.Values.{DraftValue}

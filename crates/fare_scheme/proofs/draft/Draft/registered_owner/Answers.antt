@@ -1,4 +1,4 @@
-use Rattle.std.proofs.Common.{◌≡◌, is_some, sym, ◌∙◌, ap}
+use Rattle.std.proofs.Common.{is_some, sym, ◌∙◌, ap}
 use Rattle.fare_record.specs.Limits.{IsOwnerId}
 use Rattle.fare_scheme.proofs.Adding.{absent}
 use Rattle.fare_scheme.proofs.draft.Draft.registered_owner.Goals as goal

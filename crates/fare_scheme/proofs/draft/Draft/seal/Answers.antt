@@ -1,5 +1,4 @@
-use Rattle.std.proofs.Common.{◌≡◌, ◌≤◌, false, length, sym, ◌∙◌, ap, subst, IfSome}
-use Rattle.fare_record.specs.Limits.{IsDay}
+use Rattle.std.proofs.Common.{◌≡◌, false, sym, ◌∙◌, ap}
 use Rattle.fare_scheme.specs.Sealing.{lacks_a_kind}
 use Rattle.fare_scheme.specs.contracts.draft.Draft.{the_view}
 use Rattle.fare_scheme.proofs.Adding.{sealed_IsScheme}

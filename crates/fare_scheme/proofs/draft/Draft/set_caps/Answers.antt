@@ -1,6 +1,5 @@
-use Rattle.std.proofs.Common.{◌≡◌, true, false, nat_eq, Some, None, is_some, map, sym, ◌∙◌, ap, subst, refl}
-use Rattle.std.specs.Map.{lookup, set_value}
-use Rattle.fare_scheme.specs.declared.entry.Product.{Product}
+use Rattle.std.proofs.Common.{◌≡◌, true, false, nat_eq, Some, is_some, map, sym, ◌∙◌, ap}
+use Rattle.std.specs.Map.{lookup}
 use Rattle.fare_scheme.specs.Values.{DraftValue}
 use Rattle.fare_scheme.specs.Registering.{is_registered, capped}
 use Rattle.fare_scheme.specs.contracts.draft.Draft.{the_view}
