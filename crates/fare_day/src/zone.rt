@@ -1,0 +1,44 @@
+ghost use Rattle.std.specs.Prelude.{◌≡◌, ◌↔◌, IsOk, IfOk, IsSome};
+ghost use Rattle.jiff.specs.Words.{read_whole};
+
+use fare_record::Moment;
+use jiff::Timestamp;
+use jiff::tz::TimeZone;
+use thiserror::Error;
+
+/// A text that no rule for a zone's clock can be read from.
+#[derive(Clone, Copy, PartialEq, Eq, Debug, Error)]
+#[error("not a rule for a zone's clock")]
+pub struct BadZone;
+
+/// The rule of a zone's clock: how far it is ahead of UTC at each moment.
+#[derive(Clone, Copy, PartialEq, Eq, Debug)]
+pub struct Zone {
+    rule: TimeZone<'static>,
+}
+
+impl Zone {
+    ghost use Rattle.fare_day.specs.Clock.{offset_at, HasRule, IsOffset};
+
+    /// Reads a rule as POSIX writes it in `TZ`, such as `GMT0BST,M3.5.0/1,M10.5.0`.
+    ///
+    /// `BadZone` where the text is no such rule.
+    pub fn read(text: &str) -> Result<Zone, BadZone>
+        ensures ok { IsOk result ↔ IsSome (read_whole text.now) }
+        ensures rule { IfOk result (λ zone. HasRule zone text.now) }
+    {
+        match TimeZone::posix(text) {
+            Ok(rule) => Ok(Zone { rule }),
+            Err(_) => Err(BadZone),
+        }
+    }
+
+    // How many seconds the clock is ahead of UTC at the moment.
+    pub(crate) fn offset(&self, moment: Moment) -> i32
+        ensures value { result ≡ offset_at self.now moment }
+        ensures within { IsOffset result }
+    {
+        let instant = Timestamp::from_second(moment.get() as i64).unwrap();
+        self.rule.to_offset(instant).seconds()
+    }
+}

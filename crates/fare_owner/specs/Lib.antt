@@ -1,0 +1,3 @@
+pub mod TapJudged
+pub mod StatementJudged
+pub mod CloseJudged

@@ -1,0 +1,29 @@
+use Rattle.std.proofs.Common.{◌≡◌, true, false, nat_eq, Some, is_some, map, sym, ◌∙◌, ap}
+use Rattle.std.specs.Map.{lookup}
+use Rattle.fare_scheme.specs.Values.{DraftValue}
+use Rattle.fare_scheme.specs.Registering.{is_registered, capped}
+use Rattle.fare_scheme.specs.contracts.draft.Draft.{the_view}
+use Rattle.fare_scheme.proofs.Capping.{entry, set_value-capped, with_caps-IsDraft}
+use Rattle.fare_scheme.proofs.draft.Draft.set_caps.Goals as goal
+
+-- the product is there, so `get_mut` finds it
+pub returns-in_default-get_mut-clause-ok : goal.returns-in_default-get_mut-clause-ok
+returns-in_default-get_mut-clause-ok c =
+    let there : true ≡ is_registered c.self.inside.products.entries c.args.product = c.in-Some.ensures.found ∙ sym (ap (λ (d : DraftValue). is_registered d.products c.args.product) c.self.view_is) in
+    let gone : false ≡ is_registered c.self.inside.products.entries c.args.product = ap is_some c.in_default-get_mut.ensures.value ∙ ap (λ id. is_registered c.self.inside.products.entries id) c.in-Some.ensures.value in
+    absurd (let h : true ≡ false = there ∙ sym gone in cc)
+
+entries : (c : goal.After-self-2-1) → (c.get_mut.follows.lender (capped c.in-Some-get_mut.product.now c.args.daily c.args.weekly)).entries ≡ map (entry c.args.product c.args.daily c.args.weekly) c.self.inside.products.entries
+entries c =
+    let old = c.in-Some-get_mut.product.now in
+    let found : lookup (nat_eq c.in-Some.id) c.self.inside.products.entries ≡ Some old = sym c.in-Some-get_mut.ensures.value in
+    (c.get_mut.follows.holds (capped old c.args.daily c.args.weekly)).0
+    ∙ set_value-capped c.in-Some.id c.args.daily c.args.weekly c.self.inside.products.entries old c.self.invariant.products.distinct found
+    ∙ ap (λ id. map (entry id c.args.daily c.args.weekly) c.self.inside.products.entries) c.in-Some.ensures.value
+
+pub invariant_of-self-2 : goal.invariant_of-self-2
+invariant_of-self-2 c =
+    rw (entries c) (with_caps-IsDraft c.args.product c.args.daily c.args.weekly (the_view c.self.inside) c.self.invariant c.if-daily-gt-MOST_DAILY.false c.if-weekly-gt-MOST_WEEKLY.false)
+
+pub returns-clause-set : goal.returns-clause-set
+returns-clause-set c = rw (entries c, ← c.self.view_is)

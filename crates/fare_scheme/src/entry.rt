@@ -1,0 +1,24 @@
+use fare_record::{OwnerId, StationId};
+
+/// What an account of a product pays, in pence: a flat fare for each ride, at most the daily cap on a traffic
+/// day, and at most the weekly cap from Monday to Sunday.
+#[derive(Clone, Copy, PartialEq, Eq, Debug)]
+pub struct Tariff {
+    pub fare: u64,
+    pub daily: u64,
+    pub weekly: u64,
+}
+
+/// What is registered of a product.
+#[derive(Clone, Copy, PartialEq, Eq, Debug)]
+pub struct Product {
+    pub owner: OwnerId,
+    pub tariff: Tariff,
+}
+
+/// What is registered of a device: where it stands, and how many taps its buffer holds.
+#[derive(Clone, Copy, PartialEq, Eq, Debug)]
+pub struct Placement {
+    pub station: StationId,
+    pub buffer: u32,
+}

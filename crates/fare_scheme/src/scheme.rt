@@ -1,0 +1,230 @@
+ghost use Rattle.std.specs.Prelude.{◌≡◌, length, slice_get};
+ghost use Rattle.fare_scheme.specs.Facts.{IsScheme};
+ghost use Rattle.fare_scheme.specs.Words.{owner_of, tariff_of, station_of, operator_of, buffer_of, lane_capacity_of, id_at, position_of_owner, position_of_operator, position_of_station, position_of_product, position_of_device};
+
+use crate::{Placement, Product, Tariff};
+use fare_day::Zone;
+use fare_record::{Day, DeviceId, OperatorId, OwnerId, ProductId, StationId};
+use indexmap::{IndexMap, IndexSet};
+use std::marker::Model;
+
+/// A sealed scheme. Its parts stand in the order in which they were registered, and positions count from 0.
+#[derive(Drop)]
+pub struct Scheme {
+    pub(crate) owners: IndexMap<OwnerId, u32>,
+    pub(crate) operators: IndexSet<OperatorId>,
+    pub(crate) stations: IndexMap<StationId, OperatorId>,
+    pub(crate) products: IndexMap<ProductId, Product>,
+    pub(crate) devices: IndexMap<DeviceId, Placement>,
+    pub(crate) inbox_capacity: u32,
+    pub(crate) start: Day,
+    pub(crate) zone: Zone,
+}
+
+impl Model for Scheme {
+    ghost use Rattle.fare_scheme.specs.Values.{SchemeValue};
+    ghost use Rattle.fare_scheme.specs.Facts.{IsScheme};
+
+    ghost Value = { SchemeValue };
+
+    ghost view = { λ s. record {
+      owners = s.owners.entries;
+      operators = s.operators.keys;
+      stations = s.stations.entries;
+      products = s.products.entries;
+      devices = s.devices.entries;
+      inbox_capacity = s.inbox_capacity;
+      start = s.start;
+      zone = s.zone;
+    } };
+
+    ghost invariant = { λ s. IsScheme (record {
+      owners = s.owners.entries;
+      operators = s.operators.keys;
+      stations = s.stations.entries;
+      products = s.products.entries;
+      devices = s.devices.entries;
+      inbox_capacity = s.inbox_capacity;
+      start = s.start;
+      zone = s.zone;
+    }) };
+}
+
+impl Scheme {
+    /// The owner of a product.
+    pub fn owner_of(&self, product: ProductId) -> Option<OwnerId>
+        ensures { result ≡ owner_of self.now product }
+    {
+        self.products.get(&product).map(|product| product.owner)
+    }
+
+    /// The tariff of a product.
+    pub fn tariff_of(&self, product: ProductId) -> Option<Tariff>
+        ensures { result ≡ tariff_of self.now product }
+    {
+        self.products.get(&product).map(|product| product.tariff)
+    }
+
+    /// The station of a device.
+    pub fn station_of(&self, device: DeviceId) -> Option<StationId>
+        ensures { result ≡ station_of self.now device }
+    {
+        self.devices.get(&device).map(|placement| placement.station)
+    }
+
+    /// The operator of a device's station.
+    pub fn operator_of(&self, device: DeviceId) -> Option<OperatorId>
+        ensures { result ≡ operator_of self.now device }
+    {
+        let station = self.station_of(device)?;
+        self.stations.get(&station).copied()
+    }
+
+    /// How many taps a device's buffer holds.
+    pub fn buffer_of(&self, device: DeviceId) -> Option<u32>
+        ensures { result ≡ buffer_of self.now device }
+    {
+        self.devices.get(&device).map(|placement| placement.buffer)
+    }
+
+    /// How many items the lane queue of an owner holds.
+    pub fn lane_capacity(&self, owner: OwnerId) -> Option<u32>
+        ensures { result ≡ lane_capacity_of self.now owner }
+    {
+        self.owners.get(&owner).copied()
+    }
+
+    /// How many items the inbox holds, and each station's acknowledgement line.
+    pub fn inbox_capacity(&self) -> u32
+        ensures value { result ≡ self.now.inbox_capacity }
+        ensures valid { IsScheme self.now }
+    {
+        self.inbox_capacity
+    }
+
+    /// The first traffic day.
+    pub fn start(&self) -> Day
+        ensures value { result ≡ self.now.start }
+        ensures valid { IsScheme self.now }
+    {
+        self.start
+    }
+
+    /// The clock by which traffic days turn.
+    pub fn zone(&self) -> &Zone
+        ensures value { result.now ≡ self.now.zone }
+        ensures valid { IsScheme self.now }
+    {
+        &self.zone
+    }
+
+    /// The number of owners.
+    pub fn owner_count(&self) -> usize
+        ensures value { result ≡ length self.now.owners }
+        ensures valid { IsScheme self.now }
+    {
+        self.owners.len()
+    }
+
+    /// The owner at a position.
+    pub fn owner_at(&self, position: usize) -> Option<OwnerId>
+        ensures { result ≡ id_at self.now.owners position }
+    {
+        self.owners.get_index(position).map(|(id, _)| *id)
+    }
+
+    /// The position of an owner.
+    pub fn owner_position(&self, owner: OwnerId) -> Option<usize>
+        ensures { result ≡ position_of_owner self.now owner }
+    {
+        self.owners.get_index_of(&owner)
+    }
+
+    /// The number of operators.
+    pub fn operator_count(&self) -> usize
+        ensures value { result ≡ length self.now.operators }
+        ensures valid { IsScheme self.now }
+    {
+        self.operators.len()
+    }
+
+    /// The operator at a position.
+    pub fn operator_at(&self, position: usize) -> Option<OperatorId>
+        ensures { result ≡ slice_get self.now.operators position }
+    {
+        self.operators.get_index(position).copied()
+    }
+
+    /// The position of an operator.
+    pub fn operator_position(&self, operator: OperatorId) -> Option<usize>
+        ensures { result ≡ position_of_operator self.now operator }
+    {
+        self.operators.get_index_of(&operator)
+    }
+
+    /// The number of stations.
+    pub fn station_count(&self) -> usize
+        ensures value { result ≡ length self.now.stations }
+        ensures valid { IsScheme self.now }
+    {
+        self.stations.len()
+    }
+
+    /// The station at a position.
+    pub fn station_at(&self, position: usize) -> Option<StationId>
+        ensures { result ≡ id_at self.now.stations position }
+    {
+        self.stations.get_index(position).map(|(id, _)| *id)
+    }
+
+    /// The position of a station.
+    pub fn station_position(&self, station: StationId) -> Option<usize>
+        ensures { result ≡ position_of_station self.now station }
+    {
+        self.stations.get_index_of(&station)
+    }
+
+    /// The number of products.
+    pub fn product_count(&self) -> usize
+        ensures value { result ≡ length self.now.products }
+        ensures valid { IsScheme self.now }
+    {
+        self.products.len()
+    }
+
+    /// The product at a position.
+    pub fn product_at(&self, position: usize) -> Option<ProductId>
+        ensures { result ≡ id_at self.now.products position }
+    {
+        self.products.get_index(position).map(|(id, _)| *id)
+    }
+
+    /// The position of a product.
+    pub fn product_position(&self, product: ProductId) -> Option<usize>
+        ensures { result ≡ position_of_product self.now product }
+    {
+        self.products.get_index_of(&product)
+    }
+
+    /// The number of devices.
+    pub fn device_count(&self) -> usize
+        ensures value { result ≡ length self.now.devices }
+        ensures valid { IsScheme self.now }
+    {
+        self.devices.len()
+    }
+
+    /// The device at a position.
+    pub fn device_at(&self, position: usize) -> Option<DeviceId>
+        ensures { result ≡ id_at self.now.devices position }
+    {
+        self.devices.get_index(position).map(|(id, _)| *id)
+    }
+
+    /// The position of a device.
+    pub fn device_position(&self, device: DeviceId) -> Option<usize>
+        ensures { result ≡ position_of_device self.now device }
+    {
+        self.devices.get_index_of(&device)
+    }
+}
