@@ -9,3 +9,6 @@ mod scheme;
 pub use day::{BadMoment, traffic_day};
 pub use device::{Device, DeviceFault, TapRefusal};
 pub use scheme::{Range, Scheme, Tariff};
+
+#[cfg(test)]
+mod tests;

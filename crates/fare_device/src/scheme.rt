@@ -135,44 +135,28 @@ impl Scheme {
     pub fn owner_at(&self, position: usize) -> Option<OwnerId>
         ensures { result ≡ option_map (λ x. x.id) (slice_get self.now.owners position) }
     {
-        if position == 0 {
-            Some(self.owner)
-        } else {
-            None
-        }
+        (position == 0).then_some(self.owner)
     }
 
     /// The operator at a position in order of registration, from 0.
     pub fn operator_at(&self, position: usize) -> Option<OperatorId>
         ensures { result ≡ slice_get self.now.operators position }
     {
-        if position == 0 {
-            Some(self.operator)
-        } else {
-            None
-        }
+        (position == 0).then_some(self.operator)
     }
 
     /// The station at a position in order of registration, from 0.
     pub fn station_at(&self, position: usize) -> Option<StationId>
         ensures { result ≡ option_map (λ x. x.id) (slice_get self.now.stations position) }
     {
-        if position == 0 {
-            Some(self.station)
-        } else {
-            None
-        }
+        (position == 0).then_some(self.station)
     }
 
     /// The product at a position in order of registration, from 0.
     pub fn product_at(&self, position: usize) -> Option<ProductId>
         ensures { result ≡ option_map (λ x. x.id) (slice_get self.now.products position) }
     {
-        if position == 0 {
-            Some(self.product)
-        } else {
-            None
-        }
+        (position == 0).then_some(self.product)
     }
 
     /// The device at a position in order of registration, from 0.
@@ -180,11 +164,7 @@ impl Scheme {
         ensures value { result ≡ option_map (λ x. x.id) (slice_get self.now.devices position) }
         ensures known { IfSome result (λ device. IsSome (position_of_device self.now device)) }
     {
-        if position == 0 {
-            Some(self.device)
-        } else {
-            None
-        }
+        (position == 0).then_some(self.device)
     }
 
     /// The position of an owner in order of registration, from 0; None for an owner that is not registered.
@@ -192,7 +172,7 @@ impl Scheme {
         ensures value { result ≡ position_of_owner self.now owner }
         ensures within { IfSome result (λ k. k < length self.now.owners) }
     {
-        if owner == self.owner { Some(0) } else { None }
+        (owner == self.owner).then_some(0)
     }
 
     /// The position of a device in order of registration, from 0; None for a device that is not registered.
@@ -200,7 +180,7 @@ impl Scheme {
         ensures value { result ≡ position_of_device self.now device }
         ensures within { IfSome result (λ k. k < length self.now.devices) }
     {
-        if device == self.device { Some(0) } else { None }
+        (device == self.device).then_some(0)
     }
 
     /// The owner of a product; None for a product that is not registered.
@@ -208,66 +188,42 @@ impl Scheme {
         ensures value { result ≡ owner_of self.now product }
         ensures known { IfSome result (λ owner. IsSome (position_of_owner self.now owner)) }
     {
-        if product == self.product {
-            Some(self.owner)
-        } else {
-            None
-        }
+        (product == self.product).then_some(self.owner)
     }
 
     /// The tariff of a product; None for a product that is not registered.
     pub fn tariff_of(&self, product: ProductId) -> Option<Tariff>
         ensures { result ≡ tariff_of self.now product }
     {
-        if product == self.product {
-            Some(self.tariff)
-        } else {
-            None
-        }
+        (product == self.product).then_some(self.tariff)
     }
 
     /// The station of a device; None for a device that is not registered.
     pub fn station_of(&self, device: DeviceId) -> Option<StationId>
         ensures { result ≡ station_of self.now device }
     {
-        if device == self.device {
-            Some(self.station)
-        } else {
-            None
-        }
+        (device == self.device).then_some(self.station)
     }
 
     /// The operator of a device, which is that of its station; None for a device that is not registered.
     pub fn operator_of(&self, device: DeviceId) -> Option<OperatorId>
         ensures { result ≡ operator_of self.now device }
     {
-        if device == self.device {
-            Some(self.operator)
-        } else {
-            None
-        }
+        (device == self.device).then_some(self.operator)
     }
 
     /// How many taps the buffer of a device holds; None for a device that is not registered.
     pub fn buffer_of(&self, device: DeviceId) -> Option<u32>
         ensures { result ≡ buffer_of self.now device }
     {
-        if device == self.device {
-            Some(self.buffer)
-        } else {
-            None
-        }
+        (device == self.device).then_some(self.buffer)
     }
 
     /// How many items the lane queue of an owner holds; None for an owner that is not registered.
     pub fn lane_capacity(&self, owner: OwnerId) -> Option<u32>
         ensures { result ≡ lane_capacity_of self.now owner }
     {
-        if owner == self.owner {
-            Some(self.lane)
-        } else {
-            None
-        }
+        (owner == self.owner).then_some(self.lane)
     }
 
     /// How many items an inbox holds.

@@ -1,6 +1,7 @@
 -- What an owner has taken, beside what a device numbered for it.
 use Rattle.std.specs.Prelude.{◌≡◌, ℕ, List, [], ◌∷◌, ◌++◌, length, Option, Some, None, slice_get, ◌⊎◌}
 use Rattle.fare_record.specs.Values.{RecordValue}
+use Rattle.fare_record.specs.Lanes.{of_device}
 use Rattle.fare_device.specs.SchemeWords.{SchemeValue, owner_of}
 use Rattle.fare_device.specs.TrafficDay.{traffic_day_of}
 use Rattle.fare_world.specs.declared.event.Event.{Event}
@@ -65,3 +66,8 @@ IsLaneRun first (lane ∷ lanes) last = IsLaneStep first lane × IsLaneRun lane 
 -- a lane of the system
 abbrev pub lane_at : System → ℕ → ℕ → Lane
 lane_at s owner device = record { numbered = numbered_for s owner device; taken = taken_by s owner device; day = (s.devices device).day }
+
+-- the taps of each device are those before, and the one that the event's reply numbered, if it numbered one
+abbrev pub NumbersByReply : SchemeValue → System → System → Event → Reply → Type 0
+NumbersByReply sc before now e r =
+    (device : ℕ) → (now.devices device).taps ≡ (before.devices device).taps ++ of_device device (with_first (numbered_by sc e r) [])

@@ -4,14 +4,16 @@ ghost use Rattle.fare_device.specs.SchemeWords.{SchemeValue};
 ghost use Rattle.fare_world.specs.declared.event.Event.{Event};
 ghost use Rattle.fare_world.specs.System.{System, start, taken_by};
 ghost use Rattle.fare_world.specs.Steps.{step, after, replies};
-ghost use Rattle.fare_world.specs.Headline.{Lane, IsLaneStep, IsLaneRun, lane_at, numbered, IsPrefixOf};
+ghost use Rattle.fare_world.specs.Headline.{Lane, IsLaneStep, IsLaneRun, lane_at, numbered, NumbersByReply, IsPrefixOf};
 ghost use Rattle.fare_world.specs.Shown.{IsSystem};
 
 /// Each event, at a system that events lead to, is a lane step or a rest on every lane, and leads to such a
-/// system again.
+/// system again. The taps that a device has numbered grow by the record of an answered tap, and by nothing
+/// else.
 pub fn each_event_is_a_lane_step()
     ensures system { (sc : SchemeValue) (s : System) (e : Event) → IsSystem s → IsSystem (step sc s e).0 }
     ensures lane { (sc : SchemeValue) (s : System) (e : Event) → IsSystem s → (owner device : ℕ) → IsLaneStep (lane_at s owner device) (lane_at (step sc s e).0 owner device) }
+    ensures numbered { (sc : SchemeValue) (s : System) (e : Event) → IsSystem s → NumbersByReply sc s (step sc s e).0 e (step sc s e).1 }
 {}
 
 /// After any list of events from the start, each lane has been reached by a lane run, and what was taken of

@@ -17,3 +17,6 @@ pub use event::Event;
 pub use laws::{each_event_is_a_lane_step, taken_is_a_prefix};
 pub use reply::{Refusal, Reply};
 pub use world::{Fault, Stopped, World};
+
+#[cfg(test)]
+mod tests;

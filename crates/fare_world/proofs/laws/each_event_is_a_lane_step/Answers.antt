@@ -6,3 +6,6 @@ returns-clause-system c = λ sc s e h. (moves_step sc s e h).system
 
 pub returns-clause-lane : goal.returns-clause-lane
 returns-clause-lane c = λ sc s e h. (moves_step sc s e h).lane
+
+pub returns-clause-numbered : goal.returns-clause-numbered
+returns-clause-numbered c = λ sc s e h. (moves_step sc s e h).taps
