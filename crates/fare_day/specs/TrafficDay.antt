@@ -1,5 +1,5 @@
 -- The traffic day.
-use Rattle.std.specs.Prelude.{ℕ, ℤ, pos, ◌-ℤ◌, ◌≤ℤ◌, int_lt, int_le, Option, Some, None, ◌&&◌, unsigned_abs, if◌then◌else◌}
+use Rattle.std.specs.Prelude.{ℕ, ℤ, pos, ◌-ℤ◌, ◌≤ℤ◌, int_le, Option, Some, None, ◌&&◌, unsigned_abs, if◌then◌else◌}
 use Rattle.std.specs.Int.{int_div_euclid, int_rem_euclid}
 use Rattle.fare_day.specs.declared.zone.Zone.{Zone}
 use Rattle.fare_day.specs.Clock.{local_time}
