@@ -1,3 +1,6 @@
 pub mod Limits
 pub mod Values
 pub mod Lanes
+pub mod Bodies
+pub mod Wide
+pub mod Fields

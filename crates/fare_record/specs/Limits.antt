@@ -30,3 +30,7 @@ IsMoment n = n ≤ 8640200000
 -- a number that a device gave a tap, in its link or in an owner's lane: 1 to 2^40 - 1
 abbrev pub IsNumber : ℕ → Type 0
 IsNumber n = (1 ≤ n) × (n ≤ 1099511627775)
+
+-- a count of a day's taps, or an acknowledged number: 0 to 2^40 - 1
+abbrev pub IsCount : ℕ → Type 0
+IsCount n = n ≤ 1099511627775

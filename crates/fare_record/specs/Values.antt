@@ -21,3 +21,25 @@ pub record RecordValue : Type 0 where
 pub record IsRecord (r : RecordValue) : Type 0 where
   pub link : IsNumber r.link
   pub lane : IsNumber r.lane
+
+-- a device's statement of how many taps of a day it numbered for an owner
+pub record StatementValue : Type 0 where
+  pub device : ℕ
+  pub day : ℕ
+  pub owner : ℕ
+  pub count : ℕ
+
+-- an acknowledgement of all taps of a device up to this link
+pub record AckValue : Type 0 where
+  pub device : ℕ
+  pub upto : ℕ
+
+-- an acknowledgement of all statements of a device for a day
+pub record DayAckValue : Type 0 where
+  pub device : ℕ
+  pub day : ℕ
+
+-- a greeting: the device that speaks, and the version of its frames
+pub record HelloValue : Type 0 where
+  pub device : ℕ
+  pub version : ℕ

@@ -1,26 +1,43 @@
-//! What the parts of a fare scheme speak of: ids, tokens, days and moments, each within its limits, a tap
-//! and its numbered record. A value of one of these types is always within its limits, so no later crate
-//! tests them again, and no call here takes memory.
+//! What the parts of a fare scheme speak of: ids, tokens, days and moments, each within its limits, a tap,
+//! its numbered record, and the other bodies that travel between a device and its station. A value of one
+//! of these types is always within its limits, so no later crate tests them again. `decode` accepts exactly
+//! what `encode` gives. No call here takes memory.
 #![tactic(auto)]
 
+mod ack;
 mod day;
+mod day_ack;
 mod device_id;
+mod fault;
+mod fields;
+mod hello;
+mod laws;
 mod moment;
 mod operator_id;
 mod owner_id;
 mod product_id;
 mod record;
+mod statement;
 mod station_id;
 mod tap;
 mod token;
 
+pub use ack::Ack;
 pub use day::Day;
+pub use day_ack::DayAck;
 pub use device_id::DeviceId;
+pub use fault::RecordFault;
+pub use hello::Hello;
+pub use laws::bodies_read_back;
 pub use moment::Moment;
 pub use operator_id::OperatorId;
 pub use owner_id::OwnerId;
 pub use product_id::ProductId;
 pub use record::{LAST_NUMBER, Record};
+pub use statement::Statement;
 pub use station_id::StationId;
 pub use tap::Tap;
 pub use token::Token;
+
+#[cfg(test)]
+mod tests;

@@ -1,7 +1,11 @@
-ghost use Rattle.std.specs.Prelude.{◌≡◌};
+ghost use Rattle.std.specs.Prelude.{◌≡◌, Some, None, MatchResult, IfOk, not};
 ghost use Rattle.fare_record.specs.Limits.{IsNumber};
+ghost use Rattle.fare_record.specs.Fields.{record_of};
+ghost use Rattle.fare_record.specs.Bodies.{no_number, record_bytes, record_in, record_fault};
 
-use crate::{DeviceId, OwnerId, Tap};
+use crate::fields::{u16_at, u32_at, u64_at};
+use crate::{Day, DeviceId, Moment, OwnerId, ProductId, RecordFault, Tap, Token};
+use byteorder::{BigEndian, ByteOrder};
 use std::marker::Model;
 
 /// The greatest number that a device gives a tap, in its link and in each lane.
@@ -82,4 +86,92 @@ impl Record {
     {
         self.tap
     }
+
+    /// Its body of 46 bytes, the highest byte of each number first: device u32, link u64, owner u16, lane
+    /// u64, product u32, token u64, moment u64, day u32.
+    pub fn encode(&self) -> [u8; 46]
+        ensures { result ≡ record_bytes self.now }
+    {
+        let mut bytes = [0; 46];
+        BigEndian::write_u32(&mut bytes[0..4], self.device.get());
+        BigEndian::write_u64(&mut bytes[4..12], self.link);
+        BigEndian::write_u16(&mut bytes[12..14], self.owner.get());
+        BigEndian::write_u64(&mut bytes[14..22], self.lane);
+        BigEndian::write_u32(&mut bytes[22..26], self.tap.product().get());
+        BigEndian::write_u64(&mut bytes[26..34], self.tap.token().get());
+        BigEndian::write_u64(&mut bytes[34..42], self.tap.moment().get());
+        BigEndian::write_u32(&mut bytes[42..46], self.tap.day().get());
+        bytes
+    }
+
+    /// The record of which these bytes are the body. `ZeroId` where its device, owner or product is 0, else
+    /// `NumberRange` where its link, lane or token is out of its limits, else `DayRange` where its moment or
+    /// day is.
+    pub fn decode(bytes: &[u8; 46]) -> Result<Record, RecordFault>
+        ensures judged { MatchResult result (λ _. record_fault (record_in bytes.now) ≡ None) (λ fault. record_fault (record_in bytes.now) ≡ Some fault) }
+        ensures value { IfOk result (λ r. r ≡ record_in bytes.now) }
+        ensures spelled { IfOk result (λ r. record_bytes r ≡ bytes.now) }
+    {
+        Numbers::read(bytes).record()
+    }
+}
+
+// The numbers of a record's fields, whatever they are.
+#[derive(Clone, Copy)]
+struct Numbers {
+    device: u32,
+    link: u64,
+    owner: u16,
+    lane: u64,
+    product: u32,
+    token: u64,
+    moment: u64,
+    day: u32,
+}
+
+impl Numbers {
+    fn read(bytes: &[u8; 46]) -> Numbers
+        ensures { record_of result ≡ record_in bytes.now }
+    {
+        Numbers {
+            device: u32_at(bytes, 0),
+            link: u64_at(bytes, 4),
+            owner: u16_at(bytes, 12),
+            lane: u64_at(bytes, 14),
+            product: u32_at(bytes, 22),
+            token: u64_at(bytes, 26),
+            moment: u64_at(bytes, 34),
+            day: u32_at(bytes, 42),
+        }
+    }
+
+    // The record with these numbers, or their first fault.
+    fn record(self) -> Result<Record, RecordFault>
+        ensures judged { MatchResult result (λ _. record_fault (record_of self) ≡ None) (λ fault. record_fault (record_of self) ≡ Some fault) }
+        ensures value { IfOk result (λ r. r ≡ record_of self) }
+    {
+        let device = DeviceId::new(self.device.into());
+        let owner = OwnerId::new(self.owner.into());
+        let product = ProductId::new(self.product.into());
+        let (Some(device), Some(owner), Some(product)) = (device, owner, product) else {
+            return Err(RecordFault::ZeroId);
+        };
+        let (link, lane) = (self.link, self.lane);
+        let (Some(token), true, true) = (Token::new(self.token), is_number(link), is_number(lane))
+        else {
+            return Err(RecordFault::NumberRange);
+        };
+        let (Some(moment), Some(day)) = (Moment::new(self.moment), Day::new(self.day.into())) else {
+            return Err(RecordFault::DayRange);
+        };
+        let tap = Tap::new(product, token, moment, day);
+        Ok(Record::new(device, link, owner, lane, tap))
+    }
+}
+
+// Whether a tap may have this number.
+fn is_number(number: u64) -> bool
+    ensures { result ≡ not (no_number number) }
+{
+    (1..=LAST_NUMBER).contains(&number)
 }
