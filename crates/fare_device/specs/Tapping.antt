@@ -1,10 +1,10 @@
 -- What a device does with a tap.
-use Rattle.std.specs.Prelude.{ℕ, ◌≡◌, ◌+◌, ◌<◌, ◌≤◌, [], ◌∷◌, ◌++◌, Some, None, IsSome, slice_index, slice_set}
+use Rattle.std.specs.Prelude.{ℕ, ◌≡◌, ◌+◌, ◌<◌, ◌≤◌, [], ◌∷◌, ◌++◌, Some, None, IsSome, length, slice_index, slice_set}
 use Rattle.fare_record.specs.Values.{RecordValue}
 use Rattle.fare_device.specs.SchemeWords.{SchemeValue, owner_of, position_of_owner}
 use Rattle.fare_device.specs.DeviceWords.{DeviceValue, last_link}
 use Rattle.fare_device.specs.declared.device.TapRefusal.{TapRefusal}
-use Rattle.fare_device.specs.declared.device.TapRefusal.TheVariants.{UnknownProduct, DayClosed, DayAhead, NumbersSpent, Memory}
+use Rattle.fare_device.specs.declared.device.TapRefusal.TheVariants.{UnknownProduct, DayClosed, DayAhead, NumbersSpent, BufferFull}
 
 -- the tap gets the device's next link and its owner's next lane, and waits behind the others
 pub record IsTapped (sc : SchemeValue) (old : DeviceValue) (product token moment day : ℕ) (r : RecordValue) (new : DeviceValue) : Type 0 where
@@ -13,6 +13,7 @@ pub record IsTapped (sc : SchemeValue) (old : DeviceValue) (product token moment
   pub at : position_of_owner sc r.owner ≡ Some place
   pub current : day ≡ old.day
   pub few : last_link old < 1099511627775
+  pub room : length old.waiting < old.room
   pub is : r ≡ record { device = old.id; link = last_link old + 1; owner = r.owner; lane = slice_index old.lanes place + 1; tap = record { product = product; token = token; moment = moment; day = day } }
   pub value : new ≡ record old { waiting = old.waiting ++ r ∷ []; lanes = slice_set old.lanes place r.lane }
 
@@ -22,4 +23,4 @@ TapRefused sc x product day UnknownProduct = owner_of sc product ≡ None
 TapRefused sc x product day DayClosed = IsSome (owner_of sc product) × (day < x.day)
 TapRefused sc x product day DayAhead = IsSome (owner_of sc product) × (x.day < day)
 TapRefused sc x product day NumbersSpent = IsSome (owner_of sc product) × (day ≡ x.day) × (1099511627775 ≤ last_link x)
-TapRefused sc x product day Memory = IsSome (owner_of sc product) × (day ≡ x.day) × (last_link x < 1099511627775)
+TapRefused sc x product day BufferFull = IsSome (owner_of sc product) × (day ≡ x.day) × (last_link x < 1099511627775) × (length x.waiting ≡ x.room)

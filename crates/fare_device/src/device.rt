@@ -1,9 +1,10 @@
 ghost use Rattle.std.specs.Prelude.{◌≡◌, ◌↔◌, ◌+◌, ◌-◌, ℕ, None, IsSome, IfSome, IfNone, IfOk, IfErr, OnErr, length, slice_get};
-ghost use Rattle.fare_device.specs.SchemeWords.{position_of_device};
+ghost use Rattle.fare_device.specs.SchemeWords.{buffer_of, position_of_device};
 ghost use Rattle.fare_device.specs.DeviceWords.{fresh_device, last_link};
 ghost use Rattle.fare_device.specs.Tapping.{IsTapped, TapRefused};
 
 use crate::Scheme;
+use fare_buffer::{Waiting, WaitingFault};
 use fare_record::{Day, DeviceId, LAST_NUMBER, Moment, ProductId, Record, Tap, Token};
 use std::alloc::Global;
 use std::marker::Model;
@@ -35,9 +36,9 @@ pub enum TapRefusal {
     /// All link numbers were given out.
     #[error("the numbers are spent")]
     NumbersSpent,
-    /// There was no memory to keep the tap.
-    #[error("no memory")]
-    Memory,
+    /// As many taps as the buffer holds wait for their acknowledgement.
+    #[error("the buffer is full")]
+    BufferFull,
 }
 
 /// A device: a validator that numbers the taps of its open day and keeps them until they are acknowledged.
@@ -45,7 +46,7 @@ pub enum TapRefusal {
 pub struct Device {
     id: DeviceId,
     day: Day,
-    waiting: Vec<Record>,
+    waiting: Waiting,
     base: u64,
     cursor: u64,
     lanes: Vec<u64>,
@@ -56,29 +57,35 @@ impl Model for Device {
 
     ghost Value = { DeviceValue };
 
-    ghost view = { λ a. record { id = a.id; day = a.day; waiting = a.waiting.items; base = a.base; cursor = a.cursor; lanes = a.lanes.items } };
+    ghost view = { λ a. record { id = a.id; day = a.day; waiting = a.waiting.items; room = a.waiting.capacity; base = a.base; cursor = a.cursor; lanes = a.lanes.items } };
 
-    ghost invariant = { λ a. IsDeviceValue (record { id = a.id; day = a.day; waiting = a.waiting.items; base = a.base; cursor = a.cursor; lanes = a.lanes.items }) };
+    ghost invariant = { λ a. IsDeviceValue (record { id = a.id; day = a.day; waiting = a.waiting.items; room = a.waiting.capacity; base = a.base; cursor = a.cursor; lanes = a.lanes.items }) };
 }
 
 impl Device {
     /// A device that has numbered nothing; its open day is the scheme's first. `UnknownDevice` where it is
     /// not registered, `Memory` where there was none.
     pub fn new(alloc: Global, id: DeviceId, scheme: &Scheme) -> Result<Device, DeviceFault>
-        ensures made { IfOk result (λ device. device ≡ fresh_device id scheme.now.start (length scheme.now.owners)) }
+        ensures made { IfOk result (λ device. device ≡ fresh_device id scheme.now.start device.room (length scheme.now.owners)) }
+        ensures room { IfOk result (λ device. buffer_of scheme.now id ≡ Some device.room) }
         ensures known { IfOk result (λ _. IsSome (position_of_device scheme.now id)) }
         ensures unknown { IfErr result (λ fault. (fault ≡ DeviceFault.UnknownDevice) ↔ (position_of_device scheme.now id ≡ None)) }
     {
-        if scheme.device_position(id).is_none() {
+        let Some(buffer) = scheme.buffer_of(id) else {
             return Err(DeviceFault::UnknownDevice);
-        }
+        };
+        let waiting = match Waiting::new(alloc, buffer) {
+            Ok(waiting) => waiting,
+            Err(WaitingFault::Memory) => return Err(DeviceFault::Memory),
+            Err(WaitingFault::Range) => unreachable!(),
+        };
         let Ok(lanes) = vec![in alloc; 0; scheme.owners()] else {
             return Err(DeviceFault::Memory);
         };
         Ok(Device {
             id,
             day: scheme.start(),
-            waiting: Vec::new(alloc),
+            waiting,
             base: 0,
             cursor: 0,
             lanes,
@@ -94,8 +101,8 @@ impl Device {
 
     /// Numbers a tap and keeps it at the end of those that wait. `day` is the traffic day of `moment`, and
     /// the scheme is the one that the device was made with. Answers the numbered record, or the first refusal
-    /// that applies, in the order `UnknownProduct`, `DayClosed`, `DayAhead`, `NumbersSpent`, `Memory`; then
-    /// the device is as before.
+    /// that applies, in the order `UnknownProduct`, `DayClosed`, `DayAhead`, `NumbersSpent`,
+    /// `BufferFull`; then the device is as before.
     pub fn tap(
         &mut self,
         scheme: &Scheme,
@@ -130,7 +137,7 @@ impl Device {
         let tap = Tap::new(product, token, moment, day);
         let numbered = Record::new(self.id, last + 1, owner, lane, tap);
         if self.waiting.push(numbered).is_err() {
-            return Err(TapRefusal::Memory);
+            return Err(TapRefusal::BufferFull);
         }
         self.lanes[place] = lane;
         Ok(numbered)
@@ -145,10 +152,8 @@ impl Device {
         ensures lanes { length self.new.lanes ≡ length self.old.lanes }
     {
         let place = (self.cursor - self.base) as usize;
-        if place >= self.waiting.len() {
-            return None;
-        }
+        let record = self.waiting.get(place)?;
         self.cursor += 1;
-        Some(self.waiting[place])
+        Some(record)
     }
 }

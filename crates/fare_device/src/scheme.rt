@@ -214,7 +214,9 @@ impl Scheme {
 
     /// How many taps the buffer of a device holds; None for a device that is not registered.
     pub fn buffer_of(&self, device: DeviceId) -> Option<u32>
-        ensures { result ≡ buffer_of self.now device }
+        ensures value { result ≡ buffer_of self.now device }
+        ensures known { IsSome result ↔ IsSome (position_of_device self.now device) }
+        ensures valid { IfSome result (λ taps. IsBuffer taps) }
     {
         (device == self.device).then_some(self.buffer)
     }

@@ -21,6 +21,7 @@ fn name_of(refusal: Refusal) -> &'static [u8]
         Refusal::DayClosed => b"DayClosed",
         Refusal::DayAhead => b"DayAhead",
         Refusal::NumbersSpent => b"NumbersSpent",
+        Refusal::BufferFull => b"BufferFull",
         Refusal::NoPacket => b"NoPacket",
         Refusal::Old => b"Old",
         Refusal::Ahead => b"Ahead",

@@ -96,6 +96,18 @@ upto 1
 count 1
 ";
 
+const FULL_BUFFER: &[u8] = b"demo 1 2 4 4
+tap 1 1 77 1704100000
+tap 1 1 77 1704100000
+tap 1 1 77 1704100000
+";
+
+const FULL_BUFFER_ANSWERED: &[u8] = b"ok
+record 1 1
+record 2 2
+refused BufferFull
+";
+
 const OUT_OF_ORDER_AND_REPEAT: &[u8] = b"demo 1 4 4 4
 tap 1 1 77 1704100000
 tap 1 1 77 1704100000
@@ -120,8 +132,9 @@ accepted
 
 #[test]
 fn replays_traces(rt: HostRuntime) -> Result<(), Fail> {
-    let cases: [(&[u8], &[u8]); 3] = [
+    let cases: [(&[u8], &[u8]); 4] = [
         (ONE_TAP, ONE_TAP_ANSWERED),
+        (FULL_BUFFER, FULL_BUFFER_ANSWERED),
         (OUT_OF_ORDER_AND_REPEAT, OUT_OF_ORDER_AND_REPEAT_ANSWERED),
         (
             b"draw\ndemo 1 4096 1024 1024\ndraw\ndemo 1 4 4 4\ndemo 1 0 0 0\nupto 1\n",

@@ -1,6 +1,6 @@
 -- Each event leads from a system to a system, steps or rests on every lane, and adds to the taps what its reply says.
 use Rattle.std.proofs.Common.{◌≡◌, ℕ, ◌+◌, ◌-◌, ◌<◌, ◌≤◌, List, [], ◌∷◌, ◌++◌, length, take, Some, None, Bool, true, false, refl, sym, ap, ◌∙◌, subst, arith, inl, inr}
-use Rattle.std.specs.Prelude.{◌==◌, slice_get, if◌then◌else◌, Option, IfSome, nat_lt}
+use Rattle.std.specs.Prelude.{◌==◌, slice_get, if◌then◌else◌, Option, IfSome, nat_le, nat_lt}
 use Rattle.std.specs.List.{AllByRecursion}
 use Rattle.std.proofs.lemmas.List.{take-append-le, append-nil, length_push, length-take-le}
 use Rattle.std.proofs.lemmas.Option.{slice_get_within}
@@ -13,11 +13,11 @@ use Rattle.fare_device.specs.TrafficDay.{traffic_day_of}
 use Rattle.fare_world.specs.declared.event.Event.{Event}
 use Rattle.fare_world.specs.declared.event.Event.TheVariants as event
 use Rattle.fare_world.specs.declared.reply.Refusal.{Refusal}
-use Rattle.fare_world.specs.declared.reply.Refusal.TheVariants.{UnknownDevice, UnknownOwner, BadMoment, UnknownProduct, DayClosed, DayAhead, NumbersSpent, NoPacket, Old, Ahead, HandFull, Duplicate, Gap}
+use Rattle.fare_world.specs.declared.reply.Refusal.TheVariants.{UnknownDevice, UnknownOwner, BadMoment, UnknownProduct, DayClosed, DayAhead, NumbersSpent, BufferFull, NoPacket, Old, Ahead, HandFull, Duplicate, Gap}
 use Rattle.fare_world.specs.declared.reply.Reply.{Reply}
 use Rattle.fare_world.specs.declared.reply.Reply.TheVariants.{Idle, Empty, Refused, Recorded, Sent, Accepted, Drawn, Stored, Forwarded, Fetched, Taken, Upto, Count}
 use Rattle.fare_world.specs.System.{put, Packet, Tapped, Arrived, Tap_of, Routed, Lane_of, DeviceState, OwnerState, LaneState, System, numbered_for, arrived_of}
-use Rattle.fare_world.specs.Steps.{knows_device, knows_owner, next_record, with_tap, tap_for, tap_on, tap, sent, send, accepted, comes, packet_at, arrive, draw_from, draw, stored, store_from, store, forwarded, forward, fetch_from, fetch, emptied, took, take_from, take_event, step}
+use Rattle.fare_world.specs.Steps.{knows_device, knows_owner, next_record, with_tap, room_of, waiting_count, tap_for, tap_on, tap, sent, send, accepted, comes, packet_at, arrive, draw_from, draw, stored, store_from, store, forwarded, forward, fetch_from, fetch, emptied, took, take_from, take_event, step}
 use Rattle.fare_world.specs.Headline.{record_of, numbered_by, with_first, Lane, IsLaneStep, lane_at}
 use Rattle.fare_world.specs.Shown.{IsNumbered, IsDevice, IsPlace, IsPacket, IsArrived, IsRouted, IsOwner, IsSystem}
 use Rattle.fare_world.proofs.Places.{slice_get-push_cases}
@@ -111,6 +111,9 @@ owner_changes s o w h is = record {
 pub below : (a b : ℕ) → nat_lt a b ≡ true → a < b
 below a b e = grind (arith, nat_tests)
 
+pub above : (a b : ℕ) → nat_le a b ≡ false → b < a
+above a b e = grind (arith, nat_tests)
+
 pub not_below : (a b : ℕ) → nat_lt a b ≡ false → b ≤ a
 not_below a b e = grind (arith, nat_tests)
 
@@ -192,14 +195,14 @@ moves_tap sc s d p t m h = if_all (knows_device sc d) (Moves sc s e) (tap_on sc 
     e : Event
     e = event.Tap d p t m
 
-    of_owner : (day : ℕ) → traffic_day_of m ≡ Some day → (o : Option ℕ) → owner_of sc p ≡ o → Moves sc s e (tap_for s d (record { product = p; token = t; moment = m; day = day }) o)
+    of_owner : (day : ℕ) → traffic_day_of m ≡ Some day → (o : Option ℕ) → owner_of sc p ≡ o → Moves sc s e (tap_for s d (room_of sc d) (record { product = p; token = t; moment = m; day = day }) o)
     of_owner day dated None owned = stays sc s e (Refused UnknownProduct) refl h
     of_owner day dated (Some o) owned =
         if_all (nat_lt day (s.devices d).day) (Moves sc s e) _ _ (λ _. stays sc s e (Refused DayClosed) refl h)
         (λ a. if_all (nat_lt (s.devices d).day day) (Moves sc s e) _ _ (λ _. stays sc s e (Refused DayAhead) refl h)
-        (λ b. if_all (nat_lt (length (s.devices d).taps) 1099511627775) (Moves sc s e) _ _
-        (λ c. numbers sc s d o p t m day h owned dated (omega (arith, not_below _ _ a, not_below _ _ b)) (below _ _ c))
-        (λ _. stays sc s e (Refused NumbersSpent) refl h)))
+        (λ b. if_all (nat_le 1099511627775 (length (s.devices d).taps)) (Moves sc s e) _ _ (λ _. stays sc s e (Refused NumbersSpent) refl h)
+        (λ c. if_all (nat_le (room_of sc d) (waiting_count s d)) (Moves sc s e) _ _ (λ _. stays sc s e (Refused BufferFull) refl h)
+        (λ _. numbers sc s d o p t m day h owned dated (omega (arith, not_below _ _ a, not_below _ _ b)) (above _ _ c)))))
 
     on : (o : Option ℕ) → traffic_day_of m ≡ o → Moves sc s e (tap_on sc s d p t m o)
     on None dated = stays sc s e (Refused BadMoment) refl h

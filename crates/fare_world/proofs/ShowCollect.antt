@@ -123,7 +123,7 @@ shown_accepted sc h s n next r w some at same =
       where
         same_device : (o : Option DeviceValue) → ShowsDevice sc d (s.devices d) o → ShowsDevice sc d after o
         same_device None e = e
-        same_device (Some x) e = record { id = e.id; day = e.day; waiting = e.waiting; base = e.base; cursor = e.cursor; lanes = e.lanes }
+        same_device (Some x) e = record { id = e.id; day = e.day; waiting = e.waiting; room = e.room; base = e.base; cursor = e.cursor; lanes = e.lanes }
 
 -- DRAW
 pub shown_hand_full : (sc : SchemeValue) (h : Shape) (s : System) (r : RecordValue) → Shows sc h s → h.hand ≡ Some r → Answers sc h (draw s) (Refused HandFull)
@@ -270,7 +270,7 @@ shown_stored sc h s r upto rows w e did =
 
         same_device : (o : Option DeviceValue) → ShowsDevice sc d (s.devices d) o → ShowsDevice sc d after o
         same_device None e = e
-        same_device (Some x) e = record { id = e.id; day = e.day; waiting = e.waiting; base = e.base; cursor = e.cursor; lanes = e.lanes }
+        same_device (Some x) e = record { id = e.id; day = e.day; waiting = e.waiting; room = e.room; base = e.base; cursor = e.cursor; lanes = e.lanes }
 
     added : (o j : ℕ) → put2 h.rows r.owner d (h.rows r.owner d ++ r ∷ []) o j ≡ arrived_of o (g j)
     added = put_apart (λ o (f : ℕ → List RecordValue). (j : ℕ) → f j ≡ arrived_of o (g j)) h.rows r.owner (put (h.rows r.owner) d (h.rows r.owner d ++ r ∷ []))

@@ -1,8 +1,8 @@
 -- What a world shows after a tap and a send.
 use Rattle.std.proofs.Common.{◌≡◌, ◌≢◌, ℕ, ◌+◌, ◌-◌, ◌<◌, ◌≤◌, List, [], ◌∷◌, ◌++◌, length, take, set, get_or, Some, None, true, false, refl, sym, ap, ◌∙◌, subst, arith}
-use Rattle.std.specs.Prelude.{◌==◌, slice_get, slice_index, if◌then◌else◌, Option, IfSome, is_some}
+use Rattle.std.specs.Prelude.{◌==◌, slice_get, slice_index, if◌then◌else◌, Option, IfSome, is_some, unwrap_or}
 use Rattle.std.proofs.lemmas.Bool.Decides.{nat_tests, Decides-eqb}
-use Rattle.std.proofs.lemmas.List.{take-append-le, length_push}
+use Rattle.std.proofs.lemmas.List.{take-append-le, length-drop, length_push}
 use Rattle.std.proofs.lemmas.List.Quantifiers.{position-Some}
 use Rattle.std.proofs.lemmas.Option.{slice_get-get_or, slice_get_within}
 use Rattle.fare_record.specs.Values.{RecordValue, TapValue}
@@ -13,11 +13,11 @@ use Rattle.fare_device.specs.DeviceWords.{DeviceValue, last_link}
 use Rattle.fare_device.specs.Tapping.{IsTapped}
 use Rattle.fare_world.specs.declared.event.Event.TheVariants as event
 use Rattle.fare_world.specs.declared.reply.Refusal.{Refusal}
-use Rattle.fare_world.specs.declared.reply.Refusal.TheVariants.{UnknownDevice, BadMoment, UnknownProduct, DayClosed, DayAhead, NumbersSpent}
+use Rattle.fare_world.specs.declared.reply.Refusal.TheVariants.{UnknownDevice, BadMoment, UnknownProduct, DayClosed, DayAhead, NumbersSpent, BufferFull}
 use Rattle.fare_world.specs.declared.reply.Reply.{Reply}
 use Rattle.fare_world.specs.declared.reply.Reply.TheVariants.{Idle, Refused, Recorded, Sent}
 use Rattle.fare_world.specs.System.{put, Tapped, DeviceState, System, numbered_for, arrived_of}
-use Rattle.fare_world.specs.Steps.{next_record, with_tap, tap_for, tap_on, tap, sent, send_next, send}
+use Rattle.fare_world.specs.Steps.{next_record, with_tap, room_of, waiting_count, tap_for, tap_on, tap, sent, send_next, send}
 use Rattle.std.proofs.Common.{inl, inr, length-set}
 use Rattle.std.proofs.lemmas.List.{set-get_or}
 use Rattle.std.proofs.lemmas.Option.{slice_get_read}
@@ -35,11 +35,18 @@ use Rattle.fare_world.proofs.TableLemmas.{put_all, put_both, put_here, slice_get
 use Rattle.fare_world.proofs.Kept.{moves_step, device_changes}
 use Rattle.fare_world.proofs.Showing.{Answers, answers_by, grows_by_tap, grows_by_none, shows_devices, last_link_is, device_shown}
 
+-- what waits in the device's buffer, and how much may
+room_is : (sc : SchemeValue) (d : ℕ) (v : DeviceState) (x : DeviceValue) → IsDeviceOf sc d v x → room_of sc d ≡ x.room
+room_is sc d v x sd = ap (λ o. unwrap_or o 0) sd.room
+
+waiting_is : (sc : SchemeValue) (d : ℕ) (v : DeviceState) (x : DeviceValue) → IsDeviceOf sc d v x → length x.waiting ≡ length v.taps - v.base
+waiting_is sc d v x sd = ap length sd.waiting ∙ length-drop v.base v.taps
+
 -- TAP, down to its tests
 tap_on_known : (sc : SchemeValue) (s : System) (d k p t m : ℕ) → position_of_device sc d ≡ Some k → tap sc s d p t m ≡ tap_on sc s d p t m (traffic_day_of m)
 tap_on_known sc s d k p t m at = ap (λ o. if is_some o then tap_on sc s d p t m (traffic_day_of m) else (s, Refused UnknownDevice)) at
 
-tap_on_day : (sc : SchemeValue) (s : System) (d k p t m day : ℕ) → position_of_device sc d ≡ Some k → traffic_day_of m ≡ Some day → tap sc s d p t m ≡ tap_for s d (record { product = p; token = t; moment = m; day = day }) (owner_of sc p)
+tap_on_day : (sc : SchemeValue) (s : System) (d k p t m day : ℕ) → position_of_device sc d ≡ Some k → traffic_day_of m ≡ Some day → tap sc s d p t m ≡ tap_for s d (room_of sc d) (record { product = p; token = t; moment = m; day = day }) (owner_of sc p)
 tap_on_day sc s d k p t m day at dated = tap_on_known sc s d k p t m at ∙ ap (tap_on sc s d p t m) dated
 
 pub shown_unknown : (sc : SchemeValue) (h : Shape) (s : System) (d p t m : ℕ) → Shows sc h s → position_of_device sc d ≡ None → Answers sc h (tap sc s d p t m) (Refused UnknownDevice)
@@ -50,13 +57,13 @@ shown_bad_moment sc h s d k p t m w at none = answers_by sc h (Refused BadMoment
 
 pub shown_unknown_product : (sc : SchemeValue) (h : Shape) (s : System) (d k p t m day : ℕ) → Shows sc h s → position_of_device sc d ≡ Some k → traffic_day_of m ≡ Some day → owner_of sc p ≡ None → Answers sc h (tap sc s d p t m) (Refused UnknownProduct)
 shown_unknown_product sc h s d k p t m day w at dated none =
-    answers_by sc h (Refused UnknownProduct) (tap sc s d p t m) (s, Refused UnknownProduct) (tap_on_day sc s d k p t m day at dated ∙ ap (tap_for s d (record { product = p; token = t; moment = m; day = day })) none) refl w
+    answers_by sc h (Refused UnknownProduct) (tap sc s d p t m) (s, Refused UnknownProduct) (tap_on_day sc s d k p t m day at dated ∙ ap (tap_for s d (room_of sc d) (record { product = p; token = t; moment = m; day = day })) none) refl w
 
 -- a refusal that comes after the product is known
-refused_for : (sc : SchemeValue) (h : Shape) (s : System) (d k p t m day : ℕ) (why : Refusal) → Shows sc h s → position_of_device sc d ≡ Some k → traffic_day_of m ≡ Some day → (o : Option ℕ) → owner_of sc p ≡ o → is_some o ≡ true → ((o : ℕ) → tap_for s d (record { product = p; token = t; moment = m; day = day }) (Some o) ≡ (s, Refused why)) → Answers sc h (tap sc s d p t m) (Refused why)
+refused_for : (sc : SchemeValue) (h : Shape) (s : System) (d k p t m day : ℕ) (why : Refusal) → Shows sc h s → position_of_device sc d ≡ Some k → traffic_day_of m ≡ Some day → (o : Option ℕ) → owner_of sc p ≡ o → is_some o ≡ true → ((o : ℕ) → tap_for s d (room_of sc d) (record { product = p; token = t; moment = m; day = day }) (Some o) ≡ (s, Refused why)) → Answers sc h (tap sc s d p t m) (Refused why)
 refused_for sc h s d k p t m day why w at dated None owned some goes = absurd (cc)
 refused_for sc h s d k p t m day why w at dated (Some o) owned some goes =
-    answers_by sc h (Refused why) (tap sc s d p t m) (s, Refused why) (tap_on_day sc s d k p t m day at dated ∙ ap (tap_for s d (record { product = p; token = t; moment = m; day = day })) owned ∙ goes o) refl w
+    answers_by sc h (Refused why) (tap sc s d p t m) (s, Refused why) (tap_on_day sc s d k p t m day at dated ∙ ap (tap_for s d (room_of sc d) (record { product = p; token = t; moment = m; day = day })) owned ∙ goes o) refl w
 
 pub shown_day_closed : (sc : SchemeValue) (h : Shape) (s : System) (d k p t m day : ℕ) (x : DeviceValue) → Shows sc h s → position_of_device sc d ≡ Some k → traffic_day_of m ≡ Some day → h.devices d ≡ Some x → is_some (owner_of sc p) ≡ true → day < x.day → Answers sc h (tap sc s d p t m) (Refused DayClosed)
 shown_day_closed sc h s d k p t m day x w at dated here known lt =
@@ -75,8 +82,16 @@ shown_spent sc h s d k p t m day x w at dated here known same full =
     let spent : 1099511627775 ≤ length (s.devices d).taps = omega (arith, last_link_is sc d (s.devices d) x (w.system.devices d) sd) in
     refused_for sc h s d k p t m day NumbersSpent w at dated (owner_of sc p) refl known (λ o. grind (arith, nat_tests))
 
-tap_goes : (s : System) (d o : ℕ) (tv : TapValue) → tv.day ≡ (s.devices d).day → length (s.devices d).taps < 1099511627775 → tap_for s d tv (Some o) ≡ (with_tap s d (next_record s d o tv), Recorded (length (s.devices d).taps + 1) (length (numbered_for s o d) + 1))
-tap_goes s d o tv current few = grind (arith, nat_tests)
+pub shown_full : (sc : SchemeValue) (h : Shape) (s : System) (d k p t m day : ℕ) (x : DeviceValue) → Shows sc h s → position_of_device sc d ≡ Some k → traffic_day_of m ≡ Some day → h.devices d ≡ Some x → is_some (owner_of sc p) ≡ true → day ≡ x.day → last_link x < 1099511627775 → length x.waiting ≡ x.room → Answers sc h (tap sc s d p t m) (Refused BufferFull)
+shown_full sc h s d k p t m day x w at dated here known same few full =
+    let sd = device_shown sc h s d x w here in
+    let current : day ≡ (s.devices d).day = same ∙ sd.day in
+    let left : length (s.devices d).taps < 1099511627775 = omega (arith, few, last_link_is sc d (s.devices d) x (w.system.devices d) sd) in
+    let no_room : room_of sc d ≤ waiting_count s d = omega (arith, full, room_is sc d (s.devices d) x sd, waiting_is sc d (s.devices d) x sd) in
+    refused_for sc h s d k p t m day BufferFull w at dated (owner_of sc p) refl known (λ o. grind (arith, nat_tests))
+
+tap_goes : (s : System) (d o room : ℕ) (tv : TapValue) → tv.day ≡ (s.devices d).day → length (s.devices d).taps < 1099511627775 → waiting_count s d < room → tap_for s d room tv (Some o) ≡ (with_tap s d (next_record s d o tv), Recorded (length (s.devices d).taps + 1) (length (numbered_for s o d) + 1))
+tap_goes s d o room tv current few left = grind (arith, nat_tests)
 
 -- the device with the tap at its end
 tapped_device : (sc : SchemeValue) (d : ℕ) (v : DeviceState) (x new : DeviceValue) (p t m day : ℕ) (r : RecordValue) → IsDevice d v → IsDeviceOf sc d v x → length x.lanes ≡ length sc.owners → IsTapped sc x p t m day r new → r.lane ≡ length (part r.owner v.taps) + 1 → IsDeviceOf sc d (record v { taps = v.taps ++ r ∷ [] }) new
@@ -86,6 +101,7 @@ tapped_device sc d v x new p t m day r is sd long did lane =
       id = sd.id;
       day = sd.day;
       waiting = ap (λ l. l ++ r ∷ []) sd.waiting ∙ sym (drop-push v.base v.taps r (omega (arith, is.base, is.cursor)));
+      room = sd.room;
       base = sd.base;
       cursor = sd.cursor;
       lanes = counts;
@@ -167,7 +183,7 @@ shown_tap sc h s d k p t m day x new r w at dated here long did =
 
     goes : tap sc s d p t m ≡ (with_tap s d r, Recorded r.link r.lane)
     goes =
-        tap_on_day sc s d k p t m day at dated ∙ ap (tap_for s d tv) did.owner ∙ tap_goes s d r.owner tv (did.current ∙ sd.day) (omega (arith, did.few, last))
+        tap_on_day sc s d k p t m day at dated ∙ ap (tap_for s d (room_of sc d) tv) did.owner ∙ tap_goes s d r.owner (room_of sc d) tv (did.current ∙ sd.day) (omega (arith, did.few, last)) (omega (arith, did.room, room_is sc d v x sd, waiting_is sc d v x sd))
         ∙ (λ i. (with_tap s d (sym same i), Recorded (sym link i) (sym lane i)))
 
     system : IsSystem (record s { devices = g })
@@ -247,7 +263,7 @@ shown_send sc h s d k x r n w at here e count =
 
     devices : Shows sc (record h { devices = put h.devices d (Some new); nexts = h.nexts }) (record s { devices = g })
     devices = shows_devices sc h s g (put h.devices d (Some new)) h.nexts w (device_changes s d after w.system refl (record { base = omega (arith, is.base); cursor = omega (arith, unsent); upto = is.upto; few = is.few; numbered = is.numbered })) (grows_by_none s d after refl)
-        (put_both (λ j a b. ShowsDevice sc j b a) h.devices s.devices d (Some new) after w.devices (record { id = sd.id; day = sd.day; waiting = sd.waiting; base = sd.base; cursor = ap (λ j. j + 1) sd.cursor; lanes = sd.lanes }))
+        (put_both (λ j a b. ShowsDevice sc j b a) h.devices s.devices d (Some new) after w.devices (record { id = sd.id; day = sd.day; waiting = sd.waiting; room = sd.room; base = sd.base; cursor = ap (λ j. j + 1) sd.cursor; lanes = sd.lanes }))
         (put_all (λ j a. IfSome (h.nexts j) (λ n. n ≡ a.next)) s.devices d after w.nexts (w.nexts d))
         (put_all (λ j a. a.upto ≡ (s.devices j).upto) s.devices d after (λ j. refl) refl)
         (λ o. put_all (λ j a. arrived_of o a ≡ arrived_of o (s.devices j)) s.devices d after (λ j. refl) refl)
@@ -284,14 +300,14 @@ AnswersRefused w devices s d p t m why.UnknownProduct = Answers w.scheme (record
 AnswersRefused w devices s d p t m why.DayClosed = Answers w.scheme (record (shape w) { devices = devices }) (tap w.scheme s d p t m) (Refused DayClosed)
 AnswersRefused w devices s d p t m why.DayAhead = Answers w.scheme (record (shape w) { devices = devices }) (tap w.scheme s d p t m) (Refused DayAhead)
 AnswersRefused w devices s d p t m why.NumbersSpent = Answers w.scheme (record (shape w) { devices = devices }) (tap w.scheme s d p t m) (Refused NumbersSpent)
-AnswersRefused w devices s d p t m why.Memory = Unit {0}
+AnswersRefused w devices s d p t m why.BufferFull = Answers w.scheme (record (shape w) { devices = devices }) (tap w.scheme s d p t m) (Refused BufferFull)
 
 refused_as_it_was : (w : World) (s : System) (d k p t m day : ℕ) (x : DeviceValue) (e : TapRefusal) → Shows w.scheme (shape w) s → position_of_device w.scheme d ≡ Some k → (shape w).devices d ≡ Some x → traffic_day_of m ≡ Some day → TapRefused w.scheme x p day e → AnswersRefused w (shape w).devices s d p t m e
 refused_as_it_was w s d k p t m day x why.UnknownProduct sh at here dated cause = shown_unknown_product w.scheme (shape w) s d k p t m day sh at dated cause
 refused_as_it_was w s d k p t m day x why.DayClosed sh at here dated cause = shown_day_closed w.scheme (shape w) s d k p t m day x sh at dated here cause.0 cause.1
 refused_as_it_was w s d k p t m day x why.DayAhead sh at here dated cause = shown_day_ahead w.scheme (shape w) s d k p t m day x sh at dated here cause.0 cause.1
 refused_as_it_was w s d k p t m day x why.NumbersSpent sh at here dated cause = shown_spent w.scheme (shape w) s d k p t m day x sh at dated here cause.0 cause.1 cause.2
-refused_as_it_was w s d k p t m day x why.Memory sh at here dated cause = tt
+refused_as_it_was w s d k p t m day x why.BufferFull sh at here dated cause = shown_full w.scheme (shape w) s d k p t m day x sh at dated here cause.0 cause.1 cause.2 cause.3
 
 pub world_refused : (w : World) (s : System) (d k p t m day : ℕ) (x new : DeviceValue) (e f : TapRefusal) → Shows w.scheme (shape w) s → position_of_device w.scheme d ≡ Some k → k < length w.devices.items → x ≡ get_or w.devices.items k x → traffic_day_of m ≡ Some day → new ≡ x → TapRefused w.scheme x p day e → e ≡ f
     → AnswersRefused w (λ j. entry (position_of_device w.scheme j) (set w.devices.items k new)) s d p t m f

@@ -5,7 +5,7 @@ use Rattle.std.proofs.lemmas.Bool.Decides.{Decides-eqb}
 use Rattle.std.proofs.lemmas.List.{length-replicate}
 use Rattle.std.proofs.lemmas.List.Quantifiers.{position-Some}
 use Rattle.std.proofs.lemmas.Option.{slice_get-get_or}
-use Rattle.fare_device.specs.SchemeWords.{SchemeValue, DeviceEntry, OwnerEntry, position_of_device, position_of_owner}
+use Rattle.fare_device.specs.SchemeWords.{SchemeValue, DeviceEntry, OwnerEntry, buffer_of, position_of_device, position_of_owner}
 use Rattle.fare_device.specs.DeviceWords.{DeviceValue, fresh_device}
 use Rattle.fare_world.specs.declared.owner.Owner.{Owner}
 use Rattle.fare_world.specs.declared.world.World.{World}
@@ -57,11 +57,12 @@ owner_id sc o k i at is =
     let same : Some (get_or sc.owners k none).id ≡ Some i = sym (ap (option_map (λ (e : OwnerEntry). e.id)) here) ∙ is in
     sym (same_some (get_or sc.owners k none).id i same) ∙ (Decides-eqb (get_or sc.owners k none).id o).0 found.1
 
-fresh_lanes : (sc : SchemeValue) (d : ℕ) (x : DeviceValue) → x ≡ fresh_device x.id sc.start (length sc.owners) → x.id ≡ d → IsDeviceOf sc d ((start sc).devices d) x
-fresh_lanes sc d x fresh id = record {
+fresh_lanes : (sc : SchemeValue) (d : ℕ) (x : DeviceValue) → x ≡ fresh_device x.id sc.start x.room (length sc.owners) → buffer_of sc x.id ≡ Some x.room → x.id ≡ d → IsDeviceOf sc d ((start sc).devices d) x
+fresh_lanes sc d x fresh room id = record {
   id = id;
   day = ap (λ (z : DeviceValue). z.day) fresh;
   waiting = ap (λ (z : DeviceValue). z.waiting) fresh;
+  room = sym (ap (buffer_of sc) id) ∙ room;
   base = ap (λ (z : DeviceValue). z.base) fresh;
   cursor = ap (λ (z : DeviceValue). z.cursor) fresh;
   lanes = λ o k n at e. slice_get-replicate (length sc.owners) 0 k n (ap (λ (z : DeviceValue). slice_get z.lanes k) (sym fresh) ∙ e);
@@ -90,7 +91,7 @@ starts w devices nexts air inbox hand upto rows owners = record {
       where
         found : (o : Option DeviceValue) → slice_get w.devices.items k ≡ o → ShowsDevice sc d ((start sc).devices d) o
         found None e = refl
-        found (Some x) e = let is = devices.each k x e in fresh_lanes sc d x is.fresh (device_id sc d k x.id at is.at)
+        found (Some x) e = let is = devices.each k x e in fresh_lanes sc d x is.fresh is.room (device_id sc d k x.id at is.at)
 
     next : (p : Option ℕ) → IfSome (entry p w.nexts.items) (λ n. n ≡ 1)
     next None = tt

@@ -1,6 +1,6 @@
 -- The parts of a new world.
 use Rattle.std.specs.Prelude.{◌≡◌, ℕ, List, [], Some, None, length, slice_get, option_map, replicate}
-use Rattle.fare_device.specs.SchemeWords.{SchemeValue}
+use Rattle.fare_device.specs.SchemeWords.{SchemeValue, buffer_of}
 use Rattle.fare_device.specs.DeviceWords.{DeviceValue, fresh_device}
 use Rattle.fare_world.specs.declared.owner.Owner.{Owner}
 use Rattle.fare_world.specs.Tables.{taken_in}
@@ -8,7 +8,8 @@ use Rattle.fare_world.specs.Tables.{taken_in}
 -- the device at a position of the scheme, fresh
 pub record IsFreshDevice (sc : SchemeValue) (k : ℕ) (x : DeviceValue) : Type 0 where
   pub at : option_map (λ e. e.id) (slice_get sc.devices k) ≡ Some x.id
-  pub fresh : x ≡ fresh_device x.id sc.start (length sc.owners)
+  pub room : buffer_of sc x.id ≡ Some x.room
+  pub fresh : x ≡ fresh_device x.id sc.start x.room (length sc.owners)
 
 pub record AreFreshDevices (sc : SchemeValue) (xs : List DeviceValue) : Type 0 where
   pub count : length xs ≡ length sc.devices

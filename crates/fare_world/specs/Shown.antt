@@ -3,7 +3,7 @@ use Rattle.std.specs.Prelude.{◌≡◌, ℕ, ◌+◌, ◌-◌, ◌≤◌, List,
 use Rattle.std.specs.List.{AllByRecursion}
 use Rattle.fare_record.specs.Values.{RecordValue}
 use Rattle.fare_record.specs.Lanes.{part}
-use Rattle.fare_device.specs.SchemeWords.{SchemeValue, position_of_owner}
+use Rattle.fare_device.specs.SchemeWords.{SchemeValue, buffer_of, position_of_owner}
 use Rattle.fare_device.specs.DeviceWords.{DeviceValue}
 use Rattle.fare_world.specs.System.{Packet, Tapped, Arrived, Tap_of, Routed, Lane_of, DeviceState, OwnerState, LaneState, System, numbered_for, arrived_of}
 
@@ -102,6 +102,7 @@ pub record IsDeviceOf (sc : SchemeValue) (device : ℕ) (v : DeviceState) (x : D
   pub id : x.id ≡ device
   pub day : x.day ≡ v.day
   pub waiting : x.waiting ≡ drop v.base v.taps
+  pub room : buffer_of sc device ≡ Some x.room
   pub base : x.base ≡ v.base
   pub cursor : x.cursor ≡ v.cursor
   pub lanes : (owner place n : ℕ) → position_of_owner sc owner ≡ Some place → slice_get x.lanes place ≡ Some n → n ≡ length (part owner v.taps)

@@ -1,11 +1,11 @@
 -- What each event does to the system of numbers, and its reply: the refusals in order, each once.
-use Rattle.std.specs.Prelude.{ℕ, ◌+◌, ◌-◌, ◌==◌, Bool, List, [], ◌∷◌, ◌++◌, length, Option, Some, None, if◌then◌else◌, slice_get, nat_lt, is_some}
+use Rattle.std.specs.Prelude.{ℕ, ◌+◌, ◌-◌, ◌==◌, Bool, List, [], ◌∷◌, ◌++◌, length, Option, Some, None, if◌then◌else◌, slice_get, nat_le, nat_lt, is_some, unwrap_or}
 use Rattle.fare_record.specs.Values.{RecordValue, TapValue}
-use Rattle.fare_device.specs.SchemeWords.{SchemeValue, owner_of, position_of_device, position_of_owner}
+use Rattle.fare_device.specs.SchemeWords.{SchemeValue, owner_of, buffer_of, position_of_device, position_of_owner}
 use Rattle.fare_device.specs.TrafficDay.{traffic_day_of}
 use Rattle.fare_world.specs.declared.event.Event.{Event}
 use Rattle.fare_world.specs.declared.event.Event.TheVariants as event
-use Rattle.fare_world.specs.declared.reply.Refusal.TheVariants.{UnknownDevice, UnknownOwner, BadMoment, UnknownProduct, DayClosed, DayAhead, NumbersSpent, NoPacket, Old, Ahead, HandFull, Duplicate, Gap}
+use Rattle.fare_world.specs.declared.reply.Refusal.TheVariants.{UnknownDevice, UnknownOwner, BadMoment, UnknownProduct, DayClosed, DayAhead, NumbersSpent, BufferFull, NoPacket, Old, Ahead, HandFull, Duplicate, Gap}
 use Rattle.fare_world.specs.declared.reply.Reply.{Reply}
 use Rattle.fare_world.specs.declared.reply.Reply.TheVariants.{Idle, Empty, Refused, Recorded, Sent, Accepted, Drawn, Stored, Forwarded, Fetched, Taken, Upto, Count}
 use Rattle.fare_world.specs.System.{put, put2, Packet, Tapped, Arrived, Tap_of, Routed, Lane_of, System, numbered_for, arrived_of}
@@ -31,19 +31,27 @@ next_record s device owner tap = record {
 abbrev pub with_tap : System → ℕ → RecordValue → System
 with_tap s device r = record s { devices = put s.devices device (record (s.devices device) { taps = (s.devices device).taps ++ r ∷ [] }) }
 
-abbrev pub tap_for : System → ℕ → TapValue → Option ℕ → System × Reply
-tap_for s device tap None = (s, Refused UnknownProduct)
-tap_for s device tap (Some owner) =
+-- how many taps the device keeps until they are acknowledged
+abbrev pub room_of : SchemeValue → ℕ → ℕ
+room_of sc device = unwrap_or (buffer_of sc device) 0
+
+-- how many of its taps are not acknowledged
+abbrev pub waiting_count : System → ℕ → ℕ
+waiting_count s device = length (s.devices device).taps - (s.devices device).base
+
+abbrev pub tap_for : System → ℕ → ℕ → TapValue → Option ℕ → System × Reply
+tap_for s device room tap None = (s, Refused UnknownProduct)
+tap_for s device room tap (Some owner) =
     if nat_lt tap.day (s.devices device).day then (s, Refused DayClosed) else
     if nat_lt (s.devices device).day tap.day then (s, Refused DayAhead) else
-    if nat_lt (length (s.devices device).taps) 1099511627775 then
+    if nat_le 1099511627775 (length (s.devices device).taps) then (s, Refused NumbersSpent) else
+    if nat_le room (waiting_count s device) then (s, Refused BufferFull) else
     (with_tap s device (next_record s device owner tap), Recorded (length (s.devices device).taps + 1) (length (numbered_for s owner device) + 1))
-    else (s, Refused NumbersSpent)
 
 abbrev pub tap_on : SchemeValue → System → ℕ → ℕ → ℕ → ℕ → Option ℕ → System × Reply
 tap_on sc s device product token moment None = (s, Refused BadMoment)
 tap_on sc s device product token moment (Some day) =
-    tap_for s device (record { product = product; token = token; moment = moment; day = day }) (owner_of sc product)
+    tap_for s device (room_of sc device) (record { product = product; token = token; moment = moment; day = day }) (owner_of sc product)
 
 abbrev pub tap : SchemeValue → System → ℕ → ℕ → ℕ → ℕ → System × Reply
 tap sc s device product token moment =

@@ -24,6 +24,8 @@ pub enum Refusal {
     DayAhead,
     /// The device has given out all link numbers.
     NumbersSpent,
+    /// As many taps as the device's buffer holds wait for their acknowledgement.
+    BufferFull,
     /// The air has no packet of this number.
     NoPacket,
     /// The station has accepted this link before.

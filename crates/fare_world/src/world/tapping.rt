@@ -32,7 +32,7 @@ impl World {
             Err(TapRefusal::DayClosed) => Ok(Reply::Refused(Refusal::DayClosed)),
             Err(TapRefusal::DayAhead) => Ok(Reply::Refused(Refusal::DayAhead)),
             Err(TapRefusal::NumbersSpent) => Ok(Reply::Refused(Refusal::NumbersSpent)),
-            Err(TapRefusal::Memory) => Err(Fault::Memory),
+            Err(TapRefusal::BufferFull) => Ok(Reply::Refused(Refusal::BufferFull)),
         }
     }
 

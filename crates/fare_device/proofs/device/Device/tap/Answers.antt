@@ -13,8 +13,10 @@ invariant_of-self-2 c =
     let longer : length c.push.new.self.items ≡ length c.self.inside.waiting.items + 1 = grind (arith, common_steps) in
     let lane : c.index.result.now ≤ c.self.inside.base + length c.self.inside.waiting.items =
     was.lanes place c.index.result.now (slice_get_read lanes (length lanes) place c.index.result.now refl here c.index.ensures) in
+    let within : length c.push.new.self.items ≤ c.push.new.self.capacity = grind (arith, common_steps, was.within) in
     record {
       few = omega arith;
+      within = within;
       base = was.base;
       cursor = omega (arith, was.cursor);
       lanes = λ k n e.

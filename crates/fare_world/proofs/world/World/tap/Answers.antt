@@ -65,3 +65,11 @@ returns-in-Err-NumbersSpent c =
     let e = c.in-Err-NumbersSpent in
     stepped w _ _ _ refl (λ s sh. world_refused w s c.args.device c.in-Some.place c.args.product c.args.token c.args.moment c.in-Ok.day c.index_mut.result.now c.tap.new.self e.field-0 _ sh
     (sym c.device_position.ensures.value ∙ c.in-Some.is) within c.index_mut.ensures.value c.in-Ok.ensures e.ensures.err e.ensures.cause e.field-0-is)
+
+pub returns-in-Err-BufferFull : goal.returns-in-Err-BufferFull
+returns-in-Err-BufferFull c =
+    let w = c.args.self.now in
+    let within : c.in-Some.place < length w.devices.items = omega (arith, c.in-Some.ensures.within, w.rooms.device_count) in
+    let e = c.in-Err-BufferFull in
+    stepped w _ _ _ refl (λ s sh. world_refused w s c.args.device c.in-Some.place c.args.product c.args.token c.args.moment c.in-Ok.day c.index_mut.result.now c.tap.new.self e.field-0 _ sh
+    (sym c.device_position.ensures.value ∙ c.in-Some.is) within c.index_mut.ensures.value c.in-Ok.ensures e.ensures.err e.ensures.cause e.field-0-is)
