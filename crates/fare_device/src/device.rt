@@ -1,10 +1,12 @@
-ghost use Rattle.std.specs.Prelude.{◌≡◌, ◌↔◌, ◌+◌, ◌-◌, ℕ, None, IsSome, IfSome, IfNone, IfOk, IfErr, OnErr, length, slice_get};
+ghost use Rattle.std.specs.Prelude.{◌≡◌, ◌↔◌, ◌+◌, ◌-◌, ℕ, None, IsSome, IfNone, IfOk, IfErr, OnErr, length, option_map, slice_get};
+ghost use Rattle.fare_frame.specs.declared.frame.Frame.TheVariants.{Tapped};
 ghost use Rattle.fare_device.specs.SchemeWords.{buffer_of, position_of_device};
 ghost use Rattle.fare_device.specs.DeviceWords.{fresh_device, last_link};
 ghost use Rattle.fare_device.specs.Tapping.{IsTapped, TapRefused};
 
 use crate::Scheme;
 use fare_buffer::{Waiting, WaitingFault};
+use fare_frame::Frame;
 use fare_record::{Day, DeviceId, LAST_NUMBER, Moment, ProductId, Record, Tap, Token};
 use std::alloc::Global;
 use std::marker::Model;
@@ -99,6 +101,13 @@ impl Device {
         self.id
     }
 
+    /// The greatest link that was sent, 0 where none was.
+    pub fn sent(&self) -> u64
+        ensures { result ≡ self.now.cursor }
+    {
+        self.cursor
+    }
+
     /// Numbers a tap and keeps it at the end of those that wait. `day` is the traffic day of `moment`, and
     /// the scheme is the one that the device was made with. Answers the numbered record, or the first refusal
     /// that applies, in the order `UnknownProduct`, `DayClosed`, `DayAhead`, `NumbersSpent`,
@@ -143,10 +152,11 @@ impl Device {
         Ok(numbered)
     }
 
-    /// The first tap that was not sent, which counts as sent from now on; None where all were sent.
-    pub fn next_frame(&mut self) -> Option<Record>
-        ensures some { IfSome result (λ r. slice_get self.old.waiting (self.old.cursor - self.old.base) ≡ Some r) }
-        ensures moves { IfSome result (λ _. self.new ≡ record self.old { cursor = self.old.cursor + 1 }) }
+    /// The frame of the first tap that was not sent, which counts as sent from now on; None where all were
+    /// sent.
+    pub fn next_frame(&mut self) -> Option<Frame>
+        ensures value { result ≡ option_map Tapped (slice_get self.old.waiting (self.old.cursor - self.old.base)) }
+        ensures moves { IsSome result → self.new ≡ record self.old { cursor = self.old.cursor + 1 } }
         ensures none { IfNone result (self.old.cursor ≡ last_link self.old) }
         ensures stays { IfNone result (self.new ≡ self.old) }
         ensures lanes { length self.new.lanes ≡ length self.old.lanes }
@@ -154,6 +164,6 @@ impl Device {
         let place = (self.cursor - self.base) as usize;
         let record = self.waiting.get(place)?;
         self.cursor += 1;
-        Some(record)
+        Some(Frame::Tapped(record))
     }
 }

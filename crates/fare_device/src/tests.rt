@@ -1,4 +1,5 @@
 use super::*;
+use fare_frame::Frame;
 use fare_record::{DeviceId, Moment, ProductId, Token};
 use std::test::Fail;
 
@@ -14,7 +15,7 @@ fn a_device_numbers_sends_and_refuses(rt: HostRuntime) -> Result<(), Fail> {
     let mut device = Device::new(rt.alloc(), id, &scheme)?;
     let row = device.tap(&scheme, product, token, moment, day)?;
     assert_eq!(rt; (row.link(), row.lane()), (1, 1));
-    assert_eq!(rt; device.next_frame(), Some(row));
+    assert_eq!(rt; device.next_frame(), Some(Frame::Tapped(row)));
     assert_eq!(rt; device.next_frame(), None);
     Ok(())
 }

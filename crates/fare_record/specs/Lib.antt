@@ -1,5 +1,6 @@
 pub mod Limits
 pub mod Values
+pub mod Lawful
 pub mod Lanes
 pub mod Bodies
 pub mod Wide

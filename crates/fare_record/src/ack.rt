@@ -1,5 +1,6 @@
 ghost use Rattle.std.specs.Prelude.{◌≡◌, None, Some, MatchResult, IfOk};
 ghost use Rattle.fare_record.specs.Limits.{IsCount};
+ghost use Rattle.fare_record.specs.Lawful.{IsLawfulAck};
 ghost use Rattle.fare_record.specs.Bodies.{ack_bytes, ack_in, ack_fault};
 
 use crate::fields::{u32_at, u64_at};
@@ -53,7 +54,8 @@ impl Ack {
 
     /// Its body of 12 bytes, the highest byte of each number first: device u32, link u64.
     pub fn encode(&self) -> [u8; 12]
-        ensures { result ≡ ack_bytes self.now }
+        ensures spelled { result ≡ ack_bytes self.now }
+        ensures lawful { IsLawfulAck self.now }
     {
         let mut bytes = [0; 12];
         BigEndian::write_u32(&mut bytes[0..4], self.device.get());

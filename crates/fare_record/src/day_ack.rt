@@ -1,4 +1,5 @@
 ghost use Rattle.std.specs.Prelude.{◌≡◌, None, Some, MatchResult, IfOk};
+ghost use Rattle.fare_record.specs.Lawful.{IsLawfulDayAck};
 ghost use Rattle.fare_record.specs.Bodies.{day_ack_bytes, day_ack_in, day_ack_fault};
 
 use crate::fields::u32_at;
@@ -47,7 +48,8 @@ impl DayAck {
 
     /// Its body of 8 bytes, the highest byte of each number first: device u32, day u32.
     pub fn encode(&self) -> [u8; 8]
-        ensures { result ≡ day_ack_bytes self.now }
+        ensures spelled { result ≡ day_ack_bytes self.now }
+        ensures lawful { IsLawfulDayAck self.now }
     {
         let mut bytes = [0; 8];
         BigEndian::write_u32(&mut bytes[0..4], self.device.get());

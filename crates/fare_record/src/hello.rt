@@ -1,4 +1,5 @@
 ghost use Rattle.std.specs.Prelude.{◌≡◌, None, Some, MatchResult, IfOk};
+ghost use Rattle.fare_record.specs.Lawful.{IsLawfulHello};
 ghost use Rattle.fare_record.specs.Bodies.{hello_bytes, hello_in, hello_fault};
 
 use crate::fields::{u16_at, u32_at};
@@ -14,11 +15,14 @@ pub struct Hello {
 }
 
 impl Model for Hello {
+    ghost use Rattle.std.specs.Prelude.{◌<◌};
     ghost use Rattle.fare_record.specs.Values.{HelloValue};
 
     ghost Value = { HelloValue };
 
     ghost view = { λ h. record { device = h.device; version = h.version } };
+
+    ghost invariant = { λ h. h.version < 65536 };
 
     ghost inverse = { λ v. record { device = v.device; version = v.version } };
 }
@@ -47,7 +51,8 @@ impl Hello {
 
     /// Its body of 6 bytes, the highest byte of each number first: device u32, version u16.
     pub fn encode(&self) -> [u8; 6]
-        ensures { result ≡ hello_bytes self.now }
+        ensures spelled { result ≡ hello_bytes self.now }
+        ensures lawful { IsLawfulHello self.now }
     {
         let mut bytes = [0; 6];
         BigEndian::write_u32(&mut bytes[0..4], self.device.get());

@@ -1,6 +1,7 @@
 ghost use Rattle.std.specs.Prelude.{◌≡◌, Some, None, MatchResult, IfOk, not};
 ghost use Rattle.fare_record.specs.Limits.{IsNumber};
 ghost use Rattle.fare_record.specs.Fields.{record_of};
+ghost use Rattle.fare_record.specs.Lawful.{IsLawfulRecord};
 ghost use Rattle.fare_record.specs.Bodies.{no_number, record_bytes, record_in, record_fault};
 
 use crate::fields::{u16_at, u32_at, u64_at};
@@ -90,7 +91,8 @@ impl Record {
     /// Its body of 46 bytes, the highest byte of each number first: device u32, link u64, owner u16, lane
     /// u64, product u32, token u64, moment u64, day u32.
     pub fn encode(&self) -> [u8; 46]
-        ensures { result ≡ record_bytes self.now }
+        ensures spelled { result ≡ record_bytes self.now }
+        ensures lawful { IsLawfulRecord self.now }
     {
         let mut bytes = [0; 46];
         BigEndian::write_u32(&mut bytes[0..4], self.device.get());

@@ -1,5 +1,6 @@
 ghost use Rattle.std.specs.Prelude.{◌≡◌, None, Some, MatchResult, IfOk};
 ghost use Rattle.fare_record.specs.Limits.{IsCount};
+ghost use Rattle.fare_record.specs.Lawful.{IsLawfulStatement};
 ghost use Rattle.fare_record.specs.Bodies.{statement_bytes, statement_in, statement_fault};
 
 use crate::fields::{u16_at, u32_at, u64_at};
@@ -74,7 +75,8 @@ impl Statement {
 
     /// Its body of 18 bytes, the highest byte of each number first: device u32, day u32, owner u16, count u64.
     pub fn encode(&self) -> [u8; 18]
-        ensures { result ≡ statement_bytes self.now }
+        ensures spelled { result ≡ statement_bytes self.now }
+        ensures lawful { IsLawfulStatement self.now }
     {
         let mut bytes = [0; 18];
         BigEndian::write_u32(&mut bytes[0..4], self.device.get());

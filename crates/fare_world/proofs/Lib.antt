@@ -10,3 +10,4 @@ pub mod ShowCollect
 pub mod ShowForward
 pub mod Running
 pub mod Starting
+pub mod Packets

@@ -13,7 +13,8 @@ use Rattle.fare_world.specs.declared.reply.Refusal.TheVariants.{NoPacket, Old, A
 use Rattle.fare_world.specs.declared.reply.Reply.{Reply}
 use Rattle.fare_world.specs.declared.reply.Reply.TheVariants.{Idle, Empty, Refused, Accepted, Drawn, Stored}
 use Rattle.fare_world.specs.declared.world.World.{World}
-use Rattle.fare_world.specs.System.{put, put2, Tapped, Tap_of, DeviceState, System, numbered_for, arrived_of}
+use Rattle.fare_world.specs.System.{put, put2, Packet, Tapped, Tap_of, DeviceState, System, numbered_for, arrived_of}
+use Rattle.fare_world.specs.Packets.{bytes_at, IsTapRead}
 use Rattle.fare_world.specs.Steps.{accepted, comes, packet_at, arrive, draw_from, draw, stored, store_from, store}
 use Rattle.fare_world.specs.Stores.{IsStored}
 use Rattle.fare_world.specs.Rooms.{HasRooms}
@@ -27,37 +28,45 @@ use Rattle.fare_world.proofs.Lists.{Each2-weaken, IfSome-weaken}
 use Rattle.fare_world.specs.Shown.{IsOwnerOf}
 
 -- ARRIVE
--- the packet of a number, of the records in the air
-abbrev pub row_at : List RecordValue → ℕ → Option RecordValue
-row_at air n = if n == 0 then None else slice_get air (n - 1)
-
-packets_match : (sc : SchemeValue) (h : Shape) (s : System) (n : ℕ) → Shows sc h s → Both (IsPacketOf s.devices) (packet_at s n) (row_at h.air n)
+packets_match : (sc : SchemeValue) (h : Shape) (s : System) (n : ℕ) → Shows sc h s → Both (IsPacketOf s.devices) (packet_at s n) (bytes_at h.air n)
 packets_match sc h s n w = match_if (n == 0)
   where
     match_if : (b : Bool) → Both (IsPacketOf s.devices) (if b then None else slice_get s.air (n - 1)) (if b then None else slice_get h.air (n - 1))
     match_if true = tt
     match_if false = Each2-get (IsPacketOf s.devices) s.air h.air (n - 1) w.air
 
-pub shown_no_packet : (sc : SchemeValue) (h : Shape) (s : System) (n : ℕ) → Shows sc h s → row_at h.air n ≡ None → Answers sc h (arrive s n) (Refused NoPacket)
-shown_no_packet sc h s n w none =
-    let found = Both-none (IsPacketOf s.devices) (packet_at s n) (subst (Both (IsPacketOf s.devices) (packet_at s n)) none (packets_match sc h s n w)) in
-    answers_by sc h (Refused NoPacket) (arrive s n) (s, Refused NoPacket) (ap (comes s) found) refl w
+-- no tap was read where there is no packet, and only there
+none_read : (s : System) (x : Option Packet) (bytes : Option (List ℕ)) → Both (IsPacketOf s.devices) x bytes → IsTapRead bytes None → x ≡ None
+none_read s x None both read = Both-none (IsPacketOf s.devices) x both
+none_read s None (Some bytes) both read = refl
+none_read s (Some (Tapped d k)) (Some bytes) both read = absurd (nothing both.tap (read both.tap both.lawful both.spelled))
+  where
+    nothing : (r : RecordValue) → None ≡ Some r → ⊥
+    nothing r e = absurd (cc)
+
+pub shown_no_packet : (sc : SchemeValue) (h : Shape) (s : System) (n : ℕ) → Shows sc h s → IsTapRead (bytes_at h.air n) None → Answers sc h (arrive s n) (Refused NoPacket)
+shown_no_packet sc h s n w read =
+    answers_by sc h (Refused NoPacket) (arrive s n) (s, Refused NoPacket) (ap (comes s) (none_read s (packet_at s n) (bytes_at h.air n) (packets_match sc h s n w) read)) refl w
+
+tap_read : (s : System) (x : Option Packet) (bytes : Option (List ℕ)) (r : RecordValue) → IsSystem s → Both (IsPacketOf s.devices) x bytes → IsTapRead bytes (Some r) → (x ≡ Some (Tapped r.device r.link)) × IsAt (s.devices r.device).taps r.link r
+tap_read s x None r is both read = absurd (cc)
+tap_read s None (Some bytes) r is both read = absurd both
+tap_read s (Some x) (Some bytes) r is both read = let t = packet_is s x bytes r is both read in (ap Some t.0, t.1)
 
 -- the packet is the tap of the record's numbers
-packet_found : (sc : SchemeValue) (h : Shape) (s : System) (n : ℕ) (r : RecordValue) → Shows sc h s → row_at h.air n ≡ Some r → (arrive s n ≡ comes s (Some (Tapped r.device r.link))) × IsAt (s.devices r.device).taps r.link r
+packet_found : (sc : SchemeValue) (h : Shape) (s : System) (n : ℕ) (r : RecordValue) → Shows sc h s → IsTapRead (bytes_at h.air n) (Some r) → (arrive s n ≡ comes s (Some (Tapped r.device r.link))) × IsAt (s.devices r.device).taps r.link r
 packet_found sc h s n r w some =
-    let found = Both-some (IsPacketOf s.devices) (packet_at s n) r (subst (Both (IsPacketOf s.devices) (packet_at s n)) some (packets_match sc h s n w)) in
-    let is = packet_is s found.0 r w.system found.2 in
-    (ap (comes s) (found.1 ∙ ap Some is.0), is.1)
+    let found = tap_read s (packet_at s n) (bytes_at h.air n) r w.system (packets_match sc h s n w) some in
+    (ap (comes s) found.0, found.1)
 
 -- a device that is not registered has sent nothing
-pub no_stranger : (sc : SchemeValue) (h : Shape) (s : System) (n : ℕ) (r : RecordValue) → Shows sc h s → row_at h.air n ≡ Some r → h.devices r.device ≡ None → ⊥
+pub no_stranger : (sc : SchemeValue) (h : Shape) (s : System) (n : ℕ) (r : RecordValue) → Shows sc h s → IsTapRead (bytes_at h.air n) (Some r) → h.devices r.device ≡ None → ⊥
 no_stranger sc h s n r w some none = nothing (s.devices r.device).taps (subst (ShowsDevice sc r.device (s.devices r.device)) none (w.devices r.device)) (packet_found sc h s n r w some).1.here
   where
     nothing : (taps : List RecordValue) → taps ≡ [] → slice_get taps (r.link - 1) ≡ Some r → ⊥
     nothing taps e f = let g : slice_get [] (r.link - 1) ≡ Some r = subst (λ l. slice_get l (r.link - 1) ≡ Some r) e f in absurd (cc)
 
-pub shown_old : (sc : SchemeValue) (h : Shape) (s : System) (n next : ℕ) (r : RecordValue) → Shows sc h s → row_at h.air n ≡ Some r → h.nexts r.device ≡ Some next → r.link < next → Answers sc h (arrive s n) (Refused Old)
+pub shown_old : (sc : SchemeValue) (h : Shape) (s : System) (n next : ℕ) (r : RecordValue) → Shows sc h s → IsTapRead (bytes_at h.air n) (Some r) → h.nexts r.device ≡ Some next → r.link < next → Answers sc h (arrive s n) (Refused Old)
 shown_old sc h s n next r w some at lt =
     let is = subst (λ o. IfSome o (λ m. m ≡ (s.devices r.device).next)) at (w.nexts r.device) in
     let low : r.link < (s.devices r.device).next = omega arith in
@@ -66,7 +75,7 @@ shown_old sc h s n next r w some at lt =
     goes : r.link < (s.devices r.device).next → comes s (Some (Tapped r.device r.link)) ≡ (s, Refused Old)
     goes low = grind (arith, nat_tests)
 
-pub shown_ahead : (sc : SchemeValue) (h : Shape) (s : System) (n next : ℕ) (r : RecordValue) → Shows sc h s → row_at h.air n ≡ Some r → h.nexts r.device ≡ Some next → next < r.link → Answers sc h (arrive s n) (Refused Ahead)
+pub shown_ahead : (sc : SchemeValue) (h : Shape) (s : System) (n next : ℕ) (r : RecordValue) → Shows sc h s → IsTapRead (bytes_at h.air n) (Some r) → h.nexts r.device ≡ Some next → next < r.link → Answers sc h (arrive s n) (Refused Ahead)
 shown_ahead sc h s n next r w some at lt =
     let is = subst (λ o. IfSome o (λ m. m ≡ (s.devices r.device).next)) at (w.nexts r.device) in
     let high : (s.devices r.device).next < r.link = omega arith in
@@ -75,7 +84,7 @@ shown_ahead sc h s n next r w some at lt =
     goes : (s.devices r.device).next < r.link → comes s (Some (Tapped r.device r.link)) ≡ (s, Refused Ahead)
     goes high = grind (arith, nat_tests)
 
-pub shown_accepted : (sc : SchemeValue) (h : Shape) (s : System) (n next : ℕ) (r : RecordValue) → Shows sc h s → row_at h.air n ≡ Some r → h.nexts r.device ≡ Some next → r.link ≡ next → Answers sc (record h { nexts = put h.nexts r.device (Some (r.link + 1)); inbox = h.inbox ++ r ∷ [] }) (arrive s n) Accepted
+pub shown_accepted : (sc : SchemeValue) (h : Shape) (s : System) (n next : ℕ) (r : RecordValue) → Shows sc h s → IsTapRead (bytes_at h.air n) (Some r) → h.nexts r.device ≡ Some next → r.link ≡ next → Answers sc (record h { nexts = put h.nexts r.device (Some (r.link + 1)); inbox = h.inbox ++ r ∷ [] }) (arrive s n) Accepted
 shown_accepted sc h s n next r w some at same =
     answers_by sc (record h { nexts = put h.nexts r.device (Some (r.link + 1)); inbox = h.inbox ++ r ∷ [] }) Accepted (arrive s n) (accepted s d r.link, Accepted) (found.0 ∙ goes now) refl
     (record {
@@ -288,7 +297,7 @@ next_read w d k n at within e = ap (λ o. entry o w.nexts.items) at ∙ slice_ge
 pub no_device : (w : World) (d : ℕ) → position_of_device w.scheme d ≡ None → (shape w).devices d ≡ None
 no_device w d none = ap (λ o. entry o w.devices.items) none
 
-pub world_accepted : (w : World) (s : System) (n k next : ℕ) (r : RecordValue) (link : ℕ) (inbox : List RecordValue) → Shows w.scheme (shape w) s → row_at w.air.items n ≡ Some r → position_of_device w.scheme r.device ≡ Some k → k < length w.nexts.items → next ≡ get_or w.nexts.items k next → r.link ≡ next → link ≡ r.link + 1 → inbox ≡ w.inbox.items ++ r ∷ []
+pub world_accepted : (w : World) (s : System) (n k next : ℕ) (r : RecordValue) (link : ℕ) (inbox : List RecordValue) → Shows w.scheme (shape w) s → IsTapRead (bytes_at w.air.items n) (Some r) → position_of_device w.scheme r.device ≡ Some k → k < length w.nexts.items → next ≡ get_or w.nexts.items k next → r.link ≡ next → link ≡ r.link + 1 → inbox ≡ w.inbox.items ++ r ∷ []
     → Answers w.scheme (record (shape w) { nexts = λ e. entry (position_of_device w.scheme e) (set w.nexts.items k link); inbox = inbox }) (arrive s n) Accepted
 world_accepted w s n k next r link inbox sh some at within read same is pushed =
     subst (λ (q : (ℕ → Option ℕ) × List RecordValue). Answers w.scheme (record (shape w) { nexts = q.0; inbox = q.1 }) (arrive s n) Accepted) (λ i. (sym written i, sym pushed i))

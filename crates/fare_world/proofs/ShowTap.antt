@@ -1,6 +1,6 @@
 -- What a world shows after a tap and a send.
 use Rattle.std.proofs.Common.{◌≡◌, ◌≢◌, ℕ, ◌+◌, ◌-◌, ◌<◌, ◌≤◌, List, [], ◌∷◌, ◌++◌, length, take, set, get_or, Some, None, true, false, refl, sym, ap, ◌∙◌, subst, arith}
-use Rattle.std.specs.Prelude.{◌==◌, slice_get, slice_index, if◌then◌else◌, Option, IfSome, is_some, unwrap_or}
+use Rattle.std.specs.Prelude.{◌==◌, slice_get, slice_index, if◌then◌else◌, Option, IfSome, is_some, option_map, unwrap_or}
 use Rattle.std.proofs.lemmas.Bool.Decides.{nat_tests, Decides-eqb}
 use Rattle.std.proofs.lemmas.List.{take-append-le, length-drop, length_push}
 use Rattle.std.proofs.lemmas.List.Quantifiers.{position-Some}
@@ -11,6 +11,9 @@ use Rattle.fare_device.specs.SchemeWords.{SchemeValue, OwnerEntry, owner_of, pos
 use Rattle.fare_device.specs.TrafficDay.{traffic_day_of}
 use Rattle.fare_device.specs.DeviceWords.{DeviceValue, last_link}
 use Rattle.fare_device.specs.Tapping.{IsTapped}
+use Rattle.fare_frame.specs.Grammar.{frame_bytes, IsFrame}
+use Rattle.fare_frame.specs.declared.frame.Frame.{Frame}
+use Rattle.fare_frame.specs.declared.frame.Frame.TheVariants as frame
 use Rattle.fare_world.specs.declared.event.Event.TheVariants as event
 use Rattle.fare_world.specs.declared.reply.Refusal.{Refusal}
 use Rattle.fare_world.specs.declared.reply.Refusal.TheVariants.{UnknownDevice, BadMoment, UnknownProduct, DayClosed, DayAhead, NumbersSpent, BufferFull}
@@ -208,14 +211,14 @@ shown_idle sc h s d k x w at here all =
     let sd = device_shown sc h s d x w here in
     answers_by sc h Idle (send sc s d) (s, Idle) (send_known sc s d k at ∙ send_rests s d (omega (arith, sd.cursor, last_link_is sc d (s.devices d) x (w.system.devices d) sd))) refl w
 
-pub shown_send : (sc : SchemeValue) (h : Shape) (s : System) (d k : ℕ) (x : DeviceValue) (r : RecordValue) (n : ℕ) → Shows sc h s → position_of_device sc d ≡ Some k → h.devices d ≡ Some x → slice_get x.waiting (x.cursor - x.base) ≡ Some r → n ≡ length h.air + 1 → Answers sc (record h { devices = put h.devices d (Some (record x { cursor = x.cursor + 1 })); air = h.air ++ r ∷ [] }) (send sc s d) (Sent n r.link)
-shown_send sc h s d k x r n w at here e count =
-    answers_by sc (record h { devices = put h.devices d (Some new); air = h.air ++ r ∷ [] }) (Sent n r.link) (send sc s d) (sent s d, Sent (length s.air + 1) (v.cursor + 1)) goes (λ i. Sent (number i) (link i))
+pub shown_send : (sc : SchemeValue) (h : Shape) (s : System) (d k : ℕ) (x : DeviceValue) (r : RecordValue) (n : ℕ) → Shows sc h s → position_of_device sc d ≡ Some k → h.devices d ≡ Some x → slice_get x.waiting (x.cursor - x.base) ≡ Some r → IsFrame (frame.Tapped r) → n ≡ length h.air + 1 → Answers sc (record h { devices = put h.devices d (Some (record x { cursor = x.cursor + 1 })); air = h.air ++ frame_bytes (frame.Tapped r) ∷ [] }) (send sc s d) (Sent n (x.cursor + 1))
+shown_send sc h s d k x r n w at here e lawful count =
+    answers_by sc (record h { devices = put h.devices d (Some new); air = h.air ++ frame_bytes (frame.Tapped r) ∷ [] }) (Sent n (x.cursor + 1)) (send sc s d) (sent s d, Sent (length s.air + 1) (v.cursor + 1)) goes (λ i. Sent (number i) (link i))
     (record {
       system = system;
       devices = devices.devices;
       nexts = devices.nexts;
-      air = Each2-push (IsPacketOf g) s.air h.air (Tapped d (v.cursor + 1)) r devices.air (subst (λ l. IsAt l (v.cursor + 1) r) (ap (λ (z : DeviceState). z.taps) (sym (put_here s.devices d after))) (record { positive = omega arith; here = ap (slice_get v.taps) (omega arith) ∙ place }));
+      air = Each2-push (IsPacketOf g) s.air h.air (Tapped d (v.cursor + 1)) (frame_bytes (frame.Tapped r)) devices.air (record { tap = r; at = at_end; lawful = lawful; spelled = refl });
       inbox = devices.inbox;
       hand = devices.hand;
       upto = devices.upto;
@@ -246,6 +249,9 @@ shown_send sc h s d k x r n w at here e count =
         let from : v.cursor ≡ v.base + (x.cursor - x.base) = omega (arith, sd.cursor, sd.base, is.base) in
         ap (slice_get v.taps) from ∙ sym (slice_get-drop v.base v.taps (x.cursor - x.base)) ∙ ap (λ l. slice_get l (x.cursor - x.base)) (sym sd.waiting) ∙ e
 
+    at_end : IsAt (g d).taps (v.cursor + 1) r
+    at_end = subst (λ l. IsAt l (v.cursor + 1) r) (ap (λ (z : DeviceState). z.taps) (sym (put_here s.devices d after))) (record { positive = omega arith; here = ap (slice_get v.taps) (omega arith) ∙ place })
+
     unsent : v.cursor < length v.taps
     unsent = slice_get_within v.taps v.cursor r place
 
@@ -255,8 +261,8 @@ shown_send sc h s d k x r n w at here e count =
     number : n ≡ length s.air + 1
     number = count ∙ ap (λ j. j + 1) (sym (length-Each2 (IsPacketOf s.devices) s.air h.air w.air))
 
-    link : r.link ≡ v.cursor + 1
-    link = (is.numbered v.cursor r place).link
+    link : x.cursor + 1 ≡ v.cursor + 1
+    link = ap (λ j. j + 1) sd.cursor
 
     system : IsSystem (sent s d)
     system = subst (λ (y : System × Reply). IsSystem y.0) goes (moves_step sc s (event.Send d) w.system).system
@@ -315,20 +321,30 @@ world_refused w s d k p t m day x new e f sh at within read dated same cause is 
     subst (λ (q : (ℕ → Option DeviceValue) × TapRefusal). AnswersRefused w q.0 s d p t m q.1) (λ i. (sym (device_same w k x new read same) i, is i))
     (refused_as_it_was w s d k p t m day x e sh at (device_read w d k x at within read) dated cause)
 
-pub world_sent : (w : World) (s : System) (d k : ℕ) (x new : DeviceValue) (r : RecordValue) (air : List RecordValue) (n link : ℕ) → Shows w.scheme (shape w) s → position_of_device w.scheme d ≡ Some k → k < length w.devices.items → x ≡ get_or w.devices.items k x → slice_get x.waiting (x.cursor - x.base) ≡ Some r → new ≡ record x { cursor = x.cursor + 1 } → air ≡ w.air.items ++ r ∷ [] → n ≡ length air → link ≡ r.link
+pub world_sent : (w : World) (s : System) (d k : ℕ) (x new : DeviceValue) (f : Frame) (air : List (List ℕ)) (n link : ℕ) → Shows w.scheme (shape w) s → position_of_device w.scheme d ≡ Some k → k < length w.devices.items → x ≡ get_or w.devices.items k x → option_map frame.Tapped (slice_get x.waiting (x.cursor - x.base)) ≡ Some f → IsFrame f → new ≡ record x { cursor = x.cursor + 1 } → air ≡ w.air.items ++ frame_bytes f ∷ [] → n ≡ length air → link ≡ x.cursor + 1
     → Answers w.scheme (record (shape w) { devices = λ e. entry (position_of_device w.scheme e) (set w.devices.items k new); air = air }) (send w.scheme s d) (Sent n link)
-world_sent w s d k x new r air n link sh at within e place is pushed count same_link =
-    let here = device_read w d k x at within e in
-    let long : n ≡ length w.air.items + 1 = count ∙ ap length pushed ∙ length_push w.air.items r in
-    subst (λ (q : (ℕ → Option DeviceValue) × List RecordValue × ℕ). Answers w.scheme (record (shape w) { devices = q.0; air = q.1 }) (send w.scheme s d) (Sent n q.2))
-    (λ i. ((sym (device_write w d k new at within) ∙ refl) i, sym pushed i, sym same_link i))
-    (subst (λ (y : DeviceValue). Answers w.scheme (record (shape w) { devices = put (shape w).devices d (Some y); air = w.air.items ++ r ∷ [] }) (send w.scheme s d) (Sent n r.link)) (sym is)
-    (shown_send w.scheme (shape w) s d k x r n sh at here place long))
+world_sent w s d k x new f air n link sh at within e next lawful is pushed count same_link = of_tap (slice_get x.waiting (x.cursor - x.base)) refl
+  where
+    long : n ≡ length w.air.items + 1
+    long = count ∙ ap length pushed ∙ length_push w.air.items (frame_bytes f)
 
-pub world_idle : (w : World) (s : System) (d k : ℕ) (x new : DeviceValue) (air : List RecordValue) → Shows w.scheme (shape w) s → position_of_device w.scheme d ≡ Some k → k < length w.devices.items → x ≡ get_or w.devices.items k x → x.cursor ≡ last_link x → new ≡ x → air ≡ w.air.items
+    same_frame : (g : Frame) → Some g ≡ Some f → g ≡ f
+    same_frame g q = cc
+
+    of_tap : (o : Option RecordValue) → slice_get x.waiting (x.cursor - x.base) ≡ o → Answers w.scheme (record (shape w) { devices = λ e. entry (position_of_device w.scheme e) (set w.devices.items k new); air = air }) (send w.scheme s d) (Sent n link)
+    of_tap None place = let none : None ≡ Some f = ap (option_map frame.Tapped) (sym place) ∙ next in absurd (cc)
+    of_tap (Some r) place =
+        let tap : frame.Tapped r ≡ f = same_frame (frame.Tapped r) (ap (option_map frame.Tapped) (sym place) ∙ next) in
+        let sent_bytes : w.air.items ++ frame_bytes (frame.Tapped r) ∷ [] ≡ air = ap (λ g. w.air.items ++ frame_bytes g ∷ []) tap ∙ sym pushed in
+        subst (λ (q : (ℕ → Option DeviceValue) × List (List ℕ) × ℕ). Answers w.scheme (record (shape w) { devices = q.0; air = q.1 }) (send w.scheme s d) (Sent n q.2))
+        (λ i. (sym (device_write w d k new at within) i, sent_bytes i, sym same_link i))
+        (subst (λ (y : DeviceValue). Answers w.scheme (record (shape w) { devices = put (shape w).devices d (Some y); air = w.air.items ++ frame_bytes (frame.Tapped r) ∷ [] }) (send w.scheme s d) (Sent n (x.cursor + 1))) (sym is)
+        (shown_send w.scheme (shape w) s d k x r n sh at (device_read w d k x at within e) place (subst IsFrame (sym tap) lawful) long))
+
+pub world_idle : (w : World) (s : System) (d k : ℕ) (x new : DeviceValue) (air : List (List ℕ)) → Shows w.scheme (shape w) s → position_of_device w.scheme d ≡ Some k → k < length w.devices.items → x ≡ get_or w.devices.items k x → x.cursor ≡ last_link x → new ≡ x → air ≡ w.air.items
     → Answers w.scheme (record (shape w) { devices = λ e. entry (position_of_device w.scheme e) (set w.devices.items k new); air = air }) (send w.scheme s d) Idle
 world_idle w s d k x new air sh at within e all same kept =
-    subst (λ (q : (ℕ → Option DeviceValue) × List RecordValue). Answers w.scheme (record (shape w) { devices = q.0; air = q.1 }) (send w.scheme s d) Idle) (λ i. (sym (device_same w k x new e same) i, sym kept i))
+    subst (λ (q : (ℕ → Option DeviceValue) × List (List ℕ)). Answers w.scheme (record (shape w) { devices = q.0; air = q.1 }) (send w.scheme s d) Idle) (λ i. (sym (device_same w k x new e same) i, sym kept i))
     (shown_idle w.scheme (shape w) s d k x sh at (device_read w d k x at within e) all)
 
 -- a device with as many lanes takes the place of another

@@ -11,6 +11,7 @@ use Rattle.fare_world.specs.declared.event.Event.{Event}
 use Rattle.fare_world.specs.declared.reply.Reply.{Reply}
 use Rattle.fare_world.specs.declared.world.World.{World}
 use Rattle.fare_world.specs.System.{put, Packet, Tapped, Arrived, Tap_of, Routed, Lane_of, DeviceState, OwnerState, LaneState, System, numbered_for, arrived_of}
+use Rattle.fare_world.specs.Packets.{IsTapRead}
 use Rattle.fare_world.specs.Steps.{step}
 use Rattle.fare_world.specs.Shown.{IsNumbered, IsDevice, IsSystem, IsAt, IsPacketOf, IsArrivedOf, IsRoutedOf, IsDeviceOf, ShowsDevice, IsOwnerOf, OwnerShape, Shape, Shows}
 use Rattle.fare_world.specs.declared.world.Fault.{Fault}
@@ -70,8 +71,8 @@ grows_by_none s d v e = record {
   lane = λ o. put_all (λ j a. (k : ℕ) (r : RecordValue) → IsAt (part o (s.devices j).taps) k r → IsAt (part o a.taps) k r) s.devices d v (λ j k r h. h) (λ k r h. subst (λ l. IsAt (part o l) k r) (sym e) h);
 }
 
-pub packet_grows : (f g : ℕ → DeviceState) → GrowsAt f g → (x : Packet) (r : RecordValue) → IsPacketOf f x r → IsPacketOf g x r
-packet_grows f g up (Tapped d k) r h = up.link d k r h
+pub packet_grows : (f g : ℕ → DeviceState) → GrowsAt f g → (x : Packet) (bytes : List ℕ) → IsPacketOf f x bytes → IsPacketOf g x bytes
+packet_grows f g up (Tapped d k) bytes h = record { tap = h.tap; at = up.link d k h.tap h.at; lawful = h.lawful; spelled = h.spelled }
 
 pub arrived_grows : (f g : ℕ → DeviceState) → GrowsAt f g → (x : Arrived) (r : RecordValue) → IsArrivedOf f x r → IsArrivedOf g x r
 arrived_grows f g up (Tap_of d k) r h = up.link d k r h
@@ -217,8 +218,13 @@ lane_tap_at s o d n r is at =
     record { device = (all among.0 r among.1).of_device; owner = among.2; lane = omega (arith, lane, at.positive); here = at.here; positive = at.positive }
 
 -- the same of what is on its way
-pub packet_is : (s : System) (x : Packet) (r : RecordValue) → IsSystem s → IsPacketOf s.devices x r → (x ≡ Tapped r.device r.link) × IsAt (s.devices r.device).taps r.link r
-packet_is s (Tapped d k) r is at =
+same_record : (q r : RecordValue) → Some q ≡ Some r → q ≡ r
+same_record q r e = cc
+
+pub packet_is : (s : System) (x : Packet) (bytes : List ℕ) (r : RecordValue) → IsSystem s → IsPacketOf s.devices x bytes → IsTapRead (Some bytes) (Some r) → (x ≡ Tapped r.device r.link) × IsAt (s.devices r.device).taps r.link r
+packet_is s (Tapped d k) bytes r is of read =
+    let same : r ≡ of.tap = same_record r of.tap (read of.tap of.lawful of.spelled) in
+    let at : IsAt (s.devices d).taps k r = subst (IsAt (s.devices d).taps k) (sym same) of.at in
     let t = tap_at s d k r is at in
     ((λ i. Tapped (sym t.device i) (sym t.link i)), subst (λ (q : ℕ × ℕ). IsAt (s.devices q.0).taps q.1 r) (λ i. (sym t.device i, sym t.link i)) at)
 

@@ -2,6 +2,7 @@ pub mod System
 pub mod Steps
 pub mod Headline
 pub mod RowWords
+pub mod Packets
 pub mod Stores
 pub mod LaneWords
 pub mod Tables

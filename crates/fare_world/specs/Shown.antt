@@ -5,6 +5,8 @@ use Rattle.fare_record.specs.Values.{RecordValue}
 use Rattle.fare_record.specs.Lanes.{part}
 use Rattle.fare_device.specs.SchemeWords.{SchemeValue, buffer_of, position_of_owner}
 use Rattle.fare_device.specs.DeviceWords.{DeviceValue}
+use Rattle.fare_frame.specs.Grammar.{frame_bytes, IsFrame}
+use Rattle.fare_frame.specs.declared.frame.Frame.TheVariants as frame
 use Rattle.fare_world.specs.System.{Packet, Tapped, Arrived, Tap_of, Routed, Lane_of, DeviceState, OwnerState, LaneState, System, numbered_for, arrived_of}
 
 -- A SYSTEM that events lead to
@@ -63,7 +65,7 @@ pub record OwnerShape : Type 0 where
 pub record Shape : Type 0 where
   pub devices : ℕ → Option DeviceValue
   pub nexts : ℕ → Option ℕ
-  pub air : List RecordValue
+  pub air : List (List ℕ)  -- the bytes of each packet
   pub inbox : List RecordValue
   pub hand : Option RecordValue
   pub upto : ℕ → ℕ
@@ -89,8 +91,15 @@ pub record IsAt (rs : List RecordValue) (n : ℕ) (r : RecordValue) : Type 0 whe
   pub positive : 1 ≤ n
   pub here : slice_get rs (n - 1) ≡ Some r
 
-abbrev pub IsPacketOf : (ℕ → DeviceState) → Packet → RecordValue → Type 0
-IsPacketOf devices (Tapped device link) r = IsAt (devices device).taps link r
+-- the bytes are the frame of the tap of this number
+pub record IsTapFrame (rs : List RecordValue) (n : ℕ) (bytes : List ℕ) : Type 0 where
+  pub tap : RecordValue
+  pub at : IsAt rs n tap
+  pub lawful : IsFrame (frame.Tapped tap)
+  pub spelled : bytes ≡ frame_bytes (frame.Tapped tap)
+
+abbrev pub IsPacketOf : (ℕ → DeviceState) → Packet → List ℕ → Type 0
+IsPacketOf devices (Tapped device link) bytes = IsTapFrame (devices device).taps link bytes
 
 abbrev pub IsArrivedOf : (ℕ → DeviceState) → Arrived → RecordValue → Type 0
 IsArrivedOf devices (Tap_of device link) r = IsAt (devices device).taps link r

@@ -9,6 +9,7 @@ mod laws;
 mod ledger;
 mod outbox;
 mod owner;
+mod packet;
 mod reply;
 mod rows;
 mod world;

@@ -4,6 +4,7 @@ ghost use Rattle.fare_world.specs.Rooms.{HasRooms};
 
 use crate::outbox::Outbox;
 use crate::owner::Owner;
+use crate::packet::Packet;
 use crate::{Event, Reply};
 use fare_device::{Device, Scheme};
 use fare_record::Record;
@@ -41,10 +42,11 @@ impl<T: Drop> From<AllocFailed<T>> for Fault {
 /// writer, the outbox, and each owner with its lane queue and ledger.
 #[derive(Debug, Drop)]
 pub struct World {
+    alloc: Global,
     scheme: Scheme,
     devices: Vec<Device>,
     nexts: Vec<u64>,
-    air: Vec<Record>,
+    air: Vec<Packet>,
     inbox: VecDeque<Record>,
     hand: Option<Record>,
     outbox: Outbox,

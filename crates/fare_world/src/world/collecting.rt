@@ -1,8 +1,10 @@
-ghost use Rattle.std.specs.Prelude.{◌≡◌, ◌==◌, ◌-◌, if◌then◌else◌, None, slice_get};
+ghost use Rattle.std.specs.Prelude.{◌≡◌, IfOk, option_copied};
+ghost use Rattle.fare_world.specs.Packets.{bytes_at, IsTapRead};
 ghost use Rattle.fare_world.specs.Whole.{Applied};
 ghost use Rattle.fare_world.specs.declared.event.Event.TheVariants as event;
 
 use crate::outbox::StoreRefusal;
+use crate::packet::Packet;
 use crate::world::{Fault, World};
 use crate::{Refusal, Reply};
 use fare_record::Record;
@@ -12,7 +14,7 @@ impl World {
     pub(super) fn arrive(&mut self, packet: u64) -> Result<Reply, Fault>
         ensures { Applied self.old self.new (event.Arrive packet) result }
     {
-        let Some(row) = self.packet(packet) else {
+        let Some(row) = self.tap_in(packet)? else {
             return Ok(Reply::Refused(Refusal::NoPacket));
         };
         let Some(place) = self.scheme.device_position(row.device()) else {
@@ -30,12 +32,25 @@ impl World {
         Ok(Reply::Accepted)
     }
 
+    // The tap in the packet of a number, from 1; None where the air has no such packet.
+    fn tap_in(&self, packet: u64) -> Result<Option<Record>, Fault>
+        ensures { IfOk result (λ read. IsTapRead (bytes_at self.now.air.items packet) read) }
+    {
+        let Some(packet) = self.packet(packet) else {
+            return Ok(None);
+        };
+        let Some(frame) = packet.read(self.alloc)? else {
+            return Ok(None);
+        };
+        Ok(frame.tapped())
+    }
+
     // The packet of a number, from 1.
-    fn packet(&self, packet: u64) -> Option<Record>
-        ensures { result ≡ (if packet == 0 then None else slice_get self.now.air.items (packet - 1)) }
+    fn packet(&self, packet: u64) -> Option<&Packet>
+        ensures { option_copied result ≡ bytes_at self.now.air.items packet }
     {
         let place = packet.checked_sub(1)?;
-        self.air.get(place as usize).copied()
+        self.air.get(place as usize)
     }
 
     // The front of the inbox goes to the writer's hand.

@@ -22,6 +22,7 @@ impl World {
         let nexts = vec![in alloc; 1; devices.len()]?;
         let owners = fresh_owners(alloc, &scheme)?;
         Ok(World {
+            alloc,
             scheme,
             devices,
             nexts,

@@ -1,6 +1,7 @@
 ghost use Rattle.fare_world.specs.Whole.{Applied};
 ghost use Rattle.fare_world.specs.declared.event.Event.TheVariants as event;
 
+use crate::packet::Packet;
 use crate::world::{Fault, World};
 use crate::{Refusal, Reply};
 use fare_device::{TapRefusal, traffic_day};
@@ -44,16 +45,20 @@ impl World {
             return Ok(Reply::Refused(Refusal::UnknownDevice));
         };
         // The room comes first, since the device moves on with its answer.
+        let mut packet = Packet::new(self.alloc)?;
         self.air.reserve(1)?;
-        let Some(row) = self.devices[place].next_frame() else {
+        let device = &mut self.devices[place];
+        let Some(frame) = device.next_frame() else {
             return Ok(Reply::Idle);
         };
-        if self.air.push(row).is_err() {
+        let link = device.sent();
+        packet.write(&frame);
+        if self.air.push(packet).is_err() {
             unreachable!()
         }
         Ok(Reply::Sent {
             packet: self.air.len() as u64,
-            link: row.link(),
+            link,
         })
     }
 }

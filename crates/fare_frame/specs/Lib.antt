@@ -1,0 +1,4 @@
+pub mod Table
+pub mod Grammar
+pub mod Decoding
+pub mod Reading
