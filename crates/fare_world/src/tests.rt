@@ -1,6 +1,7 @@
 use super::*;
+use fare_day::Zone;
 use fare_record::{DeviceId, Moment, OwnerId, ProductId, Token};
-use fare_scheme::{DemoSize, Scheme};
+use fare_scheme::{DemoSize, Draft, Scheme};
 use std::test::Fail;
 
 // One tap from the device to the owner's ledger.
@@ -47,4 +48,61 @@ fn a_tap_reaches_the_ledger(rt: HostRuntime) -> Result<(), Fail> {
         }
         Err(stopped) => Err(stopped.fault)?,
     }
+}
+
+// A scheme of 16 owners with a product each, 16 operators with a station each, and 256 devices.
+fn wide_scheme(rt: &HostRuntime) -> Result<Scheme, Fail> {
+    let mut draft = Draft::new(rt.alloc());
+    for part in 1..=16u16 {
+        draft.add_owner(part, 4)?;
+        draft.add_operator(part)?;
+        draft.add_station(part, part)?;
+        draft.add_product(u32::from(part), part, 175)?;
+    }
+    for device in 0..256u32 {
+        draft.add_device(device + 1, (device % 16 + 1) as u16, 4)?;
+    }
+    draft.set_start(19_723)?;
+    draft.set_zone(Zone::read("GMT0BST,M3.5.0/1,M10.5.0")?);
+    match draft.seal() {
+        Ok(scheme) => Ok(scheme),
+        Err((_draft, fault)) => Err(fault)?,
+    }
+}
+
+// What brings one tap of a device to the ledger of the owner of a product.
+fn journey(device: u64, product: u64, packet: u64) -> Option<[Event; 9]> {
+    let device = DeviceId::new(device)?;
+    let owner = OwnerId::new(product)?;
+    Some([
+        Event::Tap {
+            device,
+            product: ProductId::new(product)?,
+            token: Token::new(77)?,
+            moment: Moment::new(1_704_100_000)?,
+        },
+        Event::Send { device },
+        Event::Arrive { packet },
+        Event::Draw,
+        Event::Store,
+        Event::Forward { owner, device },
+        Event::Fetch { owner },
+        Event::Take { owner },
+        Event::Count { owner, device },
+    ])
+}
+
+#[test]
+fn each_of_256_devices_reaches_its_owner(rt: HostRuntime) -> Result<(), Fail> {
+    let mut world = World::new(rt.alloc(), wide_scheme(&rt)?)?;
+    for device in 1..=256 {
+        let product = device % 16 + 1;
+        let events = journey(device, product, device).ok_or("journey")?;
+        let mut last = Reply::Idle;
+        for event in &events {
+            last = world.apply(event)?;
+        }
+        assert_eq!(rt; last, Reply::Count(1));
+    }
+    Ok(())
 }
