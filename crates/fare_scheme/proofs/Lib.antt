@@ -1,3 +1,4 @@
 pub mod Adding
 pub mod Capping
 pub mod Demonstrating
+pub mod Known

@@ -5,3 +5,4 @@ pub mod Facts
 pub mod Registering
 pub mod Sealing
 pub mod Demo
+pub mod Positions

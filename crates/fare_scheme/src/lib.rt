@@ -8,6 +8,7 @@ mod demo;
 mod draft;
 mod entry;
 mod fault;
+mod laws;
 mod scheme;
 #[cfg(test)]
 mod tests;
@@ -16,4 +17,5 @@ pub use demo::{DemoFault, DemoSize};
 pub use draft::Draft;
 pub use entry::{Placement, Product, Tariff};
 pub use fault::{AddFault, CapsFault, OutOfRange, SealFault};
+pub use laws::registered_ids_have_positions;
 pub use scheme::Scheme;

@@ -1,5 +1,6 @@
-ghost use Rattle.std.specs.Prelude.{◌≡◌, length, slice_get};
-ghost use Rattle.fare_scheme.specs.Facts.{IsScheme};
+ghost use Rattle.std.specs.Prelude.{◌≡◌, ◌↔◌, Some, IsSome, IfSome, length, slice_get};
+ghost use Rattle.fare_scheme.specs.Facts.{IsScheme, IsTariff};
+ghost use Rattle.fare_scheme.specs.Ranges.{IsBuffer, IsCapacity};
 ghost use Rattle.fare_scheme.specs.Words.{owner_of, tariff_of, station_of, operator_of, buffer_of, lane_capacity_of, id_at, position_of_owner, position_of_operator, position_of_station, position_of_product, position_of_device};
 
 use crate::{Placement, Product, Tariff};
@@ -53,28 +54,36 @@ impl Model for Scheme {
 impl Scheme {
     /// The owner of a product.
     pub fn owner_of(&self, product: ProductId) -> Option<OwnerId>
-        ensures { result ≡ owner_of self.now product }
+        ensures value { result ≡ owner_of self.now product }
+        ensures found { IsSome result ↔ IsSome (position_of_product self.now product) }
+        ensures known { IfSome result (λ owner. IsSome (position_of_owner self.now owner)) }
     {
         self.products.get(&product).map(|product| product.owner)
     }
 
     /// The tariff of a product.
     pub fn tariff_of(&self, product: ProductId) -> Option<Tariff>
-        ensures { result ≡ tariff_of self.now product }
+        ensures value { result ≡ tariff_of self.now product }
+        ensures found { IsSome result ↔ IsSome (position_of_product self.now product) }
+        ensures valid { IfSome result IsTariff }
     {
         self.products.get(&product).map(|product| product.tariff)
     }
 
     /// The station of a device.
     pub fn station_of(&self, device: DeviceId) -> Option<StationId>
-        ensures { result ≡ station_of self.now device }
+        ensures value { result ≡ station_of self.now device }
+        ensures found { IsSome result ↔ IsSome (position_of_device self.now device) }
+        ensures known { IfSome result (λ station. IsSome (position_of_station self.now station)) }
     {
         self.devices.get(&device).map(|placement| placement.station)
     }
 
     /// The operator of a device's station.
     pub fn operator_of(&self, device: DeviceId) -> Option<OperatorId>
-        ensures { result ≡ operator_of self.now device }
+        ensures value { result ≡ operator_of self.now device }
+        ensures found { IsSome result ↔ IsSome (position_of_device self.now device) }
+        ensures known { IfSome result (λ operator. IsSome (position_of_operator self.now operator)) }
     {
         let station = self.station_of(device)?;
         self.stations.get(&station).copied()
@@ -82,14 +91,18 @@ impl Scheme {
 
     /// How many taps a device's buffer holds.
     pub fn buffer_of(&self, device: DeviceId) -> Option<u32>
-        ensures { result ≡ buffer_of self.now device }
+        ensures value { result ≡ buffer_of self.now device }
+        ensures found { IsSome result ↔ IsSome (position_of_device self.now device) }
+        ensures valid { IfSome result IsBuffer }
     {
         self.devices.get(&device).map(|placement| placement.buffer)
     }
 
     /// How many items the lane queue of an owner holds.
     pub fn lane_capacity(&self, owner: OwnerId) -> Option<u32>
-        ensures { result ≡ lane_capacity_of self.now owner }
+        ensures value { result ≡ lane_capacity_of self.now owner }
+        ensures found { IsSome result ↔ IsSome (position_of_owner self.now owner) }
+        ensures valid { IfSome result IsCapacity }
     {
         self.owners.get(&owner).copied()
     }
@@ -128,14 +141,16 @@ impl Scheme {
 
     /// The owner at a position.
     pub fn owner_at(&self, position: usize) -> Option<OwnerId>
-        ensures { result ≡ id_at self.now.owners position }
+        ensures value { result ≡ id_at self.now.owners position }
+        ensures placed { IfSome result (λ owner. position_of_owner self.now owner ≡ Some position) }
     {
         self.owners.get_index(position).map(|(id, _)| *id)
     }
 
     /// The position of an owner.
     pub fn owner_position(&self, owner: OwnerId) -> Option<usize>
-        ensures { result ≡ position_of_owner self.now owner }
+        ensures value { result ≡ position_of_owner self.now owner }
+        ensures at { IfSome result (λ position. id_at self.now.owners position ≡ Some owner) }
     {
         self.owners.get_index_of(&owner)
     }
@@ -150,14 +165,16 @@ impl Scheme {
 
     /// The operator at a position.
     pub fn operator_at(&self, position: usize) -> Option<OperatorId>
-        ensures { result ≡ slice_get self.now.operators position }
+        ensures value { result ≡ slice_get self.now.operators position }
+        ensures placed { IfSome result (λ operator. position_of_operator self.now operator ≡ Some position) }
     {
         self.operators.get_index(position).copied()
     }
 
     /// The position of an operator.
     pub fn operator_position(&self, operator: OperatorId) -> Option<usize>
-        ensures { result ≡ position_of_operator self.now operator }
+        ensures value { result ≡ position_of_operator self.now operator }
+        ensures at { IfSome result (λ position. slice_get self.now.operators position ≡ Some operator) }
     {
         self.operators.get_index_of(&operator)
     }
@@ -172,14 +189,16 @@ impl Scheme {
 
     /// The station at a position.
     pub fn station_at(&self, position: usize) -> Option<StationId>
-        ensures { result ≡ id_at self.now.stations position }
+        ensures value { result ≡ id_at self.now.stations position }
+        ensures placed { IfSome result (λ station. position_of_station self.now station ≡ Some position) }
     {
         self.stations.get_index(position).map(|(id, _)| *id)
     }
 
     /// The position of a station.
     pub fn station_position(&self, station: StationId) -> Option<usize>
-        ensures { result ≡ position_of_station self.now station }
+        ensures value { result ≡ position_of_station self.now station }
+        ensures at { IfSome result (λ position. id_at self.now.stations position ≡ Some station) }
     {
         self.stations.get_index_of(&station)
     }
@@ -194,14 +213,16 @@ impl Scheme {
 
     /// The product at a position.
     pub fn product_at(&self, position: usize) -> Option<ProductId>
-        ensures { result ≡ id_at self.now.products position }
+        ensures value { result ≡ id_at self.now.products position }
+        ensures placed { IfSome result (λ product. position_of_product self.now product ≡ Some position) }
     {
         self.products.get_index(position).map(|(id, _)| *id)
     }
 
     /// The position of a product.
     pub fn product_position(&self, product: ProductId) -> Option<usize>
-        ensures { result ≡ position_of_product self.now product }
+        ensures value { result ≡ position_of_product self.now product }
+        ensures at { IfSome result (λ position. id_at self.now.products position ≡ Some product) }
     {
         self.products.get_index_of(&product)
     }
@@ -216,14 +237,16 @@ impl Scheme {
 
     /// The device at a position.
     pub fn device_at(&self, position: usize) -> Option<DeviceId>
-        ensures { result ≡ id_at self.now.devices position }
+        ensures value { result ≡ id_at self.now.devices position }
+        ensures placed { IfSome result (λ device. position_of_device self.now device ≡ Some position) }
     {
         self.devices.get_index(position).map(|(id, _)| *id)
     }
 
     /// The position of a device.
     pub fn device_position(&self, device: DeviceId) -> Option<usize>
-        ensures { result ≡ position_of_device self.now device }
+        ensures value { result ≡ position_of_device self.now device }
+        ensures at { IfSome result (λ position. id_at self.now.devices position ≡ Some device) }
     {
         self.devices.get_index_of(&device)
     }

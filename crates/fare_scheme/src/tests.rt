@@ -182,3 +182,37 @@ fn makes_small_schemes(rt: HostRuntime) {
         Err(DemoFault::Range)
     );
 }
+
+// Whether the parts of the demonstration scheme of this number stand at this position.
+fn stand_at(scheme: &Scheme, number: u64, position: usize) -> bool {
+    let Some(device) = DeviceId::new(number) else {
+        return false;
+    };
+    let Some(station) = scheme.station_of(device) else {
+        return false;
+    };
+    let Some(operator) = scheme.operator_of(device) else {
+        return false;
+    };
+    scheme.device_position(device) == Some(position)
+        && scheme.device_at(position) == Some(device)
+        && scheme.station_position(station) == Some(position)
+        && scheme.station_at(position) == Some(station)
+        && scheme.operator_position(operator) == Some(position)
+        && scheme.operator_at(position) == Some(operator)
+}
+
+#[test]
+fn positions_are_in_order_of_registration(rt: HostRuntime) {
+    let Ok(scheme) = Scheme::demo(rt.alloc(), DemoSize::TwoDevices, 4, 4, 4) else {
+        return assert!(rt; false);
+    };
+    assert!(rt; stand_at(&scheme, 1, 0));
+    assert!(rt; stand_at(&scheme, 2, 1));
+    assert_eq!(rt; scheme.product_at(0), ProductId::new(1));
+    assert_eq!(rt; scheme.product_at(1), None);
+    assert_eq!(rt;
+        ProductId::new(2).and_then(|id| scheme.product_position(id)),
+        None
+    );
+}

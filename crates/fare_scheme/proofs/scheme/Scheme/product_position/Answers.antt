@@ -1,0 +1,6 @@
+use Rattle.std.proofs.Common.{rules}
+use Rattle.fare_scheme.proofs.Known.{at_answered_place}
+use Rattle.fare_scheme.proofs.scheme.Scheme.product_position.Goals as goal
+
+pub returns-clause-at : goal.returns-clause-at
+returns-clause-at c = at_answered_place c.args.self.now.products c.args.product c.get_index_of.result (search rules)
