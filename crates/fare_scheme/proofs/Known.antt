@@ -1,5 +1,5 @@
 -- In a scheme positions and ids undo each other, and what an entry belongs to is registered.
-use Rattle.std.proofs.Common.{◌≡◌, ℕ, ◌+◌, ◌<◌, ◌≤◌, Bool, ◌||◌, true, false, cond, eqb-true, List, [], ◌∷◌, length, nat_eq, get_or, Option, Some, None, is_some, All, Contains, refl, sym, ◌∙◌, ap, subst, arith}
+use Rattle.std.proofs.Common.{◌≡◌, ℕ, ◌+◌, ◌<◌, Bool, ◌||◌, true, false, cond, eqb-true, List, [], ◌∷◌, length, nat_eq, get_or, Option, Some, None, is_some, Contains, refl, sym, ◌∙◌, ap, arith}
 use Rattle.std.specs.Prelude.{◌↔◌, slice_get, position, option_map, option_and_then, IfSome, IsSome}
 use Rattle.std.specs.List.{IsDistinct, list_any, position_from}
 use Rattle.std.specs.Map.{lookup, keys_of}
@@ -13,14 +13,13 @@ use Rattle.std.proofs.lemmas.Map.Views.{list_any-from_Contains}
 use Rattle.std.proofs.lemmas.Map.Made.{is_some-lookup, AllPairs-from_IsDistinct}
 use Rattle.std.proofs.lemmas.Option.{slice_get_within, slice_get-get_or, get_or_from_slice_get, slice_get-map}
 use Rattle.std.proofs.lemmas.Iterator.Adapters.{position_from-zero}
-use Rattle.fare_scheme.specs.declared.entry.Tariff.{Tariff}
 use Rattle.fare_scheme.specs.declared.entry.Product.{Product}
 use Rattle.fare_scheme.specs.declared.entry.Placement.{Placement}
 use Rattle.fare_scheme.specs.Values.{SchemeValue}
 use Rattle.fare_scheme.specs.Ranges.{IsCapacity, IsBuffer}
 use Rattle.fare_scheme.specs.Facts.{IsScheme, IsRegistered, IsTariff}
 use Rattle.fare_scheme.specs.Positions.{ArePositions, AreParentsKnown}
-use Rattle.fare_scheme.specs.Words.{owner_of, tariff_of, station_of, operator_of, buffer_of, lane_capacity_of, id_at, place_of, position_of_owner, position_of_operator, position_of_station, position_of_product, position_of_device}
+use Rattle.fare_scheme.specs.Words.{owner_of, tariff_of, station_of, operator_of, buffer_of, lane_capacity_of, id_at, place_of, position_of_owner, position_of_operator, position_of_station, position_of_device}
 
 -- IDS IN A LIST
 pub id_at_position : (ids : List ℕ) (id k : ℕ) → position (nat_eq id) ids ≡ Some k → slice_get ids k ≡ Some id

@@ -1,0 +1,15 @@
+//! The station: takes in the numbered taps of its own devices, each device's in link order with none left out
+//! and none twice. A collector keeps for each device of its station the link that it accepts next; it accepts
+//! that link alone, where the tap's owner is the owner of its product, and names the reason for which it
+//! refuses any other. A refusal changes nothing. A collector takes memory only while it is made.
+#![tactic(auto)]
+
+mod collector;
+mod fault;
+mod laws;
+#[cfg(test)]
+mod tests;
+
+pub use collector::Collector;
+pub use fault::{CollectRefusal, CollectorFault};
+pub use laws::unaccept_undoes_accept;
