@@ -1,5 +1,5 @@
 -- What contracts see of a device.
-use Rattle.std.specs.Prelude.{ℕ, ◌≡◌, ◌+◌, ◌≤◌, List, [], length, Some, slice_get, replicate}
+use Rattle.std.specs.Prelude.{ℕ, ◌≡◌, ◌+◌, ◌-◌, ◌≤◌, List, [], length, drop, max, Some, slice_get, replicate}
 use Rattle.std.specs.List.{sum}
 use Rattle.fare_record.specs.Values.{RecordValue}
 use Rattle.fare_scheme.specs.Values.{SchemeValue}
@@ -38,3 +38,7 @@ pub record AreNumbers (sc : SchemeValue) (last : ℕ) (lanes : List ℕ) : Type 
   pub each : length lanes ≡ length sc.owners
   pub total : sum lanes ≡ last
   pub few : last ≤ 1099511627775
+
+-- a device that has heard that the hub has all taps up to this link
+abbrev pub acknowledged : DeviceValue → ℕ → DeviceValue
+acknowledged x upto = record x { waiting = drop (upto - x.base) x.waiting; base = max x.base upto; cursor = max x.cursor upto }

@@ -1,12 +1,13 @@
-ghost use Rattle.std.specs.Prelude.{◌≡◌, ◌↔◌, ◌+◌, ◌-◌, ℕ, None, Some, IsSome, IsTrue, IfNone, IfOk, IfErr, OnErr, length, option_map, slice_get};
+ghost use Rattle.std.specs.Prelude.{◌≡◌, ◌↔◌, ◌<◌, ◌≤◌, ◌+◌, ◌-◌, ℕ, None, Some, IsSome, IsTrue, IfNone, IfOk, IfErr, IsErr, OnOk, OnErr, length, option_map, slice_get};
 ghost use Rattle.fare_frame.specs.declared.frame.Frame.TheVariants.{Tapped};
 ghost use Rattle.fare_scheme.specs.Words.{buffer_of, position_of_device};
-ghost use Rattle.fare_device.specs.DeviceWords.{fresh_device, taking_over, last_link, AreNumbers};
+ghost use Rattle.fare_device.specs.DeviceWords.{fresh_device, taking_over, acknowledged, last_link, AreNumbers};
 ghost use Rattle.std.specs.List.{sum};
 ghost use Rattle.fare_device.specs.Tapping.{IsTapped, TapRefused};
 
 use fare_buffer::{Waiting, WaitingFault};
 use fare_frame::Frame;
+use fare_link::{AckAhead, Sender};
 use fare_record::{Day, DeviceId, LAST_NUMBER, Moment, ProductId, Record, Tap, Token};
 use fare_scheme::Scheme;
 use std::alloc::Global;
@@ -65,8 +66,7 @@ pub struct Device {
     id: DeviceId,
     day: Day,
     waiting: Waiting,
-    base: u64,
-    cursor: u64,
+    link: Sender,
     lanes: Vec<u64>,
 }
 
@@ -75,9 +75,9 @@ impl Model for Device {
 
     ghost Value = { DeviceValue };
 
-    ghost view = { λ a. record { id = a.id; day = a.day; waiting = a.waiting.items; room = a.waiting.capacity; base = a.base; cursor = a.cursor; lanes = a.lanes.items } };
+    ghost view = { λ a. record { id = a.id; day = a.day; waiting = a.waiting.items; room = a.waiting.capacity; base = a.link.base; cursor = a.link.cursor; lanes = a.lanes.items } };
 
-    ghost invariant = { λ a. IsDeviceValue (record { id = a.id; day = a.day; waiting = a.waiting.items; room = a.waiting.capacity; base = a.base; cursor = a.cursor; lanes = a.lanes.items }) };
+    ghost invariant = { λ a. IsDeviceValue (record { id = a.id; day = a.day; waiting = a.waiting.items; room = a.waiting.capacity; base = a.link.base; cursor = a.link.cursor; lanes = a.lanes.items }) };
 }
 
 impl Device {
@@ -104,8 +104,7 @@ impl Device {
             id,
             day: scheme.start(),
             waiting,
-            base: 0,
-            cursor: 0,
+            link: Sender::new(),
             lanes,
         })
     }
@@ -140,8 +139,9 @@ impl Device {
         };
         device.lanes.copy_from_slice(lanes);
         device.day = day;
-        device.base = last;
-        device.cursor = last;
+        if device.link.acked(last, last).is_err() {
+            unreachable!()
+        }
         Ok(device)
     }
 
@@ -156,7 +156,7 @@ impl Device {
     pub fn sent(&self) -> u64
         ensures { result ≡ self.now.cursor }
     {
-        self.cursor
+        self.link.cursor()
     }
 
     /// Numbers a tap and keeps it at the end of those that wait. `day` is the traffic day of `moment`, and
@@ -186,7 +186,7 @@ impl Device {
         if day > self.day {
             return Err(TapRefusal::DayAhead);
         }
-        let last = self.base + self.waiting.len() as u64;
+        let last = self.last();
         if last >= LAST_NUMBER {
             return Err(TapRefusal::NumbersSpent);
         }
@@ -212,10 +212,53 @@ impl Device {
         ensures stays { IfNone result (self.new ≡ self.old) }
         ensures lanes { length self.new.lanes ≡ length self.old.lanes }
     {
-        let place = (self.cursor - self.base) as usize;
-        let record = self.waiting.get(place)?;
-        self.cursor += 1;
+        let last = self.last();
+        let link = self.link.next_link(last)?;
+        let place = (link - 1 - self.link.base()) as usize;
+        let Some(record) = self.waiting.get(place) else {
+            unreachable!()
+        };
         Some(Frame::Tapped(record))
+    }
+
+    /// Goes back to the first tap that waits, to send all of them again.
+    pub fn rewind(&mut self)
+        ensures value { self.new ≡ record self.old { cursor = self.old.base } }
+        ensures lanes { length self.new.lanes ≡ length self.old.lanes }
+    {
+        self.link.rewind();
+    }
+
+    /// Hears that the hub has all taps up to link `upto`: they wait no more. The answer is how many left the
+    /// buffer, 0 where all of them had left before. `AckAhead` where the device has numbered no such tap; then
+    /// nothing changes.
+    pub fn hear_ack(&mut self, upto: u64) -> Result<u64, AckAhead>
+        ensures ahead { IsErr result ↔ ((self.old.base < upto) × (last_link self.old < upto)) }
+        ensures dropped { IfOk result (λ n. n ≡ upto - self.old.base) }
+        ensures ok { OnOk result (self.new ≡ acknowledged self.old upto) }
+        ensures err { OnErr result (self.new ≡ self.old) }
+        ensures lanes { length self.new.lanes ≡ length self.old.lanes }
+    {
+        let last = self.last();
+        let dropped = self.link.acked(upto, last)?;
+        self.waiting.drop_front(dropped as usize);
+        Ok(dropped)
+    }
+
+    /// Starts again: buffer and numbers are kept, and what waits is sent again.
+    pub fn restart(&mut self)
+        ensures value { self.new ≡ record self.old { cursor = self.old.base } }
+        ensures lanes { length self.new.lanes ≡ length self.old.lanes }
+    {
+        self.rewind();
+    }
+
+    // The greatest link that was given out.
+    fn last(&self) -> u64
+        ensures value { result ≡ last_link self.now }
+        ensures valid { result ≤ 1099511627775 }
+    {
+        self.link.base() + self.waiting.len() as u64
     }
 }
 

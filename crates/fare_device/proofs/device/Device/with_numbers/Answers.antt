@@ -11,11 +11,15 @@ invariant_of-device c =
     let none : c.device.inside.waiting.items ≡ [] = ap (λ (d : DeviceValue). d.waiting) (c.device.view_is ∙ c.in-Ok.ensures.made) in
     let empty : length c.device.inside.waiting.items ≡ 0 = ap length none in
     let total : sum c.args.lanes.now ≡ c.args.last = grind (arith, common_steps) in
+    let no_base : c.device.inside.link.base ≡ 0 = ap (λ (d : DeviceValue). d.base) (c.device.view_is ∙ c.in-Ok.ensures.made) in
+    let no_cursor : c.device.inside.link.cursor ≡ 0 = ap (λ (d : DeviceValue). d.cursor) (c.device.view_is ∙ c.in-Ok.ensures.made) in
+    let base : c.acked.new.self.base ≡ c.args.last = grind (arith, common_steps, no_base) in
+    let cursor : c.acked.new.self.cursor ≡ c.args.last = grind (arith, common_steps, no_cursor) in
     let same : c.copy_from_slice.new.self.items ≡ c.args.lanes.now = c.copy_from_slice.ensures.items in
     record {
-      few = omega (arith, empty, c.if-last-gt-LAST_NUMBER.false);
+      few = omega (arith, empty, base, c.if-last-gt-LAST_NUMBER.false);
       within = c.device.invariant.within;
-      base = omega arith;
-      cursor = omega (arith, empty);
-      lanes = λ k n e. omega (arith, empty, total, count-le-sum c.args.lanes.now k n (ap (λ l. slice_get l k) (sym same) ∙ e));
+      base = omega (arith, base, cursor);
+      cursor = omega (arith, empty, base, cursor);
+      lanes = λ k n e. omega (arith, empty, base, total, count-le-sum c.args.lanes.now k n (ap (λ l. slice_get l k) (sym same) ∙ e));
     }
