@@ -1,6 +1,7 @@
 pub mod Cuts
 pub mod Rows
 pub mod Numbers
+pub mod Utf8
 pub mod Keywords
 pub mod Spelling
 pub mod Texts

@@ -1,5 +1,6 @@
 -- What the lines of a trace are answered, one after the other.
 use Rattle.std.specs.Prelude.{ℕ, List, [], ◌∷◌, Bool, ◌&&◌, nat_le, if◌then◌else◌, Result, Ok, Err}
+use Rattle.fare_scheme.specs.declared.demo.DemoSize.TheVariants.{OneDevice}
 use Rattle.fare_device.specs.SchemeWords.{SchemeValue, demo_scheme}
 use Rattle.fare_world.specs.declared.reply.Reply.{Reply}
 use Rattle.fare_world.specs.declared.reply.Reply.TheVariants.{Done, Refused}
@@ -18,8 +19,8 @@ has_room buffer inbox lane =
 
 -- the scheme that a line seals, or why it is refused
 abbrev pub sealed_by : Line → Result SchemeValue Refusal
-sealed_by (Setup (scheme.Demo devices buffer inbox lane)) = if has_room buffer inbox lane then Ok (demo_scheme buffer inbox lane) else Err Range
-sealed_by (Step event) = Err Unsealed
+sealed_by (Setup (scheme.Demo OneDevice buffer inbox lane)) = if has_room buffer inbox lane then Ok (demo_scheme buffer inbox lane) else Err Range
+sealed_by _ = Err Unsealed
 
 -- how far a trace is: no scheme is sealed, or the sealed scheme's parts stand at a system
 pub data Stage : Type 0 where

@@ -1,3 +1,4 @@
+pub mod ZoneWord
 pub mod Grammar
 pub mod Lines
 pub mod Faults

@@ -5,23 +5,24 @@ ghost use Rattle.fare_trace.specs.Weaving.{events_of, woven};
 
 use crate::line::{Line, SchemeLine};
 use fare_device::Scheme;
+use fare_scheme::DemoSize;
 use fare_world::{Event, Refusal, Reply, World};
 use std::alloc::{AllocError, Global};
 
 /// The scheme that a line seals, where none is sealed yet, or why the line is refused.
-fn seal(line: Line) -> Result<Scheme, Refusal>
-    ensures { MatchResult result (λ scheme. sealed_by line ≡ Ok scheme) (λ refusal. sealed_by line ≡ Err refusal) }
+fn seal(line: &Line) -> Result<Scheme, Refusal>
+    ensures { MatchResult result (λ scheme. sealed_by line.now ≡ Ok scheme) (λ refusal. sealed_by line.now ≡ Err refusal) }
 {
     match line {
         Line::Setup(
             SchemeLine::Demo {
+                size: DemoSize::OneDevice,
                 buffer,
                 inbox,
                 lane,
-                ..
             },
-        ) => Scheme::demo(buffer, inbox, lane).map_err(|_| Refusal::Range),
-        Line::Step(_) => Err(Refusal::Unsealed),
+        ) => Scheme::demo(*buffer, *inbox, *lane).map_err(|_| Refusal::Range),
+        _ => Err(Refusal::Unsealed),
     }
 }
 
@@ -87,7 +88,7 @@ pub fn answer_lines(alloc: Global, lines: &[Line]) -> Result<Vec<Reply>, AllocEr
     let mut replies = Vec::new(alloc);
     let mut rest = lines;
     while let Some((line, later)) = rest.split_first() {
-        match seal(*line) {
+        match seal(line) {
             Ok(scheme) => {
                 replies.push(Reply::Done)?;
                 run_sealed(alloc, scheme, later, &mut replies)?;

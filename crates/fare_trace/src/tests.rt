@@ -1,5 +1,6 @@
 use crate::{Line, ParseFault, ReplayFault, SchemeLine, parse, print_reply, replay};
 use fare_record::DeviceId;
+use fare_scheme::DemoSize;
 use fare_world::{Event, Refusal, Reply};
 use std::io;
 use std::io::{Read, Write};
@@ -221,24 +222,90 @@ fn a_writer_fails(rt: HostRuntime) -> Result<(), Fail> {
 }
 
 #[test]
-fn parses_lines(rt: HostRuntime) -> Result<(), Fail> {
+fn parses_event_lines(rt: HostRuntime) -> Result<(), Fail> {
+    let lines = parse(rt.alloc(), b"arrive 18446744073709551615\ndraw")?;
+    assert_eq!(rt; lines.len(), 2);
+    let packet = 18446744073709551615;
+    assert!(rt; matches!(&lines[0], Line::Step(event) if *event == Event::Arrive { packet }));
+    assert!(rt; matches!(&lines[1], Line::Step(Event::Draw)));
+    Ok(())
+}
+
+#[test]
+fn parses_scheme_lines(rt: HostRuntime) -> Result<(), Fail> {
     let lines = parse(
         rt.alloc(),
-        b"demo 1 0 4294967295 7\narrive 18446744073709551615\ndraw",
+        b"owner 65535 4294967295
+operator 65534
+station 1 0
+product 4294967295 2 100001
+caps 3 4 5
+device 6 7 8
+inbox 0
+start 4294967295
+seal
+demo 1 0 4294967295 7
+demo 2 1 2 3",
     )?;
-    assert_eq!(rt; lines.len(), 3);
-    let demo = SchemeLine::Demo {
-        devices: 1,
-        buffer: 0,
-        inbox: 4294967295,
-        lane: 7,
-    };
-    assert_eq!(rt; lines[0], Line::Setup(demo));
-    let arrive = Event::Arrive {
-        packet: 18446744073709551615,
-    };
-    assert_eq!(rt; lines[1], Line::Step(arrive));
-    assert_eq!(rt; lines[2], Line::Step(Event::Draw));
+    let want = [
+        SchemeLine::Owner {
+            owner: 65535,
+            lane: 4294967295,
+        },
+        SchemeLine::Operator { operator: 65534 },
+        SchemeLine::Station {
+            station: 1,
+            operator: 0,
+        },
+        SchemeLine::Product {
+            product: 4294967295,
+            owner: 2,
+            fare: 100001,
+        },
+        SchemeLine::Caps {
+            product: 3,
+            daily: 4,
+            weekly: 5,
+        },
+        SchemeLine::Device {
+            device: 6,
+            station: 7,
+            buffer: 8,
+        },
+        SchemeLine::Inbox { capacity: 0 },
+        SchemeLine::Start { day: 4294967295 },
+        SchemeLine::Seal,
+        SchemeLine::Demo {
+            size: DemoSize::OneDevice,
+            buffer: 0,
+            inbox: 4294967295,
+            lane: 7,
+        },
+        SchemeLine::Demo {
+            size: DemoSize::TwoDevices,
+            buffer: 1,
+            inbox: 2,
+            lane: 3,
+        },
+    ];
+    assert_eq!(rt; lines.len(), want.len());
+    for (line, setup) in lines.iter().zip(&want) {
+        assert!(rt; matches!(line, Line::Setup(line) if line == setup));
+    }
+    Ok(())
+}
+
+#[test]
+fn parses_a_zone_line(rt: HostRuntime) -> Result<(), Fail> {
+    let lines = parse(rt.alloc(), b"zone GMT0BST,M3.5.0/1,M10.5.0\nzone !~\n")?;
+    assert_eq!(rt; lines.len(), 2);
+    let wants = ["GMT0BST,M3.5.0/1,M10.5.0", "!~"];
+    for (line, want) in lines.iter().zip(wants) {
+        let Line::Setup(SchemeLine::Zone { rule }) = line else {
+            return Err(Fail::from("not a zone"));
+        };
+        assert_eq!(rt; rule.as_str(), want);
+    }
     Ok(())
 }
 
@@ -263,7 +330,7 @@ count 65535 4294967295
 
 #[test]
 fn refuses_bad_lines(rt: HostRuntime) -> Result<(), Fail> {
-    let cases: [(&[u8], u64); 22] = [
+    let cases: [(&[u8], u64); 39] = [
         (b"\n", 1),
         (b"draw\n\n", 2),
         (b"draw ", 1),
@@ -283,9 +350,26 @@ fn refuses_bad_lines(rt: HostRuntime) -> Result<(), Fail> {
         (b"tap 1 1 0 0", 1),
         (b"tap 1 1 9223372036854775808 0", 1),
         (b"tap 1 1 1 8640200001", 1),
-        (b"demo 2 4 4 4", 1),
+        (b"demo 0 1 1 1", 1),
+        (b"demo 3 1 1 1", 1),
         (b"demo 1 4 4 4294967296", 1),
-        (b"owner 1 4", 1),
+        (b"owner 65536 4", 1),
+        (b"owner 1 4294967296", 1),
+        (b"owner 1", 1),
+        (b"operator 65536", 1),
+        (b"station 1 65536", 1),
+        (b"product 4294967296 1 1", 1),
+        (b"caps 1 1 4294967296", 1),
+        (b"device 1 65536 1", 1),
+        (b"inbox 4294967296", 1),
+        (b"start -1", 1),
+        (b"seal 1", 1),
+        (b"zone", 1),
+        (b"zone ", 1),
+        (b"zone a b", 1),
+        (b"zone a ", 1),
+        (b"zone \x7f", 1),
+        (b"zone\tGMT0", 1),
     ];
     for (text, number) in cases {
         let fault = parse(rt.alloc(), text).err();
