@@ -1,4 +1,2 @@
-pub mod SchemeWords
-pub mod TrafficDay
 pub mod DeviceWords
 pub mod Tapping

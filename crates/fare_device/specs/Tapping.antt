@@ -1,7 +1,8 @@
 -- What a device does with a tap.
 use Rattle.std.specs.Prelude.{ℕ, ◌≡◌, ◌+◌, ◌<◌, ◌≤◌, [], ◌∷◌, ◌++◌, Some, None, IsSome, length, slice_index, slice_set}
 use Rattle.fare_record.specs.Values.{RecordValue}
-use Rattle.fare_device.specs.SchemeWords.{SchemeValue, owner_of, position_of_owner}
+use Rattle.fare_scheme.specs.Values.{SchemeValue}
+use Rattle.fare_scheme.specs.Words.{owner_of, position_of_owner}
 use Rattle.fare_device.specs.DeviceWords.{DeviceValue, last_link}
 use Rattle.fare_device.specs.declared.device.TapRefusal.{TapRefusal}
 use Rattle.fare_device.specs.declared.device.TapRefusal.TheVariants.{UnknownProduct, DayClosed, DayAhead, NumbersSpent, BufferFull}

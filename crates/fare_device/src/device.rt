@@ -1,13 +1,14 @@
-ghost use Rattle.std.specs.Prelude.{◌≡◌, ◌↔◌, ◌+◌, ◌-◌, ℕ, None, IsSome, IfNone, IfOk, IfErr, OnErr, length, option_map, slice_get};
+ghost use Rattle.std.specs.Prelude.{◌≡◌, ◌↔◌, ◌+◌, ◌-◌, ℕ, None, Some, IsSome, IsTrue, IfNone, IfOk, IfErr, OnErr, length, option_map, slice_get};
 ghost use Rattle.fare_frame.specs.declared.frame.Frame.TheVariants.{Tapped};
-ghost use Rattle.fare_device.specs.SchemeWords.{buffer_of, position_of_device};
-ghost use Rattle.fare_device.specs.DeviceWords.{fresh_device, last_link};
+ghost use Rattle.fare_scheme.specs.Words.{buffer_of, position_of_device};
+ghost use Rattle.fare_device.specs.DeviceWords.{fresh_device, taking_over, last_link, AreNumbers};
+ghost use Rattle.std.specs.List.{sum};
 ghost use Rattle.fare_device.specs.Tapping.{IsTapped, TapRefused};
 
-use crate::Scheme;
 use fare_buffer::{Waiting, WaitingFault};
 use fare_frame::Frame;
 use fare_record::{Day, DeviceId, LAST_NUMBER, Moment, ProductId, Record, Tap, Token};
+use fare_scheme::Scheme;
 use std::alloc::Global;
 use std::marker::Model;
 use thiserror::Error;
@@ -18,6 +19,21 @@ pub enum DeviceFault {
     /// The device is not registered.
     #[error("unknown device")]
     UnknownDevice,
+    /// There was no memory for it.
+    #[error("no memory")]
+    Memory,
+}
+
+/// Why no device took numbers over.
+#[derive(Clone, Copy, PartialEq, Eq, Debug, Error)]
+pub enum NumbersFault {
+    /// The device is not registered.
+    #[error("unknown device")]
+    UnknownDevice,
+    /// There is not one lane count for each owner, their sum is not the last link, or that is above
+    /// `LAST_NUMBER`.
+    #[error("the numbers are out of range")]
+    Range,
     /// There was no memory for it.
     #[error("no memory")]
     Memory,
@@ -81,7 +97,7 @@ impl Device {
             Err(WaitingFault::Memory) => return Err(DeviceFault::Memory),
             Err(WaitingFault::Range) => unreachable!(),
         };
-        let Ok(lanes) = vec![in alloc; 0; scheme.owners()] else {
+        let Ok(lanes) = vec![in alloc; 0; scheme.owner_count()] else {
             return Err(DeviceFault::Memory);
         };
         Ok(Device {
@@ -92,6 +108,41 @@ impl Device {
             cursor: 0,
             lanes,
         })
+    }
+
+    /// The device that takes the place of one which gave out the links up to `last`, and to each owner, in
+    /// order of registration, as many lane numbers as `lanes` says. All of them count as acknowledged, so
+    /// nothing waits. Its open day is `day`, of which the caller knows that no tap was numbered.
+    ///
+    /// The first fault that applies, in the order `UnknownDevice`, `Range`, `Memory`.
+    pub fn with_numbers(
+        alloc: Global,
+        id: DeviceId,
+        scheme: &Scheme,
+        day: Day,
+        last: u64,
+        lanes: &[u64],
+    ) -> Result<Device, NumbersFault>
+        ensures made { IfOk result (λ device. device ≡ taking_over id day device.room last lanes.now) }
+        ensures room { IfOk result (λ device. buffer_of scheme.now id ≡ Some device.room) }
+        ensures numbers { IfOk result (λ _. AreNumbers scheme.now last lanes.now) }
+        ensures unknown { IfErr result (λ fault. (fault ≡ NumbersFault.UnknownDevice) ↔ (position_of_device scheme.now id ≡ None)) }
+        ensures range { IfErr result (λ fault. (fault ≡ NumbersFault.Range) ↔ (IsSome (position_of_device scheme.now id) × (AreNumbers scheme.now last lanes.now → ⊥))) }
+    {
+        if scheme.device_position(id).is_none() {
+            return Err(NumbersFault::UnknownDevice);
+        }
+        if lanes.len() != scheme.owner_count() || last > LAST_NUMBER || !add_up(lanes, last) {
+            return Err(NumbersFault::Range);
+        }
+        let Ok(mut device) = Device::new(alloc, id, scheme) else {
+            return Err(NumbersFault::Memory);
+        };
+        device.lanes.copy_from_slice(lanes);
+        device.day = day;
+        device.base = last;
+        device.cursor = last;
+        Ok(device)
     }
 
     /// Its id.
@@ -166,4 +217,18 @@ impl Device {
         self.cursor += 1;
         Some(Frame::Tapped(record))
     }
+}
+
+/// Whether the counts have this sum.
+fn add_up(counts: &[u64], total: u64) -> bool
+    ensures { IsTrue result ↔ (sum counts.now ≡ total) }
+{
+    let mut left = total;
+    for count in counts {
+        let Some(rest) = left.checked_sub(*count) else {
+            return false;
+        };
+        left = rest;
+    }
+    left == 0
 }

@@ -3,13 +3,9 @@
 //! and a tap that finds the buffer full gets none.
 #![tactic(auto)]
 
-mod day;
 mod device;
-mod scheme;
 
-pub use day::{BadMoment, traffic_day};
-pub use device::{Device, DeviceFault, TapRefusal};
-pub use scheme::{Range, Scheme, Tariff};
+pub use device::{Device, DeviceFault, NumbersFault, TapRefusal};
 
 #[cfg(test)]
 mod tests;

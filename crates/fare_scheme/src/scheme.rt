@@ -1,4 +1,4 @@
-ghost use Rattle.std.specs.Prelude.{◌≡◌, ◌↔◌, Some, IsSome, IfSome, length, slice_get};
+ghost use Rattle.std.specs.Prelude.{◌≡◌, ◌↔◌, ◌<◌, Some, IsSome, IfSome, length, slice_get};
 ghost use Rattle.fare_scheme.specs.Facts.{IsScheme, IsTariff};
 ghost use Rattle.fare_scheme.specs.Ranges.{IsBuffer, IsCapacity};
 ghost use Rattle.fare_scheme.specs.Words.{owner_of, tariff_of, station_of, operator_of, buffer_of, lane_capacity_of, id_at, position_of_owner, position_of_operator, position_of_station, position_of_product, position_of_device};
@@ -151,6 +151,7 @@ impl Scheme {
     pub fn owner_position(&self, owner: OwnerId) -> Option<usize>
         ensures value { result ≡ position_of_owner self.now owner }
         ensures at { IfSome result (λ position. id_at self.now.owners position ≡ Some owner) }
+        ensures within { IfSome result (λ position. position < length self.now.owners) }
     {
         self.owners.get_index_of(&owner)
     }
@@ -175,6 +176,7 @@ impl Scheme {
     pub fn operator_position(&self, operator: OperatorId) -> Option<usize>
         ensures value { result ≡ position_of_operator self.now operator }
         ensures at { IfSome result (λ position. slice_get self.now.operators position ≡ Some operator) }
+        ensures within { IfSome result (λ position. position < length self.now.operators) }
     {
         self.operators.get_index_of(&operator)
     }
@@ -199,6 +201,7 @@ impl Scheme {
     pub fn station_position(&self, station: StationId) -> Option<usize>
         ensures value { result ≡ position_of_station self.now station }
         ensures at { IfSome result (λ position. id_at self.now.stations position ≡ Some station) }
+        ensures within { IfSome result (λ position. position < length self.now.stations) }
     {
         self.stations.get_index_of(&station)
     }
@@ -223,6 +226,7 @@ impl Scheme {
     pub fn product_position(&self, product: ProductId) -> Option<usize>
         ensures value { result ≡ position_of_product self.now product }
         ensures at { IfSome result (λ position. id_at self.now.products position ≡ Some product) }
+        ensures within { IfSome result (λ position. position < length self.now.products) }
     {
         self.products.get_index_of(&product)
     }
@@ -247,6 +251,7 @@ impl Scheme {
     pub fn device_position(&self, device: DeviceId) -> Option<usize>
         ensures value { result ≡ position_of_device self.now device }
         ensures at { IfSome result (λ position. id_at self.now.devices position ≡ Some device) }
+        ensures within { IfSome result (λ position. position < length self.now.devices) }
     {
         self.devices.get_index_of(&device)
     }

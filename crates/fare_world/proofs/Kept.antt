@@ -8,8 +8,9 @@ use Rattle.std.proofs.Math.Seq.{take-length}
 use Rattle.std.proofs.lemmas.Bool.Decides.{nat_tests}
 use Rattle.fare_record.specs.Values.{RecordValue}
 use Rattle.fare_record.specs.Lanes.{part, of_device}
-use Rattle.fare_device.specs.SchemeWords.{SchemeValue, owner_of}
-use Rattle.fare_device.specs.TrafficDay.{traffic_day_of}
+use Rattle.fare_scheme.specs.Values.{SchemeValue}
+use Rattle.fare_scheme.specs.Words.{owner_of}
+use Rattle.fare_world.specs.System.{day_of}
 use Rattle.fare_world.specs.declared.event.Event.{Event}
 use Rattle.fare_world.specs.declared.event.Event.TheVariants as event
 use Rattle.fare_world.specs.declared.reply.Refusal.{Refusal}
@@ -137,7 +138,7 @@ numbered_push d taps r h new k x e =
         subst (λ q. IsNumbered d (taps ++ r ∷ []) q x) (sym at) (subst (IsNumbered d (taps ++ r ∷ []) (length taps)) same is)
 
 -- a tap of the open day that gets the device's next numbers
-numbers : (sc : SchemeValue) (s : System) (d o p t m day : ℕ) → IsSystem s → owner_of sc p ≡ Some o → traffic_day_of m ≡ Some day → day ≡ (s.devices d).day → length (s.devices d).taps < 1099511627775
+numbers : (sc : SchemeValue) (s : System) (d o p t m day : ℕ) → IsSystem s → owner_of sc p ≡ Some o → day_of sc m ≡ Some day → day ≡ (s.devices d).day → length (s.devices d).taps < 1099511627775
     → Moves sc s (event.Tap d p t m) (with_tap s d (next_record s d o (record { product = p; token = t; moment = m; day = day })), Recorded (length (s.devices d).taps + 1) (length (numbered_for s o d) + 1))
 numbers sc s d o p t m day h owned dated current lt = record {
   system = devices_change s (put s.devices d new) h
@@ -190,12 +191,12 @@ numbers sc s d o p t m day h owned dated current lt = record {
         (part-push q v.taps r)
 
 moves_tap : (sc : SchemeValue) (s : System) (d p t m : ℕ) → IsSystem s → Moves sc s (event.Tap d p t m) (tap sc s d p t m)
-moves_tap sc s d p t m h = if_all (knows_device sc d) (Moves sc s e) (tap_on sc s d p t m (traffic_day_of m)) (s, Refused UnknownDevice) (λ _. on (traffic_day_of m) refl) (λ _. stays sc s e (Refused UnknownDevice) refl h)
+moves_tap sc s d p t m h = if_all (knows_device sc d) (Moves sc s e) (tap_on sc s d p t m (day_of sc m)) (s, Refused UnknownDevice) (λ _. on (day_of sc m) refl) (λ _. stays sc s e (Refused UnknownDevice) refl h)
   where
     e : Event
     e = event.Tap d p t m
 
-    of_owner : (day : ℕ) → traffic_day_of m ≡ Some day → (o : Option ℕ) → owner_of sc p ≡ o → Moves sc s e (tap_for s d (room_of sc d) (record { product = p; token = t; moment = m; day = day }) o)
+    of_owner : (day : ℕ) → day_of sc m ≡ Some day → (o : Option ℕ) → owner_of sc p ≡ o → Moves sc s e (tap_for s d (room_of sc d) (record { product = p; token = t; moment = m; day = day }) o)
     of_owner day dated None owned = stays sc s e (Refused UnknownProduct) refl h
     of_owner day dated (Some o) owned =
         if_all (nat_lt day (s.devices d).day) (Moves sc s e) _ _ (λ _. stays sc s e (Refused DayClosed) refl h)
@@ -204,7 +205,7 @@ moves_tap sc s d p t m h = if_all (knows_device sc d) (Moves sc s e) (tap_on sc 
         (λ c. if_all (nat_le (room_of sc d) (waiting_count s d)) (Moves sc s e) _ _ (λ _. stays sc s e (Refused BufferFull) refl h)
         (λ _. numbers sc s d o p t m day h owned dated (omega (arith, not_below _ _ a, not_below _ _ b)) (above _ _ c)))))
 
-    on : (o : Option ℕ) → traffic_day_of m ≡ o → Moves sc s e (tap_on sc s d p t m o)
+    on : (o : Option ℕ) → day_of sc m ≡ o → Moves sc s e (tap_on sc s d p t m o)
     on None dated = stays sc s e (Refused BadMoment) refl h
     on (Some day) dated = of_owner day dated (owner_of sc p) refl
 

@@ -3,12 +3,12 @@ use Rattle.std.proofs.Common.{◌≡◌, ◌≢◌, ℕ, ◌+◌, ◌-◌, ◌<�
 use Rattle.std.specs.Prelude.{◌==◌, slice_get, slice_index, if◌then◌else◌, Option, IfSome, is_some, option_map, unwrap_or}
 use Rattle.std.proofs.lemmas.Bool.Decides.{nat_tests, Decides-eqb}
 use Rattle.std.proofs.lemmas.List.{take-append-le, length-drop, length_push}
-use Rattle.std.proofs.lemmas.List.Quantifiers.{position-Some}
 use Rattle.std.proofs.lemmas.Option.{slice_get-get_or, slice_get_within}
 use Rattle.fare_record.specs.Values.{RecordValue, TapValue}
 use Rattle.fare_record.specs.Lanes.{part}
-use Rattle.fare_device.specs.SchemeWords.{SchemeValue, OwnerEntry, owner_of, position_of_device, position_of_owner}
-use Rattle.fare_device.specs.TrafficDay.{traffic_day_of}
+use Rattle.fare_scheme.specs.Values.{SchemeValue}
+use Rattle.fare_scheme.specs.Words.{owner_of, position_of_device, position_of_owner}
+use Rattle.fare_world.specs.System.{day_of}
 use Rattle.fare_device.specs.DeviceWords.{DeviceValue, last_link}
 use Rattle.fare_device.specs.Tapping.{IsTapped}
 use Rattle.fare_frame.specs.Grammar.{frame_bytes, IsFrame}
@@ -34,7 +34,7 @@ use Rattle.fare_world.specs.Whole.{shape}
 use Rattle.fare_world.specs.Shown.{entry}
 use Rattle.fare_world.specs.Shown.{IsDevice, IsSystem, IsAt, IsPacketOf, IsDeviceOf, ShowsDevice, Shape, Shows}
 use Rattle.fare_world.proofs.Lists.{if_all, Each2-push, length-Each2, part-push, take-part-push, drop-push, slice_get-drop}
-use Rattle.fare_world.proofs.TableLemmas.{put_all, put_both, put_here, slice_get-set_same, slice_get-set_other, entry-set, devices_apart, owners_apart}
+use Rattle.fare_world.proofs.TableLemmas.{put_all, put_both, put_here, slice_get-set_same, slice_get-set_other, entry-set, devices_apart, owners_apart, owner_within}
 use Rattle.fare_world.proofs.Kept.{moves_step, device_changes}
 use Rattle.fare_world.proofs.Showing.{Answers, answers_by, grows_by_tap, grows_by_none, shows_devices, last_link_is, device_shown}
 
@@ -46,46 +46,46 @@ waiting_is : (sc : SchemeValue) (d : ℕ) (v : DeviceState) (x : DeviceValue) �
 waiting_is sc d v x sd = ap length sd.waiting ∙ length-drop v.base v.taps
 
 -- TAP, down to its tests
-tap_on_known : (sc : SchemeValue) (s : System) (d k p t m : ℕ) → position_of_device sc d ≡ Some k → tap sc s d p t m ≡ tap_on sc s d p t m (traffic_day_of m)
-tap_on_known sc s d k p t m at = ap (λ o. if is_some o then tap_on sc s d p t m (traffic_day_of m) else (s, Refused UnknownDevice)) at
+tap_on_known : (sc : SchemeValue) (s : System) (d k p t m : ℕ) → position_of_device sc d ≡ Some k → tap sc s d p t m ≡ tap_on sc s d p t m (day_of sc m)
+tap_on_known sc s d k p t m at = ap (λ o. if is_some o then tap_on sc s d p t m (day_of sc m) else (s, Refused UnknownDevice)) at
 
-tap_on_day : (sc : SchemeValue) (s : System) (d k p t m day : ℕ) → position_of_device sc d ≡ Some k → traffic_day_of m ≡ Some day → tap sc s d p t m ≡ tap_for s d (room_of sc d) (record { product = p; token = t; moment = m; day = day }) (owner_of sc p)
+tap_on_day : (sc : SchemeValue) (s : System) (d k p t m day : ℕ) → position_of_device sc d ≡ Some k → day_of sc m ≡ Some day → tap sc s d p t m ≡ tap_for s d (room_of sc d) (record { product = p; token = t; moment = m; day = day }) (owner_of sc p)
 tap_on_day sc s d k p t m day at dated = tap_on_known sc s d k p t m at ∙ ap (tap_on sc s d p t m) dated
 
 pub shown_unknown : (sc : SchemeValue) (h : Shape) (s : System) (d p t m : ℕ) → Shows sc h s → position_of_device sc d ≡ None → Answers sc h (tap sc s d p t m) (Refused UnknownDevice)
-shown_unknown sc h s d p t m w none = answers_by sc h (Refused UnknownDevice) (tap sc s d p t m) (s, Refused UnknownDevice) (ap (λ o. if is_some o then tap_on sc s d p t m (traffic_day_of m) else (s, Refused UnknownDevice)) none) refl w
+shown_unknown sc h s d p t m w none = answers_by sc h (Refused UnknownDevice) (tap sc s d p t m) (s, Refused UnknownDevice) (ap (λ o. if is_some o then tap_on sc s d p t m (day_of sc m) else (s, Refused UnknownDevice)) none) refl w
 
-pub shown_bad_moment : (sc : SchemeValue) (h : Shape) (s : System) (d k p t m : ℕ) → Shows sc h s → position_of_device sc d ≡ Some k → traffic_day_of m ≡ None → Answers sc h (tap sc s d p t m) (Refused BadMoment)
+pub shown_bad_moment : (sc : SchemeValue) (h : Shape) (s : System) (d k p t m : ℕ) → Shows sc h s → position_of_device sc d ≡ Some k → day_of sc m ≡ None → Answers sc h (tap sc s d p t m) (Refused BadMoment)
 shown_bad_moment sc h s d k p t m w at none = answers_by sc h (Refused BadMoment) (tap sc s d p t m) (s, Refused BadMoment) (tap_on_known sc s d k p t m at ∙ ap (tap_on sc s d p t m) none) refl w
 
-pub shown_unknown_product : (sc : SchemeValue) (h : Shape) (s : System) (d k p t m day : ℕ) → Shows sc h s → position_of_device sc d ≡ Some k → traffic_day_of m ≡ Some day → owner_of sc p ≡ None → Answers sc h (tap sc s d p t m) (Refused UnknownProduct)
+pub shown_unknown_product : (sc : SchemeValue) (h : Shape) (s : System) (d k p t m day : ℕ) → Shows sc h s → position_of_device sc d ≡ Some k → day_of sc m ≡ Some day → owner_of sc p ≡ None → Answers sc h (tap sc s d p t m) (Refused UnknownProduct)
 shown_unknown_product sc h s d k p t m day w at dated none =
     answers_by sc h (Refused UnknownProduct) (tap sc s d p t m) (s, Refused UnknownProduct) (tap_on_day sc s d k p t m day at dated ∙ ap (tap_for s d (room_of sc d) (record { product = p; token = t; moment = m; day = day })) none) refl w
 
 -- a refusal that comes after the product is known
-refused_for : (sc : SchemeValue) (h : Shape) (s : System) (d k p t m day : ℕ) (why : Refusal) → Shows sc h s → position_of_device sc d ≡ Some k → traffic_day_of m ≡ Some day → (o : Option ℕ) → owner_of sc p ≡ o → is_some o ≡ true → ((o : ℕ) → tap_for s d (room_of sc d) (record { product = p; token = t; moment = m; day = day }) (Some o) ≡ (s, Refused why)) → Answers sc h (tap sc s d p t m) (Refused why)
+refused_for : (sc : SchemeValue) (h : Shape) (s : System) (d k p t m day : ℕ) (why : Refusal) → Shows sc h s → position_of_device sc d ≡ Some k → day_of sc m ≡ Some day → (o : Option ℕ) → owner_of sc p ≡ o → is_some o ≡ true → ((o : ℕ) → tap_for s d (room_of sc d) (record { product = p; token = t; moment = m; day = day }) (Some o) ≡ (s, Refused why)) → Answers sc h (tap sc s d p t m) (Refused why)
 refused_for sc h s d k p t m day why w at dated None owned some goes = absurd (cc)
 refused_for sc h s d k p t m day why w at dated (Some o) owned some goes =
     answers_by sc h (Refused why) (tap sc s d p t m) (s, Refused why) (tap_on_day sc s d k p t m day at dated ∙ ap (tap_for s d (room_of sc d) (record { product = p; token = t; moment = m; day = day })) owned ∙ goes o) refl w
 
-pub shown_day_closed : (sc : SchemeValue) (h : Shape) (s : System) (d k p t m day : ℕ) (x : DeviceValue) → Shows sc h s → position_of_device sc d ≡ Some k → traffic_day_of m ≡ Some day → h.devices d ≡ Some x → is_some (owner_of sc p) ≡ true → day < x.day → Answers sc h (tap sc s d p t m) (Refused DayClosed)
+pub shown_day_closed : (sc : SchemeValue) (h : Shape) (s : System) (d k p t m day : ℕ) (x : DeviceValue) → Shows sc h s → position_of_device sc d ≡ Some k → day_of sc m ≡ Some day → h.devices d ≡ Some x → is_some (owner_of sc p) ≡ true → day < x.day → Answers sc h (tap sc s d p t m) (Refused DayClosed)
 shown_day_closed sc h s d k p t m day x w at dated here known lt =
     let early : day < (s.devices d).day = omega (arith, (device_shown sc h s d x w here).day) in
     refused_for sc h s d k p t m day DayClosed w at dated (owner_of sc p) refl known (λ o. grind (arith, nat_tests))
 
-pub shown_day_ahead : (sc : SchemeValue) (h : Shape) (s : System) (d k p t m day : ℕ) (x : DeviceValue) → Shows sc h s → position_of_device sc d ≡ Some k → traffic_day_of m ≡ Some day → h.devices d ≡ Some x → is_some (owner_of sc p) ≡ true → x.day < day → Answers sc h (tap sc s d p t m) (Refused DayAhead)
+pub shown_day_ahead : (sc : SchemeValue) (h : Shape) (s : System) (d k p t m day : ℕ) (x : DeviceValue) → Shows sc h s → position_of_device sc d ≡ Some k → day_of sc m ≡ Some day → h.devices d ≡ Some x → is_some (owner_of sc p) ≡ true → x.day < day → Answers sc h (tap sc s d p t m) (Refused DayAhead)
 shown_day_ahead sc h s d k p t m day x w at dated here known lt =
     let late : (s.devices d).day < day = omega (arith, (device_shown sc h s d x w here).day) in
     refused_for sc h s d k p t m day DayAhead w at dated (owner_of sc p) refl known (λ o. grind (arith, nat_tests))
 
-pub shown_spent : (sc : SchemeValue) (h : Shape) (s : System) (d k p t m day : ℕ) (x : DeviceValue) → Shows sc h s → position_of_device sc d ≡ Some k → traffic_day_of m ≡ Some day → h.devices d ≡ Some x → is_some (owner_of sc p) ≡ true → day ≡ x.day → 1099511627775 ≤ last_link x → Answers sc h (tap sc s d p t m) (Refused NumbersSpent)
+pub shown_spent : (sc : SchemeValue) (h : Shape) (s : System) (d k p t m day : ℕ) (x : DeviceValue) → Shows sc h s → position_of_device sc d ≡ Some k → day_of sc m ≡ Some day → h.devices d ≡ Some x → is_some (owner_of sc p) ≡ true → day ≡ x.day → 1099511627775 ≤ last_link x → Answers sc h (tap sc s d p t m) (Refused NumbersSpent)
 shown_spent sc h s d k p t m day x w at dated here known same full =
     let sd = device_shown sc h s d x w here in
     let current : day ≡ (s.devices d).day = same ∙ sd.day in
     let spent : 1099511627775 ≤ length (s.devices d).taps = omega (arith, last_link_is sc d (s.devices d) x (w.system.devices d) sd) in
     refused_for sc h s d k p t m day NumbersSpent w at dated (owner_of sc p) refl known (λ o. grind (arith, nat_tests))
 
-pub shown_full : (sc : SchemeValue) (h : Shape) (s : System) (d k p t m day : ℕ) (x : DeviceValue) → Shows sc h s → position_of_device sc d ≡ Some k → traffic_day_of m ≡ Some day → h.devices d ≡ Some x → is_some (owner_of sc p) ≡ true → day ≡ x.day → last_link x < 1099511627775 → length x.waiting ≡ x.room → Answers sc h (tap sc s d p t m) (Refused BufferFull)
+pub shown_full : (sc : SchemeValue) (h : Shape) (s : System) (d k p t m day : ℕ) (x : DeviceValue) → Shows sc h s → position_of_device sc d ≡ Some k → day_of sc m ≡ Some day → h.devices d ≡ Some x → is_some (owner_of sc p) ≡ true → day ≡ x.day → last_link x < 1099511627775 → length x.waiting ≡ x.room → Answers sc h (tap sc s d p t m) (Refused BufferFull)
 shown_full sc h s d k p t m day x w at dated here known same few full =
     let sd = device_shown sc h s d x w here in
     let current : day ≡ (s.devices d).day = same ∙ sd.day in
@@ -110,11 +110,8 @@ tapped_device sc d v x new p t m day r is sd long did lane =
       lanes = counts;
     })
   where
-    none : OwnerEntry
-    none = record { id = 0; lane = 0 }
-
     within : did.place < length x.lanes
-    within = omega (arith, long, (position-Some (λ y. y.id == r.owner) sc.owners did.place none did.at).0)
+    within = omega (arith, long, owner_within sc r.owner did.place did.at)
 
     same_Some : (a b : ℕ) → Some a ≡ Some b → a ≡ b
     same_Some a b e = cc
@@ -135,7 +132,7 @@ tapped_device sc d v x new p t m day r is sd long did lane =
         not_other : r.owner ≡ o → (r.owner == o) ≡ false → ⊥
         not_other q apart = absurd (grind (arith, nat_tests))
 
-pub shown_tap : (sc : SchemeValue) (h : Shape) (s : System) (d k p t m day : ℕ) (x new : DeviceValue) (r : RecordValue) → Shows sc h s → position_of_device sc d ≡ Some k → traffic_day_of m ≡ Some day → h.devices d ≡ Some x → length x.lanes ≡ length sc.owners → IsTapped sc x p t m day r new → Answers sc (record h { devices = put h.devices d (Some new) }) (tap sc s d p t m) (Recorded r.link r.lane)
+pub shown_tap : (sc : SchemeValue) (h : Shape) (s : System) (d k p t m day : ℕ) (x new : DeviceValue) (r : RecordValue) → Shows sc h s → position_of_device sc d ≡ Some k → day_of sc m ≡ Some day → h.devices d ≡ Some x → length x.lanes ≡ length sc.owners → IsTapped sc x p t m day r new → Answers sc (record h { devices = put h.devices d (Some new) }) (tap sc s d p t m) (Recorded r.link r.lane)
 shown_tap sc h s d k p t m day x new r w at dated here long did =
     answers_by sc (record h { devices = put h.devices d (Some new) }) (Recorded r.link r.lane) (tap sc s d p t m) (with_tap s d r, Recorded r.link r.lane) goes refl
     (shows_devices sc h s g (put h.devices d (Some new)) h.nexts w system (grows_by_tap s d after r refl)
@@ -157,11 +154,8 @@ shown_tap sc h s d k p t m day x new r w at dated here long did =
     tv : TapValue
     tv = record { product = p; token = t; moment = m; day = day }
 
-    none : OwnerEntry
-    none = record { id = 0; lane = 0 }
-
     within : did.place < length x.lanes
-    within = omega (arith, long, (position-Some (λ y. y.id == r.owner) sc.owners did.place none did.at).0)
+    within = omega (arith, long, owner_within sc r.owner did.place did.at)
 
     count : slice_index x.lanes did.place ≡ length (part r.owner v.taps)
     count = sd.lanes r.owner did.place (slice_index x.lanes did.place) did.at (slice_get-get_or x.lanes did.place 0 within)
@@ -291,7 +285,7 @@ device_same w k x new e same = λ i d. entry (position_of_device w.scheme d) (wr
     written : set w.devices.items k new ≡ w.devices.items
     written = ap (set w.devices.items k) (same ∙ e) ∙ set-get_or w.devices.items k x
 
-pub world_tapped : (w : World) (s : System) (d k p t m day : ℕ) (x new : DeviceValue) (r : RecordValue) (link lane : ℕ) → Shows w.scheme (shape w) s → position_of_device w.scheme d ≡ Some k → k < length w.devices.items → x ≡ get_or w.devices.items k x → traffic_day_of m ≡ Some day → IsTapped w.scheme x p t m day r new → link ≡ r.link → lane ≡ r.lane
+pub world_tapped : (w : World) (s : System) (d k p t m day : ℕ) (x new : DeviceValue) (r : RecordValue) (link lane : ℕ) → Shows w.scheme (shape w) s → position_of_device w.scheme d ≡ Some k → k < length w.devices.items → x ≡ get_or w.devices.items k x → day_of w.scheme m ≡ Some day → IsTapped w.scheme x p t m day r new → link ≡ r.link → lane ≡ r.lane
     → Answers w.scheme (record (shape w) { devices = λ e. entry (position_of_device w.scheme e) (set w.devices.items k new) }) (tap w.scheme s d p t m) (Recorded link lane)
 world_tapped w s d k p t m day x new r link lane sh at within e dated did same_link same_lane =
     let here = device_read w d k x at within e in
@@ -308,14 +302,14 @@ AnswersRefused w devices s d p t m why.DayAhead = Answers w.scheme (record (shap
 AnswersRefused w devices s d p t m why.NumbersSpent = Answers w.scheme (record (shape w) { devices = devices }) (tap w.scheme s d p t m) (Refused NumbersSpent)
 AnswersRefused w devices s d p t m why.BufferFull = Answers w.scheme (record (shape w) { devices = devices }) (tap w.scheme s d p t m) (Refused BufferFull)
 
-refused_as_it_was : (w : World) (s : System) (d k p t m day : ℕ) (x : DeviceValue) (e : TapRefusal) → Shows w.scheme (shape w) s → position_of_device w.scheme d ≡ Some k → (shape w).devices d ≡ Some x → traffic_day_of m ≡ Some day → TapRefused w.scheme x p day e → AnswersRefused w (shape w).devices s d p t m e
+refused_as_it_was : (w : World) (s : System) (d k p t m day : ℕ) (x : DeviceValue) (e : TapRefusal) → Shows w.scheme (shape w) s → position_of_device w.scheme d ≡ Some k → (shape w).devices d ≡ Some x → day_of w.scheme m ≡ Some day → TapRefused w.scheme x p day e → AnswersRefused w (shape w).devices s d p t m e
 refused_as_it_was w s d k p t m day x why.UnknownProduct sh at here dated cause = shown_unknown_product w.scheme (shape w) s d k p t m day sh at dated cause
 refused_as_it_was w s d k p t m day x why.DayClosed sh at here dated cause = shown_day_closed w.scheme (shape w) s d k p t m day x sh at dated here cause.0 cause.1
 refused_as_it_was w s d k p t m day x why.DayAhead sh at here dated cause = shown_day_ahead w.scheme (shape w) s d k p t m day x sh at dated here cause.0 cause.1
 refused_as_it_was w s d k p t m day x why.NumbersSpent sh at here dated cause = shown_spent w.scheme (shape w) s d k p t m day x sh at dated here cause.0 cause.1 cause.2
 refused_as_it_was w s d k p t m day x why.BufferFull sh at here dated cause = shown_full w.scheme (shape w) s d k p t m day x sh at dated here cause.0 cause.1 cause.2 cause.3
 
-pub world_refused : (w : World) (s : System) (d k p t m day : ℕ) (x new : DeviceValue) (e f : TapRefusal) → Shows w.scheme (shape w) s → position_of_device w.scheme d ≡ Some k → k < length w.devices.items → x ≡ get_or w.devices.items k x → traffic_day_of m ≡ Some day → new ≡ x → TapRefused w.scheme x p day e → e ≡ f
+pub world_refused : (w : World) (s : System) (d k p t m day : ℕ) (x new : DeviceValue) (e f : TapRefusal) → Shows w.scheme (shape w) s → position_of_device w.scheme d ≡ Some k → k < length w.devices.items → x ≡ get_or w.devices.items k x → day_of w.scheme m ≡ Some day → new ≡ x → TapRefused w.scheme x p day e → e ≡ f
     → AnswersRefused w (λ j. entry (position_of_device w.scheme j) (set w.devices.items k new)) s d p t m f
 world_refused w s d k p t m day x new e f sh at within read dated same cause is =
     subst (λ (q : (ℕ → Option DeviceValue) × TapRefusal). AnswersRefused w q.0 s d p t m q.1) (λ i. (sym (device_same w k x new read same) i, is i))

@@ -5,7 +5,8 @@ use Rattle.std.proofs.lemmas.Bool.Decides.{Decides-eqb}
 use Rattle.std.proofs.lemmas.List.{length-replicate}
 use Rattle.std.proofs.lemmas.List.Quantifiers.{position-Some}
 use Rattle.std.proofs.lemmas.Option.{slice_get-get_or}
-use Rattle.fare_device.specs.SchemeWords.{SchemeValue, DeviceEntry, OwnerEntry, buffer_of, position_of_device, position_of_owner}
+use Rattle.fare_scheme.specs.Values.{SchemeValue}
+use Rattle.fare_scheme.specs.Words.{buffer_of, position_of_device, position_of_owner}
 use Rattle.fare_device.specs.DeviceWords.{DeviceValue, fresh_device}
 use Rattle.fare_world.specs.declared.owner.Owner.{Owner}
 use Rattle.fare_world.specs.declared.world.World.{World}
@@ -16,6 +17,7 @@ use Rattle.fare_world.specs.Fresh.{IsFreshDevice, AreFreshDevices, IsFreshOwner,
 use Rattle.fare_world.specs.Tables.{upto_in, rows_in}
 use Rattle.fare_world.specs.Whole.{owner_shape, shape}
 use Rattle.fare_world.proofs.Places.{slice_get-push_cases}
+use Rattle.fare_world.proofs.TableLemmas.{devices_apart, owners_apart}
 use Rattle.fare_world.proofs.Stepping.{start_is}
 
 slice_get-replicate : {A : Type 0} (n : ℕ) (a : A) (k : ℕ) (x : A) → slice_get (replicate n a) k ≡ Some x → x ≡ a
@@ -36,26 +38,6 @@ one_owner_more sc xs x all is k y e = elim (slice_get-push_cases xs x k y e) [
   | inl was ↦ all k y was
   | inr new ↦ subst (λ n. IsFreshOwner sc n y) (sym new.0) (subst (IsFreshOwner sc (length xs)) new.1 is)
 ]
-
-same_some : {A : Type 0} (x y : A) → Some x ≡ Some y → x ≡ y
-same_some x y e = cc
-
--- the device of a position has the id that stands there
-device_id : (sc : SchemeValue) (d k i : ℕ) → position_of_device sc d ≡ Some k → option_map (λ e. e.id) (slice_get sc.devices k) ≡ Some i → i ≡ d
-device_id sc d k i at is =
-    let none : DeviceEntry = record { id = 0; station = 0; buffer = 0 } in
-    let found = position-Some (λ x. x.id == d) sc.devices k none at in
-    let here : slice_get sc.devices k ≡ Some (get_or sc.devices k none) = slice_get-get_or sc.devices k none found.0 in
-    let same : Some (get_or sc.devices k none).id ≡ Some i = sym (ap (option_map (λ (e : DeviceEntry). e.id)) here) ∙ is in
-    sym (same_some (get_or sc.devices k none).id i same) ∙ (Decides-eqb (get_or sc.devices k none).id d).0 found.1
-
-owner_id : (sc : SchemeValue) (o k i : ℕ) → position_of_owner sc o ≡ Some k → option_map (λ e. e.id) (slice_get sc.owners k) ≡ Some i → i ≡ o
-owner_id sc o k i at is =
-    let none : OwnerEntry = record { id = 0; lane = 0 } in
-    let found = position-Some (λ x. x.id == o) sc.owners k none at in
-    let here : slice_get sc.owners k ≡ Some (get_or sc.owners k none) = slice_get-get_or sc.owners k none found.0 in
-    let same : Some (get_or sc.owners k none).id ≡ Some i = sym (ap (option_map (λ (e : OwnerEntry). e.id)) here) ∙ is in
-    sym (same_some (get_or sc.owners k none).id i same) ∙ (Decides-eqb (get_or sc.owners k none).id o).0 found.1
 
 fresh_lanes : (sc : SchemeValue) (d : ℕ) (x : DeviceValue) → x ≡ fresh_device x.id sc.start x.room (length sc.owners) → buffer_of sc x.id ≡ Some x.room → x.id ≡ d → IsDeviceOf sc d ((start sc).devices d) x
 fresh_lanes sc d x fresh room id = record {
@@ -91,7 +73,7 @@ starts w devices nexts air inbox hand upto rows owners = record {
       where
         found : (o : Option DeviceValue) → slice_get w.devices.items k ≡ o → ShowsDevice sc d ((start sc).devices d) o
         found None e = refl
-        found (Some x) e = let is = devices.each k x e in fresh_lanes sc d x is.fresh is.room (device_id sc d k x.id at is.at)
+        found (Some x) e = let is = devices.each k x e in fresh_lanes sc d x is.fresh is.room (devices_apart sc x.id d k is.at at)
 
     next : (p : Option ℕ) → IfSome (entry p w.nexts.items) (λ n. n ≡ 1)
     next None = tt
@@ -110,7 +92,7 @@ starts w devices nexts air inbox hand upto rows owners = record {
         found (Some x) e =
             let is = owners.each k x e in
             record {
-              id = owner_id sc o k x.ledger.owner at is.at;
+              id = owners_apart sc x.ledger.owner o k is.at at;
               taken = is.taken;
               queue = subst (Each2 (IsRoutedOf (start sc).devices o) []) (sym is.queue) tt;
               hand = subst (Both (IsRoutedOf (start sc).devices o) None) (sym is.hand) tt;

@@ -4,7 +4,7 @@ use Rattle.std.specs.Prelude.{◌==◌, if◌then◌else◌, Option}
 use Rattle.std.proofs.lemmas.List.{append-nil, take-append-drop}
 use Rattle.fare_record.specs.Values.{RecordValue}
 use Rattle.fare_record.specs.Lanes.{part, of_device, lane_of}
-use Rattle.fare_device.specs.SchemeWords.{SchemeValue}
+use Rattle.fare_scheme.specs.Values.{SchemeValue}
 use Rattle.fare_world.specs.declared.event.Event.{Event}
 use Rattle.fare_world.specs.System.{System, numbered_for, taken_by, start}
 use Rattle.fare_world.specs.Steps.{step, after, replies}

@@ -1,11 +1,13 @@
 -- Tables with another value at one place.
-use Rattle.std.proofs.Common.{◌≡◌, ◌≢◌, ℕ, zero, suc, ◌<◌, List, [], ◌∷◌, length, set, get_or, Some, None, Bool, true, false, refl, sym, ap, ◌∙◌, subst, arith, length-set}
-use Rattle.std.specs.Prelude.{◌==◌, slice_get, Option, if◌then◌else◌, position}
+use Rattle.std.proofs.Common.{◌≡◌, ◌≢◌, ℕ, zero, suc, ◌<◌, List, [], ◌∷◌, length, set, get_or, Some, None, Bool, true, false, refl, sym, ap, ◌∙◌, subst, arith, length-set, eqb-true}
+use Rattle.std.specs.Prelude.{◌==◌, slice_get, Option, if◌then◌else◌, nat_eq, position}
+use Rattle.std.specs.Map.{keys_of}
 use Rattle.std.proofs.lemmas.Bool.Decides.{nat_tests, Decides-eqb}
-use Rattle.std.proofs.lemmas.List.{get_or-set_same}
+use Rattle.std.proofs.lemmas.List.{get_or-set_same, length-map}
 use Rattle.std.proofs.lemmas.List.Quantifiers.{position-Some}
 use Rattle.std.proofs.lemmas.Option.{slice_get-get_or}
-use Rattle.fare_device.specs.SchemeWords.{SchemeValue, DeviceEntry, OwnerEntry, position_of_device, position_of_owner}
+use Rattle.fare_scheme.specs.Values.{SchemeValue}
+use Rattle.fare_scheme.specs.Words.{position_of_device, position_of_owner}
 use Rattle.fare_world.specs.System.{put, put2}
 use Rattle.fare_world.specs.Shown.{entry}
 use Rattle.fare_world.proofs.Lists.{if_all}
@@ -60,22 +62,18 @@ entry-set at apart xs d k v is lt = put_apart (λ e a. entry (at e) (set xs k v)
         not_same : e ≡ d → (e == d) ≡ false → ⊥
         not_same same differ = absurd (grind (arith, nat_tests))
 
-devices_stand_apart : (xs : List DeviceEntry) → IsApart (λ d. position (λ x. x.id == d) xs)
-devices_stand_apart xs d e k p q =
-    let none : DeviceEntry = record { id = 0; station = 0; buffer = 0 } in
-    let a = (position-Some (λ x. x.id == d) xs k none p).1 in
-    let b = (position-Some (λ x. x.id == e) xs k none q).1 in
-    sym ((Decides-eqb (get_or xs k none).id d).0 a) ∙ (Decides-eqb (get_or xs k none).id e).0 b
-
-owners_stand_apart : (xs : List OwnerEntry) → IsApart (λ o. position (λ x. x.id == o) xs)
-owners_stand_apart xs d e k p q =
-    let none : OwnerEntry = record { id = 0; lane = 0 } in
-    let a = (position-Some (λ x. x.id == d) xs k none p).1 in
-    let b = (position-Some (λ x. x.id == e) xs k none q).1 in
-    sym ((Decides-eqb (get_or xs k none).id d).0 a) ∙ (Decides-eqb (get_or xs k none).id e).0 b
+ids_stand_apart : (ids : List ℕ) → IsApart (λ id. position (nat_eq id) ids)
+ids_stand_apart ids d e k p q =
+    let a = (position-Some (nat_eq d) ids k 0 p).1 in
+    let b = (position-Some (nat_eq e) ids k 0 q).1 in
+    eqb-true d (get_or ids k 0) a ∙ sym (eqb-true e (get_or ids k 0) b)
 
 pub devices_apart : (sc : SchemeValue) → IsApart (position_of_device sc)
-devices_apart sc = devices_stand_apart sc.devices
+devices_apart sc = ids_stand_apart (keys_of sc.devices)
 
 pub owners_apart : (sc : SchemeValue) → IsApart (position_of_owner sc)
-owners_apart sc = owners_stand_apart sc.owners
+owners_apart sc = ids_stand_apart (keys_of sc.owners)
+
+-- a position is that of an entry
+pub owner_within : (sc : SchemeValue) (o k : ℕ) → position_of_owner sc o ≡ Some k → k < length sc.owners
+owner_within sc o k at = omega (arith, (position-Some (nat_eq o) (keys_of sc.owners) k 0 at).0, length-map sc.owners (λ (e : ℕ × ℕ). e.0))

@@ -1,13 +1,14 @@
 -- The parts of a new world.
-use Rattle.std.specs.Prelude.{◌≡◌, ℕ, List, [], Some, None, length, slice_get, option_map, replicate}
-use Rattle.fare_device.specs.SchemeWords.{SchemeValue, buffer_of}
+use Rattle.std.specs.Prelude.{◌≡◌, ℕ, List, [], Some, None, length, slice_get, replicate}
+use Rattle.fare_scheme.specs.Values.{SchemeValue}
+use Rattle.fare_scheme.specs.Words.{buffer_of, position_of_device, position_of_owner}
 use Rattle.fare_device.specs.DeviceWords.{DeviceValue, fresh_device}
 use Rattle.fare_world.specs.declared.owner.Owner.{Owner}
 use Rattle.fare_world.specs.Tables.{taken_in}
 
 -- the device at a position of the scheme, fresh
 pub record IsFreshDevice (sc : SchemeValue) (k : ℕ) (x : DeviceValue) : Type 0 where
-  pub at : option_map (λ e. e.id) (slice_get sc.devices k) ≡ Some x.id
+  pub at : position_of_device sc x.id ≡ Some k
   pub room : buffer_of sc x.id ≡ Some x.room
   pub fresh : x ≡ fresh_device x.id sc.start x.room (length sc.owners)
 
@@ -17,7 +18,7 @@ pub record AreFreshDevices (sc : SchemeValue) (xs : List DeviceValue) : Type 0 w
 
 -- the owner at a position of the scheme, with nothing taken, fetched or forwarded
 pub record IsFreshOwner (sc : SchemeValue) (k : ℕ) (x : Owner) : Type 0 where
-  pub at : option_map (λ e. e.id) (slice_get sc.owners k) ≡ Some x.ledger.owner
+  pub at : position_of_owner sc x.ledger.owner ≡ Some k
   pub taken : (device : ℕ) → taken_in x.ledger device ≡ []
   pub queue : x.queue.items ≡ []
   pub hand : x.hand ≡ None

@@ -2,13 +2,13 @@
 use Rattle.std.specs.Prelude.{◌≡◌, ℕ, List, [], ◌∷◌, ◌++◌, length, Option, Some, None, slice_get, ◌⊎◌}
 use Rattle.fare_record.specs.Values.{RecordValue}
 use Rattle.fare_record.specs.Lanes.{of_device}
-use Rattle.fare_device.specs.SchemeWords.{SchemeValue, owner_of}
-use Rattle.fare_device.specs.TrafficDay.{traffic_day_of}
+use Rattle.fare_scheme.specs.Values.{SchemeValue}
+use Rattle.fare_scheme.specs.Words.{owner_of}
 use Rattle.fare_world.specs.declared.event.Event.{Event}
 use Rattle.fare_world.specs.declared.event.Event.TheVariants as event
 use Rattle.fare_world.specs.declared.reply.Reply.{Reply}
 use Rattle.fare_world.specs.declared.reply.Reply.TheVariants.{Recorded}
-use Rattle.fare_world.specs.System.{System, numbered_for, taken_by}
+use Rattle.fare_world.specs.System.{System, day_of, numbered_for, taken_by}
 
 -- THE NUMBERED TAPS, as the events and their replies alone tell
 -- the record that a tap answered with these numbers has
@@ -19,7 +19,7 @@ record_of device product token moment link lane owner day = None
 
 abbrev pub numbered_by : SchemeValue → Event → Reply → Option RecordValue
 numbered_by sc (event.Tap device product token moment) (Recorded link lane) =
-    record_of device product token moment link lane (owner_of sc product) (traffic_day_of moment)
+    record_of device product token moment link lane (owner_of sc product) (day_of sc moment)
 numbered_by sc e r = None
 
 abbrev pub with_first : Option RecordValue → List RecordValue → List RecordValue

@@ -1,6 +1,6 @@
 -- The lengths of a world's tables.
 use Rattle.std.specs.Prelude.{◌≡◌, ℕ, List, Some, length, slice_get}
-use Rattle.fare_device.specs.SchemeWords.{SchemeValue}
+use Rattle.fare_scheme.specs.Values.{SchemeValue}
 use Rattle.fare_device.specs.DeviceWords.{DeviceValue}
 use Rattle.fare_world.specs.declared.owner.Owner.{Owner}
 

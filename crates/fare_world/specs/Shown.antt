@@ -3,7 +3,8 @@ use Rattle.std.specs.Prelude.{◌≡◌, ℕ, ◌+◌, ◌-◌, ◌≤◌, List,
 use Rattle.std.specs.List.{AllByRecursion}
 use Rattle.fare_record.specs.Values.{RecordValue}
 use Rattle.fare_record.specs.Lanes.{part}
-use Rattle.fare_device.specs.SchemeWords.{SchemeValue, buffer_of, position_of_owner}
+use Rattle.fare_scheme.specs.Values.{SchemeValue}
+use Rattle.fare_scheme.specs.Words.{buffer_of, position_of_owner}
 use Rattle.fare_device.specs.DeviceWords.{DeviceValue}
 use Rattle.fare_frame.specs.Grammar.{frame_bytes, IsFrame}
 use Rattle.fare_frame.specs.declared.frame.Frame.TheVariants as frame

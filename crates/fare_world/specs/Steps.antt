@@ -1,14 +1,14 @@
 -- What each event does to the system of numbers, and its reply: the refusals in order, each once.
 use Rattle.std.specs.Prelude.{ℕ, ◌+◌, ◌-◌, ◌==◌, Bool, List, [], ◌∷◌, ◌++◌, length, Option, Some, None, if◌then◌else◌, slice_get, nat_le, nat_lt, is_some, unwrap_or}
 use Rattle.fare_record.specs.Values.{RecordValue, TapValue}
-use Rattle.fare_device.specs.SchemeWords.{SchemeValue, owner_of, buffer_of, position_of_device, position_of_owner}
-use Rattle.fare_device.specs.TrafficDay.{traffic_day_of}
+use Rattle.fare_scheme.specs.Values.{SchemeValue}
+use Rattle.fare_scheme.specs.Words.{owner_of, buffer_of, position_of_device, position_of_owner}
 use Rattle.fare_world.specs.declared.event.Event.{Event}
 use Rattle.fare_world.specs.declared.event.Event.TheVariants as event
 use Rattle.fare_world.specs.declared.reply.Refusal.TheVariants.{UnknownDevice, UnknownOwner, BadMoment, UnknownProduct, DayClosed, DayAhead, NumbersSpent, BufferFull, NoPacket, Old, Ahead, HandFull, Duplicate, Gap}
 use Rattle.fare_world.specs.declared.reply.Reply.{Reply}
 use Rattle.fare_world.specs.declared.reply.Reply.TheVariants.{Idle, Empty, Refused, Recorded, Sent, Accepted, Drawn, Stored, Forwarded, Fetched, Taken, Upto, Count}
-use Rattle.fare_world.specs.System.{put, put2, Packet, Tapped, Arrived, Tap_of, Routed, Lane_of, System, numbered_for, arrived_of}
+use Rattle.fare_world.specs.System.{put, put2, Packet, Tapped, Arrived, Tap_of, Routed, Lane_of, System, day_of, numbered_for, arrived_of}
 
 -- the device, or the owner, is registered
 abbrev pub knows_device : SchemeValue → ℕ → Bool
@@ -55,7 +55,7 @@ tap_on sc s device product token moment (Some day) =
 
 abbrev pub tap : SchemeValue → System → ℕ → ℕ → ℕ → ℕ → System × Reply
 tap sc s device product token moment =
-    if knows_device sc device then tap_on sc s device product token moment (traffic_day_of moment) else (s, Refused UnknownDevice)
+    if knows_device sc device then tap_on sc s device product token moment (day_of sc moment) else (s, Refused UnknownDevice)
 
 -- SEND
 abbrev pub sent : System → ℕ → System

@@ -2,7 +2,8 @@
 use Rattle.std.specs.Prelude.{ℕ, ◌==◌, List, [], take, Option, None, if◌then◌else◌}
 use Rattle.fare_record.specs.Values.{RecordValue}
 use Rattle.fare_record.specs.Lanes.{part}
-use Rattle.fare_device.specs.SchemeWords.{SchemeValue}
+use Rattle.fare_day.specs.TrafficDay.{traffic_day_in_range}
+use Rattle.fare_scheme.specs.Values.{SchemeValue}
 
 -- a table with another value at one place
 abbrev pub put : {A : Type 0} → (ℕ → A) → ℕ → A → ℕ → A
@@ -63,6 +64,10 @@ taken_by s owner device = take (s.lanes owner device).took (numbered_for s owner
 -- what the outbox has had of it
 abbrev pub arrived_of : ℕ → DeviceState → List RecordValue
 arrived_of owner v = part owner (take v.upto v.taps)
+
+-- the traffic day of a moment on the scheme's clock, where that is a day from 0 to 100,000
+abbrev pub day_of : SchemeValue → ℕ → Option ℕ
+day_of sc moment = traffic_day_in_range sc.zone moment
 
 -- nothing was numbered, sent, stored, forwarded or taken, and each device's open day is the scheme's first
 abbrev pub start : SchemeValue → System

@@ -1,7 +1,8 @@
 -- What is seen of a world, and what its calls do.
 use Rattle.std.specs.Prelude.{◌≡◌, ◌≤◌, ℕ, List, take, length, IfSome, option_map, Result, MatchResult}
 use Rattle.fare_record.specs.Lanes.{lane_of}
-use Rattle.fare_device.specs.SchemeWords.{SchemeValue, position_of_device, position_of_owner}
+use Rattle.fare_scheme.specs.Values.{SchemeValue}
+use Rattle.fare_scheme.specs.Words.{position_of_device, position_of_owner}
 use Rattle.fare_world.specs.declared.event.Event.{Event}
 use Rattle.fare_world.specs.declared.reply.Reply.{Reply}
 use Rattle.fare_world.specs.declared.owner.Owner.{Owner}

@@ -1,6 +1,6 @@
 ghost use Rattle.std.specs.Prelude.{ℕ, List};
 ghost use Rattle.fare_record.specs.Lanes.{lane_of};
-ghost use Rattle.fare_device.specs.SchemeWords.{SchemeValue};
+ghost use Rattle.fare_scheme.specs.Values.{SchemeValue};
 ghost use Rattle.fare_world.specs.declared.event.Event.{Event};
 ghost use Rattle.fare_world.specs.System.{System, start, taken_by};
 ghost use Rattle.fare_world.specs.Steps.{step, after, replies};

@@ -1,6 +1,6 @@
 use super::*;
-use fare_device::Scheme;
 use fare_record::{DeviceId, Moment, OwnerId, ProductId, Token};
+use fare_scheme::{DemoSize, Scheme};
 use std::test::Fail;
 
 // One tap from the device to the owner's ledger.
@@ -37,7 +37,7 @@ fn a_tap_reaches_the_ledger(rt: HostRuntime) -> Result<(), Fail> {
         Reply::Upto(1),
         Reply::Count(1),
     ];
-    let scheme = Scheme::demo(4, 4, 4)?;
+    let scheme = Scheme::demo(rt.alloc(), DemoSize::OneDevice, 4, 4, 4)?;
     let world = World::new(rt.alloc(), scheme)?;
     match world.run(rt.alloc(), &events) {
         Ok((mut world, answered)) => {

@@ -6,8 +6,9 @@ use crate::outbox::Outbox;
 use crate::owner::Owner;
 use crate::packet::Packet;
 use crate::{Event, Reply};
-use fare_device::{Device, Scheme};
+use fare_device::Device;
 use fare_record::Record;
+use fare_scheme::Scheme;
 use std::alloc::{AllocError, AllocFailed, Global};
 use std::collections::VecDeque;
 use thiserror::Error;
@@ -40,7 +41,7 @@ impl<T: Drop> From<AllocFailed<T>> for Fault {
 
 /// The parts of a scheme at work: its devices, the air between them and their stations, the inbox, the
 /// writer, the outbox, and each owner with its lane queue and ledger.
-#[derive(Debug, Drop)]
+#[derive(Drop)]
 pub struct World {
     alloc: Global,
     scheme: Scheme,
@@ -55,7 +56,7 @@ pub struct World {
 }
 
 /// A run that a fault stopped: the world before the event that failed, and the replies so far.
-#[derive(Debug, Drop)]
+#[derive(Drop)]
 pub struct Stopped {
     /// The world as it was before that event.
     pub world: World,

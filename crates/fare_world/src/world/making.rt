@@ -7,7 +7,8 @@ use crate::ledger::Ledger;
 use crate::outbox::Outbox;
 use crate::owner::Owner;
 use crate::world::{Fault, World};
-use fare_device::{Device, DeviceFault, Scheme};
+use fare_device::{Device, DeviceFault};
+use fare_scheme::Scheme;
 use std::alloc::Global;
 use std::collections::VecDeque;
 
@@ -40,7 +41,7 @@ fn fresh_devices(alloc: Global, scheme: &Scheme) -> Result<Vec<Device>, Fault>
     ensures { IfOk result (λ devices. AreFreshDevices scheme.now devices.items) }
 {
     let mut devices = Vec::new(alloc);
-    for place in 0..scheme.devices() {
+    for place in 0..scheme.device_count() {
         let Some(id) = scheme.device_at(place) else {
             unreachable!()
         };
@@ -58,11 +59,11 @@ fn fresh_owners(alloc: Global, scheme: &Scheme) -> Result<Vec<Owner>, Fault>
     ensures { IfOk result (λ owners. AreFreshOwners scheme.now owners.items) }
 {
     let mut owners = Vec::new(alloc);
-    for place in 0..scheme.owners() {
+    for place in 0..scheme.owner_count() {
         let Some(id) = scheme.owner_at(place) else {
             unreachable!()
         };
-        let cursors = vec![in alloc; 0; scheme.devices()]?;
+        let cursors = vec![in alloc; 0; scheme.device_count()]?;
         owners.push(Owner {
             ledger: Ledger::new(alloc, id),
             queue: VecDeque::new(alloc),

@@ -4,7 +4,8 @@ ghost use Rattle.fare_world.specs.declared.event.Event.TheVariants as event;
 use crate::packet::Packet;
 use crate::world::{Fault, World};
 use crate::{Refusal, Reply};
-use fare_device::{TapRefusal, traffic_day};
+use fare_day::traffic_day;
+use fare_device::TapRefusal;
 use fare_record::{DeviceId, Moment, ProductId, Token};
 
 impl World {
@@ -21,7 +22,7 @@ impl World {
         let Some(place) = self.scheme.device_position(device) else {
             return Ok(Reply::Refused(Refusal::UnknownDevice));
         };
-        let Ok(day) = traffic_day(moment) else {
+        let Ok(day) = traffic_day(self.scheme.zone(), moment) else {
             return Ok(Reply::Refused(Refusal::BadMoment));
         };
         match self.devices[place].tap(&self.scheme, product, token, moment, day) {

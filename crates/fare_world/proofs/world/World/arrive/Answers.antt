@@ -1,6 +1,6 @@
 use Rattle.std.proofs.Common.{◌≡◌, ◌<◌, ◌+◌, Some, None, length, refl, ap, sym, ◌∙◌, subst, arith}
 use Rattle.std.proofs.lemmas.Grind.{common_steps}
-use Rattle.fare_device.specs.SchemeWords.{position_of_device}
+use Rattle.fare_scheme.specs.Words.{position_of_device}
 use Rattle.fare_world.proofs.ShowCollect.{shown_no_packet, no_stranger, shown_old, shown_ahead, next_read, no_device, world_accepted}
 use Rattle.fare_world.proofs.Showing.{stepped, applied_err}
 use Rattle.fare_world.specs.Packets.{bytes_at, IsTapRead}

@@ -1,6 +1,6 @@
 use Rattle.std.proofs.Common.{◌≡◌, ◌<◌, [], Some, None, length, refl, sym, ◌∙◌, subst, arith}
 use Rattle.std.proofs.lemmas.Grind.{common_steps}
-use Rattle.fare_device.specs.SchemeWords.{position_of_owner}
+use Rattle.fare_scheme.specs.Words.{position_of_owner}
 use Rattle.fare_world.specs.declared.owner.Owner.{Owner}
 use Rattle.fare_world.specs.Steps.{fetch}
 use Rattle.fare_world.specs.declared.reply.Reply.TheVariants.{Empty}

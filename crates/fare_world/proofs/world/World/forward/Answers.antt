@@ -1,7 +1,7 @@
 use Rattle.std.proofs.Common.{◌≡◌, ◌<◌, Some, length, length-set, get_or, refl, sym, ◌∙◌, subst, arith}
 use Rattle.std.specs.Vec.{with_item}
 use Rattle.std.proofs.lemmas.Grind.{common_steps}
-use Rattle.fare_device.specs.SchemeWords.{position_of_device, position_of_owner}
+use Rattle.fare_scheme.specs.Words.{position_of_device, position_of_owner}
 use Rattle.fare_world.specs.declared.owner.Owner.{Owner}
 use Rattle.fare_world.specs.Whole.{owner_shape, shape}
 use Rattle.fare_world.proofs.ShowForward.{shown_idle, world_forwarded, owner_read, owner_kept, same_owner, cursor_read, cursors_long, forwarded_shape, rooms_of_owner}

@@ -1,5 +1,5 @@
 use Rattle.std.proofs.Common.{◌≡◌, ◌<◌, Some, None, length, refl, sym, ◌∙◌, subst, arith}
-use Rattle.fare_device.specs.SchemeWords.{position_of_owner}
+use Rattle.fare_scheme.specs.Words.{position_of_owner}
 use Rattle.fare_world.specs.declared.owner.Owner.{Owner}
 use Rattle.fare_world.specs.declared.reply.Reply.TheVariants.{Taken}
 use Rattle.fare_world.specs.Stores.{TakeRefused}

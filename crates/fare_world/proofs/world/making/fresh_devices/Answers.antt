@@ -1,7 +1,7 @@
 use Rattle.std.proofs.Common.{◌≡◌, ◌+◌, ◌++◌, ◌∷◌, [], Some, length, sym, ap, ◌∙◌, arith}
 use Rattle.std.specs.Prelude.{slice_get, option_map}
 use Rattle.std.proofs.lemmas.List.{length_push}
-use Rattle.fare_device.specs.SchemeWords.{DeviceEntry, buffer_of}
+use Rattle.fare_scheme.specs.Words.{buffer_of, position_of_device}
 use Rattle.fare_device.specs.DeviceWords.{DeviceValue, fresh_device}
 use Rattle.fare_world.specs.Fresh.{IsFreshDevice}
 use Rattle.fare_world.proofs.Starting.{one_device_more}
@@ -15,8 +15,7 @@ loop-place-preserved c =
     let device = c.in-Ok.device in
     let made : device ≡ fresh_device c.in-Some.id sc.start device.room (length sc.owners) = c.in-Ok.ensures.made in
     let id : device.id ≡ c.in-Some.id = ap (λ (z : DeviceValue). z.id) made in
-    let at : option_map (λ (e : DeviceEntry). e.id) (slice_get sc.devices (length xs)) ≡ Some device.id =
-    ap (λ n. option_map (λ (e : DeviceEntry). e.id) (slice_get sc.devices n)) i.count ∙ sym c.device_at.ensures.value ∙ c.in-Some.is ∙ ap Some (sym id) in
+    let at : position_of_device sc device.id ≡ Some (length xs) = ap (position_of_device sc) id ∙ c.in-Some.ensures.placed ∙ ap Some (sym i.count) in
     let is : IsFreshDevice sc (length xs) device = record { at = at; room = ap (buffer_of sc) id ∙ c.in-Ok.ensures.room; fresh = made ∙ ap (λ n. fresh_device n sc.start device.room (length sc.owners)) (sym id) } in
     let pushed : c.push.new.self.items ≡ xs ++ device ∷ [] = c.in_ok-push-in-Ok.ensures.items in
     record {
@@ -26,5 +25,5 @@ loop-place-preserved c =
 
 pub returns : goal.returns
 returns c =
-    let all : c.loop-place.place ≡ length c.args.scheme.now.devices = omega (arith, c.devices-place-end.ensures) in
+    let all : c.loop-place.place ≡ length c.args.scheme.now.devices = omega (arith, c.device_count-place-end.ensures.value) in
     record { count = c.loop-place.invariant.count ∙ all; each = c.loop-place.invariant.each }

@@ -1,7 +1,7 @@
 use Rattle.std.proofs.Common.{◌≡◌, ◌+◌, ◌++◌, ◌∷◌, [], Some, None, length, refl, sym, ap, ◌∙◌, arith}
 use Rattle.std.specs.Prelude.{slice_get, option_map, replicate}
 use Rattle.std.proofs.lemmas.List.{length_push}
-use Rattle.fare_device.specs.SchemeWords.{OwnerEntry}
+use Rattle.fare_scheme.specs.Words.{position_of_owner}
 use Rattle.fare_world.specs.declared.owner.Owner.{Owner}
 use Rattle.fare_world.specs.Fresh.{IsFreshOwner}
 use Rattle.fare_world.proofs.Starting.{one_owner_more}
@@ -13,9 +13,8 @@ loop-place-preserved c =
     let xs = c.loop-place.owners.items in
     let i = c.loop-place.invariant in
     let owner : Owner = record { ledger = c.new.result; queue = c.new-in-loop-place.result; hand = None; cursors = c.in_ok-cursors.cursors } in
-    let at : option_map (λ (e : OwnerEntry). e.id) (slice_get sc.owners (length xs)) ≡ Some owner.ledger.owner =
-    ap (λ n. option_map (λ (e : OwnerEntry). e.id) (slice_get sc.owners n)) i.count ∙ sym c.owner_at.ensures ∙ c.in-Some.is ∙ ap Some (sym c.new.ensures.owner) in
-    let cursors : owner.cursors.items ≡ replicate (length sc.devices) 0 = c.in_ok-cursors.ensures.items_if_clones_equal (λ y e. e) ∙ ap (λ n. replicate n 0) c.devices.ensures in
+    let at : position_of_owner sc owner.ledger.owner ≡ Some (length xs) = ap (position_of_owner sc) c.new.ensures.owner ∙ c.in-Some.ensures.placed ∙ ap Some (sym i.count) in
+    let cursors : owner.cursors.items ≡ replicate (length sc.devices) 0 = c.in_ok-cursors.ensures.items_if_clones_equal (λ y e. e) ∙ ap (λ n. replicate n 0) c.device_count.ensures.value in
     let is : IsFreshOwner sc (length xs) owner = record { at = at; taken = c.new.ensures.taken; queue = c.new-in-loop-place.ensures.items; hand = refl; cursors = cursors } in
     let pushed : c.push.new.self.items ≡ xs ++ owner ∷ [] = c.in_ok-push.ensures.items in
     record {
@@ -25,5 +24,5 @@ loop-place-preserved c =
 
 pub returns : goal.returns
 returns c =
-    let all : c.loop-place.place ≡ length c.args.scheme.now.owners = omega (arith, c.owners-place-end.ensures) in
+    let all : c.loop-place.place ≡ length c.args.scheme.now.owners = omega (arith, c.owner_count-place-end.ensures.value) in
     record { count = c.loop-place.invariant.count ∙ all; each = c.loop-place.invariant.each }
