@@ -8,3 +8,4 @@ pub mod Texts
 pub mod Printing
 pub mod Words
 pub mod Weaving
+pub mod Answering

@@ -5,5 +5,6 @@ pub mod Faults
 pub mod Reading
 pub mod Replies
 pub mod Answers
+pub mod Registration
 pub mod Weaving
 pub mod Replay

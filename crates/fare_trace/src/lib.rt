@@ -11,6 +11,7 @@ pub mod laws;
 mod line;
 mod number;
 mod print;
+mod registering;
 mod stream;
 mod text;
 mod zone_text;

@@ -131,12 +131,187 @@ refused Old
 accepted
 ";
 
+const DAY_EDGES: &[u8] = b"demo 1 4 4 4
+tap 1 1 77 1704083399
+tap 1 1 77 1704186400
+";
+
+const DAY_EDGES_ANSWERED: &[u8] = b"ok
+refused DayClosed
+refused DayAhead
+";
+
+const REFUSALS_AND_IDLES: &[u8] = b"demo 1 4 4 4
+tap 1 1 77 0
+tap 9 1 77 1704100000
+tap 1 9 77 1704100000
+arrive 1
+send 1
+draw
+store
+";
+
+const REFUSALS_AND_IDLES_ANSWERED: &[u8] = b"ok
+refused BadMoment
+refused UnknownDevice
+refused UnknownProduct
+refused NoPacket
+idle
+empty
+idle
+";
+
+const REGISTRAR_REFUSALS: &[u8] = b"owner 0 4
+owner 1 4
+owner 1 4
+product 1 2 175
+product 1 1 100001
+seal
+send 1
+demo 1 4 4 4
+";
+
+const REGISTRAR_REFUSALS_ANSWERED: &[u8] = b"refused ZeroId
+ok
+refused Taken
+refused UnknownParent
+refused Range
+refused NothingRegistered
+refused Unsealed
+refused Taken
+";
+
+const REGISTRAR_SEALS: &[u8] = b"owner 1 4
+operator 1
+station 1 1
+product 1 1 175
+device 1 1 4
+seal
+start 19723
+seal
+zone GMT0BST,M3.5.0/1,M10.5.0
+seal
+seal
+tap 1 1 77 1704100000
+";
+
+const REGISTRAR_SEALS_ANSWERED: &[u8] = b"ok
+ok
+ok
+ok
+ok
+refused NoStart
+ok
+refused NoZone
+ok
+ok
+refused Sealed
+record 1 1
+";
+
+const SETTINGS: &[u8] = b"operator 0
+operator 1
+station 1 2
+station 1 1
+owner 1 0
+owner 1 1024
+product 1 1 100000
+caps 2 0 0
+caps 1 1000001 0
+caps 1 0 10000001
+caps 1 1000000 10000000
+device 1 1 4097
+device 1 1 4096
+device 1 1 4096
+inbox 0
+inbox 1025
+inbox 1
+start 100001
+start 100000
+zone x
+demo 2 1 1 1
+seal
+zone JST-9
+draw
+seal
+demo 1 0 0 0
+draw
+";
+
+const SETTINGS_ANSWERED: &[u8] = b"refused ZeroId
+ok
+refused UnknownParent
+ok
+refused Range
+ok
+ok
+refused UnknownParent
+refused Range
+refused Range
+ok
+refused Range
+ok
+refused Taken
+refused Range
+refused Range
+ok
+refused Range
+ok
+refused BadZone
+refused Taken
+refused NoZone
+ok
+refused Unsealed
+ok
+refused Sealed
+empty
+";
+
+// 04:29:59 and 04:30:00 of 1 January 2024 in Tokyo.
+const LAST_ZONE_COUNTS: &[u8] = b"owner 1 4
+operator 1
+station 1 1
+product 1 1 175
+device 1 1 4
+zone GMT0BST,M3.5.0/1,M10.5.0
+start 19723
+zone JST-9
+zone x
+seal
+tap 1 1 77 1704050999
+tap 1 1 77 1704051000
+";
+
+const LAST_ZONE_COUNTS_ANSWERED: &[u8] = b"ok
+ok
+ok
+ok
+ok
+ok
+ok
+ok
+refused BadZone
+ok
+refused DayClosed
+record 1 1
+";
+
 #[test]
 fn replays_traces(rt: HostRuntime) -> Result<(), Fail> {
-    let cases: [(&[u8], &[u8]); 4] = [
+    let cases: [(&[u8], &[u8]); 11] = [
         (ONE_TAP, ONE_TAP_ANSWERED),
         (FULL_BUFFER, FULL_BUFFER_ANSWERED),
         (OUT_OF_ORDER_AND_REPEAT, OUT_OF_ORDER_AND_REPEAT_ANSWERED),
+        (DAY_EDGES, DAY_EDGES_ANSWERED),
+        (REFUSALS_AND_IDLES, REFUSALS_AND_IDLES_ANSWERED),
+        (REGISTRAR_REFUSALS, REGISTRAR_REFUSALS_ANSWERED),
+        (REGISTRAR_SEALS, REGISTRAR_SEALS_ANSWERED),
+        (SETTINGS, SETTINGS_ANSWERED),
+        (LAST_ZONE_COUNTS, LAST_ZONE_COUNTS_ANSWERED),
+        (
+            b"demo 2 4 4 4\nupto 2\ncount 1 2\ntap 2 1 7 1704100000\nupto 3\n",
+            b"ok\nupto 0\ncount 0\nrecord 1 1\nrefused UnknownDevice\n",
+        ),
         (
             b"draw\ndemo 1 4096 1024 1024\ndraw\ndemo 1 4 4 4\ndemo 1 0 0 0\nupto 1\n",
             b"refused Unsealed\nok\nempty\nrefused Sealed\nrefused Sealed\nupto 0\n",
