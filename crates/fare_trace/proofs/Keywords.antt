@@ -4,39 +4,60 @@ use Prim.Native.Nat.{zero, suc}
 use Rattle.std.proofs.lemmas.Bool.{eqb-true}
 use borrow.Author.Tests.{ltb-true}
 use Rattle.fare_trace.specs.declared.keyword.Keyword.{Keyword}
-use Rattle.fare_trace.specs.declared.keyword.Keyword.TheVariants.{Demo, Tap, Send, Arrive, Draw, Store, Forward, Fetch, Take, Upto, Count}
+use Rattle.fare_trace.specs.declared.keyword.Keyword.TheVariants.{OfScheme, OfEvent}
+use Rattle.fare_trace.specs.declared.keyword.SchemeKeyword.TheVariants.{Owner, Operator, Station, Product, Caps, Device, Inbox, Start, Seal, Demo}
+use Rattle.fare_trace.specs.declared.keyword.EventKeyword.TheVariants.{Tap, Send, Arrive, Draw, Store, Forward, Fetch, Take, Upto, Count}
+use Rattle.fare_trace.specs.Reading.{any_keyword}
 use Rattle.fare_trace.specs.Grammar.{keyword_text}
 use Rattle.fare_trace.proofs.Cuts.{Lacks}
 
 -- a row for each keyword
 abbrev pub keywords : List Keyword
-keywords = Demo ∷ Tap ∷ Send ∷ Arrive ∷ Draw ∷ Store ∷ Forward ∷ Fetch ∷ Take ∷ Upto ∷ Count ∷ []
+keywords = OfScheme Owner ∷ OfScheme Operator ∷ OfScheme Station ∷ OfScheme Product ∷ OfScheme Caps ∷ OfScheme Device ∷ OfScheme Inbox ∷ OfScheme Start ∷ OfScheme Seal ∷ OfScheme Demo ∷ OfEvent Tap ∷ OfEvent Send ∷ OfEvent Arrive ∷ OfEvent Draw ∷ OfEvent Store ∷ OfEvent Forward ∷ OfEvent Fetch ∷ OfEvent Take ∷ OfEvent Upto ∷ OfEvent Count ∷ []
 
 abbrev pub place : Keyword → ℕ
-place Demo = 0
-place Tap = 1
-place Send = 2
-place Arrive = 3
-place Draw = 4
-place Store = 5
-place Forward = 6
-place Fetch = 7
-place Take = 8
-place Upto = 9
-place Count = 10
+place (OfScheme Owner) = 0
+place (OfScheme Operator) = 1
+place (OfScheme Station) = 2
+place (OfScheme Product) = 3
+place (OfScheme Caps) = 4
+place (OfScheme Device) = 5
+place (OfScheme Inbox) = 6
+place (OfScheme Start) = 7
+place (OfScheme Seal) = 8
+place (OfScheme Demo) = 9
+place (OfEvent Tap) = 10
+place (OfEvent Send) = 11
+place (OfEvent Arrive) = 12
+place (OfEvent Draw) = 13
+place (OfEvent Store) = 14
+place (OfEvent Forward) = 15
+place (OfEvent Fetch) = 16
+place (OfEvent Take) = 17
+place (OfEvent Upto) = 18
+place (OfEvent Count) = 19
 
-pub at_place : (k : Keyword) → (place k < length keywords) × (get_or keywords (place k) Draw ≡ k)
-at_place Demo = (lit< tt, refl)
-at_place Tap = (lit< tt, refl)
-at_place Send = (lit< tt, refl)
-at_place Arrive = (lit< tt, refl)
-at_place Draw = (lit< tt, refl)
-at_place Store = (lit< tt, refl)
-at_place Forward = (lit< tt, refl)
-at_place Fetch = (lit< tt, refl)
-at_place Take = (lit< tt, refl)
-at_place Upto = (lit< tt, refl)
-at_place Count = (lit< tt, refl)
+pub at_place : (k : Keyword) → (place k < length keywords) × (get_or keywords (place k) any_keyword ≡ k)
+at_place (OfScheme Owner) = (lit< tt, refl)
+at_place (OfScheme Operator) = (lit< tt, refl)
+at_place (OfScheme Station) = (lit< tt, refl)
+at_place (OfScheme Product) = (lit< tt, refl)
+at_place (OfScheme Caps) = (lit< tt, refl)
+at_place (OfScheme Device) = (lit< tt, refl)
+at_place (OfScheme Inbox) = (lit< tt, refl)
+at_place (OfScheme Start) = (lit< tt, refl)
+at_place (OfScheme Seal) = (lit< tt, refl)
+at_place (OfScheme Demo) = (lit< tt, refl)
+at_place (OfEvent Tap) = (lit< tt, refl)
+at_place (OfEvent Send) = (lit< tt, refl)
+at_place (OfEvent Arrive) = (lit< tt, refl)
+at_place (OfEvent Draw) = (lit< tt, refl)
+at_place (OfEvent Store) = (lit< tt, refl)
+at_place (OfEvent Forward) = (lit< tt, refl)
+at_place (OfEvent Fetch) = (lit< tt, refl)
+at_place (OfEvent Take) = (lit< tt, refl)
+at_place (OfEvent Upto) = (lit< tt, refl)
+at_place (OfEvent Count) = (lit< tt, refl)
 
 -- a test that each keyword of a list passes
 abbrev passes_each : (Keyword → Bool) → List Keyword → Bool
@@ -47,7 +68,7 @@ both : (a b : Bool) → cond a b false ≡ true → (a ≡ true) × (b ≡ true)
 both true b e = (refl, e)
 both false b e = absurd (cc)
 
-passes_at : (test : Keyword → Bool) (ks : List Keyword) (i : ℕ) → passes_each test ks ≡ true → i < length ks → test (get_or ks i Draw) ≡ true
+passes_at : (test : Keyword → Bool) (ks : List Keyword) (i : ℕ) → passes_each test ks ≡ true → i < length ks → test (get_or ks i any_keyword) ≡ true
 passes_at test [] i e below = absurd (omega arith)
 passes_at test (k ∷ ks) zero e below = (both (test k) (passes_each test ks) e).0
 passes_at test (k ∷ ks) (suc i) e below = passes_at test ks i (both (test k) (passes_each test ks) e).1 (omega arith)
@@ -88,4 +109,4 @@ place_again k = eqb-true (place_among keywords (keyword_text k)) (place k) (ever
 pub keyword_same : (j k : Keyword) → keyword_text j ≡ keyword_text k → j ≡ k
 keyword_same j k e =
     let places : place j ≡ place k = sym (place_again j) ∙ ap (place_among keywords) e ∙ place_again k in
-    sym (at_place j).1 ∙ ap (λ i. get_or keywords i Draw) places ∙ (at_place k).1
+    sym (at_place j).1 ∙ ap (λ i. get_or keywords i any_keyword) places ∙ (at_place k).1

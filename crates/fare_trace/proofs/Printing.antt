@@ -1,56 +1,89 @@
 -- A line has one spelling, and printed lines are read back.
-use Rattle.std.proofs.Common.{◌≡◌, ◌<◌, Bool, ◌⊎◌, inl, inr, ℕ, List, [], ◌∷◌, ◌++◌, length, ap, ap₂, sym, refl, arith, ◌∙◌, map, length-append, append_assoc}
+use Rattle.std.proofs.Common.{◌≡◌, ◌<◌, ◌==◌, cond, codes, get_or, Bool, ◌⊎◌, inl, inr, ℕ, List, [], ◌∷◌, ◌++◌, length, ap, ap₂, sym, refl, arith, ◌∙◌, map, length-append, append_assoc}
 use Rattle.std.specs.List.{AllByRecursion, slice_split, join_with_byte}
 use Rattle.std.specs.Fmt.{decimal}
 use Rattle.std.proofs.lemmas.List.Splits.{slice_split_none, slice_split_at, join_with_byte-slice_split}
+use Rattle.std.proofs.lemmas.Bool.{ne_eqb}
+use Rattle.fare_scheme.specs.declared.demo.DemoSize.{DemoSize}
+use Rattle.fare_scheme.specs.declared.demo.DemoSize.TheVariants.{OneDevice, TwoDevices}
 use Rattle.fare_world.specs.declared.event.Event.TheVariants as event
 use Rattle.fare_trace.specs.declared.line.Line.{Line}
 use Rattle.fare_trace.specs.declared.line.Line.TheVariants.{Setup, Step}
 use Rattle.fare_trace.specs.declared.line.SchemeLine.TheVariants as scheme
-use Rattle.fare_trace.specs.declared.keyword.Keyword.{Keyword}
-use Rattle.fare_trace.specs.declared.keyword.Keyword.TheVariants as key
-use Rattle.fare_trace.specs.Grammar.{Fits, keyword_text, line_keyword, line_numbers, line_text, numbers_text}
+use Rattle.fare_trace.specs.declared.keyword.Keyword.TheVariants.{OfScheme, OfEvent}
+use Rattle.fare_trace.specs.declared.keyword.SchemeKeyword.TheVariants as key
+use Rattle.fare_trace.specs.declared.keyword.EventKeyword.TheVariants as on
+use Rattle.fare_trace.specs.ZoneWord.{IsZoneText}
+use Rattle.fare_trace.specs.Grammar.{Fits, Parts, Numbered, Worded, PartsFit, keyword_kinds, keyword_text, line_parts, line_text, numbers_text, parts_text}
 use Rattle.fare_trace.specs.Lines.{FirstBadLine, Spells, lines_of, printed, without_empty_last}
-use Rattle.fare_trace.proofs.Cuts.{Lacks, append_nil, index_of_lacks}
+use Rattle.fare_trace.proofs.Cuts.{Lacks, append_nil, index_of_lacks, lacks_of_index}
 use Rattle.fare_trace.proofs.Rows.{all_push, map_push, one_of_row}
-use Rattle.fare_trace.proofs.Numbers.{IsU64, decimal_lacks, numbers_same}
-use Rattle.fare_trace.proofs.Keywords.{keyword_lacks, keyword_same, keyword_some}
-use Rattle.fare_trace.proofs.Spelling.{cut_of_line, fits_u64, line_cut}
+use Rattle.fare_trace.proofs.Numbers.{IsU64, decimal_lacks}
+use Rattle.fare_trace.proofs.Keywords.{keyword_lacks, keyword_some}
+use Rattle.fare_trace.proofs.Spelling.{kinds_are_u64, numbered_same, zone_is_no_keyword}
 use Rattle.fare_trace.proofs.Texts.{is_feed, one_line}
 
 -- ONE SPELLING
-abbrev line_from : Keyword → List ℕ → Line
-line_from key.Demo (n ∷ b ∷ i ∷ l ∷ []) = Setup (scheme.Demo n b i l)
-line_from key.Tap (d ∷ p ∷ t ∷ m ∷ []) = Step (event.Tap d p t m)
-line_from key.Send (d ∷ []) = Step (event.Send d)
-line_from key.Arrive (n ∷ []) = Step (event.Arrive n)
-line_from key.Store _ = Step event.Store
-line_from key.Forward (o ∷ d ∷ []) = Step (event.Forward o d)
-line_from key.Fetch (o ∷ []) = Step (event.Fetch o)
-line_from key.Take (o ∷ []) = Step (event.Take o)
-line_from key.Upto (d ∷ []) = Step (event.Upto d)
-line_from key.Count (o ∷ d ∷ []) = Step (event.Count o d)
-line_from _ _ = Step event.Draw
+abbrev size_of : ℕ → DemoSize
+size_of n = cond (n == 1) OneDevice TwoDevices
 
-line_again : (l : Line) → line_from (line_keyword l) (line_numbers l) ≡ l
-line_again (Setup (scheme.Demo n b i l)) = refl
+abbrev line_from : Parts → Line
+line_from (Worded rule) = Setup (scheme.Zone rule)
+line_from (Numbered (OfScheme key.Owner) (o ∷ l ∷ [])) = Setup (scheme.Owner o l)
+line_from (Numbered (OfScheme key.Operator) (p ∷ [])) = Setup (scheme.Operator p)
+line_from (Numbered (OfScheme key.Station) (s ∷ p ∷ [])) = Setup (scheme.Station s p)
+line_from (Numbered (OfScheme key.Product) (p ∷ o ∷ f ∷ [])) = Setup (scheme.Product p o f)
+line_from (Numbered (OfScheme key.Caps) (p ∷ d ∷ w ∷ [])) = Setup (scheme.Caps p d w)
+line_from (Numbered (OfScheme key.Device) (d ∷ s ∷ b ∷ [])) = Setup (scheme.Device d s b)
+line_from (Numbered (OfScheme key.Inbox) (c ∷ [])) = Setup (scheme.Inbox c)
+line_from (Numbered (OfScheme key.Start) (d ∷ [])) = Setup (scheme.Start d)
+line_from (Numbered (OfScheme key.Seal) _) = Setup scheme.Seal
+line_from (Numbered (OfScheme key.Demo) (n ∷ b ∷ i ∷ l ∷ [])) = Setup (scheme.Demo (size_of n) b i l)
+line_from (Numbered (OfEvent on.Tap) (d ∷ p ∷ t ∷ m ∷ [])) = Step (event.Tap d p t m)
+line_from (Numbered (OfEvent on.Send) (d ∷ [])) = Step (event.Send d)
+line_from (Numbered (OfEvent on.Arrive) (n ∷ [])) = Step (event.Arrive n)
+line_from (Numbered (OfEvent on.Store) _) = Step event.Store
+line_from (Numbered (OfEvent on.Forward) (o ∷ d ∷ [])) = Step (event.Forward o d)
+line_from (Numbered (OfEvent on.Fetch) (o ∷ [])) = Step (event.Fetch o)
+line_from (Numbered (OfEvent on.Take) (o ∷ [])) = Step (event.Take o)
+line_from (Numbered (OfEvent on.Upto) (d ∷ [])) = Step (event.Upto d)
+line_from (Numbered (OfEvent on.Count) (o ∷ d ∷ [])) = Step (event.Count o d)
+line_from (Numbered _ _) = Step event.Draw
+
+line_again : (l : Line) → line_from (line_parts l) ≡ l
+line_again (Setup (scheme.Zone rule)) = refl
+line_again (Setup (scheme.Owner o l)) = refl
+line_again (Setup (scheme.Operator p)) = refl
+line_again (Setup (scheme.Station s p)) = refl
+line_again (Setup (scheme.Product p o f)) = refl
+line_again (Setup (scheme.Caps p d w)) = refl
+line_again (Setup (scheme.Device d s b)) = refl
+line_again (Setup (scheme.Inbox c)) = refl
+line_again (Setup (scheme.Start d)) = refl
+line_again (Setup scheme.Seal) = refl
+line_again (Setup (scheme.Demo OneDevice b i l)) = refl
+line_again (Setup (scheme.Demo TwoDevices b i l)) = refl
 line_again (Step (event.Tap d p t m)) = refl
 line_again (Step (event.Send d)) = refl
 line_again (Step (event.Arrive n)) = refl
-line_again (Step event.Draw) = refl
 line_again (Step event.Store) = refl
 line_again (Step (event.Forward o d)) = refl
 line_again (Step (event.Fetch o)) = refl
 line_again (Step (event.Take o)) = refl
 line_again (Step (event.Upto d)) = refl
 line_again (Step (event.Count o d)) = refl
+line_again (Step event.Draw) = refl
+
+parts_same : (p q : Parts) → PartsFit p → PartsFit q → parts_text p ≡ parts_text q → p ≡ q
+parts_same (Numbered j ms) (Numbered k ns) fits_p fits_q e =
+    let same = numbered_same j k ms ns fits_p fits_q e in ap₂ Numbered same.0 same.1
+parts_same (Numbered j ms) (Worded rule) fits_p fits_q e = absurd (zone_is_no_keyword j (numbers_text ms) rule e)
+parts_same (Worded rule) (Numbered k ns) fits_p fits_q e = absurd (zone_is_no_keyword k (numbers_text ns) rule (sym e))
+parts_same (Worded rule) (Worded other) fits_p fits_q e = let same : rule ≡ other = cc in ap Worded same
 
 line_same : (l m : Line) → Fits l → Fits m → line_text l ≡ line_text m → l ≡ m
 line_same l m fits_l fits_m e =
-    let parts = cut_of_line (line_text m) (keyword_text (line_keyword m)) (numbers_text (line_numbers m)) (line_cut m fits_m) l fits_l (sym e) in
-    let keywords : line_keyword l ≡ line_keyword m = keyword_same (line_keyword l) (line_keyword m) (sym parts.0) in
-    let numbers : line_numbers l ≡ line_numbers m = numbers_same (line_numbers l) (line_numbers m) (fits_u64 l fits_l) (fits_u64 m fits_m) (sym parts.1) in
-    sym (line_again l) ∙ ap₂ line_from keywords numbers ∙ line_again m
+    sym (line_again l) ∙ ap line_from (parts_same (line_parts l) (line_parts m) fits_l fits_m e) ∙ line_again m
 
 lines_same : (ls ms : List Line) → AllByRecursion Fits ls → AllByRecursion Fits ms → map line_text ls ≡ map line_text ms → ls ≡ ms
 lines_same [] [] fits_ls fits_ms e = refl
@@ -78,10 +111,19 @@ numbers_lack_feed (n ∷ []) all = decimal_lacks 10 (omega arith) n all.0
 numbers_lack_feed (n ∷ m ∷ ns) all =
     lacks_append is_feed (decimal n) (32 ∷ numbers_text (m ∷ ns)) (decimal_lacks 10 (omega arith) n all.0) (refl, numbers_lack_feed (m ∷ ns) all.1)
 
+word_lacks_feed : (rule : List ℕ) → IsZoneText rule → Lacks is_feed rule
+word_lacks_feed rule word = lacks_of_index is_feed rule (λ k below.
+    let byte = word.printable k 0 below in
+    ne_eqb (get_or rule k 0) 10 (λ e. omega arith))
+
+parts_lack_feed : (p : Parts) → PartsFit p → Lacks is_feed (parts_text p)
+parts_lack_feed (Numbered k ns) fits =
+    lacks_append is_feed (keyword_text k) (numbers_text ns)
+    (keyword_lacks is_feed refl k) (numbers_lack_feed ns (kinds_are_u64 (keyword_kinds k) ns fits))
+parts_lack_feed (Worded rule) fits = lacks_append is_feed (codes "zone ") rule (refl, (refl, (refl, (refl, (refl, tt))))) (word_lacks_feed rule fits)
+
 line_lacks_feed : (l : Line) → Fits l → Lacks is_feed (line_text l)
-line_lacks_feed l fits =
-    lacks_append is_feed (keyword_text (line_keyword l)) (numbers_text (line_numbers l))
-    (keyword_lacks is_feed refl (line_keyword l)) (numbers_lack_feed (line_numbers l) (fits_u64 l fits))
+line_lacks_feed l fits = parts_lack_feed (line_parts l) fits
 
 -- WHAT IS PRINTED IS READ BACK
 split_printed : (ls : List Line) (end : List ℕ) → AllByRecursion Fits ls → Lacks is_feed end → slice_split is_feed (printed ls ++ end) ≡ map line_text ls ++ (end ∷ [])
@@ -107,8 +149,12 @@ printed_spells ls fits = record {
   is = ap lines_of (sym (append_nil (printed ls))) ∙ ap without_empty_last (split_printed ls [] fits tt) ∙ empty_last_falls (map line_text ls);
 }
 
+parts_some : (p : Parts) → 0 < length (parts_text p)
+parts_some (Numbered k ns) = omega (arith, length-append (keyword_text k) (numbers_text ns), keyword_some k)
+parts_some (Worded rule) = omega arith
+
 line_some : (l : Line) → 0 < length (line_text l)
-line_some l = omega (arith, length-append (keyword_text (line_keyword l)) (numbers_text (line_numbers l)), keyword_some (line_keyword l))
+line_some l = parts_some (line_parts l)
 
 pub open_spells : (ls : List Line) (l : Line) → AllByRecursion Fits ls → Fits l → Spells (ls ++ l ∷ []) (printed ls ++ line_text l)
 open_spells ls l all fits = record {

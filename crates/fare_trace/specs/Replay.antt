@@ -2,16 +2,19 @@
 use Rattle.std.specs.Prelude.{ℕ, ◌≤◌, List, Option, Result, Ok, Err, IfSome, ◌≡◌, ◌⊎◌, length, Vec}
 use Rattle.std.specs.Global.{Global}
 use Rattle.std.specs.Io.KnownBytes.{Appends, Keeps}
+use Rattle.fare_world.specs.declared.reply.Reply.{Reply}
 use Rattle.fare_trace.specs.declared.line.Line.{Line}
 use Rattle.fare_trace.specs.declared.stream.ReplayFault.{ReplayFault}
 use Rattle.fare_trace.specs.declared.stream.ReplayFault.TheVariants.{Read, BadLine, Memory, Write}
 use Rattle.fare_trace.specs.Lines.{Spells, FirstBadLine}
 use Rattle.fare_trace.specs.Replies.{replies_text}
-use Rattle.fare_trace.specs.Answers.{Drafting, answers}
+use Rattle.fare_trace.specs.Answers.{AnswersAll, first_stage}
 
 -- the bytes of the replies to lines
-abbrev pub output_of : List Line → List ℕ
-output_of lines = replies_text (answers Drafting lines)
+pub record IsOutput (lines : List Line) (text : List ℕ) : Type 0 where
+  pub replies : List Reply
+  pub answered : AnswersAll first_stage lines replies
+  pub is : text ≡ replies_text replies
 
 -- an input is at most 16,777,216 bytes
 abbrev pub IsShort : List ℕ → Type 0
@@ -27,7 +30,9 @@ pub record Replays (old new : Option (List ℕ)) (input : List ℕ) : Type 0 whe
   pub short : IsShort input
   pub lines : List Line
   pub spelled : Spells lines input
-  pub written : Appends old new (output_of lines)
+  pub text : List ℕ
+  pub output : IsOutput lines text
+  pub written : Appends old new text
 
 -- what each fault says; only after Write may something have been written
 abbrev pub ReplayFails : Option (List ℕ) → Option (List ℕ) → Option (List ℕ) → ReplayFault → Type 0

@@ -1,10 +1,11 @@
 -- The events of lines, and the replies to them among those to the other lines.
-use Rattle.std.specs.Prelude.{List, [], ◌∷◌}
+use Rattle.std.specs.Prelude.{◌≡◌, List, [], ◌∷◌, ◌++◌}
 use Rattle.std.specs.List.{flat_map}
 use Rattle.fare_world.specs.declared.event.Event.{Event}
 use Rattle.fare_world.specs.declared.reply.Reply.{Reply}
 use Rattle.fare_world.specs.declared.reply.Reply.TheVariants.{Refused}
 use Rattle.fare_world.specs.declared.reply.Refusal.TheVariants.{Sealed}
+use Rattle.fare_trace.specs.Answers.{AnswersAll, Stage}
 use Rattle.fare_trace.specs.declared.line.Line.{Line}
 use Rattle.fare_trace.specs.declared.line.Line.TheVariants.{Setup, Step}
 
@@ -22,3 +23,7 @@ woven [] replies = []
 woven (Setup line ∷ lines) replies = Refused Sealed ∷ woven lines replies
 woven (Step event ∷ lines) [] = []
 woven (Step event ∷ lines) (reply ∷ replies) = reply ∷ woven lines replies
+
+-- more replies, to these lines from this stage on
+abbrev pub AppendsAnswers : Stage → List Line → List Reply → List Reply → Type 0
+AppendsAnswers stage lines old new = (replies : List Reply) × AnswersAll stage lines replies × (new ≡ old ++ replies)

@@ -1,29 +1,13 @@
-ghost use Rattle.std.specs.Prelude.{◌≡◌, ◌++◌, OnOk, IfOk, MatchResult, length};
+ghost use Rattle.std.specs.Prelude.{◌≡◌, ◌++◌, OnOk, IfOk, length};
 ghost use Rattle.fare_world.specs.System.{start};
-ghost use Rattle.fare_trace.specs.Answers.{Drafting, Running, answers, sealed_by};
-ghost use Rattle.fare_trace.specs.Weaving.{events_of, woven};
+ghost use Rattle.fare_trace.specs.Answers.{AnswersAll, Running, first_stage};
+ghost use Rattle.fare_trace.specs.Weaving.{AppendsAnswers, events_of, woven};
 
-use crate::line::{Line, SchemeLine};
-use fare_device::Scheme;
+use crate::line::Line;
+use crate::registering::{Registration, set_up};
+use fare_scheme::{Draft, Scheme};
 use fare_world::{Event, Refusal, Reply, World};
 use std::alloc::{AllocError, Global};
-
-/// The scheme that a line seals, where none is sealed yet, or why the line is refused.
-fn seal(line: Line) -> Result<Scheme, Refusal>
-    ensures { MatchResult result (λ scheme. sealed_by line ≡ Ok scheme) (λ refusal. sealed_by line ≡ Err refusal) }
-{
-    match line {
-        Line::Setup(
-            SchemeLine::Demo {
-                buffer,
-                inbox,
-                lane,
-                ..
-            },
-        ) => Scheme::demo(buffer, inbox, lane).map_err(|_| Refusal::Range),
-        Line::Step(_) => Err(Refusal::Unsealed),
-    }
-}
 
 /// The events of lines, in their order.
 fn collect_events(alloc: Global, lines: &[Line]) -> Result<Vec<Event>, AllocError>
@@ -68,7 +52,7 @@ fn run_sealed(
     lines: &[Line],
     replies: &mut Vec<Reply>,
 ) -> Result<(), AllocError>
-    ensures { OnOk result (replies.new.items ≡ replies.old.items ++ answers (Running scheme (start scheme)) lines.now) }
+    ensures { OnOk result (AppendsAnswers (Running scheme (start scheme)) lines.now replies.old.items replies.new.items) }
 {
     let events = collect_events(alloc, lines)?;
     let Ok(world) = World::new(alloc, scheme) else {
@@ -82,20 +66,33 @@ fn run_sealed(
 
 /// The replies to the lines of a trace. The error is want of memory.
 pub fn answer_lines(alloc: Global, lines: &[Line]) -> Result<Vec<Reply>, AllocError>
-    ensures { IfOk result (λ replies. replies.items ≡ answers Drafting lines.now) }
+    ensures { IfOk result (λ replies. AnswersAll first_stage lines.now replies.items) }
 {
     let mut replies = Vec::new(alloc);
+    let mut draft = Draft::new(alloc);
+    let mut used = false;
     let mut rest = lines;
     while let Some((line, later)) = rest.split_first() {
-        match seal(*line) {
-            Ok(scheme) => {
-                replies.push(Reply::Done)?;
-                run_sealed(alloc, scheme, later, &mut replies)?;
+        rest = later;
+        let Line::Setup(line) = line else {
+            replies.push(Reply::Refused(Refusal::Unsealed))?;
+            continue;
+        };
+        let (registration, reply) = set_up(alloc, draft, used, line)?;
+        replies.push(reply)?;
+        match registration {
+            Registration::Open {
+                draft: next,
+                used: now,
+            } => {
+                draft = next;
+                used = now;
+            }
+            Registration::Sealed { scheme } => {
+                run_sealed(alloc, scheme, rest, &mut replies)?;
                 return Ok(replies);
             }
-            Err(refusal) => replies.push(Reply::Refused(refusal))?,
         }
-        rest = later;
     }
     Ok(replies)
 }

@@ -1,68 +1,144 @@
-ghost use Rattle.std.specs.Prelude.{◌≡◌, IfOk};
-ghost use Rattle.fare_trace.specs.Grammar.{Fits};
-ghost use Rattle.fare_trace.specs.Reading.{Builds, ReadsLine};
+ghost use Rattle.std.specs.Prelude.{◌≡◌, ◌≤◌, [], ◌∷◌, ◌++◌, ℕ, List, codes, IfOk, IfSome, IfNone};
+ghost use Rattle.fare_trace.specs.declared.keyword.Keyword.TheVariants.{OfScheme, OfEvent};
+ghost use Rattle.fare_trace.specs.declared.keyword.SchemeKeyword.TheVariants.{Demo};
+ghost use Rattle.fare_trace.specs.declared.line.Line.TheVariants.{Setup, Step};
+ghost use Rattle.fare_trace.specs.Grammar.{AreOf, event_keyword_kinds, scheme_keyword_kinds, size_number};
+ghost use Rattle.fare_trace.specs.Reading.{Builds, IsBuilt, ReadsLine, ReadsNumbered};
 
 use crate::cut::cut_at_digit;
-use crate::keyword::Keyword;
+use crate::keyword::{EventKeyword, Keyword, SchemeKeyword};
 use crate::line::{Line, SchemeLine};
 use crate::number::read_numbers;
+use crate::zone_text::ZoneText;
 use fare_record::{DeviceId, Moment, OwnerId, ProductId, Token};
+use fare_scheme::DemoSize;
 use fare_world::Event;
 use std::alloc::{AllocError, Global};
+
+/// The demonstration scheme of this many devices.
+fn demo_size(devices: u64) -> Option<DemoSize>
+    ensures some { IfSome result (λ size. size_number size ≡ devices) }
+    ensures within { IfSome result (λ size. (1 ≤ devices) × (devices ≤ 2)) }
+    ensures none { IfNone result (1 ≤ devices → devices ≤ 2 → ⊥) }
+{
+    match devices {
+        1 => Some(DemoSize::OneDevice),
+        2 => Some(DemoSize::TwoDevices),
+        _ => None,
+    }
+}
+
+/// The line of a demonstration scheme with these numbers, if there is one.
+fn build_demo(devices: u64, buffer: u64, inbox: u64, lane: u64) -> Option<SchemeLine>
+    ensures some { IfSome result (λ line. IsBuilt (OfScheme Demo) (devices ∷ buffer ∷ inbox ∷ lane ∷ []) (Setup line)) }
+    ensures none { IfNone result (AreOf (scheme_keyword_kinds Demo) (devices ∷ buffer ∷ inbox ∷ lane ∷ []) → ⊥) }
+{
+    Some(SchemeLine::Demo {
+        size: demo_size(devices)?,
+        buffer: u32::try_from(buffer).ok()?,
+        inbox: u32::try_from(inbox).ok()?,
+        lane: u32::try_from(lane).ok()?,
+    })
+}
+
+/// The scheme line of a keyword and its numbers, if there is one.
+fn build_setup(keyword: SchemeKeyword, numbers: &[u64]) -> Option<SchemeLine>
+    ensures some { IfSome result (λ line. IsBuilt (OfScheme keyword) numbers.now (Setup line)) }
+    ensures none { IfNone result (AreOf (scheme_keyword_kinds keyword) numbers.now → ⊥) }
+{
+    match (keyword, numbers) {
+        (SchemeKeyword::Owner, [owner, lane]) => Some(SchemeLine::Owner {
+            owner: u16::try_from(*owner).ok()?,
+            lane: u32::try_from(*lane).ok()?,
+        }),
+        (SchemeKeyword::Operator, [operator]) => Some(SchemeLine::Operator {
+            operator: u16::try_from(*operator).ok()?,
+        }),
+        (SchemeKeyword::Station, [station, operator]) => Some(SchemeLine::Station {
+            station: u16::try_from(*station).ok()?,
+            operator: u16::try_from(*operator).ok()?,
+        }),
+        (SchemeKeyword::Product, [product, owner, fare]) => Some(SchemeLine::Product {
+            product: u32::try_from(*product).ok()?,
+            owner: u16::try_from(*owner).ok()?,
+            fare: u32::try_from(*fare).ok()?,
+        }),
+        (SchemeKeyword::Caps, [product, daily, weekly]) => Some(SchemeLine::Caps {
+            product: u32::try_from(*product).ok()?,
+            daily: u32::try_from(*daily).ok()?,
+            weekly: u32::try_from(*weekly).ok()?,
+        }),
+        (SchemeKeyword::Device, [device, station, buffer]) => Some(SchemeLine::Device {
+            device: u32::try_from(*device).ok()?,
+            station: u16::try_from(*station).ok()?,
+            buffer: u32::try_from(*buffer).ok()?,
+        }),
+        (SchemeKeyword::Inbox, [capacity]) => Some(SchemeLine::Inbox {
+            capacity: u32::try_from(*capacity).ok()?,
+        }),
+        (SchemeKeyword::Start, [day]) => Some(SchemeLine::Start {
+            day: u32::try_from(*day).ok()?,
+        }),
+        (SchemeKeyword::Seal, []) => Some(SchemeLine::Seal),
+        (SchemeKeyword::Demo, [devices, buffer, inbox, lane]) => {
+            build_demo(*devices, *buffer, *inbox, *lane)
+        }
+        _ => None,
+    }
+}
+
+/// The event line of a keyword and its numbers, if there is one.
+fn build_event(keyword: EventKeyword, numbers: &[u64]) -> Option<Event>
+    ensures some { IfSome result (λ event. IsBuilt (OfEvent keyword) numbers.now (Step event)) }
+    ensures none { IfNone result (AreOf (event_keyword_kinds keyword) numbers.now → ⊥) }
+{
+    match (keyword, numbers) {
+        (EventKeyword::Tap, [device, product, token, moment]) => Some(Event::Tap {
+            device: DeviceId::new(*device)?,
+            product: ProductId::new(*product)?,
+            token: Token::new(*token)?,
+            moment: Moment::new(*moment)?,
+        }),
+        (EventKeyword::Send, [device]) => Some(Event::Send {
+            device: DeviceId::new(*device)?,
+        }),
+        (EventKeyword::Arrive, [packet]) => Some(Event::Arrive { packet: *packet }),
+        (EventKeyword::Draw, []) => Some(Event::Draw),
+        (EventKeyword::Store, []) => Some(Event::Store),
+        (EventKeyword::Forward, [owner, device]) => Some(Event::Forward {
+            owner: OwnerId::new(*owner)?,
+            device: DeviceId::new(*device)?,
+        }),
+        (EventKeyword::Fetch, [owner]) => Some(Event::Fetch {
+            owner: OwnerId::new(*owner)?,
+        }),
+        (EventKeyword::Take, [owner]) => Some(Event::Take {
+            owner: OwnerId::new(*owner)?,
+        }),
+        (EventKeyword::Upto, [device]) => Some(Event::Upto {
+            device: DeviceId::new(*device)?,
+        }),
+        (EventKeyword::Count, [owner, device]) => Some(Event::Count {
+            owner: OwnerId::new(*owner)?,
+            device: DeviceId::new(*device)?,
+        }),
+        _ => None,
+    }
+}
 
 /// The line of a keyword and its numbers, if they are as many as it has and each is of its kind.
 fn build(keyword: Keyword, numbers: &[u64]) -> Option<Line>
     ensures { Builds keyword numbers.now result }
 {
-    let event = match (keyword, numbers) {
-        (Keyword::Demo, [devices, buffer, inbox, lane]) => {
-            if *devices != 1 {
-                return None;
-            }
-            return Some(Line::Setup(SchemeLine::Demo {
-                devices: *devices as u8,
-                buffer: u32::try_from(*buffer).ok()?,
-                inbox: u32::try_from(*inbox).ok()?,
-                lane: u32::try_from(*lane).ok()?,
-            }));
-        }
-        (Keyword::Tap, [device, product, token, moment]) => Event::Tap {
-            device: DeviceId::new(*device)?,
-            product: ProductId::new(*product)?,
-            token: Token::new(*token)?,
-            moment: Moment::new(*moment)?,
-        },
-        (Keyword::Send, [device]) => Event::Send {
-            device: DeviceId::new(*device)?,
-        },
-        (Keyword::Arrive, [packet]) => Event::Arrive { packet: *packet },
-        (Keyword::Draw, []) => Event::Draw,
-        (Keyword::Store, []) => Event::Store,
-        (Keyword::Forward, [owner, device]) => Event::Forward {
-            owner: OwnerId::new(*owner)?,
-            device: DeviceId::new(*device)?,
-        },
-        (Keyword::Fetch, [owner]) => Event::Fetch {
-            owner: OwnerId::new(*owner)?,
-        },
-        (Keyword::Take, [owner]) => Event::Take {
-            owner: OwnerId::new(*owner)?,
-        },
-        (Keyword::Upto, [device]) => Event::Upto {
-            device: DeviceId::new(*device)?,
-        },
-        (Keyword::Count, [owner, device]) => Event::Count {
-            owner: OwnerId::new(*owner)?,
-            device: DeviceId::new(*device)?,
-        },
-        _ => return None,
-    };
-    Some(Line::Step(event))
+    match keyword {
+        Keyword::OfScheme(keyword) => Some(Line::Setup(build_setup(keyword, numbers)?)),
+        Keyword::OfEvent(keyword) => Some(Line::Step(build_event(keyword, numbers)?)),
+    }
 }
 
-/// The line that a text without a line feed spells.
-pub fn read_line(alloc: Global, text: &[u8]) -> Result<Option<Line>, AllocError>
-    ensures { IfOk result (λ found. ReadsLine text.now found) }
+/// The line that a text spells by a keyword and numbers.
+fn read_numbered(alloc: Global, text: &[u8]) -> Result<Option<Line>, AllocError>
+    ensures { IfOk result (λ found. ReadsNumbered text.now found) }
 {
     let (word, rest) = cut_at_digit(text);
     let Some(keyword) = Keyword::read(word) else {
@@ -72,4 +148,28 @@ pub fn read_line(alloc: Global, text: &[u8]) -> Result<Option<Line>, AllocError>
         return Ok(None);
     };
     Ok(build(keyword, &numbers))
+}
+
+/// What stands behind `zone` and a space.
+fn after_zone(text: &[u8]) -> Option<&[u8]>
+    ensures some { IfSome result (λ rest. text.now ≡ codes "zone " ++ rest.now) }
+    ensures none { IfNone result ((rest : List ℕ) → text.now ≡ codes "zone " ++ rest → ⊥) }
+{
+    match text {
+        [b'z', b'o', b'n', b'e', b' ', rest @ ..] => Some(rest),
+        _ => None,
+    }
+}
+
+/// The line that a text without a line feed spells.
+pub fn read_line(alloc: Global, text: &[u8]) -> Result<Option<Line>, AllocError>
+    ensures { IfOk result (λ found. ReadsLine text.now found) }
+{
+    let Some(rest) = after_zone(text) else {
+        return read_numbered(alloc, text);
+    };
+    let Some(rule) = ZoneText::read(alloc, rest)? else {
+        return Ok(None);
+    };
+    Ok(Some(Line::Setup(SchemeLine::Zone { rule })))
 }

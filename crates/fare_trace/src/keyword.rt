@@ -1,10 +1,25 @@
 ghost use Rattle.std.specs.Prelude.{◌≡◌, ◌<◌, ℕ, IfSome, IfNone, length, slice_index_or};
-ghost use Rattle.fare_trace.specs.Grammar.{keyword_text};
+ghost use Rattle.fare_trace.specs.Grammar.{event_keyword_text, keyword_text, scheme_keyword_text};
+ghost use Rattle.fare_trace.specs.Reading.{any_keyword};
 
-/// What a line begins with.
+/// What a scheme line begins with, but for that of a zone.
 #[derive(Clone, Copy, PartialEq, Eq, Debug)]
-pub enum Keyword {
+pub enum SchemeKeyword {
+    Owner,
+    Operator,
+    Station,
+    Product,
+    Caps,
+    Device,
+    Inbox,
+    Start,
+    Seal,
     Demo,
+}
+
+/// What an event line begins with.
+#[derive(Clone, Copy, PartialEq, Eq, Debug)]
+pub enum EventKeyword {
     Tap,
     Send,
     Arrive,
@@ -17,20 +32,76 @@ pub enum Keyword {
     Count,
 }
 
+/// What a line begins with, but for that of a zone.
+#[derive(Clone, Copy, PartialEq, Eq, Debug)]
+pub enum Keyword {
+    OfScheme(SchemeKeyword),
+    OfEvent(EventKeyword),
+}
+
+impl SchemeKeyword {
+    /// Its text, with the space that parts it from the first number where numbers follow.
+    fn text(self) -> &'static [u8]
+        ensures { result.now ≡ scheme_keyword_text self }
+    {
+        match self {
+            SchemeKeyword::Owner => b"owner ",
+            SchemeKeyword::Operator => b"operator ",
+            SchemeKeyword::Station => b"station ",
+            SchemeKeyword::Product => b"product ",
+            SchemeKeyword::Caps => b"caps ",
+            SchemeKeyword::Device => b"device ",
+            SchemeKeyword::Inbox => b"inbox ",
+            SchemeKeyword::Start => b"start ",
+            SchemeKeyword::Seal => b"seal",
+            SchemeKeyword::Demo => b"demo ",
+        }
+    }
+}
+
+impl EventKeyword {
+    /// Its text, with the space that parts it from the first number where numbers follow.
+    fn text(self) -> &'static [u8]
+        ensures { result.now ≡ event_keyword_text self }
+    {
+        match self {
+            EventKeyword::Tap => b"tap ",
+            EventKeyword::Send => b"send ",
+            EventKeyword::Arrive => b"arrive ",
+            EventKeyword::Draw => b"draw",
+            EventKeyword::Store => b"store",
+            EventKeyword::Forward => b"forward ",
+            EventKeyword::Fetch => b"fetch ",
+            EventKeyword::Take => b"take ",
+            EventKeyword::Upto => b"upto ",
+            EventKeyword::Count => b"count ",
+        }
+    }
+}
+
 impl Keyword {
     /// Each keyword once.
-    const ALL: [Keyword; 11] = [
-        Keyword::Demo,
-        Keyword::Tap,
-        Keyword::Send,
-        Keyword::Arrive,
-        Keyword::Draw,
-        Keyword::Store,
-        Keyword::Forward,
-        Keyword::Fetch,
-        Keyword::Take,
-        Keyword::Upto,
-        Keyword::Count,
+    const ALL: [Keyword; 20] = [
+        Keyword::OfScheme(SchemeKeyword::Owner),
+        Keyword::OfScheme(SchemeKeyword::Operator),
+        Keyword::OfScheme(SchemeKeyword::Station),
+        Keyword::OfScheme(SchemeKeyword::Product),
+        Keyword::OfScheme(SchemeKeyword::Caps),
+        Keyword::OfScheme(SchemeKeyword::Device),
+        Keyword::OfScheme(SchemeKeyword::Inbox),
+        Keyword::OfScheme(SchemeKeyword::Start),
+        Keyword::OfScheme(SchemeKeyword::Seal),
+        Keyword::OfScheme(SchemeKeyword::Demo),
+        Keyword::OfEvent(EventKeyword::Tap),
+        Keyword::OfEvent(EventKeyword::Send),
+        Keyword::OfEvent(EventKeyword::Arrive),
+        Keyword::OfEvent(EventKeyword::Draw),
+        Keyword::OfEvent(EventKeyword::Store),
+        Keyword::OfEvent(EventKeyword::Forward),
+        Keyword::OfEvent(EventKeyword::Fetch),
+        Keyword::OfEvent(EventKeyword::Take),
+        Keyword::OfEvent(EventKeyword::Upto),
+        Keyword::OfEvent(EventKeyword::Count),
     ];
 
     /// Its text, with the space that parts it from the first number where numbers follow.
@@ -38,17 +109,8 @@ impl Keyword {
         ensures { result.now ≡ keyword_text self }
     {
         match self {
-            Keyword::Demo => b"demo ",
-            Keyword::Tap => b"tap ",
-            Keyword::Send => b"send ",
-            Keyword::Arrive => b"arrive ",
-            Keyword::Draw => b"draw",
-            Keyword::Store => b"store",
-            Keyword::Forward => b"forward ",
-            Keyword::Fetch => b"fetch ",
-            Keyword::Take => b"take ",
-            Keyword::Upto => b"upto ",
-            Keyword::Count => b"count ",
+            Keyword::OfScheme(keyword) => keyword.text(),
+            Keyword::OfEvent(keyword) => keyword.text(),
         }
     }
 
@@ -64,7 +126,7 @@ impl Keyword {
 /// The first of the keywords that has this text.
 fn find_keyword(keywords: &[Keyword], text: &[u8]) -> Option<Keyword>
     ensures found { IfSome result (λ k. text.now ≡ keyword_text k) }
-    ensures none { IfNone result ((i : ℕ) → i < length keywords.now → text.now ≡ keyword_text (slice_index_or keywords.now i Keyword.Draw) → ⊥) }
+    ensures none { IfNone result ((i : ℕ) → i < length keywords.now → text.now ≡ keyword_text (slice_index_or keywords.now i any_keyword) → ⊥) }
 {
     for keyword in keywords {
         if keyword.text() == text {

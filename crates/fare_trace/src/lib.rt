@@ -11,13 +11,16 @@ pub mod laws;
 mod line;
 mod number;
 mod print;
+mod registering;
 mod stream;
 mod text;
+mod zone_text;
 
 pub use line::{Line, SchemeLine};
 pub use print::print_reply;
 pub use stream::{ReplayFault, replay};
 pub use text::{ParseFault, parse};
+pub use zone_text::ZoneText;
 
 #[cfg(test)]
 mod tests;

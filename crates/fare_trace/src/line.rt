@@ -1,12 +1,59 @@
+use crate::zone_text::ZoneText;
+use fare_scheme::DemoSize;
 use fare_world::Event;
 
-/// A line that sets up the scheme. Its numbers may be out of the range that a scheme takes.
-#[derive(Clone, Copy, PartialEq, Eq, Debug)]
+/// A line that sets up the scheme. Its numbers may be any of their fields' widths, also ones that no scheme takes.
+#[derive(PartialEq, Eq, Debug, Drop)]
 pub enum SchemeLine {
-    /// The demonstration scheme of this many devices, which is 1, with the room of a device buffer, of an
-    /// inbox and of a lane queue.
+    /// Registers an owner, with the capacity of its lane queue.
+    Owner {
+        owner: u16,
+        lane: u32,
+    },
+    /// Registers an operator.
+    Operator {
+        operator: u16,
+    },
+    /// Registers a station of an operator.
+    Station {
+        station: u16,
+        operator: u16,
+    },
+    /// Registers a product of an owner, with its fare in pence.
+    Product {
+        product: u32,
+        owner: u16,
+        fare: u32,
+    },
+    /// Sets the daily and the weekly cap of a product, in pence.
+    Caps {
+        product: u32,
+        daily: u32,
+        weekly: u32,
+    },
+    /// Registers a device at a station, with the capacity of its buffer.
+    Device {
+        device: u32,
+        station: u16,
+        buffer: u32,
+    },
+    /// Sets the capacity of the inbox.
+    Inbox {
+        capacity: u32,
+    },
+    /// Sets the clock by which traffic days turn.
+    Zone {
+        rule: ZoneText,
+    },
+    /// Sets the first traffic day, in days since 1970-01-01.
+    Start {
+        day: u32,
+    },
+    /// Seals the scheme.
+    Seal,
+    /// Seals a demonstration scheme, with the capacity of a device's buffer, of an inbox and of a lane queue.
     Demo {
-        devices: u8,
+        size: DemoSize,
         buffer: u32,
         inbox: u32,
         lane: u32,
@@ -14,7 +61,7 @@ pub enum SchemeLine {
 }
 
 /// A line of a trace.
-#[derive(Clone, Copy, PartialEq, Eq, Debug)]
+#[derive(PartialEq, Eq, Debug, Drop)]
 pub enum Line {
     /// It sets up the scheme.
     Setup(SchemeLine),

@@ -1,5 +1,5 @@
 ghost use Rattle.std.specs.Prelude.{◌≡◌, OnOk, IfOk, IfErr, IfSome};
-ghost use Rattle.fare_trace.specs.Replay.{ReadsAll, ReplayFails, Replays, output_of};
+ghost use Rattle.fare_trace.specs.Replay.{IsOutput, ReadsAll, ReplayFails, Replays};
 ghost use Rattle.fare_trace.specs.Replies.{replies_text};
 
 use crate::answers::answer_lines;
@@ -74,7 +74,7 @@ fn print_replies(alloc: Global, replies: &[Reply]) -> Result<Vec<u8>, AllocError
 
 /// The bytes that answer the lines of a trace.
 fn output(alloc: Global, lines: &[Line]) -> Result<Vec<u8>, AllocError>
-    ensures { IfOk result (λ text. text.items ≡ output_of lines.now) }
+    ensures { IfOk result (λ text. IsOutput lines.now text.items) }
 {
     let replies = answer_lines(alloc, lines)?;
     print_replies(alloc, &replies)

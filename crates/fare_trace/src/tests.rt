@@ -1,5 +1,6 @@
 use crate::{Line, ParseFault, ReplayFault, SchemeLine, parse, print_reply, replay};
 use fare_record::DeviceId;
+use fare_scheme::DemoSize;
 use fare_world::{Event, Refusal, Reply};
 use std::io;
 use std::io::{Read, Write};
@@ -130,12 +131,187 @@ refused Old
 accepted
 ";
 
+const DAY_EDGES: &[u8] = b"demo 1 4 4 4
+tap 1 1 77 1704083399
+tap 1 1 77 1704186400
+";
+
+const DAY_EDGES_ANSWERED: &[u8] = b"ok
+refused DayClosed
+refused DayAhead
+";
+
+const REFUSALS_AND_IDLES: &[u8] = b"demo 1 4 4 4
+tap 1 1 77 0
+tap 9 1 77 1704100000
+tap 1 9 77 1704100000
+arrive 1
+send 1
+draw
+store
+";
+
+const REFUSALS_AND_IDLES_ANSWERED: &[u8] = b"ok
+refused BadMoment
+refused UnknownDevice
+refused UnknownProduct
+refused NoPacket
+idle
+empty
+idle
+";
+
+const REGISTRAR_REFUSALS: &[u8] = b"owner 0 4
+owner 1 4
+owner 1 4
+product 1 2 175
+product 1 1 100001
+seal
+send 1
+demo 1 4 4 4
+";
+
+const REGISTRAR_REFUSALS_ANSWERED: &[u8] = b"refused ZeroId
+ok
+refused Taken
+refused UnknownParent
+refused Range
+refused NothingRegistered
+refused Unsealed
+refused Taken
+";
+
+const REGISTRAR_SEALS: &[u8] = b"owner 1 4
+operator 1
+station 1 1
+product 1 1 175
+device 1 1 4
+seal
+start 19723
+seal
+zone GMT0BST,M3.5.0/1,M10.5.0
+seal
+seal
+tap 1 1 77 1704100000
+";
+
+const REGISTRAR_SEALS_ANSWERED: &[u8] = b"ok
+ok
+ok
+ok
+ok
+refused NoStart
+ok
+refused NoZone
+ok
+ok
+refused Sealed
+record 1 1
+";
+
+const SETTINGS: &[u8] = b"operator 0
+operator 1
+station 1 2
+station 1 1
+owner 1 0
+owner 1 1024
+product 1 1 100000
+caps 2 0 0
+caps 1 1000001 0
+caps 1 0 10000001
+caps 1 1000000 10000000
+device 1 1 4097
+device 1 1 4096
+device 1 1 4096
+inbox 0
+inbox 1025
+inbox 1
+start 100001
+start 100000
+zone x
+demo 2 1 1 1
+seal
+zone JST-9
+draw
+seal
+demo 1 0 0 0
+draw
+";
+
+const SETTINGS_ANSWERED: &[u8] = b"refused ZeroId
+ok
+refused UnknownParent
+ok
+refused Range
+ok
+ok
+refused UnknownParent
+refused Range
+refused Range
+ok
+refused Range
+ok
+refused Taken
+refused Range
+refused Range
+ok
+refused Range
+ok
+refused BadZone
+refused Taken
+refused NoZone
+ok
+refused Unsealed
+ok
+refused Sealed
+empty
+";
+
+// 04:29:59 and 04:30:00 of 1 January 2024 in Tokyo.
+const LAST_ZONE_COUNTS: &[u8] = b"owner 1 4
+operator 1
+station 1 1
+product 1 1 175
+device 1 1 4
+zone GMT0BST,M3.5.0/1,M10.5.0
+start 19723
+zone JST-9
+zone x
+seal
+tap 1 1 77 1704050999
+tap 1 1 77 1704051000
+";
+
+const LAST_ZONE_COUNTS_ANSWERED: &[u8] = b"ok
+ok
+ok
+ok
+ok
+ok
+ok
+ok
+refused BadZone
+ok
+refused DayClosed
+record 1 1
+";
+
 #[test]
 fn replays_traces(rt: HostRuntime) -> Result<(), Fail> {
-    let cases: [(&[u8], &[u8]); 4] = [
+    let cases: [(&[u8], &[u8]); 11] = [
         (ONE_TAP, ONE_TAP_ANSWERED),
         (FULL_BUFFER, FULL_BUFFER_ANSWERED),
         (OUT_OF_ORDER_AND_REPEAT, OUT_OF_ORDER_AND_REPEAT_ANSWERED),
+        (DAY_EDGES, DAY_EDGES_ANSWERED),
+        (REFUSALS_AND_IDLES, REFUSALS_AND_IDLES_ANSWERED),
+        (REGISTRAR_REFUSALS, REGISTRAR_REFUSALS_ANSWERED),
+        (REGISTRAR_SEALS, REGISTRAR_SEALS_ANSWERED),
+        (SETTINGS, SETTINGS_ANSWERED),
+        (LAST_ZONE_COUNTS, LAST_ZONE_COUNTS_ANSWERED),
+        (
+            b"demo 2 4 4 4\nupto 2\ncount 1 2\ntap 2 1 7 1704100000\nupto 3\n",
+            b"ok\nupto 0\ncount 0\nrecord 1 1\nrefused UnknownDevice\n",
+        ),
         (
             b"draw\ndemo 1 4096 1024 1024\ndraw\ndemo 1 4 4 4\ndemo 1 0 0 0\nupto 1\n",
             b"refused Unsealed\nok\nempty\nrefused Sealed\nrefused Sealed\nupto 0\n",
@@ -221,24 +397,90 @@ fn a_writer_fails(rt: HostRuntime) -> Result<(), Fail> {
 }
 
 #[test]
-fn parses_lines(rt: HostRuntime) -> Result<(), Fail> {
+fn parses_event_lines(rt: HostRuntime) -> Result<(), Fail> {
+    let lines = parse(rt.alloc(), b"arrive 18446744073709551615\ndraw")?;
+    assert_eq!(rt; lines.len(), 2);
+    let packet = 18446744073709551615;
+    assert!(rt; matches!(&lines[0], Line::Step(event) if *event == Event::Arrive { packet }));
+    assert!(rt; matches!(&lines[1], Line::Step(Event::Draw)));
+    Ok(())
+}
+
+#[test]
+fn parses_scheme_lines(rt: HostRuntime) -> Result<(), Fail> {
     let lines = parse(
         rt.alloc(),
-        b"demo 1 0 4294967295 7\narrive 18446744073709551615\ndraw",
+        b"owner 65535 4294967295
+operator 65534
+station 1 0
+product 4294967295 2 100001
+caps 3 4 5
+device 6 7 8
+inbox 0
+start 4294967295
+seal
+demo 1 0 4294967295 7
+demo 2 1 2 3",
     )?;
-    assert_eq!(rt; lines.len(), 3);
-    let demo = SchemeLine::Demo {
-        devices: 1,
-        buffer: 0,
-        inbox: 4294967295,
-        lane: 7,
-    };
-    assert_eq!(rt; lines[0], Line::Setup(demo));
-    let arrive = Event::Arrive {
-        packet: 18446744073709551615,
-    };
-    assert_eq!(rt; lines[1], Line::Step(arrive));
-    assert_eq!(rt; lines[2], Line::Step(Event::Draw));
+    let want = [
+        SchemeLine::Owner {
+            owner: 65535,
+            lane: 4294967295,
+        },
+        SchemeLine::Operator { operator: 65534 },
+        SchemeLine::Station {
+            station: 1,
+            operator: 0,
+        },
+        SchemeLine::Product {
+            product: 4294967295,
+            owner: 2,
+            fare: 100001,
+        },
+        SchemeLine::Caps {
+            product: 3,
+            daily: 4,
+            weekly: 5,
+        },
+        SchemeLine::Device {
+            device: 6,
+            station: 7,
+            buffer: 8,
+        },
+        SchemeLine::Inbox { capacity: 0 },
+        SchemeLine::Start { day: 4294967295 },
+        SchemeLine::Seal,
+        SchemeLine::Demo {
+            size: DemoSize::OneDevice,
+            buffer: 0,
+            inbox: 4294967295,
+            lane: 7,
+        },
+        SchemeLine::Demo {
+            size: DemoSize::TwoDevices,
+            buffer: 1,
+            inbox: 2,
+            lane: 3,
+        },
+    ];
+    assert_eq!(rt; lines.len(), want.len());
+    for (line, setup) in lines.iter().zip(&want) {
+        assert!(rt; matches!(line, Line::Setup(line) if line == setup));
+    }
+    Ok(())
+}
+
+#[test]
+fn parses_a_zone_line(rt: HostRuntime) -> Result<(), Fail> {
+    let lines = parse(rt.alloc(), b"zone GMT0BST,M3.5.0/1,M10.5.0\nzone !~\n")?;
+    assert_eq!(rt; lines.len(), 2);
+    let wants = ["GMT0BST,M3.5.0/1,M10.5.0", "!~"];
+    for (line, want) in lines.iter().zip(wants) {
+        let Line::Setup(SchemeLine::Zone { rule }) = line else {
+            return Err(Fail::from("not a zone"));
+        };
+        assert_eq!(rt; rule.as_str(), want);
+    }
     Ok(())
 }
 
@@ -263,7 +505,7 @@ count 65535 4294967295
 
 #[test]
 fn refuses_bad_lines(rt: HostRuntime) -> Result<(), Fail> {
-    let cases: [(&[u8], u64); 22] = [
+    let cases: [(&[u8], u64); 39] = [
         (b"\n", 1),
         (b"draw\n\n", 2),
         (b"draw ", 1),
@@ -283,9 +525,26 @@ fn refuses_bad_lines(rt: HostRuntime) -> Result<(), Fail> {
         (b"tap 1 1 0 0", 1),
         (b"tap 1 1 9223372036854775808 0", 1),
         (b"tap 1 1 1 8640200001", 1),
-        (b"demo 2 4 4 4", 1),
+        (b"demo 0 1 1 1", 1),
+        (b"demo 3 1 1 1", 1),
         (b"demo 1 4 4 4294967296", 1),
-        (b"owner 1 4", 1),
+        (b"owner 65536 4", 1),
+        (b"owner 1 4294967296", 1),
+        (b"owner 1", 1),
+        (b"operator 65536", 1),
+        (b"station 1 65536", 1),
+        (b"product 4294967296 1 1", 1),
+        (b"caps 1 1 4294967296", 1),
+        (b"device 1 65536 1", 1),
+        (b"inbox 4294967296", 1),
+        (b"start -1", 1),
+        (b"seal 1", 1),
+        (b"zone", 1),
+        (b"zone ", 1),
+        (b"zone a b", 1),
+        (b"zone a ", 1),
+        (b"zone \x7f", 1),
+        (b"zone\tGMT0", 1),
     ];
     for (text, number) in cases {
         let fault = parse(rt.alloc(), text).err();

@@ -10,6 +10,22 @@ pub enum Refusal {
     Sealed,
     /// A number of a scheme line is out of its range.
     Range,
+    /// The id of a scheme line is 0.
+    ZeroId,
+    /// The id of a scheme line is registered, or a demonstration scheme came after an accepted line.
+    Taken,
+    /// What a scheme line's entry belongs to is not registered.
+    UnknownParent,
+    /// As many of a kind as there may be are registered.
+    TooMany,
+    /// The seal came before something of each kind was registered.
+    NothingRegistered,
+    /// The seal came before the first traffic day was set.
+    NoStart,
+    /// The seal came before the zone was set.
+    NoZone,
+    /// The text of a zone reads as no rule.
+    BadZone,
     /// The device is not registered.
     UnknownDevice,
     /// The owner is not registered.

@@ -1,18 +1,12 @@
-use Rattle.std.proofs.Common.{Some, None}
-use Rattle.fare_trace.specs.Reading.{ReadsNumbers}
-use Rattle.fare_trace.proofs.Spelling.{no_keyword, no_numbers, built}
+use Rattle.std.proofs.Common.{IfOk, Result, Ok, Err, Option, ℕ, List, ◌≡◌, ◌++◌, codes}
+use Rattle.fare_trace.specs.declared.line.Line.{Line}
+use Rattle.fare_trace.specs.Reading.{ReadsLine, ReadsNumbered}
+use Rattle.fare_trace.proofs.Spelling.{not_worded}
 use Rattle.fare_trace.proofs.build.read_line.Goals as goal
 
+if_read : {E : Type 0} (text : List ℕ) (found : Result (Option Line) E) → IfOk found (ReadsNumbered text) → ((rule : List ℕ) → text ≡ codes "zone " ++ rule → ⊥) → IfOk found (ReadsLine text)
+if_read text (Ok line) reads worded = not_worded text line reads worded
+if_read text (Err error) reads worded = tt
+
 pub returns-in_default : goal.returns-in_default
-returns-in_default c = no_keyword c.args.text.now c.cut_at_digit.result.0.now c.cut_at_digit.result.1.now c.cut_at_digit.ensures c.in_default.ensures.none
-
-pub returns-in_default-2 : goal.returns-in_default-2
-returns-in_default-2 c =
-    let none : ReadsNumbers c.cut_at_digit.result.1.now None = rw c.in_default-2.is at c.in_ok-numbers.ensures in
-    no_numbers c.args.text.now c.cut_at_digit.result.0.now c.cut_at_digit.result.1.now c.cut_at_digit.ensures none
-
-pub returns : goal.returns
-returns c =
-    let read : ReadsNumbers c.cut_at_digit.result.1.now (Some c.in-Some-2.numbers.items) = rw c.in-Some-2.is at c.in_ok-numbers.ensures in
-    built c.args.text.now c.cut_at_digit.result.0.now c.cut_at_digit.result.1.now c.cut_at_digit.ensures
-    c.in-Some.keyword c.in-Some.ensures.found c.in-Some-2.numbers.items read c.build.result (rw c.deref.ensures.value at c.build.ensures)
+returns-in_default c = if_read c.args.text.now c.read_numbered.result c.read_numbered.ensures c.in_default.ensures.none

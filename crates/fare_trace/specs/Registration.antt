@@ -1,0 +1,22 @@
+-- How far the registration of a trace's scheme is.
+use Rattle.std.specs.Prelude.{◌≡◌, Bool, Some, Result, Ok, Err}
+use Rattle.fare_scheme.specs.declared.fault.AddFault.{AddFault}
+use Rattle.fare_scheme.specs.Values.{DraftValue}
+use Rattle.fare_world.specs.declared.reply.Refusal.{Refusal}
+use Rattle.fare_world.specs.declared.reply.Reply.{Reply}
+use Rattle.fare_world.specs.System.{start}
+use Rattle.fare_trace.specs.declared.registering.Registration.{Registration}
+use Rattle.fare_trace.specs.declared.registering.Registration.TheVariants.{Open, Sealed}
+use Rattle.fare_trace.specs.Answers.{Drafting, Running, Stage, accepted, add_refusal, refused}
+
+abbrev pub stage_of : Registration → Stage
+stage_of (Open draft used) = Drafting draft used
+stage_of (Sealed scheme) = Running scheme (start scheme)
+
+abbrev pub answer_of : Registration × Reply → Stage × Reply
+answer_of answer = (stage_of answer.0, answer.1)
+
+-- the stage and the reply after an addition to the draft
+abbrev pub AfterAdding : DraftValue → Bool → Result (Unit {0}) AddFault → Stage × Reply → Type 0
+AfterAdding draft used (Ok done) answer = answer ≡ accepted draft
+AfterAdding draft used (Err fault) answer = (refusal : Refusal) × (add_refusal (Some fault) ≡ Some refusal) × (answer ≡ refused draft used refusal)
