@@ -2,76 +2,11 @@ use super::*;
 use fare_day::Zone;
 use fare_record::{DeviceId, Moment, OwnerId, ProductId, Token};
 use fare_scheme::{DemoSize, Draft, Scheme};
+use std::alloc::Global;
 use std::test::Fail;
 
-// One tap from the device to the owner's ledger.
-#[test]
-fn a_tap_reaches_the_ledger(rt: HostRuntime) -> Result<(), Fail> {
-    let device = DeviceId::new(1).ok_or("device")?;
-    let owner = OwnerId::new(1).ok_or("owner")?;
-    let events = [
-        Event::Tap {
-            device,
-            product: ProductId::new(1).ok_or("product")?,
-            token: Token::new(77).ok_or("token")?,
-            moment: Moment::new(1_704_100_000).ok_or("moment")?,
-        },
-        Event::Send { device },
-        Event::Arrive { packet: 1 },
-        Event::Draw,
-        Event::Store,
-        Event::Forward { owner, device },
-        Event::Fetch { owner },
-        Event::Take { owner },
-        Event::Upto { device },
-        Event::Count { owner, device },
-    ];
-    let replies = [
-        Reply::Recorded { link: 1, lane: 1 },
-        Reply::Sent { packet: 1, link: 1 },
-        Reply::Accepted,
-        Reply::Drawn { device, link: 1 },
-        Reply::Stored { device, link: 1 },
-        Reply::Forwarded { lane: 1 },
-        Reply::Fetched { device, lane: 1 },
-        Reply::Taken { device, lane: 1 },
-        Reply::Upto(1),
-        Reply::Count(1),
-    ];
-    let scheme = Scheme::demo(rt.alloc(), DemoSize::OneDevice, 4, 4, 4)?;
-    let world = World::new(rt.alloc(), scheme)?;
-    match world.run(rt.alloc(), &events) {
-        Ok((mut world, answered)) => {
-            assert_eq!(rt; answered.as_slice(), replies.as_slice());
-            assert_eq!(rt; world.apply(&Event::Draw)?, Reply::Empty);
-            Ok(())
-        }
-        Err(stopped) => Err(stopped.fault)?,
-    }
-}
-
-// A scheme of 16 owners with a product each, 16 operators with a station each, and 256 devices.
-fn wide_scheme(rt: &HostRuntime) -> Result<Scheme, Fail> {
-    let mut draft = Draft::new(rt.alloc());
-    for part in 1..=16u16 {
-        draft.add_owner(part, 4)?;
-        draft.add_operator(part)?;
-        draft.add_station(part, part)?;
-        draft.add_product(u32::from(part), part, 175)?;
-    }
-    for device in 0..256u32 {
-        draft.add_device(device + 1, (device % 16 + 1) as u16, 4)?;
-    }
-    draft.set_start(19_723)?;
-    draft.set_zone(Zone::read("GMT0BST,M3.5.0/1,M10.5.0")?);
-    match draft.seal() {
-        Ok(scheme) => Ok(scheme),
-        Err((_draft, fault)) => Err(fault)?,
-    }
-}
-
-// What brings one tap of a device to the ledger of the owner of a product.
-fn journey(device: u64, product: u64, packet: u64) -> Option<[Event; 9]> {
+// What brings the first tap of a device to the ledger of the owner of a product with the owner's number.
+fn journey(device: u64, product: u64, packet: u64) -> Option<[Event; 10]> {
     let device = DeviceId::new(device)?;
     let owner = OwnerId::new(product)?;
     Some([
@@ -88,21 +23,104 @@ fn journey(device: u64, product: u64, packet: u64) -> Option<[Event; 9]> {
         Event::Forward { owner, device },
         Event::Fetch { owner },
         Event::Take { owner },
+        Event::Upto { device },
         Event::Count { owner, device },
     ])
 }
 
+// The replies to that.
+fn answers(device: u64, packet: u64) -> Option<[Reply; 10]> {
+    let device = DeviceId::new(device)?;
+    Some([
+        Reply::Recorded { link: 1, lane: 1 },
+        Reply::Sent { packet, link: 1 },
+        Reply::Accepted,
+        Reply::Drawn { device, link: 1 },
+        Reply::Stored { device, link: 1 },
+        Reply::Forwarded { lane: 1 },
+        Reply::Fetched { device, lane: 1 },
+        Reply::Taken { device, lane: 1 },
+        Reply::Upto(1),
+        Reply::Count(1),
+    ])
+}
+
+fn small_world(alloc: Global) -> Option<World> {
+    let scheme = Scheme::demo(alloc, DemoSize::OneDevice, 4, 4, 4).ok()?;
+    World::new(alloc, scheme).ok()
+}
+
+// The replies of a run.
+fn run(alloc: Global, world: World, events: &[Event]) -> Option<Vec<Reply>> {
+    let (_world, replies) = world.run(alloc, events).ok()?;
+    Some(replies)
+}
+
+// Whether a device's first tap comes to its owner's ledger.
+fn reaches_its_owner(world: &mut World, device: u64, product: u64) -> Option<bool> {
+    let answers = answers(device, device)?;
+    let mut place = 0;
+    for event in &journey(device, product, device)? {
+        if world.apply(event).ok()? != *answers.get(place)? {
+            return Some(false);
+        }
+        place += 1;
+    }
+    Some(true)
+}
+
+// An owner with a product, and an operator with a station.
+fn add_part(draft: &mut Draft, part: u16) -> Option<()> {
+    draft.add_owner(part, 4).ok()?;
+    draft.add_product(u32::from(part), part, 175).ok()?;
+    draft.add_operator(part).ok()?;
+    draft.add_station(part, part).ok()
+}
+
+fn add_parts(draft: &mut Draft) -> Option<()> {
+    for part in 1..=16 {
+        add_part(draft, part)?;
+    }
+    Some(())
+}
+
+fn add_devices(draft: &mut Draft) -> Option<()> {
+    for device in 1..=256u32 {
+        draft.add_device(device, (device % 16 + 1) as u16, 4).ok()?;
+    }
+    Some(())
+}
+
+fn seal(mut draft: Draft) -> Option<Scheme> {
+    draft.set_start(19_723).ok()?;
+    draft.set_zone(Zone::read("GMT0BST,M3.5.0/1,M10.5.0").ok()?);
+    draft.seal().ok()
+}
+
+// 16 owners with a product each, 16 operators with a station each, and 256 devices.
+fn wide_world(alloc: Global) -> Option<World> {
+    let mut draft = Draft::new(alloc);
+    add_parts(&mut draft)?;
+    add_devices(&mut draft)?;
+    World::new(alloc, seal(draft)?).ok()
+}
+
+#[test]
+fn a_tap_reaches_the_ledger(rt: HostRuntime) -> Result<(), Fail> {
+    let world = small_world(rt.alloc()).ok_or("world")?;
+    let events = journey(1, 1, 1).ok_or("journey")?;
+    let replies = run(rt.alloc(), world, &events).ok_or("run")?;
+    let answers = answers(1, 1).ok_or("answers")?;
+    assert_eq!(rt; replies.as_slice(), answers.as_slice());
+    Ok(())
+}
+
 #[test]
 fn each_of_256_devices_reaches_its_owner(rt: HostRuntime) -> Result<(), Fail> {
-    let mut world = World::new(rt.alloc(), wide_scheme(&rt)?)?;
+    let mut world = wide_world(rt.alloc()).ok_or("world")?;
     for device in 1..=256 {
-        let product = device % 16 + 1;
-        let events = journey(device, product, device).ok_or("journey")?;
-        let mut last = Reply::Idle;
-        for event in &events {
-            last = world.apply(event)?;
-        }
-        assert_eq!(rt; last, Reply::Count(1));
+        let reached = reaches_its_owner(&mut world, device, device % 16 + 1);
+        assert_eq!(rt; reached, Some(true));
     }
     Ok(())
 }
