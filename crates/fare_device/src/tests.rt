@@ -47,11 +47,33 @@ fn hear(device: &mut Device, upto: u64) -> Option<u64>
     device.hear_ack(upto).ok()
 }
 
+// Why there is no new device of this number.
+fn fault_of_new(alloc: Global, scheme: &Scheme, number: u64) -> Option<DeviceFault> {
+    Device::new(alloc, DeviceId::new(number)?, scheme).err()
+}
+
+// Why a device of this number takes no such numbers over.
+fn fault_of_numbers(
+    alloc: Global,
+    scheme: &Scheme,
+    number: u64,
+    last: u64,
+    lanes: &[u64],
+) -> Option<NumbersFault> {
+    let id = DeviceId::new(number)?;
+    Device::with_numbers(alloc, id, scheme, Day::new(19_723)?, last, lanes).err()
+}
+
+fn new_device(alloc: Global, scheme: &Scheme) -> Option<Device>
+    ensures { IfSome result (λ device. length device.lanes ≡ length scheme.now.owners) }
+{
+    Device::new(alloc, DeviceId::new(1)?, scheme).ok()
+}
+
 #[test]
 fn a_device_numbers_sends_and_refuses(rt: HostRuntime) -> Result<(), Fail> {
     let scheme = small_scheme(rt.alloc()).ok_or("scheme")?;
-    let id = DeviceId::new(1).ok_or("device")?;
-    let mut device = Device::new(rt.alloc(), id, &scheme)?;
+    let mut device = new_device(rt.alloc(), &scheme).ok_or("device")?;
     assert_eq!(rt; tap(&mut device, &scheme), Some(Ok((1, 1))));
     assert_eq!(rt; send(&mut device), Some(1));
     assert_eq!(rt; send(&mut device), None);
@@ -66,11 +88,10 @@ fn a_device_numbers_sends_and_refuses(rt: HostRuntime) -> Result<(), Fail> {
 #[test]
 fn an_unknown_device_is_refused(rt: HostRuntime) -> Result<(), Fail> {
     let scheme = small_scheme(rt.alloc()).ok_or("scheme")?;
-    let id = DeviceId::new(9).ok_or("device")?;
-    let made = Device::new(rt.alloc(), id, &scheme);
-    assert_eq!(rt; made.err(), Some(DeviceFault::UnknownDevice));
-    let made = Device::with_numbers(rt.alloc(), id, &scheme, scheme.start(), 0, &[0]);
-    assert_eq!(rt; made.err(), Some(NumbersFault::UnknownDevice));
+    let unknown = fault_of_new(rt.alloc(), &scheme, 9);
+    assert_eq!(rt; unknown, Some(DeviceFault::UnknownDevice));
+    let unknown = fault_of_numbers(rt.alloc(), &scheme, 9, 0, &[0]);
+    assert_eq!(rt; unknown, Some(NumbersFault::UnknownDevice));
     Ok(())
 }
 
@@ -92,14 +113,12 @@ fn a_device_takes_numbers_over(rt: HostRuntime) -> Result<(), Fail> {
 #[test]
 fn numbers_that_do_not_add_up_are_out_of_range(rt: HostRuntime) -> Result<(), Fail> {
     let scheme = small_scheme(rt.alloc()).ok_or("scheme")?;
-    let id = DeviceId::new(1).ok_or("device")?;
-    let day = Day::new(19_723).ok_or("day")?;
     for (last, lane) in [(7, 8), (8, 7), (LAST_NUMBER + 1, LAST_NUMBER + 1)] {
-        let made = Device::with_numbers(rt.alloc(), id, &scheme, day, last, &[lane]);
-        assert_eq!(rt; made.err(), Some(NumbersFault::Range));
+        let fault = fault_of_numbers(rt.alloc(), &scheme, 1, last, &[lane]);
+        assert_eq!(rt; fault, Some(NumbersFault::Range));
     }
-    let made = Device::with_numbers(rt.alloc(), id, &scheme, day, 7, &[7, 0]);
-    assert_eq!(rt; made.err(), Some(NumbersFault::Range));
+    let fault = fault_of_numbers(rt.alloc(), &scheme, 1, 7, &[7, 0]);
+    assert_eq!(rt; fault, Some(NumbersFault::Range));
     Ok(())
 }
 
