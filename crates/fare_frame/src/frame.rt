@@ -1,6 +1,6 @@
 ghost use Rattle.std.specs.Prelude.{◌≡◌, ◌<◌, ◌≤◌, ◌+◌, ◌++◌, length, vec_len, vec_capacity, OnOk, OnErr};
 ghost use Rattle.fare_frame.specs.Table.{head_of};
-ghost use Rattle.fare_frame.specs.Grammar.{frame_bytes, tap_of, IsFrame};
+ghost use Rattle.fare_frame.specs.Grammar.{frame_bytes, tap_of, ack_of, IsFrame};
 
 use crate::kind::Kind;
 use fare_record::{Ack, DayAck, Hello, Record, Statement};
@@ -46,11 +46,21 @@ impl Frame {
     }
 
     /// The record of a numbered tap; None for any other frame.
-    pub fn tapped(self) -> Option<Record>
-        ensures { result ≡ tap_of self }
+    pub fn tapped(&self) -> Option<Record>
+        ensures { result ≡ tap_of self.now }
     {
         match self {
-            Frame::Tapped(record) => Some(record),
+            Frame::Tapped(record) => Some(*record),
+            _ => None,
+        }
+    }
+
+    /// The acknowledgement of taps; None for any other frame.
+    pub fn acked(&self) -> Option<Ack>
+        ensures { result ≡ ack_of self.now }
+    {
+        match self {
+            Frame::Acked(ack) => Some(*ack),
             _ => None,
         }
     }

@@ -1,20 +1,13 @@
 -- What was read of a packet.
 use Rattle.std.proofs.Common.{◌≡◌, ◌≢◌, ℕ, List, [], ◌∷◌, ◌++◌, Some, refl, sym, ap, ◌∙◌, subst, inl, inr}
-use Rattle.std.specs.Prelude.{Option, option_and_then, slice_get}
+use Rattle.std.specs.Prelude.{slice_get}
 use Rattle.std.proofs.lemmas.List.{append-nil}
-use Rattle.fare_record.specs.Values.{RecordValue}
-use Rattle.fare_frame.specs.Grammar.{tap_of, frame_bytes, IsFrame, IsRest, IsFault}
+use Rattle.fare_frame.specs.Grammar.{frame_bytes, IsFrame, IsRest, IsFault}
 use Rattle.fare_frame.specs.Reading.{Spells, Reads, Stops, IsBad}
 use Rattle.fare_frame.specs.declared.fault.ReadFault.{ReadFault}
 use Rattle.fare_frame.specs.declared.fault.ReadFault.TheVariants.{BadLength, BadType, BadBody, Memory, Failed}
 use Rattle.fare_frame.specs.declared.frame.Frame.{Frame}
-use Rattle.fare_frame.specs.declared.frame.Frame.TheVariants.{Tapped}
 use Rattle.fare_frame.proofs.Streams.{one_reading}
-use Rattle.fare_world.specs.Packets.{IsRead, IsTapRead}
-
--- the tap of the frame that was read
-pub tap_is_read : (at : Option (List ℕ)) (bytes : List ℕ) (read : Option Frame) (tap : Option RecordValue) → at ≡ Some bytes → IsRead bytes read → tap ≡ option_and_then tap_of read → IsTapRead at tap
-tap_is_read at bytes read tap here is e = subst (λ o. IsTapRead o tap) (sym here) (λ r lawful spelled. e ∙ ap (option_and_then tap_of) (is (Tapped r) lawful spelled))
 
 -- the frame alone is spelled
 spells_one : (f : Frame) (bytes : List ℕ) → IsFrame f → bytes ≡ frame_bytes f → Spells bytes (f ∷ []) []

@@ -1,5 +1,6 @@
 -- A run so far, and one event more.
 use Rattle.std.proofs.Common.{◌≡◌, ◌+◌, ◌<◌, List, [], ◌∷◌, ◌++◌, length, take, get_or, refl, sym, ap, ◌∙◌, subst, arith}
+use Rattle.std.specs.List.{AllByRecursion}
 use Rattle.std.proofs.lemmas.List.{take_more, length_push}
 use Rattle.fare_record.specs.Lanes.{lane_of}
 use Rattle.fare_scheme.specs.Values.{SchemeValue}
@@ -8,11 +9,11 @@ use Rattle.fare_world.specs.declared.reply.Reply.{Reply}
 use Rattle.fare_world.specs.declared.world.World.{World}
 use Rattle.fare_world.specs.System.{System, start}
 use Rattle.fare_world.specs.Steps.{step, after, replies}
-use Rattle.fare_world.specs.Headline.{numbered, numbered_by, with_first, IsPrefixOf}
+use Rattle.fare_world.specs.Headline.{numbered, numbered_by, with_first, IsPrefixOf, IsOrderly}
 use Rattle.fare_world.specs.Shown.{OwnerShape, Shape, Shows, IsOwnerOf}
 use Rattle.fare_world.specs.Whole.{shape, StandsAt, IsStepped, IsUnchanged, HasRun, TakenInOrder}
 use Rattle.fare_world.proofs.Lists.{IfSome-weaken}
-use Rattle.fare_world.proofs.Stepping.{taken_is_prefix}
+use Rattle.fare_world.proofs.Stepping.{taken_is_prefix, start_is, orderly_run}
 
 after-push : (sc : SchemeValue) (s : System) (es : List Event) (e : Event) → after sc s (es ++ e ∷ []) ≡ (step sc (after sc s es) e).0
 after-push sc s [] e = refl
@@ -61,6 +62,10 @@ none_more old mid new events rs h same = record {
   where
     still : {s : System} → StandsAt mid s → StandsAt new s
     still {s} at = record { shows = subst (λ (q : SchemeValue × Shape). Shows q.0 q.1 s) (λ i. (sym same.scheme i, sym same.seen i)) at.shows }
+
+-- no reply of a run from the start is disorderly
+pub orderly_replies : (old new : World) (events : List Event) (rs : List Reply) → HasRun old new events rs → StandsAt old (start old.scheme) → AllByRecursion IsOrderly rs
+orderly_replies old new events rs h fresh = let sc = old.scheme in subst (AllByRecursion IsOrderly) (sym (h.answers (start sc) fresh)) (orderly_run sc (start sc) (take (length rs) events) (start_is sc))
 
 numbered-take : (sc : SchemeValue) (es : List Event) (rs : List Reply) → numbered sc (take (length rs) es) rs ≡ numbered sc es rs
 numbered-take sc [] [] = refl

@@ -27,19 +27,19 @@ use Rattle.fare_world.specs.Shown.{IsSystem, IsAt, IsRoutedOf, IsOwnerOf, OwnerS
 use Rattle.fare_world.specs.Whole.{owner_shape, shape}
 use Rattle.fare_world.proofs.Lists.{Each2-push, Each2-nil, Each2-cons, Both-none, Both-some, element_at, take-one_more}
 use Rattle.fare_world.proofs.Places.{slice_get-front}
-use Rattle.fare_world.proofs.TableLemmas.{put_all, put_both, put_here, entry-set, devices_apart, owners_apart}
+use Rattle.fare_world.proofs.TableLemmas.{put_all, put_both, put_here, option_map-put, entry-set, devices_apart, owners_apart}
 use Rattle.fare_world.proofs.Kept.{moves_step, owner_changes}
 use Rattle.fare_world.proofs.Showing.{Answers, answers_by, put_other, shows_owner, owner_shown, lanes_of_part, routed_is}
 
 -- one owner and its lanes with others in their place
-shows_owner_put : (sc : SchemeValue) (h : Shape) (s : System) (o : ℕ) (side : OwnerState) (lanes : ℕ → LaneState) (x : OwnerShape) → Shows sc h s → IsSystem (record s { owners = put s.owners o side; lanes = put s.lanes o lanes }) → IsOwnerOf s.devices o side lanes x
+shows_owner_put : (sc : SchemeValue) (h : Shape) (s : System) (o : ℕ) (side : OwnerState) (lanes : ℕ → LaneState) (x : OwnerShape) → Shows sc h s → IsSystem sc (record s { owners = put s.owners o side; lanes = put s.lanes o lanes }) → IsOwnerOf s.devices o side lanes x
     → Shows sc (record h { owners = put h.owners o (Some x) }) (record s { owners = put s.owners o side; lanes = put s.lanes o lanes })
 shows_owner_put sc h s o side lanes x w is here =
     shows_owner sc h s o (put s.owners o side) (put s.lanes o lanes) x w is (put_other s.owners o side) (put_other s.lanes o lanes)
     (subst (λ (q : OwnerState × (ℕ → LaneState)). IsOwnerOf s.devices o q.0 q.1 x) (λ i. (sym (put_here s.owners o side) i, sym (put_here s.lanes o lanes) i)) here)
 
 -- one owner with another in its place, and the same lanes
-shows_side_put : (sc : SchemeValue) (h : Shape) (s : System) (o : ℕ) (side : OwnerState) (x : OwnerShape) → Shows sc h s → IsSystem (record s { owners = put s.owners o side }) → IsOwnerOf s.devices o side (s.lanes o) x
+shows_side_put : (sc : SchemeValue) (h : Shape) (s : System) (o : ℕ) (side : OwnerState) (x : OwnerShape) → Shows sc h s → IsSystem sc (record s { owners = put s.owners o side }) → IsOwnerOf s.devices o side (s.lanes o) x
     → Shows sc (record h { owners = put h.owners o (Some x) }) (record s { owners = put s.owners o side })
 shows_side_put sc h s o side x w is here =
     shows_owner sc h s o (put s.owners o side) s.lanes x w is (put_other s.owners o side) (λ j apart. refl)
@@ -63,7 +63,7 @@ forward_known sc s o d a k owner device = λ i. known (is_some (owner i)) (is_so
 row_lanes : (sc : SchemeValue) (h : Shape) (s : System) (o d k : ℕ) (r : RecordValue) → Shows sc h s → slice_get (arrived_of o (s.devices d)) k ≡ Some r → r.lane ≡ k + 1
 row_lanes sc h s o d k r w e =
     let is = w.system.devices d in
-    lanes_of_part d (s.devices d).taps is.numbered o (s.devices d).upto is.upto k r e
+    lanes_of_part sc d (s.devices d).taps is.numbered o (s.devices d).upto is.upto k r e
 
 forward_rests : (s : System) (o d : ℕ) → length (arrived_of o (s.devices d)) ≤ (s.lanes o d).forward → forward_next s o d ≡ (s, Idle)
 forward_rests s o d past = grind (arith, nat_tests)
@@ -123,7 +123,7 @@ pub shown_forward : (sc : SchemeValue) (h : Shape) (s : System) (o d a k c : ℕ
     → Answers sc (record h { owners = put h.owners o (Some (record x { queue = x.queue ++ r ∷ []; cursors = put x.cursors d (Some r.lane) })) }) (forward sc s o d) (Forwarded r.lane)
 shown_forward sc h s o d a k c x r w owner device e f next =
     answers_by sc (record h { owners = put h.owners o (Some new) }) (Forwarded r.lane) (forward sc s o d) (forwarded s o d, Forwarded (l.forward + 1)) goes (ap Forwarded lane)
-    (shows_owner_put sc h s o side lanes new w (subst (λ (y : System × Reply). IsSystem y.0) goes (moves_step sc s (event.Forward o d) w.system).system)
+    (shows_owner_put sc h s o side lanes new w (subst (λ (y : System × Reply). IsSystem sc y.0) goes (moves_step sc s (event.Forward o d) w.system).system)
     (record {
       id = p.id;
       taken = λ j. p.taken j ∙ put_all (λ i b. take (s.lanes o i).took (numbered_for s o i) ≡ take b.took (numbered_for s o i)) (s.lanes o) d after (λ i. refl) refl j;
@@ -194,11 +194,11 @@ shown_fetch sc h s o a x r rest w at e f g =
     let p = owner_shown sc h s o x w e in
     let hand = Both-none (IsRoutedOf s.devices o) (s.owners o).hand (subst (Both (IsRoutedOf s.devices o) (s.owners o).hand) f p.hand) in
     let found = Each2-cons (IsRoutedOf s.devices o) (s.owners o).queue r rest (subst (Each2 (IsRoutedOf s.devices o) (s.owners o).queue) g p.queue) in
-    let is = routed_is s o found.0 r w.system found.3 in
+    let is = routed_is sc s o found.0 r w.system found.3 in
     let side : OwnerState = record { queue = found.1; hand = Some (Lane_of r.device r.lane) } in
     let goes : fetch sc s o ≡ (record s { owners = put s.owners o side }, Fetched r.device r.lane) = fetch_known sc s o a at ∙ (λ i. fetch_from s o ((found.2 ∙ ap (λ y. y ∷ found.1) is.0) i) (hand i)) in
     answers_by sc (record h { owners = put h.owners o (Some (record x { queue = rest; hand = Some r })) }) (Fetched r.device r.lane) (fetch sc s o) (record s { owners = put s.owners o side }, Fetched r.device r.lane) goes refl
-    (shows_side_put sc h s o side (record x { queue = rest; hand = Some r }) w (subst (λ (y : System × Reply). IsSystem y.0) goes (moves_step sc s (event.Fetch o) w.system).system)
+    (shows_side_put sc h s o side (record x { queue = rest; hand = Some r }) w (subst (λ (y : System × Reply). IsSystem sc y.0) goes (moves_step sc s (event.Fetch o) w.system).system)
     (record { id = p.id; taken = p.taken; queue = found.4; hand = is.2; cursors = p.cursors }))
 
 -- TAKE
@@ -216,7 +216,7 @@ side_found : (sc : SchemeValue) (h : Shape) (s : System) (o a : ℕ) (x : OwnerS
 side_found sc h s o a x r w at e f =
     let p = owner_shown sc h s o x w e in
     let found = Both-some (IsRoutedOf s.devices o) (s.owners o).hand r (subst (Both (IsRoutedOf s.devices o) (s.owners o).hand) f p.hand) in
-    let is = routed_is s o found.0 r w.system found.2 in
+    let is = routed_is sc s o found.0 r w.system found.2 in
     (take_known sc s o a at ∙ ap (take_from s o) (found.1 ∙ ap Some is.0), is.1, is.2)
 
 -- the ledger is the owner's own
@@ -234,7 +234,7 @@ refused_take sc h s o x why owner taken w e goes same kept =
     let p = owner_shown sc h s o x w e in
     answers_by sc (record h { owners = put h.owners o (Some (record x { owner = owner; taken = taken; hand = None })) }) (Refused why) (take_event sc s o) (emptied s o, Refused why) goes refl
     (shows_side_put sc h s o (record (s.owners o) { hand = None }) (record x { owner = owner; taken = taken; hand = None }) w
-    (owner_changes s o (record (s.owners o) { hand = None }) w.system (record { queue = (w.system.owners o).queue; hand = tt }))
+    (owner_changes sc s o (record (s.owners o) { hand = None }) w.system (record { queue = (w.system.owners o).queue; hand = tt }))
     (record { id = same ∙ p.id; taken = λ d. kept d ∙ p.taken d; queue = p.queue; hand = tt; cursors = p.cursors }))
 
 pub shown_take_duplicate : (sc : SchemeValue) (h : Shape) (s : System) (o a : ℕ) (x : OwnerShape) (r : RecordValue) (owner : ℕ) (taken : ℕ → List RecordValue) → Shows sc h s → position_of_owner sc o ≡ Some a → h.owners o ≡ Some x → x.hand ≡ Some r → r.lane < length (x.taken r.device) + 1 → owner ≡ x.owner → ((d : ℕ) → taken d ≡ x.taken d)
@@ -259,7 +259,7 @@ pub shown_take : (sc : SchemeValue) (h : Shape) (s : System) (o a : ℕ) (x : Ow
     → Answers sc (record h { owners = put h.owners o (Some (record x { owner = owner; taken = taken; hand = None })) }) (take_event sc s o) (Taken r.device r.lane)
 shown_take sc h s o a x r owner taken w at e f did same =
     answers_by sc (record h { owners = put h.owners o (Some new) }) (Taken r.device r.lane) (take_event sc s o) (took s o d, Taken d r.lane) goes refl
-    (shows_owner_put sc h s o side (put (s.lanes o) d after) new w (subst (λ (y : System × Reply). IsSystem y.0) goes (moves_step sc s (event.Take o) w.system).system)
+    (shows_owner_put sc h s o side (put (s.lanes o) d after) new w (subst (λ (y : System × Reply). IsSystem sc y.0) goes (moves_step sc s (event.Take o) w.system).system)
     (record {
       id = same ∙ p.id;
       taken = λ j. did.added j ∙ put_both (λ i b q. b ≡ take q.took (numbered_for s o i)) x.taken (s.lanes o) d (x.taken d ++ r ∷ []) after p.taken (ap (λ t. t ++ r ∷ []) (p.taken d) ∙ sym (take-one_more (numbered_for s o d) l.took r here)) j;
@@ -306,22 +306,15 @@ shown_take sc h s o a x r owner taken w at e f did same =
 pub owner_read : (w : World) (o a : ℕ) (y : Owner) → position_of_owner w.scheme o ≡ Some a → a < length w.owners.items → y ≡ get_or w.owners.items a y → (shape w).owners o ≡ Some (owner_shape w.scheme y)
 owner_read w o a y at within e = ap (option_map (owner_shape w.scheme)) (ap (λ p. entry p w.owners.items) at ∙ slice_get_read w.owners.items (length w.owners.items) a y refl within e)
 
-option_map-put : {A B : Type 0} (f : A → B) (t : ℕ → Option A) (k : ℕ) (y : A) (j : ℕ) → option_map f (put t k (Some y) j) ≡ put (λ i. option_map f (t i)) k (Some (f y)) j
-option_map-put f t k y j = of_if (j == k)
-  where
-    of_if : (b : Bool) → option_map f (if b then Some y else t j) ≡ (if b then Some (f y) else option_map f (t j))
-    of_if true = refl
-    of_if false = refl
-
 -- and wrote
 pub owner_write : (w : World) (o a : ℕ) (y : Owner) → position_of_owner w.scheme o ≡ Some a → a < length w.owners.items → (λ j. option_map (owner_shape w.scheme) (entry (position_of_owner w.scheme j) (set w.owners.items a y))) ≡ put (shape w).owners o (Some (owner_shape w.scheme y))
 owner_write w o a y at within = λ i j. (ap (option_map (owner_shape w.scheme)) (entry-set (position_of_owner w.scheme) (owners_apart w.scheme) w.owners.items o a y at within j) ∙ option_map-put (owner_shape w.scheme) (λ e. entry (position_of_owner w.scheme e) w.owners.items) o y j) i
 
 -- an owner with as many cursors takes the place of another
-pub rooms_of_owner : (w : World) (a : ℕ) (y new : Owner) → a < length w.owners.items → y ≡ get_or w.owners.items a y → length new.cursors.items ≡ length y.cursors.items → HasRooms w.scheme w.devices.items w.nexts.items (set w.owners.items a new)
+pub rooms_of_owner : (w : World) (a : ℕ) (y new : Owner) → a < length w.owners.items → y ≡ get_or w.owners.items a y → length new.cursors.items ≡ length y.cursors.items → HasRooms w.scheme w.devices.items w.stations.items (set w.owners.items a new)
 rooms_of_owner w a y new within e long = record {
   device_count = w.rooms.device_count;
-  next_count = w.rooms.next_count;
+  station_count = w.rooms.station_count;
   owner_count = length-set w.owners.items a new ∙ w.rooms.owner_count;
   lanes = w.rooms.lanes;
   cursors = λ j z f. elim (slice_get-set_cases w.owners.items a new j z f) [

@@ -32,11 +32,11 @@ use Rattle.fare_world.specs.declared.world.World.{World}
 use Rattle.fare_world.specs.Rooms.{HasRooms}
 use Rattle.fare_world.specs.Whole.{shape}
 use Rattle.fare_world.specs.Shown.{entry}
-use Rattle.fare_world.specs.Shown.{IsDevice, IsSystem, IsAt, IsPacketOf, IsDeviceOf, ShowsDevice, Shape, Shows}
+use Rattle.fare_world.specs.Shown.{IsDevice, IsSystem, IsAt, IsPacketOf, IsDeviceOf, Shape, Shows}
 use Rattle.fare_world.proofs.Lists.{if_all, Each2-push, length-Each2, part-push, take-part-push, drop-push, slice_get-drop}
 use Rattle.fare_world.proofs.TableLemmas.{put_all, put_both, put_here, slice_get-set_same, slice_get-set_other, entry-set, devices_apart, owners_apart, owner_within}
 use Rattle.fare_world.proofs.Kept.{moves_step, device_changes}
-use Rattle.fare_world.proofs.Showing.{Answers, answers_by, grows_by_tap, grows_by_none, shows_devices, last_link_is, device_shown}
+use Rattle.fare_world.proofs.Showing.{Answers, answers_by, grows_by_tap, shows_devices, shows_device, stations_same, last_link_is, device_shown}
 
 -- what waits in the device's buffer, and how much may
 room_is : (sc : SchemeValue) (d : ℕ) (v : DeviceState) (x : DeviceValue) → IsDeviceOf sc d v x → room_of sc d ≡ x.room
@@ -97,7 +97,7 @@ tap_goes : (s : System) (d o room : ℕ) (tv : TapValue) → tv.day ≡ (s.devic
 tap_goes s d o room tv current few left = grind (arith, nat_tests)
 
 -- the device with the tap at its end
-tapped_device : (sc : SchemeValue) (d : ℕ) (v : DeviceState) (x new : DeviceValue) (p t m day : ℕ) (r : RecordValue) → IsDevice d v → IsDeviceOf sc d v x → length x.lanes ≡ length sc.owners → IsTapped sc x p t m day r new → r.lane ≡ length (part r.owner v.taps) + 1 → IsDeviceOf sc d (record v { taps = v.taps ++ r ∷ [] }) new
+tapped_device : (sc : SchemeValue) (d : ℕ) (v : DeviceState) (x new : DeviceValue) (p t m day : ℕ) (r : RecordValue) → IsDevice sc d v → IsDeviceOf sc d v x → length x.lanes ≡ length sc.owners → IsTapped sc x p t m day r new → r.lane ≡ length (part r.owner v.taps) + 1 → IsDeviceOf sc d (record v { taps = v.taps ++ r ∷ [] }) new
 tapped_device sc d v x new p t m day r is sd long did lane =
     subst (IsDeviceOf sc d (record v { taps = v.taps ++ r ∷ [] })) (sym did.value)
     (record {
@@ -135,9 +135,9 @@ tapped_device sc d v x new p t m day r is sd long did lane =
 pub shown_tap : (sc : SchemeValue) (h : Shape) (s : System) (d k p t m day : ℕ) (x new : DeviceValue) (r : RecordValue) → Shows sc h s → position_of_device sc d ≡ Some k → day_of sc m ≡ Some day → h.devices d ≡ Some x → length x.lanes ≡ length sc.owners → IsTapped sc x p t m day r new → Answers sc (record h { devices = put h.devices d (Some new) }) (tap sc s d p t m) (Recorded r.link r.lane)
 shown_tap sc h s d k p t m day x new r w at dated here long did =
     answers_by sc (record h { devices = put h.devices d (Some new) }) (Recorded r.link r.lane) (tap sc s d p t m) (with_tap s d r, Recorded r.link r.lane) goes refl
-    (shows_devices sc h s g (put h.devices d (Some new)) h.nexts w system (grows_by_tap s d after r refl)
-    (put_both (λ j a b. ShowsDevice sc j b a) h.devices s.devices d (Some new) after w.devices (tapped_device sc d v x new p t m day r is sd long did lane))
-    (put_all (λ j a. IfSome (h.nexts j) (λ n. n ≡ a.next)) s.devices d after w.nexts (w.nexts d))
+    (shows_devices sc h s g (put h.devices d (Some new)) h.stations w system (grows_by_tap s d after r refl)
+    (put_both (λ j a b. IfSome a (IsDeviceOf sc j b)) h.devices s.devices d (Some new) after w.devices (tapped_device sc d v x new p t m day r is sd long did lane))
+    (stations_same sc h s g (put_all (λ j a. a.next ≡ (s.devices j).next) s.devices d after (λ j. refl) refl) w)
     (put_all (λ j a. a.upto ≡ (s.devices j).upto) s.devices d after (λ j. refl) refl)
     (λ o. put_all (λ j a. arrived_of o a ≡ arrived_of o (s.devices j)) s.devices d after (λ j. refl) (ap (part o) (take-append-le v.upto v.taps (r ∷ []) is.upto)))
     (λ o. put_all (λ j a. take (s.lanes o j).took (part o a.taps) ≡ take (s.lanes o j).took (numbered_for s o j)) s.devices d after (λ j. refl) (take-part-push (s.lanes o d).took o v.taps r (w.system.took o d))))
@@ -145,7 +145,7 @@ shown_tap sc h s d k p t m day x new r w at dated here long did =
     v : DeviceState
     v = s.devices d
 
-    is : IsDevice d v
+    is : IsDevice sc d v
     is = w.system.devices d
 
     sd : IsDeviceOf sc d v x
@@ -183,8 +183,8 @@ shown_tap sc h s d k p t m day x new r w at dated here long did =
         tap_on_day sc s d k p t m day at dated ∙ ap (tap_for s d (room_of sc d) tv) did.owner ∙ tap_goes s d r.owner (room_of sc d) tv (did.current ∙ sd.day) (omega (arith, did.few, last)) (omega (arith, did.room, room_is sc d v x sd, waiting_is sc d v x sd))
         ∙ (λ i. (with_tap s d (sym same i), Recorded (sym link i) (sym lane i)))
 
-    system : IsSystem (record s { devices = g })
-    system = subst (λ (y : System × Reply). IsSystem y.0) goes (moves_step sc s (event.Tap d p t m) w.system).system
+    system : IsSystem sc (record s { devices = g })
+    system = subst (λ (y : System × Reply). IsSystem sc y.0) goes (moves_step sc s (event.Tap d p t m) w.system).system
 
 -- SEND
 send_known : (sc : SchemeValue) (s : System) (d k : ℕ) → position_of_device sc d ≡ Some k → send sc s d ≡ send_next s d
@@ -211,7 +211,7 @@ shown_send sc h s d k x r n w at here e lawful count =
     (record {
       system = system;
       devices = devices.devices;
-      nexts = devices.nexts;
+      stations = devices.stations;
       air = Each2-push (IsPacketOf g) s.air h.air (Tapped d (v.cursor + 1)) (frame_bytes (frame.Tapped r)) devices.air (record { tap = r; at = at_end; lawful = lawful; spelled = refl });
       inbox = devices.inbox;
       hand = devices.hand;
@@ -223,7 +223,7 @@ shown_send sc h s d k x r n w at here e lawful count =
     v : DeviceState
     v = s.devices d
 
-    is : IsDevice d v
+    is : IsDevice sc d v
     is = w.system.devices d
 
     sd : IsDeviceOf sc d v x
@@ -258,28 +258,27 @@ shown_send sc h s d k x r n w at here e lawful count =
     link : x.cursor + 1 ≡ v.cursor + 1
     link = ap (λ j. j + 1) sd.cursor
 
-    system : IsSystem (sent s d)
-    system = subst (λ (y : System × Reply). IsSystem y.0) goes (moves_step sc s (event.Send d) w.system).system
+    system : IsSystem sc (sent s d)
+    system = subst (λ (y : System × Reply). IsSystem sc y.0) goes (moves_step sc s (event.Send d) w.system).system
 
-    devices : Shows sc (record h { devices = put h.devices d (Some new); nexts = h.nexts }) (record s { devices = g })
-    devices = shows_devices sc h s g (put h.devices d (Some new)) h.nexts w (device_changes s d after w.system refl (record { base = omega (arith, is.base); cursor = omega (arith, unsent); upto = is.upto; few = is.few; numbered = is.numbered })) (grows_by_none s d after refl)
-        (put_both (λ j a b. ShowsDevice sc j b a) h.devices s.devices d (Some new) after w.devices (record { id = sd.id; day = sd.day; waiting = sd.waiting; room = sd.room; base = sd.base; cursor = ap (λ j. j + 1) sd.cursor; lanes = sd.lanes }))
-        (put_all (λ j a. IfSome (h.nexts j) (λ n. n ≡ a.next)) s.devices d after w.nexts (w.nexts d))
-        (put_all (λ j a. a.upto ≡ (s.devices j).upto) s.devices d after (λ j. refl) refl)
-        (λ o. put_all (λ j a. arrived_of o a ≡ arrived_of o (s.devices j)) s.devices d after (λ j. refl) refl)
-        (λ o. put_all (λ j a. take (s.lanes o j).took (part o a.taps) ≡ take (s.lanes o j).took (numbered_for s o j)) s.devices d after (λ j. refl) refl)
+    devices : Shows sc (record h { devices = put h.devices d (Some new); stations = h.stations }) (record s { devices = g })
+    devices = shows_device sc h s d after (put h.devices d (Some new)) h.stations w
+        (device_changes sc s d after w.system refl (omega arith) (record { base = omega (arith, is.base); cursor = omega (arith, unsent); stored = is.stored; upto = is.upto; first = is.first; next = is.next; few = is.few; numbered = is.numbered; known = is.known }))
+        refl refl
+        (put_both (λ j a b. IfSome a (IsDeviceOf sc j b)) h.devices s.devices d (Some new) after w.devices (record { id = sd.id; day = sd.day; waiting = sd.waiting; room = sd.room; base = sd.base; cursor = ap (λ j. j + 1) sd.cursor; lanes = sd.lanes }))
+        (stations_same sc h s g (put_all (λ j a. a.next ≡ (s.devices j).next) s.devices d after (λ j. refl) refl) w)
 
 -- THE CODE'S TABLES
 -- a device that the code read
-device_read : (w : World) (d k : ℕ) (x : DeviceValue) → position_of_device w.scheme d ≡ Some k → k < length w.devices.items → x ≡ get_or w.devices.items k x → (shape w).devices d ≡ Some x
+pub device_read : (w : World) (d k : ℕ) (x : DeviceValue) → position_of_device w.scheme d ≡ Some k → k < length w.devices.items → x ≡ get_or w.devices.items k x → (shape w).devices d ≡ Some x
 device_read w d k x at within e = ap (λ o. entry o w.devices.items) at ∙ slice_get_read w.devices.items (length w.devices.items) k x refl within e
 
 -- and wrote
-device_write : (w : World) (d k : ℕ) (x : DeviceValue) → position_of_device w.scheme d ≡ Some k → k < length w.devices.items → (λ e. entry (position_of_device w.scheme e) (set w.devices.items k x)) ≡ put (shape w).devices d (Some x)
+pub device_write : (w : World) (d k : ℕ) (x : DeviceValue) → position_of_device w.scheme d ≡ Some k → k < length w.devices.items → (λ e. entry (position_of_device w.scheme e) (set w.devices.items k x)) ≡ put (shape w).devices d (Some x)
 device_write w d k x at within = λ i e. entry-set (position_of_device w.scheme) (devices_apart w.scheme) w.devices.items d k x at within e i
 
 -- or wrote as it was
-device_same : (w : World) (k : ℕ) (x new : DeviceValue) → x ≡ get_or w.devices.items k x → new ≡ x → (λ e. entry (position_of_device w.scheme e) (set w.devices.items k new)) ≡ (shape w).devices
+pub device_same : (w : World) (k : ℕ) (x new : DeviceValue) → x ≡ get_or w.devices.items k x → new ≡ x → (λ e. entry (position_of_device w.scheme e) (set w.devices.items k new)) ≡ (shape w).devices
 device_same w k x new e same = λ i d. entry (position_of_device w.scheme d) (written i)
   where
     written : set w.devices.items k new ≡ w.devices.items
@@ -342,10 +341,10 @@ world_idle w s d k x new air sh at within e all same kept =
     (shown_idle w.scheme (shape w) s d k x sh at (device_read w d k x at within e) all)
 
 -- a device with as many lanes takes the place of another
-pub rooms_of_device : (w : World) (k : ℕ) (x new : DeviceValue) → k < length w.devices.items → x ≡ get_or w.devices.items k x → length new.lanes ≡ length x.lanes → HasRooms w.scheme (set w.devices.items k new) w.nexts.items w.owners.items
+pub rooms_of_device : (w : World) (k : ℕ) (x new : DeviceValue) → k < length w.devices.items → x ≡ get_or w.devices.items k x → length new.lanes ≡ length x.lanes → HasRooms w.scheme (set w.devices.items k new) w.stations.items w.owners.items
 rooms_of_device w k x new within e long = record {
   device_count = length-set w.devices.items k new ∙ w.rooms.device_count;
-  next_count = w.rooms.next_count;
+  station_count = w.rooms.station_count;
   owner_count = w.rooms.owner_count;
   lanes = λ j y f. elim (slice_get-set_cases w.devices.items k new j y f) [
     | inl is ↦ ap (λ (z : DeviceValue). length z.lanes) (sym is) ∙ long ∙ w.rooms.lanes k x (slice_get_read w.devices.items (length w.devices.items) k x refl within e)

@@ -1,13 +1,13 @@
 -- Tables with another value at one place.
 use Rattle.std.proofs.Common.{◌≡◌, ◌≢◌, ℕ, zero, suc, ◌<◌, List, [], ◌∷◌, length, set, get_or, Some, None, Bool, true, false, refl, sym, ap, ◌∙◌, subst, arith, length-set, eqb-true}
-use Rattle.std.specs.Prelude.{◌==◌, slice_get, Option, if◌then◌else◌, nat_eq, position}
+use Rattle.std.specs.Prelude.{◌==◌, slice_get, Option, option_map, if◌then◌else◌, nat_eq, position}
 use Rattle.std.specs.Map.{keys_of}
 use Rattle.std.proofs.lemmas.Bool.Decides.{nat_tests, Decides-eqb}
 use Rattle.std.proofs.lemmas.List.{get_or-set_same, length-map}
 use Rattle.std.proofs.lemmas.List.Quantifiers.{position-Some}
 use Rattle.std.proofs.lemmas.Option.{slice_get-get_or}
 use Rattle.fare_scheme.specs.Values.{SchemeValue}
-use Rattle.fare_scheme.specs.Words.{position_of_device, position_of_owner}
+use Rattle.fare_scheme.specs.Words.{position_of_device, position_of_station, position_of_owner}
 use Rattle.fare_world.specs.System.{put, put2}
 use Rattle.fare_world.specs.Shown.{entry}
 use Rattle.fare_world.proofs.Lists.{if_all}
@@ -34,6 +34,14 @@ put2_all P f o d v each one = put_all (λ p g. (e : ℕ) → P p e (g e)) f o (p
 -- the entry that was written
 pub put_here : {A : Type 0} (f : ℕ → A) (k : ℕ) (v : A) → put f k v k ≡ v
 put_here f k v = ap (λ b. if b then v else f k) ((Decides-eqb k k).1 refl)
+
+-- a map over a table with another value at one place
+pub option_map-put : {A B : Type 0} (f : A → B) (t : ℕ → Option A) (k : ℕ) (y : A) (j : ℕ) → option_map f (put t k (Some y) j) ≡ put (λ i. option_map f (t i)) k (Some (f y)) j
+option_map-put f t k y j = of_if (j == k)
+  where
+    of_if : (b : Bool) → option_map f (if b then Some y else t j) ≡ (if b then Some (f y) else option_map f (t j))
+    of_if true = refl
+    of_if false = refl
 
 -- ENTRIES BY POSITION
 pub slice_get-set_same : {A : Type 0} (xs : List A) (k : ℕ) (v : A) → k < length xs → slice_get (set xs k v) k ≡ Some v
@@ -77,3 +85,9 @@ owners_apart sc = ids_stand_apart (keys_of sc.owners)
 -- a position is that of an entry
 pub owner_within : (sc : SchemeValue) (o k : ℕ) → position_of_owner sc o ≡ Some k → k < length sc.owners
 owner_within sc o k at = omega (arith, (position-Some (nat_eq o) (keys_of sc.owners) k 0 at).0, length-map sc.owners (λ (e : ℕ × ℕ). e.0))
+
+pub stations_apart : (sc : SchemeValue) → IsApart (position_of_station sc)
+stations_apart sc = ids_stand_apart (keys_of sc.stations)
+
+pub station_within : (sc : SchemeValue) (s k : ℕ) → position_of_station sc s ≡ Some k → k < length sc.stations
+station_within sc s k at = omega (arith, (position-Some (nat_eq s) (keys_of sc.stations) k 0 at).0, length-map sc.stations (λ (e : ℕ × ℕ). e.0))

@@ -1,9 +1,11 @@
 -- The parts of a new world.
 use Rattle.std.specs.Prelude.{◌≡◌, ℕ, List, [], Some, None, length, slice_get, replicate}
 use Rattle.fare_scheme.specs.Values.{SchemeValue}
-use Rattle.fare_scheme.specs.Words.{buffer_of, position_of_device, position_of_owner}
+use Rattle.fare_scheme.specs.Words.{buffer_of, position_of_device, position_of_station, position_of_owner}
+use Rattle.fare_collector.specs.Collecting.{next_in, first_link}
 use Rattle.fare_device.specs.DeviceWords.{DeviceValue, fresh_device}
 use Rattle.fare_world.specs.declared.owner.Owner.{Owner}
+use Rattle.fare_world.specs.declared.station.Station.{Station}
 use Rattle.fare_world.specs.Tables.{taken_in}
 
 -- the device at a position of the scheme, fresh
@@ -15,6 +17,16 @@ pub record IsFreshDevice (sc : SchemeValue) (k : ℕ) (x : DeviceValue) : Type 0
 pub record AreFreshDevices (sc : SchemeValue) (xs : List DeviceValue) : Type 0 where
   pub count : length xs ≡ length sc.devices
   pub each : (k : ℕ) (x : DeviceValue) → slice_get xs k ≡ Some x → IsFreshDevice sc k x
+
+-- the station at a position of the scheme, which accepts link 1 next from each of its devices and has nothing to answer
+pub record IsFreshStation (sc : SchemeValue) (k : ℕ) (x : Station) : Type 0 where
+  pub at : position_of_station sc x.collector.station ≡ Some k
+  pub nexts : (device : ℕ) → next_in x.collector device ≡ first_link sc x.collector.station device
+  pub line : x.line.items ≡ []
+
+pub record AreFreshStations (sc : SchemeValue) (xs : List Station) : Type 0 where
+  pub count : length xs ≡ length sc.stations
+  pub each : (k : ℕ) (x : Station) → slice_get xs k ≡ Some x → IsFreshStation sc k x
 
 -- the owner at a position of the scheme, with nothing taken, fetched or forwarded
 pub record IsFreshOwner (sc : SchemeValue) (k : ℕ) (x : Owner) : Type 0 where

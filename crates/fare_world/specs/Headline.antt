@@ -1,5 +1,5 @@
 -- What an owner has taken, beside what a device numbered for it.
-use Rattle.std.specs.Prelude.{◌≡◌, ℕ, List, [], ◌∷◌, ◌++◌, length, Option, Some, None, slice_get, ◌⊎◌}
+use Rattle.std.specs.Prelude.{◌≡◌, ◌≢◌, ℕ, List, [], ◌∷◌, ◌++◌, length, Option, Some, None, slice_get, ◌⊎◌}
 use Rattle.fare_record.specs.Values.{RecordValue}
 use Rattle.fare_record.specs.Lanes.{of_device}
 use Rattle.fare_scheme.specs.Values.{SchemeValue}
@@ -7,7 +7,8 @@ use Rattle.fare_scheme.specs.Words.{owner_of}
 use Rattle.fare_world.specs.declared.event.Event.{Event}
 use Rattle.fare_world.specs.declared.event.Event.TheVariants as event
 use Rattle.fare_world.specs.declared.reply.Reply.{Reply}
-use Rattle.fare_world.specs.declared.reply.Reply.TheVariants.{Recorded}
+use Rattle.fare_world.specs.declared.reply.Reply.TheVariants.{Refused, Recorded}
+use Rattle.fare_world.specs.declared.reply.Refusal.TheVariants.{Stranger, Misrouted, AckAhead}
 use Rattle.fare_world.specs.System.{System, day_of, numbered_for, taken_by}
 
 -- THE NUMBERED TAPS, as the events and their replies alone tell
@@ -71,3 +72,10 @@ lane_at s owner device = record { numbered = numbered_for s owner device; taken 
 abbrev pub NumbersByReply : SchemeValue → System → System → Event → Reply → Type 0
 NumbersByReply sc before now e r =
     (device : ℕ) → (now.devices device).taps ≡ (before.devices device).taps ++ of_device device (with_first (numbered_by sc e r) [])
+
+-- REFUSALS THAT NO RUN HAS
+-- the reply says neither that a tap came to a station that is not its device's, nor that it is another owner's, nor that a device has not numbered what was acknowledged
+pub record IsOrderly (r : Reply) : Type 0 where
+  pub stranger : r ≢ Refused Stranger
+  pub misrouted : r ≢ Refused Misrouted
+  pub ahead : r ≢ Refused AckAhead

@@ -1,9 +1,7 @@
 -- What a packet's bytes say.
 use Rattle.std.specs.Prelude.{◌≡◌, ◌-◌, ◌==◌, ℕ, List, Option, Some, None, if◌then◌else◌, slice_get}
-use Rattle.fare_record.specs.Values.{RecordValue}
 use Rattle.fare_frame.specs.Grammar.{frame_bytes, IsFrame}
 use Rattle.fare_frame.specs.declared.frame.Frame.{Frame}
-use Rattle.fare_frame.specs.declared.frame.Frame.TheVariants.{Tapped}
 
 -- where the bytes are a frame's, that frame was read
 abbrev pub IsRead : List ℕ → Option Frame → Type 0
@@ -13,7 +11,7 @@ IsRead bytes read = (f : Frame) → IsFrame f → bytes ≡ frame_bytes f → re
 abbrev pub bytes_at : List (List ℕ) → ℕ → Option (List ℕ)
 bytes_at air packet = if packet == 0 then None else slice_get air (packet - 1)
 
--- where the bytes are a tap's frame, its record was read; there is none where there are no bytes
-abbrev pub IsTapRead : Option (List ℕ) → Option RecordValue → Type 0
-IsTapRead None read = read ≡ None
-IsTapRead (Some bytes) read = (r : RecordValue) → IsFrame (Tapped r) → bytes ≡ frame_bytes (Tapped r) → read ≡ Some r
+-- the same of a packet; none was read where there is no packet
+abbrev pub IsPacketRead : Option (List ℕ) → Option Frame → Type 0
+IsPacketRead None read = read ≡ None
+IsPacketRead (Some bytes) read = IsRead bytes read

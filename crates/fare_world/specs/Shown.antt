@@ -1,35 +1,50 @@
 -- What the parts of a world hold, where it stands at a system of numbers: each record anywhere is the device's record of its number.
-use Rattle.std.specs.Prelude.{◌≡◌, ℕ, ◌+◌, ◌-◌, ◌≤◌, List, [], ◌∷◌, length, take, drop, Option, Some, None, slice_get, option_and_then, IfSome}
+use Rattle.std.specs.Prelude.{◌≡◌, ℕ, ◌+◌, ◌-◌, ◌≤◌, List, [], ◌∷◌, length, take, drop, Option, Some, None, slice_get, option_and_then, IsSome, IfSome}
 use Rattle.std.specs.List.{AllByRecursion}
-use Rattle.fare_record.specs.Values.{RecordValue}
+use Rattle.fare_record.specs.Values.{RecordValue, AckValue}
 use Rattle.fare_record.specs.Lanes.{part}
 use Rattle.fare_scheme.specs.Values.{SchemeValue}
-use Rattle.fare_scheme.specs.Words.{buffer_of, position_of_owner}
+use Rattle.fare_scheme.specs.Words.{owner_of, station_of, buffer_of, position_of_owner}
 use Rattle.fare_device.specs.DeviceWords.{DeviceValue}
 use Rattle.fare_frame.specs.Grammar.{frame_bytes, IsFrame}
 use Rattle.fare_frame.specs.declared.frame.Frame.TheVariants as frame
-use Rattle.fare_world.specs.System.{Packet, Tapped, Arrived, Tap_of, Routed, Lane_of, DeviceState, OwnerState, LaneState, System, numbered_for, arrived_of}
+use Rattle.fare_world.specs.System.{Packet, Tapped, Acked, Arrived, Tap_of, Answer, Ack_of, Routed, Lane_of, DeviceState, OwnerState, LaneState, System, numbered_for, arrived_of}
+use Rattle.fare_world.specs.Steps.{next_at}
 
 -- A SYSTEM that events lead to
--- a tap that has its place in the device's list, from 1
-pub record IsNumbered (device : ℕ) (taps : List RecordValue) (place : ℕ) (r : RecordValue) : Type 0 where
+-- a tap that has its place in the device's list, from 1, and the owner of its product
+pub record IsNumbered (sc : SchemeValue) (device : ℕ) (taps : List RecordValue) (place : ℕ) (r : RecordValue) : Type 0 where
   pub of_device : r.device ≡ device
   pub link : r.link ≡ place + 1
   pub lane : r.lane ≡ length (part r.owner (take place taps)) + 1
+  pub owned : owner_of sc r.tap.product ≡ Some r.owner
 
-pub record IsDevice (device : ℕ) (v : DeviceState) : Type 0 where
+-- what was acknowledged was stored, what was stored was numbered, and one that is not registered has numbered nothing
+pub record IsDevice (sc : SchemeValue) (device : ℕ) (v : DeviceState) : Type 0 where
   pub base : v.base ≤ v.cursor
   pub cursor : v.cursor ≤ length v.taps
+  pub stored : v.base ≤ v.upto
   pub upto : v.upto ≤ length v.taps
+  pub first : 1 ≤ v.next
+  pub next : v.next ≤ length v.taps + 1
   pub few : length v.taps ≤ 1099511627775
-  pub numbered : (place : ℕ) (r : RecordValue) → slice_get v.taps place ≡ Some r → IsNumbered device v.taps place r
+  pub numbered : (place : ℕ) (r : RecordValue) → slice_get v.taps place ≡ Some r → IsNumbered sc device v.taps place r
+  pub known : station_of sc device ≡ None → v.taps ≡ []
 
 -- a number of some tap in the list
 abbrev pub IsPlace : List RecordValue → ℕ → Type 0
 IsPlace rs n = (1 ≤ n) × (n ≤ length rs)
 
-abbrev pub IsPacket : (ℕ → DeviceState) → Packet → Type 0
-IsPacket devices (Tapped device link) = IsPlace (devices device).taps link
+-- the outbox has had the taps of a registered device up to this link
+abbrev pub IsAck : SchemeValue → (ℕ → DeviceState) → ℕ → ℕ → Type 0
+IsAck sc devices device upto = IsSome (station_of sc device) × (upto ≤ (devices device).upto)
+
+abbrev pub IsPacket : SchemeValue → (ℕ → DeviceState) → Packet → Type 0
+IsPacket sc devices (Tapped device link) = IsPlace (devices device).taps link
+IsPacket sc devices (Acked device upto) = IsAck sc devices device upto
+
+abbrev pub IsAnswer : SchemeValue → (ℕ → DeviceState) → Answer → Type 0
+IsAnswer sc devices (Ack_of device upto) = IsAck sc devices device upto
 
 abbrev pub IsArrived : (ℕ → DeviceState) → Arrived → Type 0
 IsArrived devices (Tap_of device link) = IsPlace (devices device).taps link
@@ -41,11 +56,12 @@ pub record IsOwner (devices : ℕ → DeviceState) (owner : ℕ) (w : OwnerState
   pub queue : AllByRecursion (IsRouted devices owner) w.queue
   pub hand : IfSome w.hand (IsRouted devices owner)
 
-pub record IsSystem (s : System) : Type 0 where
-  pub devices : (device : ℕ) → IsDevice device (s.devices device)
-  pub air : AllByRecursion (IsPacket s.devices) s.air
+pub record IsSystem (sc : SchemeValue) (s : System) : Type 0 where
+  pub devices : (device : ℕ) → IsDevice sc device (s.devices device)
+  pub air : AllByRecursion (IsPacket sc s.devices) s.air
   pub inbox : AllByRecursion (IsArrived s.devices) s.inbox
   pub hand : IfSome s.hand (IsArrived s.devices)
+  pub lines : (station : ℕ) → AllByRecursion (IsAnswer sc s.devices) (s.lines station)
   pub owners : (owner : ℕ) → IsOwner s.devices owner (s.owners owner)
   pub took : (owner device : ℕ) → (s.lanes owner device).took ≤ length (numbered_for s owner device)
 
@@ -53,6 +69,11 @@ pub record IsSystem (s : System) : Type 0 where
 -- the entry of an id, by its position
 abbrev pub entry : {A : Type 0} → Option ℕ → List A → Option A
 entry position xs = option_and_then (slice_get xs) position
+
+-- a station's side of a world: the link that it accepts next from each device, and its acknowledgement line
+pub record StationShape : Type 0 where
+  pub nexts : ℕ → Option ℕ
+  pub line : List AckValue
 
 -- an owner's side of a world, with what its ledger holds, by device
 pub record OwnerShape : Type 0 where
@@ -65,7 +86,7 @@ pub record OwnerShape : Type 0 where
 -- all that is seen of a world, by ids
 pub record Shape : Type 0 where
   pub devices : ℕ → Option DeviceValue
-  pub nexts : ℕ → Option ℕ
+  pub stations : ℕ → Option StationShape
   pub air : List (List ℕ)  -- the bytes of each packet
   pub inbox : List RecordValue
   pub hand : Option RecordValue
@@ -99,8 +120,17 @@ pub record IsTapFrame (rs : List RecordValue) (n : ℕ) (bytes : List ℕ) : Typ
   pub lawful : IsFrame (frame.Tapped tap)
   pub spelled : bytes ≡ frame_bytes (frame.Tapped tap)
 
+-- the bytes are the frame of this acknowledgement
+pub record IsAckFrame (device upto : ℕ) (bytes : List ℕ) : Type 0 where
+  pub lawful : IsFrame (frame.Acked (record { device = device; upto = upto }))
+  pub spelled : bytes ≡ frame_bytes (frame.Acked (record { device = device; upto = upto }))
+
 abbrev pub IsPacketOf : (ℕ → DeviceState) → Packet → List ℕ → Type 0
 IsPacketOf devices (Tapped device link) bytes = IsTapFrame (devices device).taps link bytes
+IsPacketOf devices (Acked device upto) bytes = IsAckFrame device upto bytes
+
+abbrev pub IsAnswerOf : Answer → AckValue → Type 0
+IsAnswerOf (Ack_of device upto) a = a ≡ record { device = device; upto = upto }
 
 abbrev pub IsArrivedOf : (ℕ → DeviceState) → Arrived → RecordValue → Type 0
 IsArrivedOf devices (Tap_of device link) r = IsAt (devices device).taps link r
@@ -117,10 +147,9 @@ pub record IsDeviceOf (sc : SchemeValue) (device : ℕ) (v : DeviceState) (x : D
   pub cursor : x.cursor ≡ v.cursor
   pub lanes : (owner place n : ℕ) → position_of_owner sc owner ≡ Some place → slice_get x.lanes place ≡ Some n → n ≡ length (part owner v.taps)
 
--- a device that is not registered has no taps
-abbrev pub ShowsDevice : SchemeValue → ℕ → DeviceState → Option DeviceValue → Type 0
-ShowsDevice sc device v None = v.taps ≡ []
-ShowsDevice sc device v (Some x) = IsDeviceOf sc device v x
+pub record IsStationOf (sc : SchemeValue) (devices : ℕ → DeviceState) (station : ℕ) (line : List Answer) (x : StationShape) : Type 0 where
+  pub nexts : (device : ℕ) → x.nexts device ≡ next_at sc devices station device
+  pub waits : Each2 IsAnswerOf line x.line
 
 pub record IsOwnerOf (devices : ℕ → DeviceState) (owner : ℕ) (w : OwnerState) (lanes : ℕ → LaneState) (x : OwnerShape) : Type 0 where
   pub id : x.owner ≡ owner
@@ -130,9 +159,9 @@ pub record IsOwnerOf (devices : ℕ → DeviceState) (owner : ℕ) (w : OwnerSta
   pub cursors : (device n : ℕ) → x.cursors device ≡ Some n → n ≡ (lanes device).forward
 
 pub record Shows (sc : SchemeValue) (h : Shape) (s : System) : Type 0 where
-  pub system : IsSystem s
-  pub devices : (device : ℕ) → ShowsDevice sc device (s.devices device) (h.devices device)
-  pub nexts : (device : ℕ) → IfSome (h.nexts device) (λ n. n ≡ (s.devices device).next)
+  pub system : IsSystem sc s
+  pub devices : (device : ℕ) → IfSome (h.devices device) (IsDeviceOf sc device (s.devices device))
+  pub stations : (station : ℕ) → IfSome (h.stations station) (IsStationOf sc s.devices station (s.lines station))
   pub air : Each2 (IsPacketOf s.devices) s.air h.air
   pub inbox : Each2 (IsArrivedOf s.devices) s.inbox h.inbox
   pub hand : Both (IsArrivedOf s.devices) s.hand h.hand

@@ -1,18 +1,25 @@
 -- What each event does to the system of numbers, and its reply: the refusals in order, each once.
-use Rattle.std.specs.Prelude.{ℕ, ◌+◌, ◌-◌, ◌==◌, Bool, List, [], ◌∷◌, ◌++◌, length, Option, Some, None, if◌then◌else◌, slice_get, nat_le, nat_lt, is_some, unwrap_or}
+use Rattle.std.specs.Prelude.{ℕ, ◌+◌, ◌-◌, ◌==◌, Bool, false, List, [], ◌∷◌, ◌++◌, length, max, Option, Some, None, Result, Ok, Err, if◌then◌else◌, slice_get, nat_le, nat_lt, is_some, unwrap_or}
 use Rattle.fare_record.specs.Values.{RecordValue, TapValue}
 use Rattle.fare_scheme.specs.Values.{SchemeValue}
-use Rattle.fare_scheme.specs.Words.{owner_of, buffer_of, position_of_device, position_of_owner}
+use Rattle.fare_scheme.specs.Words.{owner_of, station_of, buffer_of, position_of_device, position_of_station, position_of_owner}
+use Rattle.fare_collector.specs.Collecting.{is_id, is_owned, collect_judged}
+use Rattle.fare_collector.specs.declared.fault.CollectRefusal.{CollectRefusal}
+use Rattle.fare_collector.specs.declared.fault.CollectRefusal.TheVariants as collect
 use Rattle.fare_world.specs.declared.event.Event.{Event}
 use Rattle.fare_world.specs.declared.event.Event.TheVariants as event
-use Rattle.fare_world.specs.declared.reply.Refusal.TheVariants.{UnknownDevice, UnknownOwner, BadMoment, UnknownProduct, DayClosed, DayAhead, NumbersSpent, BufferFull, NoPacket, Old, Ahead, HandFull, Duplicate, Gap}
+use Rattle.fare_world.specs.declared.reply.Refusal.{Refusal}
+use Rattle.fare_world.specs.declared.reply.Refusal.TheVariants.{UnknownDevice, UnknownOwner, UnknownStation, BadMoment, UnknownProduct, DayClosed, DayAhead, NumbersSpent, BufferFull, NoPacket, Stranger, Misrouted, Old, Ahead, AckAhead, HandFull, Duplicate, Gap}
 use Rattle.fare_world.specs.declared.reply.Reply.{Reply}
-use Rattle.fare_world.specs.declared.reply.Reply.TheVariants.{Idle, Empty, Refused, Recorded, Sent, Accepted, Drawn, Stored, Forwarded, Fetched, Taken, Upto, Count}
-use Rattle.fare_world.specs.System.{put, put2, Packet, Tapped, Arrived, Tap_of, Routed, Lane_of, System, day_of, numbered_for, arrived_of}
+use Rattle.fare_world.specs.declared.reply.Reply.TheVariants.{Idle, Empty, Refused, Recorded, Sent, Rewound, Accepted, Dropped, Drawn, Stored, Acknowledged, Answered, Forwarded, Fetched, Taken, Resumed, Restarted, Upto, Count}
+use Rattle.fare_world.specs.System.{put, put2, Packet, Tapped, Acked, Arrived, Tap_of, Answer, Ack_of, Routed, Lane_of, DeviceState, System, day_of, numbered_for, arrived_of}
 
--- the device, or the owner, is registered
+-- the device, the station, or the owner is registered
 abbrev pub knows_device : SchemeValue → ℕ → Bool
 knows_device sc device = is_some (position_of_device sc device)
+
+abbrev pub knows_station : SchemeValue → ℕ → Bool
+knows_station sc station = is_some (position_of_station sc station)
 
 abbrev pub knows_owner : SchemeValue → ℕ → Bool
 knows_owner sc owner = is_some (position_of_owner sc owner)
@@ -73,26 +80,76 @@ send_next s device =
 abbrev pub send : SchemeValue → System → ℕ → System × Reply
 send sc s device = if knows_device sc device then send_next s device else (s, Refused UnknownDevice)
 
+-- REWIND
+-- a device will send again what is not acknowledged
+abbrev pub rewound : System → ℕ → System
+rewound s device = record s { devices = put s.devices device (record (s.devices device) { cursor = (s.devices device).base }) }
+
+abbrev pub rewind : SchemeValue → System → ℕ → System × Reply
+rewind sc s device = if knows_device sc device then (rewound s device, Rewound) else (s, Refused UnknownDevice)
+
 -- ARRIVE
+-- the tap of a device and a link
+abbrev pub tap_at : System → ℕ → ℕ → Option RecordValue
+tap_at s device link = slice_get (s.devices device).taps (link - 1)
+
+-- there is a tap, and its owner is the owner of its product
+abbrev pub is_owned_tap : SchemeValue → Option RecordValue → Bool
+is_owned_tap sc None = false
+is_owned_tap sc (Some r) = is_owned sc r
+
+-- the link that a station accepts next from a device; none from a device of another station
+abbrev pub next_at : SchemeValue → (ℕ → DeviceState) → ℕ → ℕ → Option ℕ
+next_at sc devices station device = if is_id (station_of sc device) station then Some (devices device).next else None
+
+-- the name of a collector's refusal
+abbrev pub refusal_of : CollectRefusal → Refusal
+refusal_of collect.Stranger = Stranger
+refusal_of collect.Misrouted = Misrouted
+refusal_of collect.Old = Old
+refusal_of collect.Ahead = Ahead
+
 abbrev pub accepted : System → ℕ → ℕ → System
 accepted s device link = record s {
   inbox = s.inbox ++ Tap_of device link ∷ [];
   devices = put s.devices device (record (s.devices device) { next = link + 1 });
 }
 
-abbrev pub comes : System → Option Packet → System × Reply
-comes s None = (s, Refused NoPacket)
-comes s (Some (Tapped device link)) =
-    if nat_lt link (s.devices device).next then (s, Refused Old) else
-    if nat_lt (s.devices device).next link then (s, Refused Ahead) else
-    (accepted s device link, Accepted)
+abbrev pub judged : System → ℕ → ℕ → Result Unit CollectRefusal → System × Reply
+judged s device link (Ok _) = (accepted s device link, Accepted)
+judged s device link (Err why) = (s, Refused (refusal_of why))
+
+-- a tap comes to the station of its device, if it has one
+abbrev pub tap_comes : SchemeValue → System → ℕ → ℕ → Option ℕ → System × Reply
+tap_comes sc s device link None = (s, Refused Stranger)
+tap_comes sc s device link (Some station) =
+    judged s device link (collect_judged (next_at sc s.devices station device) (is_owned_tap sc (tap_at s device link)) link)
+
+-- a device hears that the hub has its taps up to a link
+abbrev pub heard : System → ℕ → ℕ → System
+heard s device upto = record s {
+  devices = put s.devices device (record (s.devices device) {
+    base = max (s.devices device).base upto;
+    cursor = max (s.devices device).cursor upto;
+  });
+}
+
+abbrev pub ack_comes : System → ℕ → ℕ → System × Reply
+ack_comes s device upto =
+    if nat_lt (length (s.devices device).taps) upto then (s, Refused AckAhead) else
+    (heard s device upto, Dropped (upto - (s.devices device).base))
+
+abbrev pub comes : SchemeValue → System → Option Packet → System × Reply
+comes sc s None = (s, Refused NoPacket)
+comes sc s (Some (Tapped device link)) = tap_comes sc s device link (station_of sc device)
+comes sc s (Some (Acked device upto)) = ack_comes s device upto
 
 -- packets are numbered from 1
 abbrev pub packet_at : System → ℕ → Option Packet
 packet_at s packet = if packet == 0 then None else slice_get s.air (packet - 1)
 
-abbrev pub arrive : System → ℕ → System × Reply
-arrive s packet = comes s (packet_at s packet)
+abbrev pub arrive : SchemeValue → System → ℕ → System × Reply
+arrive sc s packet = comes sc s (packet_at s packet)
 
 -- DRAW
 abbrev pub draw_from : System → List Arrived → Option Arrived → System × Reply
@@ -119,6 +176,27 @@ store_from s (Some (Tap_of device link)) =
 
 abbrev pub store : System → System × Reply
 store s = store_from s s.hand
+
+-- ACK
+-- the acknowledgement line of a station gains the word that the outbox has a device's taps up to where it has them
+abbrev pub acknowledged : System → ℕ → ℕ → System
+acknowledged s station device = record s { lines = put s.lines station (s.lines station ++ Ack_of device (s.devices device).upto ∷ []) }
+
+abbrev pub ack_by : System → ℕ → Option ℕ → System × Reply
+ack_by s device None = (s, Refused UnknownDevice)
+ack_by s device (Some station) = (acknowledged s station device, Acknowledged (s.devices device).upto)
+
+abbrev pub ack : SchemeValue → System → ℕ → System × Reply
+ack sc s device = ack_by s device (station_of sc device)
+
+-- ANSWER
+abbrev pub answer_from : System → ℕ → List Answer → System × Reply
+answer_from s station [] = (s, Empty)
+answer_from s station (Ack_of device upto ∷ rest) =
+    (record s { air = s.air ++ Acked device upto ∷ []; lines = put s.lines station rest }, Answered (length s.air + 1) device upto)
+
+abbrev pub answer : SchemeValue → System → ℕ → System × Reply
+answer sc s station = if knows_station sc station then answer_from s station (s.lines station) else (s, Refused UnknownStation)
 
 -- FORWARD
 abbrev pub forwarded : System → ℕ → ℕ → System
@@ -170,6 +248,30 @@ take_from s owner (Some (Lane_of device lane)) =
 abbrev pub take_event : SchemeValue → System → ℕ → System × Reply
 take_event sc s owner = if knows_owner sc owner then take_from s owner (s.owners owner).hand else (s, Refused UnknownOwner)
 
+-- RESUME and RESTARTS
+-- the station goes on behind what the outbox has had
+abbrev pub resumed_device : DeviceState → DeviceState
+resumed_device v = record v { next = v.upto + 1 }
+
+abbrev pub resume : SchemeValue → System → ℕ → System × Reply
+resume sc s device =
+    if knows_device sc device then (record s { devices = put s.devices device (resumed_device (s.devices device)) }, Resumed (s.devices device).upto) else (s, Refused UnknownDevice)
+
+-- a device starts again: its taps and its numbers outlive that
+abbrev pub restart_device : SchemeValue → System → ℕ → System × Reply
+restart_device sc s device = if knows_device sc device then (rewound s device, Restarted) else (s, Refused UnknownDevice)
+
+-- a station starts again: each of its devices is resumed
+abbrev pub resumed_devices : SchemeValue → System → ℕ → System
+resumed_devices sc s station = record s { devices = λ device. if is_id (station_of sc device) station then resumed_device (s.devices device) else s.devices device }
+
+abbrev pub restart_station : SchemeValue → System → ℕ → System × Reply
+restart_station sc s station = if knows_station sc station then (resumed_devices sc s station, Restarted) else (s, Refused UnknownStation)
+
+-- the writer starts again: its hand is empty
+abbrev pub restart_writer : System → System × Reply
+restart_writer s = (record s { hand = None }, Restarted)
+
 -- UPTO and COUNT
 abbrev pub upto : SchemeValue → System → ℕ → System × Reply
 upto sc s device = if knows_device sc device then (s, Upto (s.devices device).upto) else (s, Refused UnknownDevice)
@@ -184,12 +286,19 @@ count sc s owner device =
 abbrev pub step : SchemeValue → System → Event → System × Reply
 step sc s (event.Tap device product token moment) = tap sc s device product token moment
 step sc s (event.Send device) = send sc s device
-step sc s (event.Arrive packet) = arrive s packet
+step sc s (event.Rewind device) = rewind sc s device
+step sc s (event.Arrive packet) = arrive sc s packet
 step sc s event.Draw = draw s
 step sc s event.Store = store s
+step sc s (event.Ack device) = ack sc s device
+step sc s (event.Answer station) = answer sc s station
 step sc s (event.Forward owner device) = forward sc s owner device
 step sc s (event.Fetch owner) = fetch sc s owner
 step sc s (event.Take owner) = take_event sc s owner
+step sc s (event.Resume device) = resume sc s device
+step sc s (event.RestartDevice device) = restart_device sc s device
+step sc s (event.RestartStation station) = restart_station sc s station
+step sc s event.RestartWriter = restart_writer s
 step sc s (event.Upto device) = upto sc s device
 step sc s (event.Count owner device) = count sc s owner device
 

@@ -13,13 +13,18 @@ put table key value other = if other == key then value else table other
 abbrev pub put2 : {A : Type 0} → (ℕ → ℕ → A) → ℕ → ℕ → A → ℕ → ℕ → A
 put2 table first second value = put table first (put (table first) second value)
 
--- a packet of the air: a tap, by its device and link
+-- a packet of the air: a tap, by its device and link, or an acknowledgement, by its device and the greatest link that was stored
 pub data Packet : Type 0 where
   Tapped : ℕ → ℕ → Packet
+  Acked : ℕ → ℕ → Packet
 
 -- what a station gave the writer: a tap, by its device and link
 pub data Arrived : Type 0 where
   Tap_of : ℕ → ℕ → Arrived
+
+-- what the writer gave a station for a device: an acknowledgement, by its device and the greatest link that was stored
+pub data Answer : Type 0 where
+  Ack_of : ℕ → ℕ → Answer
 
 -- what the forwarder gave an owner: a tap, by its device and lane number
 pub data Routed : Type 0 where
@@ -44,12 +49,13 @@ pub record LaneState : Type 0 where
   pub forward : ℕ
   pub took : ℕ
 
--- devices and owners are named by their ids
+-- devices, stations and owners are named by their ids
 pub record System : Type 0 where
   pub devices : ℕ → DeviceState
   pub air : List Packet  -- it only grows
   pub inbox : List Arrived
   pub hand : Option Arrived  -- the writer's
+  pub lines : ℕ → List Answer  -- the acknowledgement line of each station
   pub owners : ℕ → OwnerState
   pub lanes : ℕ → ℕ → LaneState  -- by owner and device
 
@@ -76,6 +82,7 @@ start sc = record {
   air = [];
   inbox = [];
   hand = None;
+  lines = λ s. [];
   owners = λ o. record { queue = []; hand = None };
   lanes = λ o d. record { forward = 0; took = 0 };
 }

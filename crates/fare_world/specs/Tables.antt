@@ -1,5 +1,5 @@
 -- What the tables of an outbox and of a ledger hold, by ids.
-use Rattle.std.specs.Prelude.{ℕ, List, [], Option, Some, None, nat_eq, unwrap_or, Vec}
+use Rattle.std.specs.Prelude.{ℕ, List, [], Option, Some, None, nat_eq, option_map, unwrap_or, Vec}
 use Rattle.std.specs.Global.{Global}
 use Rattle.std.specs.HashMap.{get}
 use Rattle.fare_record.specs.Values.{RecordValue}
@@ -10,7 +10,7 @@ use Rattle.fare_world.specs.declared.ledger.Ledger.{Ledger}
 
 -- the greatest link that an outbox has had of a device
 abbrev pub upto_in : Outbox → ℕ → ℕ
-upto_in o device = unwrap_or (get nat_eq o.upto device) 0
+upto_in o device = unwrap_or (option_map (λ a. a.upto) (get nat_eq o.acks device)) 0
 
 -- the rows of a device among an owner's, where there are any
 abbrev pub rows_among : Option Lanes → ℕ → List RecordValue

@@ -2,17 +2,19 @@
 use Rattle.std.specs.Prelude.{◌≡◌, ◌≤◌, ℕ, List, take, length, IfSome, option_map, Result, MatchResult}
 use Rattle.fare_record.specs.Lanes.{lane_of}
 use Rattle.fare_scheme.specs.Values.{SchemeValue}
-use Rattle.fare_scheme.specs.Words.{position_of_device, position_of_owner}
+use Rattle.fare_scheme.specs.Words.{position_of_device, position_of_station, position_of_owner}
+use Rattle.fare_collector.specs.Collecting.{next_in}
 use Rattle.fare_world.specs.declared.event.Event.{Event}
 use Rattle.fare_world.specs.declared.reply.Reply.{Reply}
 use Rattle.fare_world.specs.declared.owner.Owner.{Owner}
+use Rattle.fare_world.specs.declared.station.Station.{Station}
 use Rattle.fare_world.specs.declared.world.World.{World}
 use Rattle.fare_world.specs.declared.world.Fault.{Fault}
 use Rattle.fare_world.specs.System.{System}
 use Rattle.fare_world.specs.Steps.{step, after, replies}
 use Rattle.fare_world.specs.Headline.{numbered, IsPrefixOf}
 use Rattle.fare_world.specs.Tables.{upto_in, rows_in, taken_in}
-use Rattle.fare_world.specs.Shown.{entry, OwnerShape, Shape, Shows}
+use Rattle.fare_world.specs.Shown.{entry, StationShape, OwnerShape, Shape, Shows}
 
 abbrev pub owner_shape : SchemeValue → Owner → OwnerShape
 owner_shape sc x = record {
@@ -23,10 +25,13 @@ owner_shape sc x = record {
   cursors = λ device. entry (position_of_device sc device) x.cursors.items;
 }
 
+abbrev pub station_shape : Station → StationShape
+station_shape x = record { nexts = next_in x.collector; line = x.line.items }
+
 abbrev pub shape : World → Shape
 shape w = record {
   devices = λ device. entry (position_of_device w.scheme device) w.devices.items;
-  nexts = λ device. entry (position_of_device w.scheme device) w.nexts.items;
+  stations = λ station. option_map station_shape (entry (position_of_station w.scheme station) w.stations.items);
   air = w.air.items;
   inbox = w.inbox.items;
   hand = w.hand;
@@ -52,6 +57,15 @@ pub record IsUnchanged (old new : World) : Type 0 where
 
 abbrev pub Applied : World → World → Event → Result Reply Fault → Type 0
 Applied old new e result = MatchResult result (IsStepped old new e) (λ _. IsUnchanged old new)
+
+-- what a part of an event did, where the system meets a condition
+pub record Does (old new : World) (condition : System → Type 0) (change : System → System × Reply) (r : Reply) : Type 0 where
+  pub scheme : new.scheme ≡ old.scheme
+  pub reply : (s : System) → StandsAt old s → condition s → r ≡ (change s).1
+  pub stands : (s : System) → StandsAt old s → condition s → StandsAt new (change s).0
+
+abbrev pub Done : World → World → (System → Type 0) → (System → System × Reply) → Result Reply Fault → Type 0
+Done old new condition change result = MatchResult result (Does old new condition change) (λ _. IsUnchanged old new)
 
 -- what a run of events did, up to the event at which it stopped: at whatever system the world stood, the replies and the system after are those of the events before it
 pub record HasRun (old new : World) (events : List Event) (answered : List Reply) : Type 0 where

@@ -1,4 +1,4 @@
-use fare_record::{DeviceId, Moment, OwnerId, ProductId, Token};
+use fare_record::{DeviceId, Moment, OwnerId, ProductId, StationId, Token};
 
 /// What may happen to a scheme's parts, one atomic step at a time.
 #[derive(Clone, Copy, PartialEq, Eq, Debug)]
@@ -14,6 +14,10 @@ pub enum Event {
     Send {
         device: DeviceId,
     },
+    /// A device goes back to its first tap that waits for an acknowledgement, to send all of them again.
+    Rewind {
+        device: DeviceId,
+    },
     /// A packet of the air, numbered from 1, comes to where it was sent.
     Arrive {
         packet: u64,
@@ -22,6 +26,14 @@ pub enum Event {
     Draw,
     /// The writer stores what is in its hand in the outbox.
     Store,
+    /// The writer tells a device's station how many of the device's taps the outbox has had.
+    Ack {
+        device: DeviceId,
+    },
+    /// A station sends the front of its acknowledgement line into the air.
+    Answer {
+        station: StationId,
+    },
     /// The forwarder puts the next row of a device into the owner's lane queue.
     Forward {
         owner: OwnerId,
@@ -35,6 +47,20 @@ pub enum Event {
     Take {
         owner: OwnerId,
     },
+    /// A station accepts next, from a device, the tap after those that the outbox has had.
+    Resume {
+        device: DeviceId,
+    },
+    /// A device starts again; its buffer and its numbers outlive that.
+    RestartDevice {
+        device: DeviceId,
+    },
+    /// A station starts again, and resumes each of its devices.
+    RestartStation {
+        station: StationId,
+    },
+    /// The writer starts again, with nothing in its hand.
+    RestartWriter,
     /// Asks how many taps of a device the outbox has had.
     Upto {
         device: DeviceId,

@@ -12,10 +12,11 @@ mod owner;
 mod packet;
 mod reply;
 mod rows;
+mod station;
 mod world;
 
 pub use event::Event;
-pub use laws::{each_event_is_a_lane_step, taken_is_a_prefix};
+pub use laws::{each_event_is_a_lane_step, no_run_refuses_its_own_packets, taken_is_a_prefix};
 pub use reply::{Refusal, Reply};
 pub use world::{Fault, Stopped, World};
 

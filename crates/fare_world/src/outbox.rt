@@ -1,10 +1,11 @@
 ghost use Rattle.std.specs.Prelude.{◌≡◌, ℕ, OnOk, OnErr, IfErr, [], ◌∷◌, ◌++◌};
+ghost use Rattle.fare_record.specs.Limits.{IsCount};
 ghost use Rattle.fare_world.specs.Stores.{IsStored, StoreRefused, IsNextRow};
 ghost use Rattle.fare_world.specs.Tables.{upto_in, rows_in};
 ghost use Rattle.fare_world.specs.System.{put2};
 
 use crate::lanes::Lanes;
-use fare_record::{DeviceId, OwnerId, Record};
+use fare_record::{Ack, DeviceId, OwnerId, Record};
 use std::alloc::{AllocError, Global};
 use std::collections::HashMap;
 use thiserror::Error;
@@ -23,11 +24,12 @@ pub enum StoreRefusal {
     Memory,
 }
 
-/// The outbox: the taps that the hub has stored, by lane, and how many it has had of each device.
+/// The outbox: the taps that the hub has stored, by lane, and of each device the acknowledgement of what it
+/// has had.
 #[derive(Debug, Drop)]
 pub struct Outbox {
     alloc: Global,
-    upto: HashMap<u32, u64>,
+    acks: HashMap<u32, Ack>,
     lanes: HashMap<u16, Lanes>,
 }
 
@@ -39,16 +41,20 @@ impl Outbox {
     {
         Outbox {
             alloc,
-            upto: HashMap::new(alloc),
+            acks: HashMap::new(alloc),
             lanes: HashMap::new(alloc),
         }
     }
 
     /// The greatest link that it has had of a device, 0 where it never saw the device.
     pub fn upto(&self, device: DeviceId) -> u64
-        ensures { result ≡ upto_in self.now device }
+        ensures value { result ≡ upto_in self.now device }
+        ensures valid { IsCount result }
     {
-        self.upto.get(&device.get()).copied().unwrap_or(0)
+        match self.acks.get(&device.get()) {
+            Some(ack) => ack.upto(),
+            None => 0,
+        }
     }
 
     /// Stores the device's next tap at the end of its lane. The first refusal that applies, in the order
@@ -67,14 +73,15 @@ impl Outbox {
             return Err(StoreRefusal::Gap);
         }
         let device = row.device().get();
-        if !self.upto.contains_key(&device) && self.upto.insert(device, 0).is_err() {
+        let none = Ack::new(row.device(), 0);
+        if !self.acks.contains_key(&device) && self.acks.insert(device, none).is_err() {
             return Err(StoreRefusal::Memory);
         }
         if self.push(row).is_err() {
             return Err(StoreRefusal::Memory);
         }
-        if let Some(upto) = self.upto.get_mut(&device) {
-            *upto = row.link();
+        if let Some(ack) = self.acks.get_mut(&device) {
+            *ack = Ack::new(row.device(), row.link());
         }
         Ok(())
     }
@@ -90,7 +97,7 @@ impl Outbox {
     fn push(&mut self, row: &Record) -> Result<(), AllocError>
         ensures ok { OnOk result ((owner device : ℕ) → rows_in self.new owner device ≡ put2 (rows_in self.old) row.now.owner row.now.device (rows_in self.old row.now.owner row.now.device ++ row.now ∷ []) owner device) }
         ensures err { OnErr result ((owner device : ℕ) → rows_in self.new owner device ≡ rows_in self.old owner device) }
-        ensures upto { self.new.upto ≡ self.old.upto }
+        ensures acks { self.new.acks ≡ self.old.acks }
     {
         let owner = row.owner().get();
         if let Some(lanes) = self.lanes.get_mut(&owner) {

@@ -30,6 +30,8 @@ pub enum Refusal {
     UnknownDevice,
     /// The owner is not registered.
     UnknownOwner,
+    /// The station is not registered.
+    UnknownStation,
     /// The moment is of no traffic day from 0 to 100,000.
     BadMoment,
     /// The product is not registered.
@@ -44,10 +46,16 @@ pub enum Refusal {
     BufferFull,
     /// The air has no packet of this number.
     NoPacket,
+    /// The tap's device is not one of the station.
+    Stranger,
+    /// The tap's owner is not the owner of its product.
+    Misrouted,
     /// The station has accepted this link before.
     Old,
     /// The station accepts an earlier link first.
     Ahead,
+    /// The device has numbered no tap of the acknowledged link.
+    AckAhead,
     /// The hand holds an item already.
     HandFull,
     /// The item was stored or taken before.
@@ -71,18 +79,30 @@ pub enum Reply {
     Recorded { link: u64, lane: u64 },
     /// The air gained this packet, with the tap of this link.
     Sent { packet: u64, link: u64 },
+    /// The device goes on from its first tap that waits for an acknowledgement.
+    Rewound,
     /// The station put the packet's tap into the inbox.
     Accepted,
+    /// So many acknowledged taps left the device's buffer.
+    Dropped(u64),
     /// The writer drew the tap of this device and link.
     Drawn { device: DeviceId, link: u64 },
     /// The outbox stored the tap of this device and link.
     Stored { device: DeviceId, link: u64 },
+    /// The acknowledgement line of the device's station gained this link.
+    Acknowledged(u64),
+    /// The air gained this packet, with the acknowledgement of the device's taps up to a link.
+    Answered { packet: u64, device: DeviceId, upto: u64 },
     /// The lane queue gained the tap of this lane number.
     Forwarded { lane: u64 },
     /// The owner fetched the tap of this device and lane number.
     Fetched { device: DeviceId, lane: u64 },
     /// The owner's ledger took the tap of this device and lane number.
     Taken { device: DeviceId, lane: u64 },
+    /// The station accepts next the tap after this link.
+    Resumed(u64),
+    /// The part has started again.
+    Restarted,
     /// How many taps of the device the outbox has had.
     Upto(u64),
     /// How many taps of the device the owner's ledger holds.

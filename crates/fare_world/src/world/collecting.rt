@@ -1,48 +1,77 @@
-ghost use Rattle.std.specs.Prelude.{◌≡◌, IfOk, option_copied};
-ghost use Rattle.fare_world.specs.Packets.{bytes_at, IsTapRead};
-ghost use Rattle.fare_world.specs.Whole.{Applied};
+ghost use Rattle.std.specs.Prelude.{◌≡◌, ◌<◌, None, Some, IfNone, IfSome, IfOk, length, option_copied};
+ghost use Rattle.fare_scheme.specs.Words.{station_of};
+ghost use Rattle.fare_world.specs.System.{Tapped};
+ghost use Rattle.fare_world.specs.Steps.{comes, refusal_of};
+ghost use Rattle.fare_world.specs.Packets.{bytes_at, IsPacketRead};
+ghost use Rattle.fare_world.specs.Shown.{IsAt};
+ghost use Rattle.fare_world.specs.Rooms.{HasStation};
+ghost use Rattle.fare_world.specs.Whole.{Applied, Done};
 ghost use Rattle.fare_world.specs.declared.event.Event.TheVariants as event;
 
 use crate::outbox::StoreRefusal;
 use crate::packet::Packet;
 use crate::world::{Fault, World};
 use crate::{Refusal, Reply};
-use fare_record::Record;
+use fare_collector::CollectRefusal;
+use fare_frame::Frame;
+use fare_record::{DeviceId, Record};
 
 impl World {
-    // A packet, numbered from 1, comes to its station.
+    // A packet, numbered from 1, comes to where it was sent.
     pub(super) fn arrive(&mut self, packet: u64) -> Result<Reply, Fault>
         ensures { Applied self.old self.new (event.Arrive packet) result }
     {
-        let Some(row) = self.tap_in(packet)? else {
+        let Some(frame) = self.frame_in(packet)? else {
             return Ok(Reply::Refused(Refusal::NoPacket));
         };
-        let Some(place) = self.scheme.device_position(row.device()) else {
-            return Ok(Reply::Refused(Refusal::UnknownDevice));
+        if let Some(tapped) = frame.tapped() {
+            return self.collect(tapped);
+        }
+        if let Some(ack) = frame.acked() {
+            return Ok(self.hear(ack));
+        }
+        Ok(Reply::Refused(Refusal::NoPacket))
+    }
+
+    // A tap comes to the station of its device.
+    fn collect(&mut self, tapped: Record) -> Result<Reply, Fault>
+        ensures { Done self.old self.new (λ s. IsAt (s.devices tapped.device).taps tapped.link tapped) (λ s. comes self.old.scheme s (Some (Tapped tapped.device tapped.link))) result }
+    {
+        let Some(place) = self.station_place(tapped.device()) else {
+            return Ok(Reply::Refused(Refusal::Stranger));
         };
-        let next = self.nexts[place];
-        if row.link() < next {
-            return Ok(Reply::Refused(Refusal::Old));
+        // The room comes first, since an accepted tap has its place in the inbox.
+        self.inbox.reserve(1)?;
+        if let Err(refusal) = self.stations[place].collector.accept(&self.scheme, &tapped) {
+            return Ok(Reply::Refused(named(refusal)));
         }
-        if row.link() > next {
-            return Ok(Reply::Refused(Refusal::Ahead));
+        if self.inbox.push_back(tapped).is_err() {
+            unreachable!()
         }
-        self.inbox.push_back(row)?;
-        self.nexts[place] = row.link() + 1;
         Ok(Reply::Accepted)
     }
 
-    // The tap in the packet of a number, from 1; None where the air has no such packet.
-    fn tap_in(&self, packet: u64) -> Result<Option<Record>, Fault>
-        ensures { IfOk result (λ read. IsTapRead (bytes_at self.now.air.items packet) read) }
+    // The position of a device's station; None where the device is not registered.
+    pub(super) fn station_place(&self, device: DeviceId) -> Option<usize>
+        ensures some { IfSome result (λ place. HasStation self.now.scheme device place) }
+        ensures within { IfSome result (λ place. place < length self.now.stations.items) }
+        ensures none { IfNone result (station_of self.now.scheme device ≡ None) }
+    {
+        let station = self.scheme.station_of(device)?;
+        let Some(place) = self.scheme.station_position(station) else {
+            unreachable!()
+        };
+        Some(place)
+    }
+
+    // The frame in the packet of a number, from 1; None where the air has no such packet.
+    fn frame_in(&self, packet: u64) -> Result<Option<Frame>, Fault>
+        ensures { IfOk result (λ read. IsPacketRead (bytes_at self.now.air.items packet) read) }
     {
         let Some(packet) = self.packet(packet) else {
             return Ok(None);
         };
-        let Some(frame) = packet.read(self.alloc)? else {
-            return Ok(None);
-        };
-        Ok(frame.tapped())
+        Ok(packet.read(self.alloc)?)
     }
 
     // The packet of a number, from 1.
@@ -88,5 +117,17 @@ impl World {
         };
         self.hand = None;
         Ok(reply)
+    }
+}
+
+// The name of a collector's refusal.
+fn named(refusal: CollectRefusal) -> Refusal
+    ensures { result ≡ refusal_of refusal }
+{
+    match refusal {
+        CollectRefusal::Stranger => Refusal::Stranger,
+        CollectRefusal::Misrouted => Refusal::Misrouted,
+        CollectRefusal::Old => Refusal::Old,
+        CollectRefusal::Ahead => Refusal::Ahead,
     }
 }

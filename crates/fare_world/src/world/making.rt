@@ -1,12 +1,14 @@
 ghost use Rattle.std.specs.Prelude.{◌≡◌, IfOk};
 ghost use Rattle.fare_world.specs.System.{start};
-ghost use Rattle.fare_world.specs.Fresh.{AreFreshDevices, AreFreshOwners};
+ghost use Rattle.fare_world.specs.Fresh.{AreFreshDevices, AreFreshStations, AreFreshOwners};
 ghost use Rattle.fare_world.specs.Whole.{StandsAt};
 
 use crate::ledger::Ledger;
 use crate::outbox::Outbox;
 use crate::owner::Owner;
+use crate::station::Station;
 use crate::world::{Fault, World};
+use fare_collector::{Collector, CollectorFault};
 use fare_device::{Device, DeviceFault};
 use fare_scheme::Scheme;
 use std::alloc::Global;
@@ -20,13 +22,13 @@ impl World {
         ensures start { IfOk result (λ world. StandsAt world (start scheme)) }
     {
         let devices = fresh_devices(alloc, &scheme)?;
-        let nexts = vec![in alloc; 1; devices.len()]?;
+        let stations = fresh_stations(alloc, &scheme)?;
         let owners = fresh_owners(alloc, &scheme)?;
         Ok(World {
             alloc,
             scheme,
             devices,
-            nexts,
+            stations,
             air: Vec::new(alloc),
             inbox: VecDeque::new(alloc),
             hand: None,
@@ -52,6 +54,27 @@ fn fresh_devices(alloc: Global, scheme: &Scheme) -> Result<Vec<Device>, Fault>
         }
     }
     Ok(devices)
+}
+
+// The scheme's stations, none of which has accepted anything.
+fn fresh_stations(alloc: Global, scheme: &Scheme) -> Result<Vec<Station>, Fault>
+    ensures { IfOk result (λ stations. AreFreshStations scheme.now stations.items) }
+{
+    let mut stations = Vec::new(alloc);
+    for place in 0..scheme.station_count() {
+        let Some(id) = scheme.station_at(place) else {
+            unreachable!()
+        };
+        match Collector::new(alloc, scheme, id) {
+            Ok(collector) => stations.push(Station {
+                collector,
+                line: VecDeque::new(alloc),
+            })?,
+            Err(CollectorFault::Memory) => return Err(Fault::Memory),
+            Err(CollectorFault::UnknownStation) => unreachable!(),
+        }
+    }
+    Ok(stations)
 }
 
 // The scheme's owners, none of which has fetched or taken anything.

@@ -38,6 +38,17 @@ impl World {
         }
     }
 
+    // A device goes back to its first tap that waits.
+    pub(super) fn rewind(&mut self, device: DeviceId) -> Result<Reply, Fault>
+        ensures { Applied self.old self.new (event.Rewind device) result }
+    {
+        let Some(place) = self.scheme.device_position(device) else {
+            return Ok(Reply::Refused(Refusal::UnknownDevice));
+        };
+        self.devices[place].rewind();
+        Ok(Reply::Rewound)
+    }
+
     // The next unsent tap of a device goes into the air.
     pub(super) fn send(&mut self, device: DeviceId) -> Result<Reply, Fault>
         ensures { Applied self.old self.new (event.Send device) result }

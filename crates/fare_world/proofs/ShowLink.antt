@@ -1,0 +1,367 @@
+-- What a world shows after an arrival, an acknowledgement, its answer, a rewind and a resume.
+use Rattle.std.proofs.Common.{◌≡◌, ℕ, zero, suc, ◌+◌, ◌-◌, ◌<◌, ◌≤◌, List, [], ◌∷◌, ◌++◌, length, take, drop, max, Some, None, Bool, true, false, refl, sym, ap, ◌∙◌, subst, arith}
+use Rattle.std.specs.Prelude.{◌==◌, slice_get, if◌then◌else◌, Option, IfSome, is_some, Result, Ok, Err, option_map}
+use Rattle.std.proofs.lemmas.Bool.Decides.{nat_tests, Decides-eqb}
+use Rattle.std.proofs.Math.Seq.{drop-nil}
+use Rattle.std.proofs.lemmas.Option.{slice_get_within}
+use Rattle.fare_record.specs.Values.{RecordValue, AckValue}
+use Rattle.fare_record.specs.Lanes.{part}
+use Rattle.fare_scheme.specs.Values.{SchemeValue}
+use Rattle.fare_scheme.specs.Words.{station_of, position_of_device, position_of_station}
+use Rattle.fare_collector.specs.Collecting.{is_id, is_owned, collect_judged, changed}
+use Rattle.fare_collector.specs.declared.fault.CollectRefusal.{CollectRefusal}
+use Rattle.fare_device.specs.DeviceWords.{DeviceValue, last_link}
+use Rattle.fare_device.specs.DeviceWords as device
+use Rattle.fare_frame.specs.Grammar.{frame_bytes, tap_of, ack_of, IsFrame}
+use Rattle.fare_frame.specs.declared.frame.Frame.{Frame}
+use Rattle.fare_frame.specs.declared.frame.Frame.TheVariants as frame
+use Rattle.fare_world.specs.declared.event.Event.TheVariants as event
+use Rattle.fare_world.specs.declared.reply.Refusal.{Refusal}
+use Rattle.fare_world.specs.declared.reply.Refusal.TheVariants.{NoPacket, Stranger, UnknownDevice, UnknownStation}
+use Rattle.fare_world.specs.declared.reply.Reply.{Reply}
+use Rattle.fare_world.specs.declared.reply.Reply.TheVariants.{Empty, Refused, Rewound, Accepted, Dropped, Acknowledged, Answered, Resumed, Restarted}
+use Rattle.fare_world.specs.System.{put, Packet, Tapped, Acked, Tap_of, Answer, Ack_of, DeviceState, System}
+use Rattle.fare_world.specs.Packets.{bytes_at, IsRead, IsPacketRead}
+use Rattle.fare_world.specs.Steps.{rewound, rewind, tap_at, is_owned_tap, next_at, refusal_of, accepted, judged, tap_comes, heard, ack_comes, comes, packet_at, arrive, ack_by, answer_from, resumed_device, resume, restart_device, resumed_devices, restart_station}
+use Rattle.fare_world.specs.Steps as step
+use Rattle.fare_world.specs.Shown.{IsDevice, IsSystem, IsAck, IsPacket, IsAt, IsPacketOf, IsArrivedOf, IsAnswerOf, IsDeviceOf, IsStationOf, Both, Each2, StationShape, Shape, Shows}
+use Rattle.fare_world.proofs.Known.{no_station, no_place, placed, is_own_id}
+use Rattle.fare_world.proofs.Lists.{AllByRecursion-at, Each2-push, Each2-get, Each2-nil, Each2-cons, length-Each2, Both-none, IfSome-weaken}
+use Rattle.fare_world.proofs.TableLemmas.{put_all, put_apart, put_both, put_here}
+use Rattle.fare_world.proofs.Kept.{moves_step, comes_kept, device_changes}
+use Rattle.fare_world.proofs.Showing.{Answers, answers_by, shows_device, shows_line, stations_same, same_device, device_shown, station_shown, last_link_is, packet_is, packet_acks, packet_has}
+
+-- WHAT WAS READ
+packets_match : (sc : SchemeValue) (h : Shape) (s : System) (n : ℕ) → Shows sc h s → Both (IsPacketOf s.devices) (packet_at s n) (bytes_at h.air n)
+packets_match sc h s n w = match_if (n == 0)
+  where
+    match_if : (b : Bool) → Both (IsPacketOf s.devices) (if b then None else slice_get s.air (n - 1)) (if b then None else slice_get h.air (n - 1))
+    match_if true = tt
+    match_if false = Each2-get (IsPacketOf s.devices) s.air h.air (n - 1) w.air
+
+-- no frame was read where there is no packet, and only there
+none_read : (s : System) (x : Option Packet) (bytes : Option (List ℕ)) → Both (IsPacketOf s.devices) x bytes → IsPacketRead bytes None → x ≡ None
+none_read s x None both read = Both-none (IsPacketOf s.devices) x both
+none_read s None (Some bytes) both read = refl
+none_read s (Some (Tapped d k)) (Some bytes) both read = let none : None ≡ Some (frame.Tapped both.tap) = read (frame.Tapped both.tap) both.lawful both.spelled in absurd (cc)
+none_read s (Some (Acked d u)) (Some bytes) both read =
+    let f : Frame = frame.Acked (record { device = d; upto = u }) in
+    let none : None ≡ Some f = read f both.lawful both.spelled in
+    absurd (cc)
+
+pub shown_no_packet : (sc : SchemeValue) (h : Shape) (s : System) (n : ℕ) → Shows sc h s → IsPacketRead (bytes_at h.air n) None → Answers sc h (arrive sc s n) (Refused NoPacket)
+shown_no_packet sc h s n w read =
+    answers_by sc h (Refused NoPacket) (arrive sc s n) (s, Refused NoPacket) (ap (comes sc s) (none_read s (packet_at s n) (bytes_at h.air n) (packets_match sc h s n w) read)) refl w
+
+-- the packet of which a tap was read
+pub tap_found : (sc : SchemeValue) (h : Shape) (s : System) (n : ℕ) (f : Frame) (r : RecordValue) → Shows sc h s → IsPacketRead (bytes_at h.air n) (Some f) → tap_of f ≡ Some r → IsAt (s.devices r.device).taps r.link r × (arrive sc s n ≡ comes sc s (Some (Tapped r.device r.link)))
+tap_found sc h s n f r w read tapped = let found = of (packet_at s n) (bytes_at h.air n) (packets_match sc h s n w) read in (found.1, ap (comes sc s) found.0)
+  where
+    of : (x : Option Packet) (bytes : Option (List ℕ)) → Both (IsPacketOf s.devices) x bytes → IsPacketRead bytes (Some f) → (x ≡ Some (Tapped r.device r.link)) × IsAt (s.devices r.device).taps r.link r
+    of x None both read = absurd (cc)
+    of None (Some bytes) both read = absurd both
+    of (Some x) (Some bytes) both read = let t = packet_is sc s x bytes f r w.system both read tapped in (ap Some t.0, t.1)
+
+-- and that of which an acknowledgement was
+pub ack_found : (sc : SchemeValue) (h : Shape) (s : System) (n : ℕ) (f : Frame) (a : AckValue) → Shows sc h s → IsPacketRead (bytes_at h.air n) (Some f) → ack_of f ≡ Some a → IsAck sc s.devices a.device a.upto × (arrive sc s n ≡ comes sc s (Some (Acked a.device a.upto)))
+ack_found sc h s n f a w read acked = (lies n (Acked a.device a.upto) (of (packet_at s n) (bytes_at h.air n) (packets_match sc h s n w) read), ap (comes sc s) (of (packet_at s n) (bytes_at h.air n) (packets_match sc h s n w) read))
+  where
+    of : (x : Option Packet) (bytes : Option (List ℕ)) → Both (IsPacketOf s.devices) x bytes → IsPacketRead bytes (Some f) → x ≡ Some (Acked a.device a.upto)
+    of x None both read = absurd (cc)
+    of None (Some bytes) both read = absurd both
+    of (Some x) (Some bytes) both read = ap Some (packet_acks s x bytes f a both read acked)
+
+    lies : (n : ℕ) (x : Packet) → packet_at s n ≡ Some x → IsPacket sc s.devices x
+    lies n x at = place (n == 0) at
+      where
+        place : (b : Bool) → (if b then None else slice_get s.air (n - 1)) ≡ Some x → IsPacket sc s.devices x
+        place true e = absurd (cc)
+        place false e = AllByRecursion-at (IsPacket sc s.devices) s.air (n - 1) x w.system.air e
+
+-- a frame that was read has one or the other
+pub nothing_else : (sc : SchemeValue) (h : Shape) (s : System) (n : ℕ) (f : Frame) → Shows sc h s → IsPacketRead (bytes_at h.air n) (Some f) → tap_of f ≡ None → ack_of f ≡ None → ⊥
+nothing_else sc h s n f w read untapped unacked = of (packet_at s n) (bytes_at h.air n) (packets_match sc h s n w) read
+  where
+    of : (x : Option Packet) (bytes : Option (List ℕ)) → Both (IsPacketOf s.devices) x bytes → IsPacketRead bytes (Some f) → ⊥
+    of x None both read = absurd (cc)
+    of None (Some bytes) both read = absurd both
+    of (Some x) (Some bytes) both read = packet_has s x bytes f both read untapped unacked
+
+-- NEXT LINKS
+-- what another station accepts next does not change with a device
+next_elsewhere : (sc : SchemeValue) (f : ℕ → DeviceState) (d station other : ℕ) (v : DeviceState) → station_of sc d ≡ Some station → (other == station) ≡ false → (j : ℕ) → next_at sc (put f d v) other j ≡ next_at sc f other j
+next_elsewhere sc f d station other v of apart = put_all (λ j a. (if is_id (station_of sc j) other then Some a.next else None) ≡ next_at sc f other j) f d v (λ j. refl) (none v ∙ sym (none (f d)))
+  where
+    turned : (a b : ℕ) → (a == b) ≡ false → (b == a) ≡ false
+    turned a b e = grind (arith, nat_tests)
+
+    none : (a : DeviceState) → (if is_id (station_of sc d) other then Some a.next else None) ≡ None
+    none a = ap (λ o. if is_id o other then Some a.next else None) of ∙ ap (λ b. if b then Some a.next else None) (turned other station apart)
+
+-- what a device's station accepts next
+next_of : (sc : SchemeValue) (f : ℕ → DeviceState) (d station : ℕ) → station_of sc d ≡ Some station → next_at sc f station d ≡ Some (f d).next
+next_of sc f d station of = ap (λ o. if is_id o station then Some (f d).next else None) of ∙ ap (λ b. if b then Some (f d).next else None) (is_own_id station)
+
+-- the station of a device whose next link changes
+station_put : (sc : SchemeValue) (f : ℕ → DeviceState) (d station : ℕ) (v : DeviceState) (change : ℕ → ℕ) (line : List Answer) (x new : StationShape) → station_of sc d ≡ Some station → IsStationOf sc f station line x → ((j : ℕ) → new.nexts j ≡ changed change x.nexts d j) → new.line ≡ x.line → change (f d).next ≡ v.next → IsStationOf sc (put f d v) station line new
+station_put sc f d station v change line x new of w does same next = record {
+  nexts = λ j. does j ∙ put_apart (λ j a. (if j == d then option_map change (x.nexts j) else x.nexts j) ≡ (if is_id (station_of sc j) station then Some a.next else None)) f d v other here j;
+  waits = subst (Each2 IsAnswerOf line) (sym same) w.waits;
+}
+  where
+    other : (j : ℕ) → (j == d) ≡ false → (if j == d then option_map change (x.nexts j) else x.nexts j) ≡ next_at sc f station j
+    other j apart = ap (λ b. if b then option_map change (x.nexts j) else x.nexts j) apart ∙ w.nexts j
+
+    here : (if d == d then option_map change (x.nexts d) else x.nexts d) ≡ (if is_id (station_of sc d) station then Some v.next else None)
+    here =
+        ap (λ b. if b then option_map change (x.nexts d) else x.nexts d) ((Decides-eqb d d).1 refl)
+        ∙ ap (option_map change) (w.nexts d ∙ next_of sc f d station of)
+        ∙ ap Some next
+        ∙ sym (ap (λ o. if is_id o station then Some v.next else None) of ∙ ap (λ b. if b then Some v.next else None) (is_own_id station))
+
+-- and all stations
+stations_put : (sc : SchemeValue) (h : Shape) (s : System) (d station : ℕ) (v : DeviceState) (new : StationShape) → Shows sc h s → station_of sc d ≡ Some station → IsStationOf sc (put s.devices d v) station (s.lines station) new
+    → (j : ℕ) → IfSome (put h.stations station (Some new) j) (IsStationOf sc (put s.devices d v) j (s.lines j))
+stations_put sc h s d station v new w of here =
+    put_apart (λ j a. IfSome a (IsStationOf sc (put s.devices d v) j (s.lines j))) h.stations station (Some new)
+    (λ j apart. IfSome-weaken (IsStationOf sc s.devices j (s.lines j)) (IsStationOf sc (put s.devices d v) j (s.lines j)) (λ x q. record { nexts = λ i. q.nexts i ∙ sym (next_elsewhere sc s.devices d station j v of apart i); waits = q.waits }) (h.stations j) (w.stations j))
+    here
+
+-- A TAP COMES
+comes_to : (sc : SchemeValue) (h : Shape) (s : System) (station : ℕ) (x : StationShape) (r : RecordValue) → Shows sc h s → IsAt (s.devices r.device).taps r.link r → station_of sc r.device ≡ Some station → h.stations station ≡ Some x
+    → comes sc s (Some (Tapped r.device r.link)) ≡ judged s r.device r.link (collect_judged (x.nexts r.device) (is_owned sc r) r.link)
+comes_to sc h s station x r w at of here =
+    ap (tap_comes sc s r.device r.link) of
+    ∙ (λ i. judged s r.device r.link (collect_judged (sym ((station_shown sc h s station x w here).nexts r.device) i) (is_owned_tap sc (at.here i)) r.link))
+
+pub shown_stranger : (sc : SchemeValue) (h : Shape) (s : System) (r : RecordValue) → Shows sc h s → station_of sc r.device ≡ None → Answers sc h (comes sc s (Some (Tapped r.device r.link))) (Refused Stranger)
+shown_stranger sc h s r w none = answers_by sc h (Refused Stranger) (comes sc s (Some (Tapped r.device r.link))) (s, Refused Stranger) (ap (tap_comes sc s r.device r.link) none) refl w
+
+pub shown_refused : (sc : SchemeValue) (h : Shape) (s : System) (station : ℕ) (x : StationShape) (r : RecordValue) (why : CollectRefusal) → Shows sc h s → IsAt (s.devices r.device).taps r.link r → station_of sc r.device ≡ Some station → h.stations station ≡ Some x
+    → collect_judged (x.nexts r.device) (is_owned sc r) r.link ≡ Err why → Answers sc h (comes sc s (Some (Tapped r.device r.link))) (Refused (refusal_of why))
+shown_refused sc h s station x r why w at of here is =
+    answers_by sc h (Refused (refusal_of why)) (comes sc s (Some (Tapped r.device r.link))) (s, Refused (refusal_of why)) (comes_to sc h s station x r w at of here ∙ ap (judged s r.device r.link) is) refl w
+
+pub shown_accepted : (sc : SchemeValue) (h : Shape) (s : System) (station : ℕ) (x new : StationShape) (r : RecordValue) → Shows sc h s → IsAt (s.devices r.device).taps r.link r → station_of sc r.device ≡ Some station → h.stations station ≡ Some x
+    → collect_judged (x.nexts r.device) (is_owned sc r) r.link ≡ Ok tt → x.nexts r.device ≡ Some r.link → ((j : ℕ) → new.nexts j ≡ changed (λ n. n + 1) x.nexts r.device j) → new.line ≡ x.line
+    → Answers sc (record h { stations = put h.stations station (Some new); inbox = h.inbox ++ r ∷ [] }) (comes sc s (Some (Tapped r.device r.link))) Accepted
+shown_accepted sc h s station x new r w at of here is due does same =
+    answers_by sc (record h { stations = put h.stations station (Some new); inbox = h.inbox ++ r ∷ [] }) Accepted (comes sc s (Some (Tapped d r.link))) (accepted s d r.link, Accepted) goes refl
+    (record {
+      system = subst (λ (y : System × Reply). IsSystem sc y.0) goes (comes_kept sc s (Tapped d r.link) w.system place);
+      devices = devices.devices;
+      stations = devices.stations;
+      air = devices.air;
+      inbox = Each2-push (IsArrivedOf g) s.inbox h.inbox (Tap_of d r.link) r devices.inbox (subst (λ l. IsAt l r.link r) (ap (λ (z : DeviceState). z.taps) (sym (put_here s.devices d after))) at);
+      hand = devices.hand;
+      upto = devices.upto;
+      rows = devices.rows;
+      owners = devices.owners;
+    })
+  where
+    d : ℕ
+    d = r.device
+
+    place : IsPacket sc s.devices (Tapped d r.link)
+    place = (at.positive, let lt = slice_get_within (s.devices d).taps (r.link - 1) r at.here in omega (arith, at.positive, lt))
+
+    goes : comes sc s (Some (Tapped d r.link)) ≡ (accepted s d r.link, Accepted)
+    goes = comes_to sc h s station x r w at of here ∙ ap (judged s d r.link) is
+
+    after : DeviceState
+    after = record (s.devices d) { next = r.link + 1 }
+
+    g : ℕ → DeviceState
+    g = put s.devices d after
+
+    shown : IsStationOf sc s.devices station (s.lines station) x
+    shown = station_shown sc h s station x w here
+
+    same_Some : (a b : ℕ) → Some a ≡ Some b → a ≡ b
+    same_Some a b e = cc
+
+    next : (s.devices d).next ≡ r.link
+    next = same_Some (s.devices d).next r.link (sym (next_of sc s.devices d station of) ∙ sym (shown.nexts d) ∙ due)
+
+    is_device : IsDevice sc d (s.devices d)
+    is_device = w.system.devices d
+
+    devices : Shows sc (record h { devices = h.devices; stations = put h.stations station (Some new) }) (record s { devices = g })
+    devices = shows_device sc h s d after h.devices (put h.stations station (Some new)) w
+        (device_changes sc s d after w.system refl (omega arith) (record { base = is_device.base; cursor = is_device.cursor; stored = is_device.stored; upto = is_device.upto; first = omega arith; next = omega (arith, place.1); few = is_device.few; numbered = is_device.numbered; known = is_device.known }))
+        refl refl
+        (put_all (λ j a. IfSome (h.devices j) (IsDeviceOf sc j a)) s.devices d after w.devices (same_device sc d (s.devices d) after (h.devices d) refl refl refl refl (w.devices d)))
+        (stations_put sc h s d station after new w of (station_put sc s.devices d station after (λ n. n + 1) (s.lines station) x new of shown does same (ap (λ n. n + 1) next)))
+
+-- AN ACKNOWLEDGEMENT COMES
+drop-drop : {X : Type 0} (a b : ℕ) (xs : List X) → drop a (drop b xs) ≡ drop (b + a) xs
+drop-drop a zero xs = let same : a ≡ 0 + a = omega arith in ap (λ n. drop n xs) same
+drop-drop a (suc b) [] = drop-nil a ∙ sym (drop-nil (suc b + a))
+drop-drop a (suc b) (x ∷ xs) = let next : suc (b + a) ≡ suc b + a = omega arith in drop-drop a b xs ∙ ap (λ n. drop n (x ∷ xs)) next
+
+hears : (s : System) (d u : ℕ) → u ≤ length (s.devices d).taps → ack_comes s d u ≡ (heard s d u, Dropped (u - (s.devices d).base))
+hears s d u le = grind (arith, nat_tests)
+
+-- a device that heard an acknowledgement
+heard_device : (sc : SchemeValue) (d u : ℕ) (v : DeviceState) (x : DeviceValue) → IsDeviceOf sc d v x → IsDeviceOf sc d (record v { base = max v.base u; cursor = max v.cursor u }) (device.acknowledged x u)
+heard_device sc d u v x sd = record {
+  id = sd.id;
+  day = sd.day;
+  waiting = (λ i. drop (u - sd.base i) (sd.waiting i)) ∙ drop-drop (u - v.base) v.base v.taps ∙ ap (λ n. drop n v.taps) past;
+  room = sd.room;
+  base = ap (λ n. max n u) sd.base;
+  cursor = ap (λ n. max n u) sd.cursor;
+  lanes = sd.lanes;
+}
+  where
+    past : v.base + (u - v.base) ≡ max v.base u
+    past = omega arith
+
+pub shown_heard : (sc : SchemeValue) (h : Shape) (s : System) (d u n : ℕ) (x new : DeviceValue) → Shows sc h s → IsAck sc s.devices d u → h.devices d ≡ Some x → new ≡ device.acknowledged x u → n ≡ u - x.base
+    → Answers sc (record h { devices = put h.devices d (Some new) }) (comes sc s (Some (Acked d u))) (Dropped n)
+shown_heard sc h s d u n x new w is here heard_is count =
+    answers_by sc (record h { devices = put h.devices d (Some new) }) (Dropped n) (comes sc s (Some (Acked d u))) (heard s d u, Dropped (u - v.base)) goes (ap Dropped (count ∙ ap (λ b. u - b) sd.base))
+    (shows_device sc h s d after (put h.devices d (Some new)) h.stations w (subst (λ (y : System × Reply). IsSystem sc y.0) goes (comes_kept sc s (Acked d u) w.system is)) refl refl
+    (put_both (λ j a b. IfSome a (IsDeviceOf sc j b)) h.devices s.devices d (Some new) after w.devices (subst (IsDeviceOf sc d after) (sym heard_is) (heard_device sc d u v x sd)))
+    (stations_same sc h s (put s.devices d after) (put_all (λ j a. a.next ≡ (s.devices j).next) s.devices d after (λ j. refl) refl) w))
+  where
+    v : DeviceState
+    v = s.devices d
+
+    after : DeviceState
+    after = record v { base = max v.base u; cursor = max v.cursor u }
+
+    sd : IsDeviceOf sc d v x
+    sd = device_shown sc h s d x w here
+
+    goes : comes sc s (Some (Acked d u)) ≡ (heard s d u, Dropped (u - v.base))
+    goes = hears s d u (omega (arith, is.1, (w.system.devices d).upto))
+
+-- a device has numbered what it is told that the hub has
+pub never_ahead : (sc : SchemeValue) (h : Shape) (s : System) (d u : ℕ) (x : DeviceValue) → Shows sc h s → IsAck sc s.devices d u → h.devices d ≡ Some x → last_link x < u → ⊥
+never_ahead sc h s d u x w is here past = absurd (omega (arith, past, is.1, (w.system.devices d).upto, last_link_is sc d (s.devices d) x (w.system.devices d) (device_shown sc h s d x w here)))
+
+-- and is registered
+pub never_unknown : (sc : SchemeValue) (s : System) (d u : ℕ) → IsAck sc s.devices d u → position_of_device sc d ≡ None → ⊥
+never_unknown sc s d u is none = let some : is_some (station_of sc d) ≡ true = is.0 in let not_some : is_some (station_of sc d) ≡ false = ap is_some (no_station sc d none) in absurd (cc)
+
+-- REWIND and RESTART DEVICE
+rewound_shows : (sc : SchemeValue) (h : Shape) (s : System) (d : ℕ) (x new : DeviceValue) → Shows sc h s → h.devices d ≡ Some x → new ≡ record x { cursor = x.base } → IsSystem sc (rewound s d) → Shows sc (record h { devices = put h.devices d (Some new) }) (rewound s d)
+rewound_shows sc h s d x new w here same is =
+    shows_device sc h s d after (put h.devices d (Some new)) h.stations w is refl refl
+    (put_both (λ j a b. IfSome a (IsDeviceOf sc j b)) h.devices s.devices d (Some new) after w.devices (subst (IsDeviceOf sc d after) (sym same) (record { id = sd.id; day = sd.day; waiting = sd.waiting; room = sd.room; base = sd.base; cursor = sd.base; lanes = sd.lanes })))
+    (stations_same sc h s (put s.devices d after) (put_all (λ j a. a.next ≡ (s.devices j).next) s.devices d after (λ j. refl) refl) w)
+  where
+    after : DeviceState
+    after = record (s.devices d) { cursor = (s.devices d).base }
+
+    sd : IsDeviceOf sc d (s.devices d) x
+    sd = device_shown sc h s d x w here
+
+pub shown_rewind_unknown : (sc : SchemeValue) (h : Shape) (s : System) (d : ℕ) → Shows sc h s → position_of_device sc d ≡ None → Answers sc h (rewind sc s d) (Refused UnknownDevice)
+shown_rewind_unknown sc h s d w none = answers_by sc h (Refused UnknownDevice) (rewind sc s d) (s, Refused UnknownDevice) (ap (λ o. if is_some o then (rewound s d, Rewound) else (s, Refused UnknownDevice)) none) refl w
+
+pub shown_rewind : (sc : SchemeValue) (h : Shape) (s : System) (d k : ℕ) (x new : DeviceValue) → Shows sc h s → position_of_device sc d ≡ Some k → h.devices d ≡ Some x → new ≡ record x { cursor = x.base } → Answers sc (record h { devices = put h.devices d (Some new) }) (rewind sc s d) Rewound
+shown_rewind sc h s d k x new w at here same =
+    let goes : rewind sc s d ≡ (rewound s d, Rewound) = ap (λ o. if is_some o then (rewound s d, Rewound) else (s, Refused UnknownDevice)) at in
+    answers_by sc (record h { devices = put h.devices d (Some new) }) Rewound (rewind sc s d) (rewound s d, Rewound) goes refl
+    (rewound_shows sc h s d x new w here same (subst (λ (y : System × Reply). IsSystem sc y.0) goes (moves_step sc s (event.Rewind d) w.system).system))
+
+pub shown_restart_device_unknown : (sc : SchemeValue) (h : Shape) (s : System) (d : ℕ) → Shows sc h s → position_of_device sc d ≡ None → Answers sc h (restart_device sc s d) (Refused UnknownDevice)
+shown_restart_device_unknown sc h s d w none = answers_by sc h (Refused UnknownDevice) (restart_device sc s d) (s, Refused UnknownDevice) (ap (λ o. if is_some o then (rewound s d, Restarted) else (s, Refused UnknownDevice)) none) refl w
+
+pub shown_restart_device : (sc : SchemeValue) (h : Shape) (s : System) (d k : ℕ) (x new : DeviceValue) → Shows sc h s → position_of_device sc d ≡ Some k → h.devices d ≡ Some x → new ≡ record x { cursor = x.base } → Answers sc (record h { devices = put h.devices d (Some new) }) (restart_device sc s d) Restarted
+shown_restart_device sc h s d k x new w at here same =
+    let goes : restart_device sc s d ≡ (rewound s d, Restarted) = ap (λ o. if is_some o then (rewound s d, Restarted) else (s, Refused UnknownDevice)) at in
+    answers_by sc (record h { devices = put h.devices d (Some new) }) Restarted (restart_device sc s d) (rewound s d, Restarted) goes refl
+    (rewound_shows sc h s d x new w here same (subst (λ (y : System × Reply). IsSystem sc y.0) goes (moves_step sc s (event.RestartDevice d) w.system).system))
+
+-- ACK and ANSWER
+pub shown_ack_unknown : (sc : SchemeValue) (h : Shape) (s : System) (d : ℕ) → Shows sc h s → station_of sc d ≡ None → Answers sc h (step.ack sc s d) (Refused UnknownDevice)
+shown_ack_unknown sc h s d w none = answers_by sc h (Refused UnknownDevice) (step.ack sc s d) (s, Refused UnknownDevice) (ap (ack_by s d) none) refl w
+
+pub shown_ack : (sc : SchemeValue) (h : Shape) (s : System) (d station u : ℕ) (x new : StationShape) → Shows sc h s → station_of sc d ≡ Some station → h.stations station ≡ Some x → u ≡ h.upto d → ((j : ℕ) → new.nexts j ≡ x.nexts j) → new.line ≡ x.line ++ record { device = d; upto = u } ∷ []
+    → Answers sc (record h { stations = put h.stations station (Some new) }) (step.ack sc s d) (Acknowledged u)
+shown_ack sc h s d station u x new w of here is same gained =
+    answers_by sc (record h { stations = put h.stations station (Some new) }) (Acknowledged u) (step.ack sc s d) (step.acknowledged s station d, Acknowledged (s.devices d).upto) goes (ap Acknowledged stored)
+    (shows_line sc h s station (s.lines station ++ Ack_of d (s.devices d).upto ∷ []) new w (subst (λ (y : System × Reply). IsSystem sc y.0) goes (moves_step sc s (event.Ack d) w.system).system)
+    (record {
+      nexts = λ j. same j ∙ shown.nexts j;
+      waits = subst (Each2 IsAnswerOf (s.lines station ++ Ack_of d (s.devices d).upto ∷ [])) (sym gained)
+          (Each2-push IsAnswerOf (s.lines station) x.line (Ack_of d (s.devices d).upto) (record { device = d; upto = u }) shown.waits (λ i. record { device = d; upto = stored i }));
+    }))
+  where
+    shown : IsStationOf sc s.devices station (s.lines station) x
+    shown = station_shown sc h s station x w here
+
+    stored : u ≡ (s.devices d).upto
+    stored = is ∙ w.upto d
+
+    goes : step.ack sc s d ≡ (step.acknowledged s station d, Acknowledged (s.devices d).upto)
+    goes = ap (ack_by s d) of
+
+pub shown_answer_unknown : (sc : SchemeValue) (h : Shape) (s : System) (station : ℕ) → Shows sc h s → position_of_station sc station ≡ None → Answers sc h (step.answer sc s station) (Refused UnknownStation)
+shown_answer_unknown sc h s station w none =
+    answers_by sc h (Refused UnknownStation) (step.answer sc s station) (s, Refused UnknownStation) (ap (λ o. if is_some o then answer_from s station (s.lines station) else (s, Refused UnknownStation)) none) refl w
+
+answer_known : (sc : SchemeValue) (s : System) (station k : ℕ) → position_of_station sc station ≡ Some k → step.answer sc s station ≡ answer_from s station (s.lines station)
+answer_known sc s station k at = ap (λ o. if is_some o then answer_from s station (s.lines station) else (s, Refused UnknownStation)) at
+
+pub shown_no_answer : (sc : SchemeValue) (h : Shape) (s : System) (station k : ℕ) (x : StationShape) → Shows sc h s → position_of_station sc station ≡ Some k → h.stations station ≡ Some x → x.line ≡ [] → Answers sc h (step.answer sc s station) Empty
+shown_no_answer sc h s station k x w at here none =
+    let line = Each2-nil IsAnswerOf (s.lines station) (subst (Each2 IsAnswerOf (s.lines station)) none (station_shown sc h s station x w here).waits) in
+    answers_by sc h Empty (step.answer sc s station) (s, Empty) (answer_known sc s station k at ∙ ap (answer_from s station) line) refl w
+
+pub shown_answer : (sc : SchemeValue) (h : Shape) (s : System) (station k n : ℕ) (x new : StationShape) (a : AckValue) → Shows sc h s → position_of_station sc station ≡ Some k → h.stations station ≡ Some x → x.line ≡ a ∷ new.line → ((j : ℕ) → new.nexts j ≡ x.nexts j) → IsFrame (frame.Acked a) → n ≡ length h.air + 1
+    → Answers sc (record h { stations = put h.stations station (Some new); air = h.air ++ frame_bytes (frame.Acked a) ∷ [] }) (step.answer sc s station) (Answered n a.device a.upto)
+shown_answer sc h s station k n x new a w at here front same lawful count = of found.0 found.3 found.2
+  where
+    shown : IsStationOf sc s.devices station (s.lines station) x
+    shown = station_shown sc h s station x w here
+
+    found : (y : Answer) × (rest : List Answer) × (s.lines station ≡ y ∷ rest) × IsAnswerOf y a × Each2 IsAnswerOf rest new.line
+    found = Each2-cons IsAnswerOf (s.lines station) a new.line (subst (Each2 IsAnswerOf (s.lines station)) front shown.waits)
+
+    number : n ≡ length s.air + 1
+    number = count ∙ ap (λ j. j + 1) (sym (length-Each2 (IsPacketOf s.devices) s.air h.air w.air))
+
+    of : (y : Answer) → IsAnswerOf y a → s.lines station ≡ y ∷ found.1 → Answers sc (record h { stations = put h.stations station (Some new); air = h.air ++ frame_bytes (frame.Acked a) ∷ [] }) (step.answer sc s station) (Answered n a.device a.upto)
+    of (Ack_of d u) is line =
+        answers_by sc (record h { stations = put h.stations station (Some new); air = h.air ++ frame_bytes (frame.Acked a) ∷ [] }) (Answered n a.device a.upto) (step.answer sc s station)
+        (record s { air = s.air ++ Acked d u ∷ []; lines = put s.lines station found.1 }, Answered (length s.air + 1) d u) goes (λ i. Answered (number i) (is i).device (is i).upto)
+        (record {
+          system = subst (λ (y : System × Reply). IsSystem sc y.0) goes (moves_step sc s (event.Answer station) w.system).system;
+          devices = w.devices;
+          stations = put_both (λ j b l. IfSome b (IsStationOf sc s.devices j l)) h.stations s.lines station (Some new) found.1 w.stations (record { nexts = λ j. same j ∙ shown.nexts j; waits = found.4 });
+          air = Each2-push (IsPacketOf s.devices) s.air h.air (Acked d u) (frame_bytes (frame.Acked a)) w.air (record { lawful = subst (λ b. IsFrame (frame.Acked b)) is lawful; spelled = ap (λ b. frame_bytes (frame.Acked b)) is });
+          inbox = w.inbox;
+          hand = w.hand;
+          upto = w.upto;
+          rows = w.rows;
+          owners = w.owners;
+        })
+      where
+        goes : step.answer sc s station ≡ (record s { air = s.air ++ Acked d u ∷ []; lines = put s.lines station found.1 }, Answered (length s.air + 1) d u)
+        goes = answer_known sc s station k at ∙ ap (answer_from s station) line
+
+-- RESUME and RESTART STATION
+pub shown_resume_unknown : (sc : SchemeValue) (h : Shape) (s : System) (d : ℕ) → Shows sc h s → station_of sc d ≡ None → Answers sc h (resume sc s d) (Refused UnknownDevice)
+shown_resume_unknown sc h s d w none =
+    answers_by sc h (Refused UnknownDevice) (resume sc s d) (s, Refused UnknownDevice) (ap (λ o. if is_some o then (record s { devices = put s.devices d (resumed_device (s.devices d)) }, Resumed (s.devices d).upto) else (s, Refused UnknownDevice)) (no_place sc d none)) refl w
+
+pub shown_resume : (sc : SchemeValue) (h : Shape) (s : System) (d station u : ℕ) (x new : StationShape) → Shows sc h s → station_of sc d ≡ Some station → h.stations station ≡ Some x → u ≡ h.upto d → ((j : ℕ) → new.nexts j ≡ changed (λ _. u + 1) x.nexts d j) → new.line ≡ x.line
+    → Answers sc (record h { stations = put h.stations station (Some new) }) (resume sc s d) (Resumed u)
+shown_resume sc h s d station u x new w of here is does same =
+    answers_by sc (record h { stations = put h.stations station (Some new) }) (Resumed u) (resume sc s d) (record s { devices = put s.devices d after }, Resumed (s.devices d).upto) goes (ap Resumed stored)
+    (shows_device sc h s d after h.devices (put h.stations station (Some new)) w (subst (λ (y : System × Reply). IsSystem sc y.0) goes (moves_step sc s (event.Resume d) w.system).system) refl refl
+    (put_all (λ j a. IfSome (h.devices j) (IsDeviceOf sc j a)) s.devices d after w.devices (same_device sc d (s.devices d) after (h.devices d) refl refl refl refl (w.devices d)))
+    (stations_put sc h s d station after new w of (station_put sc s.devices d station after (λ _. u + 1) (s.lines station) x new of (station_shown sc h s station x w here) does same (ap (λ n. n + 1) stored))))
+  where
+    after : DeviceState
+    after = resumed_device (s.devices d)
+
+    stored : u ≡ (s.devices d).upto
+    stored = is ∙ w.upto d
+
+    goes : resume sc s d ≡ (record s { devices = put s.devices d after }, Resumed (s.devices d).upto)
+    goes = ap (λ b. if b then (record s { devices = put s.devices d after }, Resumed (s.devices d).upto) else (s, Refused UnknownDevice)) (placed sc d station of)
