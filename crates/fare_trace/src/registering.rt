@@ -2,7 +2,7 @@ ghost use Rattle.std.specs.Prelude.{◌≡◌, Some, IfOk};
 ghost use Rattle.fare_scheme.specs.Sealing.{seal_refusal};
 ghost use Rattle.fare_scheme.specs.Demo.{demo_refusal, demo_scheme};
 ghost use Rattle.fare_trace.specs.Answers.{Demonstrates, Seals, SetsUp, SetsZone, accepted as accepted_draft, add_refusal, refused as refused_draft, seal_name};
-ghost use Rattle.fare_trace.specs.Registration.{AfterAdding, answer_of};
+ghost use Rattle.fare_trace.specs.Registration.{AddsNothing, AfterAdding, answer_of};
 
 use crate::line::SchemeLine;
 use crate::zone_text::ZoneText;
@@ -19,6 +19,9 @@ pub enum Registration {
     /// The sealed scheme.
     Sealed { scheme: Scheme },
 }
+
+/// What a scheme line before the seal is answered. The error is want of memory.
+pub type Answer = Result<(Registration, Reply), AllocError>;
 
 /// The draft goes on, and the line was accepted.
 fn accept(draft: Draft) -> (Registration, Reply)
@@ -60,11 +63,7 @@ fn seal_refusal_of(fault: SealFault) -> Refusal
 }
 
 /// The answer to an addition to the draft.
-fn after_adding(
-    draft: Draft,
-    used: bool,
-    added: Result<(), AddFault>,
-) -> Result<(Registration, Reply), AllocError>
+fn after_adding(draft: Draft, used: bool, added: Result<(), AddFault>) -> Answer
     ensures { IfOk result (λ answer. AfterAdding draft used added (answer_of answer)) }
 {
     match added {
@@ -96,7 +95,7 @@ fn seal(draft: Draft, used: bool) -> (Registration, Reply)
     }
 }
 
-/// The answer to the line of a demonstration scheme. The error is want of memory.
+/// The answer to the line of a demonstration scheme.
 fn demonstrate(
     alloc: Global,
     draft: Draft,
@@ -105,7 +104,7 @@ fn demonstrate(
     buffer: u32,
     inbox: u32,
     lane: u32,
-) -> Result<(Registration, Reply), AllocError>
+) -> Answer
     ensures { IfOk result (λ answer. Demonstrates draft used (demo_refusal buffer inbox lane) (demo_scheme size buffer inbox lane) (answer_of answer)) }
 {
     if used {
@@ -118,13 +117,43 @@ fn demonstrate(
     }
 }
 
-/// The answer to a scheme line before the seal. The error is want of memory.
-pub fn set_up(
-    alloc: Global,
-    mut draft: Draft,
-    used: bool,
-    line: &SchemeLine,
-) -> Result<(Registration, Reply), AllocError>
+/// The answer to a scheme line that adds nothing to the lists of the draft.
+fn set_or_seal(alloc: Global, mut draft: Draft, used: bool, line: &SchemeLine) -> Answer
+    requires { AddsNothing line.now }
+    ensures { IfOk result (λ answer. SetsUp draft used line.now (answer_of answer)) }
+{
+    match line {
+        SchemeLine::Caps {
+            product,
+            daily,
+            weekly,
+        } => match draft.set_caps(*product, *daily, *weekly) {
+            Ok(()) => Ok(accept(draft)),
+            Err(CapsFault::UnknownParent) => Ok(refuse(draft, used, Refusal::UnknownParent)),
+            Err(CapsFault::Range) => Ok(refuse(draft, used, Refusal::Range)),
+        },
+        SchemeLine::Inbox { capacity } => match draft.set_inbox(*capacity) {
+            Ok(()) => Ok(accept(draft)),
+            Err(_) => Ok(refuse(draft, used, Refusal::Range)),
+        },
+        SchemeLine::Zone { rule } => Ok(set_zone(draft, used, rule)),
+        SchemeLine::Start { day } => match draft.set_start(*day) {
+            Ok(()) => Ok(accept(draft)),
+            Err(_) => Ok(refuse(draft, used, Refusal::Range)),
+        },
+        SchemeLine::Seal => Ok(seal(draft, used)),
+        SchemeLine::Demo {
+            size,
+            buffer,
+            inbox,
+            lane,
+        } => demonstrate(alloc, draft, used, *size, *buffer, *inbox, *lane),
+        _ => unreachable!(),
+    }
+}
+
+/// The answer to a scheme line before the seal.
+pub fn set_up(alloc: Global, mut draft: Draft, used: bool, line: &SchemeLine) -> Answer
     ensures { IfOk result (λ answer. SetsUp draft used line.now (answer_of answer)) }
 {
     match line {
@@ -148,15 +177,6 @@ pub fn set_up(
             let added = draft.add_product(*product, *owner, *fare);
             after_adding(draft, used, added)
         }
-        SchemeLine::Caps {
-            product,
-            daily,
-            weekly,
-        } => match draft.set_caps(*product, *daily, *weekly) {
-            Ok(()) => Ok(accept(draft)),
-            Err(CapsFault::UnknownParent) => Ok(refuse(draft, used, Refusal::UnknownParent)),
-            Err(CapsFault::Range) => Ok(refuse(draft, used, Refusal::Range)),
-        },
         SchemeLine::Device {
             device,
             station,
@@ -165,21 +185,6 @@ pub fn set_up(
             let added = draft.add_device(*device, *station, *buffer);
             after_adding(draft, used, added)
         }
-        SchemeLine::Inbox { capacity } => match draft.set_inbox(*capacity) {
-            Ok(()) => Ok(accept(draft)),
-            Err(_) => Ok(refuse(draft, used, Refusal::Range)),
-        },
-        SchemeLine::Zone { rule } => Ok(set_zone(draft, used, rule)),
-        SchemeLine::Start { day } => match draft.set_start(*day) {
-            Ok(()) => Ok(accept(draft)),
-            Err(_) => Ok(refuse(draft, used, Refusal::Range)),
-        },
-        SchemeLine::Seal => Ok(seal(draft, used)),
-        SchemeLine::Demo {
-            size,
-            buffer,
-            inbox,
-            lane,
-        } => demonstrate(alloc, draft, used, *size, *buffer, *inbox, *lane),
+        _ => set_or_seal(alloc, draft, used, line),
     }
 }
