@@ -6,14 +6,14 @@ use borrow.Author.Tests.{ltb-true}
 use Rattle.fare_trace.specs.declared.keyword.Keyword.{Keyword}
 use Rattle.fare_trace.specs.declared.keyword.Keyword.TheVariants.{OfScheme, OfEvent}
 use Rattle.fare_trace.specs.declared.keyword.SchemeKeyword.TheVariants.{Owner, Operator, Station, Product, Caps, Device, Inbox, Start, Seal, Demo}
-use Rattle.fare_trace.specs.declared.keyword.EventKeyword.TheVariants.{Tap, Send, Arrive, Draw, Store, Forward, Fetch, Take, Upto, Count}
+use Rattle.fare_trace.specs.declared.keyword.EventKeyword.TheVariants.{Tap, Send, Rewind, Arrive, Draw, Store, Ack, Answer, Forward, Fetch, Take, Resume, RestartDevice, RestartStation, RestartWriter, Upto, Count}
 use Rattle.fare_trace.specs.Reading.{any_keyword}
 use Rattle.fare_trace.specs.Grammar.{keyword_text}
 use Rattle.fare_trace.proofs.Cuts.{Lacks}
 
 -- a row for each keyword
 abbrev pub keywords : List Keyword
-keywords = OfScheme Owner ∷ OfScheme Operator ∷ OfScheme Station ∷ OfScheme Product ∷ OfScheme Caps ∷ OfScheme Device ∷ OfScheme Inbox ∷ OfScheme Start ∷ OfScheme Seal ∷ OfScheme Demo ∷ OfEvent Tap ∷ OfEvent Send ∷ OfEvent Arrive ∷ OfEvent Draw ∷ OfEvent Store ∷ OfEvent Forward ∷ OfEvent Fetch ∷ OfEvent Take ∷ OfEvent Upto ∷ OfEvent Count ∷ []
+keywords = OfScheme Owner ∷ OfScheme Operator ∷ OfScheme Station ∷ OfScheme Product ∷ OfScheme Caps ∷ OfScheme Device ∷ OfScheme Inbox ∷ OfScheme Start ∷ OfScheme Seal ∷ OfScheme Demo ∷ OfEvent Tap ∷ OfEvent Send ∷ OfEvent Rewind ∷ OfEvent Arrive ∷ OfEvent Draw ∷ OfEvent Store ∷ OfEvent Ack ∷ OfEvent Answer ∷ OfEvent Forward ∷ OfEvent Fetch ∷ OfEvent Take ∷ OfEvent Resume ∷ OfEvent RestartDevice ∷ OfEvent RestartStation ∷ OfEvent RestartWriter ∷ OfEvent Upto ∷ OfEvent Count ∷ []
 
 abbrev pub place : Keyword → ℕ
 place (OfScheme Owner) = 0
@@ -28,14 +28,21 @@ place (OfScheme Seal) = 8
 place (OfScheme Demo) = 9
 place (OfEvent Tap) = 10
 place (OfEvent Send) = 11
-place (OfEvent Arrive) = 12
-place (OfEvent Draw) = 13
-place (OfEvent Store) = 14
-place (OfEvent Forward) = 15
-place (OfEvent Fetch) = 16
-place (OfEvent Take) = 17
-place (OfEvent Upto) = 18
-place (OfEvent Count) = 19
+place (OfEvent Rewind) = 12
+place (OfEvent Arrive) = 13
+place (OfEvent Draw) = 14
+place (OfEvent Store) = 15
+place (OfEvent Ack) = 16
+place (OfEvent Answer) = 17
+place (OfEvent Forward) = 18
+place (OfEvent Fetch) = 19
+place (OfEvent Take) = 20
+place (OfEvent Resume) = 21
+place (OfEvent RestartDevice) = 22
+place (OfEvent RestartStation) = 23
+place (OfEvent RestartWriter) = 24
+place (OfEvent Upto) = 25
+place (OfEvent Count) = 26
 
 pub at_place : (k : Keyword) → (place k < length keywords) × (get_or keywords (place k) any_keyword ≡ k)
 at_place (OfScheme Owner) = (lit< tt, refl)
@@ -50,12 +57,19 @@ at_place (OfScheme Seal) = (lit< tt, refl)
 at_place (OfScheme Demo) = (lit< tt, refl)
 at_place (OfEvent Tap) = (lit< tt, refl)
 at_place (OfEvent Send) = (lit< tt, refl)
+at_place (OfEvent Rewind) = (lit< tt, refl)
 at_place (OfEvent Arrive) = (lit< tt, refl)
 at_place (OfEvent Draw) = (lit< tt, refl)
 at_place (OfEvent Store) = (lit< tt, refl)
+at_place (OfEvent Ack) = (lit< tt, refl)
+at_place (OfEvent Answer) = (lit< tt, refl)
 at_place (OfEvent Forward) = (lit< tt, refl)
 at_place (OfEvent Fetch) = (lit< tt, refl)
 at_place (OfEvent Take) = (lit< tt, refl)
+at_place (OfEvent Resume) = (lit< tt, refl)
+at_place (OfEvent RestartDevice) = (lit< tt, refl)
+at_place (OfEvent RestartStation) = (lit< tt, refl)
+at_place (OfEvent RestartWriter) = (lit< tt, refl)
 at_place (OfEvent Upto) = (lit< tt, refl)
 at_place (OfEvent Count) = (lit< tt, refl)
 

@@ -2,7 +2,7 @@
 use Rattle.std.specs.Prelude.{ℕ, ◌<◌, ◌≤◌, List, [], ◌∷◌, ◌++◌, codes, map}
 use Rattle.std.specs.List.{join_with_byte}
 use Rattle.std.specs.Fmt.{decimal}
-use Rattle.fare_record.specs.Limits.{IsDeviceId, IsOwnerId, IsProductId, IsToken, IsMoment}
+use Rattle.fare_record.specs.Limits.{IsDeviceId, IsOwnerId, IsStationId, IsProductId, IsToken, IsMoment}
 use Rattle.fare_scheme.specs.declared.demo.DemoSize.{DemoSize}
 use Rattle.fare_scheme.specs.declared.demo.DemoSize.TheVariants.{OneDevice, TwoDevices}
 use Rattle.fare_world.specs.declared.event.Event.TheVariants as event
@@ -11,7 +11,7 @@ use Rattle.fare_trace.specs.declared.keyword.Keyword.TheVariants.{OfScheme, OfEv
 use Rattle.fare_trace.specs.declared.keyword.SchemeKeyword.{SchemeKeyword}
 use Rattle.fare_trace.specs.declared.keyword.SchemeKeyword.TheVariants.{Owner, Operator, Station, Product, Caps, Device, Inbox, Start, Seal, Demo}
 use Rattle.fare_trace.specs.declared.keyword.EventKeyword.{EventKeyword}
-use Rattle.fare_trace.specs.declared.keyword.EventKeyword.TheVariants.{Tap, Send, Arrive, Draw, Store, Forward, Fetch, Take, Upto, Count}
+use Rattle.fare_trace.specs.declared.keyword.EventKeyword.TheVariants.{Tap, Send, Rewind, Arrive, Draw, Store, Ack, Answer, Forward, Fetch, Take, Resume, RestartDevice, RestartStation, RestartWriter, Upto, Count}
 use Rattle.fare_trace.specs.declared.line.Line.{Line}
 use Rattle.fare_trace.specs.declared.line.Line.TheVariants.{Setup, Step}
 use Rattle.fare_trace.specs.declared.line.SchemeLine.TheVariants as scheme
@@ -34,12 +34,19 @@ scheme_keyword_text Demo = codes "demo "
 abbrev pub event_keyword_text : EventKeyword → List ℕ
 event_keyword_text Tap = codes "tap "
 event_keyword_text Send = codes "send "
+event_keyword_text Rewind = codes "rewind "
 event_keyword_text Arrive = codes "arrive "
 event_keyword_text Draw = codes "draw"
 event_keyword_text Store = codes "store"
+event_keyword_text Ack = codes "ack "
+event_keyword_text Answer = codes "answer "
 event_keyword_text Forward = codes "forward "
 event_keyword_text Fetch = codes "fetch "
 event_keyword_text Take = codes "take "
+event_keyword_text Resume = codes "resume "
+event_keyword_text RestartDevice = codes "restart device "
+event_keyword_text RestartStation = codes "restart station "
+event_keyword_text RestartWriter = codes "restart writer"
 event_keyword_text Upto = codes "upto "
 event_keyword_text Count = codes "count "
 
@@ -51,6 +58,7 @@ keyword_text (OfEvent keyword) = event_keyword_text keyword
 pub data Kind : Type 0 where
   ADevice : Kind
   AnOwner : Kind
+  AStation : Kind
   AProduct : Kind
   AToken : Kind
   AMoment : Kind
@@ -63,6 +71,7 @@ pub data Kind : Type 0 where
 abbrev pub IsOf : Kind → ℕ → Type 0
 IsOf ADevice n = IsDeviceId n
 IsOf AnOwner n = IsOwnerId n
+IsOf AStation n = IsStationId n
 IsOf AProduct n = IsProductId n
 IsOf AToken n = IsToken n
 IsOf AMoment n = IsMoment n
@@ -94,12 +103,19 @@ scheme_keyword_kinds Demo = OneOrTwo ∷ AnyU32 ∷ AnyU32 ∷ AnyU32 ∷ []
 abbrev pub event_keyword_kinds : EventKeyword → List Kind
 event_keyword_kinds Tap = ADevice ∷ AProduct ∷ AToken ∷ AMoment ∷ []
 event_keyword_kinds Send = ADevice ∷ []
+event_keyword_kinds Rewind = ADevice ∷ []
 event_keyword_kinds Arrive = AnyU64 ∷ []
 event_keyword_kinds Draw = []
 event_keyword_kinds Store = []
+event_keyword_kinds Ack = ADevice ∷ []
+event_keyword_kinds Answer = AStation ∷ []
 event_keyword_kinds Forward = AnOwner ∷ ADevice ∷ []
 event_keyword_kinds Fetch = AnOwner ∷ []
 event_keyword_kinds Take = AnOwner ∷ []
+event_keyword_kinds Resume = ADevice ∷ []
+event_keyword_kinds RestartDevice = ADevice ∷ []
+event_keyword_kinds RestartStation = AStation ∷ []
+event_keyword_kinds RestartWriter = []
 event_keyword_kinds Upto = ADevice ∷ []
 event_keyword_kinds Count = AnOwner ∷ ADevice ∷ []
 
@@ -133,12 +149,19 @@ line_parts (Setup scheme.Seal) = Numbered (OfScheme Seal) []
 line_parts (Setup (scheme.Demo size buffer inbox lane)) = Numbered (OfScheme Demo) (size_number size ∷ buffer ∷ inbox ∷ lane ∷ [])
 line_parts (Step (event.Tap device product token moment)) = Numbered (OfEvent Tap) (device ∷ product ∷ token ∷ moment ∷ [])
 line_parts (Step (event.Send device)) = Numbered (OfEvent Send) (device ∷ [])
+line_parts (Step (event.Rewind device)) = Numbered (OfEvent Rewind) (device ∷ [])
 line_parts (Step (event.Arrive packet)) = Numbered (OfEvent Arrive) (packet ∷ [])
 line_parts (Step event.Draw) = Numbered (OfEvent Draw) []
 line_parts (Step event.Store) = Numbered (OfEvent Store) []
+line_parts (Step (event.Ack device)) = Numbered (OfEvent Ack) (device ∷ [])
+line_parts (Step (event.Answer station)) = Numbered (OfEvent Answer) (station ∷ [])
 line_parts (Step (event.Forward owner device)) = Numbered (OfEvent Forward) (owner ∷ device ∷ [])
 line_parts (Step (event.Fetch owner)) = Numbered (OfEvent Fetch) (owner ∷ [])
 line_parts (Step (event.Take owner)) = Numbered (OfEvent Take) (owner ∷ [])
+line_parts (Step (event.Resume device)) = Numbered (OfEvent Resume) (device ∷ [])
+line_parts (Step (event.RestartDevice device)) = Numbered (OfEvent RestartDevice) (device ∷ [])
+line_parts (Step (event.RestartStation station)) = Numbered (OfEvent RestartStation) (station ∷ [])
+line_parts (Step event.RestartWriter) = Numbered (OfEvent RestartWriter) []
 line_parts (Step (event.Upto device)) = Numbered (OfEvent Upto) (device ∷ [])
 line_parts (Step (event.Count owner device)) = Numbered (OfEvent Count) (owner ∷ device ∷ [])
 

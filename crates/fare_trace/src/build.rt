@@ -2,7 +2,8 @@ ghost use Rattle.std.specs.Prelude.{◌≡◌, ◌≤◌, [], ◌∷◌, ◌++�
 ghost use Rattle.fare_trace.specs.declared.keyword.Keyword.TheVariants.{OfScheme, OfEvent};
 ghost use Rattle.fare_trace.specs.declared.keyword.SchemeKeyword.TheVariants.{Demo};
 ghost use Rattle.fare_trace.specs.declared.line.Line.TheVariants.{Setup, Step};
-ghost use Rattle.fare_trace.specs.Grammar.{AreOf, event_keyword_kinds, scheme_keyword_kinds, size_number};
+ghost use Rattle.fare_record.specs.Limits.{IsDeviceId};
+ghost use Rattle.fare_trace.specs.Grammar.{ADevice, AreOf, event_keyword_kinds, scheme_keyword_kinds, size_number};
 ghost use Rattle.fare_trace.specs.Reading.{Builds, IsBuilt, ReadsLine, ReadsNumbered};
 
 use crate::cut::cut_at_digit;
@@ -10,7 +11,7 @@ use crate::keyword::{EventKeyword, Keyword, SchemeKeyword};
 use crate::line::{Line, SchemeLine};
 use crate::number::read_numbers;
 use crate::zone_text::ZoneText;
-use fare_record::{DeviceId, Moment, OwnerId, ProductId, Token};
+use fare_record::{DeviceId, Moment, OwnerId, ProductId, StationId, Token};
 use fare_scheme::DemoSize;
 use fare_world::Event;
 use std::alloc::{AllocError, Global};
@@ -87,40 +88,80 @@ fn build_setup(keyword: SchemeKeyword, numbers: &[u64]) -> Option<SchemeLine>
     }
 }
 
+/// The event of a keyword that no number follows, if it is one.
+fn build_bare_event(keyword: EventKeyword) -> Option<Event>
+    ensures some { IfSome result (λ event. IsBuilt (OfEvent keyword) [] (Step event)) }
+    ensures none { IfNone result (AreOf (event_keyword_kinds keyword) [] → ⊥) }
+{
+    match keyword {
+        EventKeyword::Draw => Some(Event::Draw),
+        EventKeyword::Store => Some(Event::Store),
+        EventKeyword::RestartWriter => Some(Event::RestartWriter),
+        _ => None,
+    }
+}
+
+/// The event of a keyword that the number of a device alone follows, if it is one.
+fn build_device_event(keyword: EventKeyword, number: u64) -> Option<Event>
+    ensures some { IfSome result (λ event. IsBuilt (OfEvent keyword) (number ∷ []) (Step event)) }
+    ensures none { IfNone result (event_keyword_kinds keyword ≡ ADevice ∷ [] → IsDeviceId number → ⊥) }
+{
+    let device = DeviceId::new(number)?;
+    match keyword {
+        EventKeyword::Send => Some(Event::Send { device }),
+        EventKeyword::Rewind => Some(Event::Rewind { device }),
+        EventKeyword::Ack => Some(Event::Ack { device }),
+        EventKeyword::Resume => Some(Event::Resume { device }),
+        EventKeyword::RestartDevice => Some(Event::RestartDevice { device }),
+        EventKeyword::Upto => Some(Event::Upto { device }),
+        _ => None,
+    }
+}
+
+/// The event of a keyword that this number alone follows, if there is one.
+fn build_single_event(keyword: EventKeyword, number: u64) -> Option<Event>
+    ensures some { IfSome result (λ event. IsBuilt (OfEvent keyword) (number ∷ []) (Step event)) }
+    ensures none { IfNone result (AreOf (event_keyword_kinds keyword) (number ∷ []) → ⊥) }
+{
+    match keyword {
+        EventKeyword::Arrive => Some(Event::Arrive { packet: number }),
+        EventKeyword::Answer => Some(Event::Answer {
+            station: StationId::new(number)?,
+        }),
+        EventKeyword::RestartStation => Some(Event::RestartStation {
+            station: StationId::new(number)?,
+        }),
+        EventKeyword::Fetch => Some(Event::Fetch {
+            owner: OwnerId::new(number)?,
+        }),
+        EventKeyword::Take => Some(Event::Take {
+            owner: OwnerId::new(number)?,
+        }),
+        _ => build_device_event(keyword, number),
+    }
+}
+
 /// The event line of a keyword and its numbers, if there is one.
 fn build_event(keyword: EventKeyword, numbers: &[u64]) -> Option<Event>
     ensures some { IfSome result (λ event. IsBuilt (OfEvent keyword) numbers.now (Step event)) }
     ensures none { IfNone result (AreOf (event_keyword_kinds keyword) numbers.now → ⊥) }
 {
     match (keyword, numbers) {
-        (EventKeyword::Tap, [device, product, token, moment]) => Some(Event::Tap {
-            device: DeviceId::new(*device)?,
-            product: ProductId::new(*product)?,
-            token: Token::new(*token)?,
-            moment: Moment::new(*moment)?,
-        }),
-        (EventKeyword::Send, [device]) => Some(Event::Send {
-            device: DeviceId::new(*device)?,
-        }),
-        (EventKeyword::Arrive, [packet]) => Some(Event::Arrive { packet: *packet }),
-        (EventKeyword::Draw, []) => Some(Event::Draw),
-        (EventKeyword::Store, []) => Some(Event::Store),
+        (_, []) => build_bare_event(keyword),
+        (_, [number]) => build_single_event(keyword, *number),
         (EventKeyword::Forward, [owner, device]) => Some(Event::Forward {
             owner: OwnerId::new(*owner)?,
-            device: DeviceId::new(*device)?,
-        }),
-        (EventKeyword::Fetch, [owner]) => Some(Event::Fetch {
-            owner: OwnerId::new(*owner)?,
-        }),
-        (EventKeyword::Take, [owner]) => Some(Event::Take {
-            owner: OwnerId::new(*owner)?,
-        }),
-        (EventKeyword::Upto, [device]) => Some(Event::Upto {
             device: DeviceId::new(*device)?,
         }),
         (EventKeyword::Count, [owner, device]) => Some(Event::Count {
             owner: OwnerId::new(*owner)?,
             device: DeviceId::new(*device)?,
+        }),
+        (EventKeyword::Tap, [device, product, token, moment]) => Some(Event::Tap {
+            device: DeviceId::new(*device)?,
+            product: ProductId::new(*product)?,
+            token: Token::new(*token)?,
+            moment: Moment::new(*moment)?,
         }),
         _ => None,
     }

@@ -22,12 +22,19 @@ pub enum SchemeKeyword {
 pub enum EventKeyword {
     Tap,
     Send,
+    Rewind,
     Arrive,
     Draw,
     Store,
+    Ack,
+    Answer,
     Forward,
     Fetch,
     Take,
+    Resume,
+    RestartDevice,
+    RestartStation,
+    RestartWriter,
     Upto,
     Count,
 }
@@ -67,12 +74,19 @@ impl EventKeyword {
         match self {
             EventKeyword::Tap => b"tap ",
             EventKeyword::Send => b"send ",
+            EventKeyword::Rewind => b"rewind ",
             EventKeyword::Arrive => b"arrive ",
             EventKeyword::Draw => b"draw",
             EventKeyword::Store => b"store",
+            EventKeyword::Ack => b"ack ",
+            EventKeyword::Answer => b"answer ",
             EventKeyword::Forward => b"forward ",
             EventKeyword::Fetch => b"fetch ",
             EventKeyword::Take => b"take ",
+            EventKeyword::Resume => b"resume ",
+            EventKeyword::RestartDevice => b"restart device ",
+            EventKeyword::RestartStation => b"restart station ",
+            EventKeyword::RestartWriter => b"restart writer",
             EventKeyword::Upto => b"upto ",
             EventKeyword::Count => b"count ",
         }
@@ -81,7 +95,7 @@ impl EventKeyword {
 
 impl Keyword {
     /// Each keyword once.
-    const ALL: [Keyword; 20] = [
+    const ALL: [Keyword; 27] = [
         Keyword::OfScheme(SchemeKeyword::Owner),
         Keyword::OfScheme(SchemeKeyword::Operator),
         Keyword::OfScheme(SchemeKeyword::Station),
@@ -94,12 +108,19 @@ impl Keyword {
         Keyword::OfScheme(SchemeKeyword::Demo),
         Keyword::OfEvent(EventKeyword::Tap),
         Keyword::OfEvent(EventKeyword::Send),
+        Keyword::OfEvent(EventKeyword::Rewind),
         Keyword::OfEvent(EventKeyword::Arrive),
         Keyword::OfEvent(EventKeyword::Draw),
         Keyword::OfEvent(EventKeyword::Store),
+        Keyword::OfEvent(EventKeyword::Ack),
+        Keyword::OfEvent(EventKeyword::Answer),
         Keyword::OfEvent(EventKeyword::Forward),
         Keyword::OfEvent(EventKeyword::Fetch),
         Keyword::OfEvent(EventKeyword::Take),
+        Keyword::OfEvent(EventKeyword::Resume),
+        Keyword::OfEvent(EventKeyword::RestartDevice),
+        Keyword::OfEvent(EventKeyword::RestartStation),
+        Keyword::OfEvent(EventKeyword::RestartWriter),
         Keyword::OfEvent(EventKeyword::Upto),
         Keyword::OfEvent(EventKeyword::Count),
     ];

@@ -24,6 +24,7 @@ fn name_of(refusal: Refusal) -> &'static [u8]
         Refusal::BadZone => b"BadZone",
         Refusal::UnknownDevice => b"UnknownDevice",
         Refusal::UnknownOwner => b"UnknownOwner",
+        Refusal::UnknownStation => b"UnknownStation",
         Refusal::BadMoment => b"BadMoment",
         Refusal::UnknownProduct => b"UnknownProduct",
         Refusal::DayClosed => b"DayClosed",
@@ -31,8 +32,11 @@ fn name_of(refusal: Refusal) -> &'static [u8]
         Refusal::NumbersSpent => b"NumbersSpent",
         Refusal::BufferFull => b"BufferFull",
         Refusal::NoPacket => b"NoPacket",
+        Refusal::Stranger => b"Stranger",
+        Refusal::Misrouted => b"Misrouted",
         Refusal::Old => b"Old",
         Refusal::Ahead => b"Ahead",
+        Refusal::AckAhead => b"AckAhead",
         Refusal::HandFull => b"HandFull",
         Refusal::Duplicate => b"Duplicate",
         Refusal::Gap => b"Gap",
@@ -104,6 +108,20 @@ fn append_record(link: u64, lane: u64, out: &mut Vec<u8>) -> Result<(), AllocErr
     append_line(b"record", &[link, lane], out)
 }
 
+/// Appends the packet of an acknowledgement, with its device and its last link.
+fn append_answer(packet: u64, device: u64, upto: u64, out: &mut Vec<u8>) -> Result<(), AllocError>
+    ensures appended { OnOk result (out.new.items ≡ out.old.items ++ reply_text (Reply.Answered packet device upto)) }
+    ensures kept { OnErr result (out.new.items ≡ out.old.items) }
+{
+    let mut one = Buffer::new();
+    let mut two = Buffer::new();
+    let mut three = Buffer::new();
+    let packet = one.format(packet).as_bytes();
+    let device = two.format(device).as_bytes();
+    let upto = three.format(upto).as_bytes();
+    append_line(b"packet", &[packet, b"ack", device, upto], out)
+}
+
 /// Appends a reply's line, ended by a line feed. The error is want of memory, and after it `out` is as before.
 pub fn print_reply(reply: &Reply, out: &mut Vec<u8>) -> Result<(), AllocError>
     ensures appended { OnOk result (out.new.items ≡ out.old.items ++ reply_text reply.now) }
@@ -113,7 +131,9 @@ pub fn print_reply(reply: &Reply, out: &mut Vec<u8>) -> Result<(), AllocError>
         Reply::Done => append_line(b"ok", &[], out),
         Reply::Idle => append_line(b"idle", &[], out),
         Reply::Empty => append_line(b"empty", &[], out),
+        Reply::Rewound => append_line(b"rewound", &[], out),
         Reply::Accepted => append_line(b"accepted", &[], out),
+        Reply::Restarted => append_line(b"restarted", &[], out),
         Reply::Refused(refusal) => append_line(b"refused", &[name_of(refusal)], out),
         Reply::Recorded { link, lane } => append_record(link, lane, out),
         Reply::Sent { packet, link } => append_numbers(b"packet", packet, b"link", link, out),
@@ -130,6 +150,14 @@ pub fn print_reply(reply: &Reply, out: &mut Vec<u8>) -> Result<(), AllocError>
         Reply::Taken { device, lane } => {
             append_numbers(b"taken", u64::from(device.get()), b"lane", lane, out)
         }
+        Reply::Dropped(count) => append_number(b"acked", count, out),
+        Reply::Acknowledged(upto) => append_number(b"ack", upto, out),
+        Reply::Answered {
+            packet,
+            device,
+            upto,
+        } => append_answer(packet, u64::from(device.get()), upto, out),
+        Reply::Resumed(upto) => append_number(b"resumed", upto, out),
         Reply::Upto(number) => append_number(b"upto", number, out),
         Reply::Count(number) => append_number(b"count", number, out),
     }

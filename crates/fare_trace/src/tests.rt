@@ -1,5 +1,5 @@
 use crate::{Line, ParseFault, ReplayFault, SchemeLine, parse, print_reply, replay};
-use fare_record::DeviceId;
+use fare_record::{DeviceId, StationId};
 use fare_scheme::DemoSize;
 use fare_world::{Event, Refusal, Reply};
 use std::io;
@@ -407,6 +407,49 @@ fn parses_event_lines(rt: HostRuntime) -> Result<(), Fail> {
 }
 
 #[test]
+fn parses_acknowledging_lines(rt: HostRuntime) -> Result<(), Fail> {
+    let lines = parse(
+        rt.alloc(),
+        b"rewind 4294967295\nack 4294967295\nanswer 65535\nresume 4294967295\n",
+    )?;
+    let device = DeviceId::new(4294967295).unwrap();
+    let station = StationId::new(65535).unwrap();
+    let want = [
+        Event::Rewind { device },
+        Event::Ack { device },
+        Event::Answer { station },
+        Event::Resume { device },
+    ];
+    assert_eq!(rt; lines.len(), want.len());
+    for (line, event) in lines.iter().zip(&want) {
+        assert!(rt; matches!(line, Line::Step(line) if line == event));
+    }
+    Ok(())
+}
+
+#[test]
+fn parses_restart_lines(rt: HostRuntime) -> Result<(), Fail> {
+    let lines = parse(
+        rt.alloc(),
+        b"restart device 7\nrestart station 9\nrestart writer\n",
+    )?;
+    let want = [
+        Event::RestartDevice {
+            device: DeviceId::new(7).unwrap(),
+        },
+        Event::RestartStation {
+            station: StationId::new(9).unwrap(),
+        },
+        Event::RestartWriter,
+    ];
+    assert_eq!(rt; lines.len(), want.len());
+    for (line, event) in lines.iter().zip(&want) {
+        assert!(rt; matches!(line, Line::Step(line) if line == event));
+    }
+    Ok(())
+}
+
+#[test]
 fn parses_scheme_lines(rt: HostRuntime) -> Result<(), Fail> {
     let lines = parse(
         rt.alloc(),
@@ -558,6 +601,49 @@ fn refuses_bad_lines(rt: HostRuntime) -> Result<(), Fail> {
 }
 
 #[test]
+fn refuses_bad_acknowledging_lines(rt: HostRuntime) -> Result<(), Fail> {
+    let cases: [&[u8]; 10] = [
+        b"rewind",
+        b"rewind 1 1",
+        b"rewind 0",
+        b"ack 4294967296",
+        b"ack 01",
+        b"answer",
+        b"answer 0",
+        b"answer 65536",
+        b"resume 0",
+        b"resume  1",
+    ];
+    for text in cases {
+        let fault = parse(rt.alloc(), text).err();
+        assert_eq!(rt; fault, Some(ParseFault::BadLine { line: 1 }));
+    }
+    Ok(())
+}
+
+#[test]
+fn refuses_bad_restart_lines(rt: HostRuntime) -> Result<(), Fail> {
+    let cases: [&[u8]; 11] = [
+        b"restart",
+        b"restart ",
+        b"restart device",
+        b"restart device 0",
+        b"restart device  1",
+        b"restart station 65536",
+        b"restart hub",
+        b"restart 1",
+        b"restart  writer",
+        b"restart writer ",
+        b"restart writer 1",
+    ];
+    for text in cases {
+        let fault = parse(rt.alloc(), text).err();
+        assert_eq!(rt; fault, Some(ParseFault::BadLine { line: 1 }));
+    }
+    Ok(())
+}
+
+#[test]
 fn prints_replies(rt: HostRuntime) -> Result<(), Fail> {
     let device = DeviceId::new(4294967295).unwrap();
     let replies = [
@@ -594,6 +680,44 @@ fetched 4294967295 lane 4
 taken 4294967295 lane 4
 upto 18446744073709551615
 count 0
+";
+    assert_eq!(rt; text.as_slice(), want);
+    Ok(())
+}
+
+#[test]
+fn prints_replies_of_acknowledging_and_restarts(rt: HostRuntime) -> Result<(), Fail> {
+    let device = DeviceId::new(4294967295).unwrap();
+    let replies = [
+        Reply::Rewound,
+        Reply::Dropped(3),
+        Reply::Acknowledged(5),
+        Reply::Answered {
+            packet: 9,
+            device,
+            upto: 5,
+        },
+        Reply::Resumed(0),
+        Reply::Restarted,
+        Reply::Refused(Refusal::UnknownStation),
+        Reply::Refused(Refusal::Stranger),
+        Reply::Refused(Refusal::Misrouted),
+        Reply::Refused(Refusal::AckAhead),
+    ];
+    let mut text = Vec::new(rt.alloc());
+    for reply in &replies {
+        print_reply(reply, &mut text)?;
+    }
+    let want: &[u8] = b"rewound
+acked 3
+ack 5
+packet 9 ack 4294967295 5
+resumed 0
+restarted
+refused UnknownStation
+refused Stranger
+refused Misrouted
+refused AckAhead
 ";
     assert_eq!(rt; text.as_slice(), want);
     Ok(())
