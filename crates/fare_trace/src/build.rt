@@ -1,8 +1,8 @@
 ghost use Rattle.std.specs.Prelude.{◌≡◌, ◌≤◌, [], ◌∷◌, ◌++◌, ℕ, List, codes, IfOk, IfSome, IfNone};
+ghost use Rattle.fare_record.specs.Limits.{IsDeviceId};
 ghost use Rattle.fare_trace.specs.declared.keyword.Keyword.TheVariants.{OfScheme, OfEvent};
 ghost use Rattle.fare_trace.specs.declared.keyword.SchemeKeyword.TheVariants.{Demo};
 ghost use Rattle.fare_trace.specs.declared.line.Line.TheVariants.{Setup, Step};
-ghost use Rattle.fare_record.specs.Limits.{IsDeviceId};
 ghost use Rattle.fare_trace.specs.Grammar.{ADevice, AreOf, event_keyword_kinds, scheme_keyword_kinds, size_number};
 ghost use Rattle.fare_trace.specs.Reading.{Builds, IsBuilt, ReadsLine, ReadsNumbered};
 
@@ -42,18 +42,35 @@ fn build_demo(devices: u64, buffer: u64, inbox: u64, lane: u64) -> Option<Scheme
     })
 }
 
+/// The scheme line of a keyword that this number alone follows, if there is one.
+fn build_single_setup(keyword: SchemeKeyword, number: u64) -> Option<SchemeLine>
+    ensures some { IfSome result (λ line. IsBuilt (OfScheme keyword) (number ∷ []) (Setup line)) }
+    ensures none { IfNone result (AreOf (scheme_keyword_kinds keyword) (number ∷ []) → ⊥) }
+{
+    match keyword {
+        SchemeKeyword::Operator => Some(SchemeLine::Operator {
+            operator: u16::try_from(number).ok()?,
+        }),
+        SchemeKeyword::Inbox => Some(SchemeLine::Inbox {
+            capacity: u32::try_from(number).ok()?,
+        }),
+        SchemeKeyword::Start => Some(SchemeLine::Start {
+            day: u32::try_from(number).ok()?,
+        }),
+        _ => None,
+    }
+}
+
 /// The scheme line of a keyword and its numbers, if there is one.
 fn build_setup(keyword: SchemeKeyword, numbers: &[u64]) -> Option<SchemeLine>
     ensures some { IfSome result (λ line. IsBuilt (OfScheme keyword) numbers.now (Setup line)) }
     ensures none { IfNone result (AreOf (scheme_keyword_kinds keyword) numbers.now → ⊥) }
 {
     match (keyword, numbers) {
+        (_, [number]) => build_single_setup(keyword, *number),
         (SchemeKeyword::Owner, [owner, lane]) => Some(SchemeLine::Owner {
             owner: u16::try_from(*owner).ok()?,
             lane: u32::try_from(*lane).ok()?,
-        }),
-        (SchemeKeyword::Operator, [operator]) => Some(SchemeLine::Operator {
-            operator: u16::try_from(*operator).ok()?,
         }),
         (SchemeKeyword::Station, [station, operator]) => Some(SchemeLine::Station {
             station: u16::try_from(*station).ok()?,
@@ -73,12 +90,6 @@ fn build_setup(keyword: SchemeKeyword, numbers: &[u64]) -> Option<SchemeLine>
             device: u32::try_from(*device).ok()?,
             station: u16::try_from(*station).ok()?,
             buffer: u32::try_from(*buffer).ok()?,
-        }),
-        (SchemeKeyword::Inbox, [capacity]) => Some(SchemeLine::Inbox {
-            capacity: u32::try_from(*capacity).ok()?,
-        }),
-        (SchemeKeyword::Start, [day]) => Some(SchemeLine::Start {
-            day: u32::try_from(*day).ok()?,
         }),
         (SchemeKeyword::Seal, []) => Some(SchemeLine::Seal),
         (SchemeKeyword::Demo, [devices, buffer, inbox, lane]) => {
