@@ -1,11 +1,10 @@
 -- What a world shows after an arrival, an acknowledgement, its answer, a rewind and a resume.
-use Rattle.std.proofs.Common.{◌≡◌, ℕ, zero, suc, ◌+◌, ◌-◌, ◌<◌, ◌≤◌, List, [], ◌∷◌, ◌++◌, length, take, drop, max, Some, None, Bool, true, false, refl, sym, ap, ◌∙◌, subst, arith}
-use Rattle.std.specs.Prelude.{◌==◌, slice_get, if◌then◌else◌, Option, IfSome, is_some, Result, Ok, Err, option_map}
+use Rattle.std.proofs.Common.{◌≡◌, ℕ, zero, suc, ◌+◌, ◌-◌, ◌<◌, ◌≤◌, List, [], ◌∷◌, ◌++◌, length, drop, max, Some, None, Bool, true, false, refl, sym, ap, ◌∙◌, subst, arith}
+use Rattle.std.specs.Prelude.{◌==◌, slice_get, if◌then◌else◌, Option, IfSome, is_some, Ok, Err, option_map}
 use Rattle.std.proofs.lemmas.Bool.Decides.{nat_tests, Decides-eqb}
 use Rattle.std.proofs.Math.Seq.{drop-nil}
 use Rattle.std.proofs.lemmas.Option.{slice_get_within}
 use Rattle.fare_record.specs.Values.{RecordValue, AckValue}
-use Rattle.fare_record.specs.Lanes.{part}
 use Rattle.fare_scheme.specs.Values.{SchemeValue}
 use Rattle.fare_scheme.specs.Words.{station_of, position_of_device, position_of_station}
 use Rattle.fare_collector.specs.Collecting.{is_id, is_owned, collect_judged, changed}
@@ -16,12 +15,11 @@ use Rattle.fare_frame.specs.Grammar.{frame_bytes, tap_of, ack_of, IsFrame}
 use Rattle.fare_frame.specs.declared.frame.Frame.{Frame}
 use Rattle.fare_frame.specs.declared.frame.Frame.TheVariants as frame
 use Rattle.fare_world.specs.declared.event.Event.TheVariants as event
-use Rattle.fare_world.specs.declared.reply.Refusal.{Refusal}
 use Rattle.fare_world.specs.declared.reply.Refusal.TheVariants.{NoPacket, Stranger, UnknownDevice, UnknownStation}
 use Rattle.fare_world.specs.declared.reply.Reply.{Reply}
 use Rattle.fare_world.specs.declared.reply.Reply.TheVariants.{Empty, Refused, Rewound, Accepted, Dropped, Acknowledged, Answered, Resumed, Restarted}
 use Rattle.fare_world.specs.System.{put, Packet, Tapped, Acked, Tap_of, Answer, Ack_of, DeviceState, System}
-use Rattle.fare_world.specs.Packets.{bytes_at, IsRead, IsPacketRead}
+use Rattle.fare_world.specs.Packets.{bytes_at, IsPacketRead}
 use Rattle.fare_world.specs.Steps.{rewound, rewind, tap_at, is_owned_tap, next_at, refusal_of, accepted, judged, tap_comes, heard, ack_comes, comes, packet_at, arrive, ack_by, answer_from, resumed_device, resume, restart_device, resumed_devices, restart_station}
 use Rattle.fare_world.specs.Steps as step
 use Rattle.fare_world.specs.Shown.{IsDevice, IsSystem, IsAck, IsPacket, IsAt, IsPacketOf, IsArrivedOf, IsAnswerOf, IsDeviceOf, IsStationOf, Both, Each2, StationShape, Shape, Shows}

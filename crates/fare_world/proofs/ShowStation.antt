@@ -10,7 +10,7 @@ use Rattle.fare_world.specs.declared.station.Station.{Station}
 use Rattle.fare_world.specs.declared.world.World.{World}
 use Rattle.fare_world.specs.System.{put, System}
 use Rattle.fare_world.specs.Rooms.{HasRooms}
-use Rattle.fare_world.specs.Shown.{entry, StationShape}
+use Rattle.fare_world.specs.Shown.{entry}
 use Rattle.fare_world.specs.Whole.{station_shape, shape}
 use Rattle.fare_world.proofs.TableLemmas.{put_all, option_map-put, entry-set, stations_apart}
 use Rattle.fare_world.proofs.ShowTap.{device_write}

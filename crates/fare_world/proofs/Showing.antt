@@ -12,12 +12,12 @@ use Rattle.fare_device.specs.DeviceWords.{DeviceValue, last_link}
 use Rattle.fare_world.specs.declared.event.Event.{Event}
 use Rattle.fare_world.specs.declared.reply.Reply.{Reply}
 use Rattle.fare_world.specs.declared.world.World.{World}
-use Rattle.fare_frame.specs.Grammar.{frame_bytes, tap_of, ack_of, IsFrame}
+use Rattle.fare_frame.specs.Grammar.{tap_of, ack_of}
 use Rattle.fare_frame.specs.declared.frame.Frame.{Frame}
 use Rattle.fare_frame.specs.declared.frame.Frame.TheVariants as frame
-use Rattle.fare_world.specs.System.{put, Packet, Tapped, Acked, Arrived, Tap_of, Answer, Ack_of, Routed, Lane_of, DeviceState, OwnerState, LaneState, System, numbered_for, arrived_of}
+use Rattle.fare_world.specs.System.{put, Packet, Tapped, Acked, Arrived, Tap_of, Answer, Routed, Lane_of, DeviceState, OwnerState, LaneState, System, numbered_for, arrived_of}
 use Rattle.fare_world.specs.Packets.{IsRead}
-use Rattle.fare_world.specs.Steps.{next_at, step}
+use Rattle.fare_world.specs.Steps.{step}
 use Rattle.fare_world.specs.Shown.{IsNumbered, IsDevice, IsSystem, IsAt, IsPacketOf, IsArrivedOf, IsRoutedOf, IsDeviceOf, IsStationOf, IsOwnerOf, StationShape, OwnerShape, Shape, Shows}
 use Rattle.fare_world.specs.declared.world.Fault.{Fault}
 use Rattle.fare_world.specs.Whole.{shape, StandsAt, IsStepped, IsUnchanged, Applied, Does, Done}
@@ -66,6 +66,7 @@ done_all old new condition change e (Err fault) all did = did
 pub done_err : (old new : World) (condition : System → Type 0) (change : System → System × Reply) (r : Result Reply Fault) → IsErr r → IsUnchanged old new → Done old new condition change r
 done_err old new condition change (Ok reply) h u = absurd (cc)
 done_err old new condition change (Err fault) h u = u
+
 -- an error that leaves what is seen
 pub applied_err : (old new : World) (e : Event) (r : Result Reply Fault) → IsErr r → IsUnchanged old new → Applied old new e r
 applied_err old new e (Ok reply) h u = absurd (cc)

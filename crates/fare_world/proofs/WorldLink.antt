@@ -1,5 +1,5 @@
 -- What is seen of a world after its code accepted, acknowledged, answered or resumed.
-use Rattle.std.proofs.Common.{◌≡◌, ℕ, ◌+◌, ◌<◌, List, [], ◌∷◌, ◌++◌, length, set, get_or, Some, refl, sym, ap, ◌∙◌, subst, arith}
+use Rattle.std.proofs.Common.{◌≡◌, ℕ, ◌+◌, ◌<◌, List, [], ◌∷◌, ◌++◌, length, set, get_or, Some, refl, sym, ap, ◌∙◌, subst}
 use Rattle.std.specs.Prelude.{Option, Ok, Err, option_map}
 use Rattle.std.proofs.lemmas.List.{length_push}
 use Rattle.fare_record.specs.Values.{RecordValue, AckValue}
@@ -10,11 +10,10 @@ use Rattle.fare_collector.specs.declared.fault.CollectRefusal.{CollectRefusal}
 use Rattle.fare_frame.specs.Grammar.{frame_bytes, IsFrame}
 use Rattle.fare_frame.specs.declared.frame.Frame.TheVariants as frame
 use Rattle.fare_world.specs.declared.reply.Refusal.{Refusal}
-use Rattle.fare_world.specs.declared.reply.Reply.{Reply}
 use Rattle.fare_world.specs.declared.reply.Reply.TheVariants.{Refused, Accepted, Acknowledged, Answered, Resumed}
 use Rattle.fare_world.specs.declared.station.Station.{Station}
 use Rattle.fare_world.specs.declared.world.World.{World}
-use Rattle.fare_world.specs.System.{put, Tapped, System}
+use Rattle.fare_world.specs.System.{Tapped, System}
 use Rattle.fare_world.specs.Steps.{refusal_of, comes, resume}
 use Rattle.fare_world.specs.Steps as step
 use Rattle.fare_world.specs.Tables.{upto_in}

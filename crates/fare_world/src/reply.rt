@@ -76,9 +76,15 @@ pub enum Reply {
     /// Nothing was done, and why.
     Refused(Refusal),
     /// The tap got these numbers.
-    Recorded { link: u64, lane: u64 },
+    Recorded {
+        link: u64,
+        lane: u64,
+    },
     /// The air gained this packet, with the tap of this link.
-    Sent { packet: u64, link: u64 },
+    Sent {
+        packet: u64,
+        link: u64,
+    },
     /// The device goes on from its first tap that waits for an acknowledgement.
     Rewound,
     /// The station put the packet's tap into the inbox.
@@ -86,19 +92,37 @@ pub enum Reply {
     /// So many acknowledged taps left the device's buffer.
     Dropped(u64),
     /// The writer drew the tap of this device and link.
-    Drawn { device: DeviceId, link: u64 },
+    Drawn {
+        device: DeviceId,
+        link: u64,
+    },
     /// The outbox stored the tap of this device and link.
-    Stored { device: DeviceId, link: u64 },
+    Stored {
+        device: DeviceId,
+        link: u64,
+    },
     /// The acknowledgement line of the device's station gained this link.
     Acknowledged(u64),
     /// The air gained this packet, with the acknowledgement of the device's taps up to a link.
-    Answered { packet: u64, device: DeviceId, upto: u64 },
+    Answered {
+        packet: u64,
+        device: DeviceId,
+        upto: u64,
+    },
     /// The lane queue gained the tap of this lane number.
-    Forwarded { lane: u64 },
+    Forwarded {
+        lane: u64,
+    },
     /// The owner fetched the tap of this device and lane number.
-    Fetched { device: DeviceId, lane: u64 },
+    Fetched {
+        device: DeviceId,
+        lane: u64,
+    },
     /// The owner's ledger took the tap of this device and lane number.
-    Taken { device: DeviceId, lane: u64 },
+    Taken {
+        device: DeviceId,
+        lane: u64,
+    },
     /// The station accepts next the tap after this link.
     Resumed(u64),
     /// The part has started again.

@@ -1,4 +1,4 @@
-use Rattle.std.proofs.Common.{◌≡◌, ◌<◌, length, refl, sym, ap, ◌∙◌, arith}
+use Rattle.std.proofs.Common.{◌<◌, length, refl, sym, ◌∙◌, arith}
 use Rattle.fare_world.specs.Steps.{restart_device}
 use Rattle.fare_world.specs.declared.reply.Reply.TheVariants.{Restarted}
 use Rattle.fare_world.proofs.ShowLink.{shown_restart_device_unknown, shown_restart_device}

@@ -1,7 +1,7 @@
-use Rattle.std.proofs.Common.{◌≡◌, ◌<◌, length, refl, sym, ap, ◌∙◌, subst, arith}
+use Rattle.std.proofs.Common.{◌<◌, length, refl, sym, ap, ◌∙◌, arith}
 use Rattle.fare_world.proofs.ShowRestart.{shown_restart_unknown, shown_restart_station}
 use Rattle.fare_world.proofs.ShowStation.{station_read, station_written}
-use Rattle.fare_world.proofs.Showing.{Answers, stepped}
+use Rattle.fare_world.proofs.Showing.{stepped}
 use Rattle.fare_world.specs.declared.reply.Reply.TheVariants.{Restarted}
 use Rattle.fare_world.specs.Steps.{restart_station}
 use Rattle.fare_world.specs.Whole.{station_shape, shape}

@@ -1,6 +1,4 @@
-use Rattle.std.proofs.Common.{◌≡◌, ◌<◌, ◌≤◌, ◌+◌, ◌++◌, ◌∷◌, [], Some, None, Ok, Err, length, refl, sym, ap, ◌∙◌, subst, arith}
-use Rattle.std.proofs.lemmas.Grind.{common_steps}
-use Rattle.fare_world.specs.Whole.{shape}
+use Rattle.std.proofs.Common.{refl}
 use Rattle.fare_world.proofs.WorldLink.{world_resumed}
 use Rattle.fare_world.proofs.Showing.{stepped}
 use Rattle.fare_world.proofs.world.World.resume.Goals as goal

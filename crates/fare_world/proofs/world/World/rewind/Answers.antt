@@ -1,4 +1,4 @@
-use Rattle.std.proofs.Common.{◌≡◌, ◌<◌, length, refl, sym, ap, ◌∙◌, arith}
+use Rattle.std.proofs.Common.{◌<◌, length, refl, sym, ◌∙◌, arith}
 use Rattle.fare_world.specs.Steps.{rewind}
 use Rattle.fare_world.specs.declared.reply.Reply.TheVariants.{Rewound}
 use Rattle.fare_world.proofs.ShowLink.{shown_rewind_unknown, shown_rewind}
