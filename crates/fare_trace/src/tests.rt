@@ -101,12 +101,30 @@ const FULL_BUFFER: &[u8] = b"demo 1 2 4 4
 tap 1 1 77 1704100000
 tap 1 1 77 1704100000
 tap 1 1 77 1704100000
+send 1
+arrive 1
+draw
+store
+ack 1
+answer 1
+arrive 2
+tap 1 1 77 1704100000
+arrive 2
 ";
 
 const FULL_BUFFER_ANSWERED: &[u8] = b"ok
 record 1 1
 record 2 2
 refused BufferFull
+packet 1 link 1
+accepted
+drawn 1 link 1
+stored 1 link 1
+ack 1
+packet 2 ack 1 1
+acked 1
+record 3 3
+acked 0
 ";
 
 const OUT_OF_ORDER_AND_REPEAT: &[u8] = b"demo 1 4 4 4
@@ -149,6 +167,7 @@ arrive 1
 send 1
 draw
 store
+answer 1
 ";
 
 const REFUSALS_AND_IDLES_ANSWERED: &[u8] = b"ok
@@ -159,6 +178,7 @@ refused NoPacket
 idle
 empty
 idle
+empty
 ";
 
 const REGISTRAR_REFUSALS: &[u8] = b"owner 0 4
@@ -296,9 +316,138 @@ refused DayClosed
 record 1 1
 ";
 
+const WRITER_RESTART: &[u8] = b"demo 1 4 4 4
+tap 1 1 77 1704100000
+tap 1 1 77 1704100000
+send 1
+send 1
+arrive 1
+arrive 2
+draw
+restart writer
+draw
+store
+upto 1
+resume 1
+arrive 1
+draw
+store
+arrive 2
+draw
+store
+upto 1
+";
+
+const WRITER_RESTART_ANSWERED: &[u8] = b"ok
+record 1 1
+record 2 2
+packet 1 link 1
+packet 2 link 2
+accepted
+accepted
+drawn 1 link 1
+restarted
+drawn 1 link 2
+refused Gap
+upto 0
+resumed 0
+accepted
+drawn 1 link 1
+stored 1 link 1
+accepted
+drawn 1 link 2
+stored 1 link 2
+upto 2
+";
+
+// Two devices: what was sent is sent again, a station and a device restart, and taps are acknowledged.
+const SENT_AGAIN: &[u8] = b"demo 2 4 4 4
+tap 1 1 77 1704100000
+tap 2 1 78 1704100000
+send 1
+send 2
+send 1
+rewind 1
+send 1
+restart device 2
+send 2
+arrive 1
+arrive 3
+arrive 2
+restart station 1
+arrive 3
+arrive 4
+draw
+store
+draw
+store
+draw
+store
+ack 1
+ack 1
+answer 2
+answer 1
+arrive 5
+arrive 5
+send 1
+";
+
+const SENT_AGAIN_ANSWERED: &[u8] = b"ok
+record 1 1
+record 1 1
+packet 1 link 1
+packet 2 link 1
+idle
+rewound
+packet 3 link 1
+restarted
+packet 4 link 1
+accepted
+refused Old
+accepted
+restarted
+accepted
+refused Old
+drawn 1 link 1
+stored 1 link 1
+drawn 2 link 1
+stored 2 link 1
+drawn 1 link 1
+refused Duplicate
+ack 1
+ack 1
+empty
+packet 5 ack 1 1
+acked 1
+acked 0
+idle
+";
+
+const UNKNOWN_PARTS: &[u8] = b"demo 1 4 4 4
+rewind 2
+ack 2
+answer 2
+resume 2
+restart device 2
+restart station 2
+resume 1
+restart writer
+";
+
+const UNKNOWN_PARTS_ANSWERED: &[u8] = b"ok
+refused UnknownDevice
+refused UnknownDevice
+refused UnknownStation
+refused UnknownDevice
+refused UnknownDevice
+refused UnknownStation
+resumed 0
+restarted
+";
+
 #[test]
 fn replays_traces(rt: HostRuntime) -> Result<(), Fail> {
-    let cases: [(&[u8], &[u8]); 11] = [
+    let cases: [(&[u8], &[u8]); 14] = [
         (ONE_TAP, ONE_TAP_ANSWERED),
         (FULL_BUFFER, FULL_BUFFER_ANSWERED),
         (OUT_OF_ORDER_AND_REPEAT, OUT_OF_ORDER_AND_REPEAT_ANSWERED),
@@ -306,6 +455,9 @@ fn replays_traces(rt: HostRuntime) -> Result<(), Fail> {
         (REFUSALS_AND_IDLES, REFUSALS_AND_IDLES_ANSWERED),
         (REGISTRAR_REFUSALS, REGISTRAR_REFUSALS_ANSWERED),
         (REGISTRAR_SEALS, REGISTRAR_SEALS_ANSWERED),
+        (WRITER_RESTART, WRITER_RESTART_ANSWERED),
+        (SENT_AGAIN, SENT_AGAIN_ANSWERED),
+        (UNKNOWN_PARTS, UNKNOWN_PARTS_ANSWERED),
         (SETTINGS, SETTINGS_ANSWERED),
         (LAST_ZONE_COUNTS, LAST_ZONE_COUNTS_ANSWERED),
         (

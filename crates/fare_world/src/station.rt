@@ -21,6 +21,7 @@ impl Station {
     pub fn resume_all(&mut self, scheme: &Scheme, outbox: &Outbox)
         ensures resumed { (device : ℕ) → IsSome (position_of_device scheme.now device) → next_in self.new.collector device ≡ option_map (λ _. upto_in outbox.now device + 1) (next_in self.old.collector device) }
         ensures others { (device : ℕ) → position_of_device scheme.now device ≡ None → next_in self.new.collector device ≡ next_in self.old.collector device }
+        ensures station { self.new.collector.station ≡ self.old.collector.station }
         ensures line { self.new.line ≡ self.old.line }
     {
         for place in 0..scheme.device_count() {

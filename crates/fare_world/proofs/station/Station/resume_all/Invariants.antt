@@ -7,5 +7,6 @@ use Rattle.fare_world.proofs.station.Station.resume_all.Given as goal
 abbrev pub invariant-loop-place : goal.invariant-loop-place
 invariant-loop-place l = record {
   nexts : (device : ℕ) → next_in l.self.collector device ≡ resumed_to l.scheme (upto_in l.outbox) (next_in l.fn.self.collector) l.place device;
+  station : l.self.collector.station ≡ l.fn.self.collector.station;
   line : l.self.line ≡ l.fn.self.line;
 }
