@@ -191,3 +191,14 @@ fn a_long_stream_reads_the_same_in_any_pieces(rt: HostRuntime) -> Result<(), Fai
     assert!(rt; whole.as_slice() == single.as_slice());
     Ok(())
 }
+
+#[test]
+fn a_frame_tells_what_it_holds(rt: HostRuntime) -> Result<(), Fail> {
+    let tapped = tapped().ok_or("tapped")?;
+    assert!(rt; tapped.tapped().is_some());
+    assert!(rt; tapped.acked().is_none());
+    let acked = acked().ok_or("acked")?;
+    assert!(rt; acked.acked().is_some());
+    assert!(rt; acked.tapped().is_none());
+    Ok(())
+}
