@@ -13,7 +13,7 @@ use Rattle.fare_world.proofs.KeptMoves.{stays}
 use Rattle.fare_world.proofs.KeptTap.{moves_tap}
 use Rattle.fare_world.proofs.KeptLink.{moves_send, moves_rewind, moves_arrive, moves_ack, moves_answer, moves_resume, moves_restart_device, moves_restart_station, moves_restart_writer}
 use Rattle.fare_world.proofs.KeptLanes.{moves_draw, moves_store, moves_forward, moves_fetch, moves_take}
-pub use Rattle.fare_world.proofs.KeptParts.{below, above, not_below, device_changes, owner_changes, hand_changes}
+pub use Rattle.fare_world.proofs.KeptParts.{below, above, not_below, took_numbered, device_changes, owner_changes, hand_changes}
 pub use Rattle.fare_world.proofs.KeptMoves.{Moves}
 pub use Rattle.fare_world.proofs.KeptLink.{comes_kept}
 

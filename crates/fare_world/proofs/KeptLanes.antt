@@ -4,7 +4,6 @@ use Rattle.std.specs.Prelude.{slice_get, Option, IfSome, nat_lt}
 use Rattle.std.specs.List.{AllByRecursion}
 use Rattle.std.proofs.lemmas.List.{append-nil, length-take-le}
 use Rattle.fare_record.specs.Values.{RecordValue}
-use Rattle.fare_record.specs.Lanes.{part}
 use Rattle.fare_scheme.specs.Values.{SchemeValue}
 use Rattle.fare_world.specs.declared.event.Event.{Event}
 use Rattle.fare_world.specs.declared.event.Event.TheVariants as event
@@ -18,7 +17,7 @@ use Rattle.fare_world.specs.Shown.{IsDevice, IsPlace, IsArrived, IsRouted, IsOwn
 use Rattle.fare_world.proofs.Lists.{if_all, AllByRecursion-push, element_at, take-one_more, length-part-take}
 use Rattle.fare_world.proofs.TableLemmas.{put2_all}
 use Rattle.fare_world.proofs.Orderly.{is_orderly, orderly}
-use Rattle.fare_world.proofs.KeptParts.{below, not_below, device_changes, owner_changes, hand_changes}
+use Rattle.fare_world.proofs.KeptParts.{below, not_below, took_numbered, device_changes, owner_changes, hand_changes}
 use Rattle.fare_world.proofs.KeptMoves.{Moves, keeps_devices, rests, stays}
 
 -- DRAW and STORE
@@ -74,7 +73,7 @@ moves_forward sc s o d h =
     goes : l.forward < length (arrived_of o (s.devices d)) → Moves sc s e (forwarded s o d, Forwarded (l.forward + 1))
     goes lt =
         let w = s.owners o in
-        let place : IsPlace (part o (s.devices d).taps) (l.forward + 1) = (omega arith, omega (arith, length-part-take o (s.devices d).upto (s.devices d).taps)) in
+        let place : IsPlace (arrived_of o (s.devices d)) (l.forward + 1) = (omega arith, omega arith) in
         let owner : IsOwner s.devices o (record w { queue = w.queue ++ Lane_of d (l.forward + 1) ∷ [] }) =
         record { queue = AllByRecursion-push (IsRouted s.devices o) w.queue (Lane_of d (l.forward + 1)) (h.owners o).queue place; hand = (h.owners o).hand } in
         let owners = owner_changes sc s o (record w { queue = w.queue ++ Lane_of d (l.forward + 1) ∷ [] }) h owner in
@@ -86,7 +85,7 @@ moves_forward sc s o d h =
           hand = owners.hand;
           lines = owners.lines;
           owners = owners.owners;
-          took = put2_all (λ p j a. a.took ≤ length (numbered_for s p j)) s.lanes o d (record l { forward = l.forward + 1 }) h.took (h.took o d);
+          took = put2_all (λ p j a. a.took ≤ length (arrived_of p (s.devices j))) s.lanes o d (record l { forward = l.forward + 1 }) h.took (h.took o d);
         })
         (record { taps = λ j. refl; day = λ j. refl; took = put2_all (λ p j a. a.took ≡ (s.lanes p j).took) s.lanes o d (record l { forward = l.forward + 1 }) (λ p j. refl) refl })
 
@@ -120,7 +119,7 @@ moves_take sc s o h = if_all (knows_owner sc o) (Moves sc s e) _ _ (λ _. taken 
     refused : (r : Refusal) → is_orderly (Refused r) ≡ true → Moves sc s e (emptied s o, Refused r)
     refused r fine = rests sc s e (emptied s o, Refused r) refl fine empty (record { taps = λ j. refl; day = λ j. refl; took = λ p j. refl })
 
-    goes : (d k : ℕ) → IsPlace (part o (s.devices d).taps) k → (s.lanes o d).took + 1 ≡ k → Moves sc s e (took s o d, Taken d k)
+    goes : (d k : ℕ) → IsPlace (arrived_of o (s.devices d)) k → (s.lanes o d).took + 1 ≡ k → Moves sc s e (took s o d, Taken d k)
     goes d k place next = record {
       system = record {
         devices = empty.devices;
@@ -129,11 +128,11 @@ moves_take sc s o h = if_all (knows_owner sc o) (Moves sc s e) _ _ (λ _. taken 
         hand = empty.hand;
         lines = empty.lines;
         owners = empty.owners;
-        took = put2_all (λ p j a. a.took ≤ length (numbered_for s p j)) s.lanes o d (record l { took = l.took + 1 }) h.took (omega (arith, place.1, next));
+        took = put2_all (λ p j a. a.took ≤ length (arrived_of p (s.devices j))) s.lanes o d (record l { took = l.took + 1 }) h.took (omega (arith, place.1, next));
       };
       lane = put2_all (λ p j a. IsLaneStep (lane_at s p j) (record { numbered = numbered_for s p j; taken = take a.took (numbered_for s p j); day = (s.devices j).day })) s.lanes o d (record l { took = l.took + 1 })
           (λ p j. inr (inr refl))
-          (inr (inl (record { tap = found.0; next = ap (slice_get n) (length-take-le l.took n (h.took o d)) ∙ found.1; is = λ i. record { numbered = n; taken = take-one_more n l.took found.0 found.1 i; day = (s.devices d).day } })));
+          (inr (inl (record { tap = found.0; next = ap (slice_get n) (length-take-le l.took n (took_numbered sc s o d h)) ∙ found.1; is = λ i. record { numbered = n; taken = take-one_more n l.took found.0 found.1 i; day = (s.devices d).day } })));
       taps = λ j. sym (append-nil (s.devices j).taps);
       orderly = orderly (Taken d k) refl;
     }
@@ -145,7 +144,7 @@ moves_take sc s o h = if_all (knows_owner sc o) (Moves sc s e) _ _ (λ _. taken 
         n = numbered_for s o d
 
         found : (x : RecordValue) × (slice_get n l.took ≡ Some x)
-        found = element_at n l.took (omega (arith, place.1, next))
+        found = element_at n l.took (omega (arith, place.1, next, length-part-take o (s.devices d).upto (s.devices d).taps))
 
     taken : (hand : Option Routed) → IfSome hand (IsRouted s.devices o) → Moves sc s e (take_from s o hand)
     taken None is = stays sc s e Idle refl refl h

@@ -3,7 +3,6 @@ use Rattle.std.proofs.Common.{◌≡◌, ℕ, ◌+◌, ◌-◌, ◌<◌, ◌≤�
 use Rattle.std.specs.Prelude.{◌==◌, slice_get, if◌then◌else◌, Option, IfSome, is_some, Ok, Err, max, nat_lt}
 use Rattle.std.specs.List.{AllByRecursion}
 use Rattle.std.proofs.Math.Nat.{le-max_left, le-max_right, max-le}
-use Rattle.fare_record.specs.Lanes.{part}
 use Rattle.fare_scheme.specs.Values.{SchemeValue}
 use Rattle.fare_scheme.specs.Words.{station_of}
 use Rattle.fare_collector.specs.Collecting.{is_id, collect_judged}
@@ -13,7 +12,7 @@ use Rattle.fare_world.specs.declared.event.Event.TheVariants as event
 use Rattle.fare_world.specs.declared.reply.Refusal.TheVariants.{UnknownDevice, UnknownStation, NoPacket, Old, Ahead}
 use Rattle.fare_world.specs.declared.reply.Reply.{Reply}
 use Rattle.fare_world.specs.declared.reply.Reply.TheVariants.{Idle, Empty, Refused, Sent, Rewound, Accepted, Dropped, Acknowledged, Answered, Resumed, Restarted}
-use Rattle.fare_world.specs.System.{put, Packet, Tapped, Acked, Tap_of, Answer, Ack_of, DeviceState, System}
+use Rattle.fare_world.specs.System.{put, Packet, Tapped, Acked, Tap_of, Answer, Ack_of, DeviceState, System, arrived_of}
 use Rattle.fare_world.specs.Steps.{knows_device, knows_station, sent, send, rewound, rewind, tap_at, is_owned_tap, next_at, accepted, judged, tap_comes, heard, ack_comes, comes, packet_at, arrive, acknowledged, ack_by, ack, answer_from, answer, resumed_device, resume, restart_device, resumed_devices, restart_station, restart_writer}
 use Rattle.fare_world.specs.Headline.{numbered_by}
 use Rattle.fare_world.specs.Shown.{IsDevice, IsPlace, IsAck, IsPacket, IsAnswer, IsArrived, IsSystem}
@@ -231,7 +230,7 @@ moves_restart_station sc s st h =
     (devices_change sc s (resumed_devices sc s st).devices h
     (record {
       taps = each (λ j a. length (s.devices j).taps ≤ length a.taps) (λ j. omega arith) (λ j. omega arith);
-      parts = λ o. each (λ j a. length (part o (s.devices j).taps) ≤ length (part o a.taps)) (λ j. omega arith) (λ j. omega arith);
+      arrived = λ o. each (λ j a. length (arrived_of o (s.devices j)) ≤ length (arrived_of o a)) (λ j. omega arith) (λ j. omega arith);
       upto = each (λ j a. (s.devices j).upto ≤ a.upto) (λ j. omega arith) (λ j. omega arith);
     })
     (each (IsDevice sc) (λ j. resumes sc j (s.devices j) (h.devices j)) h.devices))

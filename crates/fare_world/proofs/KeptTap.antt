@@ -13,16 +13,16 @@ use Rattle.fare_world.specs.declared.event.Event.{Event}
 use Rattle.fare_world.specs.declared.event.Event.TheVariants as event
 use Rattle.fare_world.specs.declared.reply.Refusal.TheVariants.{UnknownDevice, BadMoment, UnknownProduct, DayClosed, DayAhead, NumbersSpent, BufferFull}
 use Rattle.fare_world.specs.declared.reply.Reply.TheVariants.{Refused, Recorded}
-use Rattle.fare_world.specs.System.{put, DeviceState, System, day_of, numbered_for}
+use Rattle.fare_world.specs.System.{put, DeviceState, System, day_of, numbered_for, arrived_of}
 use Rattle.fare_world.specs.Steps.{knows_device, next_record, with_tap, room_of, waiting_count, tap_for, tap_on, tap}
 use Rattle.fare_world.specs.Headline.{record_of, numbered_by, with_first, Lane, IsLaneStep, lane_at}
 use Rattle.fare_world.specs.Shown.{IsNumbered, IsDevice, IsSystem}
 use Rattle.fare_world.proofs.Known.{station_where_placed}
 use Rattle.fare_world.proofs.Places.{slice_get-push_cases}
-use Rattle.fare_world.proofs.Lists.{if_all, part-push, length-part-push, take-part-push}
+use Rattle.fare_world.proofs.Lists.{if_all, part-push, take-part-push}
 use Rattle.fare_world.proofs.TableLemmas.{put_all, put_apart}
 use Rattle.fare_world.proofs.Orderly.{orderly}
-use Rattle.fare_world.proofs.KeptParts.{above, not_below, devices_change}
+use Rattle.fare_world.proofs.KeptParts.{above, not_below, took_numbered, devices_change}
 use Rattle.fare_world.proofs.KeptMoves.{Moves, stays}
 
 -- a tap at the end of the numbered ones
@@ -56,7 +56,7 @@ numbers sc s d o p t m day h knows owned dated current lt = record {
   system = devices_change sc s (put s.devices d new) h
       (record {
         taps = put_all (λ j a. length (s.devices j).taps ≤ length a.taps) s.devices d new (λ j. omega arith) (omega (arith, longer));
-        parts = λ q. put_all (λ j a. length (part q (s.devices j).taps) ≤ length (part q a.taps)) s.devices d new (λ j. omega arith) (length-part-push q v.taps r);
+        arrived = λ q. put_all (λ j a. length (arrived_of q (s.devices j)) ≤ length (arrived_of q a)) s.devices d new (λ j. omega arith) (omega (arith, ap (λ l. length (part q l)) (take-append-le v.upto v.taps (r ∷ []) is.upto)));
         upto = put_all (λ j a. (s.devices j).upto ≤ a.upto) s.devices d new (λ j. omega arith) (omega arith);
       })
       (put_all (IsDevice sc) s.devices d new h.devices numbered_device);
@@ -104,7 +104,7 @@ numbers sc s d o p t m day h knows owned dated current lt = record {
 
     here : (q : ℕ) → IsLaneStep (lane_at s q d) (side q d new)
     here q =
-        let kept = take-part-push (s.lanes q d).took q v.taps r (h.took q d) in
+        let kept = take-part-push (s.lanes q d).took q v.taps r (took_numbered sc s q d h) in
         if_all (r.owner == q) (λ l. (part q (v.taps ++ r ∷ []) ≡ l) → IsLaneStep (lane_at s q d) (side q d new)) (part q v.taps ++ r ∷ []) (part q v.taps)
         (λ _ e. inl (record { tap = r; of_day = current; is = λ i. record { numbered = e i; taken = kept i; day = v.day } }))
         (λ _ e. inr (inr (λ i. record { numbered = e i; taken = kept i; day = v.day })))

@@ -19,6 +19,7 @@ pub mod ShowLink
 pub mod WorldLink
 pub mod ShowRestart
 pub mod ShowForward
+pub mod Keeping
 pub mod Running
 pub mod Resuming
 pub mod Starting

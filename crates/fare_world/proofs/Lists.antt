@@ -111,14 +111,19 @@ pub part-push : (owner : ℕ) (rs : List RecordValue) (r : RecordValue) → part
 part-push owner [] r = grind (arith, nat_tests)
 part-push owner (q ∷ rs) r = grind (arith, nat_tests, part-push owner rs r)
 
-pub length-part-push : (owner : ℕ) (rs : List RecordValue) (r : RecordValue) → length (part owner rs) ≤ length (part owner (rs ++ r ∷ []))
-length-part-push owner [] r = omega arith
-length-part-push owner (q ∷ rs) r = grind (arith, nat_tests, length-part-push owner rs r)
-
 pub length-part-take : (owner n : ℕ) (rs : List RecordValue) → length (part owner (take n rs)) ≤ length (part owner rs)
 length-part-take owner zero rs = omega arith
 length-part-take owner (suc n) [] = omega arith
 length-part-take owner (suc n) (r ∷ rs) = grind (arith, nat_tests, length-part-take owner n rs)
+
+-- a longer front has no less of an owner's part
+pub length-part-take_more : (owner n m : ℕ) (rs : List RecordValue) → n ≤ m → length (part owner (take n rs)) ≤ length (part owner (take m rs))
+length-part-take_more owner zero m rs le = omega arith
+length-part-take_more owner (suc n) zero rs le = absurd (omega arith)
+length-part-take_more owner (suc n) (suc m) [] le = omega arith
+length-part-take_more owner (suc n) (suc m) (r ∷ rs) le =
+    let less : n ≤ m = omega arith in
+    grind (arith, nat_tests, length-part-take_more owner n m rs less)
 
 -- what was taken of an owner's part stays the front of it
 pub take-part-push : (n owner : ℕ) (rs : List RecordValue) (r : RecordValue) → n ≤ length (part owner rs) → take n (part owner (rs ++ r ∷ [])) ≡ take n (part owner rs)

@@ -28,7 +28,7 @@ use Rattle.fare_world.specs.Whole.{owner_shape, shape}
 use Rattle.fare_world.proofs.Lists.{Each2-push, Each2-nil, Each2-cons, Both-none, Both-some, element_at, take-one_more}
 use Rattle.fare_world.proofs.Places.{slice_get-front}
 use Rattle.fare_world.proofs.TableLemmas.{put_all, put_both, put_here, option_map-put, entry-set, devices_apart, owners_apart}
-use Rattle.fare_world.proofs.Kept.{moves_step, owner_changes}
+use Rattle.fare_world.proofs.Kept.{moves_step, owner_changes, took_numbered}
 use Rattle.fare_world.proofs.Showing.{Answers, answers_by, put_other, shows_owner, owner_shown, lanes_of_part, routed_is}
 
 -- one owner and its lanes with others in their place
@@ -225,7 +225,7 @@ mine sc h s o a x r w at e f = (side_found sc h s o a x r w at e f).1 ∙ sym (o
 
 -- how many taps of a device were taken
 taken_count : (sc : SchemeValue) (h : Shape) (s : System) (o d : ℕ) (x : OwnerShape) → Shows sc h s → h.owners o ≡ Some x → length (x.taken d) ≡ (s.lanes o d).took
-taken_count sc h s o d x w e = ap length ((owner_shown sc h s o x w e).taken d) ∙ length-take-le (s.lanes o d).took (numbered_for s o d) (w.system.took o d)
+taken_count sc h s o d x w e = ap length ((owner_shown sc h s o x w e).taken d) ∙ length-take-le (s.lanes o d).took (numbered_for s o d) (took_numbered sc s o d w.system)
 
 -- a refusal empties the hand, and the ledger means what it meant
 refused_take : (sc : SchemeValue) (h : Shape) (s : System) (o : ℕ) (x : OwnerShape) (why : Refusal) (owner : ℕ) (taken : ℕ → List RecordValue) → Shows sc h s → h.owners o ≡ Some x → take_event sc s o ≡ (emptied s o, Refused why) → owner ≡ x.owner → ((d : ℕ) → taken d ≡ x.taken d)

@@ -35,7 +35,7 @@ use Rattle.fare_world.specs.Shown.{entry}
 use Rattle.fare_world.specs.Shown.{IsDevice, IsSystem, IsAt, IsPacketOf, IsDeviceOf, Shape, Shows}
 use Rattle.fare_world.proofs.Lists.{if_all, Each2-push, length-Each2, part-push, take-part-push, drop-push, slice_get-drop}
 use Rattle.fare_world.proofs.TableLemmas.{put_all, put_both, put_here, slice_get-set_same, slice_get-set_other, entry-set, devices_apart, owners_apart, owner_within}
-use Rattle.fare_world.proofs.Kept.{moves_step, device_changes}
+use Rattle.fare_world.proofs.Kept.{moves_step, device_changes, took_numbered}
 use Rattle.fare_world.proofs.Showing.{Answers, answers_by, grows_by_tap, shows_devices, shows_device, stations_same, last_link_is, device_shown}
 
 -- what waits in the device's buffer, and how much may
@@ -140,7 +140,7 @@ shown_tap sc h s d k p t m day x new r w at dated here long did =
     (stations_same sc h s g (put_all (λ j a. a.next ≡ (s.devices j).next) s.devices d after (λ j. refl) refl) w)
     (put_all (λ j a. a.upto ≡ (s.devices j).upto) s.devices d after (λ j. refl) refl)
     (λ o. put_all (λ j a. arrived_of o a ≡ arrived_of o (s.devices j)) s.devices d after (λ j. refl) (ap (part o) (take-append-le v.upto v.taps (r ∷ []) is.upto)))
-    (λ o. put_all (λ j a. take (s.lanes o j).took (part o a.taps) ≡ take (s.lanes o j).took (numbered_for s o j)) s.devices d after (λ j. refl) (take-part-push (s.lanes o d).took o v.taps r (w.system.took o d))))
+    (λ o. put_all (λ j a. take (s.lanes o j).took (part o a.taps) ≡ take (s.lanes o j).took (numbered_for s o j)) s.devices d after (λ j. refl) (take-part-push (s.lanes o d).took o v.taps r (took_numbered sc s o d w.system))))
   where
     v : DeviceState
     v = s.devices d

@@ -8,7 +8,7 @@ use Rattle.fare_scheme.specs.Words.{owner_of, station_of, buffer_of, position_of
 use Rattle.fare_device.specs.DeviceWords.{DeviceValue}
 use Rattle.fare_frame.specs.Grammar.{frame_bytes, IsFrame}
 use Rattle.fare_frame.specs.declared.frame.Frame.TheVariants as frame
-use Rattle.fare_world.specs.System.{Packet, Tapped, Acked, Arrived, Tap_of, Answer, Ack_of, Routed, Lane_of, DeviceState, OwnerState, LaneState, System, numbered_for, arrived_of}
+use Rattle.fare_world.specs.System.{Packet, Tapped, Acked, Arrived, Tap_of, Answer, Ack_of, Routed, Lane_of, DeviceState, OwnerState, LaneState, System, arrived_of}
 use Rattle.fare_world.specs.Steps.{next_at}
 
 -- A SYSTEM that events lead to
@@ -49,8 +49,9 @@ IsAnswer sc devices (Ack_of device upto) = IsAck sc devices device upto
 abbrev pub IsArrived : (ℕ → DeviceState) → Arrived → Type 0
 IsArrived devices (Tap_of device link) = IsPlace (devices device).taps link
 
+-- the lane number of a tap that the outbox has had
 abbrev pub IsRouted : (ℕ → DeviceState) → ℕ → Routed → Type 0
-IsRouted devices owner (Lane_of device lane) = IsPlace (part owner (devices device).taps) lane
+IsRouted devices owner (Lane_of device lane) = IsPlace (arrived_of owner (devices device)) lane
 
 pub record IsOwner (devices : ℕ → DeviceState) (owner : ℕ) (w : OwnerState) : Type 0 where
   pub queue : AllByRecursion (IsRouted devices owner) w.queue
@@ -63,7 +64,7 @@ pub record IsSystem (sc : SchemeValue) (s : System) : Type 0 where
   pub hand : IfSome s.hand (IsArrived s.devices)
   pub lines : (station : ℕ) → AllByRecursion (IsAnswer sc s.devices) (s.lines station)
   pub owners : (owner : ℕ) → IsOwner s.devices owner (s.owners owner)
-  pub took : (owner device : ℕ) → (s.lanes owner device).took ≤ length (numbered_for s owner device)
+  pub took : (owner device : ℕ) → (s.lanes owner device).took ≤ length (arrived_of owner (s.devices device))  -- what was taken was stored
 
 -- THE PARTS
 -- the entry of an id, by its position

@@ -1,6 +1,7 @@
 -- What is seen of a world, and what its calls do.
-use Rattle.std.specs.Prelude.{◌≡◌, ◌≤◌, ℕ, List, take, length, IfSome, option_map, Result, MatchResult}
-use Rattle.fare_record.specs.Lanes.{lane_of}
+use Rattle.std.specs.Prelude.{◌≡◌, ◌≤◌, ℕ, nat_lt, List, ◌++◌, take, drop, filter, length, IfSome, option_map, Result, MatchResult}
+use Rattle.fare_record.specs.Values.{RecordValue}
+use Rattle.fare_record.specs.Lanes.{part, lane_of}
 use Rattle.fare_scheme.specs.Values.{SchemeValue}
 use Rattle.fare_scheme.specs.Words.{position_of_device, position_of_station, position_of_owner}
 use Rattle.fare_collector.specs.Collecting.{next_in}
@@ -78,3 +79,14 @@ pub record HasRun (old new : World) (events : List Event) (answered : List Reply
 abbrev pub TakenInOrder : World → List Event → List Reply → Type 0
 TakenInOrder w events answered =
     (owner device : ℕ) → IfSome ((shape w).owners owner) (λ x. IsPrefixOf (x.taken device) (lane_of owner device (numbered w.scheme events answered)))
+
+-- the taps with a link above this one
+abbrev pub beyond : ℕ → List RecordValue → List RecordValue
+beyond upto rs = filter (λ r. nat_lt upto r.link) rs
+
+-- each tap that a registered device numbered for an owner, as the events and their replies tell, is in one of three places, in this order: the owner's ledger has taken it, or the outbox has its row behind those, or it waits in the device with a link above what the outbox has had
+abbrev pub KeepsEachTap : World → List Event → List Reply → Type 0
+KeepsEachTap w events answered =
+    (owner device : ℕ) → IfSome ((shape w).owners owner) (λ x. IfSome ((shape w).devices device) (λ v.
+        lane_of owner device (numbered w.scheme events answered)
+        ≡ x.taken device ++ (drop (length (x.taken device)) ((shape w).rows owner device) ++ part owner (beyond ((shape w).upto device) v.waiting))))

@@ -73,7 +73,7 @@ pub struct Stopped {
 impl World {
     ghost use Rattle.std.specs.List.{AllByRecursion};
     ghost use Rattle.fare_world.specs.Headline.{IsOrderly};
-    ghost use Rattle.fare_world.specs.Whole.{StandsAt, Applied, HasRun, TakenInOrder};
+    ghost use Rattle.fare_world.specs.Whole.{StandsAt, Applied, HasRun, TakenInOrder, KeepsEachTap};
 
     /// One event: what it changes, and its reply. `Memory` where there was none; then the world is as it was.
     pub fn apply(&mut self, event: &Event) -> Result<Reply, Fault>
@@ -108,15 +108,19 @@ impl World {
     /// Runs events in order, and answers the world after them with their replies. At a fault the world and
     /// the replies of the events before it are handed back. Of a new world, what each owner has then taken
     /// from each device is a prefix of what the device numbered for that owner, as the events and their
-    /// replies tell; and no reply says that a packet is a stranger's, misrouted or ahead.
+    /// replies tell; each tap so numbered is in the ledger, in the outbox behind what the ledger has, or in
+    /// the device behind what the outbox has had, so none is lost; and no reply says that a packet is a
+    /// stranger's, misrouted or ahead.
     pub fn run(mut self, alloc: Global, events: &[Event]) -> Result<(World, Vec<Reply>), Stopped>
         ensures ran { IfOk result (λ r. HasRun self r.0 events.now r.1.items) }
         ensures whole { IfOk result (λ r. length r.1.items ≡ length events.now) }
         ensures stopped { IfErr result (λ stop. HasRun self stop.world events.now stop.replies.items) }
         ensures taken { IfOk result (λ r. StandsAt self (start self.scheme) → TakenInOrder r.0 events.now r.1.items) }
+        ensures kept { IfOk result (λ r. StandsAt self (start self.scheme) → KeepsEachTap r.0 events.now r.1.items) }
         ensures orderly { IfOk result (λ r. StandsAt self (start self.scheme) → AllByRecursion IsOrderly r.1.items) }
         ensures orderly_before { IfErr result (λ stop. StandsAt self (start self.scheme) → AllByRecursion IsOrderly stop.replies.items) }
         ensures taken_before { IfErr result (λ stop. StandsAt self (start self.scheme) → TakenInOrder stop.world events.now stop.replies.items) }
+        ensures kept_before { IfErr result (λ stop. StandsAt self (start self.scheme) → KeepsEachTap stop.world events.now stop.replies.items) }
     {
         let Ok(mut replies) = Vec::with_capacity(alloc, events.len()) else {
             return Err(Stopped {

@@ -1,7 +1,7 @@
 use Rattle.std.proofs.Common.{◌≡◌, ◌<◌, ◌++◌, ◌∷◌, [], length, get_or, sym, ap, ◌∙◌, subst, arith}
 use Rattle.std.proofs.lemmas.Grind.{common_steps}
 use Rattle.fare_world.specs.Whole.{HasRun}
-use Rattle.fare_world.proofs.Running.{one_more, none_more, taken_in_order, orderly_replies, run_of_none}
+use Rattle.fare_world.proofs.Running.{one_more, none_more, taken_in_order, keeps_each_tap, orderly_replies, run_of_none}
 use Rattle.fare_world.proofs.world.World.run.Goals as goal
 
 pub returns-clause-ran : goal.returns-clause-ran
@@ -21,6 +21,18 @@ returns-in_default-clause-taken_before c =
     let w = c.args.self in
     let events = c.args.events.now in
     taken_in_order w w events c.new.result.items (subst (HasRun w w events) (sym c.new.ensures.items) (run_of_none w events))
+
+pub returns-clause-kept : goal.returns-clause-kept
+returns-clause-kept c = keeps_each_tap c.args.self c.loop-event.self c.args.events.now c.loop-event.replies.items c.loop-event.invariant.ran
+
+pub returns-in-Err-clause-kept_before : goal.returns-in-Err-clause-kept_before
+returns-in-Err-clause-kept_before c = keeps_each_tap c.args.self c.apply.new.self c.args.events.now c.loop-event.replies.items (none_more c.args.self c.loop-event.self c.apply.new.self c.args.events.now c.loop-event.replies.items c.loop-event.invariant.ran c.in-Err.ensures)
+
+pub returns-in_default-clause-kept_before : goal.returns-in_default-clause-kept_before
+returns-in_default-clause-kept_before c =
+    let w = c.args.self in
+    let events = c.args.events.now in
+    keeps_each_tap w w events c.new.result.items (subst (HasRun w w events) (sym c.new.ensures.items) (run_of_none w events))
 
 pub returns-clause-orderly : goal.returns-clause-orderly
 returns-clause-orderly c = orderly_replies c.args.self c.loop-event.self c.args.events.now c.loop-event.replies.items c.loop-event.invariant.ran
