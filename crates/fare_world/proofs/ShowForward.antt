@@ -14,12 +14,12 @@ use Rattle.fare_world.specs.declared.event.Event.TheVariants as event
 use Rattle.fare_world.specs.declared.reply.Refusal.{Refusal}
 use Rattle.fare_world.specs.declared.reply.Refusal.TheVariants.{UnknownDevice, UnknownOwner, HandFull, Duplicate, Gap}
 use Rattle.fare_world.specs.declared.reply.Reply.{Reply}
-use Rattle.fare_world.specs.declared.reply.Reply.TheVariants.{Idle, Empty, Refused, Forwarded, Fetched, Taken}
+use Rattle.fare_world.specs.declared.reply.Reply.TheVariants.{Idle, Empty, Refused, Forwarded, Fetched, Taken, Count}
 use Rattle.fare_world.specs.declared.owner.Owner.{Owner}
 use Rattle.fare_world.specs.declared.ledger.Ledger.{Ledger}
 use Rattle.fare_world.specs.declared.world.World.{World}
 use Rattle.fare_world.specs.System.{put, Lane_of, OwnerState, LaneState, System, numbered_for, arrived_of}
-use Rattle.fare_world.specs.Steps.{knows_device, forwarded, forward_next, forward, fetch_from, fetch, emptied, took, take_from, take_event}
+use Rattle.fare_world.specs.Steps.{knows_device, forwarded, forward_next, forward, fetch_from, fetch, emptied, took, take_from, take_event, count}
 use Rattle.fare_world.specs.Stores.{IsNextRow, IsTaken}
 use Rattle.fare_world.specs.Tables.{taken_in}
 use Rattle.fare_world.specs.Rooms.{HasRooms}
@@ -300,6 +300,13 @@ shown_take sc h s o a x r owner taken w at e f did same =
 
     goes : take_event sc s o ≡ (took s o d, Taken d r.lane)
     goes = found.0 ∙ runs next
+
+-- COUNT
+pub shown_count : (sc : SchemeValue) (h : Shape) (s : System) (o d a : ℕ) (x : OwnerShape) (n : ℕ) → Shows sc h s → position_of_owner sc o ≡ Some a → is_some (position_of_device sc d) ≡ true → h.owners o ≡ Some x → n ≡ length (x.taken d) → Answers sc h (count sc s o d) (Count n)
+shown_count sc h s o d a x n w owner device e counted = answers_by sc h (Count n) (count sc s o d) (s, Count (s.lanes o d).took) (λ i. known (is_some (owner i)) (device i)) (ap Count (counted ∙ taken_count sc h s o d x w e)) w
+  where
+    known : Bool → Bool → System × Reply
+    known p q = if p then (if q then (s, Count (s.lanes o d).took) else (s, Refused UnknownDevice)) else (s, Refused UnknownOwner)
 
 -- THE CODE'S TABLES
 -- an owner that the code read
