@@ -17,7 +17,7 @@ abbrev pub AreLinksAfter : ℕ → List RecordValue → Type 0
 AreLinksAfter first rs = (k : ℕ) (r : RecordValue) → slice_get rs k ≡ Some r → r.link ≡ first + k + 1
 
 links_behind : (first : ℕ) (r : RecordValue) (rs : List RecordValue) → AreLinksAfter first (r ∷ rs) → AreLinksAfter (first + 1) rs
-links_behind first r rs links k q e = omega (arith, links (k + 1) q e)
+links_behind first r rs links k q e = omega (arith, links (suc k) q e)
 
 -- those of no link at or below this one are all beyond it
 all_beyond : (upto first : ℕ) (rs : List RecordValue) → AreLinksAfter first rs → upto ≤ first → beyond upto rs ≡ rs

@@ -1,5 +1,6 @@
 -- A run so far, and one event more.
 use Rattle.std.proofs.Common.{◌≡◌, ◌+◌, ◌<◌, List, [], ◌∷◌, ◌++◌, length, take, drop, get_or, refl, sym, ap, ◌∙◌, subst, arith}
+use Rattle.std.specs.Prelude.{IfSome}
 use Rattle.std.specs.List.{AllByRecursion}
 use Rattle.std.proofs.lemmas.List.{take_more, length_push}
 use Rattle.fare_record.specs.Lanes.{part, lane_of}
@@ -119,10 +120,10 @@ keeps_each_tap old new events rs h fresh o d = IfSome-weaken (IsOwnerOf s.device
     lane : part o (s.devices d).taps ≡ lane_of o d (numbered new.scheme events rs)
     lane = ap (part o) (taps_after sc (start sc) es d (start_is sc)) ∙ ap (lane_of o d) (same_numbered old new events rs h fresh)
 
-    abbrev IsInThree : OwnerShape → DeviceValue → Type 0
+    IsInThree : OwnerShape → DeviceValue → Type 0
     IsInThree x v = lane_of o d (numbered new.scheme events rs) ≡ x.taken d ++ (drop (length (x.taken d)) ((shape new).rows o d) ++ part o (beyond ((shape new).upto d) v.waiting))
 
-    abbrev Kept : OwnerShape → Type 0
+    Kept : OwnerShape → Type 0
     Kept x = IfSome ((shape new).devices d) (IsInThree x)
 
     device : (x : OwnerShape) → IsOwnerOf s.devices o (s.owners o) (s.lanes o) x → (v : DeviceValue) → IsDeviceOf new.scheme d (s.devices d) v → IsInThree x v
