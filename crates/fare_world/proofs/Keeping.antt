@@ -1,6 +1,6 @@
 -- A lane, by the places of its taps: what was taken of it, the rows of the outbox behind that, and what waits in the device behind those.
-use Rattle.std.proofs.Common.{◌≡◌, ℕ, zero, suc, ◌+◌, ◌-◌, ◌<◌, ◌≤◌, List, [], ◌∷◌, ◌++◌, length, take, drop, Some, true, false, refl, sym, ap, ◌∙◌, arith, append_assoc}
-use Rattle.std.specs.Prelude.{◌==◌, slice_get, nat_lt}
+use Rattle.std.proofs.Common.{◌≡◌, ℕ, zero, suc, ◌+◌, ◌-◌, ◌≤◌, List, [], ◌∷◌, ◌++◌, length, take, drop, Some, refl, sym, ap, ◌∙◌, arith, append_assoc}
+use Rattle.std.specs.Prelude.{◌==◌, slice_get}
 use Rattle.std.proofs.lemmas.Bool.Decides.{nat_tests}
 use Rattle.std.proofs.lemmas.List.{take-append-drop, take-append-le, length-take-le, drop-drop}
 use Rattle.std.proofs.lemmas.List.Elements.{filter-append}
@@ -10,7 +10,7 @@ use Rattle.fare_scheme.specs.Values.{SchemeValue}
 use Rattle.fare_world.specs.System.{DeviceState, arrived_of}
 use Rattle.fare_world.specs.Shown.{IsDevice}
 use Rattle.fare_world.specs.Whole.{beyond}
-use Rattle.fare_world.proofs.Lists.{if_all, slice_get-drop}
+use Rattle.fare_world.proofs.Lists.{slice_get-drop}
 
 -- the links of a list count up by one from a link
 abbrev pub AreLinksAfter : ℕ → List RecordValue → Type 0

@@ -88,5 +88,5 @@ beyond upto rs = filter (λ r. nat_lt upto r.link) rs
 abbrev pub KeepsEachTap : World → List Event → List Reply → Type 0
 KeepsEachTap w events answered =
     (owner device : ℕ) → IfSome ((shape w).owners owner) (λ x. IfSome ((shape w).devices device) (λ v.
-        lane_of owner device (numbered w.scheme events answered)
-        ≡ x.taken device ++ (drop (length (x.taken device)) ((shape w).rows owner device) ++ part owner (beyond ((shape w).upto device) v.waiting))))
+    lane_of owner device (numbered w.scheme events answered)
+    ≡ x.taken device ++ (drop (length (x.taken device)) ((shape w).rows owner device) ++ part owner (beyond ((shape w).upto device) v.waiting))))
