@@ -1,8 +1,8 @@
 -- What a world shows after an arrival, an acknowledgement, its answer, a rewind and a resume.
-use Rattle.std.proofs.Common.{◌≡◌, ℕ, zero, suc, ◌+◌, ◌-◌, ◌<◌, ◌≤◌, List, [], ◌∷◌, ◌++◌, length, drop, max, Some, None, Bool, true, false, refl, sym, ap, ◌∙◌, subst, arith}
+use Rattle.std.proofs.Common.{◌≡◌, ℕ, ◌+◌, ◌-◌, ◌<◌, ◌≤◌, List, [], ◌∷◌, ◌++◌, length, drop, max, Some, None, Bool, true, false, refl, sym, ap, ◌∙◌, subst, arith}
 use Rattle.std.specs.Prelude.{◌==◌, slice_get, if◌then◌else◌, Option, IfSome, is_some, Ok, Err, option_map}
 use Rattle.std.proofs.lemmas.Bool.Decides.{nat_tests, Decides-eqb}
-use Rattle.std.proofs.Math.Seq.{drop-nil}
+use Rattle.std.proofs.lemmas.List.{drop-drop}
 use Rattle.std.proofs.lemmas.Option.{slice_get_within}
 use Rattle.fare_record.specs.Values.{RecordValue, AckValue}
 use Rattle.fare_scheme.specs.Values.{SchemeValue}
@@ -192,11 +192,6 @@ shown_accepted sc h s station x new r w at of here is due does same =
         (stations_put sc h s d station after new w of (station_put sc s.devices d station after (λ n. n + 1) (s.lines station) x new of shown does same (ap (λ n. n + 1) next)))
 
 -- AN ACKNOWLEDGEMENT COMES
-drop-drop : {X : Type 0} (a b : ℕ) (xs : List X) → drop a (drop b xs) ≡ drop (b + a) xs
-drop-drop a zero xs = let same : a ≡ 0 + a = omega arith in ap (λ n. drop n xs) same
-drop-drop a (suc b) [] = drop-nil a ∙ sym (drop-nil (suc b + a))
-drop-drop a (suc b) (x ∷ xs) = let next : suc (b + a) ≡ suc b + a = omega arith in drop-drop a b xs ∙ ap (λ n. drop n (x ∷ xs)) next
-
 hears : (s : System) (d u : ℕ) → u ≤ length (s.devices d).taps → ack_comes s d u ≡ (heard s d u, Dropped (u - (s.devices d).base))
 hears s d u le = grind (arith, nat_tests)
 

@@ -116,11 +116,11 @@ impl World {
         ensures whole { IfOk result (λ r. length r.1.items ≡ length events.now) }
         ensures stopped { IfErr result (λ stop. HasRun self stop.world events.now stop.replies.items) }
         ensures taken { IfOk result (λ r. StandsAt self (start self.scheme) → TakenInOrder r.0 events.now r.1.items) }
+        ensures taken_before { IfErr result (λ stop. StandsAt self (start self.scheme) → TakenInOrder stop.world events.now stop.replies.items) }
         ensures kept { IfOk result (λ r. StandsAt self (start self.scheme) → KeepsEachTap r.0 events.now r.1.items) }
+        ensures kept_before { IfErr result (λ stop. StandsAt self (start self.scheme) → KeepsEachTap stop.world events.now stop.replies.items) }
         ensures orderly { IfOk result (λ r. StandsAt self (start self.scheme) → AllByRecursion IsOrderly r.1.items) }
         ensures orderly_before { IfErr result (λ stop. StandsAt self (start self.scheme) → AllByRecursion IsOrderly stop.replies.items) }
-        ensures taken_before { IfErr result (λ stop. StandsAt self (start self.scheme) → TakenInOrder stop.world events.now stop.replies.items) }
-        ensures kept_before { IfErr result (λ stop. StandsAt self (start self.scheme) → KeepsEachTap stop.world events.now stop.replies.items) }
     {
         let Ok(mut replies) = Vec::with_capacity(alloc, events.len()) else {
             return Err(Stopped {
