@@ -4,12 +4,14 @@
 //! No call takes memory.
 #![tactic(auto)]
 
+mod laws;
 #[cfg(test)]
 mod tests;
 mod traffic;
 mod week;
 mod zone;
 
+pub use laws::one_rule_tells_one_time;
 pub use traffic::{BadMoment, traffic_day};
 pub use week::{is_monday, monday_of};
 pub use zone::{BadZone, Zone};
