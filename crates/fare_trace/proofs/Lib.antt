@@ -9,3 +9,4 @@ pub mod Printing
 pub mod Words
 pub mod Weaving
 pub mod Answering
+pub mod Clocks
