@@ -1,10 +1,8 @@
 -- Two clocks that tell the same days give the same replies, so a trace has one answer.
-use Rattle.std.proofs.Common.{◌≡◌, ◌∙◌, ◌++◌, ℕ, List, [], ◌∷◌, Bool, true, false, Option, Some, None, inl, inr, if◌then◌else◌, ap, sym, refl, subst, unwrap_or, arith}
-use Rattle.std.specs.Prelude.{is_none, codes}
+use Rattle.std.proofs.Common.{◌≡◌, ◌∙◌, ◌++◌, ℕ, List, [], ◌∷◌, Bool, true, false, Option, Some, None, inl, inr, if◌then◌else◌, ap, sym, refl, subst, unwrap_or}
+use Rattle.std.specs.Prelude.{is_none}
 use Rattle.std.specs.Io.KnownBytes.{Appends}
-use Rattle.fare_record.specs.Values.{TapValue}
 use Rattle.fare_day.specs.declared.zone.Zone.{Zone}
-use Rattle.fare_day.specs.Clock.{HasRule}
 use Rattle.fare_day.specs.TrafficDay.{traffic_day_in_range}
 use Rattle.fare_day.proofs.Rules.{same_day_in_range}
 use Rattle.fare_scheme.specs.declared.demo.DemoFault.{DemoFault}
@@ -12,19 +10,17 @@ use Rattle.fare_scheme.specs.declared.demo.DemoSize.{DemoSize}
 use Rattle.fare_scheme.specs.declared.demo.DemoSize.TheVariants.{OneDevice, TwoDevices}
 use Rattle.fare_scheme.specs.declared.fault.SealFault.{SealFault}
 use Rattle.fare_scheme.specs.Values.{DraftValue, SchemeValue}
-use Rattle.fare_scheme.specs.Registering.{empty_draft, owner_refusal, operator_refusal, station_refusal, product_refusal, caps_refusal, device_refusal, with_owner, with_operator, with_station, with_product, with_caps, with_device, first_case}
+use Rattle.fare_scheme.specs.Registering.{with_owner, with_operator, with_station, with_product, with_caps, with_device, first_case}
 use Rattle.fare_scheme.specs.Sealing.{IsSealedFrom, seal_refusal, lacks_a_kind}
 use Rattle.fare_scheme.specs.Demo.{demo_refusal, demo_rule, demo_scheme}
 use Rattle.fare_scheme.specs.declared.fault.SealFault.TheVariants.{NothingRegistered, NoStart, NoZone}
-use Rattle.fare_scheme.specs.Ranges.{IsCapacity}
-use Rattle.fare_record.specs.Limits.{IsDay}
 use Rattle.fare_world.specs.declared.event.Event.{Event}
 use Rattle.fare_world.specs.declared.event.Event.TheVariants as event
 use Rattle.fare_world.specs.declared.reply.Reply.{Reply}
 use Rattle.fare_world.specs.declared.reply.Reply.TheVariants.{Refused}
 use Rattle.fare_world.specs.declared.reply.Refusal.{Refusal}
 use Rattle.fare_world.specs.declared.reply.Refusal.TheVariants.{UnknownDevice}
-use Rattle.fare_world.specs.System.{System, day_of, start}
+use Rattle.fare_world.specs.System.{System}
 use Rattle.fare_world.specs.Steps.{knows_device, step, tap_on, tap}
 use Rattle.fare_trace.specs.declared.line.Line.{Line}
 use Rattle.fare_trace.specs.declared.line.Line.TheVariants.{Setup, Step}
@@ -33,7 +29,7 @@ use Rattle.fare_trace.specs.declared.line.SchemeLine.TheVariants as scheme
 use Rattle.fare_trace.specs.Replies.{replies_text}
 use Rattle.fare_trace.specs.Replay.{IsOutput, Replays}
 use Rattle.fare_trace.proofs.Printing.{one_reading}
-use Rattle.fare_trace.specs.Answers.{Answers, AnswersAll, Demonstrates, Drafting, Running, Seals, Sets, SetsUp, SetsZone, Stage, accepted, add_refusal, begun, cap_refusal, entered, first_stage, refused}
+use Rattle.fare_trace.specs.Answers.{Answers, AnswersAll, Demonstrates, Drafting, Running, Seals, Sets, SetsUp, SetsZone, Stage, accepted, begun, entered, first_stage, refused}
 
 -- EVENTS
 -- two clocks tell one traffic day at each moment
