@@ -2,7 +2,6 @@ ghost use Rattle.std.specs.Prelude.{◌≡◌, length, IfSome};
 
 use super::*;
 use fare_day::traffic_day;
-use fare_frame::Frame;
 use fare_record::{Day, DeviceId, LAST_NUMBER, Moment, ProductId, Token};
 use fare_scheme::{DemoSize, Scheme};
 use std::alloc::Global;
@@ -35,10 +34,8 @@ fn tap(device: &mut Device, scheme: &Scheme) -> Option<Result<(u64, u64), TapRef
 fn send(device: &mut Device) -> Option<u64>
     ensures { length device.new.lanes ≡ length device.old.lanes }
 {
-    device
-        .next_frame()
-        .and_then(Frame::tapped)
-        .map(|row| row.link())
+    let row = device.next_frame()?.tapped()?;
+    Some(row.link())
 }
 
 fn hear(device: &mut Device, upto: u64) -> Option<u64>
