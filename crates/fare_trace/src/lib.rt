@@ -24,3 +24,5 @@ pub use zone_text::ZoneText;
 
 #[cfg(test)]
 mod tests;
+#[cfg(test)]
+mod traces;
