@@ -33,7 +33,6 @@ const MOST_BUFFER: u32 = 4_096;
 const MOST_CAPACITY: u32 = 1_024;
 
 /// The registrations of a scheme that isn't sealed yet, all of them accepted. What is refused leaves it as it was.
-#[derive(Drop)]
 pub struct Draft {
     owners: IndexMap<OwnerId, u32>,
     operators: IndexSet<OperatorId>,
@@ -72,6 +71,27 @@ impl Model for Draft {
       start = d.start;
       zone = d.zone;
     }) };
+}
+
+impl Drop for Draft {
+    // Derived, it would stand part by part in the proof of each function that may let a draft go.
+    fn drop(self) {
+        let Draft {
+            owners,
+            operators,
+            stations,
+            products,
+            devices,
+            inbox_capacity: _,
+            start: _,
+            zone: _,
+        } = self;
+        drop(owners);
+        drop(operators);
+        drop(stations);
+        drop(products);
+        drop(devices);
+    }
 }
 
 // What a device's buffer may hold.

@@ -10,7 +10,6 @@ use indexmap::{IndexMap, IndexSet};
 use std::marker::Model;
 
 /// A sealed scheme. Its parts stand in the order in which they were registered, and positions count from 0.
-#[derive(Drop)]
 pub struct Scheme {
     pub(crate) owners: IndexMap<OwnerId, u32>,
     pub(crate) operators: IndexSet<OperatorId>,
@@ -49,6 +48,27 @@ impl Model for Scheme {
       start = s.start;
       zone = s.zone;
     }) };
+}
+
+impl Drop for Scheme {
+    // Derived, it would stand part by part in the proof of each function that may let a scheme go.
+    fn drop(self) {
+        let Scheme {
+            owners,
+            operators,
+            stations,
+            products,
+            devices,
+            inbox_capacity: _,
+            start: _,
+            zone: _,
+        } = self;
+        drop(owners);
+        drop(operators);
+        drop(stations);
+        drop(products);
+        drop(devices);
+    }
 }
 
 impl Scheme {
