@@ -5,17 +5,12 @@ use Rattle.fare_scheme.specs.declared.fault.AddFault.{AddFault}
 use Rattle.fare_scheme.specs.declared.fault.AddFault.TheVariants.{Memory}
 use Rattle.fare_scheme.specs.Values.{DraftValue}
 use Rattle.fare_world.specs.declared.reply.Refusal.{Refusal}
-use Rattle.fare_world.specs.declared.event.Event.{Event}
 use Rattle.fare_world.specs.declared.reply.Reply.{Reply}
-use Rattle.fare_world.specs.declared.reply.Reply.TheVariants.{Refused}
-use Rattle.fare_world.specs.declared.reply.Refusal.TheVariants.{Unsealed}
 use Rattle.fare_trace.specs.declared.line.Line.{Line}
-use Rattle.fare_trace.specs.declared.line.Line.TheVariants.{Setup, Step}
-use Rattle.fare_trace.specs.declared.line.SchemeLine.{SchemeLine}
 use Rattle.fare_trace.specs.declared.registering.Registration.{Registration}
-use Rattle.fare_trace.specs.Answers.{Answers, AnswersAll, Drafting, SetsUp, Stage, accepted, add_refusal, entered, refused}
-use Rattle.fare_trace.specs.Registration.{AfterAdding, answer_of, stage_of}
-use Rattle.fare_trace.specs.Weaving.{AppendsAnswers}
+use Rattle.fare_trace.specs.Answers.{Answers, AnswersAll, Stage, accepted, add_refusal, entered, refused}
+use Rattle.fare_trace.specs.Registration.{AfterAdding, answer_of}
+use Rattle.fare_trace.specs.Weaving.{AppendsAnswer, AppendsAnswers}
 use Rattle.fare_trace.proofs.Cuts.{append_nil}
 
 -- ADDITIONS
@@ -38,10 +33,14 @@ addition old new changed used r (Err cause) (Ok answer) allowed becomes fault sa
 abbrev pub Leads : Stage → List Line → List Reply → Stage → List Line → Type 0
 Leads first lines replies stage rest = (more : List Reply) → AnswersAll stage rest more → AnswersAll first lines (replies ++ more)
 
-pub one_more : (first : Stage) (lines : List Line) (replies : List Reply) (stage : Stage) (rest : List Line) (line : Line) (later : List Line) (next : Stage) (reply : Reply) (new : List Reply) → Leads first lines replies stage rest → rest ≡ line ∷ later → new ≡ replies ++ reply ∷ [] → Answers stage line (next, reply) → Leads first lines new next later
+one_more : (first : Stage) (lines : List Line) (replies : List Reply) (stage : Stage) (rest : List Line) (line : Line) (later : List Line) (next : Stage) (reply : Reply) (new : List Reply) → Leads first lines replies stage rest → rest ≡ line ∷ later → new ≡ replies ++ reply ∷ [] → Answers stage line (next, reply) → Leads first lines new next later
 one_more first lines replies stage rest line later next reply new leads is pushed answer more answers =
     let all : replies ++ (reply ∷ more) ≡ new ++ more = sym (append_assoc replies (reply ∷ []) more) ∙ ap (λ t. t ++ more) (sym pushed) in
     subst (AnswersAll first lines) all (leads (reply ∷ more) (subst (λ ls. AnswersAll stage ls (reply ∷ more)) (sym is) (next, answer, answers)))
+
+pub line_more : (first : Stage) (lines : List Line) (replies : List Reply) (stage : Stage) (rest : List Line) (line : Line) (later : List Line) (next : Stage) (new : List Reply) → Leads first lines replies stage rest → rest ≡ line ∷ later → AppendsAnswer stage line next replies new → Leads first lines new next later
+line_more first lines replies stage rest line later next new leads is appends =
+    one_more first lines replies stage rest line later next appends.0 new leads is appends.2 appends.1
 
 pub all_more : (first : Stage) (lines : List Line) (replies : List Reply) (stage : Stage) (rest : List Line) (new : List Reply) → Leads first lines replies stage rest → AppendsAnswers stage rest replies new → AnswersAll first lines new
 all_more first lines replies stage rest new leads appends =
@@ -50,11 +49,3 @@ all_more first lines replies stage rest new leads appends =
 pub no_more : (first : Stage) (lines : List Line) (replies : List Reply) (stage : Stage) (rest : List Line) → Leads first lines replies stage rest → length rest ≡ 0 → AnswersAll first lines replies
 no_more first lines replies stage [] leads none = subst (AnswersAll first lines) (append_nil replies) (leads [] tt)
 no_more first lines replies stage (line ∷ later) leads none = absurd (omega arith)
-
-pub event_answer : (draft : DraftValue) (used : Bool) (line : Line) (event : Event) → line ≡ Step event → Answers (Drafting draft used) line (Drafting draft used, Refused Unsealed)
-event_answer draft used line event is = subst (λ l. Answers (Drafting draft used) l (Drafting draft used, Refused Unsealed)) (sym is) refl
-
-pub setup_answer : (draft : DraftValue) (used : Bool) (line : Line) (setup : SchemeLine) (registration : Registration) (reply : Reply) (next : Stage) → line ≡ Setup setup → SetsUp draft used setup (answer_of (registration, reply)) → stage_of registration ≡ next → Answers (Drafting draft used) line (next, reply)
-setup_answer draft used line setup registration reply next is sets same =
-    subst (λ s. Answers (Drafting draft used) line (s, reply)) same
-    (subst (λ l. Answers (Drafting draft used) l (stage_of registration, reply)) (sym is) sets)

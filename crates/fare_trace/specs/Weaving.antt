@@ -5,7 +5,7 @@ use Rattle.fare_world.specs.declared.event.Event.{Event}
 use Rattle.fare_world.specs.declared.reply.Reply.{Reply}
 use Rattle.fare_world.specs.declared.reply.Reply.TheVariants.{Refused}
 use Rattle.fare_world.specs.declared.reply.Refusal.TheVariants.{Sealed}
-use Rattle.fare_trace.specs.Answers.{AnswersAll, Stage}
+use Rattle.fare_trace.specs.Answers.{Answers, AnswersAll, Stage}
 use Rattle.fare_trace.specs.declared.line.Line.{Line}
 use Rattle.fare_trace.specs.declared.line.Line.TheVariants.{Setup, Step}
 
@@ -27,3 +27,7 @@ woven (Step event ∷ lines) (reply ∷ replies) = reply ∷ woven lines replies
 -- more replies, to these lines from this stage on
 abbrev pub AppendsAnswers : Stage → List Line → List Reply → List Reply → Type 0
 AppendsAnswers stage lines old new = (replies : List Reply) × AnswersAll stage lines replies × (new ≡ old ++ replies)
+
+-- one more reply, to this line, which leads from one stage to the next
+abbrev pub AppendsAnswer : Stage → Line → Stage → List Reply → List Reply → Type 0
+AppendsAnswer stage line next old new = (reply : Reply) × Answers stage line (next, reply) × (new ≡ old ++ reply ∷ [])

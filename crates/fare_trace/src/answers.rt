@@ -1,10 +1,12 @@
-ghost use Rattle.std.specs.Prelude.{◌≡◌, ◌++◌, OnOk, IfOk, length};
+ghost use Rattle.std.specs.Prelude.{◌≡◌, ◌++◌, OnOk, IfOk, length, take};
 ghost use Rattle.fare_world.specs.System.{start};
-ghost use Rattle.fare_trace.specs.Answers.{AnswersAll, Running, first_stage};
-ghost use Rattle.fare_trace.specs.Weaving.{AppendsAnswers, events_of, woven};
+ghost use Rattle.fare_world.specs.Steps.{replies};
+ghost use Rattle.fare_trace.specs.Answers.{AnswersAll, Drafting, Running, first_stage};
+ghost use Rattle.fare_trace.specs.Registration.{stage_of};
+ghost use Rattle.fare_trace.specs.Weaving.{AppendsAnswer, AppendsAnswers, events_of, woven};
 
 use crate::line::Line;
-use crate::registering::{Registration, set_up};
+use crate::registering::{Registration, refuse, set_up};
 use fare_scheme::{Draft, Scheme};
 use fare_world::{Event, Refusal, Reply, World};
 use std::alloc::{AllocError, Global};
@@ -45,6 +47,20 @@ fn weave(lines: &[Line], answered: &[Reply], replies: &mut Vec<Reply>) -> Result
     Ok(())
 }
 
+/// The replies to events in a new world over a scheme.
+fn run_events(alloc: Global, scheme: Scheme, events: &[Event]) -> Result<Vec<Reply>, AllocError>
+    ensures answers { IfOk result (λ answered. answered.items ≡ replies scheme (start scheme) (take (length answered.items) events.now)) }
+    ensures whole { IfOk result (λ answered. length answered.items ≡ length events.now) }
+{
+    let Ok(world) = World::new(alloc, scheme) else {
+        return Err(AllocError);
+    };
+    match world.run(alloc, events) {
+        Ok((_world, answered)) => Ok(answered),
+        Err(_) => Err(AllocError),
+    }
+}
+
 /// Appends the replies to lines that follow the seal of a scheme: one run of a new world over their events.
 fn run_sealed(
     alloc: Global,
@@ -55,13 +71,26 @@ fn run_sealed(
     ensures { OnOk result (AppendsAnswers (Running scheme (start scheme)) lines.now replies.old.items replies.new.items) }
 {
     let events = collect_events(alloc, lines)?;
-    let Ok(world) = World::new(alloc, scheme) else {
-        return Err(AllocError);
+    let answered = run_events(alloc, scheme, &events)?;
+    weave(lines, &answered, replies)
+}
+
+/// How far the registration is after a line, whose reply is appended. The error is want of memory.
+fn answer_line(
+    alloc: Global,
+    draft: Draft,
+    used: bool,
+    line: &Line,
+    replies: &mut Vec<Reply>,
+) -> Result<Registration, AllocError>
+    ensures { IfOk result (λ next. AppendsAnswer (Drafting draft used) line.now (stage_of next) replies.old.items replies.new.items) }
+{
+    let (registration, reply) = match line {
+        Line::Setup(line) => set_up(alloc, draft, used, line)?,
+        Line::Step(_) => refuse(draft, used, Refusal::Unsealed),
     };
-    match world.run(alloc, &events) {
-        Ok((_world, answered)) => weave(lines, &answered, replies),
-        Err(_) => Err(AllocError),
-    }
+    replies.push(reply)?;
+    Ok(registration)
 }
 
 /// The replies to the lines of a trace. The error is want of memory.
@@ -74,13 +103,7 @@ pub fn answer_lines(alloc: Global, lines: &[Line]) -> Result<Vec<Reply>, AllocEr
     let mut rest = lines;
     while let Some((line, later)) = rest.split_first() {
         rest = later;
-        let Line::Setup(line) = line else {
-            replies.push(Reply::Refused(Refusal::Unsealed))?;
-            continue;
-        };
-        let (registration, reply) = set_up(alloc, draft, used, line)?;
-        replies.push(reply)?;
-        match registration {
+        match answer_line(alloc, draft, used, line, &mut replies)? {
             Registration::Open {
                 draft: next,
                 used: now,

@@ -31,7 +31,7 @@ fn accept(draft: Draft) -> (Registration, Reply)
 }
 
 /// The draft goes on, and the line was refused.
-fn refuse(draft: Draft, used: bool, refusal: Refusal) -> (Registration, Reply)
+pub fn refuse(draft: Draft, used: bool, refusal: Refusal) -> (Registration, Reply)
     ensures { answer_of result ≡ refused_draft draft used refusal }
 {
     (Registration::Open { draft, used }, Reply::Refused(refusal))

@@ -1,38 +1,29 @@
-use Rattle.std.proofs.Common.{◌≡◌, ◌∷◌, ap, length, rules}
+use Rattle.std.proofs.Common.{◌≡◌, ◌∷◌, ap, length, rules, subst}
 use Rattle.fare_world.specs.System.{start}
-use Rattle.fare_trace.specs.Answers.{Drafting, Running, first_stage}
+use Rattle.fare_trace.specs.Answers.{Drafting, Running, Stage, first_stage}
 use Rattle.fare_trace.specs.Registration.{stage_of}
-use Rattle.fare_trace.proofs.Answering.{all_more, event_answer, no_more, one_more, setup_answer}
+use Rattle.fare_trace.specs.Weaving.{AppendsAnswer}
+use Rattle.fare_trace.proofs.Answering.{all_more, line_more, no_more}
 use Rattle.fare_trace.proofs.answers.answer_lines.Goals as goal
-
-pub loop-line-preserved-in_default-line : goal.loop-line-preserved-in_default-line
-loop-line-preserved-in_default-line c =
-    let stage = Drafting c.loop-line.draft c.loop-line.used in
-    let front : c.loop-line.rest.now ≡ c.in-Some.line.now ∷ c.in-Some.later.now = search rules in
-    one_more first_stage c.args.lines.now c.loop-line.replies.items stage c.loop-line.rest.now c.in-Some.line.now c.in-Some.later.now stage _ c.push.new.self.items
-    c.loop-line.invariant front c.in_ok-push.ensures.items
-    (event_answer c.loop-line.draft c.loop-line.used c.in-Some.line.now c.in_default-line.field-0 c.in_default-line.is)
 
 pub loop-line-preserved : goal.loop-line-preserved
 loop-line-preserved c =
+    let stage = Drafting c.loop-line.draft c.loop-line.used in
     let next = Drafting c.in-Open.next c.in-Open.now in
     let front : c.loop-line.rest.now ≡ c.in-Some.line.now ∷ c.in-Some.later.now = search rules in
-    one_more first_stage c.args.lines.now c.loop-line.replies.items (Drafting c.loop-line.draft c.loop-line.used) c.loop-line.rest.now c.in-Some.line.now c.in-Some.later.now
-    next c.in_ok-registration.reply c.push-in-Some.new.self.items
-    c.loop-line.invariant front c.in_ok-push-2.ensures.items
-    (setup_answer c.loop-line.draft c.loop-line.used c.in-Some.line.now c.in-Setup.line c.in_ok-registration.registration c.in_ok-registration.reply next
-    c.in-Setup.is c.in_ok-registration.ensures (ap stage_of c.in-Open.is))
+    line_more first_stage c.args.lines.now c.loop-line.replies.items stage c.loop-line.rest.now c.in-Some.line.now c.in-Some.later.now next c.answer_line.new.replies.items
+    c.loop-line.invariant front
+    (subst (λ (s : Stage). AppendsAnswer stage c.in-Some.line.now s c.loop-line.replies.items c.answer_line.new.replies.items) (ap stage_of c.in-Open.is) c.in_ok-next.ensures)
 
 pub returns-in-Sealed : goal.returns-in-Sealed
 returns-in-Sealed c =
+    let stage = Drafting c.loop-line.draft c.loop-line.used in
     let next = Running c.in-Sealed.scheme (start c.in-Sealed.scheme) in
     let front : c.loop-line.rest.now ≡ c.in-Some.line.now ∷ c.in-Some.later.now = search rules in
-    let leads = one_more first_stage c.args.lines.now c.loop-line.replies.items (Drafting c.loop-line.draft c.loop-line.used) c.loop-line.rest.now c.in-Some.line.now c.in-Some.later.now
-    next c.in_ok-registration.reply c.push-in-Some.new.self.items
-    c.loop-line.invariant front c.in_ok-push-2.ensures.items
-    (setup_answer c.loop-line.draft c.loop-line.used c.in-Some.line.now c.in-Setup.line c.in_ok-registration.registration c.in_ok-registration.reply next
-    c.in-Setup.is c.in_ok-registration.ensures (ap stage_of c.in-Sealed.is)) in
-    all_more first_stage c.args.lines.now c.push-in-Some.new.self.items next c.in-Some.later.now c.run_sealed.new.replies.items leads c.in_ok-run_sealed-in-Sealed.ensures
+    let leads = line_more first_stage c.args.lines.now c.loop-line.replies.items stage c.loop-line.rest.now c.in-Some.line.now c.in-Some.later.now next c.answer_line.new.replies.items
+    c.loop-line.invariant front
+    (subst (λ (s : Stage). AppendsAnswer stage c.in-Some.line.now s c.loop-line.replies.items c.answer_line.new.replies.items) (ap stage_of c.in-Sealed.is) c.in_ok-next.ensures) in
+    all_more first_stage c.args.lines.now c.answer_line.new.replies.items next c.in-Some.later.now c.run_sealed.new.replies.items leads c.in_ok-run_sealed-in-Sealed.ensures
 
 pub returns : goal.returns
 returns c =

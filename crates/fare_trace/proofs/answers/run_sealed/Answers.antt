@@ -12,15 +12,13 @@ appended : {E : Type 0} (stage : Stage) (lines : List Line) (old new : List Repl
 appended stage lines old new (Ok done) more answers is = (more, answers, is)
 appended stage lines old new (Err error) more answers is = tt
 
-pub returns-in-Ok-run : goal.returns-in-Ok-run
-returns-in-Ok-run c =
+pub returns : goal.returns
+returns c =
     let first = start c.args.scheme in
-    let count = length c.in-Ok-run.answered.items in
+    let answered = c.in_ok-answered.answered.items in
     let events : c.deref.result.now ≡ events_of c.args.lines.now = c.deref.ensures.value ∙ c.in_ok-events.ensures in
-    let ran : c.in-Ok-run.answered.items ≡ replies c.args.scheme first (take count (events_of c.args.lines.now)) =
-    c.in-Ok-run.ensures.ran.answers first c.in-Ok.ensures.start
-    ∙ ap (λ sc. replies sc first (take count c.deref.result.now)) c.in-Ok.ensures.scheme
-    ∙ ap (λ es. replies c.args.scheme first (take count es)) events in
-    let answers : AnswersAll (Running c.args.scheme first) c.args.lines.now (woven c.args.lines.now c.in-Ok-run.answered.items) =
-    run_answers c.args.scheme first c.args.lines.now c.in-Ok-run.answered.items ran (c.in-Ok-run.ensures.whole ∙ ap length events) in
-    appended (Running c.args.scheme first) c.args.lines.now c.args.replies.now.items _ c.weave.result _ answers (rw c.deref-in-Ok-run.ensures.value at c.weave.ensures)
+    let ran : answered ≡ replies c.args.scheme first (take (length answered) (events_of c.args.lines.now)) =
+    c.in_ok-answered.ensures.answers ∙ ap (λ es. replies c.args.scheme first (take (length answered) es)) events in
+    let answers : AnswersAll (Running c.args.scheme first) c.args.lines.now (woven c.args.lines.now answered) =
+    run_answers c.args.scheme first c.args.lines.now answered ran (c.in_ok-answered.ensures.whole ∙ ap length events) in
+    appended (Running c.args.scheme first) c.args.lines.now c.args.replies.now.items _ c.weave.result _ answers (rw c.deref-2.ensures.value at c.weave.ensures)
