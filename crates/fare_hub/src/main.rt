@@ -6,46 +6,60 @@
 //! job failed, and 2 with a text on standard error where the words were refused.
 #![tactic(auto)]
 
+ghost use Rattle.std.specs.Prelude.{◌≡◌};
+
 mod command;
+mod ending;
 mod words;
 
+use ending::Ending;
 use fare_trace::replay;
+use std::alloc::Global;
 use std::fmt::Display;
+use std::io::{Read, Write};
 use std::process::ExitCode;
 use std::{env, io};
 use words::{Job, WordsFault, read_words};
 
-/// The status of refused words.
-const REFUSED: u8 = 2;
-
-/// One line on standard error, and status 1.
-fn fail<R: Eprint, D: Display + Drop>(rt: &R, line: D) -> ExitCode {
+/// One line on standard error.
+fn fail<R: Eprint, D: Display + Drop>(rt: &R, line: D) -> Ending
+    ensures { result ≡ Ending.Failed }
+{
     let _ = eprintln!(rt; "{line}");
-    ExitCode::FAILURE
+    Ending::Failed
 }
 
-/// A text on standard error, and the status of refused words.
-fn refuse<R: Eprint, D: Display + Drop>(rt: &R, text: D) -> ExitCode {
+/// A text on standard error.
+fn refuse<R: Eprint, D: Display + Drop>(rt: &R, text: D) -> Ending
+    ensures { result ≡ Ending.Refused }
+{
     let _ = eprint!(rt; "{text}");
-    ExitCode::from(REFUSED)
+    Ending::Refused
 }
 
-/// Replays standard input to standard output.
-fn replay_input(rt: &HostRuntime) -> ExitCode {
-    match replay(rt.alloc(), &mut rt.reader(), &mut io::writer(rt)) {
-        Ok(()) => ExitCode::SUCCESS,
+/// Replays what a reader gives to a writer.
+fn replay_to<R: Eprint, I: Read, O: Write>(
+    rt: &R,
+    alloc: Global,
+    input: &mut I,
+    output: &mut O,
+) -> Ending {
+    match replay(alloc, input, output) {
+        Ok(()) => Ending::Done,
         Err(fault) => fail(rt, fault),
     }
 }
 
 /// Does what the words after the program's name ask for.
-fn run(rt: &HostRuntime, words: &[&str]) -> ExitCode {
+fn run(rt: &HostRuntime, words: &[&str]) -> Ending {
     match read_words(rt.alloc(), words) {
-        Ok(Job::Replay { sql: false }) => replay_input(rt),
+        Ok(Job::Replay { sql: false }) => {
+            replay_to(rt, rt.alloc(), &mut rt.reader(), &mut io::writer(rt))
+        }
         Ok(Job::Replay { sql: true }) => fail(rt, "this build has no sql store"),
         Ok(Job::Serve { .. }) => fail(rt, "this build has no server"),
         Err(WordsFault::Asked(text)) => match print!(rt; "{text}") {
-            Ok(()) => ExitCode::SUCCESS,
+            Ok(()) => Ending::Done,
             Err(_) => fail(rt, "write failed"),
         },
         Err(WordsFault::Refused(text)) => refuse(rt, text),
@@ -53,26 +67,35 @@ fn run(rt: &HostRuntime, words: &[&str]) -> ExitCode {
     }
 }
 
-fn main(rt: HostRuntime) -> ExitCode {
+/// Does what the program was started for.
+fn start(rt: &HostRuntime) -> Ending {
     let alloc = rt.alloc();
-    let args = match env::args(&rt) {
+    let args = match env::args(rt) {
         Ok(args) => args,
         Err(error) => {
             return if error.kind() == io::ErrorKind::InvalidData {
-                refuse(&rt, "error: a word is not UTF-8\n")
+                refuse(rt, "error: a word is not UTF-8\n")
             } else {
-                fail(&rt, "no memory")
+                fail(rt, "no memory")
             };
         }
     };
     let Ok(args) = args.collect::<Vec<String>>(alloc) else {
-        return fail(&rt, "no memory");
+        return fail(rt, "no memory");
     };
     let mut words: Vec<&str> = Vec::new(alloc);
     for arg in args.iter().skip(1) {
         if words.push(arg.as_str()).is_err() {
-            return fail(&rt, "no memory");
+            return fail(rt, "no memory");
         }
     }
-    run(&rt, &words)
+    run(rt, &words)
 }
+
+fn main(rt: HostRuntime) -> ExitCode {
+    ExitCode::from(start(&rt).status())
+}
+
+// They call private parts of a program, which no other crate reaches.
+#[cfg(test)]
+mod tests;
