@@ -7,8 +7,6 @@
 mod collector;
 mod fault;
 mod laws;
-#[cfg(test)]
-mod tests;
 
 pub use collector::Collector;
 pub use fault::{CollectRefusal, CollectorFault};

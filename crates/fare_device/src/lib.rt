@@ -6,6 +6,3 @@
 mod device;
 
 pub use device::{Device, DeviceFault, NumbersFault, TapRefusal};
-
-#[cfg(test)]
-mod tests;

@@ -10,8 +10,6 @@ mod kind;
 mod laws;
 mod place;
 mod reader;
-#[cfg(test)]
-mod tests;
 
 pub use fault::ReadFault;
 pub use frame::{Frame, LONGEST_FRAME};

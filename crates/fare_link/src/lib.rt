@@ -6,8 +6,6 @@
 
 mod receiver;
 mod sender;
-#[cfg(test)]
-mod tests;
 
 pub use receiver::{Receiver, Verdict};
 pub use sender::{AckAhead, Sender};

@@ -7,8 +7,6 @@
 mod closing;
 mod statement;
 mod tap;
-#[cfg(test)]
-mod tests;
 
 pub use closing::{CloseFault, judge_close};
 pub use statement::{StatementFault, judge_statement};

@@ -40,6 +40,3 @@ pub use statement::Statement;
 pub use station_id::StationId;
 pub use tap::Tap;
 pub use token::Token;
-
-#[cfg(test)]
-mod tests;

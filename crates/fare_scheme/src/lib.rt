@@ -10,8 +10,6 @@ mod entry;
 mod fault;
 mod laws;
 mod scheme;
-#[cfg(test)]
-mod tests;
 
 pub use demo::{DemoFault, DemoSize};
 pub use draft::Draft;

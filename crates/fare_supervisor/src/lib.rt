@@ -4,8 +4,6 @@
 
 mod decision;
 mod supervisor;
-#[cfg(test)]
-mod tests;
 
 pub use decision::{Action, Fault};
 pub use supervisor::Supervisor;

@@ -21,8 +21,3 @@ pub use print::print_reply;
 pub use stream::{ReplayFault, replay};
 pub use text::{ParseFault, parse};
 pub use zone_text::ZoneText;
-
-#[cfg(test)]
-mod tests;
-#[cfg(test)]
-mod traces;

@@ -19,6 +19,3 @@ pub use event::Event;
 pub use laws::{each_event_is_a_lane_step, no_run_refuses_its_own_packets, taken_is_a_prefix};
 pub use reply::{Refusal, Reply};
 pub use world::{Fault, Stopped, World};
-
-#[cfg(test)]
-mod tests;

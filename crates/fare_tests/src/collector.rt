@@ -1,0 +1,172 @@
+use fare_collector::{CollectRefusal, Collector, CollectorFault};
+use fare_record::{
+    Day, DeviceId, LAST_NUMBER, Moment, OwnerId, ProductId, Record, StationId, Tap, Token,
+};
+use fare_scheme::{DemoSize, Scheme};
+use std::alloc::Global;
+use std::process::Abort;
+
+/// A call on a collector.
+#[derive(Clone, Copy)]
+enum Call {
+    /// A tap of a device comes, with this link, for a product, numbered for an owner.
+    Accept {
+        device: u64,
+        link: u64,
+        product: u64,
+        owner: u64,
+    },
+    /// The last accept of a device is undone.
+    GoBack {
+        device: u64,
+    },
+    /// A device goes on after a link.
+    Resume {
+        device: u64,
+        upto: u64,
+    },
+}
+
+fn accept(device: u64, link: u64) -> Call {
+    Call::Accept {
+        device,
+        link,
+        product: 1,
+        owner: 1,
+    }
+}
+
+fn record(device: u64, link: u64, product: u64, owner: u64) -> Option<Record> {
+    if link == 0 || link > LAST_NUMBER {
+        return None;
+    }
+    let moment = Moment::new(1_704_100_000)?;
+    let product = ProductId::new(product)?;
+    let tap = Tap::new(product, Token::new(77)?, moment, Day::new(19_723)?);
+    Some(Record::new(
+        DeviceId::new(device)?,
+        link,
+        OwnerId::new(owner)?,
+        link,
+        tap,
+    ))
+}
+
+fn answer(
+    collector: &mut Collector,
+    scheme: &Scheme,
+    call: Call,
+) -> Option<Result<(), CollectRefusal>> {
+    match call {
+        Call::Accept {
+            device,
+            link,
+            product,
+            owner,
+        } => {
+            let record = record(device, link, product, owner)?;
+            return Some(collector.accept(scheme, &record));
+        }
+        Call::GoBack { device } => collector.unaccept(DeviceId::new(device)?),
+        Call::Resume { device, upto } => {
+            if upto <= LAST_NUMBER {
+                collector.resume(DeviceId::new(device)?, upto);
+            }
+        }
+    }
+    Some(Ok(()))
+}
+
+// Device 1 stands at station 1, device 2 at station 2, and owner 1 has product 1.
+fn two_devices(alloc: Global) -> Option<Scheme> {
+    Scheme::demo(alloc, DemoSize::TwoDevices, 4, 4, 4).ok()
+}
+
+fn collector_of(alloc: Global, scheme: &Scheme, station: u64) -> Option<Collector> {
+    Collector::new(alloc, scheme, StationId::new(station)?).ok()
+}
+
+// A new collector of a station answers these calls so, one after the other.
+fn answers(
+    rt: &impl Abort,
+    alloc: Global,
+    station: u64,
+    calls: &[(Call, Result<(), CollectRefusal>)],
+) {
+    let scheme = two_devices(alloc).expect(rt, "scheme");
+    let mut collector = collector_of(alloc, &scheme, station).expect(rt, "collector");
+    for (call, judged) in calls {
+        assert_eq!(rt; answer(&mut collector, &scheme, *call), Some(*judged));
+    }
+}
+
+#[test]
+fn accepts_the_next_link_alone(rt: HostRuntime) {
+    let calls = [
+        (accept(1, 2), Err(CollectRefusal::Ahead)),
+        (accept(1, 1), Ok(())),
+        (accept(1, 1), Err(CollectRefusal::Old)),
+        (accept(1, 2), Ok(())),
+    ];
+    answers(&rt, rt.alloc(), 1, &calls);
+}
+
+#[test]
+fn refuses_strangers_and_other_owners(rt: HostRuntime) {
+    let wrong = |device, link, product, owner| Call::Accept {
+        device,
+        link,
+        product,
+        owner,
+    };
+    let calls = [
+        (accept(2, 1), Err(CollectRefusal::Stranger)),
+        (accept(3, 1), Err(CollectRefusal::Stranger)),
+        (wrong(2, 1, 1, 2), Err(CollectRefusal::Stranger)),
+        (wrong(1, 1, 1, 2), Err(CollectRefusal::Misrouted)),
+        (wrong(1, 1, 2, 1), Err(CollectRefusal::Misrouted)),
+        (wrong(1, 2, 1, 2), Err(CollectRefusal::Misrouted)),
+        (accept(1, 1), Ok(())),
+    ];
+    answers(&rt, rt.alloc(), 1, &calls);
+}
+
+#[test]
+fn goes_back_and_resumes(rt: HostRuntime) {
+    let calls = [
+        (Call::GoBack { device: 1 }, Ok(())),
+        (accept(1, 1), Ok(())),
+        (Call::GoBack { device: 1 }, Ok(())),
+        (accept(1, 1), Ok(())),
+        (Call::Resume { device: 1, upto: 3 }, Ok(())),
+        (accept(1, 4), Ok(())),
+        (Call::Resume { device: 2, upto: 3 }, Ok(())),
+        (accept(2, 4), Err(CollectRefusal::Stranger)),
+        (accept(1, 5), Ok(())),
+    ];
+    answers(&rt, rt.alloc(), 1, &calls);
+}
+
+#[test]
+fn each_station_has_its_devices(rt: HostRuntime) {
+    let calls = [
+        (accept(1, 1), Err(CollectRefusal::Stranger)),
+        (accept(2, 1), Ok(())),
+    ];
+    answers(&rt, rt.alloc(), 2, &calls);
+}
+
+// Why there is no collector of a station.
+fn fault_of(alloc: Global, station: u64) -> Option<CollectorFault> {
+    let scheme = two_devices(alloc)?;
+    Collector::new(alloc, &scheme, StationId::new(station)?).err()
+}
+
+#[test]
+fn stands_at_a_registered_station(rt: HostRuntime) {
+    assert_eq!(rt; fault_of(rt.alloc(), 2), None);
+    assert_eq!(rt;
+        fault_of(rt.alloc(), 3),
+        Some(CollectorFault::UnknownStation)
+    );
+}

@@ -1,0 +1,237 @@
+ghost use Rattle.std.specs.Prelude.{◌<◌};
+
+use fare_frame::{Frame, ReadFault, Reader};
+use fare_record::{
+    Ack, Day, DayAck, DeviceId, Hello, Moment, OwnerId, ProductId, Record, Statement, Tap, Token,
+};
+use std::alloc::Global;
+use std::process::Abort;
+
+const TAPPED: [u8; 49] = [
+    0x00, 0x2f, 0x01, 0, 0, 0, 1, 0, 0, 0, 0, 0, 0, 0, 1, 0, 1, 0, 0, 0, 0, 0, 0, 0, 1, 0, 0, 0, 1,
+    0, 0, 0, 0, 0, 0, 0, 0x4d, 0, 0, 0, 0, 0x65, 0x92, 0x80, 0xa0, 0, 0, 0x4d, 0x0b,
+];
+
+const STATED: [u8; 21] = [
+    0x00, 0x13, 0x02, 0, 0, 0, 1, 0, 0, 0x4d, 0x0b, 0, 1, 0, 0, 0, 0, 0, 0, 0, 3,
+];
+
+const ACKED: [u8; 15] = [0x00, 0x0d, 0x03, 0, 0, 0, 1, 0, 0, 0, 0, 0, 0, 0, 1];
+
+const DAY_ACKED: [u8; 11] = [0x00, 0x09, 0x04, 0, 0, 0, 1, 0, 0, 0x4d, 0x0b];
+
+const GREETED: [u8; 9] = [0x00, 0x07, 0x05, 0, 0, 0, 1, 0, 1];
+
+fn tapped() -> Option<Frame> {
+    let moment = Moment::new(1_704_100_000)?;
+    let tap = Tap::new(
+        ProductId::new(1)?,
+        Token::new(77)?,
+        moment,
+        Day::new(19_723)?,
+    );
+    let record = Record::new(DeviceId::new(1)?, 1, OwnerId::new(1)?, 1, tap);
+    Some(Frame::Tapped(record))
+}
+
+fn stated() -> Option<Frame> {
+    let day = Day::new(19_723)?;
+    Some(Frame::Stated(Statement::new(DeviceId::new(1)?, day, OwnerId::new(1)?, 3)))
+}
+
+fn acked() -> Option<Frame> {
+    Some(Frame::Acked(Ack::new(DeviceId::new(1)?, 1)))
+}
+
+fn day_acked() -> Option<Frame> {
+    Some(Frame::DayAcked(DayAck::new(DeviceId::new(1)?, Day::new(19_723)?)))
+}
+
+fn greeted() -> Option<Frame> {
+    Some(Frame::Greeted(Hello::new(DeviceId::new(1)?, 1)))
+}
+
+// The bytes of a frame, and the frames that a new reader reads from them.
+fn there_and_back(alloc: Global, frame: Frame) -> Option<(Vec<u8>, Vec<Frame>)> {
+    let mut bytes = Vec::new(alloc);
+    frame.put(&mut bytes).ok()?;
+    let mut frames = Vec::new(alloc);
+    Reader::new(alloc).ok()?.feed(&bytes, &mut frames).ok()?;
+    Some((bytes, frames))
+}
+
+#[test]
+fn each_frame_has_its_bytes(rt: HostRuntime) {
+    let cases: [(Option<Frame>, &[u8]); 5] = [
+        (tapped(), &TAPPED),
+        (stated(), &STATED),
+        (acked(), &ACKED),
+        (day_acked(), &DAY_ACKED),
+        (greeted(), &GREETED),
+    ];
+    for (frame, want) in cases {
+        let frame = frame.expect(&rt, "frame");
+        let (bytes, frames) = there_and_back(rt.alloc(), frame).expect(&rt, "memory");
+        assert_eq!(rt; bytes.as_slice(), want);
+        assert_eq!(rt; frames.len(), 1);
+        assert_eq!(rt; frames[0], frame);
+    }
+}
+
+// What a new reader answers to the last of these pieces, and how many frames it has given, of which the last.
+fn answer(alloc: Global, pieces: &[&[u8]]) -> Option<(Option<ReadFault>, usize, Option<Frame>)> {
+    let mut reader = Reader::new(alloc).ok()?;
+    let mut frames = Vec::new(alloc);
+    let mut fault = None;
+    for piece in pieces {
+        fault = reader.feed(piece, &mut frames).err();
+    }
+    Some((fault, frames.len(), frames.last().copied()))
+}
+
+#[test]
+fn frames_follow_one_another(rt: HostRuntime) {
+    let cases: [(&[&[u8]], Option<Frame>); 4] = [
+        (&[&GREETED, &TAPPED], tapped()),
+        (&[&GREETED, &TAPPED, &STATED], stated()),
+        (&[&GREETED, &TAPPED, &STATED, &ACKED], acked()),
+        (
+            &[&GREETED, &TAPPED, &STATED, &ACKED, &DAY_ACKED],
+            day_acked(),
+        ),
+    ];
+    for (pieces, last) in cases {
+        assert_eq!(rt;
+            answer(rt.alloc(), pieces),
+            Some((None, pieces.len(), last))
+        );
+    }
+}
+
+#[test]
+fn a_frame_comes_in_two_pieces(rt: HostRuntime) {
+    for cut in 1..49usize {
+        let (front, back) = TAPPED.split_at(cut);
+        assert_eq!(rt;
+            answer(rt.alloc(), &[front]),
+            Some((None, 0, None)),
+            "cut at {cut}"
+        );
+        assert_eq!(rt;
+            answer(rt.alloc(), &[front, back]),
+            Some((None, 1, tapped())),
+            "cut at {cut}"
+        );
+    }
+}
+
+#[test]
+fn a_stream_that_failed_is_read_no_further(rt: HostRuntime) {
+    let bad: &[u8] = &[0x00, 0x30, 0x01];
+    let cases: [(&[&[u8]], ReadFault); 3] = [
+        (&[bad], ReadFault::BadLength),
+        (&[bad, &[]], ReadFault::Failed),
+        (&[bad, &TAPPED], ReadFault::Failed),
+    ];
+    for (pieces, fault) in cases {
+        assert_eq!(rt; answer(rt.alloc(), pieces), Some((Some(fault), 0, None)));
+    }
+}
+
+// What a reader answers to the rest of a frame after it was made to fail.
+fn answer_after_failing(alloc: Global) -> Option<(Option<ReadFault>, usize)> {
+    let (front, back) = TAPPED.split_at(20);
+    let mut reader = Reader::new(alloc).ok()?;
+    let mut frames = Vec::new(alloc);
+    reader.feed(front, &mut frames).ok()?;
+    reader.fail();
+    Some((reader.feed(back, &mut frames).err(), frames.len()))
+}
+
+#[test]
+fn a_reader_fails_when_it_is_told_to(rt: HostRuntime) {
+    assert_eq!(rt;
+        answer_after_failing(rt.alloc()),
+        Some((Some(ReadFault::Failed), 0))
+    );
+}
+
+// These bytes behind a whole frame are answered so, and nothing more is read.
+fn stops(rt: &impl Abort, alloc: Global, bytes: &[u8], fault: Option<ReadFault>) {
+    let behind = answer(alloc, &[&GREETED, bytes]);
+    assert_eq!(rt; behind, Some((fault, 1, greeted())));
+}
+
+#[test]
+fn a_place_is_judged_by_its_first_bytes(rt: HostRuntime) {
+    let cases = [
+        ([0x00, 0x30, 0x09], ReadFault::BadLength),
+        ([0x01, 0x2f, 0x01], ReadFault::BadLength),
+        ([0x00, 0x2f, 0x02], ReadFault::BadLength),
+        ([0x00, 0x0d, 0x09], ReadFault::BadType),
+        ([0x00, 0x0d, 0x00], ReadFault::BadType),
+    ];
+    for (bytes, fault) in cases {
+        stops(&rt, rt.alloc(), &bytes[..2], None);
+        stops(&rt, rt.alloc(), &bytes, Some(fault));
+    }
+}
+
+#[test]
+fn a_body_is_judged_once_it_is_there(rt: HostRuntime) {
+    // Device 0.
+    let mut greeted = GREETED;
+    greeted[6] = 0;
+    stops(&rt, rt.alloc(), &greeted[..8], None);
+    stops(&rt, rt.alloc(), &greeted, Some(ReadFault::BadBody));
+    // Link 0.
+    let mut tapped = TAPPED;
+    tapped[14] = 0;
+    stops(&rt, rt.alloc(), &tapped[..48], None);
+    stops(&rt, rt.alloc(), &tapped, Some(ReadFault::BadBody));
+}
+
+// The bytes of 10,000 frames.
+fn long_stream(alloc: Global) -> Option<Vec<u8>> {
+    let mut stream = Vec::new(alloc);
+    for _ in 0..5_000 {
+        stream.extend_from_slice(&TAPPED).ok()?;
+        stream.extend_from_slice(&ACKED).ok()?;
+    }
+    Some(stream)
+}
+
+// The frames of a stream that comes in pieces of this size.
+fn read_in(alloc: Global, stream: &[u8], size: usize) -> Option<Vec<Frame>>
+    requires { 0 < size }
+{
+    let mut reader = Reader::new(alloc).ok()?;
+    let mut frames = Vec::new(alloc);
+    for piece in stream.chunks(size) {
+        reader.feed(piece, &mut frames).ok()?;
+    }
+    Some(frames)
+}
+
+#[test]
+fn a_long_stream_reads_the_same_in_any_pieces(rt: HostRuntime) {
+    let stream = long_stream(rt.alloc()).expect(&rt, "stream");
+    let whole = read_in(rt.alloc(), &stream, 1_000_000).expect(&rt, "whole");
+    let single = read_in(rt.alloc(), &stream, 1).expect(&rt, "single");
+    assert_eq!(rt; whole.len(), 10_000);
+    assert!(rt; whole.as_slice() == single.as_slice());
+}
+
+#[test]
+fn a_frame_tells_what_it_holds(rt: HostRuntime) {
+    let tapped = tapped().expect(&rt, "tapped");
+    let acked = acked().expect(&rt, "acked");
+    assert_eq!(rt;
+        (tapped.tapped().is_some(), tapped.acked().is_some()),
+        (true, false)
+    );
+    assert_eq!(rt;
+        (acked.tapped().is_some(), acked.acked().is_some()),
+        (false, true)
+    );
+}

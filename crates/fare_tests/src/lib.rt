@@ -1,0 +1,35 @@
+//! The tests of the public calls of all crates. A crate's own tests would prove that crate a second time, so they
+//! stand here, over what is proved: values from outside (bytes of a format, worked traces, days by a clock) that
+//! show that the contracts say what was meant, and each call that takes memory succeeding. It promises nothing.
+#![tactic(auto)]
+
+#[cfg(test)]
+mod buffer;
+#[cfg(test)]
+mod collector;
+#[cfg(test)]
+mod day;
+#[cfg(test)]
+mod device;
+#[cfg(test)]
+mod frame;
+#[cfg(test)]
+mod lines;
+#[cfg(test)]
+mod link;
+#[cfg(test)]
+mod owner;
+#[cfg(test)]
+mod readers;
+#[cfg(test)]
+mod record;
+#[cfg(test)]
+mod replay;
+#[cfg(test)]
+mod scheme;
+#[cfg(test)]
+mod supervisor;
+#[cfg(test)]
+mod traces;
+#[cfg(test)]
+mod world;

@@ -1,0 +1,36 @@
+use fare_link::{AckAhead, Receiver, Sender, Verdict};
+
+#[test]
+fn sends_up_to_the_last_number(rt: HostRuntime) {
+    let mut sender = Sender::new();
+    let links = [0, 2, 2, 2].map(|last| sender.next_link(last));
+    assert_eq!(rt; links, [None, Some(1), Some(2), None]);
+    sender.rewind();
+    let again = sender.next_link(2);
+    assert_eq!(rt; (again, sender.base(), sender.cursor()), (Some(1), 0, 1));
+}
+
+#[test]
+fn hears_acknowledgements(rt: HostRuntime) {
+    let mut sender = Sender::new();
+    let heard = [
+        sender.acked(3, 2),
+        sender.acked(2, 3),
+        sender.acked(1, 3),
+        sender.acked(3, 3),
+    ];
+    assert_eq!(rt; heard, [Err(AckAhead), Ok(2), Ok(0), Ok(1)]);
+    assert_eq!(rt; (sender.base(), sender.cursor()), (3, 3));
+}
+
+#[test]
+fn accepts_the_next_number_alone(rt: HostRuntime) {
+    let mut receiver = Receiver::new();
+    let first = [receiver.judge(2), receiver.judge(1)];
+    receiver.advance();
+    let second = receiver.judge(1);
+    receiver.resume(4);
+    let fifth = (receiver.next(), receiver.judge(5));
+    assert_eq!(rt; first, [Verdict::Ahead, Verdict::Next]);
+    assert_eq!(rt; (second, fifth), (Verdict::Old, (5, Verdict::Next)));
+}

@@ -1,0 +1,111 @@
+ghost use Rattle.std.specs.Prelude.{◌<◌};
+
+use fare_record::{Ack, DayAck, Hello, LAST_NUMBER, Record, RecordFault, Statement};
+use std::test::Fail;
+
+const RECORD: [u8; 46] = [
+    0, 0, 0, 1, 0, 0, 0, 0, 0, 0, 0, 1, 0, 1, 0, 0, 0, 0, 0, 0, 0, 1, 0, 0, 0, 1, 0, 0, 0, 0, 0, 0,
+    0, 0x4d, 0, 0, 0, 0, 0x65, 0x92, 0x80, 0xa0, 0, 0, 0x4d, 0x0b,
+];
+
+const STATEMENT: [u8; 18] = [0, 0, 0, 1, 0, 0, 0x4d, 0x0b, 0, 1, 0, 0, 0, 0, 0, 0, 0, 3];
+
+#[test]
+fn a_record_is_spelled_and_read(rt: HostRuntime) -> Result<(), Fail> {
+    let record = Record::decode(&RECORD)?;
+    assert_eq!(rt; record.device().get(), 1);
+    assert_eq!(rt;
+        (record.link(), record.owner().get(), record.lane()),
+        (1, 1, 1)
+    );
+    let tap = record.tap();
+    assert_eq!(rt; (tap.product().get(), tap.token().get()), (1, 77));
+    assert_eq!(rt;
+        (tap.moment().get(), tap.day().get()),
+        (1_704_100_000, 19_723)
+    );
+    assert_eq!(rt; record.encode(), RECORD);
+    Ok(())
+}
+
+#[test]
+fn a_statement_is_spelled_and_read(rt: HostRuntime) -> Result<(), Fail> {
+    let statement = Statement::decode(&STATEMENT)?;
+    assert_eq!(rt;
+        (statement.device().get(), statement.day().get()),
+        (1, 19_723)
+    );
+    assert_eq!(rt; (statement.owner().get(), statement.count()), (1, 3));
+    assert_eq!(rt; statement.encode(), STATEMENT);
+    Ok(())
+}
+
+#[test]
+fn acknowledgements_and_greetings_are_spelled_and_read(rt: HostRuntime) -> Result<(), Fail> {
+    let ack = Ack::decode(&[0, 0, 0, 1, 0, 0, 0, 0, 0, 0, 0, 1])?;
+    assert_eq!(rt; (ack.device().get(), ack.upto()), (1, 1));
+    assert_eq!(rt; ack.encode(), [0, 0, 0, 1, 0, 0, 0, 0, 0, 0, 0, 1]);
+    let day_ack = DayAck::decode(&[0, 0, 0, 1, 0, 0, 0x4d, 0x0b])?;
+    assert_eq!(rt; (day_ack.device().get(), day_ack.day().get()), (1, 19_723));
+    assert_eq!(rt; day_ack.encode(), [0, 0, 0, 1, 0, 0, 0x4d, 0x0b]);
+    let hello = Hello::decode(&[0, 0, 0, 1, 0, 1])?;
+    assert_eq!(rt; (hello.device().get(), hello.version()), (1, 1));
+    assert_eq!(rt; hello.encode(), [0, 0, 0, 1, 0, 1]);
+    Ok(())
+}
+
+// A record's body with this byte in that place.
+fn record_with(place: usize, byte: u8) -> [u8; 46]
+    requires { place < 46 }
+{
+    let mut bytes = RECORD;
+    bytes[place] = byte;
+    bytes
+}
+
+fn statement_with(place: usize, byte: u8) -> [u8; 18]
+    requires { place < 18 }
+{
+    let mut bytes = STATEMENT;
+    bytes[place] = byte;
+    bytes
+}
+
+#[test]
+fn the_first_fault_is_answered(rt: HostRuntime) {
+    // A link of 0; an owner of 0 as well.
+    let no_link = record_with(11, 0);
+    let mut nothing = no_link;
+    nothing[13] = 0;
+    let records = [
+        Record::decode(&no_link).err(),
+        Record::decode(&nothing).err(),
+    ];
+    assert_eq!(rt;
+        records,
+        [Some(RecordFault::NumberRange), Some(RecordFault::ZeroId)]
+    );
+    // A day of 2^31 and more; a count of 2^40 as well.
+    let no_day = statement_with(4, 0x80);
+    let mut neither = no_day;
+    neither[12] = 1;
+    let statements = [
+        Statement::decode(&no_day).err(),
+        Statement::decode(&neither).err(),
+    ];
+    assert_eq!(rt;
+        statements,
+        [Some(RecordFault::DayRange), Some(RecordFault::NumberRange)]
+    );
+}
+
+#[test]
+fn numbers_end_at_their_limits(rt: HostRuntime) {
+    // An acknowledged link of 2^40 - 1, and of 2^40.
+    let last = Ack::decode(&[0, 0, 0, 1, 0, 0, 0, 0xff, 0xff, 0xff, 0xff, 0xff]);
+    let over = Ack::decode(&[0, 0, 0, 1, 0, 0, 1, 0, 0, 0, 0, 0]);
+    let links = [last.map(|ack| ack.upto()), over.map(|ack| ack.upto())];
+    assert_eq!(rt; links, [Ok(LAST_NUMBER), Err(RecordFault::NumberRange)]);
+    let nobody = Hello::decode(&[0, 0, 0, 0, 0, 1]);
+    assert_eq!(rt; nobody.err(), Some(RecordFault::ZeroId));
+}

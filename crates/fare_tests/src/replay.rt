@@ -1,0 +1,192 @@
+use crate::readers::{Bytewise, Closed, Lossy, Zeros};
+use crate::traces::*;
+use fare_trace::{ParseFault, ReplayFault, parse, replay};
+use std::alloc::{AllocError, Global};
+
+// What a replay of a trace writes.
+fn answered(alloc: Global, trace: &[u8]) -> Result<Vec<u8>, ReplayFault> {
+    let mut reader = trace;
+    let mut output = Vec::new(alloc);
+    replay(alloc, &mut reader, &mut output)?;
+    Ok(output)
+}
+
+// What a replay writes of a trace that comes byte by byte, after an interrupted read.
+fn answered_bytewise(alloc: Global, bytes: &[u8]) -> Result<Vec<u8>, ReplayFault> {
+    let mut reader = Bytewise {
+        bytes,
+        interrupts: true,
+        fails: false,
+    };
+    let mut output = Vec::new(alloc);
+    replay(alloc, &mut reader, &mut output)?;
+    Ok(output)
+}
+
+#[test]
+fn replays_traces(rt: HostRuntime) {
+    let cases: [(&[u8], &[u8]); 17] = [
+        (b"", b""),
+        (ONE_TAP, ONE_TAP_ANSWERED),
+        (FULL_BUFFER, FULL_BUFFER_ANSWERED),
+        (OUT_OF_ORDER_AND_REPEAT, OUT_OF_ORDER_AND_REPEAT_ANSWERED),
+        (DAY_EDGES, DAY_EDGES_ANSWERED),
+        (REFUSALS_AND_IDLES, REFUSALS_AND_IDLES_ANSWERED),
+        (REGISTRAR_REFUSALS, REGISTRAR_REFUSALS_ANSWERED),
+        (REGISTRAR_SEALS, REGISTRAR_SEALS_ANSWERED),
+        (WRITER_RESTART, WRITER_RESTART_ANSWERED),
+        (SENT_AGAIN, SENT_AGAIN_ANSWERED),
+        (UNKNOWN_PARTS, UNKNOWN_PARTS_ANSWERED),
+        (SETTINGS, SETTINGS_ANSWERED),
+        (LAST_ZONE_COUNTS, LAST_ZONE_COUNTS_ANSWERED),
+        (
+            b"demo 2 4 4 4\nupto 2\ncount 1 2\ntap 2 1 7 1704100000\nupto 3\n",
+            b"ok\nupto 0\ncount 0\nrecord 1 1\nrefused UnknownDevice\n",
+        ),
+        (
+            b"draw\ndemo 1 4096 1024 1024\ndraw\ndemo 1 4 4 4\ndemo 1 0 0 0\nupto 1\n",
+            b"refused Unsealed\nok\nempty\nrefused Sealed\nrefused Sealed\nupto 0\n",
+        ),
+        (
+            b"send 1\ndemo 1 0 4 4\ndemo 1 4 1025 4\nupto 1",
+            b"refused Unsealed\nrefused Range\nrefused Range\nrefused Unsealed\n",
+        ),
+        (b"send 1\ndraw", b"refused Unsealed\nrefused Unsealed\n"),
+    ];
+    for (trace, want) in cases {
+        let output = answered(rt.alloc(), trace).expect(&rt, "replay");
+        assert_eq!(rt; output.as_slice(), want);
+        let output = answered_bytewise(rt.alloc(), trace).expect(&rt, "bytewise");
+        assert_eq!(rt; output.as_slice(), want);
+    }
+}
+
+// 454 taps, one after the other, each brought to its owner's ledger and acknowledged: 4,995 lines.
+fn long_trace(alloc: Global) -> Result<Vec<u8>, AllocError> {
+    let mut text = Vec::new(alloc);
+    text.extend_from_slice(b"demo 1 4 4 4\n")?;
+    for tap in 1..455u64 {
+        let packet = 2 * tap - 1;
+        let answer = 2 * tap;
+        let lines = format!(in alloc;
+            "tap 1 1 77 1704100000\nsend 1\narrive {packet}\ndraw\nstore\nack 1\nanswer 1\narrive {answer}\nforward 1 1\nfetch 1\ntake 1\n"
+        )?;
+        text.extend_from_slice(lines.as_bytes())?;
+    }
+    Ok(text)
+}
+
+// The replies to it.
+fn long_answers(alloc: Global) -> Result<Vec<u8>, AllocError> {
+    let mut text = Vec::new(alloc);
+    text.extend_from_slice(b"ok\n")?;
+    for tap in 1..455u64 {
+        let packet = 2 * tap - 1;
+        let answer = 2 * tap;
+        let lines = format!(in alloc;
+            "record {tap} {tap}\npacket {packet} link {tap}\naccepted\ndrawn 1 link {tap}\nstored 1 link {tap}\nack {tap}\npacket {answer} ack 1 {tap}\nacked 1\nforwarded lane {tap}\nfetched 1 lane {tap}\ntaken 1 lane {tap}\n"
+        )?;
+        text.extend_from_slice(lines.as_bytes())?;
+    }
+    Ok(text)
+}
+
+#[test]
+fn a_long_trace_is_answered_whole(rt: HostRuntime) {
+    let trace = long_trace(rt.alloc()).expect(&rt, "trace");
+    let want = long_answers(rt.alloc()).expect(&rt, "answers");
+    let lines = parse(rt.alloc(), &trace).expect(&rt, "parse");
+    assert_eq!(rt; lines.len(), 4_995);
+    let output = answered(rt.alloc(), &trace).expect(&rt, "replay");
+    assert!(rt; output.as_slice() == want.as_slice());
+    let output = answered_bytewise(rt.alloc(), &trace).expect(&rt, "bytewise");
+    assert!(rt; output.as_slice() == want.as_slice());
+}
+
+// Why a replay of this many bytes, so many a read, after so many interrupted reads, writes nothing.
+fn fault_of_zeros(
+    alloc: Global,
+    left: usize,
+    most: usize,
+    interrupts: usize,
+) -> Option<ReplayFault> {
+    let mut reader = Zeros {
+        left,
+        most,
+        interrupts,
+    };
+    let mut output = Vec::new(alloc);
+    let fault = replay(alloc, &mut reader, &mut output).err()?;
+    output.is_empty().then_some(fault)
+}
+
+#[test]
+fn a_trace_has_16777216_bytes_and_takes_16777217_reads(rt: HostRuntime) {
+    let bad = ReplayFault::BadLine { line: 1 };
+    let cases = [
+        ((16_777_216, 4096, 0), bad),
+        ((16_777_217, 4096, 0), ReplayFault::Read),
+        ((16_777_216, 1, 0), bad),
+        ((16_777_216, 1, 1), ReplayFault::Read),
+        ((0, 1, 16_777_217), ReplayFault::Read),
+    ];
+    for ((left, most, interrupts), fault) in cases {
+        assert_eq!(rt;
+            fault_of_zeros(rt.alloc(), left, most, interrupts),
+            Some(fault)
+        );
+    }
+}
+
+#[test]
+fn bad_lines_are_counted_from_one(rt: HostRuntime) {
+    let cases: [(&[u8], u64); 3] = [(b"tap 1", 1), (b"\n", 1), (b"draw\nstore\ntake 0\n", 3)];
+    for (trace, line) in cases {
+        assert_eq!(rt;
+            answered(rt.alloc(), trace).err(),
+            Some(ReplayFault::BadLine { line })
+        );
+    }
+}
+
+// Why a replay of what fails in mid-stream writes nothing.
+fn fault_of_broken(alloc: Global) -> Option<ReplayFault> {
+    let mut reader = Bytewise {
+        bytes: b"send 1\ndraw\n",
+        interrupts: false,
+        fails: true,
+    };
+    let mut output = Vec::new(alloc);
+    let fault = replay(alloc, &mut reader, &mut output).err()?;
+    output.is_empty().then_some(fault)
+}
+
+#[test]
+fn a_reader_and_a_writer_fail(rt: HostRuntime) {
+    assert_eq!(rt; fault_of_broken(rt.alloc()), Some(ReplayFault::Read));
+    let mut input: &[u8] = b"draw\n";
+    let closed = replay(rt.alloc(), &mut input, &mut Closed);
+    let mut input: &[u8] = b"draw\n";
+    let lossy = replay(rt.alloc(), &mut input, &mut Lossy);
+    assert_eq!(rt;
+        (closed, lossy),
+        (Err(ReplayFault::Write), Err(ReplayFault::Write))
+    );
+}
+
+#[test]
+fn each_fault_has_its_line(rt: HostRuntime) {
+    let cases = [
+        (ReplayFault::Read, "read failed"),
+        (ReplayFault::BadLine { line: 12 }, "bad line 12"),
+        (ReplayFault::Memory, "no memory"),
+        (ReplayFault::Write, "write failed"),
+    ];
+    for (fault, line) in cases {
+        let text = format!(in rt.alloc(); "{fault}").expect(&rt, "text");
+        assert_eq!(rt; text.as_str(), line);
+    }
+    let fault = ParseFault::BadLine { line: 3 };
+    let text = format!(in rt.alloc(); "{fault}").expect(&rt, "text");
+    assert_eq!(rt; text.as_str(), "bad line 3");
+}

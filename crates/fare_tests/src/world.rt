@@ -1,0 +1,164 @@
+use fare_day::Zone;
+use fare_record::{DeviceId, Moment, OwnerId, ProductId, StationId, Token};
+use fare_scheme::{DemoSize, Draft, Scheme};
+use fare_world::{Event, Reply, World};
+use std::alloc::Global;
+
+// What brings the first tap of a device to the ledger of the owner of a product with the owner's number.
+fn journey(device: u64, product: u64, packet: u64) -> Option<[Event; 10]> {
+    let device = DeviceId::new(device)?;
+    let owner = OwnerId::new(product)?;
+    Some([
+        Event::Tap {
+            device,
+            product: ProductId::new(product)?,
+            token: Token::new(77)?,
+            moment: Moment::new(1_704_100_000)?,
+        },
+        Event::Send { device },
+        Event::Arrive { packet },
+        Event::Draw,
+        Event::Store,
+        Event::Forward { owner, device },
+        Event::Fetch { owner },
+        Event::Take { owner },
+        Event::Upto { device },
+        Event::Count { owner, device },
+    ])
+}
+
+// The replies to that.
+fn answers(device: u64, packet: u64) -> Option<[Reply; 10]> {
+    let device = DeviceId::new(device)?;
+    Some([
+        Reply::Recorded { link: 1, lane: 1 },
+        Reply::Sent { packet, link: 1 },
+        Reply::Accepted,
+        Reply::Drawn { device, link: 1 },
+        Reply::Stored { device, link: 1 },
+        Reply::Forwarded { lane: 1 },
+        Reply::Fetched { device, lane: 1 },
+        Reply::Taken { device, lane: 1 },
+        Reply::Upto(1),
+        Reply::Count(1),
+    ])
+}
+
+fn small_world(alloc: Global) -> Option<World> {
+    let scheme = Scheme::demo(alloc, DemoSize::OneDevice, 4, 4, 4).ok()?;
+    World::new(alloc, scheme).ok()
+}
+
+// The replies of a run.
+fn run(alloc: Global, world: World, events: &[Event]) -> Option<Vec<Reply>> {
+    let (_world, replies) = world.run(alloc, events).ok()?;
+    Some(replies)
+}
+
+// Whether a device's first tap comes to its owner's ledger.
+fn reaches_its_owner(world: &mut World, device: u64, product: u64) -> Option<bool> {
+    let answers = answers(device, device)?;
+    let mut place = 0;
+    for event in &journey(device, product, device)? {
+        if world.apply(event).ok()? != *answers.get(place)? {
+            return Some(false);
+        }
+        place += 1;
+    }
+    Some(true)
+}
+
+// An owner with a product, and an operator with a station.
+fn add_part(draft: &mut Draft, part: u16) -> Option<()> {
+    draft.add_owner(part, 4).ok()?;
+    draft.add_product(u32::from(part), part, 175).ok()?;
+    draft.add_operator(part).ok()?;
+    draft.add_station(part, part).ok()
+}
+
+fn add_parts(draft: &mut Draft) -> Option<()> {
+    for part in 1..=16 {
+        add_part(draft, part)?;
+    }
+    Some(())
+}
+
+fn add_devices(draft: &mut Draft) -> Option<()> {
+    for device in 1..=256u32 {
+        draft.add_device(device, (device % 16 + 1) as u16, 4).ok()?;
+    }
+    Some(())
+}
+
+fn seal(mut draft: Draft) -> Option<Scheme> {
+    draft.set_start(19_723).ok()?;
+    draft.set_zone(Zone::read("GMT0BST,M3.5.0/1,M10.5.0").ok()?);
+    draft.seal().ok()
+}
+
+// 16 owners with a product each, 16 operators with a station each, and 256 devices.
+fn wide_world(alloc: Global) -> Option<World> {
+    let mut draft = Draft::new(alloc);
+    add_parts(&mut draft)?;
+    add_devices(&mut draft)?;
+    World::new(alloc, seal(draft)?).ok()
+}
+
+// What brings 450 taps of device 1 to the ledger of owner 1, one after the other, each acknowledged.
+fn many_journeys(alloc: Global) -> Option<Vec<Event>> {
+    let device = DeviceId::new(1)?;
+    let station = StationId::new(1)?;
+    let mut events = Vec::new(alloc);
+    for tap in 1..=450u64 {
+        events.extend_from_slice(&journey(1, 1, 2 * tap - 1)?).ok()?;
+        events.push(Event::Ack { device }).ok()?;
+        events.push(Event::Answer { station }).ok()?;
+        events.push(Event::Arrive { packet: 2 * tap }).ok()?;
+    }
+    Some(events)
+}
+
+// How many replies there are, and the last four.
+fn end_of(replies: &[Reply]) -> Option<(usize, [Reply; 4])> {
+    let [.., count, acknowledged, answered, dropped] = replies else {
+        return None;
+    };
+    Some((replies.len(), [*count, *acknowledged, *answered, *dropped]))
+}
+
+#[test]
+fn a_tap_reaches_the_ledger(rt: HostRuntime) {
+    let world = small_world(rt.alloc()).expect(&rt, "world");
+    let events = journey(1, 1, 1).expect(&rt, "journey");
+    let replies = run(rt.alloc(), world, &events).expect(&rt, "run");
+    let answers = answers(1, 1).expect(&rt, "answers");
+    assert_eq!(rt; replies.as_slice(), answers.as_slice());
+}
+
+#[test]
+fn each_of_256_devices_reaches_its_owner(rt: HostRuntime) {
+    let mut world = wide_world(rt.alloc()).expect(&rt, "world");
+    for device in 1..=256 {
+        let reached = reaches_its_owner(&mut world, device, device % 16 + 1);
+        assert_eq!(rt; reached, Some(true));
+    }
+}
+
+#[test]
+fn a_long_run_answers_each_event(rt: HostRuntime) {
+    let world = small_world(rt.alloc()).expect(&rt, "world");
+    let events = many_journeys(rt.alloc()).expect(&rt, "journeys");
+    let replies = run(rt.alloc(), world, &events).expect(&rt, "run");
+    let device = DeviceId::new(1).expect(&rt, "device");
+    let last = [
+        Reply::Count(450),
+        Reply::Acknowledged(450),
+        Reply::Answered {
+            packet: 900,
+            device,
+            upto: 450,
+        },
+        Reply::Dropped(1),
+    ];
+    assert_eq!(rt; end_of(&replies), Some((5_850, last)));
+}
