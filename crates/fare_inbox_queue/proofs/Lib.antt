@@ -1,0 +1,4 @@
+pub mod Distinct
+pub mod Parts
+pub mod Steps
+pub mod Ends
