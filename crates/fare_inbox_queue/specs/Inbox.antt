@@ -1,23 +1,12 @@
 -- The rule of the inbox: of each station, what was taken of it and then what the queue holds of it is what its pass put.
-use Rattle.std.specs.Prelude.{◌≡◌, ℕ, ◌≤◌, ◌==◌, Bool, true, false, List, [], ◌∷◌, ◌++◌, length, nat_eq, unwrap_or}
-use Rattle.std.specs.List.{IsDistinct, AllByRecursion, list_any, filter}
+use Rattle.std.specs.Prelude.{◌≡◌, ℕ, ◌==◌, Bool, true, false, List, [], ◌∷◌, ◌++◌, nat_eq, unwrap_or}
+use Rattle.std.specs.List.{AllByRecursion, list_any, filter}
 use Rattle.std.specs.Map.{lookup}
 use mathlib.Core.Option.{Option, some, none}
 use lib.ListN.{get_elem?}
 use Rattle.fare_inbox_queue.specs.declared.arrived.Arrived.{Arrived}
 use Rattle.fare_inbox_queue.specs.declared.arrived.Arrived.TheVariants.{Tap, Stated}
 use Rattle.fare_inbox_queue.specs.declared.inbox_rule.View.{View}
-
--- what an inbox or an acknowledgement line may hold at most
-abbrev pub IsCapacity : ℕ → Type 0
-IsCapacity n = (1 ≤ n) × (n ≤ 1024)
-
--- an inbox of this room for these stations: 1 to 16, none named twice
-pub record IsRoom (capacity : ℕ) (stations : List ℕ) : Type 0 where
-  pub size : IsCapacity capacity
-  pub some_station : 1 ≤ length stations
-  pub few : length stations ≤ 16
-  pub distinct : IsDistinct nat_eq stations
 
 -- STATIONS
 -- the station that an item names

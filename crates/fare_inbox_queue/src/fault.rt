@@ -1,5 +1,8 @@
 use thiserror::Error;
 
+/// What an inbox or an acknowledgement line may hold at most.
+pub(crate) const MOST_CAPACITY: u32 = 1024;
+
 /// Why no queue was made.
 #[derive(Clone, Copy, PartialEq, Eq, Debug, Error)]
 pub enum QueueFault {

@@ -1,9 +1,11 @@
 ghost use Rattle.std.specs.Prelude.{◌≡◌, ◌↔◌, ◌≤◌, ◌++◌, ◌∷◌, [], ℕ, true, false, List, All, length, map, nat_eq, IsErrOf, IfOk, IfErr, OnOk, OnErr, IfSome, IfNone};
 ghost use Rattle.std.specs.List.{IsDistinct, list_any};
 ghost use Rattle.crossbeam_queue.specs.Passes.{view, IsPassOf};
-ghost use Rattle.fare_inbox_queue.specs.Inbox.{IsRoom, station_in, of_station};
+ghost use Rattle.fare_inbox_queue.specs.Rooms.{IsRoom};
+ghost use Rattle.fare_inbox_queue.specs.Inbox.{station_in, of_station};
 ghost use Rattle.fare_inbox_queue.specs.InboxPasses.{capacity_of, station_of, sent_list, taken_list, stations_of, counted, sent_with, IsStationOf, IsWriterOf, WasFull, WasEmpty, left_of, HaveLeft, IsInboxEnded};
 
+use crate::fault::MOST_CAPACITY;
 use crate::inbox_rule::{Drains, Gathers, InboxRule, Named, Puts, Seats, Takes, View};
 use crate::stations::are_distinct;
 use crate::{Arrived, Full, InboxEnded, QueueFault, StationPass, WriterPass};
@@ -12,8 +14,6 @@ use fare_record::StationId;
 use std::alloc::Global;
 use std::marker::Brand;
 use std::sync::Wait;
-
-const MOST_CAPACITY: u32 = 1024;
 
 const MOST_STATIONS: usize = 16;
 

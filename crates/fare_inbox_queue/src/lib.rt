@@ -6,6 +6,11 @@
 //! `AckLine::new` take memory.
 #![tactic(auto)]
 
+mod ack_ended;
+mod ack_item;
+mod ack_line;
+mod ack_passes;
+mod ack_rule;
 mod arrived;
 mod fault;
 mod inbox;
@@ -15,9 +20,13 @@ mod inbox_rule;
 mod laws;
 mod stations;
 
+pub use ack_ended::AckLineEnded;
+pub use ack_item::AckItem;
+pub use ack_line::AckLine;
+pub use ack_passes::{AckPass, HearPass};
 pub use arrived::Arrived;
 pub use fault::{Full, QueueFault};
 pub use inbox::Inbox;
 pub use inbox_ended::InboxEnded;
 pub use inbox_passes::{StationPass, WriterPass};
-pub use laws::each_inbox_step_keeps_the_rule;
+pub use laws::{each_inbox_step_keeps_the_rule, each_line_step_keeps_the_rule};
