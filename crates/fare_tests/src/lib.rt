@@ -14,6 +14,10 @@ mod device;
 #[cfg(test)]
 mod frame;
 #[cfg(test)]
+mod inbox_queue;
+#[cfg(test)]
+mod lane_queue;
+#[cfg(test)]
 mod lines;
 #[cfg(test)]
 mod link;

@@ -1,0 +1,5 @@
+use Rattle.fare_inbox_queue.proofs.Steps.{takes, stands}
+use Rattle.fare_inbox_queue.proofs.inbox.Inbox.take.Goals as goal
+
+pub pop_as-requires-clause-rule : goal.pop_as-requires-clause-rule
+pop_as-requires-clause-rule g c = (takes _ _ c.requires.takes, stands _ _)

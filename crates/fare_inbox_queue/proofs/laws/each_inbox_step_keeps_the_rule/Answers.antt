@@ -1,0 +1,17 @@
+use Rattle.fare_inbox_queue.proofs.Steps.{opens, puts, takes, splits, joins}
+use Rattle.fare_inbox_queue.proofs.laws.each_inbox_step_keeps_the_rule.Goals as goal
+
+pub returns-clause-opens : goal.returns-clause-opens
+returns-clause-opens c = opens
+
+pub returns-clause-put : goal.returns-clause-put
+returns-clause-put c = puts
+
+pub returns-clause-take : goal.returns-clause-take
+returns-clause-take c = takes
+
+pub returns-clause-split : goal.returns-clause-split
+returns-clause-split c = splits
+
+pub returns-clause-join : goal.returns-clause-join
+returns-clause-join c = λ port other v w may_take may_put. joins port v other w may_take may_put

@@ -1,0 +1,5 @@
+pub mod Rooms
+pub mod Inbox
+pub mod InboxPasses
+pub mod Line
+pub mod LinePasses

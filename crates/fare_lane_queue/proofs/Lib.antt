@@ -1,0 +1,3 @@
+pub mod Distinct
+pub mod Numbers
+pub mod Steps
