@@ -4,3 +4,4 @@ pub mod Tables
 pub mod Keys
 pub mod Rows
 pub mod NextRows
+pub mod Pruning

@@ -51,6 +51,14 @@ holds_put {A} P a b c value old new writes here there x y z r is = by (((x == a)
         subst (P x y z) is_value (subst (λ w. P w y z value) (sym (same_number x a p.0)) (subst (λ w. P a w z value) (sym (same_number y b p.1)) (subst (λ w. P a b w value) (sym (same_number z c p.2)) here)))
     by false other = there x y z r (sym (ap (λ t. cond t (Some value) (old (x, y, z))) other) ∙ shown)
 
+-- what holds of each entry holds of those that are left
+pub holds_left : {A : Type 0} (P : ℕ → ℕ → ℕ → A → Type 0) (key : Key) (old new : Key → Option A) → ((q : Key) → new q ≡ cond (is_eq (key_order key q)) None (old q)) → ((x y z : ℕ) (r : A) → old (x, y, z) ≡ Some r → P x y z r) → (x y z : ℕ) (r : A) → new (x, y, z) ≡ Some r → P x y z r
+holds_left {A} P key old new writes there x y z r is = by (is_eq (key_order key (x, y, z))) refl
+  where
+    by : (t : Bool) → is_eq (key_order key (x, y, z)) ≡ t → P x y z r
+    by true gone = absurd (let e : ◌≡◌ {A = Option A} None (Some r) = sym (writes (x, y, z) ∙ ap (λ t. cond t None (old (x, y, z))) gone) ∙ is in cc)
+    by false kept = there x y z r (sym (writes (x, y, z) ∙ ap (λ t. cond t None (old (x, y, z))) kept) ∙ is)
+
 -- what holds of each link holds still
 pub links_put : (device link : ℕ) (old new : ℕ → Option ℕ) → ((d : ℕ) → new d ≡ cond (nat_eq device d) (Some link) (old d)) → IsNumber link → AreLinks old → AreLinks new
 links_put device link old new writes valid links d k is = by (nat_eq device d) refl

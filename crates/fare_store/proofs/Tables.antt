@@ -18,6 +18,10 @@ pub at_ok : {T E P : Type 0} (r : Result T E) → IsOk r → OnOk r P → P
 at_ok (Ok x) is p = p
 at_ok (Err e) is p = absurd (cc)
 
+pub either_way : {T E P Q X : Type 0} (r : Result T E) → OnOk r P → OnErr r Q → (P → X) → (Q → X) → X
+either_way (Ok x) p q f g = f p
+either_way (Err e) p q f g = g q
+
 -- at one number
 pub put_is : {A : Type 0} (key : ℕ) (value : A) (old new : ℕ → A) → ((q : ℕ) → new q ≡ cond (nat_eq key q) value (old q)) → (q : ℕ) → new q ≡ put old key value q
 put_is key value old new writes q = writes q ∙ ap (λ b. cond b value (old q)) (turned key q)

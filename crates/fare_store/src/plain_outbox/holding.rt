@@ -1,7 +1,7 @@
-ghost use Rattle.std.specs.Prelude.{◌≡◌, ◌↔◌, None, OnOk, OnErr, IsTrue};
+ghost use Rattle.std.specs.Prelude.{◌≡◌, ◌↔◌, None, OnOk, OnErr, IsSome, IsTrue};
 ghost use Rattle.fare_record.specs.Limits.{IsCount};
 ghost use Rattle.fare_store.specs.OutboxWords.{IsEmptyOutbox, store_judged, stored, stated_judged, stored_statement, IsNextRow, IsNextStatement, pruned, rows_upto};
-ghost use Rattle.fare_store.specs.PlainOutboxWords.{plain_outbox};
+ghost use Rattle.fare_store.specs.PlainOutboxWords.{plain_outbox, IsDropped};
 
 use super::PlainOutbox;
 use crate::{StatedFault, StoreFault};
@@ -131,6 +131,14 @@ impl PlainOutbox {
         Some(Statement::new(device, key.2, owner, *count))
     }
 
+    // Lets the row at this place go.
+    fn drop_row(&mut self, owner: OwnerId, device: DeviceId, lane: u64)
+        requires { IsSome ((plain_outbox self.old).rows owner device lane) }
+        ensures { IsDropped (plain_outbox self.old) (plain_outbox self.new) owner device lane }
+    {
+        self.rows.remove(&(owner, device, lane));
+    }
+
     // Lets the rows of a lane go up to a lane number, and answers how many.
     pub(super) fn drop_upto(&mut self, owner: OwnerId, device: DeviceId, upto: u64) -> u64
         ensures count { result ≡ rows_upto upto ((plain_outbox self.old).rows owner device) }
@@ -142,7 +150,7 @@ impl PlainOutbox {
             && row.lane() <= upto
         {
             behind = row.lane();
-            self.rows.remove(&(owner, device, behind));
+            self.drop_row(owner, device, behind);
             removed += 1;
         }
         removed
