@@ -5,3 +5,7 @@ pub mod Keys
 pub mod Rows
 pub mod NextRows
 pub mod Pruning
+pub mod LedgerDays
+pub mod LedgerMaking
+pub mod Taps
+pub mod Lent

@@ -6,3 +6,6 @@ pub mod Failing
 pub mod Keys
 pub mod PlacedRows
 pub mod PlainOutboxWords
+pub mod TapPlaces
+pub mod Making
+pub mod PlainLedgerWords

@@ -9,10 +9,12 @@ mod failing;
 mod fault;
 mod ledger;
 mod outbox;
+mod plain_ledger;
 mod plain_outbox;
 
 pub use failing::FailingOutbox;
 pub use fault::{Fault, LedgerFault, Refused, StatedFault, StoreFault};
 pub use ledger::Ledger;
 pub use outbox::Outbox;
+pub use plain_ledger::PlainLedger;
 pub use plain_outbox::PlainOutbox;
