@@ -9,3 +9,4 @@ pub mod LedgerDays
 pub mod LedgerMaking
 pub mod Taps
 pub mod Lent
+pub mod Between

@@ -54,7 +54,7 @@ eq_then Greater q h = absurd (cc)
 eq_number : (a b : ℕ) → is_eq (nat_cmp a b) ≡ true → a ≡ b
 eq_number a b h = grind (arith, nat_tests)
 
-same_place : (a b : Place) → is_eq (place_order a b) ≡ true → (a.0 ≡ b.0) × (a.1 ≡ b.1) × (a.2 ≡ b.2) × (a.3 ≡ b.3)
+pub same_place : (a b : Place) → is_eq (place_order a b) ≡ true → (a.0 ≡ b.0) × (a.1 ≡ b.1) × (a.2 ≡ b.2) × (a.3 ≡ b.3)
 same_place a b h =
     let p = eq_then (ordering_then (ordering_then (nat_cmp a.0 b.0) (nat_cmp a.1 b.1)) (nat_cmp a.2 b.2)) (nat_cmp a.3 b.3) h in
     let q = eq_then (ordering_then (nat_cmp a.0 b.0) (nat_cmp a.1 b.1)) (nat_cmp a.2 b.2) p.0 in
