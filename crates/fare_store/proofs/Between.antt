@@ -1,5 +1,5 @@
 -- The taps of some days, in their order.
-use Rattle.std.proofs.Common.{◌≡◌, ℕ, zero, suc, ◌+◌, ◌-◌, ◌<◌, ◌≤◌, Bool, true, false, cond, List, [], ◌∷◌, ◌++◌, length, get_or, Option, Some, None, is_some, refl, sym, ◌∙◌, ap, subst, arith}
+use Rattle.std.proofs.Common.{◌≡◌, ℕ, zero, suc, ◌+◌, ◌-◌, ◌<◌, ◌≤◌, Bool, true, false, List, [], ◌∷◌, ◌++◌, length, get_or, Option, Some, None, refl, sym, ◌∙◌, ap, subst, arith}
 use Rattle.std.specs.Prelude.{if◌then◌else◌, slice_get, nat_lt, All, option_map}
 use Rattle.std.specs.BTreeMap as tree
 use Rattle.std.specs.BTreeMap.Range.{IsInRange, IsEntryInRange, IsRangeOf, EntryPlaces, range_contains, entries_between}
@@ -17,7 +17,7 @@ use Rattle.std.proofs.lemmas.Map.Keys.{Less-from_sorted}
 use Rattle.std.proofs.lemmas.Map.Views.{by_place, range_contains-from_IsInRange}
 use Rattle.std.proofs.lemmas.Option.{get_or_from_slice_get}
 use Rattle.fare_record.specs.Values.{RecordValue}
-use Rattle.fare_store.specs.LedgerWords.{LedgerValue, is_before, IsAmong, AreTapsBetween}
+use Rattle.fare_store.specs.LedgerWords.{LedgerValue, is_before, AreTapsBetween}
 use Rattle.fare_store.specs.TapPlaces.{Place, place_order, place_of, IsTapAt, AreListed, HasEvery}
 use Rattle.fare_store.proofs.Taps.{same_place}
 
@@ -35,8 +35,10 @@ apart Greater q r = refl
 
 -- the first parts come first
 abbrev first_of : (a b : Place) → (rest : Ordering) × (place_order a b ≡ ordering_then (nat_cmp a.0 b.0) rest)
-first_of a b = (ordering_then (ordering_then (nat_cmp a.1 b.1) (nat_cmp a.2 b.2)) (nat_cmp a.3 b.3),
-  ap (λ o. ordering_then o (nat_cmp a.3 b.3)) (apart (nat_cmp a.0 b.0) (nat_cmp a.1 b.1) (nat_cmp a.2 b.2)) ∙ apart (nat_cmp a.0 b.0) (ordering_then (nat_cmp a.1 b.1) (nat_cmp a.2 b.2)) (nat_cmp a.3 b.3))
+first_of a b = (
+  ordering_then (ordering_then (nat_cmp a.1 b.1) (nat_cmp a.2 b.2)) (nat_cmp a.3 b.3),
+  ap (λ o. ordering_then o (nat_cmp a.3 b.3)) (apart (nat_cmp a.0 b.0) (nat_cmp a.1 b.1) (nat_cmp a.2 b.2)) ∙ apart (nat_cmp a.0 b.0) (ordering_then (nat_cmp a.1 b.1) (nat_cmp a.2 b.2)) (nat_cmp a.3 b.3),
+)
 
 not_after : (x y : ℕ) (p rest : Ordering) → MatchOrdering p (x < y) (x ≡ y) (y < x) → is_gt (ordering_then p rest) ≡ false → x ≤ y
 not_after x y Less rest m h = omega (arith, m)
@@ -155,28 +157,28 @@ pub taps_between : (v : LedgerValue) (ordered : tree.BTreeMap Place RecordValue)
     → EntryPlaces ordered.entries range → tree.IsOrdered place_order ordered → AreTapsBetween v from to (values_of range)
 taps_between v ordered range from to listed every between within places sorted = record {
   taken = λ k r is.
-    let e = entry_at range k r is in
-    let there = each Within range within.0 k e.0 r e.1 in
-    let at = listed e.0 r there.1 in
-    let least : from ≤ r.tap.day = omega (arith, from_day (start from) e.0 there.0.0, at.day) in
-    let most : r.tap.day ≤ to = omega (arith, upto_day e.0 to there.0.1, at.day) in
-    ((r.lane - 1, at.held), least, most);
+      let e = entry_at range k r is in
+      let there = each Within range within.0 k e.0 r e.1 in
+      let at = listed e.0 r there.1 in
+      let least : from ≤ r.tap.day = omega (arith, from_day (start from) e.0 there.0.0, at.day) in
+      let most : r.tap.day ≤ to = omega (arith, upto_day e.0 to there.0.1, at.day) in
+      ((r.lane - 1, at.held), least, most);
   all = λ device k r is least most.
-    let found = every device k r is in
-    let left : lookup (at_place r) range ≡ Some r = ap (lookup (at_place r)) between ∙ lookup-filter-keys (at_place r) (range_contains place_order lo hi) true (inside r least most) ordered.entries ∙ found in
-    let place = place_from_lookup (at_place r) range r left in
-    (place.0, value_at range place.0 place.1 r place.2);
+      let found = every device k r is in
+      let left : lookup (at_place r) range ≡ Some r = ap (lookup (at_place r)) between ∙ lookup-filter-keys (at_place r) (range_contains place_order lo hi) true (inside r least most) ordered.entries ∙ found in
+      let place = place_from_lookup (at_place r) range r left in
+      (place.0, value_at range place.0 place.1 r place.2);
   sorted = λ j k a b less ja kb.
-    let e = entry_at range j a ja in
-    let f = entry_at range k b kb in
-    let first = place_is v.taken e.0 a (listed e.0 a (each Within range within.0 j e.0 a e.1).1) in
-    let second = place_is v.taken f.0 b (listed f.0 b (each Within range within.0 k f.0 b f.1).1) in
-    let one = key_at range j e.0 e.0 a e.1 in
-    let two = key_at range k e.0 f.0 b f.1 in
-    let here = places.keys j e.0 by_place one.0 in
-    let there = places.keys k e.0 by_place two.0 in
-    let in_order : place_order (get_or (keys_of ordered.entries) (places.start + j) e.0) (get_or (keys_of ordered.entries) (places.start + k) e.0) ≡ Less = Less-from_sorted place_order (keys_of ordered.entries) (places.start + j) (places.start + k) e.0 sorted (omega (arith, less)) there.0 in
-    stands_before a b ((λ i. place_order ((first ∙ sym one.1 ∙ here.1) i) ((second ∙ sym two.1 ∙ there.1) i)) ∙ in_order);
+      let e = entry_at range j a ja in
+      let f = entry_at range k b kb in
+      let first = place_is v.taken e.0 a (listed e.0 a (each Within range within.0 j e.0 a e.1).1) in
+      let second = place_is v.taken f.0 b (listed f.0 b (each Within range within.0 k f.0 b f.1).1) in
+      let one = key_at range j e.0 e.0 a e.1 in
+      let two = key_at range k e.0 f.0 b f.1 in
+      let here = places.keys j e.0 by_place one.0 in
+      let there = places.keys k e.0 by_place two.0 in
+      let in_order : place_order (get_or (keys_of ordered.entries) (places.start + j) e.0) (get_or (keys_of ordered.entries) (places.start + k) e.0) ≡ Less = Less-from_sorted place_order (keys_of ordered.entries) (places.start + j) (places.start + k) e.0 sorted (omega (arith, less)) there.0 in
+      stands_before a b ((λ i. place_order ((first ∙ sym one.1 ∙ here.1) i) ((second ∙ sym two.1 ∙ there.1) i)) ∙ in_order);
 }
   where
     lo : Bound Place

@@ -6,11 +6,10 @@ use Rattle.std.specs.Ordering.{is_eq, nat_cmp, ordering_then}
 use Rattle.std.specs.declared.cmp.Ordering.TheVariants.{Equal}
 use Rattle.std.proofs.lemmas.Bool.Decides.{nat_tests}
 use Rattle.std.proofs.lemmas.Map.Entries.{lookup_head}
-use Rattle.fare_record.specs.Values.{RecordValue, StatementValue}
+use Rattle.fare_record.specs.Values.{RecordValue}
 use Rattle.fare_store.specs.Tables.{put, put2}
-use Rattle.fare_store.specs.LedgerWords.{LedgerValue, IsEmptyLedger, with_statement, with_close}
 use Rattle.fare_store.specs.TapPlaces.{Place, place_order, place_of, same_day, IsTapAt, AreClosed}
-use Rattle.fare_store.specs.PlainLedgerWords.{days_closed, written_in}
+use Rattle.fare_store.specs.PlainLedgerWords.{days_closed}
 use Rattle.fare_store.proofs.Tables.{turned, same_number, put2_is}
 
 -- THE LAST CLOSED DAY

@@ -1,5 +1,5 @@
 -- A plain ledger is made device by device, in order of registration.
-use Rattle.std.proofs.Common.{◌≡◌, ℕ, ◌+◌, ◌<◌, ◌==◌, Bool, true, false, cond, nat_lt, nat_eq, List, [], length, Option, Some, None, is_some, refl, sym, ◌∙◌, ap, arith}
+use Rattle.std.proofs.Common.{◌≡◌, ℕ, ◌+◌, ◌<◌, Bool, true, false, cond, nat_lt, nat_eq, List, [], length, Option, Some, None, is_some, refl, sym, ◌∙◌, ap, arith}
 use Rattle.std.specs.Prelude.{◌≤◌, Vec, slice_get, unwrap_or}
 use Rattle.std.specs.Global.{Global}
 use Rattle.std.specs.BTreeMap as tree
@@ -14,7 +14,7 @@ use Rattle.fare_scheme.specs.Values.{SchemeValue}
 use Rattle.fare_scheme.specs.Words.{position_of_device}
 use Rattle.fare_scheme.proofs.Known.{id_at_place}
 use Rattle.fare_store.specs.TapPlaces.{items_of, Place, place_order, AreNumbered, AreListed, HasEvery, AreCounted, AreClosed}
-use Rattle.fare_store.proofs.Tables.{turned, same_number}
+use Rattle.fare_store.proofs.Tables.{same_number}
 
 -- the position comes before this one
 abbrev pub is_before : Option ℕ → ℕ → Bool

@@ -6,11 +6,11 @@ use Rattle.std.specs.BTreeMap as tree
 use Rattle.std.specs.BTreeMap.Range.{IsInRange, IsEntryInRange, IsRangeOf, IsLeBy}
 use Rattle.std.specs.declared.ops.Bound.{Bound}
 use Rattle.std.specs.declared.ops.Bound.TheVariants.{Included, Excluded, Unbounded}
-use Rattle.fare_record.specs.Values.{RecordValue, StatementValue}
+use Rattle.fare_record.specs.Values.{RecordValue}
 use Rattle.fare_store.specs.Keys.{Key, key_order}
 use Rattle.fare_store.specs.OutboxWords.{IsLeastRow, IsLeastStatement}
-use Rattle.fare_store.specs.PlacedRows.{IsPlacedAt, ArePlaced}
-use Rattle.fare_store.proofs.Keys.{Comes, ComesAfter, comes, comes_after, lane_less, lane_upto}
+use Rattle.fare_store.specs.PlacedRows.{ArePlaced}
+use Rattle.fare_store.proofs.Keys.{Comes, comes, comes_after, lane_less, lane_upto}
 
 -- an entry of a range, where each other one of the range comes after it
 pub record IsFirst {A : Type 0} (entries : Key → Option A) (within : Key → Type 0) (k : Key) (v : A) : Type 0 where

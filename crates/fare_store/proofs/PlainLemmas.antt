@@ -3,7 +3,7 @@ use Rattle.std.proofs.Common.{◌≡◌, Some, None, refl, sym, ◌∙◌, subst
 use Rattle.std.specs.Prelude.{◌⊎◌, Option}
 use Rattle.fare_store.specs.declared.fault.Fault.{Fault}
 use Rattle.fare_store.specs.declared.fault.Fault.TheVariants as fault
-use Rattle.fare_store.specs.Standing.{Standing, Calls, Counted, plain}
+use Rattle.fare_store.specs.Standing.{Calls, Counted, plain}
 
 -- it fails, but for want of memory
 abbrev pub IsPlainFault : Option Fault → Type 0

@@ -1,16 +1,16 @@
 -- The rows of a plain outbox.
-use Rattle.std.proofs.Common.{◌≡◌, ℕ, ◌+◌, ◌<◌, ◌≤◌, ◌==◌, Bool, true, false, cond, nat_eq, List, [], ◌∷◌, length, Option, Some, None, is_some, refl, sym, ◌∙◌, ap, subst, arith}
+use Rattle.std.proofs.Common.{◌≡◌, ℕ, ◌+◌, ◌==◌, Bool, true, false, cond, nat_eq, List, [], ◌∷◌, length, Option, Some, None, is_some, refl, sym, ◌∙◌, ap, subst, arith}
 use Rattle.std.specs.Prelude.{◌&&◌, if◌then◌else◌, unwrap_or}
 use Rattle.std.specs.Ordering.{is_eq}
 use Rattle.std.specs.BTreeMap as tree
 use Rattle.std.specs.Map.{lookup}
 use Rattle.std.proofs.lemmas.Map.Entries.{lookup_head}
 use Rattle.std.proofs.lemmas.Cmp.{nat_eq_equiv}
-use Rattle.fare_record.specs.Limits.{IsNumber, IsCount}
+use Rattle.fare_record.specs.Limits.{IsNumber}
 use Rattle.fare_record.specs.Values.{RecordValue, StatementValue}
 use Rattle.fare_store.specs.Tables.{put, put3}
 use Rattle.fare_store.specs.Keys.{Key, key_order}
-use Rattle.fare_store.specs.PlacedRows.{IsPlacedAt, ArePlaced, AreCounts, AreLinks}
+use Rattle.fare_store.specs.PlacedRows.{AreLinks}
 use Rattle.fare_store.specs.PlainOutboxWords.{held_in}
 use Rattle.fare_store.specs.OutboxWords.{stored, stored_statement}
 use Rattle.fare_store.proofs.Tables.{turned, same_number, put3_is}

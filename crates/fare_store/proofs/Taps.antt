@@ -1,5 +1,5 @@
 -- A tap more in a plain ledger.
-use Rattle.std.proofs.Common.{◌≡◌, ℕ, zero, suc, ◌+◌, ◌-◌, ◌<◌, ◌≤◌, ◌==◌, Bool, true, false, cond, nat_eq, List, [], ◌∷◌, ◌++◌, length, Option, Some, None, is_some, refl, sym, ◌∙◌, ap, subst, arith, inl, inr}
+use Rattle.std.proofs.Common.{◌≡◌, ℕ, zero, suc, ◌+◌, ◌-◌, ◌<◌, ◌≤◌, ◌==◌, Bool, true, false, cond, nat_eq, List, [], ◌∷◌, ◌++◌, length, Option, Some, None, refl, sym, ◌∙◌, ap, subst, arith, inl, inr}
 use Rattle.std.specs.Prelude.{◌&&◌, ◌⊎◌, if◌then◌else◌, slice_get, unwrap_or}
 use Rattle.std.specs.BTreeMap as tree
 use Rattle.std.specs.Map.{lookup}
@@ -91,8 +91,8 @@ kept_more row old new more d k r is = by (d == row.device) refl
 numbered_more : (row : RecordValue) (old new : ℕ → List RecordValue) → IsAppended row old new → row.lane ≡ length (old row.device) + 1 → AreNumbered old → AreNumbered new
 numbered_more row old new more next numbered d k r is =
     elim (found_more row old new more d k r is) [
-      inl before ↦ numbered d k r before
-    | inr last ↦ (ap (λ (x : RecordValue). x.device) last.2 ∙ sym last.0, ap (λ (x : RecordValue). x.lane) last.2 ∙ next ∙ ap (λ n. n + 1) (sym last.1))
+      | inl before ↦ numbered d k r before
+      | inr last ↦ (ap (λ (x : RecordValue). x.device) last.2 ∙ sym last.0, ap (λ (x : RecordValue). x.lane) last.2 ∙ next ∙ ap (λ n. n + 1) (sym last.1))
     ]
 
 -- the map with this tap at its place
@@ -122,8 +122,8 @@ listed_more row old new ordered listed more next writes are place r is = by (is_
 every_more : (row : RecordValue) (old new : ℕ → List RecordValue) (ordered listed : tree.BTreeMap Place RecordValue) → IsAppended row old new → row.lane ≡ length (old row.device) + 1 → IsListed row ordered listed → AreNumbered old → HasEvery old ordered → HasEvery new listed
 every_more row old new ordered listed more next writes numbered every d k r is =
     elim (found_more row old new more d k r is) [
-      inl before ↦ writes (place_of r) ∙ apart (is_eq (place_order (place_of row) (place_of r))) refl before
-    | inr last ↦ writes (place_of r) ∙ ap (λ t. cond t (Some row) (tree.get place_order ordered (place_of r))) (ap (λ (x : RecordValue). is_eq (place_order (place_of row) (place_of x))) last.2 ∙ itself (place_of row)) ∙ ap {B = Option RecordValue} Some (sym last.2)
+      | inl before ↦ writes (place_of r) ∙ apart (is_eq (place_order (place_of row) (place_of r))) refl before
+      | inr last ↦ writes (place_of r) ∙ ap (λ t. cond t (Some row) (tree.get place_order ordered (place_of r))) (ap (λ (x : RecordValue). is_eq (place_order (place_of row) (place_of x))) last.2 ∙ itself (place_of row)) ∙ ap {B = Option RecordValue} Some (sym last.2)
     ]
   where
     equal : (n : ℕ) → nat_cmp n n ≡ Equal

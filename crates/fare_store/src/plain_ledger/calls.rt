@@ -3,9 +3,7 @@ ghost use Rattle.fare_store.specs.PlainLedgerWords.{plain_ledger};
 
 use super::PlainLedger;
 use crate::{Fault, Ledger, Refused};
-use fare_owner::{
-    CloseFault, StatementFault, TapFault, judge_close, judge_statement, judge_tap,
-};
+use fare_owner::{CloseFault, StatementFault, TapFault, judge_close, judge_statement, judge_tap};
 use fare_record::{Day, DeviceId, OwnerId, Record, Statement};
 
 impl Ledger for PlainLedger {

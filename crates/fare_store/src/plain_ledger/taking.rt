@@ -54,10 +54,7 @@ impl PlainLedger {
 }
 
 // Makes room for one tap more of a device.
-fn make_room(
-    taken: &mut HashMap<DeviceId, Vec<Record>>,
-    device: DeviceId,
-) -> Result<(), AllocError>
+fn make_room(taken: &mut HashMap<DeviceId, Vec<Record>>, device: DeviceId) -> Result<(), AllocError>
     ensures same { (other : ℕ) → items_of (get nat_eq taken.new other) ≡ items_of (get nat_eq taken.old other) }
     ensures known { (other : ℕ) → is_some (get nat_eq taken.new other) ≡ is_some (get nat_eq taken.old other) }
     ensures room { OnOk result (IfSome (get nat_eq taken.new device) (λ rows. vec_len rows < vec_capacity rows)) }

@@ -1,6 +1,5 @@
-use Rattle.std.proofs.Common.{◌≡◌, List, [], ◌++◌, refl, sym, ap, ◌∙◌, subst}
+use Rattle.std.proofs.Common.{◌≡◌, sym, ap, ◌∙◌, subst}
 use Rattle.std.specs.Map.{values_of}
-use Rattle.fare_record.specs.Values.{RecordValue}
 use Rattle.fare_store.specs.LedgerWords.{AreTapsBetween}
 use Rattle.fare_store.specs.PlainLedgerWords.{plain_ledger}
 use Rattle.fare_store.proofs.Between.{taps_between, all_taken}

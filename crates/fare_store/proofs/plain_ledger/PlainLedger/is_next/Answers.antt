@@ -1,4 +1,4 @@
-use Rattle.std.proofs.Common.{◌≡◌, ◌+◌, ◌==◌, sym, ap, ◌∙◌}
+use Rattle.std.proofs.Common.{◌+◌, ◌==◌, sym, ap, ◌∙◌}
 use Rattle.fare_store.specs.PlainLedgerWords.{days_closed}
 use Rattle.fare_store.proofs.LedgerDays.{next_day}
 use Rattle.fare_store.proofs.plain_ledger.PlainLedger.is_next.Goals as goal

@@ -1,4 +1,4 @@
-use Rattle.std.proofs.Common.{◌≡◌, nat_eq, sym, ap, ◌∙◌}
+use Rattle.std.proofs.Common.{nat_eq, ◌∙◌}
 use Rattle.std.specs.HashMap.{get}
 use Rattle.fare_store.proofs.LedgerDays.{through}
 use Rattle.fare_store.proofs.plain_ledger.PlainLedger.last_closed.Goals as goal

@@ -1,9 +1,9 @@
-use Rattle.std.proofs.Common.{◌≡◌, ◌+◌, ◌≤◌, nat_eq, Some, None, length, refl, sym, ap, ◌∙◌, arith}
+use Rattle.std.proofs.Common.{◌≤◌, nat_eq, length, ap, arith}
 use Rattle.std.specs.HashMap.{get}
 use Rattle.std.specs.Map.{lookup}
 use Rattle.fare_store.specs.TapPlaces.{items_of, same_day}
 use Rattle.fare_store.specs.PlainLedgerWords.{days_closed}
-use Rattle.fare_store.proofs.LedgerMaking.{AreFresh, none_fresh, more_fresh, all_known, fresh_numbered, fresh_every, fresh_listed, fresh_counted, fresh_days}
+use Rattle.fare_store.proofs.LedgerMaking.{none_fresh, more_fresh, all_known, fresh_numbered, fresh_every, fresh_listed, fresh_counted, fresh_days}
 use Rattle.fare_store.proofs.plain_ledger.PlainLedger.new.Goals as goal
 
 pub loop-position-init : goal.loop-position-init

@@ -1,8 +1,8 @@
-use Rattle.std.proofs.Common.{◌≡◌, ◌≤◌, ◌+◌, nat_eq, sym, ap, ◌∙◌, arith}
+use Rattle.std.proofs.Common.{◌≤◌, nat_eq, sym, ap, ◌∙◌, arith}
 use Rattle.std.specs.HashMap.{get}
 use Rattle.std.specs.Map.{lookup}
 use Rattle.fare_store.specs.TapPlaces.{same_day}
-use Rattle.fare_store.specs.PlainLedgerWords.{plain_ledger, days_closed}
+use Rattle.fare_store.specs.PlainLedgerWords.{plain_ledger}
 use Rattle.fare_store.proofs.Tables.{either_way}
 use Rattle.fare_store.proofs.LedgerDays.{closed_put, days_put}
 use Rattle.fare_store.proofs.plain_ledger.PlainLedger.write_close.Goals as goal
@@ -18,8 +18,8 @@ invariant_of-self c =
       every = l.every;
       counted = l.counted;
       days = either_way c.insert.result c.insert.ensures.updates c.insert.ensures.err
-      (λ u. days_put l.start a.device a.day (get same_day l.stated) (get nat_eq l.closed) (get nat_eq c.insert.new.self) u.0 from c.requires.stated l.days)
-      (λ same d last is. l.days d last (ap (lookup (nat_eq d)) (sym same) ∙ is));
+          (λ u. days_put l.start a.device a.day (get same_day l.stated) (get nat_eq l.closed) (get nat_eq c.insert.new.self) u.0 from c.requires.stated l.days)
+          (λ same d last is. l.days d last (ap (lookup (nat_eq d)) (sym same) ∙ is));
     }
 
 pub returns-clause-ok : goal.returns-clause-ok

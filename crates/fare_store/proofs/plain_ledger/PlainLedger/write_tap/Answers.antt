@@ -1,13 +1,12 @@
-use Rattle.std.proofs.Common.{◌≡◌, ℕ, ◌+◌, ◌≤◌, ◌<◌, nat_eq, length, List, Option, Some, cond, is_some, refl, sym, ap, ◌∙◌, arith}
+use Rattle.std.proofs.Common.{◌≡◌, ℕ, ◌+◌, nat_eq, length, List, Some, cond, refl, sym, ap, ◌∙◌}
 use Rattle.std.specs.BTreeMap as tree
 use Rattle.std.specs.HashMap.{get}
 use Rattle.std.specs.Ordering.{is_eq}
 use Rattle.fare_record.specs.Values.{TapValue, RecordValue}
 use Rattle.fare_record.specs.Lanes.{day_count}
 use Rattle.fare_store.specs.TapPlaces.{Place, place_order, place_of, items_of, same_day}
-use Rattle.fare_store.specs.PlainLedgerWords.{plain_ledger}
 use Rattle.fare_store.proofs.Tables.{at_ok}
-use Rattle.fare_store.proofs.Taps.{AreKept, IsAppended, IsListed, kept_same, kept_tap, count_within}
+use Rattle.fare_store.proofs.Taps.{IsListed, kept_same, kept_tap}
 use Rattle.fare_store.proofs.plain_ledger.PlainLedger.write_tap.Goals as goal
 
 pub invariant_of-self : goal.invariant_of-self

@@ -1,6 +1,5 @@
 use Rattle.std.proofs.Common.{◌≡◌, nat_eq, Some, is_some, sym, ap}
 use Rattle.std.specs.HashMap.{get}
-use Rattle.fare_store.proofs.Tables.{on_err}
 use Rattle.fare_store.proofs.Lent.{lent_items, lent_known}
 use Rattle.fare_store.proofs.plain_ledger.taking.make_room.Goals as goal
 

@@ -1,6 +1,6 @@
 use Rattle.std.proofs.Common.{rules, ◌≡◌, ◌<◌, ◌≤◌, None, arith}
-use Rattle.fare_store.specs.PlainOutboxWords.{plain_outbox, IsDropped}
-use Rattle.fare_store.proofs.Pruning.{AreDropped, pruned_none, counted_none, dropped_next, dropped_to, dropped_to_none}
+use Rattle.fare_store.specs.PlainOutboxWords.{plain_outbox}
+use Rattle.fare_store.proofs.Pruning.{pruned_none, counted_none, dropped_next, dropped_to, dropped_to_none}
 use Rattle.std.specs.HashMap as hash
 use Rattle.std.specs.Prelude.{nat_eq}
 use Rattle.fare_store.proofs.plain_outbox.PlainOutbox.drop_upto.Goals as goal

@@ -10,7 +10,7 @@ returns-else-is_empty-2 c =
     let o = c.args.self.now in
     let off = c.if-is_empty-2.false in
     let none : IsEmptyOutbox (plain_outbox o) → ⊥ = λ e. elim c.if-is_empty.branch [
-      then-is_empty w ↦ let on : true ≡ false = sym (w.is_empty-then-is_empty.ensures.1 e.row_count) ∙ (sym w.value-is ∙ off) in cc
-    | else-is_empty w ↦ let on : true ≡ false = sym (c.is_empty.ensures.1 (unseen o.upto.entries o.seen e.upto)) ∙ w.if-is_empty.false in cc
+      | then-is_empty w ↦ let on : true ≡ false = sym (w.is_empty-then-is_empty.ensures.1 e.row_count) ∙ (sym w.value-is ∙ off) in cc
+      | else-is_empty w ↦ let on : true ≡ false = sym (c.is_empty.ensures.1 (unseen o.upto.entries o.seen e.upto)) ∙ w.if-is_empty.false in cc
     ] in
     (λ t. absurd (let on : true ≡ false = sym t ∙ off in cc), λ e. absurd (none e))

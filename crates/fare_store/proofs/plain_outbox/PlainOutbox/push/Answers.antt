@@ -1,14 +1,10 @@
-use Rattle.std.proofs.Common.{◌≡◌, ◌+◌, Some, None, nat_eq, cond, refl, sym, ap, ◌∙◌}
-use Rattle.std.specs.Prelude.{if◌then◌else◌, unwrap_or}
+use Rattle.std.proofs.Common.{Some, nat_eq, cond, refl, sym, ap, ◌∙◌}
 use Rattle.std.specs.BTreeMap as tree
 use Rattle.std.specs.HashMap as hash
 use Rattle.std.specs.Map.{lookup}
 use Rattle.std.specs.Ordering.{is_eq}
-use Rattle.fare_record.specs.Values.{RecordValue}
 use Rattle.fare_store.specs.Keys.{key_order}
-use Rattle.fare_store.specs.OutboxWords.{stored}
 use Rattle.fare_store.specs.PlacedRows.{IsPlacedAt}
-use Rattle.fare_store.specs.PlainOutboxWords.{plain_outbox}
 use Rattle.fare_store.proofs.Tables.{on_err, at_ok}
 use Rattle.fare_store.proofs.Rows.{same_outbox, with_row, one_more, holds_put, links_put}
 use Rattle.fare_store.proofs.plain_outbox.PlainOutbox.push.Goals as goal

@@ -1,4 +1,4 @@
-use Rattle.std.proofs.Common.{◌≡◌, ◌+◌, Some, None, nat_eq, refl, sym, ap, ◌∙◌}
+use Rattle.std.proofs.Common.{nat_eq, sym, ap, ◌∙◌}
 use Rattle.std.specs.BTreeMap as tree
 use Rattle.std.specs.HashMap as hash
 use Rattle.std.specs.Map.{lookup}
@@ -17,8 +17,8 @@ invariant_of-self c =
       seen = o.seen;
       placed = o.placed;
       counts = either_way c.insert.result c.insert.ensures.updates c.insert.ensures.err
-      (λ u. holds_put (λ a b d. IsCount) s.owner s.device s.day s.count (tree.get key_order o.statements) (tree.get key_order c.insert.new.self) (rw (c.owner.ensures, c.device.ensures, c.day.ensures, c.count.ensures.value) at u.0) (rw c.count.ensures.value at c.count.ensures.valid) o.counts)
-      (λ same a b d k is. o.counts a b d k (ap (lookup (λ q. is_eq (key_order (a, b, d) q))) (sym same) ∙ is));
+          (λ u. holds_put (λ a b d. IsCount) s.owner s.device s.day s.count (tree.get key_order o.statements) (tree.get key_order c.insert.new.self) (rw (c.owner.ensures, c.device.ensures, c.day.ensures, c.count.ensures.value) at u.0) (rw c.count.ensures.value at c.count.ensures.valid) o.counts)
+          (λ same a b d k is. o.counts a b d k (ap (lookup (λ q. is_eq (key_order (a, b, d) q))) (sym same) ∙ is));
     }
 
 pub returns-clause-ok : goal.returns-clause-ok

@@ -1,5 +1,4 @@
-use Rattle.std.proofs.Common.{◌≡◌, ◌==◌, true, false, sym, ◌∙◌, ap, arith}
-use Rattle.std.specs.Prelude.{not}
+use Rattle.std.proofs.Common.{◌≡◌, true, sym, ◌∙◌, arith}
 use Rattle.std.specs.declared.ops.Bound.TheVariants.{Excluded, Unbounded}
 use Rattle.std.proofs.lemmas.Bool.Decides.{nat_tests}
 use Rattle.fare_store.proofs.NextRows.{no_rows, other_row, least_row, first_of}
@@ -17,8 +16,8 @@ returns-then-ne c =
     let row = c.in_ok-row.row.now in
     let first = first_of a.self.now.rows (Excluded (a.owner, a.device, a.after)) Unbounded c.range.result (c.in_ok-row.field-0-0.now, row) c.next.new.self c.in_ok-row.ensures.steps (c.range.ensures.in_range tt) in
     let other : row.owner ≡ a.owner → row.device ≡ a.device → ⊥ = λ same equal. elim c.then-ne.branch [
-      then-ne-via-then-ne w ↦ let on : c.ne.result ≡ true = w.if-ne.true in let is : c.owner.result ≡ a.owner = c.owner.ensures ∙ same in absurd (grind (arith, nat_tests, c.ne.ensures))
-    | then-ne-via-else-ne+then-ne-2 w ↦ let on : w.ne-else-ne.result ≡ true = w.if-ne-2.true in let is : w.device.result ≡ a.device = w.device.ensures ∙ equal in absurd (grind (arith, nat_tests, w.ne-else-ne.ensures))
+      | then-ne-via-then-ne w ↦ let on : c.ne.result ≡ true = w.if-ne.true in let is : c.owner.result ≡ a.owner = c.owner.ensures ∙ same in absurd (grind (arith, nat_tests, c.ne.ensures))
+      | then-ne-via-else-ne+then-ne-2 w ↦ let on : w.ne-else-ne.result ≡ true = w.if-ne-2.true in let is : w.device.result ≡ a.device = w.device.ensures ∙ equal in absurd (grind (arith, nat_tests, w.ne-else-ne.ensures))
     ] in
     other_row a.self.now.rows a.owner a.device a.after c.in_ok-row.field-0-0.now row a.self.now.placed first other
 

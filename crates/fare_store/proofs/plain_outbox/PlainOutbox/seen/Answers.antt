@@ -1,4 +1,4 @@
-use Rattle.std.proofs.Common.{sym, arith}
+use Rattle.std.proofs.Common.{sym}
 use Rattle.fare_store.proofs.plain_outbox.PlainOutbox.seen.Goals as goal
 
 pub returns-in-Some-clause-valid : goal.returns-in-Some-clause-valid

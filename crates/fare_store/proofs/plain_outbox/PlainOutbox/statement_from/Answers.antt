@@ -1,5 +1,4 @@
-use Rattle.std.proofs.Common.{◌≡◌, ◌==◌, true, false, sym, ◌∙◌, ap, subst, arith}
-use Rattle.std.specs.Prelude.{not}
+use Rattle.std.proofs.Common.{◌≡◌, true, sym, subst, arith}
 use Rattle.std.specs.declared.ops.Bound.TheVariants.{Included, Unbounded}
 use Rattle.std.proofs.lemmas.Bool.Decides.{nat_tests}
 use Rattle.fare_record.specs.Values.{StatementValue}
@@ -20,8 +19,8 @@ returns-then-ne c =
     let key = c.in_ok-key.key.now in
     let first = first_of a.self.now.statements (Included (a.owner, a.device, a.from)) Unbounded c.range.result (key, c.in_ok-key.count.now) c.next.new.self c.in_ok-key.ensures.steps (c.range.ensures.in_range tt) in
     let other : key.0 ≡ a.owner → key.1 ≡ a.device → ⊥ = λ same equal. elim c.then-ne.branch [
-      then-ne-via-then-ne w ↦ let on : c.ne.result ≡ true = w.if-ne.true in absurd (grind (arith, nat_tests, c.ne.ensures))
-    | then-ne-via-else-ne+then-ne-2 w ↦ let on : w.ne-else-ne.result ≡ true = w.if-ne-2.true in absurd (grind (arith, nat_tests, w.ne-else-ne.ensures))
+      | then-ne-via-then-ne w ↦ let on : c.ne.result ≡ true = w.if-ne.true in absurd (grind (arith, nat_tests, c.ne.ensures))
+      | then-ne-via-else-ne+then-ne-2 w ↦ let on : w.ne-else-ne.result ≡ true = w.if-ne-2.true in absurd (grind (arith, nat_tests, w.ne-else-ne.ensures))
     ] in
     other_statement a.self.now.statements a.owner a.device a.from key c.in_ok-key.count.now first other
 
