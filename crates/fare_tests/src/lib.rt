@@ -4,4 +4,6 @@
 #![tactic(auto)]
 
 #[cfg(test)]
+mod route;
+#[cfg(test)]
 mod stores;
