@@ -1,4 +1,4 @@
-use Rattle.std.proofs.Common.{◌≡◌, nat_eq, Some, is_some, sym, ap, ◌∙◌}
+use Rattle.std.proofs.Common.{◌≡◌, nat_eq, Some, is_some, sym, ap}
 use Rattle.std.specs.HashMap.{get}
 use Rattle.fare_route.specs.Cursors.{moved}
 use Rattle.fare_route.proofs.Writing.{written, kept}

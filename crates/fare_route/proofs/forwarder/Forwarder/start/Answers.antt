@@ -1,4 +1,4 @@
-use Rattle.std.proofs.Common.{◌≡◌, ◌<◌, length, nat_eq, None, refl, arith}
+use Rattle.std.proofs.Common.{◌<◌, length, nat_eq, None, refl, arith}
 use Rattle.std.specs.HashMap.{get}
 use Rattle.std.proofs.lemmas.Option.{slice_get_read}
 use Rattle.fare_route.proofs.Starting.{more_started}
