@@ -2,6 +2,7 @@
 //! numbered. Its room is taken once, when it is made; from then on a tap is kept at the end or handed back,
 //! acknowledged taps leave at the front, and nothing is ever overwritten.
 #![tactic(auto)]
+
 mod waiting;
 
 pub use waiting::{Full, Waiting, WaitingFault};

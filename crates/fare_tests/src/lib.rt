@@ -30,7 +30,11 @@ mod record;
 #[cfg(test)]
 mod replay;
 #[cfg(test)]
+mod route;
+#[cfg(test)]
 mod scheme;
+#[cfg(test)]
+mod stores;
 #[cfg(test)]
 mod supervisor;
 #[cfg(test)]

@@ -1,0 +1,7 @@
+use Rattle.std.specs.Prelude.{nat_eq}
+use Rattle.std.specs.HashMap.{get}
+use Rattle.fare_route.proofs.Starting.{AreStarted}
+use Rattle.fare_route.proofs.forwarder.Forwarder.start.Given as goal
+
+abbrev pub invariant-loop-position : goal.invariant-loop-position
+invariant-loop-position l = AreStarted l.scheme l.counts l.position (get nat_eq l.cursors)

@@ -1,0 +1,12 @@
+pub mod FailingLemmas
+pub mod PlainLemmas
+pub mod Tables
+pub mod Keys
+pub mod Rows
+pub mod NextRows
+pub mod Pruning
+pub mod LedgerDays
+pub mod LedgerMaking
+pub mod Taps
+pub mod Lent
+pub mod Between

@@ -1,0 +1,38 @@
+use Rattle.std.proofs.Common.{◌≤◌, nat_eq, length, ap, arith}
+use Rattle.std.specs.HashMap.{get}
+use Rattle.std.specs.Map.{lookup}
+use Rattle.fare_store.specs.TapPlaces.{items_of, same_day}
+use Rattle.fare_store.specs.PlainLedgerWords.{days_closed}
+use Rattle.fare_store.proofs.LedgerMaking.{none_fresh, more_fresh, all_known, fresh_numbered, fresh_every, fresh_listed, fresh_counted, fresh_days}
+use Rattle.fare_store.proofs.plain_ledger.PlainLedger.new.Goals as goal
+
+pub loop-position-init : goal.loop-position-init
+loop-position-init c = none_fresh c.args.scheme.now (get nat_eq c.new-taken.result) (λ d. ap (lookup (nat_eq d)) c.new-taken.ensures.empty)
+
+pub loop-position-preserved : goal.loop-position-preserved
+loop-position-preserved c = more_fresh c.args.scheme.now c.loop-position.position c.in-Some.device c.new.result (get nat_eq c.loop-position.taken) (get nat_eq c.insert.new.self) c.in-Some.ensures.placed c.new.ensures.items c.in-Ok.ensures.updates.0 c.loop-position.invariant
+
+pub invariant_of-result : goal.invariant_of-result
+invariant_of-result c =
+    let t = c.loop-position.taken in
+    let none = c.loop-position.invariant.empty in
+    record {
+      numbered = fresh_numbered (λ d. items_of (get nat_eq t d)) none;
+      listed = fresh_listed (λ d. items_of (get nat_eq t d)) c.new-2.result c.new-2.ensures.empty;
+      every = fresh_every (λ d. items_of (get nat_eq t d)) c.new-2.result none;
+      counted = fresh_counted (λ d. items_of (get nat_eq t d)) (get same_day c.new-3.result) none (λ q. ap (lookup (same_day q)) c.new-3.ensures.empty);
+      days = fresh_days c.start.result (get same_day c.new-4.result) (get nat_eq c.new-5.result) (λ d. ap (lookup (nat_eq d)) c.new-5.ensures.empty);
+    }
+
+pub returns-clause-empty : goal.returns-clause-empty
+returns-clause-empty c = record {
+  taken = c.loop-position.invariant.empty;
+  stated = λ d e. ap (lookup (same_day (d, e))) c.new-4.ensures.empty;
+  closed = λ d. ap (λ es. days_closed c.start.result (lookup (nat_eq d) es)) c.new-5.ensures.empty;
+}
+
+pub returns-clause-scheme : goal.returns-clause-scheme
+returns-clause-scheme c =
+    let sc = c.args.scheme.now in
+    let all : length sc.devices ≤ c.loop-position.position = omega (arith, c.device_count-position-end.ensures.value) in
+    record { start = c.start.ensures.value; knows = all_known sc c.loop-position.position (get nat_eq c.loop-position.taken) all c.loop-position.invariant }

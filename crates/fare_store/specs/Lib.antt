@@ -1,0 +1,11 @@
+pub mod Tables
+pub mod Standing
+pub mod OutboxWords
+pub mod LedgerWords
+pub mod Failing
+pub mod Keys
+pub mod PlacedRows
+pub mod PlainOutboxWords
+pub mod TapPlaces
+pub mod Making
+pub mod PlainLedgerWords

@@ -1,0 +1,64 @@
+ghost use Rattle.std.specs.Prelude.{◌≡◌, ℕ, ◌↔◌, IsTrue, length};
+ghost use Rattle.fare_record.specs.Lanes.{day_count};
+ghost use Rattle.fare_store.specs.Standing.{Standing, IsSound, Reads, Writes};
+ghost use Rattle.fare_store.specs.LedgerWords.{LedgerValue, IsEmptyLedger, closed_through, take_judged, took, state_judged, with_statement, close_of, with_close, AreTapsBetween};
+
+use crate::{Fault, Refused};
+use fare_owner::{CloseFault, StatementFault, TapFault};
+use fare_record::{Day, DeviceId, OwnerId, Record, Statement};
+
+/// The ledger of an owner: by device, the taps that it has taken, the statements and the closed days. Each call
+/// but `owner` may want memory, and may find that the store fails; then nothing has changed.
+pub trait Ledger {
+    /// What it holds, and how it stands.
+    ghost standing: { Self → Standing LedgerValue };
+
+    /// Whose it is.
+    fn owner(&self) -> OwnerId
+        ensures { result ≡ (standing self.now).value.owner };
+
+    /// Whether it has no tap, no statement and no closed day.
+    fn is_empty(&mut self) -> Result<bool, Fault>
+        ensures { Reads (standing self.old) (standing self.new) (λ empty. IsTrue empty ↔ IsEmptyLedger (standing self.old).value) result };
+
+    /// How many taps of a device it has taken.
+    fn count(&mut self, device: DeviceId) -> Result<u64, Fault>
+        ensures { Reads (standing self.old) (standing self.new) (λ count. count ≡ length ((standing self.old).value.taken device)) result };
+
+    /// How many of these are of a day.
+    fn day_count(&mut self, device: DeviceId, day: Day) -> Result<u64, Fault>
+        ensures { Reads (standing self.old) (standing self.new) (λ count. count ≡ day_count ((standing self.old).value.taken device) day) result };
+
+    /// The last closed day of a device, if one is closed.
+    fn closed_through(&mut self, device: DeviceId) -> Result<Option<Day>, Fault>
+        ensures { Reads (standing self.old) (standing self.new) (λ day. day ≡ closed_through (standing self.old).value device) result };
+
+    /// The stated count of a device's day, if it is stated.
+    fn stated(&mut self, device: DeviceId, day: Day) -> Result<Option<u64>, Fault>
+        ensures { Reads (standing self.old) (standing self.new) (λ count. count ≡ (standing self.old).value.stated device day) result };
+
+    /// Takes the owner's next tap of a device.
+    ///
+    /// Refused by the first case of `TapFault` that applies.
+    fn take(&mut self, row: &Record) -> Result<(), Refused<TapFault>>
+        ensures { Writes (standing self.old) (standing self.new) (take_judged (standing self.old).value row.now) (took row.now (standing self.old).value) result };
+
+    /// Takes a statement.
+    ///
+    /// Refused by the first case of `StatementFault` that applies.
+    fn state(&mut self, statement: &Statement) -> Result<(), Refused<StatementFault>>
+        ensures { Writes (standing self.old) (standing self.new) (state_judged (standing self.old).value statement.now) (with_statement statement.now (standing self.old).value) result };
+
+    /// Closes a device's first day that isn't closed, where the stated count is the count of that day's taps.
+    ///
+    /// Refused by the first case of `CloseFault` that applies.
+    fn close(&mut self, device: DeviceId, day: Day) -> Result<(), Refused<CloseFault>>
+        ensures { Writes (standing self.old) (standing self.new) (close_of (standing self.old).value device day) (with_close device (standing self.old).value) result };
+
+    /// The taps of the days from one to another, by day, moment, device and lane number.
+    fn taps_between(&mut self, from: Day, to: Day) -> Result<Vec<Record>, Fault>
+        ensures { Reads (standing self.old) (standing self.new) (λ taps. AreTapsBetween (standing self.old).value from to taps.items) result };
+
+    /// While it is live it is clean, and a stop leaves what it holds.
+    ghost sound: { (s : Self) → IsSound (standing s) };
+}

@@ -1,0 +1,79 @@
+ghost use Rattle.fare_store.specs.Standing.{plain};
+ghost use Rattle.fare_store.specs.PlainLedgerWords.{plain_ledger};
+
+use super::PlainLedger;
+use crate::{Fault, Ledger, Refused};
+use fare_owner::{CloseFault, StatementFault, TapFault, judge_close, judge_statement, judge_tap};
+use fare_record::{Day, DeviceId, OwnerId, Record, Statement};
+
+impl Ledger for PlainLedger {
+    ghost standing = { λ l. plain (plain_ledger l) };
+
+    ghost sound = { λ l. record { clean = λ h. h; settled = λ live lawful v e. e } };
+
+    fn owner(&self) -> OwnerId {
+        self.owner
+    }
+
+    fn is_empty(&mut self) -> Result<bool, Fault> {
+        Ok(self.holds_nothing())
+    }
+
+    fn count(&mut self, device: DeviceId) -> Result<u64, Fault> {
+        Ok(self.held(device))
+    }
+
+    fn day_count(&mut self, device: DeviceId, day: Day) -> Result<u64, Fault> {
+        Ok(self.held_of(device, day))
+    }
+
+    fn closed_through(&mut self, device: DeviceId) -> Result<Option<Day>, Fault> {
+        Ok(self.last_closed(device))
+    }
+
+    fn stated(&mut self, device: DeviceId, day: Day) -> Result<Option<u64>, Fault> {
+        Ok(self.stated_of(device, day))
+    }
+
+    fn take(&mut self, row: &Record) -> Result<(), Refused<TapFault>> {
+        let (device, day) = (row.device(), row.tap().day());
+        let mine = self.is_mine(row.owner(), device);
+        let closed = self.is_closed(device, day);
+        match judge_tap(mine, self.held(device), closed, row.lane()) {
+            Err(why) => Err(Refused::Because(why)),
+            Ok(()) => match self.write_tap(row) {
+                Ok(()) => Ok(()),
+                Err(_) => Err(Refused::Failed(Fault::Memory)),
+            },
+        }
+    }
+
+    fn state(&mut self, statement: &Statement) -> Result<(), Refused<StatementFault>> {
+        let mine = self.is_mine(statement.owner(), statement.device());
+        let held = self.stated_of(statement.device(), statement.day());
+        match judge_statement(mine, held, statement.count()) {
+            Err(why) => Err(Refused::Because(why)),
+            Ok(()) => match self.write_statement(statement) {
+                Ok(()) => Ok(()),
+                Err(_) => Err(Refused::Failed(Fault::Memory)),
+            },
+        }
+    }
+
+    fn close(&mut self, device: DeviceId, day: Day) -> Result<(), Refused<CloseFault>> {
+        let stated = self.stated_of(device, day);
+        let closed = self.is_closed(device, day);
+        let next = self.is_next(device, day);
+        match judge_close(stated, closed, next, self.held_of(device, day)) {
+            Err(why) => Err(Refused::Because(why)),
+            Ok(()) => match self.write_close(device, day) {
+                Ok(()) => Ok(()),
+                Err(_) => Err(Refused::Failed(Fault::Memory)),
+            },
+        }
+    }
+
+    fn taps_between(&mut self, from: Day, to: Day) -> Result<Vec<Record>, Fault> {
+        Ok(self.between(from, to)?)
+    }
+}

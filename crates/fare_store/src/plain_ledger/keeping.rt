@@ -1,0 +1,138 @@
+ghost use Rattle.std.specs.Prelude.{◌≡◌, ◌↔◌, ℕ, ◌+◌, ◌==◌, OnOk, OnErr, IsSome, IfOk, IfErr, IsTrue, length, unwrap_or};
+ghost use Rattle.fare_record.specs.Lanes.{day_count};
+ghost use Rattle.fare_scheme.specs.Words.{position_of_owner};
+ghost use Rattle.fare_store.specs.LedgerWords.{IsOfScheme, IsEmptyLedger, is_mine, is_closed, closed_through, with_statement, with_close};
+ghost use Rattle.fare_store.specs.Making.{new_refusal};
+ghost use Rattle.fare_store.specs.PlainLedgerWords.{plain_ledger};
+
+use super::PlainLedger;
+use crate::LedgerFault;
+use fare_record::{Day, DeviceId, OwnerId, Record, Statement};
+use fare_scheme::Scheme;
+use std::alloc::{AllocError, Global};
+use std::collections::{BTreeMap, HashMap};
+
+impl PlainLedger {
+    /// The ledger of an owner of a scheme, with no tap, no statement and no closed day.
+    ///
+    /// Refused by the first case of `LedgerFault` that applies.
+    pub fn new(alloc: Global, scheme: &Scheme, owner: OwnerId) -> Result<PlainLedger, LedgerFault>
+        ensures known { OnOk result (IsSome (position_of_owner scheme.now owner)) }
+        ensures owner { IfOk result (λ ledger. (plain_ledger ledger).owner ≡ owner) }
+        ensures empty { IfOk result (λ ledger. IsEmptyLedger (plain_ledger ledger)) }
+        ensures scheme { IfOk result (λ ledger. IsOfScheme scheme.now (plain_ledger ledger)) }
+        ensures refused { IfErr result (λ fault. fault ≡ unwrap_or (new_refusal scheme.now owner) LedgerFault.Memory) }
+    {
+        if scheme.owner_position(owner).is_none() {
+            return Err(LedgerFault::UnknownOwner);
+        }
+        let mut taken = HashMap::new(alloc);
+        for position in 0..scheme.device_count() {
+            let Some(device) = scheme.device_at(position) else {
+                unreachable!()
+            };
+            let Ok(_) = taken.insert(device, Vec::new(alloc)) else {
+                return Err(LedgerFault::Memory);
+            };
+        }
+        Ok(PlainLedger {
+            alloc,
+            owner,
+            start: scheme.start(),
+            taken,
+            ordered: BTreeMap::new(alloc),
+            counts: HashMap::new(alloc),
+            stated: HashMap::new(alloc),
+            closed: HashMap::new(alloc),
+        })
+    }
+
+    // Whether it has no tap, no statement and no closed day.
+    pub(super) fn holds_nothing(&self) -> bool
+        ensures { IsTrue result ↔ IsEmptyLedger (plain_ledger self.now) }
+    {
+        self.ordered.is_empty() && self.stated.is_empty()
+    }
+
+    // Whether something of an owner and a device is this owner's, and of a device of the scheme.
+    pub(super) fn is_mine(&self, owner: OwnerId, device: DeviceId) -> bool
+        ensures { result ≡ is_mine (plain_ledger self.now) owner device }
+    {
+        owner == self.owner && self.taken.contains_key(&device)
+    }
+
+    // How many taps of a device it has taken.
+    pub(super) fn held(&self, device: DeviceId) -> u64
+        ensures { result ≡ length ((plain_ledger self.now).taken device) }
+    {
+        match self.taken.get(&device) {
+            Some(rows) => rows.len() as u64,
+            None => 0,
+        }
+    }
+
+    // How many of these are of a day.
+    pub(super) fn held_of(&self, device: DeviceId, day: Day) -> u64
+        ensures { result ≡ day_count ((plain_ledger self.now).taken device) day }
+    {
+        match self.counts.get(&(device, day)) {
+            Some(count) => *count,
+            None => 0,
+        }
+    }
+
+    // The stated count of a day.
+    pub(super) fn stated_of(&self, device: DeviceId, day: Day) -> Option<u64>
+        ensures { result ≡ (plain_ledger self.now).stated device day }
+    {
+        self.stated.get(&(device, day)).copied()
+    }
+
+    // The last closed day of a device.
+    pub(super) fn last_closed(&self, device: DeviceId) -> Option<Day>
+        ensures { result ≡ closed_through (plain_ledger self.now) device }
+    {
+        self.closed.get(&device).copied()
+    }
+
+    // Whether a day of a device is closed.
+    pub(super) fn is_closed(&self, device: DeviceId, day: Day) -> bool
+        ensures { result ≡ is_closed (plain_ledger self.now) device day }
+    {
+        match self.closed.get(&device) {
+            Some(last) => self.start.get() <= day.get() && day.get() <= last.get(),
+            None => false,
+        }
+    }
+
+    // Whether it is a device's first day that isn't closed.
+    pub(super) fn is_next(&self, device: DeviceId, day: Day) -> bool
+        ensures { result ≡ (day == (plain_ledger self.now).start + (plain_ledger self.now).closed device) }
+    {
+        match self.closed.get(&device) {
+            Some(last) => day.get() == last.get() + 1,
+            None => day == self.start,
+        }
+    }
+
+    // Writes a statement down. At an error nothing changes.
+    pub(super) fn write_statement(&mut self, statement: &Statement) -> Result<(), AllocError>
+        ensures ok { OnOk result (plain_ledger self.new ≡ with_statement statement.now (plain_ledger self.old)) }
+        ensures err { OnErr result (plain_ledger self.new ≡ plain_ledger self.old) }
+    {
+        let key = (statement.device(), statement.day());
+        self.stated.insert(key, statement.count())?;
+        Ok(())
+    }
+
+    // Closes a device's first day that isn't closed, which is stated. At an error nothing changes.
+    pub(super) fn write_close(&mut self, device: DeviceId, day: Day) -> Result<(), AllocError>
+        requires next { day ≡ (plain_ledger self.old).start + (plain_ledger self.old).closed device }
+        requires stated { IsSome ((plain_ledger self.old).stated device day) }
+        ensures ok { OnOk result (plain_ledger self.new ≡ with_close device (plain_ledger self.old)) }
+        ensures err { OnErr result (plain_ledger self.new ≡ plain_ledger self.old) }
+    {
+        self.closed.insert(device, day)?;
+        Ok(())
+    }
+}

@@ -1,0 +1,158 @@
+ghost use Rattle.std.specs.Prelude.{◌≡◌, ◌↔◌, None, OnOk, OnErr, IsSome, IsTrue};
+ghost use Rattle.fare_record.specs.Limits.{IsCount};
+ghost use Rattle.fare_store.specs.OutboxWords.{IsEmptyOutbox, store_judged, stored, stated_judged, stored_statement, IsNextRow, IsNextStatement, pruned, rows_upto};
+ghost use Rattle.fare_store.specs.PlainOutboxWords.{plain_outbox, IsDropped};
+
+use super::PlainOutbox;
+use crate::{StatedFault, StoreFault};
+use fare_record::{Day, DeviceId, OwnerId, Record, Statement};
+use std::alloc::{AllocError, Global};
+use std::collections::{BTreeMap, HashMap};
+use std::ops::Bound;
+
+// How many tap rows, and how many statements, an outbox holds at most.
+const ROWS: usize = 1_000_000;
+
+impl PlainOutbox {
+    /// An outbox that holds nothing. No memory is taken.
+    pub fn new(alloc: Global) -> PlainOutbox
+        ensures { IsEmptyOutbox (plain_outbox result) }
+    {
+        PlainOutbox {
+            upto: HashMap::new(alloc),
+            rows: BTreeMap::new(alloc),
+            statements: BTreeMap::new(alloc),
+        }
+    }
+
+    // Whether it holds nothing and never saw a tap.
+    pub(super) fn holds_nothing(&self) -> bool
+        ensures { IsTrue result ↔ IsEmptyOutbox (plain_outbox self.now) }
+    {
+        self.upto.is_empty() && self.rows.is_empty() && self.statements.is_empty()
+    }
+
+    // The greatest link that it has had of a device.
+    pub(super) fn seen(&self, device: DeviceId) -> u64
+        ensures value { result ≡ (plain_outbox self.now).upto device }
+        ensures valid { IsCount result }
+    {
+        match self.upto.get(&device) {
+            Some(upto) => *upto,
+            None => 0,
+        }
+    }
+
+    // Why a tap isn't stored, if it isn't.
+    pub(super) fn judge(&self, row: &Record) -> Result<(), StoreFault>
+        ensures { result ≡ store_judged (plain_outbox self.now) row.now }
+    {
+        let upto = self.seen(row.device());
+        if row.link() <= upto {
+            return Err(StoreFault::Duplicate);
+        }
+        if row.link() > upto + 1 {
+            return Err(StoreFault::Gap);
+        }
+        let key = (row.owner(), row.device(), row.lane());
+        if self.rows.contains_key(&key) {
+            return Err(StoreFault::Conflict);
+        }
+        if self.rows.len() >= ROWS {
+            return Err(StoreFault::OutboxFull);
+        }
+        Ok(())
+    }
+
+    // Holds one row more, at a place where there is none. At an error nothing changes.
+    pub(super) fn push(&mut self, row: &Record) -> Result<(), AllocError>
+        requires { (plain_outbox self.old).rows row.now.owner row.now.device row.now.lane ≡ None }
+        ensures ok { OnOk result (plain_outbox self.new ≡ stored row.now (plain_outbox self.old)) }
+        ensures err { OnErr result (plain_outbox self.new ≡ plain_outbox self.old) }
+    {
+        let key = (row.owner(), row.device(), row.lane());
+        self.upto.reserve(1)?;
+        self.rows.insert(key, *row)?;
+        let Ok(_) = self.upto.insert(row.device(), row.link()) else {
+            unreachable!()
+        };
+        Ok(())
+    }
+
+    // Why a statement isn't stored, if it isn't.
+    pub(super) fn judge_statement(&self, statement: &Statement) -> Result<(), StatedFault>
+        ensures { result ≡ stated_judged (plain_outbox self.now) statement.now }
+    {
+        let key = (statement.owner(), statement.device(), statement.day());
+        match self.statements.get(&key) {
+            Some(held) if *held == statement.count() => Err(StatedFault::Duplicate),
+            Some(_) => Err(StatedFault::Conflict),
+            None if self.statements.len() >= ROWS => Err(StatedFault::OutboxFull),
+            None => Ok(()),
+        }
+    }
+
+    // Holds one statement more, at a place where there is none. At an error nothing changes.
+    pub(super) fn push_statement(&mut self, statement: &Statement) -> Result<(), AllocError>
+        requires { (plain_outbox self.old).stated statement.now.owner statement.now.device statement.now.day ≡ None }
+        ensures ok { OnOk result (plain_outbox self.new ≡ stored_statement statement.now (plain_outbox self.old)) }
+        ensures err { OnErr result (plain_outbox self.new ≡ plain_outbox self.old) }
+    {
+        let key = (statement.owner(), statement.device(), statement.day());
+        self.statements.insert(key, statement.count())?;
+        Ok(())
+    }
+
+    // The row of least lane number after this one.
+    pub(super) fn row_after(&self, owner: OwnerId, device: DeviceId, after: u64) -> Option<Record>
+        ensures { IsNextRow (plain_outbox self.now).rows owner device after result }
+    {
+        let start = Bound::Excluded((owner, device, after));
+        let (_, row) = self.rows.range((start, Bound::Unbounded)).next()?;
+        if row.owner() != owner || row.device() != device {
+            return None;
+        }
+        Some(*row)
+    }
+
+    // The statement of least day from this one on.
+    pub(super) fn statement_from(
+        &self,
+        owner: OwnerId,
+        device: DeviceId,
+        from: Day,
+    ) -> Option<Statement>
+        ensures { IsNextStatement (plain_outbox self.now).stated owner device from result }
+    {
+        let (key, count) = self.statements.range((owner, device, from)..).next()?;
+        if key.0 != owner || key.1 != device {
+            return None;
+        }
+        Some(Statement::new(device, key.2, owner, *count))
+    }
+
+    // Lets the row at this place go.
+    fn drop_row(&mut self, owner: OwnerId, device: DeviceId, lane: u64)
+        requires { IsSome ((plain_outbox self.old).rows owner device lane) }
+        ensures { IsDropped (plain_outbox self.old) (plain_outbox self.new) owner device lane }
+    {
+        self.rows.remove(&(owner, device, lane));
+    }
+
+    // Lets the rows of a lane go up to a lane number, and answers how many.
+    pub(super) fn drop_upto(&mut self, owner: OwnerId, device: DeviceId, upto: u64) -> u64
+        ensures count { result ≡ rows_upto upto ((plain_outbox self.old).rows owner device) }
+        ensures left { plain_outbox self.new ≡ pruned owner device upto (plain_outbox self.old) }
+    {
+        let mut removed = 0;
+        let mut behind = 0;
+        while let Some(row) = self.row_after(owner, device, behind)
+            && row.lane() <= upto
+        {
+            behind = row.lane();
+            self.drop_row(owner, device, behind);
+            removed += 1;
+        }
+        removed
+    }
+}

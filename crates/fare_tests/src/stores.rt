@@ -1,0 +1,353 @@
+use fare_owner::{CloseFault, StatementFault, TapFault};
+use fare_record::{
+    Day, DeviceId, LAST_NUMBER, Moment, OwnerId, ProductId, Record, Statement, Tap, Token,
+};
+use fare_scheme::{DemoSize, Scheme};
+use fare_store::{
+    FailingOutbox, Fault, Ledger, LedgerFault, Outbox, PlainLedger, PlainOutbox, Refused,
+    StatedFault, StoreFault,
+};
+use std::alloc::Global;
+use std::process::Abort;
+
+fn device() -> Option<DeviceId> {
+    DeviceId::new(1)
+}
+
+fn owner() -> Option<OwnerId> {
+    OwnerId::new(1)
+}
+
+fn is_number(number: u64) -> bool {
+    number >= 1 && number <= LAST_NUMBER
+}
+
+// A tap of device 1 at this second of its day, for owner 1.
+fn tapped(link: u64, lane: u64, moment: u64) -> Option<Record> {
+    if !is_number(link) || !is_number(lane) {
+        return None;
+    }
+    let moment = Moment::new(moment)?;
+    let tap = Tap::new(
+        ProductId::new(1)?,
+        Token::new(77)?,
+        moment,
+        Day::new(19_723)?,
+    );
+    Some(Record::new(device()?, link, owner()?, lane, tap))
+}
+
+fn stating(count: u64) -> Option<Statement> {
+    if count > LAST_NUMBER {
+        return None;
+    }
+    Some(Statement::new(device()?, Day::new(19_723)?, owner()?, count))
+}
+
+/// A call on an outbox, for device 1 and owner 1.
+#[derive(Clone, Copy)]
+enum Asked {
+    /// Whether it is empty.
+    Empty,
+    /// The greatest link.
+    Upto,
+    /// A tap with this link and this lane number is stored.
+    Store(u64, u64),
+    /// The taps from 1 to this are stored.
+    StoreAll(u64),
+    /// A statement of day 19723 with this count is stored.
+    State(u64),
+    /// The lane number of the next row after this one.
+    NextRow(u64),
+    /// The count of the next statement from this day on.
+    NextStatement(u64),
+    /// The rows up to this lane number are removed.
+    Prune(u64),
+}
+
+/// What it answers.
+#[derive(Clone, Copy, PartialEq, Eq, Debug)]
+enum Said {
+    Empty(Result<bool, Fault>),
+    Number(Result<u64, Fault>),
+    Found(Result<Option<u64>, Fault>),
+    Stored(Result<(), Refused<StoreFault>>),
+    Stated(Result<(), Refused<StatedFault>>),
+}
+
+fn store<O: Outbox>(outbox: &mut O, link: u64, lane: u64) -> Option<Said> {
+    Some(Said::Stored(outbox.store(&tapped(link, lane, 1_704_100_000)?)))
+}
+
+fn store_all<O: Outbox>(outbox: &mut O, last: u64) -> Option<Said> {
+    let mut said = None;
+    for link in 1..=last {
+        said = store(outbox, link, link);
+    }
+    said
+}
+
+fn next_row<O: Outbox>(outbox: &mut O, after: u64) -> Option<Said> {
+    let row = outbox.next_row(owner()?, device()?, after);
+    Some(Said::Found(row.map(|row| row.map(|row| row.lane()))))
+}
+
+fn next_statement<O: Outbox>(outbox: &mut O, from: u64) -> Option<Said> {
+    let stated = outbox.next_statement(owner()?, device()?, Day::new(from)?);
+    Some(Said::Found(stated.map(|stated| stated.map(|stated| stated.count()))))
+}
+
+fn ask<O: Outbox>(outbox: &mut O, asked: Asked) -> Option<Said> {
+    match asked {
+        Asked::Empty => Some(Said::Empty(outbox.is_empty())),
+        Asked::Upto => Some(Said::Number(outbox.upto(device()?))),
+        Asked::Store(link, lane) => store(outbox, link, lane),
+        Asked::StoreAll(last) => store_all(outbox, last),
+        Asked::State(count) => Some(Said::Stated(outbox.store_statement(&stating(count)?))),
+        Asked::NextRow(after) => next_row(outbox, after),
+        Asked::NextStatement(from) => next_statement(outbox, from),
+        Asked::Prune(upto) => Some(Said::Number(outbox.prune(owner()?, device()?, upto))),
+    }
+}
+
+// The outbox answers these calls so, one after the other.
+fn says<O: Outbox>(rt: &impl Abort, outbox: &mut O, calls: &[(Asked, Said)]) {
+    for (asked, want) in calls {
+        assert_eq!(rt; ask(outbox, *asked), Some(*want));
+    }
+}
+
+fn refused(why: StoreFault) -> Said {
+    Said::Stored(Err(Refused::Because(why)))
+}
+
+fn unstated(why: StatedFault) -> Said {
+    Said::Stated(Err(Refused::Because(why)))
+}
+
+#[test]
+fn an_outbox_stores_each_next_tap(rt: HostRuntime) {
+    let calls = [
+        (Asked::Empty, Said::Empty(Ok(true))),
+        (Asked::Upto, Said::Number(Ok(0))),
+        (Asked::StoreAll(1_500), Said::Stored(Ok(()))),
+        (Asked::Upto, Said::Number(Ok(1_500))),
+        (Asked::Empty, Said::Empty(Ok(false))),
+        (Asked::Store(1_500, 1_501), refused(StoreFault::Duplicate)),
+        (Asked::Store(1_502, 1_501), refused(StoreFault::Gap)),
+        (Asked::Store(1_501, 1_500), refused(StoreFault::Conflict)),
+        (Asked::Store(1_501, 1_503), Said::Stored(Ok(()))),
+    ];
+    says(&rt, &mut PlainOutbox::new(rt.alloc()), &calls);
+}
+
+#[test]
+fn an_outbox_gives_and_removes_rows_in_order(rt: HostRuntime) {
+    let calls = [
+        (Asked::StoreAll(100), Said::Stored(Ok(()))),
+        (Asked::Store(101, 103), Said::Stored(Ok(()))),
+        (Asked::NextRow(0), Said::Found(Ok(Some(1)))),
+        (Asked::NextRow(100), Said::Found(Ok(Some(103)))),
+        (Asked::NextRow(103), Said::Found(Ok(None))),
+        (Asked::Prune(102), Said::Number(Ok(100))),
+        (Asked::NextRow(0), Said::Found(Ok(Some(103)))),
+        (Asked::Prune(u64::MAX), Said::Number(Ok(1))),
+        (Asked::Empty, Said::Empty(Ok(false))),
+    ];
+    says(&rt, &mut PlainOutbox::new(rt.alloc()), &calls);
+}
+
+#[test]
+fn an_outbox_holds_a_statement_once(rt: HostRuntime) {
+    let calls = [
+        (Asked::State(3), Said::Stated(Ok(()))),
+        (Asked::State(3), unstated(StatedFault::Duplicate)),
+        (Asked::State(4), unstated(StatedFault::Conflict)),
+        (Asked::NextStatement(0), Said::Found(Ok(Some(3)))),
+        (Asked::NextStatement(19_724), Said::Found(Ok(None))),
+        (Asked::Empty, Said::Empty(Ok(false))),
+    ];
+    says(&rt, &mut PlainOutbox::new(rt.alloc()), &calls);
+}
+
+#[test]
+fn an_outbox_fails_at_one_call(rt: HostRuntime) {
+    let calls = [
+        (Asked::Upto, Said::Number(Ok(0))),
+        (
+            Asked::Store(1, 1),
+            Said::Stored(Err(Refused::Failed(Fault::Store))),
+        ),
+        (Asked::Upto, Said::Number(Ok(0))),
+        (Asked::Store(1, 1), Said::Stored(Ok(()))),
+        (Asked::Upto, Said::Number(Ok(1))),
+    ];
+    let outbox = PlainOutbox::new(rt.alloc());
+    says(&rt, &mut FailingOutbox::new(outbox, 2), &calls);
+}
+
+/// A call on a ledger, for device 1 and day 19723.
+#[derive(Clone, Copy)]
+enum Call {
+    /// Whether it is empty.
+    Empty,
+    /// How many taps it has taken.
+    Count,
+    /// How many of these are of the day.
+    DayCount,
+    /// The number of the last closed day.
+    ClosedThrough,
+    /// The stated count.
+    Stated,
+    /// A tap with this lane number is taken, of a later second for each lower one.
+    Take(u64),
+    /// The taps from 1 to this are taken.
+    TakeAll(u64),
+    /// A statement with this count is taken.
+    State(u64),
+    /// The day is closed.
+    Close,
+}
+
+/// What it answers.
+#[derive(Clone, Copy, PartialEq, Eq, Debug)]
+enum Answer {
+    Empty(Result<bool, Fault>),
+    Number(Result<u64, Fault>),
+    Maybe(Result<Option<u64>, Fault>),
+    Taken(Result<(), Refused<TapFault>>),
+    Stated(Result<(), Refused<StatementFault>>),
+    Closed(Result<(), Refused<CloseFault>>),
+}
+
+// The ledger of an owner of the demonstration scheme with one device.
+fn ledger(alloc: Global, owner: u64) -> Option<PlainLedger> {
+    let scheme = Scheme::demo(alloc, DemoSize::OneDevice, 4, 4, 4).ok()?;
+    PlainLedger::new(alloc, &scheme, OwnerId::new(owner)?).ok()
+}
+
+// Why there is no ledger of an owner.
+fn fault_of(alloc: Global, owner: u64) -> Option<LedgerFault> {
+    let scheme = Scheme::demo(alloc, DemoSize::OneDevice, 4, 4, 4).ok()?;
+    PlainLedger::new(alloc, &scheme, OwnerId::new(owner)?).err()
+}
+
+fn take<L: Ledger>(ledger: &mut L, lane: u64) -> Option<Answer> {
+    let later = 1_704_100_000_u64.saturating_sub(lane);
+    Some(Answer::Taken(ledger.take(&tapped(lane, lane, later)?)))
+}
+
+fn take_all<L: Ledger>(ledger: &mut L, last: u64) -> Option<Answer> {
+    let mut answer = None;
+    for lane in 1..=last {
+        answer = take(ledger, lane);
+    }
+    answer
+}
+
+fn closed_through<L: Ledger>(ledger: &mut L) -> Option<Answer> {
+    let day = ledger.closed_through(device()?);
+    Some(Answer::Maybe(day.map(|day| day.map(|day| u64::from(day.get())))))
+}
+
+// The first and the last lane number of the taps of some days, in their order, and how many these are.
+fn between(alloc: Global, from: u64, to: u64) -> Option<(Option<u64>, Option<u64>, usize)> {
+    let mut ledger = ledger(alloc, 1)?;
+    take_all(&mut ledger, 3)?;
+    let taps = ledger.taps_between(Day::new(from)?, Day::new(to)?).ok()?;
+    let (first, last) = (taps.first().copied(), taps.last().copied());
+    Some((
+        first.map(|tap| tap.lane()),
+        last.map(|tap| tap.lane()),
+        taps.len(),
+    ))
+}
+
+fn answer_to<L: Ledger>(ledger: &mut L, call: Call) -> Option<Answer> {
+    let (device, day) = (device()?, Day::new(19_723)?);
+    match call {
+        Call::Empty => Some(Answer::Empty(ledger.is_empty())),
+        Call::Count => Some(Answer::Number(ledger.count(device))),
+        Call::DayCount => Some(Answer::Number(ledger.day_count(device, day))),
+        Call::ClosedThrough => closed_through(ledger),
+        Call::Stated => Some(Answer::Maybe(ledger.stated(device, day))),
+        Call::Take(lane) => take(ledger, lane),
+        Call::TakeAll(last) => take_all(ledger, last),
+        Call::State(count) => Some(Answer::Stated(ledger.state(&stating(count)?))),
+        Call::Close => Some(Answer::Closed(ledger.close(device, day))),
+    }
+}
+
+// A new ledger answers these calls so, one after the other.
+fn answers(rt: &impl Abort, alloc: Global, calls: &[(Call, Answer)]) {
+    let mut ledger = ledger(alloc, 1).expect(rt, "ledger");
+    for (call, want) in calls {
+        assert_eq!(rt; answer_to(&mut ledger, *call), Some(*want));
+    }
+}
+
+fn untaken(why: TapFault) -> Answer {
+    Answer::Taken(Err(Refused::Because(why)))
+}
+
+fn unclosed(why: CloseFault) -> Answer {
+    Answer::Closed(Err(Refused::Because(why)))
+}
+
+#[test]
+fn a_ledger_is_of_an_owner_of_the_scheme(rt: HostRuntime) {
+    assert_eq!(rt; fault_of(rt.alloc(), 9), Some(LedgerFault::UnknownOwner));
+    let ledger = ledger(rt.alloc(), 1).expect(&rt, "ledger");
+    assert_eq!(rt; Some(ledger.owner()), owner());
+}
+
+#[test]
+fn a_ledger_takes_each_next_tap(rt: HostRuntime) {
+    let calls = [
+        (Call::Empty, Answer::Empty(Ok(true))),
+        (Call::Take(2), untaken(TapFault::Gap)),
+        (Call::TakeAll(1_500), Answer::Taken(Ok(()))),
+        (Call::Take(1_500), untaken(TapFault::Duplicate)),
+        (Call::Count, Answer::Number(Ok(1_500))),
+        (Call::DayCount, Answer::Number(Ok(1_500))),
+        (Call::Empty, Answer::Empty(Ok(false))),
+    ];
+    answers(&rt, rt.alloc(), &calls);
+}
+
+#[test]
+fn a_ledger_orders_the_taps_of_some_days(rt: HostRuntime) {
+    let cases = [
+        ((19_723, 19_723), (Some(3), Some(1), 3)),
+        ((19_724, 19_730), (None, None, 0)),
+        ((19_724, 19_723), (None, None, 0)),
+    ];
+    for ((from, to), want) in cases {
+        assert_eq!(rt; between(rt.alloc(), from, to), Some(want));
+    }
+}
+
+#[test]
+fn a_ledger_closes_a_day_where_the_counts_agree(rt: HostRuntime) {
+    let short = CloseFault::CountsShort {
+        stated: 1,
+        taken: 0,
+    };
+    let repeated = Answer::Stated(Err(Refused::Because(StatementFault::Repeated)));
+    let conflict = Answer::Stated(Err(Refused::Because(StatementFault::Conflict)));
+    let calls = [
+        (Call::Close, unclosed(CloseFault::Unstated)),
+        (Call::State(1), Answer::Stated(Ok(()))),
+        (Call::Stated, Answer::Maybe(Ok(Some(1)))),
+        (Call::State(1), repeated),
+        (Call::State(2), conflict),
+        (Call::Close, unclosed(short)),
+        (Call::ClosedThrough, Answer::Maybe(Ok(None))),
+        (Call::Take(1), Answer::Taken(Ok(()))),
+        (Call::Close, Answer::Closed(Ok(()))),
+        (Call::ClosedThrough, Answer::Maybe(Ok(Some(19_723)))),
+        (Call::Take(2), untaken(TapFault::AfterClose)),
+        (Call::Close, unclosed(CloseFault::AlreadyClosed)),
+    ];
+    answers(&rt, rt.alloc(), &calls);
+}
