@@ -18,13 +18,9 @@ fn owner() -> Option<OwnerId> {
     OwnerId::new(1)
 }
 
-fn is_number(number: u64) -> bool {
-    number >= 1 && number <= LAST_NUMBER
-}
-
 // A tap of device 1 at this second of its day, for owner 1.
 fn tapped(link: u64, lane: u64, moment: u64) -> Option<Record> {
-    if !is_number(link) || !is_number(lane) {
+    if link == 0 || link > LAST_NUMBER || lane == 0 || lane > LAST_NUMBER {
         return None;
     }
     let moment = Moment::new(moment)?;
