@@ -159,6 +159,14 @@ impl Device {
         self.link.cursor()
     }
 
+    /// The greatest link that was given out.
+    pub fn last(&self) -> u64
+        ensures value { result ≡ last_link self.now }
+        ensures valid { result ≤ 1099511627775 }
+    {
+        self.link.base() + self.waiting.len() as u64
+    }
+
     /// Numbers a tap and keeps it at the end of those that wait. `day` is the traffic day of `moment`, and
     /// the scheme is the one that the device was made with. Answers the numbered record, or the first refusal
     /// that applies, in the order `UnknownProduct`, `DayClosed`, `DayAhead`, `NumbersSpent`,
@@ -251,14 +259,6 @@ impl Device {
         ensures lanes { length self.new.lanes ≡ length self.old.lanes }
     {
         self.rewind();
-    }
-
-    // The greatest link that was given out.
-    fn last(&self) -> u64
-        ensures value { result ≡ last_link self.now }
-        ensures valid { result ≤ 1099511627775 }
-    {
-        self.link.base() + self.waiting.len() as u64
     }
 }
 

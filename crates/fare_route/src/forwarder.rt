@@ -3,7 +3,7 @@ ghost use Rattle.fare_scheme.specs.Words.{position_of_owner};
 ghost use Rattle.fare_store.specs.declared.fault.Refused.TheVariants.{Because};
 ghost use Rattle.fare_store.specs.Standing.{Reads};
 ghost use Rattle.fare_route.specs.Cursors.{moved, undone};
-ghost use Rattle.fare_route.specs.Routing.{cursor_of, started, start_refusal, Asks, IsNext, IsNextOf, changed, first_day};
+ghost use Rattle.fare_route.specs.Routing.{cursor_of, standing_at, started, start_refusal, Asks, IsNext, IsNextOf, changed, first_day};
 
 use crate::cursor::Cursor;
 use crate::{StartFault, UnknownDevice};
@@ -86,6 +86,21 @@ impl Forwarder {
                 *cursor = moved;
                 Ok(item)
             }
+        }
+    }
+
+    /// Goes on with a device where the owner's ledger stands, by how many of its taps are taken and its last
+    /// closed day, whatever was handed on before. Nothing changes for a device that isn't in the scheme.
+    pub fn resume(&mut self, scheme: &Scheme, device: DeviceId, taken: u64, closed: Option<Day>)
+        ensures cursors { (other : ℕ) → cursor_of self.new other ≡ changed (λ _. standing_at scheme.now.start (taken, closed)) (cursor_of self.old) device other }
+        ensures owner { self.new.owner ≡ self.old.owner }
+    {
+        if let Some(cursor) = self.cursors.get_mut(&device) {
+            *cursor = Cursor {
+                lane: taken,
+                day: first_day(scheme, closed),
+                before: None,
+            };
         }
     }
 

@@ -50,21 +50,19 @@ waiting_beyond sc d v is =
 part_in_two : (owner n : ℕ) (rs : List RecordValue) → part owner rs ≡ part owner (take n rs) ++ part owner (drop n rs)
 part_in_two owner n rs = sym (ap (part owner) (take-append-drop n rs)) ∙ filter-append (λ r. r.owner == owner) (take n rs) (drop n rs)
 
+-- as many taps of the lane as have arrived are those that arrived
+pub taken_of_arrived : (owner took : ℕ) (v : DeviceState) → took ≤ length (arrived_of owner v) → take took (part owner v.taps) ≡ take took (arrived_of owner v)
+taken_of_arrived owner took v le = ap (take took) (part_in_two owner v.upto v.taps) ∙ take-append-le took (arrived_of owner v) (part owner (drop v.upto v.taps)) le
+
 -- the lane of a device and an owner, in three
 pub lane_in_three : (sc : SchemeValue) (owner d took : ℕ) (v : DeviceState) → IsDevice sc d v → took ≤ length (arrived_of owner v)
-    → part owner v.taps ≡ take took (part owner v.taps) ++ (drop (length (take took (part owner v.taps))) (arrived_of owner v) ++ part owner (beyond v.upto (drop v.base v.taps)))
+    → part owner v.taps ≡ take took (part owner v.taps) ++ (drop took (arrived_of owner v) ++ part owner (beyond v.upto (drop v.base v.taps)))
 lane_in_three sc owner d took v is le =
     part_in_two owner v.upto v.taps ∙ ap (λ l. l ++ behind) (sym (take-append-drop took rows)) ∙ append_assoc (take took rows) (drop took rows) behind
-    ∙ (λ i. taken i ++ (drop (sym long i) rows ++ part owner (sym (waiting_beyond sc d v is) i)))
+    ∙ (λ i. sym (taken_of_arrived owner took v le) i ++ (drop took rows ++ part owner (sym (waiting_beyond sc d v is) i)))
   where
     rows : List RecordValue
     rows = arrived_of owner v
 
     behind : List RecordValue
     behind = part owner (drop v.upto v.taps)
-
-    taken : take took rows ≡ take took (part owner v.taps)
-    taken = sym (ap (take took) (part_in_two owner v.upto v.taps) ∙ take-append-le took rows behind le)
-
-    long : length (take took (part owner v.taps)) ≡ took
-    long = ap length (sym taken) ∙ length-take-le took rows le

@@ -11,8 +11,8 @@ use Rattle.fare_world.specs.Shown.{IsSystem}
 use Rattle.fare_world.proofs.Lists.{if_all}
 use Rattle.fare_world.proofs.KeptMoves.{stays}
 use Rattle.fare_world.proofs.KeptTap.{moves_tap}
-use Rattle.fare_world.proofs.KeptLink.{moves_send, moves_rewind, moves_arrive, moves_ack, moves_answer, moves_resume, moves_restart_device, moves_restart_station, moves_restart_writer}
-use Rattle.fare_world.proofs.KeptLanes.{moves_draw, moves_store, moves_forward, moves_fetch, moves_take}
+use Rattle.fare_world.proofs.KeptLink.{moves_send, moves_rewind, moves_arrive, moves_ack, moves_answer, moves_resume, moves_restart_device, moves_restart_station, moves_restart_writer, moves_restart_owner, moves_restart_hub}
+use Rattle.fare_world.proofs.KeptLanes.{moves_draw, moves_store, moves_forward, moves_fetch, moves_take, moves_prune}
 pub use Rattle.fare_world.proofs.KeptParts.{below, above, not_below, took_numbered, device_changes, owner_changes, hand_changes}
 pub use Rattle.fare_world.proofs.KeptMoves.{Moves}
 pub use Rattle.fare_world.proofs.KeptLink.{comes_kept}
@@ -43,9 +43,12 @@ moves_step sc s (event.Answer st) h = moves_answer sc s st h
 moves_step sc s (event.Forward o d) h = moves_forward sc s o d h
 moves_step sc s (event.Fetch o) h = moves_fetch sc s o h
 moves_step sc s (event.Take o) h = moves_take sc s o h
+moves_step sc s (event.Prune o d) h = moves_prune sc s o d h
 moves_step sc s (event.Resume d) h = moves_resume sc s d h
 moves_step sc s (event.RestartDevice d) h = moves_restart_device sc s d h
 moves_step sc s (event.RestartStation st) h = moves_restart_station sc s st h
 moves_step sc s event.RestartWriter h = moves_restart_writer sc s h
+moves_step sc s (event.RestartOwner o) h = moves_restart_owner sc s o h
+moves_step sc s event.RestartHub h = moves_restart_hub sc s h
 moves_step sc s (event.Upto d) h = moves_upto sc s d h
 moves_step sc s (event.Count o d) h = moves_count sc s o d h

@@ -9,16 +9,16 @@ use Rattle.fare_collector.specs.Collecting.{is_id, collect_judged}
 use Rattle.fare_collector.specs.declared.fault.CollectRefusal.TheVariants as collect
 use Rattle.fare_world.specs.declared.event.Event.{Event}
 use Rattle.fare_world.specs.declared.event.Event.TheVariants as event
-use Rattle.fare_world.specs.declared.reply.Refusal.TheVariants.{UnknownDevice, UnknownStation, NoPacket, Old, Ahead}
+use Rattle.fare_world.specs.declared.reply.Refusal.TheVariants.{UnknownDevice, UnknownOwner, UnknownStation, NoPacket, Old, Ahead, Busy}
 use Rattle.fare_world.specs.declared.reply.Reply.{Reply}
 use Rattle.fare_world.specs.declared.reply.Reply.TheVariants.{Idle, Empty, Refused, Sent, Rewound, Accepted, Dropped, Acknowledged, Answered, Resumed, Restarted}
-use Rattle.fare_world.specs.System.{put, Packet, Tapped, Acked, Tap_of, Answer, Ack_of, DeviceState, System, arrived_of}
-use Rattle.fare_world.specs.Steps.{knows_device, knows_station, sent, send, rewound, rewind, tap_at, is_owned_tap, next_at, accepted, judged, tap_comes, heard, ack_comes, comes, packet_at, arrive, acknowledged, ack_by, ack, answer_from, answer, resumed_device, resume, restart_device, resumed_devices, restart_station, restart_writer}
+use Rattle.fare_world.specs.System.{put, Packet, Tapped, Acked, Tap_of, Answer, Ack_of, DeviceState, LaneState, System, arrived_of}
+use Rattle.fare_world.specs.Steps.{knows_device, knows_station, knows_owner, is_full, sent, send, rewound, rewind, tap_at, is_owned_tap, next_at, accepted, judged, tap_comes, heard, ack_comes, comes, packet_at, arrive, acknowledged, ack_by, ack, answer_from, answer, resumed_device, resume, restart_device, resumed_devices, restart_station, restart_writer, fresh_owner, forwarded_again, owner_again, restart_owner, hub_again, restart_hub}
 use Rattle.fare_world.specs.Headline.{numbered_by}
-use Rattle.fare_world.specs.Shown.{IsDevice, IsPlace, IsAck, IsPacket, IsAnswer, IsArrived, IsSystem}
+use Rattle.fare_world.specs.Shown.{IsDevice, IsPlace, IsAck, IsPacket, IsAnswer, IsArrived, IsOwner, IsLane, IsSystem}
 use Rattle.fare_world.proofs.Known.{is_own_id}
 use Rattle.fare_world.proofs.Lists.{if_all, AllByRecursion-push, AllByRecursion-at, element_at}
-use Rattle.fare_world.proofs.TableLemmas.{put_all}
+use Rattle.fare_world.proofs.TableLemmas.{put_all, put_both}
 use Rattle.fare_world.proofs.Orderly.{is_orderly}
 use Rattle.fare_world.proofs.KeptParts.{below, devices_change, device_changes, hand_changes, line_changes}
 use Rattle.fare_world.proofs.KeptMoves.{Moves, keeps_devices, rests, stays}
@@ -32,7 +32,7 @@ air_grows sc s x h is = record {
   hand = h.hand;
   lines = h.lines;
   owners = h.owners;
-  took = h.took;
+  lanes = h.lanes;
 }
 
 -- a place of a device's taps stays one where the taps stay
@@ -116,16 +116,16 @@ moves_tap_in sc s n d k h place = at (station_of sc d) refl
     e : Event
     e = event.Arrive n
 
-    due : (next : ℕ) → Moves sc s e (judged s d k (collect_judged (Some next) true k))
+    due : (next : ℕ) → Moves sc s e (judged sc s d k (collect_judged (Some next) true k))
     due next =
-        if_all (nat_lt k next) (λ r. Moves sc s e (judged s d k r)) (Err collect.Old) _ (λ _. stays sc s e (Refused Old) refl refl h)
-        (λ _. if_all (nat_lt next k) (λ r. Moves sc s e (judged s d k r)) (Err collect.Ahead) (Ok tt) (λ _. stays sc s e (Refused Ahead) refl refl h) (λ _. accepts sc s n d k h place))
+        if_all (nat_lt k next) (λ r. Moves sc s e (judged sc s d k r)) (Err collect.Old) _ (λ _. stays sc s e (Refused Old) refl refl h)
+        (λ _. if_all (nat_lt next k) (λ r. Moves sc s e (judged sc s d k r)) (Err collect.Ahead) (Ok tt) (λ _. stays sc s e (Refused Ahead) refl refl h) (λ _. if_all (is_full sc.inbox_capacity s.inbox) (Moves sc s e) _ _ (λ _. stays sc s e (Refused Busy) refl refl h) (λ _. accepts sc s n d k h place)))
 
     at : (o : Option ℕ) → station_of sc d ≡ o → Moves sc s e (tap_comes sc s d k o)
     at None none = absurd (omega (arith, place.0, place.1, ap length ((h.devices d).known none)))
     at (Some st) of =
-        subst (λ o. Moves sc s e (judged s d k (collect_judged o (is_owned_tap sc (tap_at s d k)) k))) (sym (next_known sc s.devices st d of))
-        (subst (λ b. Moves sc s e (judged s d k (collect_judged (Some (s.devices d).next) b k))) (sym (tap_owned sc s d k h place)) (due (s.devices d).next))
+        subst (λ o. Moves sc s e (judged sc s d k (collect_judged o (is_owned_tap sc (tap_at s d k)) k))) (sym (next_known sc s.devices st d of))
+        (subst (λ b. Moves sc s e (judged sc s d k (collect_judged (Some (s.devices d).next) b k))) (sym (tap_owned sc s d k h place)) (due (s.devices d).next))
 
 -- a device hears of no tap that it has not numbered
 moves_ack_in : (sc : SchemeValue) (s : System) (n d u : ℕ) → IsSystem sc s → IsAck sc s.devices d u → Moves sc s (event.Arrive n) (ack_comes s d u)
@@ -185,14 +185,15 @@ moves_arrive sc s n h = comes_in (packet_at s n) (lies (n == 0))
 pub moves_ack : (sc : SchemeValue) (s : System) (d : ℕ) → IsSystem sc s → Moves sc s (event.Ack d) (ack sc s d)
 moves_ack sc s d h = by (station_of sc d) refl
   where
-    by : (o : Option ℕ) → station_of sc d ≡ o → Moves sc s (event.Ack d) (ack_by s d o)
+    by : (o : Option ℕ) → station_of sc d ≡ o → Moves sc s (event.Ack d) (ack_by sc s d o)
     by None none = stays sc s (event.Ack d) (Refused UnknownDevice) refl refl h
     by (Some st) of =
         let gained : AllByRecursion (IsAnswer sc s.devices) (s.lines st ++ Ack_of d (s.devices d).upto ∷ []) =
         AllByRecursion-push (IsAnswer sc s.devices) (s.lines st) (Ack_of d (s.devices d).upto) (h.lines st) (ap is_some of, omega arith) in
-        rests sc s (event.Ack d) (acknowledged s st d, Acknowledged (s.devices d).upto) refl refl
+        if_all (is_full sc.inbox_capacity (s.lines st)) (Moves sc s (event.Ack d)) _ _ (λ _. stays sc s (event.Ack d) (Refused Busy) refl refl h)
+        (λ _. rests sc s (event.Ack d) (acknowledged s st d, Acknowledged (s.devices d).upto) refl refl
         (line_changes sc s st (s.lines st ++ Ack_of d (s.devices d).upto ∷ []) h gained)
-        (record { taps = λ j. refl; day = λ j. refl; took = λ o j. refl })
+        (record { taps = λ j. refl; day = λ j. refl; took = λ o j. refl }))
 
 pub moves_answer : (sc : SchemeValue) (s : System) (st : ℕ) → IsSystem sc s → Moves sc s (event.Answer st) (answer sc s st)
 moves_answer sc s st h = if_all (knows_station sc st) (Moves sc s e) _ _ (λ _. answers (s.lines st) (h.lines st)) (λ _. stays sc s e (Refused UnknownStation) refl refl h)
@@ -245,3 +246,47 @@ moves_restart_station sc s st h =
 
 pub moves_restart_writer : (sc : SchemeValue) (s : System) → IsSystem sc s → Moves sc s event.RestartWriter (restart_writer s)
 moves_restart_writer sc s h = rests sc s event.RestartWriter (record s { hand = None }, Restarted) refl refl (hand_changes sc s s.inbox None h h.inbox tt) (record { taps = λ j. refl; day = λ j. refl; took = λ o j. refl })
+
+-- an owner that starts again
+again_lane : (arrived : ℕ) (l : LaneState) → IsLane arrived l → IsLane arrived (forwarded_again l)
+again_lane arrived l is = record { gone = is.gone; took = omega arith; forward = omega (arith, is.took, is.forward) }
+
+pub moves_restart_owner : (sc : SchemeValue) (s : System) (o : ℕ) → IsSystem sc s → Moves sc s (event.RestartOwner o) (restart_owner sc s o)
+moves_restart_owner sc s o h = if_all (knows_owner sc o) (Moves sc s e) _ _ (λ _. goes) (λ _. stays sc s e (Refused UnknownOwner) refl refl h)
+  where
+    e : Event
+    e = event.RestartOwner o
+
+    lanes : ℕ → LaneState
+    lanes j = forwarded_again (s.lanes o j)
+
+    goes : Moves sc s e (owner_again s o, Restarted)
+    goes = rests sc s e (owner_again s o, Restarted) refl refl
+        (record {
+          devices = h.devices;
+          air = h.air;
+          inbox = h.inbox;
+          hand = h.hand;
+          lines = h.lines;
+          owners = put_both (λ j (f : ℕ → LaneState) w. IsOwner f w) s.lanes s.owners o lanes fresh_owner h.owners (record { queue = tt; hand = tt });
+          lanes = put_all (λ p (f : ℕ → LaneState). (j : ℕ) → IsLane (length (arrived_of p (s.devices j))) (f j)) s.lanes o lanes h.lanes (λ j. again_lane (length (arrived_of o (s.devices j))) (s.lanes o j) (h.lanes o j));
+        })
+        (record { taps = λ j. refl; day = λ j. refl; took = put_all (λ p (f : ℕ → LaneState). (j : ℕ) → (f j).took ≡ (s.lanes p j).took) s.lanes o lanes (λ p j. refl) (λ j. refl) })
+
+-- the hub that starts again
+pub moves_restart_hub : (sc : SchemeValue) (s : System) → IsSystem sc s → Moves sc s event.RestartHub (restart_hub s)
+moves_restart_hub sc s h =
+    rests sc s event.RestartHub (hub_again s, Restarted) refl refl
+    (record {
+      devices = resumed.devices;
+      air = resumed.air;
+      inbox = tt;
+      hand = tt;
+      lines = λ st. tt;
+      owners = λ o. record { queue = tt; hand = tt };
+      lanes = λ o j. again_lane (length (arrived_of o (s.devices j))) (s.lanes o j) (h.lanes o j);
+    })
+    (record { taps = λ j. refl; day = λ j. refl; took = λ o j. refl })
+  where
+    resumed : IsSystem sc (record s { devices = λ j. resumed_device (s.devices j) })
+    resumed = devices_change sc s (λ j. resumed_device (s.devices j)) h (record { taps = λ j. omega arith; arrived = λ o j. omega arith; upto = λ j. omega arith }) (λ j. resumes sc j (s.devices j) (h.devices j))

@@ -1,5 +1,5 @@
 pub mod Places
-pub mod NextRows
+pub mod RowPlaces
 pub mod Lists
 pub mod TableLemmas
 pub mod Orderly
@@ -10,8 +10,12 @@ pub mod KeptLink
 pub mod KeptLanes
 pub mod Kept
 pub mod Known
+pub mod Keeping
 pub mod Stepping
 pub mod Showing
+pub mod Stores
+pub mod OwnersSeen
+pub mod RoomLemmas
 pub mod ShowTap
 pub mod ShowCollect
 pub mod ShowStation
@@ -19,8 +23,11 @@ pub mod ShowLink
 pub mod WorldLink
 pub mod ShowRestart
 pub mod ShowForward
-pub mod Keeping
+pub mod ShowAgain
+pub mod ShowAsk
+pub mod MayFail
 pub mod Running
 pub mod Resuming
+pub mod ReadsThen
 pub mod Starting
 pub mod Packets

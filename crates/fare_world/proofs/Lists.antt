@@ -7,6 +7,7 @@ use Rattle.std.proofs.lemmas.Option.{slice_get_within, get_or_from_slice_get}
 use Rattle.std.proofs.lemmas.Bool.Decides.{nat_tests}
 use Rattle.fare_record.specs.Values.{RecordValue}
 use Rattle.fare_record.specs.Lanes.{part}
+use Rattle.fare_world.specs.Steps.{is_full}
 use Rattle.fare_world.specs.Shown.{Each2, Both}
 
 -- what holds of both sides of a test
@@ -130,3 +131,21 @@ pub take-part-push : (n owner : ℕ) (rs : List RecordValue) (r : RecordValue) �
 take-part-push n owner rs r le =
     if_all (r.owner == owner) (λ l. (part owner (rs ++ r ∷ []) ≡ l) → take n (part owner (rs ++ r ∷ [])) ≡ take n (part owner rs)) (part owner rs ++ r ∷ []) (part owner rs)
     (λ _ e. ap (take n) e ∙ take-append-le n (part owner rs) (r ∷ []) le) (λ _ e. ap (take n) e) (part-push owner rs r)
+
+-- QUEUES
+-- a queue has room, or it has none
+pub has_room : {X : Type 0} (capacity : ℕ) (xs : List X) → length xs < capacity → is_full capacity xs ≡ false
+has_room capacity xs lt = grind (arith, nat_tests)
+
+pub has_no_room : {X : Type 0} (capacity : ℕ) (xs : List X) → capacity ≤ length xs → is_full capacity xs ≡ true
+has_no_room capacity xs le = grind (arith, nat_tests)
+
+-- a list without a first element is empty
+pub none_left : {X : Type 0} (xs : List X) → slice_get xs 0 ≡ None → xs ≡ []
+none_left [] e = refl
+none_left (x ∷ xs) e = absurd (cc)
+
+-- a list is its first element, and what is left without it
+pub front_and_rest : {X : Type 0} (xs rest : List X) (x : X) → slice_get xs 0 ≡ Some x → rest ≡ drop 1 xs → xs ≡ x ∷ rest
+front_and_rest [] rest x e left = absurd (cc)
+front_and_rest (y ∷ xs) rest x e left = let same : y ≡ x = cc in (λ i. same i ∷ sym left i)

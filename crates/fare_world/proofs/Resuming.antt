@@ -1,6 +1,9 @@
--- A station's devices are resumed one by one, in order of registration.
+-- Devices are resumed one by one, in order of registration: a number that is kept of each becomes another.
 use Rattle.std.proofs.Common.{◌≡◌, ℕ, ◌+◌, ◌<◌, ◌==◌, Bool, true, false, if◌then◌else◌, nat_lt, length, Option, Some, None, refl, sym, ◌∙◌, ap, arith}
-use Rattle.std.specs.Prelude.{◌≤◌, IsSome, nat_eq, option_map}
+use Rattle.std.specs.Prelude.{◌≤◌, IsSome, List, nat_eq, option_map, option_and_then, unwrap_or, slice_get}
+use Rattle.fare_store.specs.LedgerWords.{LedgerValue}
+use Rattle.fare_world.specs.Rooms.{AreUptos, upto_at, AreStandings, taken_at}
+use Rattle.fare_world.proofs.Lists.{element_at}
 use Rattle.std.specs.Map.{keys_of}
 use Rattle.std.proofs.lemmas.List.Quantifiers.{position-Some}
 use Rattle.std.proofs.lemmas.Map.Entries.{length-keys_of}
@@ -13,20 +16,20 @@ use Rattle.fare_world.proofs.TableLemmas.{devices_apart}
 
 -- resumed where the device is before a position, and else what it was
 abbrev pub resumed_to : SchemeValue → (ℕ → ℕ) → (ℕ → Option ℕ) → ℕ → ℕ → Option ℕ
-resumed_to sc upto old k device = if is_before (position_of_device sc device) k then option_map (λ _. upto device + 1) (old device) else old device
+resumed_to sc value old k device = if is_before (position_of_device sc device) k then option_map (λ _. value device) (old device) else old device
 
-by_test : (sc : SchemeValue) (upto : ℕ → ℕ) (old : ℕ → Option ℕ) (k device : ℕ) (b : Bool) → is_before (position_of_device sc device) k ≡ b → resumed_to sc upto old k device ≡ (if b then option_map (λ _. upto device + 1) (old device) else old device)
-by_test sc upto old k device b is = ap (λ t. if t then option_map (λ _. upto device + 1) (old device) else old device) is
+by_test : (sc : SchemeValue) (value : ℕ → ℕ) (old : ℕ → Option ℕ) (k device : ℕ) (b : Bool) → is_before (position_of_device sc device) k ≡ b → resumed_to sc value old k device ≡ (if b then option_map (λ _. value device) (old device) else old device)
+by_test sc value old k device b is = ap (λ t. if t then option_map (λ _. value device) (old device) else old device) is
 
-not_yet : (sc : SchemeValue) (upto : ℕ → ℕ) (old : ℕ → Option ℕ) (k device : ℕ) → position_of_device sc device ≡ Some k → resumed_to sc upto old k device ≡ old device
-not_yet sc upto old k device at =
+not_yet : (sc : SchemeValue) (value : ℕ → ℕ) (old : ℕ → Option ℕ) (k device : ℕ) → position_of_device sc device ≡ Some k → resumed_to sc value old k device ≡ old device
+not_yet sc value old k device at =
     let past : nat_lt k k ≡ false = grind (arith, nat_tests) in
-    by_test sc upto old k device false (ap (λ p. is_before p k) at ∙ past)
+    by_test sc value old k device false (ap (λ p. is_before p k) at ∙ past)
 
-here : (sc : SchemeValue) (upto : ℕ → ℕ) (old : ℕ → Option ℕ) (k n device : ℕ) → position_of_device sc device ≡ Some k → k < n → resumed_to sc upto old n device ≡ option_map (λ _. upto device + 1) (old device)
-here sc upto old k n device at lt =
+here : (sc : SchemeValue) (value : ℕ → ℕ) (old : ℕ → Option ℕ) (k n device : ℕ) → position_of_device sc device ≡ Some k → k < n → resumed_to sc value old n device ≡ option_map (λ _. value device) (old device)
+here sc value old k n device at lt =
     let before : nat_lt k n ≡ true = grind (arith, nat_tests) in
-    by_test sc upto old n device true (ap (λ p. is_before p n) at ∙ before)
+    by_test sc value old n device true (ap (λ p. is_before p n) at ∙ before)
 
 elsewhere : (sc : SchemeValue) (k device other : ℕ) → position_of_device sc device ≡ Some k → (other == device) ≡ false → is_before (position_of_device sc other) (k + 1) ≡ is_before (position_of_device sc other) k
 elsewhere sc k device other at differ = by (position_of_device sc other) refl
@@ -41,38 +44,60 @@ elsewhere sc k device other at differ = by (position_of_device sc other) refl
         grind (arith, nat_tests, apart)
 
 -- one device more
-pub one_resumed : (sc : SchemeValue) (upto : ℕ → ℕ) (old now new : ℕ → Option ℕ) (k device : ℕ) → position_of_device sc device ≡ Some k
-    → ((d : ℕ) → now d ≡ resumed_to sc upto old k d) → ((d : ℕ) → new d ≡ changed (λ _. upto device + 1) now device d)
-    → (d : ℕ) → new d ≡ resumed_to sc upto old (k + 1) d
-one_resumed sc upto old now new k device at before after d = after d ∙ by (d == device) refl
+pub one_resumed : (sc : SchemeValue) (value : ℕ → ℕ) (old now new : ℕ → Option ℕ) (k device : ℕ) → position_of_device sc device ≡ Some k
+    → ((d : ℕ) → now d ≡ resumed_to sc value old k d) → ((d : ℕ) → new d ≡ changed (λ _. value device) now device d)
+    → (d : ℕ) → new d ≡ resumed_to sc value old (k + 1) d
+one_resumed sc value old now new k device at before after d = after d ∙ by (d == device) refl
   where
-    by : (b : Bool) → (d == device) ≡ b → (if b then option_map (λ _. upto device + 1) (now d) else now d) ≡ resumed_to sc upto old (k + 1) d
+    by : (b : Bool) → (d == device) ≡ b → (if b then option_map (λ _. value device) (now d) else now d) ≡ resumed_to sc value old (k + 1) d
     by true same =
         let is : d ≡ device = (Decides-eqb d device).0 same in
         let there : position_of_device sc d ≡ Some k = ap (position_of_device sc) is ∙ at in
-        ap (option_map (λ _. upto device + 1)) (before d ∙ not_yet sc upto old k d there)
-        ∙ ap (λ e. option_map (λ _. upto e + 1) (old d)) (sym is)
-        ∙ sym (here sc upto old k (k + 1) d there (omega arith))
-    by false differ = before d ∙ ap (λ t. if t then option_map (λ _. upto d + 1) (old d) else old d) (sym (elsewhere sc k device d at differ))
+        ap (option_map (λ _. value device)) (before d ∙ not_yet sc value old k d there)
+        ∙ ap (λ e. option_map (λ _. value e) (old d)) (sym is)
+        ∙ sym (here sc value old k (k + 1) d there (omega arith))
+    by false differ = before d ∙ ap (λ t. if t then option_map (λ _. value d) (old d) else old d) (sym (elsewhere sc k device d at differ))
 
-pub none_resumed : (sc : SchemeValue) (upto : ℕ → ℕ) (old : ℕ → Option ℕ) (device : ℕ) → old device ≡ resumed_to sc upto old 0 device
-none_resumed sc upto old device = by (position_of_device sc device) refl
+pub none_resumed : (sc : SchemeValue) (value : ℕ → ℕ) (old : ℕ → Option ℕ) (device : ℕ) → old device ≡ resumed_to sc value old 0 device
+none_resumed sc value old device = by (position_of_device sc device) refl
   where
-    by : (o : Option ℕ) → position_of_device sc device ≡ o → old device ≡ resumed_to sc upto old 0 device
-    by None at = sym (by_test sc upto old 0 device false (ap (λ p. is_before p 0) at))
+    by : (o : Option ℕ) → position_of_device sc device ≡ o → old device ≡ resumed_to sc value old 0 device
+    by None at = sym (by_test sc value old 0 device false (ap (λ p. is_before p 0) at))
     by (Some p) at =
         let past : nat_lt p 0 ≡ false = grind (arith, nat_tests) in
-        sym (by_test sc upto old 0 device false (ap (λ p. is_before p 0) at ∙ past))
+        sym (by_test sc value old 0 device false (ap (λ p. is_before p 0) at ∙ past))
 
 -- all of them
-pub all_resumed : (sc : SchemeValue) (upto : ℕ → ℕ) (old : ℕ → Option ℕ) (n device : ℕ) → length sc.devices ≤ n → IsSome (position_of_device sc device) → resumed_to sc upto old n device ≡ option_map (λ _. upto device + 1) (old device)
-all_resumed sc upto old n device le known = by (position_of_device sc device) refl
+pub all_resumed : (sc : SchemeValue) (value : ℕ → ℕ) (old : ℕ → Option ℕ) (n device : ℕ) → length sc.devices ≤ n → IsSome (position_of_device sc device) → resumed_to sc value old n device ≡ option_map (λ _. value device) (old device)
+all_resumed sc value old n device le known = by (position_of_device sc device) refl
   where
-    by : (o : Option ℕ) → position_of_device sc device ≡ o → resumed_to sc upto old n device ≡ option_map (λ _. upto device + 1) (old device)
+    by : (o : Option ℕ) → position_of_device sc device ≡ o → resumed_to sc value old n device ≡ option_map (λ _. value device) (old device)
     by None at = absurd (cc)
     by (Some p) at =
         let below : p < length (keys_of sc.devices) = (position-Some (nat_eq device) (keys_of sc.devices) p 0 at).0 in
-        here sc upto old p n device at (omega (arith, length-keys_of sc.devices))
+        here sc value old p n device at (omega (arith, length-keys_of sc.devices))
 
-pub others_stay : (sc : SchemeValue) (upto : ℕ → ℕ) (old : ℕ → Option ℕ) (n device : ℕ) → position_of_device sc device ≡ None → resumed_to sc upto old n device ≡ old device
-others_stay sc upto old n device none = by_test sc upto old n device false (ap (λ p. is_before p n) none)
+pub others_stay : (sc : SchemeValue) (value : ℕ → ℕ) (old : ℕ → Option ℕ) (n device : ℕ) → position_of_device sc device ≡ None → resumed_to sc value old n device ≡ old device
+others_stay sc value old n device none = by_test sc value old n device false (ap (λ p. is_before p n) none)
+
+-- a list of all uptos has each device's
+pub uptos_at : (sc : SchemeValue) (upto : ℕ → ℕ) (uptos : List ℕ) (device : ℕ) → AreUptos sc upto uptos → IsSome (position_of_device sc device) → upto_at sc uptos device ≡ upto device
+uptos_at sc upto uptos device are known = by (position_of_device sc device) refl
+  where
+    by : (o : Option ℕ) → position_of_device sc device ≡ o → upto_at sc uptos device ≡ upto device
+    by None at = absurd (cc)
+    by (Some p) at =
+        let below : p < length (keys_of sc.devices) = (position-Some (nat_eq device) (keys_of sc.devices) p 0 at).0 in
+        let found = element_at uptos p (omega (arith, below, length-keys_of sc.devices, are.count)) in
+        ap (λ q. unwrap_or (option_and_then (slice_get uptos) q) 0) at ∙ ap (λ q. unwrap_or q 0) found.1 ∙ are.each device p found.0 at found.1
+
+-- and a list of all standings how many of each device's taps are taken
+pub standings_at : (sc : SchemeValue) (v : LedgerValue) (standings : List (ℕ × Option ℕ)) (device : ℕ) → AreStandings sc v standings → IsSome (position_of_device sc device) → taken_at sc standings device ≡ length (v.taken device)
+standings_at sc v standings device are known = by (position_of_device sc device) refl
+  where
+    by : (o : Option ℕ) → position_of_device sc device ≡ o → taken_at sc standings device ≡ length (v.taken device)
+    by None at = absurd (cc)
+    by (Some p) at =
+        let below : p < length (keys_of sc.devices) = (position-Some (nat_eq device) (keys_of sc.devices) p 0 at).0 in
+        let found = element_at standings p (omega (arith, below, length-keys_of sc.devices, are.count)) in
+        ap (λ q. unwrap_or (option_map (λ (z : ℕ × Option ℕ). z.0) (option_and_then (slice_get standings) q)) 0) at ∙ ap (λ q. unwrap_or (option_map (λ (z : ℕ × Option ℕ). z.0) q) 0) found.1 ∙ ap (λ (z : ℕ × Option ℕ). z.0) (are.each device p found.0 at found.1)

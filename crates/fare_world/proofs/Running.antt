@@ -1,22 +1,32 @@
 -- A run so far, and one event more.
-use Rattle.std.proofs.Common.{◌≡◌, ◌+◌, ◌<◌, List, [], ◌∷◌, ◌++◌, length, take, drop, get_or, refl, sym, ap, ◌∙◌, subst, arith}
-use Rattle.std.specs.Prelude.{IfSome}
+use Rattle.std.proofs.Common.{◌≡◌, ◌+◌, ◌-◌, ◌<◌, ◌≤◌, ℕ, true, List, [], ◌∷◌, ◌++◌, length, take, drop, get_or, refl, sym, ap, ◌∙◌, subst, arith, inl, inr}
+use Rattle.std.specs.Prelude.{Some, map, option_map, slice_get}
+use Rattle.std.proofs.lemmas.Option.{slice_get-map, slice_get_read}
 use Rattle.std.specs.List.{AllByRecursion}
-use Rattle.std.proofs.lemmas.List.{take_more, length_push}
+use Rattle.std.proofs.lemmas.List.{take_more, length_push, length-take-le}
+use Rattle.fare_record.specs.Values.{RecordValue}
 use Rattle.fare_record.specs.Lanes.{part, lane_of}
-use Rattle.fare_scheme.specs.Values.{SchemeValue}
 use Rattle.fare_device.specs.DeviceWords.{DeviceValue}
+use Rattle.fare_scheme.specs.Values.{SchemeValue}
 use Rattle.fare_world.specs.declared.event.Event.{Event}
 use Rattle.fare_world.specs.declared.reply.Reply.{Reply}
 use Rattle.fare_world.specs.declared.world.World.{World}
-use Rattle.fare_world.specs.System.{System, start}
-use Rattle.fare_world.specs.Steps.{step, after, replies}
+use Rattle.fare_world.specs.System.{LaneState, System, start, arrived_of}
+use Rattle.fare_world.specs.Steps.{step, after, replies, may_fail}
+use Rattle.fare_world.specs.Restarts.{Rose}
 use Rattle.fare_world.specs.Headline.{numbered, numbered_by, with_first, IsPrefixOf, IsOrderly}
-use Rattle.fare_world.specs.Shown.{OwnerShape, Shape, Shows, IsDeviceOf, IsOwnerOf}
-use Rattle.fare_world.specs.Whole.{shape, StandsAt, IsStepped, IsUnchanged, HasRun, TakenInOrder, beyond, KeepsEachTap}
-use Rattle.fare_world.proofs.Lists.{IfSome-weaken}
+use Rattle.fare_world.specs.Shown.{entry, Shape, Shows, IsDeviceOf, IsOwnerOf, IsLane}
+use Rattle.fare_store.specs.declared.fault.Fault.{Fault}
+use Rattle.fare_store.specs.declared.fault.Fault.TheVariants as fault
+use Rattle.fare_store.specs.Standing.{Standing}
+use Rattle.fare_store.specs.OutboxWords.{OutboxValue}
+use Rattle.fare_store.specs.LedgerWords.{LedgerValue}
+use Rattle.fare_world.specs.Whole.{owner_seen, seen, shape, SameCounts, CountsFailure, AreLive, StandsAt, IsStepped, IsUnchanged, HasRun, WasStopped, TakenInOrder, beyond, AreRowsFrom, KeepsEachTap}
+use Rattle.fare_world.proofs.Showing.{device_shown, owner_shown}
+use Rattle.fare_world.proofs.Keeping.{lane_in_three, taken_of_arrived}
+use Rattle.fare_world.proofs.RowPlaces.{row_here}
+use Rattle.fare_world.proofs.Lists.{slice_get-drop}
 use Rattle.fare_world.proofs.Stepping.{taken_is_prefix, taps_after, start_is, orderly_run}
-use Rattle.fare_world.proofs.Keeping.{lane_in_three}
 
 after-push : (sc : SchemeValue) (s : System) (es : List Event) (e : Event) → after sc s (es ++ e ∷ []) ≡ (step sc (after sc s es) e).0
 after-push sc s [] e = refl
@@ -26,110 +36,192 @@ replies-push : (sc : SchemeValue) (s : System) (es : List Event) (e : Event) →
 replies-push sc s [] e = refl
 replies-push sc s (f ∷ es) e = ap (λ l. (step sc s f).1 ∷ l) (replies-push sc (step sc s f).0 es e)
 
--- nothing has run
-pub run_of_none : (w : World) (events : List Event) → HasRun w w events []
-run_of_none w events = record { scheme = refl; within = omega arith; answers = λ s at. refl; stands = λ s at. at }
-
--- one event more has
-pub one_more : (old mid new : World) (events : List Event) (rs now : List Reply) (e : Event) (r : Reply) → HasRun old mid events rs → length rs < length events → e ≡ get_or events (length rs) e → IsStepped mid new e r → now ≡ rs ++ r ∷ [] → HasRun old new events now
-one_more old mid new events rs now e r h lt is did pushed = subst (HasRun old new events) (sym pushed) (record {
-  scheme = did.scheme ∙ h.scheme;
-  within = omega (arith, long);
-  answers = λ s at. (λ i. h.answers s at i ++ reply s at i ∷ []) ∙ sym (ap (λ n. replies sc s (take n events)) long ∙ ap (replies sc s) more ∙ replies-push sc s so_far e);
-  stands = λ s at. subst (StandsAt new) (sym (ap (λ n. after sc s (take n events)) long ∙ ap (after sc s) more ∙ after-push sc s so_far e)) (subst (λ q. StandsAt new (step q (after sc s so_far) e).0) h.scheme (did.stands (after sc s so_far) (h.stands s at)));
-})
-  where
-    sc : SchemeValue
-    sc = old.scheme
-
-    so_far : List Event
-    so_far = take (length rs) events
-
-    long : length (rs ++ r ∷ []) ≡ length rs + 1
-    long = length_push rs r
-
-    more : take (length rs + 1) events ≡ so_far ++ e ∷ []
-    more = take_more events (length rs) e lt ∙ ap (λ x. so_far ++ x ∷ []) (sym is)
-
-    reply : (s : System) → StandsAt old s → r ≡ (step sc (after sc s so_far) e).1
-    reply s at = did.reply (after sc s so_far) (h.stands s at) ∙ ap (λ q. (step q (after sc s so_far) e).1) h.scheme
-
--- an event that failed has not
-pub none_more : (old mid new : World) (events : List Event) (rs : List Reply) → HasRun old mid events rs → IsUnchanged mid new → HasRun old new events rs
-none_more old mid new events rs h same = record {
-  scheme = same.scheme ∙ h.scheme;
-  within = h.within;
-  answers = h.answers;
-  stands = λ s at. still (h.stands s at);
-}
-  where
-    still : {s : System} → StandsAt mid s → StandsAt new s
-    still {s} at = record { shows = subst (λ (q : SchemeValue × Shape). Shows q.0 q.1 s) (λ i. (sym same.scheme i, sym same.seen i)) at.shows }
-
--- no reply of a run from the start is disorderly
-pub orderly_replies : (old new : World) (events : List Event) (rs : List Reply) → HasRun old new events rs → StandsAt old (start old.scheme) → AllByRecursion IsOrderly rs
-orderly_replies old new events rs h fresh = let sc = old.scheme in subst (AllByRecursion IsOrderly) (sym (h.answers (start sc) fresh)) (orderly_run sc (start sc) (take (length rs) events) (start_is sc))
-
 numbered-take : (sc : SchemeValue) (es : List Event) (rs : List Reply) → numbered sc (take (length rs) es) rs ≡ numbered sc es rs
 numbered-take sc [] [] = refl
 numbered-take sc (e ∷ es) [] = refl
 numbered-take sc [] (r ∷ rs) = refl
 numbered-take sc (e ∷ es) (r ∷ rs) = ap (with_first (numbered_by sc e r)) (numbered-take sc es rs)
 
--- what a run from the start numbered, by the replies that it had
-same_numbered : (old new : World) (events : List Event) (rs : List Reply) → HasRun old new events rs → StandsAt old (start old.scheme)
-    → numbered old.scheme (take (length rs) events) (replies old.scheme (start old.scheme) (take (length rs) events)) ≡ numbered new.scheme events rs
-same_numbered old new events rs h fresh =
-    let sc = old.scheme in
-    ap (numbered sc (take (length rs) events)) (sym (h.answers (start sc) fresh)) ∙ numbered-take sc events rs ∙ ap (λ q. numbered q events rs) (sym h.scheme)
+module _ {O L : Type 0} (out : O → Standing OutboxValue) (led : L → Standing LedgerValue) where
+  -- no store was called
+  no_counts : (w : World O L) → SameCounts out led w w
+  no_counts w = record { outbox_same = refl; ledgers_same = record { forth = λ k x e. (x, e, refl); back = λ k x e. (x, e, refl) } }
 
--- what was taken after a run from the start
-pub taken_in_order : (old new : World) (events : List Event) (rs : List Reply) → HasRun old new events rs → StandsAt old (start old.scheme) → TakenInOrder new events rs
-taken_in_order old new events rs h fresh o d = IfSome-weaken (IsOwnerOf s.devices o (s.owners o) (s.lanes o)) (λ x. IsPrefixOf (x.taken d) (lane_of o d (numbered new.scheme events rs))) prefix ((shape new).owners o) ((h.stands (start sc) fresh).shows.owners o)
-  where
-    sc : SchemeValue
-    sc = old.scheme
+  -- counts that stayed, twice
+  counts_then : (old mid new : World O L) → SameCounts out led old mid → SameCounts out led mid new → SameCounts out led old new
+  counts_then old mid new h g = record {
+    outbox_same = g.outbox_same ∙ h.outbox_same;
+    ledgers_same = record {
+      forth = λ k x e. let y = h.ledgers_same.forth k x e in let z = g.ledgers_same.forth k y.0 y.1 in (z.0, z.1, z.2 ∙ y.2);
+      back = λ k z e. let y = g.ledgers_same.back k z e in let x = h.ledgers_same.back k y.0 y.1 in (x.0, x.1, y.2 ∙ x.2);
+    };
+  }
 
-    es : List Event
-    es = take (length rs) events
+  -- a count that rose after others stayed
+  counts_rise : (old mid new : World O L) → SameCounts out led old mid → CountsFailure out led mid new → CountsFailure out led old new
+  counts_rise old mid new h (inl rose) = inl (subst (λ n. Rose n (out new.outbox).failures) h.outbox_same rose)
+  counts_rise old mid new h (inr failed) =
+      let was = h.ledgers_same.back failed.place failed.before failed.was in
+      inr (record { place = failed.place; before = was.0; now = failed.now; was = was.1; is = failed.is; rose = subst (λ n. Rose n (led failed.now.ledger).failures) was.2 failed.rose })
 
-    s : System
-    s = after sc (start sc) es
+  -- nothing has run
+  pub run_of_none : (w : World O L) (events : List Event) → HasRun out led w w events []
+  run_of_none w events = record { scheme = refl; within = omega arith; answers = λ s at live. refl; stands = λ s at. at; live = λ h. h; clean = λ h. h; stays = λ h c. h; counts = no_counts w }
 
-    prefix : (x : OwnerShape) → IsOwnerOf s.devices o (s.owners o) (s.lanes o) x → IsPrefixOf (x.taken d) (lane_of o d (numbered new.scheme events rs))
-    prefix x w =
-        let begins = taken_is_prefix sc es o d in
-        (begins.0, ap (λ l. l ++ begins.0) (w.taken d) ∙ begins.1 ∙ ap (lane_of o d) (same_numbered old new events rs h fresh))
+  -- one event more has
+  pub one_more : (old mid new : World O L) (events : List Event) (rs now : List Reply) (e : Event) (r : Reply) → HasRun out led old mid events rs → length rs < length events → e ≡ get_or events (length rs) e → IsStepped out led mid new e r → now ≡ rs ++ r ∷ [] → HasRun out led old new events now
+  one_more old mid new events rs now e r h lt is did pushed = subst (HasRun out led old new events) (sym pushed) (record {
+    scheme = did.scheme ∙ h.scheme;
+    within = omega (arith, long);
+    answers = λ s at live. (λ i. h.answers s at (did.stores.live live) i ++ reply s at live i ∷ []) ∙ sym (ap (λ n. replies sc s (take n events)) long ∙ ap (replies sc s) more ∙ replies-push sc s so_far e);
+    stands = λ s at. subst (StandsAt out led new) (sym (ap (λ n. after sc s (take n events)) long ∙ ap (after sc s) more ∙ after-push sc s so_far e)) (subst (λ q. StandsAt out led new (step q (after sc s so_far) e).0) h.scheme (did.stands (after sc s so_far) (h.stands s at)));
+    live = λ live. h.live (did.stores.live live);
+    clean = λ clean. h.clean (did.stores.clean clean);
+    stays = λ live clean. did.stores.stays refl (h.stays live (did.stores.clean clean)) clean;
+    counts = counts_then old mid new h.counts (did.stores.counts (λ is. absurd (cc)));
+  })
+    where
+      sc : SchemeValue
+      sc = old.scheme
 
--- where each numbered tap is after a run from the start
-pub keeps_each_tap : (old new : World) (events : List Event) (rs : List Reply) → HasRun old new events rs → StandsAt old (start old.scheme) → KeepsEachTap new events rs
-keeps_each_tap old new events rs h fresh o d = IfSome-weaken (IsOwnerOf s.devices o (s.owners o) (s.lanes o)) Kept owner ((shape new).owners o) (shown.owners o)
-  where
-    sc : SchemeValue
-    sc = old.scheme
+      so_far : List Event
+      so_far = take (length rs) events
 
-    es : List Event
-    es = take (length rs) events
+      long : length (rs ++ r ∷ []) ≡ length rs + 1
+      long = length_push rs r
 
-    s : System
-    s = after sc (start sc) es
+      more : take (length rs + 1) events ≡ so_far ++ e ∷ []
+      more = take_more events (length rs) e lt ∙ ap (λ x. so_far ++ x ∷ []) (sym is)
 
-    shown : Shows new.scheme (shape new) s
-    shown = (h.stands (start sc) fresh).shows
+      reply : (s : System) → StandsAt out led old s → AreLive out led new → r ≡ (step sc (after sc s so_far) e).1
+      reply s at live = did.reply (after sc s so_far) (h.stands s at) live ∙ ap (λ q. (step q (after sc s so_far) e).1) h.scheme
 
-    lane : part o (s.devices d).taps ≡ lane_of o d (numbered new.scheme events rs)
-    lane = ap (part o) (taps_after sc (start sc) es d (start_is sc)) ∙ ap (lane_of o d) (same_numbered old new events rs h fresh)
+  -- an event that failed: what was so before it is so still, as far as the stores are live
+  pub none_more : (old mid new : World O L) (events : List Event) (rs : List Reply) (e : Event) (f : Fault) → HasRun out led old mid events rs → length rs < length events → e ≡ get_or events (length rs) e → IsUnchanged out led mid new e f → WasStopped out led old new events rs f
+  none_more old mid new events rs e f h lt is same = record {
+    scheme = same.scheme ∙ h.scheme;
+    within = h.within;
+    answers = λ s at live. h.answers s at (same.stores.live live);
+    stands = λ s at. still (h.stands s at);
+    fails = λ s at live. inr (e, slice_get_read events (length events) (length rs) e refl lt is, subst (λ q. may_fail q (after old.scheme s (take (length rs) events)) e ≡ true) h.scheme (same.fails (after old.scheme s (take (length rs) events)) (h.stands s at) live));
+    live = λ live. h.live (same.stores.live live);
+    clean = λ clean. h.clean (same.stores.clean clean);
+    cause = λ store. counts_rise old mid new h.counts (same.stores.cause (ap Some store));
+  }
+    where
+      still : {s : System} → StandsAt out led mid s → StandsAt out led new s
+      still {s} at = record {
+        lawful = λ live. (same.seen_is live (at.lawful (same.stores.live live))).0;
+        shows = λ live. let before = same.stores.live live in subst (λ (q : SchemeValue × Shape). Shows q.0 q.1 s) (λ i. (sym same.scheme i, sym (same.seen_is live (at.lawful before)).1 i)) (at.shows before);
+      }
 
-    IsInThree : OwnerShape → DeviceValue → Type 0
-    IsInThree x v = lane_of o d (numbered new.scheme events rs) ≡ x.taken d ++ (drop (length (x.taken d)) ((shape new).rows o d) ++ part o (beyond ((shape new).upto d) v.waiting))
+  -- no memory for the replies
+  pub none_stopped : (old : World O L) (events : List Event) → WasStopped out led old old events [] fault.Memory
+  none_stopped old events = record {
+    scheme = refl;
+    within = omega arith;
+    answers = λ s at live. refl;
+    stands = λ s at. at;
+    fails = λ s at live. inl (refl, refl);
+    live = λ h. h;
+    clean = λ h. h;
+    cause = λ is. absurd (cc);
+  }
 
-    Kept : OwnerShape → Type 0
-    Kept x = IfSome ((shape new).devices d) (IsInThree x)
+  -- what a run left, whether it went on to the end or was stopped
+  pub record HasLeft (old new : World O L) (events : List Event) (answered : List Reply) : Type 0 where
+    pub scheme : new.scheme ≡ old.scheme
+    pub answers : (s : System) → StandsAt out led old s → AreLive out led new → answered ≡ replies old.scheme s (take (length answered) events)
+    pub stands : (s : System) → StandsAt out led old s → StandsAt out led new (after old.scheme s (take (length answered) events))
 
-    device : (x : OwnerShape) → IsOwnerOf s.devices o (s.owners o) (s.lanes o) x → (v : DeviceValue) → IsDeviceOf new.scheme d (s.devices d) v → IsInThree x v
-    device x w v p =
-        sym lane ∙ lane_in_three new.scheme o d (s.lanes o d).took (s.devices d) (shown.system.devices d) (shown.system.took o d)
-        ∙ (λ i. sym (w.taken d) i ++ (drop (length (sym (w.taken d) i)) (sym (shown.rows o d) i) ++ part o (beyond (sym (shown.upto d) i) (sym p.waiting i))))
+  pub ran_left : (old new : World O L) (events : List Event) (rs : List Reply) → HasRun out led old new events rs → HasLeft old new events rs
+  ran_left old new events rs h = record { scheme = h.scheme; answers = h.answers; stands = h.stands }
 
-    owner : (x : OwnerShape) → IsOwnerOf s.devices o (s.owners o) (s.lanes o) x → Kept x
-    owner x w = IfSome-weaken (IsDeviceOf new.scheme d (s.devices d)) (IsInThree x) (device x w) ((shape new).devices d) (shown.devices d)
+  pub stopped_left : (old new : World O L) (events : List Event) (rs : List Reply) (f : Fault) → WasStopped out led old new events rs f → HasLeft old new events rs
+  stopped_left old new events rs f h = record { scheme = h.scheme; answers = h.answers; stands = h.stands }
+
+  -- no reply of a run from the start is disorderly
+  pub orderly_replies : (old new : World O L) (events : List Event) (rs : List Reply) → HasLeft old new events rs → StandsAt out led old (start old.scheme) → AreLive out led new → AllByRecursion IsOrderly rs
+  orderly_replies old new events rs h fresh live = let sc = old.scheme in subst (AllByRecursion IsOrderly) (sym (h.answers (start sc) fresh live)) (orderly_run sc (start sc) (take (length rs) events) (start_is sc))
+
+  -- what a run from the start numbered, by the replies that it had
+  same_numbered : (old new : World O L) (events : List Event) (rs : List Reply) → HasLeft old new events rs → StandsAt out led old (start old.scheme) → AreLive out led new
+      → numbered old.scheme (take (length rs) events) (replies old.scheme (start old.scheme) (take (length rs) events)) ≡ numbered new.scheme events rs
+  same_numbered old new events rs h fresh live =
+      let sc = old.scheme in
+      ap (numbered sc (take (length rs) events)) (sym (h.answers (start sc) fresh live)) ∙ numbered-take sc events rs ∙ ap (λ q. numbered q events rs) (sym h.scheme)
+
+  -- what was taken after a run from the start
+  pub taken_in_order : (old new : World O L) (events : List Event) (rs : List Reply) → HasLeft old new events rs → StandsAt out led old (start old.scheme) → AreLive out led new → TakenInOrder led new events rs
+  taken_in_order old new events rs h fresh live o d k x at here =
+      let begins = taken_is_prefix sc es o d in
+      (begins.0, ap (λ l. l ++ begins.0) (owner.taken d) ∙ begins.1 ∙ ap (lane_of o d) (same_numbered old new events rs h fresh live))
+    where
+      sc : SchemeValue
+      sc = old.scheme
+
+      es : List Event
+      es = take (length rs) events
+
+      s : System
+      s = after sc (start sc) es
+
+      found : (shape (seen out led new)).owners o ≡ Some (owner_seen led x)
+      found = ap (λ p. entry p (map (owner_seen led) new.owners.items)) at ∙ slice_get-map (owner_seen led) new.owners.items k ∙ ap (option_map (owner_seen led)) here
+
+      owner : IsOwnerOf new.scheme s.devices o (s.owners o) (s.lanes o) (owner_seen led x)
+      owner = owner_shown new.scheme (shape (seen out led new)) s o (owner_seen led x) ((h.stands (start sc) fresh).shows live) found
+
+  -- where each numbered tap is after a run from the start
+  pub each_kept : (old new : World O L) (events : List Event) (rs : List Reply) → HasLeft old new events rs → StandsAt out led old (start old.scheme) → AreLive out led new → KeepsEachTap out led new events rs
+  each_kept old new events rs h fresh live o d k j x v at here device_at device_here = (drop l.took rows, rows_behind, sym lane ∙ in_three)
+    where
+      sc : SchemeValue
+      sc = old.scheme
+
+      es : List Event
+      es = take (length rs) events
+
+      s : System
+      s = after sc (start sc) es
+
+      l : LaneState
+      l = s.lanes o d
+
+      rows : List RecordValue
+      rows = arrived_of o (s.devices d)
+
+      shown : Shows new.scheme (shape (seen out led new)) s
+      shown = (h.stands (start sc) fresh).shows live
+
+      is : IsLane (length rows) l
+      is = shown.system.lanes o d
+
+      found : (shape (seen out led new)).owners o ≡ Some (owner_seen led x)
+      found = ap (λ p. entry p (map (owner_seen led) new.owners.items)) at ∙ slice_get-map (owner_seen led) new.owners.items k ∙ ap (option_map (owner_seen led)) here
+
+      owner : IsOwnerOf new.scheme s.devices o (s.owners o) (s.lanes o) (owner_seen led x)
+      owner = owner_shown new.scheme (shape (seen out led new)) s o (owner_seen led x) shown found
+
+      device : IsDeviceOf new.scheme d (s.devices d) v
+      device = device_shown new.scheme (shape (seen out led new)) s d v shown (ap (λ p. entry p new.devices.items) device_at ∙ device_here)
+
+      lane : part o (s.devices d).taps ≡ lane_of o d (numbered new.scheme events rs)
+      lane = ap (part o) (taps_after sc (start sc) es d (start_is sc)) ∙ ap (lane_of o d) (same_numbered old new events rs h fresh live)
+
+      took : l.took ≤ length rows
+      took = omega (arith, is.took, is.forward)
+
+      long : length ((led x.ledger).value.taken d) ≡ l.took
+      long = ap length (owner.taken d ∙ taken_of_arrived o l.took (s.devices d) took) ∙ length-take-le l.took rows took
+
+      rows_behind : AreRowsFrom ((out new.outbox).value.rows o d) (length ((led x.ledger).value.taken d) + 1) (drop l.took rows)
+      rows_behind n =
+          let number : length ((led x.ledger).value.taken d) + 1 + n ≡ l.took + n + 1 = omega (arith, long) in
+          let place : l.took + n + 1 - 1 ≡ l.took + n = omega arith in
+          ap ((out new.outbox).value.rows o d) number ∙ shown.rows o d (l.took + n + 1) ∙ row_here l.gone rows (l.took + n + 1) (omega (arith, is.gone)) ∙ ap (slice_get rows) place ∙ slice_get-drop rows l.took n
+
+      in_three : part o (s.devices d).taps ≡ (led x.ledger).value.taken d ++ (drop l.took rows ++ part o (beyond ((out new.outbox).value.upto d) v.waiting))
+      in_three =
+          lane_in_three new.scheme o d l.took (s.devices d) (shown.system.devices d) took
+          ∙ (λ i. sym (owner.taken d) i ++ (drop l.took rows ++ part o (beyond (sym (shown.upto d) i) (sym device.waiting i))))

@@ -1,6 +1,6 @@
 -- What a world shows after an arrival, an acknowledgement, its answer, a rewind and a resume.
 use Rattle.std.proofs.Common.{◌≡◌, ℕ, ◌+◌, ◌-◌, ◌<◌, ◌≤◌, List, [], ◌∷◌, ◌++◌, length, drop, max, Some, None, Bool, true, false, refl, sym, ap, ◌∙◌, subst, arith}
-use Rattle.std.specs.Prelude.{◌==◌, slice_get, if◌then◌else◌, Option, IfSome, is_some, Ok, Err, option_map}
+use Rattle.std.specs.Prelude.{◌==◌, slice_get, if◌then◌else◌, Option, IfSome, is_some, not, Ok, Err, option_map}
 use Rattle.std.proofs.lemmas.Bool.Decides.{nat_tests, Decides-eqb}
 use Rattle.std.proofs.lemmas.List.{drop-drop}
 use Rattle.std.proofs.lemmas.Option.{slice_get_within}
@@ -15,16 +15,16 @@ use Rattle.fare_frame.specs.Grammar.{frame_bytes, tap_of, ack_of, IsFrame}
 use Rattle.fare_frame.specs.declared.frame.Frame.{Frame}
 use Rattle.fare_frame.specs.declared.frame.Frame.TheVariants as frame
 use Rattle.fare_world.specs.declared.event.Event.TheVariants as event
-use Rattle.fare_world.specs.declared.reply.Refusal.TheVariants.{NoPacket, Stranger, UnknownDevice, UnknownStation}
+use Rattle.fare_world.specs.declared.reply.Refusal.TheVariants.{NoPacket, Stranger, Busy, UnknownDevice, UnknownStation}
 use Rattle.fare_world.specs.declared.reply.Reply.{Reply}
 use Rattle.fare_world.specs.declared.reply.Reply.TheVariants.{Empty, Refused, Rewound, Accepted, Dropped, Acknowledged, Answered, Resumed, Restarted}
 use Rattle.fare_world.specs.System.{put, Packet, Tapped, Acked, Tap_of, Answer, Ack_of, DeviceState, System}
 use Rattle.fare_world.specs.Packets.{bytes_at, IsPacketRead}
-use Rattle.fare_world.specs.Steps.{rewound, rewind, tap_at, is_owned_tap, next_at, refusal_of, accepted, judged, tap_comes, heard, ack_comes, comes, packet_at, arrive, ack_by, answer_from, resumed_device, resume, restart_device, resumed_devices, restart_station}
+use Rattle.fare_world.specs.Steps.{is_full, has_line_room, rewound, rewind, tap_at, is_owned_tap, next_at, refusal_of, accepted, judged, tap_comes, heard, ack_comes, comes, packet_at, arrive, ack_by, answer_from, resumed_device, resume, restart_device, resumed_devices, restart_station}
 use Rattle.fare_world.specs.Steps as step
 use Rattle.fare_world.specs.Shown.{IsDevice, IsSystem, IsAck, IsPacket, IsAt, IsPacketOf, IsArrivedOf, IsAnswerOf, IsDeviceOf, IsStationOf, Both, Each2, StationShape, Shape, Shows}
 use Rattle.fare_world.proofs.Known.{no_station, no_place, placed, is_own_id}
-use Rattle.fare_world.proofs.Lists.{AllByRecursion-at, Each2-push, Each2-get, Each2-nil, Each2-cons, length-Each2, Both-none, IfSome-weaken}
+use Rattle.fare_world.proofs.Lists.{AllByRecursion-at, Each2-push, Each2-get, Each2-nil, Each2-cons, length-Each2, Both-none, IfSome-weaken, has_room, has_no_room}
 use Rattle.fare_world.proofs.TableLemmas.{put_all, put_apart, put_both, put_here}
 use Rattle.fare_world.proofs.Kept.{moves_step, comes_kept, device_changes}
 use Rattle.fare_world.proofs.Showing.{Answers, answers_by, shows_device, shows_line, stations_same, same_device, device_shown, station_shown, last_link_is, packet_is, packet_acks, packet_has}
@@ -46,6 +46,16 @@ none_read s (Some (Acked d u)) (Some bytes) both read =
     let f : Frame = frame.Acked (record { device = d; upto = u }) in
     let none : None ≡ Some f = read f both.lawful both.spelled in
     absurd (cc)
+
+-- a packet whose bytes are there
+pub packet_there : (sc : SchemeValue) (h : Shape) (s : System) (n : ℕ) → Shows sc h s → is_some (bytes_at h.air n) ≡ true → is_some (packet_at s n) ≡ true
+packet_there sc h s n w there = by (packet_at s n) (bytes_at h.air n) (packets_match sc h s n w) there
+  where
+    by : (x : Option Packet) (b : Option (List ℕ)) → Both (IsPacketOf s.devices) x b → is_some b ≡ true → is_some x ≡ true
+    by (Some x) (Some b) m t = refl
+    by (Some x) None m t = refl
+    by None (Some b) m t = absurd m
+    by None None m t = absurd (cc)
 
 pub shown_no_packet : (sc : SchemeValue) (h : Shape) (s : System) (n : ℕ) → Shows sc h s → IsPacketRead (bytes_at h.air n) None → Answers sc h (arrive sc s n) (Refused NoPacket)
 shown_no_packet sc h s n w read =
@@ -127,10 +137,10 @@ stations_put sc h s d station v new w of here =
 
 -- A TAP COMES
 comes_to : (sc : SchemeValue) (h : Shape) (s : System) (station : ℕ) (x : StationShape) (r : RecordValue) → Shows sc h s → IsAt (s.devices r.device).taps r.link r → station_of sc r.device ≡ Some station → h.stations station ≡ Some x
-    → comes sc s (Some (Tapped r.device r.link)) ≡ judged s r.device r.link (collect_judged (x.nexts r.device) (is_owned sc r) r.link)
+    → comes sc s (Some (Tapped r.device r.link)) ≡ judged sc s r.device r.link (collect_judged (x.nexts r.device) (is_owned sc r) r.link)
 comes_to sc h s station x r w at of here =
     ap (tap_comes sc s r.device r.link) of
-    ∙ (λ i. judged s r.device r.link (collect_judged (sym ((station_shown sc h s station x w here).nexts r.device) i) (is_owned_tap sc (at.here i)) r.link))
+    ∙ (λ i. judged sc s r.device r.link (collect_judged (sym ((station_shown sc h s station x w here).nexts r.device) i) (is_owned_tap sc (at.here i)) r.link))
 
 pub shown_stranger : (sc : SchemeValue) (h : Shape) (s : System) (r : RecordValue) → Shows sc h s → station_of sc r.device ≡ None → Answers sc h (comes sc s (Some (Tapped r.device r.link))) (Refused Stranger)
 shown_stranger sc h s r w none = answers_by sc h (Refused Stranger) (comes sc s (Some (Tapped r.device r.link))) (s, Refused Stranger) (ap (tap_comes sc s r.device r.link) none) refl w
@@ -138,12 +148,18 @@ shown_stranger sc h s r w none = answers_by sc h (Refused Stranger) (comes sc s 
 pub shown_refused : (sc : SchemeValue) (h : Shape) (s : System) (station : ℕ) (x : StationShape) (r : RecordValue) (why : CollectRefusal) → Shows sc h s → IsAt (s.devices r.device).taps r.link r → station_of sc r.device ≡ Some station → h.stations station ≡ Some x
     → collect_judged (x.nexts r.device) (is_owned sc r) r.link ≡ Err why → Answers sc h (comes sc s (Some (Tapped r.device r.link))) (Refused (refusal_of why))
 shown_refused sc h s station x r why w at of here is =
-    answers_by sc h (Refused (refusal_of why)) (comes sc s (Some (Tapped r.device r.link))) (s, Refused (refusal_of why)) (comes_to sc h s station x r w at of here ∙ ap (judged s r.device r.link) is) refl w
+    answers_by sc h (Refused (refusal_of why)) (comes sc s (Some (Tapped r.device r.link))) (s, Refused (refusal_of why)) (comes_to sc h s station x r w at of here ∙ ap (judged sc s r.device r.link) is) refl w
+
+pub shown_busy : (sc : SchemeValue) (h : Shape) (s : System) (station : ℕ) (x : StationShape) (r : RecordValue) → Shows sc h s → IsAt (s.devices r.device).taps r.link r → station_of sc r.device ≡ Some station → h.stations station ≡ Some x
+    → collect_judged (x.nexts r.device) (is_owned sc r) r.link ≡ Ok tt → sc.inbox_capacity ≤ length h.inbox → Answers sc h (comes sc s (Some (Tapped r.device r.link))) (Refused Busy)
+shown_busy sc h s station x r w at of here is full =
+    answers_by sc h (Refused Busy) (comes sc s (Some (Tapped r.device r.link))) (s, Refused Busy)
+    (comes_to sc h s station x r w at of here ∙ ap (judged sc s r.device r.link) is ∙ ap (λ b. if b then (s, Refused Busy) else (accepted s r.device r.link, Accepted)) (has_no_room sc.inbox_capacity s.inbox (omega (arith, full, length-Each2 (IsArrivedOf s.devices) s.inbox h.inbox w.inbox)))) refl w
 
 pub shown_accepted : (sc : SchemeValue) (h : Shape) (s : System) (station : ℕ) (x new : StationShape) (r : RecordValue) → Shows sc h s → IsAt (s.devices r.device).taps r.link r → station_of sc r.device ≡ Some station → h.stations station ≡ Some x
-    → collect_judged (x.nexts r.device) (is_owned sc r) r.link ≡ Ok tt → x.nexts r.device ≡ Some r.link → ((j : ℕ) → new.nexts j ≡ changed (λ n. n + 1) x.nexts r.device j) → new.line ≡ x.line
+    → collect_judged (x.nexts r.device) (is_owned sc r) r.link ≡ Ok tt → x.nexts r.device ≡ Some r.link → ((j : ℕ) → new.nexts j ≡ changed (λ n. n + 1) x.nexts r.device j) → new.line ≡ x.line → length h.inbox < sc.inbox_capacity
     → Answers sc (record h { stations = put h.stations station (Some new); inbox = h.inbox ++ r ∷ [] }) (comes sc s (Some (Tapped r.device r.link))) Accepted
-shown_accepted sc h s station x new r w at of here is due does same =
+shown_accepted sc h s station x new r w at of here is due does same room =
     answers_by sc (record h { stations = put h.stations station (Some new); inbox = h.inbox ++ r ∷ [] }) Accepted (comes sc s (Some (Tapped d r.link))) (accepted s d r.link, Accepted) goes refl
     (record {
       system = subst (λ (y : System × Reply). IsSystem sc y.0) goes (comes_kept sc s (Tapped d r.link) w.system place);
@@ -154,6 +170,8 @@ shown_accepted sc h s station x new r w at of here is due does same =
       hand = devices.hand;
       upto = devices.upto;
       rows = devices.rows;
+      held = devices.held;
+      stated = devices.stated;
       owners = devices.owners;
     })
   where
@@ -164,7 +182,7 @@ shown_accepted sc h s station x new r w at of here is due does same =
     place = (at.positive, let lt = slice_get_within (s.devices d).taps (r.link - 1) r at.here in omega (arith, at.positive, lt))
 
     goes : comes sc s (Some (Tapped d r.link)) ≡ (accepted s d r.link, Accepted)
-    goes = comes_to sc h s station x r w at of here ∙ ap (judged s d r.link) is
+    goes = comes_to sc h s station x r w at of here ∙ ap (judged sc s d r.link) is ∙ ap (λ b. if b then (s, Refused Busy) else (accepted s d r.link, Accepted)) (has_room sc.inbox_capacity s.inbox (omega (arith, room, length-Each2 (IsArrivedOf s.devices) s.inbox h.inbox w.inbox)))
 
     after : DeviceState
     after = record (s.devices d) { next = r.link + 1 }
@@ -271,11 +289,24 @@ shown_restart_device sc h s d k x new w at here same =
 
 -- ACK and ANSWER
 pub shown_ack_unknown : (sc : SchemeValue) (h : Shape) (s : System) (d : ℕ) → Shows sc h s → station_of sc d ≡ None → Answers sc h (step.ack sc s d) (Refused UnknownDevice)
-shown_ack_unknown sc h s d w none = answers_by sc h (Refused UnknownDevice) (step.ack sc s d) (s, Refused UnknownDevice) (ap (ack_by s d) none) refl w
+shown_ack_unknown sc h s d w none = answers_by sc h (Refused UnknownDevice) (step.ack sc s d) (s, Refused UnknownDevice) (ap (ack_by sc s d) none) refl w
 
-pub shown_ack : (sc : SchemeValue) (h : Shape) (s : System) (d station u : ℕ) (x new : StationShape) → Shows sc h s → station_of sc d ≡ Some station → h.stations station ≡ Some x → u ≡ h.upto d → ((j : ℕ) → new.nexts j ≡ x.nexts j) → new.line ≡ x.line ++ record { device = d; upto = u } ∷ []
+-- the line's length
+pub line_length : (sc : SchemeValue) (h : Shape) (s : System) (station : ℕ) (x : StationShape) → Shows sc h s → h.stations station ≡ Some x → length (s.lines station) ≡ length x.line
+line_length sc h s station x w here = length-Each2 IsAnswerOf (s.lines station) x.line (station_shown sc h s station x w here).waits
+
+pub shown_ack_busy : (sc : SchemeValue) (h : Shape) (s : System) (d station : ℕ) (x : StationShape) → Shows sc h s → station_of sc d ≡ Some station → h.stations station ≡ Some x → sc.inbox_capacity ≤ length x.line → Answers sc h (step.ack sc s d) (Refused Busy)
+shown_ack_busy sc h s d station x w of here full =
+    answers_by sc h (Refused Busy) (step.ack sc s d) (s, Refused Busy)
+    (ap (ack_by sc s d) of ∙ ap (λ b. if b then (s, Refused Busy) else (step.acknowledged s station d, Acknowledged (s.devices d).upto)) (has_no_room sc.inbox_capacity (s.lines station) (omega (arith, full, line_length sc h s station x w here)))) refl w
+
+-- where the line has room, the outbox is asked
+pub ack_may_fail : (sc : SchemeValue) (h : Shape) (s : System) (d station : ℕ) (x : StationShape) → Shows sc h s → station_of sc d ≡ Some station → h.stations station ≡ Some x → length x.line < sc.inbox_capacity → has_line_room sc s (station_of sc d) ≡ true
+ack_may_fail sc h s d station x w of here room = ap (has_line_room sc s) of ∙ ap not (has_room sc.inbox_capacity (s.lines station) (omega (arith, room, line_length sc h s station x w here)))
+
+pub shown_ack : (sc : SchemeValue) (h : Shape) (s : System) (d station u : ℕ) (x new : StationShape) → Shows sc h s → station_of sc d ≡ Some station → h.stations station ≡ Some x → u ≡ h.outbox.upto d → ((j : ℕ) → new.nexts j ≡ x.nexts j) → new.line ≡ x.line ++ record { device = d; upto = u } ∷ [] → length x.line < sc.inbox_capacity
     → Answers sc (record h { stations = put h.stations station (Some new) }) (step.ack sc s d) (Acknowledged u)
-shown_ack sc h s d station u x new w of here is same gained =
+shown_ack sc h s d station u x new w of here is same gained room =
     answers_by sc (record h { stations = put h.stations station (Some new) }) (Acknowledged u) (step.ack sc s d) (step.acknowledged s station d, Acknowledged (s.devices d).upto) goes (ap Acknowledged stored)
     (shows_line sc h s station (s.lines station ++ Ack_of d (s.devices d).upto ∷ []) new w (subst (λ (y : System × Reply). IsSystem sc y.0) goes (moves_step sc s (event.Ack d) w.system).system)
     (record {
@@ -291,7 +322,7 @@ shown_ack sc h s d station u x new w of here is same gained =
     stored = is ∙ w.upto d
 
     goes : step.ack sc s d ≡ (step.acknowledged s station d, Acknowledged (s.devices d).upto)
-    goes = ap (ack_by s d) of
+    goes = ap (ack_by sc s d) of ∙ ap (λ b. if b then (s, Refused Busy) else (step.acknowledged s station d, Acknowledged (s.devices d).upto)) (has_room sc.inbox_capacity (s.lines station) (omega (arith, room, length-Each2 IsAnswerOf (s.lines station) x.line shown.waits)))
 
 pub shown_answer_unknown : (sc : SchemeValue) (h : Shape) (s : System) (station : ℕ) → Shows sc h s → position_of_station sc station ≡ None → Answers sc h (step.answer sc s station) (Refused UnknownStation)
 shown_answer_unknown sc h s station w none =
@@ -331,6 +362,8 @@ shown_answer sc h s station k n x new a w at here front same lawful count = of f
           hand = w.hand;
           upto = w.upto;
           rows = w.rows;
+          held = w.held;
+          stated = w.stated;
           owners = w.owners;
         })
       where
@@ -342,7 +375,7 @@ pub shown_resume_unknown : (sc : SchemeValue) (h : Shape) (s : System) (d : ℕ)
 shown_resume_unknown sc h s d w none =
     answers_by sc h (Refused UnknownDevice) (resume sc s d) (s, Refused UnknownDevice) (ap (λ o. if is_some o then (record s { devices = put s.devices d (resumed_device (s.devices d)) }, Resumed (s.devices d).upto) else (s, Refused UnknownDevice)) (no_place sc d none)) refl w
 
-pub shown_resume : (sc : SchemeValue) (h : Shape) (s : System) (d station u : ℕ) (x new : StationShape) → Shows sc h s → station_of sc d ≡ Some station → h.stations station ≡ Some x → u ≡ h.upto d → ((j : ℕ) → new.nexts j ≡ changed (λ _. u + 1) x.nexts d j) → new.line ≡ x.line
+pub shown_resume : (sc : SchemeValue) (h : Shape) (s : System) (d station u : ℕ) (x new : StationShape) → Shows sc h s → station_of sc d ≡ Some station → h.stations station ≡ Some x → u ≡ h.outbox.upto d → ((j : ℕ) → new.nexts j ≡ changed (λ _. u + 1) x.nexts d j) → new.line ≡ x.line
     → Answers sc (record h { stations = put h.stations station (Some new) }) (resume sc s d) (Resumed u)
 shown_resume sc h s d station u x new w of here is does same =
     answers_by sc (record h { stations = put h.stations station (Some new) }) (Resumed u) (resume sc s d) (record s { devices = put s.devices d after }, Resumed (s.devices d).upto) goes (ap Resumed stored)

@@ -28,9 +28,7 @@ use Rattle.fare_device.specs.Tapping.{TapRefused}
 use Rattle.fare_device.specs.declared.device.TapRefusal.{TapRefusal}
 use Rattle.fare_device.specs.declared.device.TapRefusal.TheVariants as why
 use Rattle.fare_device.proofs.Places.{slice_get-set_cases}
-use Rattle.fare_world.specs.declared.world.World.{World}
-use Rattle.fare_world.specs.Rooms.{HasRooms}
-use Rattle.fare_world.specs.Whole.{shape}
+use Rattle.fare_world.specs.Whole.{Seen, shape}
 use Rattle.fare_world.specs.Shown.{entry}
 use Rattle.fare_world.specs.Shown.{IsDevice, IsSystem, IsAt, IsPacketOf, IsDeviceOf, Shape, Shows}
 use Rattle.fare_world.proofs.Lists.{if_all, Each2-push, length-Each2, part-push, take-part-push, drop-push, slice_get-drop}
@@ -217,6 +215,8 @@ shown_send sc h s d k x r n w at here e lawful count =
       hand = devices.hand;
       upto = devices.upto;
       rows = devices.rows;
+      held = devices.held;
+      stated = devices.stated;
       owners = devices.owners;
     })
   where
@@ -270,85 +270,73 @@ shown_send sc h s d k x r n w at here e lawful count =
 
 -- THE CODE'S TABLES
 -- a device that the code read
-pub device_read : (w : World) (d k : ℕ) (x : DeviceValue) → position_of_device w.scheme d ≡ Some k → k < length w.devices.items → x ≡ get_or w.devices.items k x → (shape w).devices d ≡ Some x
-device_read w d k x at within e = ap (λ o. entry o w.devices.items) at ∙ slice_get_read w.devices.items (length w.devices.items) k x refl within e
+pub device_read : (w : Seen) (d k : ℕ) (x : DeviceValue) → position_of_device w.scheme d ≡ Some k → k < length w.devices → x ≡ get_or w.devices k x → (shape w).devices d ≡ Some x
+device_read w d k x at within e = ap (λ o. entry o w.devices) at ∙ slice_get_read w.devices (length w.devices) k x refl within e
 
 -- and wrote
-pub device_write : (w : World) (d k : ℕ) (x : DeviceValue) → position_of_device w.scheme d ≡ Some k → k < length w.devices.items → (λ e. entry (position_of_device w.scheme e) (set w.devices.items k x)) ≡ put (shape w).devices d (Some x)
-device_write w d k x at within = λ i e. entry-set (position_of_device w.scheme) (devices_apart w.scheme) w.devices.items d k x at within e i
+pub device_write : (w : Seen) (d k : ℕ) (x : DeviceValue) → position_of_device w.scheme d ≡ Some k → k < length w.devices → (λ e. entry (position_of_device w.scheme e) (set w.devices k x)) ≡ put (shape w).devices d (Some x)
+device_write w d k x at within = λ i e. entry-set (position_of_device w.scheme) (devices_apart w.scheme) w.devices d k x at within e i
 
 -- or wrote as it was
-pub device_same : (w : World) (k : ℕ) (x new : DeviceValue) → x ≡ get_or w.devices.items k x → new ≡ x → (λ e. entry (position_of_device w.scheme e) (set w.devices.items k new)) ≡ (shape w).devices
+pub device_same : (w : Seen) (k : ℕ) (x new : DeviceValue) → x ≡ get_or w.devices k x → new ≡ x → (λ e. entry (position_of_device w.scheme e) (set w.devices k new)) ≡ (shape w).devices
 device_same w k x new e same = λ i d. entry (position_of_device w.scheme d) (written i)
   where
-    written : set w.devices.items k new ≡ w.devices.items
-    written = ap (set w.devices.items k) (same ∙ e) ∙ set-get_or w.devices.items k x
+    written : set w.devices k new ≡ w.devices
+    written = ap (set w.devices k) (same ∙ e) ∙ set-get_or w.devices k x
 
-pub world_tapped : (w : World) (s : System) (d k p t m day : ℕ) (x new : DeviceValue) (r : RecordValue) (link lane : ℕ) → Shows w.scheme (shape w) s → position_of_device w.scheme d ≡ Some k → k < length w.devices.items → x ≡ get_or w.devices.items k x → day_of w.scheme m ≡ Some day → IsTapped w.scheme x p t m day r new → link ≡ r.link → lane ≡ r.lane
-    → Answers w.scheme (record (shape w) { devices = λ e. entry (position_of_device w.scheme e) (set w.devices.items k new) }) (tap w.scheme s d p t m) (Recorded link lane)
-world_tapped w s d k p t m day x new r link lane sh at within e dated did same_link same_lane =
+pub world_tapped : (w : Seen) (s : System) (d k p t m day : ℕ) (x new : DeviceValue) (r : RecordValue) (link lane : ℕ) → ((j : ℕ) (y : DeviceValue) → slice_get w.devices j ≡ Some y → length y.lanes ≡ length w.scheme.owners) → Shows w.scheme (shape w) s → position_of_device w.scheme d ≡ Some k → k < length w.devices → x ≡ get_or w.devices k x → day_of w.scheme m ≡ Some day → IsTapped w.scheme x p t m day r new → link ≡ r.link → lane ≡ r.lane
+    → Answers w.scheme (record (shape w) { devices = λ e. entry (position_of_device w.scheme e) (set w.devices k new) }) (tap w.scheme s d p t m) (Recorded link lane)
+world_tapped w s d k p t m day x new r link lane lanes sh at within e dated did same_link same_lane =
     let here = device_read w d k x at within e in
-    let long = w.rooms.lanes k x (slice_get_read w.devices.items (length w.devices.items) k x refl within e) in
+    let long = lanes k x (slice_get_read w.devices (length w.devices) k x refl within e) in
     subst (λ (q : (ℕ → Option DeviceValue) × Reply). Answers w.scheme (record (shape w) { devices = q.0 }) (tap w.scheme s d p t m) q.1)
     (λ i. (sym (device_write w d k new at within) i, Recorded (sym same_link i) (sym same_lane i)))
     (shown_tap w.scheme (shape w) s d k p t m day x new r sh at dated here long did)
 
 -- what a refusal of the device says of the tap
-abbrev pub AnswersRefused : World → (ℕ → Option DeviceValue) → System → ℕ → ℕ → ℕ → ℕ → TapRefusal → Type 0
+abbrev pub AnswersRefused : Seen → (ℕ → Option DeviceValue) → System → ℕ → ℕ → ℕ → ℕ → TapRefusal → Type 0
 AnswersRefused w devices s d p t m why.UnknownProduct = Answers w.scheme (record (shape w) { devices = devices }) (tap w.scheme s d p t m) (Refused UnknownProduct)
 AnswersRefused w devices s d p t m why.DayClosed = Answers w.scheme (record (shape w) { devices = devices }) (tap w.scheme s d p t m) (Refused DayClosed)
 AnswersRefused w devices s d p t m why.DayAhead = Answers w.scheme (record (shape w) { devices = devices }) (tap w.scheme s d p t m) (Refused DayAhead)
 AnswersRefused w devices s d p t m why.NumbersSpent = Answers w.scheme (record (shape w) { devices = devices }) (tap w.scheme s d p t m) (Refused NumbersSpent)
 AnswersRefused w devices s d p t m why.BufferFull = Answers w.scheme (record (shape w) { devices = devices }) (tap w.scheme s d p t m) (Refused BufferFull)
 
-refused_as_it_was : (w : World) (s : System) (d k p t m day : ℕ) (x : DeviceValue) (e : TapRefusal) → Shows w.scheme (shape w) s → position_of_device w.scheme d ≡ Some k → (shape w).devices d ≡ Some x → day_of w.scheme m ≡ Some day → TapRefused w.scheme x p day e → AnswersRefused w (shape w).devices s d p t m e
+refused_as_it_was : (w : Seen) (s : System) (d k p t m day : ℕ) (x : DeviceValue) (e : TapRefusal) → Shows w.scheme (shape w) s → position_of_device w.scheme d ≡ Some k → (shape w).devices d ≡ Some x → day_of w.scheme m ≡ Some day → TapRefused w.scheme x p day e → AnswersRefused w (shape w).devices s d p t m e
 refused_as_it_was w s d k p t m day x why.UnknownProduct sh at here dated cause = shown_unknown_product w.scheme (shape w) s d k p t m day sh at dated cause
 refused_as_it_was w s d k p t m day x why.DayClosed sh at here dated cause = shown_day_closed w.scheme (shape w) s d k p t m day x sh at dated here cause.0 cause.1
 refused_as_it_was w s d k p t m day x why.DayAhead sh at here dated cause = shown_day_ahead w.scheme (shape w) s d k p t m day x sh at dated here cause.0 cause.1
 refused_as_it_was w s d k p t m day x why.NumbersSpent sh at here dated cause = shown_spent w.scheme (shape w) s d k p t m day x sh at dated here cause.0 cause.1 cause.2
 refused_as_it_was w s d k p t m day x why.BufferFull sh at here dated cause = shown_full w.scheme (shape w) s d k p t m day x sh at dated here cause.0 cause.1 cause.2 cause.3
 
-pub world_refused : (w : World) (s : System) (d k p t m day : ℕ) (x new : DeviceValue) (e f : TapRefusal) → Shows w.scheme (shape w) s → position_of_device w.scheme d ≡ Some k → k < length w.devices.items → x ≡ get_or w.devices.items k x → day_of w.scheme m ≡ Some day → new ≡ x → TapRefused w.scheme x p day e → e ≡ f
-    → AnswersRefused w (λ j. entry (position_of_device w.scheme j) (set w.devices.items k new)) s d p t m f
+pub world_refused : (w : Seen) (s : System) (d k p t m day : ℕ) (x new : DeviceValue) (e f : TapRefusal) → Shows w.scheme (shape w) s → position_of_device w.scheme d ≡ Some k → k < length w.devices → x ≡ get_or w.devices k x → day_of w.scheme m ≡ Some day → new ≡ x → TapRefused w.scheme x p day e → e ≡ f
+    → AnswersRefused w (λ j. entry (position_of_device w.scheme j) (set w.devices k new)) s d p t m f
 world_refused w s d k p t m day x new e f sh at within read dated same cause is =
     subst (λ (q : (ℕ → Option DeviceValue) × TapRefusal). AnswersRefused w q.0 s d p t m q.1) (λ i. (sym (device_same w k x new read same) i, is i))
     (refused_as_it_was w s d k p t m day x e sh at (device_read w d k x at within read) dated cause)
 
-pub world_sent : (w : World) (s : System) (d k : ℕ) (x new : DeviceValue) (f : Frame) (air : List (List ℕ)) (n link : ℕ) → Shows w.scheme (shape w) s → position_of_device w.scheme d ≡ Some k → k < length w.devices.items → x ≡ get_or w.devices.items k x → option_map frame.Tapped (slice_get x.waiting (x.cursor - x.base)) ≡ Some f → IsFrame f → new ≡ record x { cursor = x.cursor + 1 } → air ≡ w.air.items ++ frame_bytes f ∷ [] → n ≡ length air → link ≡ x.cursor + 1
-    → Answers w.scheme (record (shape w) { devices = λ e. entry (position_of_device w.scheme e) (set w.devices.items k new); air = air }) (send w.scheme s d) (Sent n link)
+pub world_sent : (w : Seen) (s : System) (d k : ℕ) (x new : DeviceValue) (f : Frame) (air : List (List ℕ)) (n link : ℕ) → Shows w.scheme (shape w) s → position_of_device w.scheme d ≡ Some k → k < length w.devices → x ≡ get_or w.devices k x → option_map frame.Tapped (slice_get x.waiting (x.cursor - x.base)) ≡ Some f → IsFrame f → new ≡ record x { cursor = x.cursor + 1 } → air ≡ w.air ++ frame_bytes f ∷ [] → n ≡ length air → link ≡ x.cursor + 1
+    → Answers w.scheme (record (shape w) { devices = λ e. entry (position_of_device w.scheme e) (set w.devices k new); air = air }) (send w.scheme s d) (Sent n link)
 world_sent w s d k x new f air n link sh at within e next lawful is pushed count same_link = of_tap (slice_get x.waiting (x.cursor - x.base)) refl
   where
-    long : n ≡ length w.air.items + 1
-    long = count ∙ ap length pushed ∙ length_push w.air.items (frame_bytes f)
+    long : n ≡ length w.air + 1
+    long = count ∙ ap length pushed ∙ length_push w.air (frame_bytes f)
 
     same_frame : (g : Frame) → Some g ≡ Some f → g ≡ f
     same_frame g q = cc
 
-    of_tap : (o : Option RecordValue) → slice_get x.waiting (x.cursor - x.base) ≡ o → Answers w.scheme (record (shape w) { devices = λ e. entry (position_of_device w.scheme e) (set w.devices.items k new); air = air }) (send w.scheme s d) (Sent n link)
+    of_tap : (o : Option RecordValue) → slice_get x.waiting (x.cursor - x.base) ≡ o → Answers w.scheme (record (shape w) { devices = λ e. entry (position_of_device w.scheme e) (set w.devices k new); air = air }) (send w.scheme s d) (Sent n link)
     of_tap None place = let none : None ≡ Some f = ap (option_map frame.Tapped) (sym place) ∙ next in absurd (cc)
     of_tap (Some r) place =
         let tap : frame.Tapped r ≡ f = same_frame (frame.Tapped r) (ap (option_map frame.Tapped) (sym place) ∙ next) in
-        let sent_bytes : w.air.items ++ frame_bytes (frame.Tapped r) ∷ [] ≡ air = ap (λ g. w.air.items ++ frame_bytes g ∷ []) tap ∙ sym pushed in
+        let sent_bytes : w.air ++ frame_bytes (frame.Tapped r) ∷ [] ≡ air = ap (λ g. w.air ++ frame_bytes g ∷ []) tap ∙ sym pushed in
         subst (λ (q : (ℕ → Option DeviceValue) × List (List ℕ) × ℕ). Answers w.scheme (record (shape w) { devices = q.0; air = q.1 }) (send w.scheme s d) (Sent n q.2))
         (λ i. (sym (device_write w d k new at within) i, sent_bytes i, sym same_link i))
-        (subst (λ (y : DeviceValue). Answers w.scheme (record (shape w) { devices = put (shape w).devices d (Some y); air = w.air.items ++ frame_bytes (frame.Tapped r) ∷ [] }) (send w.scheme s d) (Sent n (x.cursor + 1))) (sym is)
+        (subst (λ (y : DeviceValue). Answers w.scheme (record (shape w) { devices = put (shape w).devices d (Some y); air = w.air ++ frame_bytes (frame.Tapped r) ∷ [] }) (send w.scheme s d) (Sent n (x.cursor + 1))) (sym is)
         (shown_send w.scheme (shape w) s d k x r n sh at (device_read w d k x at within e) place (subst IsFrame (sym tap) lawful) long))
 
-pub world_idle : (w : World) (s : System) (d k : ℕ) (x new : DeviceValue) (air : List (List ℕ)) → Shows w.scheme (shape w) s → position_of_device w.scheme d ≡ Some k → k < length w.devices.items → x ≡ get_or w.devices.items k x → x.cursor ≡ last_link x → new ≡ x → air ≡ w.air.items
-    → Answers w.scheme (record (shape w) { devices = λ e. entry (position_of_device w.scheme e) (set w.devices.items k new); air = air }) (send w.scheme s d) Idle
+pub world_idle : (w : Seen) (s : System) (d k : ℕ) (x new : DeviceValue) (air : List (List ℕ)) → Shows w.scheme (shape w) s → position_of_device w.scheme d ≡ Some k → k < length w.devices → x ≡ get_or w.devices k x → x.cursor ≡ last_link x → new ≡ x → air ≡ w.air
+    → Answers w.scheme (record (shape w) { devices = λ e. entry (position_of_device w.scheme e) (set w.devices k new); air = air }) (send w.scheme s d) Idle
 world_idle w s d k x new air sh at within e all same kept =
     subst (λ (q : (ℕ → Option DeviceValue) × List (List ℕ)). Answers w.scheme (record (shape w) { devices = q.0; air = q.1 }) (send w.scheme s d) Idle) (λ i. (sym (device_same w k x new e same) i, sym kept i))
     (shown_idle w.scheme (shape w) s d k x sh at (device_read w d k x at within e) all)
 
--- a device with as many lanes takes the place of another
-pub rooms_of_device : (w : World) (k : ℕ) (x new : DeviceValue) → k < length w.devices.items → x ≡ get_or w.devices.items k x → length new.lanes ≡ length x.lanes → HasRooms w.scheme (set w.devices.items k new) w.stations.items w.owners.items
-rooms_of_device w k x new within e long = record {
-  device_count = length-set w.devices.items k new ∙ w.rooms.device_count;
-  station_count = w.rooms.station_count;
-  owner_count = w.rooms.owner_count;
-  lanes = λ j y f. elim (slice_get-set_cases w.devices.items k new j y f) [
-    | inl is ↦ ap (λ (z : DeviceValue). length z.lanes) (sym is) ∙ long ∙ w.rooms.lanes k x (slice_get_read w.devices.items (length w.devices.items) k x refl within e)
-    | inr is ↦ w.rooms.lanes j y is
-  ];
-  cursors = w.rooms.cursors;
-}

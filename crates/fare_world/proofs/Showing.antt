@@ -9,18 +9,13 @@ use Rattle.fare_scheme.specs.Values.{SchemeValue}
 use Rattle.fare_scheme.specs.Words.{station_of}
 use Rattle.fare_collector.specs.Collecting.{is_id}
 use Rattle.fare_device.specs.DeviceWords.{DeviceValue, last_link}
-use Rattle.fare_world.specs.declared.event.Event.{Event}
 use Rattle.fare_world.specs.declared.reply.Reply.{Reply}
-use Rattle.fare_world.specs.declared.world.World.{World}
 use Rattle.fare_frame.specs.Grammar.{tap_of, ack_of}
 use Rattle.fare_frame.specs.declared.frame.Frame.{Frame}
 use Rattle.fare_frame.specs.declared.frame.Frame.TheVariants as frame
 use Rattle.fare_world.specs.System.{put, Packet, Tapped, Acked, Arrived, Tap_of, Answer, Routed, Lane_of, DeviceState, OwnerState, LaneState, System, numbered_for, arrived_of}
 use Rattle.fare_world.specs.Packets.{IsRead}
-use Rattle.fare_world.specs.Steps.{step}
-use Rattle.fare_world.specs.Shown.{IsNumbered, IsDevice, IsSystem, IsAt, IsPacketOf, IsArrivedOf, IsRoutedOf, IsDeviceOf, IsStationOf, IsOwnerOf, StationShape, OwnerShape, Shape, Shows}
-use Rattle.fare_world.specs.declared.world.Fault.{Fault}
-use Rattle.fare_world.specs.Whole.{shape, StandsAt, IsStepped, IsUnchanged, Applied, Does, Done}
+use Rattle.fare_world.specs.Shown.{IsNumbered, IsDevice, IsSystem, IsAt, IsPacketOf, IsArrivedOf, IsRoutedOf, IsDeviceOf, IsStationOf, IsOwnerOf, StationShape, OwnerShape, Shape, Shows, row_at}
 use Rattle.fare_world.proofs.Places.{slice_get-push_cases, slice_get-front}
 use Rattle.fare_world.proofs.Lists.{if_all, Each2-weaken, Both-weaken, IfSome-weaken, element_at, take-one_more, part-push}
 use Rattle.fare_world.proofs.TableLemmas.{put_all, put_apart, put_both}
@@ -32,45 +27,6 @@ pub record Answers (sc : SchemeValue) (h : Shape) (y : System × Reply) (r : Rep
 
 pub answers_by : (sc : SchemeValue) (h : Shape) (r : Reply) (y z : System × Reply) → y ≡ z → r ≡ z.1 → Shows sc h z.0 → Answers sc h y r
 answers_by sc h r y z e same w = subst (λ q. Answers sc h q r) (sym e) (record { reply = same; shows = w })
-
--- the same of a world
-pub stepped : (old new : World) (e : Event) (r : Reply) → new.scheme ≡ old.scheme → ((s : System) → Shows old.scheme (shape old) s → Answers old.scheme (shape new) (step old.scheme s e) r) → IsStepped old new e r
-stepped old new e r same f = record {
-  scheme = same;
-  reply = λ s w. (f s w.shows).reply;
-  stands = λ s w. record { shows = subst (λ sc. Shows sc (shape new) (step old.scheme s e).0) (sym same) (f s w.shows).shows };
-}
-
--- and of a part of an event
-pub does : (old new : World) (condition : System → Type 0) (change : System → System × Reply) (r : Reply) → new.scheme ≡ old.scheme → ((s : System) → Shows old.scheme (shape old) s → condition s → Answers old.scheme (shape new) (change s) r) → Does old new condition change r
-does old new condition change r same f = record {
-  scheme = same;
-  reply = λ s w met. (f s w.shows met).reply;
-  stands = λ s w met. record { shows = subst (λ sc. Shows sc (shape new) (change s).0) (sym same) (f s w.shows met).shows };
-}
-
--- a part that did all of it
-pub does_all : (old new : World) (condition : System → Type 0) (change : System → System × Reply) (e : Event) (r : Reply) → ((s : System) → Shows old.scheme (shape old) s → condition s × (step old.scheme s e ≡ change s)) → Does old new condition change r → IsStepped old new e r
-does_all old new condition change e r all did = record {
-  scheme = did.scheme;
-  reply = λ s w. did.reply s w (all s w.shows).0 ∙ ap (λ (y : System × Reply). y.1) (sym (all s w.shows).1);
-  stands = λ s w. subst (λ (y : System × Reply). StandsAt new y.0) (sym (all s w.shows).1) (did.stands s w (all s w.shows).0);
-}
-
--- or failed
-pub done_all : (old new : World) (condition : System → Type 0) (change : System → System × Reply) (e : Event) (r : Result Reply Fault) → ((s : System) → Shows old.scheme (shape old) s → condition s × (step old.scheme s e ≡ change s)) → Done old new condition change r → Applied old new e r
-done_all old new condition change e (Ok reply) all did = does_all old new condition change e reply all did
-done_all old new condition change e (Err fault) all did = did
-
--- a part's error that leaves what is seen
-pub done_err : (old new : World) (condition : System → Type 0) (change : System → System × Reply) (r : Result Reply Fault) → IsErr r → IsUnchanged old new → Done old new condition change r
-done_err old new condition change (Ok reply) h u = absurd (cc)
-done_err old new condition change (Err fault) h u = u
-
--- an error that leaves what is seen
-pub applied_err : (old new : World) (e : Event) (r : Result Reply Fault) → IsErr r → IsUnchanged old new → Applied old new e r
-applied_err old new e (Ok reply) h u = absurd (cc)
-applied_err old new e (Err fault) h u = u
 
 -- what stands at a number stays where the devices have what they had, and maybe more
 pub record GrowsAt (f g : ℕ → DeviceState) : Type 0 where
@@ -120,9 +76,9 @@ pub routed_grows : (f g : ℕ → DeviceState) → GrowsAt f g → (o : ℕ) (x 
 routed_grows f g up o (Lane_of d k) r h = up.lane o d k r h
 
 -- an owner, where the devices alone change
-pub owner_grows : (s : System) (g : ℕ → DeviceState) → GrowsAt s.devices g → ((o d : ℕ) → take (s.lanes o d).took (part o (g d).taps) ≡ take (s.lanes o d).took (numbered_for s o d)) → (o : ℕ) (x : OwnerShape) → IsOwnerOf s.devices o (s.owners o) (s.lanes o) x → IsOwnerOf g o (s.owners o) (s.lanes o) x
-owner_grows s g up took o x w = record {
-  id = w.id;
+pub owner_grows : (sc : SchemeValue) (s : System) (g : ℕ → DeviceState) → GrowsAt s.devices g → ((o d : ℕ) → take (s.lanes o d).took (part o (g d).taps) ≡ take (s.lanes o d).took (numbered_for s o d)) → (o : ℕ) (x : OwnerShape) → IsOwnerOf sc s.devices o (s.owners o) (s.lanes o) x → IsOwnerOf sc g o (s.owners o) (s.lanes o) x
+owner_grows sc s g up took o x w = record {
+  ledger = w.ledger;
   taken = λ d. w.taken d ∙ sym (took o d);
   queue = Each2-weaken (IsRoutedOf s.devices o) (IsRoutedOf g o) (routed_grows s.devices g up o) (s.owners o).queue x.queue w.queue;
   hand = Both-weaken (IsRoutedOf s.devices o) (IsRoutedOf g o) (routed_grows s.devices g up o) (s.owners o).hand x.hand w.hand;
@@ -155,8 +111,10 @@ shows_devices sc h s g devices stations w is up each station upto arrived took =
   inbox = Each2-weaken (IsArrivedOf s.devices) (IsArrivedOf g) (arrived_grows s.devices g up) s.inbox h.inbox w.inbox;
   hand = Both-weaken (IsArrivedOf s.devices) (IsArrivedOf g) (arrived_grows s.devices g up) s.hand h.hand w.hand;
   upto = λ d. w.upto d ∙ sym (upto d);
-  rows = λ o d. w.rows o d ∙ sym (arrived o d);
-  owners = λ o. IfSome-weaken (IsOwnerOf s.devices o (s.owners o) (s.lanes o)) (IsOwnerOf g o (s.owners o) (s.lanes o)) (owner_grows s g up took o) (h.owners o) (w.owners o);
+  rows = λ o d l. w.rows o d l ∙ ap (λ rs. row_at (s.lanes o d).gone rs l) (sym (arrived o d));
+  held = w.held;
+  stated = w.stated;
+  owners = λ o. IfSome-weaken (IsOwnerOf sc s.devices o (s.owners o) (s.lanes o)) (IsOwnerOf sc g o (s.owners o) (s.lanes o)) (owner_grows sc s g up took o) (h.owners o) (w.owners o);
 }
 
 -- the same where one device alone changes, and neither its taps nor what the outbox has had of them
@@ -194,6 +152,8 @@ shows_line sc h s station line x w is here = record {
   hand = w.hand;
   upto = w.upto;
   rows = w.rows;
+  held = w.held;
+  stated = w.stated;
   owners = w.owners;
 }
 
@@ -202,9 +162,9 @@ put_other f k v j apart = ap (λ b. if b then v else f j) apart
 
 -- what is seen where one owner and its lanes change
 pub shows_owner : (sc : SchemeValue) (h : Shape) (s : System) (o : ℕ) (owners : ℕ → OwnerState) (lanes : ℕ → ℕ → LaneState) (x : OwnerShape) → Shows sc h s → IsSystem sc (record s { owners = owners; lanes = lanes })
-    → ((j : ℕ) → (j == o) ≡ false → owners j ≡ s.owners j) → ((j : ℕ) → (j == o) ≡ false → lanes j ≡ s.lanes j) → IsOwnerOf s.devices o (owners o) (lanes o) x
+    → ((j : ℕ) → (j == o) ≡ false → owners j ≡ s.owners j) → ((j : ℕ) → (j == o) ≡ false → lanes j ≡ s.lanes j) → ((j d : ℕ) → (lanes j d).gone ≡ (s.lanes j d).gone) → IsOwnerOf sc s.devices o (owners o) (lanes o) x
     → Shows sc (record h { owners = put h.owners o (Some x) }) (record s { owners = owners; lanes = lanes })
-shows_owner sc h s o owners lanes x w is other_owners other_lanes here = record {
+shows_owner sc h s o owners lanes x w is other_owners other_lanes gone here = record {
   system = is;
   devices = w.devices;
   stations = w.stations;
@@ -212,9 +172,11 @@ shows_owner sc h s o owners lanes x w is other_owners other_lanes here = record 
   inbox = w.inbox;
   hand = w.hand;
   upto = w.upto;
-  rows = w.rows;
-  owners = put_apart (λ j a. IfSome a (IsOwnerOf s.devices j (owners j) (lanes j))) h.owners o (Some x)
-      (λ j apart. subst (λ (q : OwnerState × (ℕ → LaneState)). IfSome (h.owners j) (IsOwnerOf s.devices j q.0 q.1)) (λ i. (sym (other_owners j apart) i, sym (other_lanes j apart) i)) (w.owners j))
+  rows = λ j d l. w.rows j d l ∙ ap (λ n. row_at n (arrived_of j (s.devices d)) l) (sym (gone j d));
+  held = w.held;
+  stated = w.stated;
+  owners = put_apart (λ j a. IfSome a (IsOwnerOf sc s.devices j (owners j) (lanes j))) h.owners o (Some x)
+      (λ j apart. subst (λ (q : OwnerState × (ℕ → LaneState)). IfSome (h.owners j) (IsOwnerOf sc s.devices j q.0 q.1)) (λ i. (sym (other_owners j apart) i, sym (other_lanes j apart) i)) (w.owners j))
       here;
 }
 
@@ -242,8 +204,8 @@ pub station_shown : (sc : SchemeValue) (h : Shape) (s : System) (station : ℕ) 
 station_shown sc h s station x w e = subst (λ a. IfSome a (IsStationOf sc s.devices station (s.lines station))) e (w.stations station)
 
 -- the owner of an entry
-pub owner_shown : (sc : SchemeValue) (h : Shape) (s : System) (o : ℕ) (x : OwnerShape) → Shows sc h s → h.owners o ≡ Some x → IsOwnerOf s.devices o (s.owners o) (s.lanes o) x
-owner_shown sc h s o x w e = subst (λ a. IfSome a (IsOwnerOf s.devices o (s.owners o) (s.lanes o))) e (w.owners o)
+pub owner_shown : (sc : SchemeValue) (h : Shape) (s : System) (o : ℕ) (x : OwnerShape) → Shows sc h s → h.owners o ≡ Some x → IsOwnerOf sc s.devices o (s.owners o) (s.lanes o) x
+owner_shown sc h s o x w e = subst (λ a. IfSome a (IsOwnerOf sc s.devices o (s.owners o) (s.lanes o))) e (w.owners o)
 
 -- LANE NUMBERS
 lane_of_next : (sc : SchemeValue) (d : ℕ) (taps : List RecordValue) → ((k : ℕ) (r : RecordValue) → slice_get taps k ≡ Some r → IsNumbered sc d taps k r) → (o n k : ℕ) (r q : RecordValue) → ((k : ℕ) (r : RecordValue) → slice_get (part o (take n taps)) k ≡ Some r → r.lane ≡ k + 1) → slice_get taps n ≡ Some q → slice_get (part o (take n taps ++ q ∷ [])) k ≡ Some r → r.lane ≡ k + 1

@@ -1,6 +1,6 @@
 -- Tables with another value at one place.
-use Rattle.std.proofs.Common.{◌≡◌, ◌≢◌, ℕ, zero, suc, ◌<◌, List, [], ◌∷◌, length, set, get_or, Some, None, Bool, true, false, refl, sym, ap, ◌∙◌, subst, arith, length-set, eqb-true}
-use Rattle.std.specs.Prelude.{◌==◌, slice_get, Option, option_map, if◌then◌else◌, nat_eq, position}
+use Rattle.std.proofs.Common.{◌≡◌, ◌≢◌, ℕ, zero, suc, ◌<◌, List, [], ◌∷◌, length, set, get_or, Some, None, Bool, true, false, refl, sym, ap, ◌∙◌, subst, arith, length-set, eqb-true, inl, inr}
+use Rattle.std.specs.Prelude.{◌==◌, ◌⊎◌, slice_get, Option, option_map, if◌then◌else◌, nat_eq, position}
 use Rattle.std.specs.Map.{keys_of}
 use Rattle.std.proofs.lemmas.Bool.Decides.{nat_tests, Decides-eqb}
 use Rattle.std.proofs.lemmas.List.{get_or-set_same, length-map}
@@ -53,6 +53,14 @@ slice_get-set_other (x ∷ xs) zero zero v apart = absurd (apart refl)
 slice_get-set_other (x ∷ xs) zero (suc j) v apart = refl
 slice_get-set_other (x ∷ xs) (suc k) zero v apart = refl
 slice_get-set_other (x ∷ xs) (suc k) (suc j) v apart = slice_get-set_other xs k j v (λ e. apart (ap suc e))
+
+-- what stands at a place after a write
+pub set_cases : {X : Type 0} (xs : List X) (i : ℕ) (v : X) (k : ℕ) (x : X) → slice_get (set xs i v) k ≡ Some x → ((k ≡ i) × (v ≡ x)) ⊎ ((k ≢ i) × (slice_get xs k ≡ Some x))
+set_cases [] i v k x e = absurd (cc)
+set_cases (y ∷ ys) zero v zero x e = let same : v ≡ x = cc in inl (refl, same)
+set_cases (y ∷ ys) zero v (suc k) x e = inr ((λ q. absurd (cc)), e)
+set_cases (y ∷ ys) (suc i) v zero x e = inr ((λ q. absurd (cc)), e)
+set_cases (y ∷ ys) (suc i) v (suc k) x e = elim (set_cases ys i v k x e) [ inl is ↦ inl (ap suc is.0, is.1) | inr is ↦ inr ((λ q. is.0 (omega (arith, q))), is.1) ]
 
 -- two ids do not stand at one position
 abbrev pub IsApart : (ℕ → Option ℕ) → Type 0

@@ -3,10 +3,9 @@ use Rattle.std.specs.Prelude.{◌≡◌, ℕ, List, [], Some, None, length, slic
 use Rattle.fare_scheme.specs.Values.{SchemeValue}
 use Rattle.fare_scheme.specs.Words.{buffer_of, position_of_device, position_of_station, position_of_owner}
 use Rattle.fare_collector.specs.Collecting.{next_in, first_link}
+use Rattle.circular_buffer.specs.Buffer.{buffer}
 use Rattle.fare_device.specs.DeviceWords.{DeviceValue, fresh_device}
-use Rattle.fare_world.specs.declared.owner.Owner.{Owner}
 use Rattle.fare_world.specs.declared.station.Station.{Station}
-use Rattle.fare_world.specs.Tables.{taken_in}
 
 -- the device at a position of the scheme, fresh
 pub record IsFreshDevice (sc : SchemeValue) (k : ℕ) (x : DeviceValue) : Type 0 where
@@ -22,20 +21,8 @@ pub record AreFreshDevices (sc : SchemeValue) (xs : List DeviceValue) : Type 0 w
 pub record IsFreshStation (sc : SchemeValue) (k : ℕ) (x : Station) : Type 0 where
   pub at : position_of_station sc x.collector.station ≡ Some k
   pub nexts : (device : ℕ) → next_in x.collector device ≡ first_link sc x.collector.station device
-  pub line : x.line.items ≡ []
+  pub line : x.line ≡ buffer [] sc.inbox_capacity
 
 pub record AreFreshStations (sc : SchemeValue) (xs : List Station) : Type 0 where
   pub count : length xs ≡ length sc.stations
   pub each : (k : ℕ) (x : Station) → slice_get xs k ≡ Some x → IsFreshStation sc k x
-
--- the owner at a position of the scheme, with nothing taken, fetched or forwarded
-pub record IsFreshOwner (sc : SchemeValue) (k : ℕ) (x : Owner) : Type 0 where
-  pub at : position_of_owner sc x.ledger.owner ≡ Some k
-  pub taken : (device : ℕ) → taken_in x.ledger device ≡ []
-  pub queue : x.queue.items ≡ []
-  pub hand : x.hand ≡ None
-  pub cursors : x.cursors.items ≡ replicate (length sc.devices) 0
-
-pub record AreFreshOwners (sc : SchemeValue) (xs : List Owner) : Type 0 where
-  pub count : length xs ≡ length sc.owners
-  pub each : (k : ℕ) (x : Owner) → slice_get xs k ≡ Some x → IsFreshOwner sc k x

@@ -1,12 +1,9 @@
 pub mod System
 pub mod Steps
 pub mod Headline
-pub mod RowWords
 pub mod Packets
-pub mod Stores
-pub mod LaneWords
-pub mod Tables
 pub mod Rooms
+pub mod Restarts
 pub mod Shown
 pub mod Fresh
 pub mod Whole

@@ -1,21 +1,63 @@
--- The lengths of a world's tables, and where a device's station stands in them.
-use Rattle.std.specs.Prelude.{◌≡◌, ℕ, List, Some, length, slice_get}
+-- The lengths of a world's tables, where a device's station stands in them, and what a restart is told.
+use Rattle.std.specs.Prelude.{◌≡◌, ℕ, List, Option, Some, IsSome, length, slice_get, unwrap_or, option_map, option_and_then}
 use Rattle.fare_scheme.specs.Values.{SchemeValue}
-use Rattle.fare_scheme.specs.Words.{station_of, position_of_station}
+use Rattle.fare_scheme.specs.Words.{station_of, lane_capacity_of, position_of_device, position_of_station, position_of_owner}
 use Rattle.fare_device.specs.DeviceWords.{DeviceValue}
+use Rattle.fare_route.specs.declared.forwarder.Forwarder.{Forwarder}
+use Rattle.fare_route.specs.Routing.{cursor_of}
+use Rattle.fare_store.specs.LedgerWords.{LedgerValue, closed_through}
 use Rattle.fare_world.specs.declared.owner.Owner.{Owner}
 use Rattle.fare_world.specs.declared.station.Station.{Station}
-
--- there is an entry for each device, for each station, for each owner, and for each lane
-pub record HasRooms (sc : SchemeValue) (devices : List DeviceValue) (stations : List Station) (owners : List Owner) : Type 0 where
-  pub device_count : length devices ≡ length sc.devices
-  pub station_count : length stations ≡ length sc.stations
-  pub owner_count : length owners ≡ length sc.owners
-  pub lanes : (k : ℕ) (x : DeviceValue) → slice_get devices k ≡ Some x → length x.lanes ≡ length sc.owners
-  pub cursors : (k : ℕ) (x : Owner) → slice_get owners k ≡ Some x → length x.cursors.items ≡ length sc.devices
 
 -- a device's station is at this place
 pub record HasStation (sc : SchemeValue) (device place : ℕ) : Type 0 where
   pub station : ℕ
   pub of : station_of sc device ≡ Some station
   pub at : position_of_station sc station ≡ Some place
+
+-- FORWARDERS
+-- the lane number up to which a forwarder has handed on the taps of a device
+abbrev pub lane_of_cursor : Forwarder → ℕ → Option ℕ
+lane_of_cursor f device = option_map (λ c. c.lane) (cursor_of f device)
+
+-- an owner's forwarder, which knows each device of the scheme
+pub record IsForwarder (sc : SchemeValue) (place : ℕ) (f : Forwarder) : Type 0 where
+  pub owner : position_of_owner sc f.owner ≡ Some place
+  pub each : (device : ℕ) → IsSome (position_of_device sc device) → IsSome (cursor_of f device)
+
+-- ROOMS
+-- an owner's side: its lane queue is as long as the scheme says, and it has room for where its ledger stands
+pub record HasOwnerRooms {L : Type 0} (sc : SchemeValue) (place : ℕ) (x : Owner L) : Type 0 where
+  pub forwarder : IsForwarder sc place x.forwarder
+  pub queue : lane_capacity_of sc x.forwarder.owner ≡ Some x.queue.capacity
+  pub standings : length x.standings.items ≡ length sc.devices
+
+-- there is an entry for each device, for each station, for each owner, and for each lane, and the queues are as long as the scheme says
+pub record HasRooms {L : Type 0} (sc : SchemeValue) (devices : List DeviceValue) (stations : List Station) (inbox : ℕ) (owners : List (Owner L)) (uptos : ℕ) : Type 0 where
+  pub device_count : length devices ≡ length sc.devices
+  pub station_count : length stations ≡ length sc.stations
+  pub owner_count : length owners ≡ length sc.owners
+  pub lanes : (k : ℕ) (x : DeviceValue) → slice_get devices k ≡ Some x → length x.lanes ≡ length sc.owners
+  pub inbox_room : inbox ≡ sc.inbox_capacity
+  pub lines : (k : ℕ) (x : Station) → slice_get stations k ≡ Some x → x.line.capacity ≡ sc.inbox_capacity
+  pub sides : (k : ℕ) (x : Owner L) → slice_get owners k ≡ Some x → HasOwnerRooms sc k x
+  pub upto_count : uptos ≡ length sc.devices
+
+-- WHAT A RESTART IS TOLD
+-- how far each device of the scheme is had, in order of registration
+pub record AreUptos (sc : SchemeValue) (upto : ℕ → ℕ) (uptos : List ℕ) : Type 0 where
+  pub count : length uptos ≡ length sc.devices
+  pub each : (device k n : ℕ) → position_of_device sc device ≡ Some k → slice_get uptos k ≡ Some n → n ≡ upto device
+
+-- how far a device is had by such a list
+abbrev pub upto_at : SchemeValue → List ℕ → ℕ → ℕ
+upto_at sc uptos device = unwrap_or (option_and_then (slice_get uptos) (position_of_device sc device)) 0
+
+-- for each device of the scheme, in order of registration, how many taps are taken and the last closed day
+pub record AreStandings (sc : SchemeValue) (v : LedgerValue) (standings : List (ℕ × Option ℕ)) : Type 0 where
+  pub count : length standings ≡ length sc.devices
+  pub each : (device k : ℕ) (p : ℕ × Option ℕ) → position_of_device sc device ≡ Some k → slice_get standings k ≡ Some p → p ≡ (length (v.taken device), closed_through v device)
+
+-- how many taps of a device are taken by such a list
+abbrev pub taken_at : SchemeValue → List (ℕ × Option ℕ) → ℕ → ℕ
+taken_at sc standings device = unwrap_or (option_map (λ p. p.0) (option_and_then (slice_get standings) (position_of_device sc device))) 0

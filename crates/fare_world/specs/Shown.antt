@@ -1,5 +1,5 @@
 -- What the parts of a world hold, where it stands at a system of numbers: each record anywhere is the device's record of its number.
-use Rattle.std.specs.Prelude.{◌≡◌, ℕ, ◌+◌, ◌-◌, ◌≤◌, List, [], ◌∷◌, length, take, drop, Option, Some, None, slice_get, option_and_then, IsSome, IfSome}
+use Rattle.std.specs.Prelude.{◌≡◌, ℕ, ◌+◌, ◌-◌, ◌≤◌, List, [], ◌∷◌, length, take, drop, Option, Some, None, slice_get, option_and_then, IsSome, IfSome, nat_le, if◌then◌else◌}
 use Rattle.std.specs.List.{AllByRecursion}
 use Rattle.fare_record.specs.Values.{RecordValue, AckValue}
 use Rattle.fare_record.specs.Lanes.{part}
@@ -8,6 +8,8 @@ use Rattle.fare_scheme.specs.Words.{owner_of, station_of, buffer_of, position_of
 use Rattle.fare_device.specs.DeviceWords.{DeviceValue}
 use Rattle.fare_frame.specs.Grammar.{frame_bytes, IsFrame}
 use Rattle.fare_frame.specs.declared.frame.Frame.TheVariants as frame
+use Rattle.fare_store.specs.OutboxWords.{OutboxValue}
+use Rattle.fare_store.specs.LedgerWords.{LedgerValue, IsOfScheme}
 use Rattle.fare_world.specs.System.{Packet, Tapped, Acked, Arrived, Tap_of, Answer, Ack_of, Routed, Lane_of, DeviceState, OwnerState, LaneState, System, arrived_of}
 use Rattle.fare_world.specs.Steps.{next_at}
 
@@ -49,13 +51,19 @@ IsAnswer sc devices (Ack_of device upto) = IsAck sc devices device upto
 abbrev pub IsArrived : (ℕ → DeviceState) → Arrived → Type 0
 IsArrived devices (Tap_of device link) = IsPlace (devices device).taps link
 
--- the lane number of a tap that the outbox has had
-abbrev pub IsRouted : (ℕ → DeviceState) → ℕ → Routed → Type 0
-IsRouted devices owner (Lane_of device lane) = IsPlace (arrived_of owner (devices device)) lane
+-- the lane number of a tap that was forwarded
+abbrev pub IsRouted : (ℕ → LaneState) → Routed → Type 0
+IsRouted lanes (Lane_of device lane) = (1 ≤ lane) × (lane ≤ (lanes device).forward)
 
-pub record IsOwner (devices : ℕ → DeviceState) (owner : ℕ) (w : OwnerState) : Type 0 where
-  pub queue : AllByRecursion (IsRouted devices owner) w.queue
-  pub hand : IfSome w.hand (IsRouted devices owner)
+pub record IsOwner (lanes : ℕ → LaneState) (w : OwnerState) : Type 0 where
+  pub queue : AllByRecursion (IsRouted lanes) w.queue
+  pub hand : IfSome w.hand (IsRouted lanes)
+
+-- what was pruned was taken, what was taken was forwarded, and what was forwarded was stored
+pub record IsLane (arrived : ℕ) (l : LaneState) : Type 0 where
+  pub gone : l.gone ≤ l.took
+  pub took : l.took ≤ l.forward
+  pub forward : l.forward ≤ arrived
 
 pub record IsSystem (sc : SchemeValue) (s : System) : Type 0 where
   pub devices : (device : ℕ) → IsDevice sc device (s.devices device)
@@ -63,10 +71,14 @@ pub record IsSystem (sc : SchemeValue) (s : System) : Type 0 where
   pub inbox : AllByRecursion (IsArrived s.devices) s.inbox
   pub hand : IfSome s.hand (IsArrived s.devices)
   pub lines : (station : ℕ) → AllByRecursion (IsAnswer sc s.devices) (s.lines station)
-  pub owners : (owner : ℕ) → IsOwner s.devices owner (s.owners owner)
-  pub took : (owner device : ℕ) → (s.lanes owner device).took ≤ length (arrived_of owner (s.devices device))  -- what was taken was stored
+  pub owners : (owner : ℕ) → IsOwner (s.lanes owner) (s.owners owner)
+  pub lanes : (owner device : ℕ) → IsLane (length (arrived_of owner (s.devices device))) (s.lanes owner device)
 
 -- THE PARTS
+-- the row of a lane number, from 1, where the lane was pruned up to one
+abbrev pub row_at : ℕ → List RecordValue → ℕ → Option RecordValue
+row_at gone rows lane = if nat_le lane gone then None else slice_get rows (lane - 1)
+
 -- the entry of an id, by its position
 abbrev pub entry : {A : Type 0} → Option ℕ → List A → Option A
 entry position xs = option_and_then (slice_get xs) position
@@ -78,8 +90,7 @@ pub record StationShape : Type 0 where
 
 -- an owner's side of a world, with what its ledger holds, by device
 pub record OwnerShape : Type 0 where
-  pub owner : ℕ
-  pub taken : ℕ → List RecordValue
+  pub ledger : LedgerValue
   pub queue : List RecordValue
   pub hand : Option RecordValue
   pub cursors : ℕ → Option ℕ
@@ -91,8 +102,7 @@ pub record Shape : Type 0 where
   pub air : List (List ℕ)  -- the bytes of each packet
   pub inbox : List RecordValue
   pub hand : Option RecordValue
-  pub upto : ℕ → ℕ
-  pub rows : ℕ → ℕ → List RecordValue
+  pub outbox : OutboxValue
   pub owners : ℕ → Option OwnerShape
 
 -- the two lists match, one by one
@@ -152,9 +162,15 @@ pub record IsStationOf (sc : SchemeValue) (devices : ℕ → DeviceState) (stati
   pub nexts : (device : ℕ) → x.nexts device ≡ next_at sc devices station device
   pub waits : Each2 IsAnswerOf line x.line
 
-pub record IsOwnerOf (devices : ℕ → DeviceState) (owner : ℕ) (w : OwnerState) (lanes : ℕ → LaneState) (x : OwnerShape) : Type 0 where
-  pub id : x.owner ≡ owner
-  pub taken : (device : ℕ) → x.taken device ≡ take (lanes device).took (part owner (devices device).taps)
+-- a ledger is the owner's, of this scheme, and no day is closed
+pub record IsLedgerOf (sc : SchemeValue) (owner : ℕ) (v : LedgerValue) : Type 0 where
+  pub id : v.owner ≡ owner
+  pub made : IsOfScheme sc v
+  pub closed : (device : ℕ) → v.closed device ≡ 0
+
+pub record IsOwnerOf (sc : SchemeValue) (devices : ℕ → DeviceState) (owner : ℕ) (w : OwnerState) (lanes : ℕ → LaneState) (x : OwnerShape) : Type 0 where
+  pub ledger : IsLedgerOf sc owner x.ledger
+  pub taken : (device : ℕ) → x.ledger.taken device ≡ take (lanes device).took (part owner (devices device).taps)
   pub queue : Each2 (IsRoutedOf devices owner) w.queue x.queue
   pub hand : Both (IsRoutedOf devices owner) w.hand x.hand
   pub cursors : (device n : ℕ) → x.cursors device ≡ Some n → n ≡ (lanes device).forward
@@ -166,6 +182,8 @@ pub record Shows (sc : SchemeValue) (h : Shape) (s : System) : Type 0 where
   pub air : Each2 (IsPacketOf s.devices) s.air h.air
   pub inbox : Each2 (IsArrivedOf s.devices) s.inbox h.inbox
   pub hand : Both (IsArrivedOf s.devices) s.hand h.hand
-  pub upto : (device : ℕ) → h.upto device ≡ (s.devices device).upto
-  pub rows : (owner device : ℕ) → h.rows owner device ≡ arrived_of owner (s.devices device)
-  pub owners : (owner : ℕ) → IfSome (h.owners owner) (IsOwnerOf s.devices owner (s.owners owner) (s.lanes owner))
+  pub upto : (device : ℕ) → h.outbox.upto device ≡ (s.devices device).upto
+  pub rows : (owner device lane : ℕ) → h.outbox.rows owner device lane ≡ row_at (s.lanes owner device).gone (arrived_of owner (s.devices device)) lane
+  pub held : h.outbox.row_count ≡ s.held
+  pub stated : (owner device day : ℕ) → h.outbox.stated owner device day ≡ None
+  pub owners : (owner : ℕ) → IfSome (h.owners owner) (IsOwnerOf sc s.devices owner (s.owners owner) (s.lanes owner))

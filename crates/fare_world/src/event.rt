@@ -47,6 +47,11 @@ pub enum Event {
     Take {
         owner: OwnerId,
     },
+    /// The outbox loses the rows of a device that an owner's ledger has taken.
+    Prune {
+        owner: OwnerId,
+        device: DeviceId,
+    },
     /// A station accepts next, from a device, the tap after those that the outbox has had.
     Resume {
         device: DeviceId,
@@ -61,6 +66,14 @@ pub enum Event {
     },
     /// The writer starts again, with nothing in its hand.
     RestartWriter,
+    /// An owner starts again: its lane queue and its hand are empty, and its forwarder goes on behind what its
+    /// ledger has.
+    RestartOwner {
+        owner: OwnerId,
+    },
+    /// The hub starts again: inbox, writer's hand and acknowledgement lines are empty, every owner starts
+    /// again, and every device is resumed.
+    RestartHub,
     /// Asks how many taps of a device the outbox has had.
     Upto {
         device: DeviceId,

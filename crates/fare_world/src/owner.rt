@@ -1,13 +1,69 @@
-use crate::ledger::Ledger;
-use fare_record::Record;
-use std::collections::VecDeque;
+ghost use Rattle.std.specs.Prelude.{◌≡◌, ℕ, [], None, IsSome, length, option_map};
+ghost use Rattle.circular_buffer.specs.Buffer.{buffer};
+ghost use Rattle.fare_route.specs.Routing.{cursor_of};
+ghost use Rattle.fare_scheme.specs.Words.{position_of_device};
+ghost use Rattle.fare_store.specs.Standing.{Reads};
+ghost use Rattle.fare_world.specs.Rooms.{AreStandings, lane_of_cursor, taken_at};
 
-/// An owner's side of the hub: its ledger, its lane queue, the row in its hand, and for each device, in order
-/// of registration, the greatest lane number that was forwarded.
+use circular_buffer::HeapCircularBuffer;
+use fare_record::{Day, Record};
+use fare_route::Forwarder;
+use fare_scheme::Scheme;
+use fare_store::{Fault, Ledger};
+
+/// An owner's side of the hub: its ledger, its lane queue, the row in its hand, and the forwarder that feeds
+/// the queue.
 #[derive(Debug, Drop)]
-pub struct Owner {
-    pub ledger: Ledger,
-    pub queue: VecDeque<Record>,
+pub struct Owner<L> {
+    pub ledger: L,
+    pub queue: HeapCircularBuffer<Record>,
     pub hand: Option<Record>,
-    pub cursors: Vec<u64>,
+    pub forwarder: Forwarder,
+    /// Where the ledger stood when it was last asked: for each device, in order of registration, how many of
+    /// its taps are taken and its last closed day. A restart asks before it changes anything.
+    pub standings: Vec<(u64, Option<Day>)>,
+}
+
+impl<L: Ledger + Drop> Owner<L> {
+    /// Asks the ledger where it stands.
+    pub fn ask(&mut self, scheme: &Scheme) -> Result<(), Fault>
+        requires { length self.old.standings.items ≡ length scheme.now.devices }
+        ensures read { Reads (L.standing self.old.ledger) (L.standing self.new.ledger) (λ _. AreStandings scheme.now (L.standing self.old.ledger).value self.new.standings.items) result }
+        ensures count { length self.new.standings.items ≡ length self.old.standings.items }
+        ensures queue { self.new.queue ≡ self.old.queue }
+        ensures hand { self.new.hand ≡ self.old.hand }
+        ensures forwarder { self.new.forwarder ≡ self.old.forwarder }
+    {
+        for place in 0..scheme.device_count() {
+            let Some(device) = scheme.device_at(place) else {
+                unreachable!()
+            };
+            let taken = self.ledger.count(device)?;
+            let closed = self.ledger.closed_through(device)?;
+            self.standings[place] = (taken, closed);
+        }
+        Ok(())
+    }
+
+    /// Starts again behind what the ledger had when it was last asked, with nothing in the queue and the hand.
+    pub fn restart(&mut self, scheme: &Scheme)
+        requires { length self.old.standings.items ≡ length scheme.now.devices }
+        ensures ledger { self.new.ledger ≡ self.old.ledger }
+        ensures standings { self.new.standings ≡ self.old.standings }
+        ensures queue { self.new.queue ≡ buffer [] self.old.queue.capacity }
+        ensures hand { self.new.hand ≡ None }
+        ensures owner { self.new.forwarder.owner ≡ self.old.forwarder.owner }
+        ensures resumed { (device : ℕ) → IsSome (position_of_device scheme.now device) → lane_of_cursor self.new.forwarder device ≡ option_map (λ _. taken_at scheme.now self.old.standings.items device) (lane_of_cursor self.old.forwarder device) }
+        ensures others { (device : ℕ) → position_of_device scheme.now device ≡ None → lane_of_cursor self.new.forwarder device ≡ lane_of_cursor self.old.forwarder device }
+    {
+        self.queue.clear();
+        self.hand = None;
+        for place in 0..scheme.device_count() {
+            let Some(device) = scheme.device_at(place) else {
+                unreachable!()
+            };
+            let standing = self.standings[place];
+            self.forwarder.resume(scheme, device, standing.0, standing.1);
+        }
+    }
 }

@@ -56,12 +56,22 @@ pub enum Refusal {
     Ahead,
     /// The device has numbered no tap of the acknowledged link.
     AckAhead,
+    /// The queue that the item goes to is full.
+    Busy,
     /// The hand holds an item already.
     HandFull,
     /// The item was stored or taken before.
     Duplicate,
     /// An earlier number is to be stored or taken first.
     Gap,
+    /// Another row of that lane number is held.
+    Conflict,
+    /// As many rows are held as there may be.
+    OutboxFull,
+    /// The tap is of another owner, or of a device that is not the scheme's.
+    NotMine,
+    /// The tap is of a day that the owner has closed.
+    AfterClose,
 }
 
 /// What an event, or a line of a trace, is answered.
@@ -131,4 +141,6 @@ pub enum Reply {
     Upto(u64),
     /// How many taps of the device the owner's ledger holds.
     Count(u64),
+    /// So many rows left the outbox.
+    Pruned(u64),
 }

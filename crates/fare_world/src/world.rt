@@ -1,17 +1,18 @@
 ghost use Rattle.std.specs.Prelude.{◌≡◌, IfOk, IfErr, length};
 ghost use Rattle.fare_world.specs.System.{start};
 ghost use Rattle.fare_world.specs.Rooms.{HasRooms};
+ghost use Rattle.fare_store.specs.LedgerWords.{LedgerValue};
 
-use crate::outbox::Outbox;
 use crate::owner::Owner;
 use crate::packet::Packet;
 use crate::station::Station;
 use crate::{Event, Reply};
+use circular_buffer::HeapCircularBuffer;
 use fare_device::Device;
 use fare_record::Record;
 use fare_scheme::Scheme;
-use std::alloc::{AllocError, AllocFailed, Global};
-use std::collections::VecDeque;
+use fare_store::{Fault, Ledger, Outbox};
+use std::alloc::Global;
 use thiserror::Error;
 
 mod acknowledging;
@@ -22,62 +23,72 @@ mod making;
 mod restarting;
 mod tapping;
 
-/// Why an event, or the making of a world, failed.
+/// Why no world was made, in the order in which this is tested.
 #[derive(Clone, Copy, PartialEq, Eq, Debug, Error)]
-pub enum Fault {
+pub enum WorldFault {
+    /// There is not one ledger for each owner of the scheme, in order.
+    #[error("not one ledger for each owner")]
+    WrongLedgers,
+    /// A store is not empty.
+    #[error("a store is not empty")]
+    NotEmpty,
     /// There was no memory.
     #[error("no memory")]
     Memory,
+    /// A store failed.
+    #[error("store failed")]
+    Store,
 }
 
-impl From<AllocError> for Fault {
-    fn from(_: AllocError) -> Fault {
-        Fault::Memory
-    }
-}
-
-impl<T: Drop> From<AllocFailed<T>> for Fault {
-    fn from(_: AllocFailed<T>) -> Fault {
-        Fault::Memory
-    }
+/// What no world was made of.
+#[derive(Drop)]
+pub struct Parts<O, L> {
+    pub scheme: Scheme,
+    pub outbox: O,
+    pub ledgers: Vec<L>,
 }
 
 /// The parts of a scheme at work: its devices, the air between them and their stations, each station with
 /// its collector and acknowledgement line, the inbox, the writer, the outbox, and each owner with its lane
 /// queue and ledger.
 #[derive(Drop)]
-pub struct World {
+pub struct World<O, L> {
     alloc: Global,
     scheme: Scheme,
     devices: Vec<Device>,
     stations: Vec<Station>,
     air: Vec<Packet>,
-    inbox: VecDeque<Record>,
+    inbox: HeapCircularBuffer<Record>,
     hand: Option<Record>,
-    outbox: Outbox,
-    owners: Vec<Owner>,
-    ghost rooms: { HasRooms scheme devices.items stations.items owners.items },
+    outbox: O,
+    owners: Vec<Owner<L>>,
+    // How far the outbox had each device, in order of registration, when it was last asked for all: a restart
+    // asks before it changes anything.
+    uptos: Vec<u64>,
+    ghost rooms: { HasRooms scheme devices.items stations.items inbox.capacity owners.items (length uptos.items) },
 }
 
 /// A run that a fault stopped: the world before the event that failed, and the replies so far.
 #[derive(Drop)]
-pub struct Stopped {
+pub struct Stopped<O, L> {
     /// The world as it was before that event.
-    pub world: World,
+    pub world: World<O, L>,
     /// The replies to the events before it.
     pub replies: Vec<Reply>,
     /// Why it failed.
     pub fault: Fault,
 }
 
-impl World {
+impl<O: Outbox + Drop, L: Ledger + Drop> World<O, L> {
     ghost use Rattle.std.specs.List.{AllByRecursion};
     ghost use Rattle.fare_world.specs.Headline.{IsOrderly};
-    ghost use Rattle.fare_world.specs.Whole.{StandsAt, Applied, HasRun, TakenInOrder, KeepsEachTap};
+    ghost use Rattle.fare_world.specs.Whole.{AreLive, StandsAt, Applied, HasRun, WasStopped, TakenInOrder};
 
-    /// One event: what it changes, and its reply. `Memory` where there was none; then the world is as it was.
+    /// One event: what it changes, and its reply. `Memory` where there was none, which only an event can want
+    /// that makes something grow or asks a store, and `Store` where a store failed; then the world is as it
+    /// was.
     pub fn apply(&mut self, event: &Event) -> Result<Reply, Fault>
-        ensures { Applied self.old self.new event.now result }
+        ensures { Applied O.standing L.standing self.old self.new event.now result }
     {
         match *event {
             Event::Tap {
@@ -85,21 +96,24 @@ impl World {
                 product,
                 token,
                 moment,
-            } => self.tap(device, product, token, moment),
+            } => Ok(self.tap(device, product, token, moment)),
             Event::Send { device } => self.send(device),
-            Event::Rewind { device } => self.rewind(device),
+            Event::Rewind { device } => Ok(self.rewind(device)),
             Event::Arrive { packet } => self.arrive(packet),
-            Event::Draw => self.draw(),
+            Event::Draw => Ok(self.draw()),
             Event::Store => self.store(),
             Event::Ack { device } => self.ack(device),
             Event::Answer { station } => self.answer(station),
             Event::Forward { owner, device } => self.forward(owner, device),
-            Event::Fetch { owner } => self.fetch(owner),
+            Event::Fetch { owner } => Ok(self.fetch(owner)),
             Event::Take { owner } => self.take(owner),
+            Event::Prune { owner, device } => self.prune(owner, device),
             Event::Resume { device } => self.resume(device),
-            Event::RestartDevice { device } => self.restart_device(device),
+            Event::RestartDevice { device } => Ok(self.restart_device(device)),
             Event::RestartStation { station } => self.restart_station(station),
-            Event::RestartWriter => self.restart_writer(),
+            Event::RestartWriter => Ok(self.restart_writer()),
+            Event::RestartOwner { owner } => self.restart_owner(owner),
+            Event::RestartHub => self.restart_hub(),
             Event::Upto { device } => self.upto(device),
             Event::Count { owner, device } => self.count(owner, device),
         }
@@ -111,21 +125,22 @@ impl World {
     /// replies tell; each tap so numbered is in the ledger, in the outbox behind what the ledger has, or in
     /// the device behind what the outbox has had, so none is lost; and no reply says that a packet is a
     /// stranger's, misrouted or ahead.
-    pub fn run(mut self, alloc: Global, events: &[Event]) -> Result<(World, Vec<Reply>), Stopped>
-        ensures ran { IfOk result (λ r. HasRun self r.0 events.now r.1.items) }
+    pub fn run(
+        mut self,
+        events: &[Event],
+    ) -> Result<(World<O, L>, Vec<Reply>), Stopped<O, L>>
+        ensures ran { IfOk result (λ r. HasRun O.standing L.standing self r.0 events.now r.1.items) }
         ensures whole { IfOk result (λ r. length r.1.items ≡ length events.now) }
-        ensures stopped { IfErr result (λ stop. HasRun self stop.world events.now stop.replies.items) }
-        ensures taken { IfOk result (λ r. StandsAt self (start self.scheme) → TakenInOrder r.0 events.now r.1.items) }
-        ensures taken_before { IfErr result (λ stop. StandsAt self (start self.scheme) → TakenInOrder stop.world events.now stop.replies.items) }
-        ensures kept { IfOk result (λ r. StandsAt self (start self.scheme) → KeepsEachTap r.0 events.now r.1.items) }
-        ensures kept_before { IfErr result (λ stop. StandsAt self (start self.scheme) → KeepsEachTap stop.world events.now stop.replies.items) }
-        ensures orderly { IfOk result (λ r. StandsAt self (start self.scheme) → AllByRecursion IsOrderly r.1.items) }
-        ensures orderly_before { IfErr result (λ stop. StandsAt self (start self.scheme) → AllByRecursion IsOrderly stop.replies.items) }
+        ensures stopped { IfErr result (λ stop. WasStopped O.standing L.standing self stop.world events.now stop.replies.items stop.fault) }
+        ensures taken { IfOk result (λ r. StandsAt O.standing L.standing self (start self.scheme) → AreLive O.standing L.standing r.0 → TakenInOrder L.standing r.0 events.now r.1.items) }
+        ensures taken_before { IfErr result (λ stop. StandsAt O.standing L.standing self (start self.scheme) → AreLive O.standing L.standing stop.world → TakenInOrder L.standing stop.world events.now stop.replies.items) }
+        ensures orderly { IfOk result (λ r. StandsAt O.standing L.standing self (start self.scheme) → AreLive O.standing L.standing r.0 → AllByRecursion IsOrderly r.1.items) }
+        ensures orderly_before { IfErr result (λ stop. StandsAt O.standing L.standing self (start self.scheme) → AreLive O.standing L.standing stop.world → AllByRecursion IsOrderly stop.replies.items) }
     {
-        let Ok(mut replies) = Vec::with_capacity(alloc, events.len()) else {
+        let Ok(mut replies) = Vec::with_capacity(self.alloc, events.len()) else {
             return Err(Stopped {
+                replies: Vec::new(self.alloc),
                 world: self,
-                replies: Vec::new(alloc),
                 fault: Fault::Memory,
             });
         };

@@ -6,15 +6,16 @@ ghost use Rattle.fare_world.specs.Whole.{Applied, Does};
 ghost use Rattle.fare_world.specs.declared.event.Event.TheVariants as event;
 
 use crate::packet::Packet;
-use crate::world::{Fault, World};
+use crate::world::World;
 use crate::{Refusal, Reply};
 use fare_frame::Frame;
 use fare_record::{Ack, DeviceId, StationId};
+use fare_store::{Fault, Ledger, Outbox};
 
-impl World {
+impl<O: Outbox + Drop, L: Ledger + Drop> World<O, L> {
     // A device hears an acknowledgement.
     pub(super) fn hear(&mut self, ack: Ack) -> Reply
-        ensures { Does self.old self.new (λ s. IsAck self.old.scheme s.devices ack.device ack.upto) (λ s. comes self.old.scheme s (Some (Acked ack.device ack.upto))) result }
+        ensures { Does O.standing L.standing self.old self.new (λ s. IsAck self.old.scheme s.devices ack.device ack.upto) (λ s. comes self.old.scheme s (Some (Acked ack.device ack.upto))) result }
     {
         let Some(place) = self.scheme.device_position(ack.device()) else {
             return Reply::Refused(Refusal::UnknownDevice);
@@ -27,19 +28,26 @@ impl World {
 
     // The acknowledgement line of a device's station gains how many of its taps the outbox has had.
     pub(super) fn ack(&mut self, device: DeviceId) -> Result<Reply, Fault>
-        ensures { Applied self.old self.new (event.Ack device) result }
+        ensures { Applied O.standing L.standing self.old self.new (event.Ack device) result }
     {
         let Some(place) = self.station_place(device) else {
             return Ok(Reply::Refused(Refusal::UnknownDevice));
         };
-        let upto = self.outbox.upto(device);
-        self.stations[place].line.push_back(Ack::new(device, upto))?;
+        let line = &self.stations[place].line;
+        if line.len() >= line.capacity() {
+            return Ok(Reply::Refused(Refusal::Busy));
+        }
+        let upto = self.outbox.upto(device)?;
+        let pushed = self.stations[place].line.try_push_back(Ack::new(device, upto));
+        if pushed.is_err() {
+            unreachable!()
+        }
         Ok(Reply::Acknowledged(upto))
     }
 
     // The front of a station's acknowledgement line goes into the air.
     pub(super) fn answer(&mut self, station: StationId) -> Result<Reply, Fault>
-        ensures { Applied self.old self.new (event.Answer station) result }
+        ensures { Applied O.standing L.standing self.old self.new (event.Answer station) result }
     {
         let Some(place) = self.scheme.station_position(station) else {
             return Ok(Reply::Refused(Refusal::UnknownStation));

@@ -1,31 +1,31 @@
-ghost use Rattle.std.specs.Prelude.{◌≡◌, ◌<◌, None, Some, IfNone, IfSome, IfOk, length, option_copied};
+ghost use Rattle.std.specs.Prelude.{◌≡◌, ◌<◌, None, Some, IfNone, IfSome, IfOk, IfErr, IsSome, length, option_copied};
 ghost use Rattle.fare_scheme.specs.Words.{station_of};
 ghost use Rattle.fare_world.specs.System.{Tapped};
 ghost use Rattle.fare_world.specs.Steps.{comes, refusal_of};
 ghost use Rattle.fare_world.specs.Packets.{bytes_at, IsPacketRead};
 ghost use Rattle.fare_world.specs.Shown.{IsAt};
 ghost use Rattle.fare_world.specs.Rooms.{HasStation};
-ghost use Rattle.fare_world.specs.Whole.{Applied, Done};
+ghost use Rattle.fare_world.specs.Whole.{Applied, Does, IsStepped};
 ghost use Rattle.fare_world.specs.declared.event.Event.TheVariants as event;
 
-use crate::outbox::StoreRefusal;
 use crate::packet::Packet;
-use crate::world::{Fault, World};
+use crate::world::World;
 use crate::{Refusal, Reply};
 use fare_collector::CollectRefusal;
 use fare_frame::Frame;
 use fare_record::{DeviceId, Record};
+use fare_store::{Fault, Ledger, Outbox, Refused, StoreFault};
 
-impl World {
+impl<O: Outbox + Drop, L: Ledger + Drop> World<O, L> {
     // A packet, numbered from 1, comes to where it was sent.
     pub(super) fn arrive(&mut self, packet: u64) -> Result<Reply, Fault>
-        ensures { Applied self.old self.new (event.Arrive packet) result }
+        ensures { Applied O.standing L.standing self.old self.new (event.Arrive packet) result }
     {
         let Some(frame) = self.frame_in(packet)? else {
             return Ok(Reply::Refused(Refusal::NoPacket));
         };
         if let Some(tapped) = frame.tapped() {
-            return self.collect(tapped);
+            return Ok(self.collect(tapped));
         }
         if let Some(ack) = frame.acked() {
             return Ok(self.hear(ack));
@@ -34,21 +34,21 @@ impl World {
     }
 
     // A tap comes to the station of its device.
-    fn collect(&mut self, tapped: Record) -> Result<Reply, Fault>
-        ensures { Done self.old self.new (λ s. IsAt (s.devices tapped.device).taps tapped.link tapped) (λ s. comes self.old.scheme s (Some (Tapped tapped.device tapped.link))) result }
+    fn collect(&mut self, tapped: Record) -> Reply
+        ensures { Does O.standing L.standing self.old self.new (λ s. IsAt (s.devices tapped.device).taps tapped.link tapped) (λ s. comes self.old.scheme s (Some (Tapped tapped.device tapped.link))) result }
     {
         let Some(place) = self.station_place(tapped.device()) else {
-            return Ok(Reply::Refused(Refusal::Stranger));
+            return Reply::Refused(Refusal::Stranger);
         };
-        // The room comes first, since an accepted tap has its place in the inbox.
-        self.inbox.reserve(1)?;
-        if let Err(refusal) = self.stations[place].collector.accept(&self.scheme, &tapped) {
-            return Ok(Reply::Refused(named(refusal)));
+        let collector = &mut self.stations[place].collector;
+        if let Err(refusal) = collector.accept(&self.scheme, &tapped) {
+            return Reply::Refused(named(refusal));
         }
-        if self.inbox.push_back(tapped).is_err() {
-            unreachable!()
+        if self.inbox.try_push_back(tapped).is_err() {
+            collector.unaccept(tapped.device());
+            return Reply::Refused(Refusal::Busy);
         }
-        Ok(Reply::Accepted)
+        Reply::Accepted
     }
 
     // The position of a device's station; None where the device is not registered.
@@ -66,7 +66,8 @@ impl World {
 
     // The frame in the packet of a number, from 1; None where the air has no such packet.
     fn frame_in(&self, packet: u64) -> Result<Option<Frame>, Fault>
-        ensures { IfOk result (λ read. IsPacketRead (bytes_at self.now.air.items packet) read) }
+        ensures read { IfOk result (λ read. IsPacketRead (bytes_at self.now.air.items packet) read) }
+        ensures memory { IfErr result (λ fault. (fault ≡ Fault.Memory) × IsSome (bytes_at self.now.air.items packet)) }
     {
         let Some(packet) = self.packet(packet) else {
             return Ok(None);
@@ -83,40 +84,48 @@ impl World {
     }
 
     // The front of the inbox goes to the writer's hand.
-    pub(super) fn draw(&mut self) -> Result<Reply, Fault>
-        ensures { Applied self.old self.new event.Draw result }
+    pub(super) fn draw(&mut self) -> Reply
+        ensures { IsStepped O.standing L.standing self.old self.new event.Draw result }
     {
         if self.hand.is_some() {
-            return Ok(Reply::Refused(Refusal::HandFull));
+            return Reply::Refused(Refusal::HandFull);
         }
         let Some(row) = self.inbox.pop_front() else {
-            return Ok(Reply::Empty);
+            return Reply::Empty;
         };
         self.hand = Some(row);
-        Ok(Reply::Drawn {
+        Reply::Drawn {
             device: row.device(),
             link: row.link(),
-        })
+        }
     }
 
     // The writer's hand goes to the outbox.
     pub(super) fn store(&mut self) -> Result<Reply, Fault>
-        ensures { Applied self.old self.new event.Store result }
+        ensures { Applied O.standing L.standing self.old self.new event.Store result }
     {
         let Some(row) = self.hand else {
             return Ok(Reply::Idle);
         };
-        let reply = match self.outbox.store(&row) {
-            Ok(()) => Reply::Stored {
-                device: row.device(),
-                link: row.link(),
-            },
-            Err(StoreRefusal::Duplicate) => Reply::Refused(Refusal::Duplicate),
-            Err(StoreRefusal::Gap) => Reply::Refused(Refusal::Gap),
-            Err(StoreRefusal::Memory) => return Err(Fault::Memory),
+        let why = match self.outbox.store(&row) {
+            Ok(()) => {
+                self.hand = None;
+                return Ok(Reply::Stored {
+                    device: row.device(),
+                    link: row.link(),
+                });
+            }
+            Err(Refused::Failed(fault)) => return Err(fault),
+            Err(Refused::Because(why)) => why,
+        };
+        let refusal = match why {
+            StoreFault::OutboxFull => return Ok(Reply::Refused(Refusal::OutboxFull)),
+            StoreFault::Duplicate => Refusal::Duplicate,
+            StoreFault::Gap => Refusal::Gap,
+            StoreFault::Conflict => Refusal::Conflict,
         };
         self.hand = None;
-        Ok(reply)
+        Ok(Reply::Refused(refusal))
     }
 }
 

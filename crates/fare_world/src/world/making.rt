@@ -1,42 +1,13 @@
-ghost use Rattle.std.specs.Prelude.{◌≡◌, IfOk};
-ghost use Rattle.fare_world.specs.System.{start};
-ghost use Rattle.fare_world.specs.Fresh.{AreFreshDevices, AreFreshStations, AreFreshOwners};
-ghost use Rattle.fare_world.specs.Whole.{StandsAt};
+ghost use Rattle.std.specs.Prelude.{IfOk};
+ghost use Rattle.fare_world.specs.Fresh.{AreFreshDevices, AreFreshStations};
 
-use crate::ledger::Ledger;
-use crate::outbox::Outbox;
-use crate::owner::Owner;
 use crate::station::Station;
-use crate::world::{Fault, World};
+use fare_store::Fault;
 use fare_collector::{Collector, CollectorFault};
 use fare_device::{Device, DeviceFault};
+use circular_buffer::HeapCircularBuffer;
 use fare_scheme::Scheme;
 use std::alloc::Global;
-use std::collections::VecDeque;
-
-impl World {
-    /// A new world: nothing was numbered, sent, stored or taken, and each device's open day is the scheme's
-    /// first. `Memory` where there was none.
-    pub fn new(alloc: Global, scheme: Scheme) -> Result<World, Fault>
-        ensures scheme { IfOk result (λ world. world.scheme ≡ scheme) }
-        ensures start { IfOk result (λ world. StandsAt world (start scheme)) }
-    {
-        let devices = fresh_devices(alloc, &scheme)?;
-        let stations = fresh_stations(alloc, &scheme)?;
-        let owners = fresh_owners(alloc, &scheme)?;
-        Ok(World {
-            alloc,
-            scheme,
-            devices,
-            stations,
-            air: Vec::new(alloc),
-            inbox: VecDeque::new(alloc),
-            hand: None,
-            outbox: Outbox::new(alloc),
-            owners,
-        })
-    }
-}
 
 // The scheme's devices, none of which has numbered anything.
 fn fresh_devices(alloc: Global, scheme: &Scheme) -> Result<Vec<Device>, Fault>
@@ -60,6 +31,7 @@ fn fresh_devices(alloc: Global, scheme: &Scheme) -> Result<Vec<Device>, Fault>
 fn fresh_stations(alloc: Global, scheme: &Scheme) -> Result<Vec<Station>, Fault>
     ensures { IfOk result (λ stations. AreFreshStations scheme.now stations.items) }
 {
+    let room = scheme.inbox_capacity() as usize;
     let mut stations = Vec::new(alloc);
     for place in 0..scheme.station_count() {
         let Some(id) = scheme.station_at(place) else {
@@ -68,7 +40,7 @@ fn fresh_stations(alloc: Global, scheme: &Scheme) -> Result<Vec<Station>, Fault>
         match Collector::new(alloc, scheme, id) {
             Ok(collector) => stations.push(Station {
                 collector,
-                line: VecDeque::new(alloc),
+                line: HeapCircularBuffer::with_capacity(alloc, room)?,
             })?,
             Err(CollectorFault::Memory) => return Err(Fault::Memory),
             Err(CollectorFault::UnknownStation) => unreachable!(),
@@ -77,22 +49,3 @@ fn fresh_stations(alloc: Global, scheme: &Scheme) -> Result<Vec<Station>, Fault>
     Ok(stations)
 }
 
-// The scheme's owners, none of which has fetched or taken anything.
-fn fresh_owners(alloc: Global, scheme: &Scheme) -> Result<Vec<Owner>, Fault>
-    ensures { IfOk result (λ owners. AreFreshOwners scheme.now owners.items) }
-{
-    let mut owners = Vec::new(alloc);
-    for place in 0..scheme.owner_count() {
-        let Some(id) = scheme.owner_at(place) else {
-            unreachable!()
-        };
-        let cursors = vec![in alloc; 0; scheme.device_count()]?;
-        owners.push(Owner {
-            ledger: Ledger::new(alloc, id),
-            queue: VecDeque::new(alloc),
-            hand: None,
-            cursors,
-        })?;
-    }
-    Ok(owners)
-}

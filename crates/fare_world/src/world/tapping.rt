@@ -1,14 +1,15 @@
-ghost use Rattle.fare_world.specs.Whole.{Applied};
+ghost use Rattle.fare_world.specs.Whole.{Applied, IsStepped};
 ghost use Rattle.fare_world.specs.declared.event.Event.TheVariants as event;
 
 use crate::packet::Packet;
-use crate::world::{Fault, World};
+use crate::world::World;
 use crate::{Refusal, Reply};
 use fare_day::traffic_day;
 use fare_device::TapRefusal;
 use fare_record::{DeviceId, Moment, ProductId, Token};
+use fare_store::{Fault, Ledger, Outbox};
 
-impl World {
+impl<O: Outbox + Drop, L: Ledger + Drop> World<O, L> {
     // A tap on a device.
     pub(super) fn tap(
         &mut self,
@@ -16,52 +17,55 @@ impl World {
         product: ProductId,
         token: Token,
         moment: Moment,
-    ) -> Result<Reply, Fault>
-        ensures { Applied self.old self.new (event.Tap device product token moment) result }
+    ) -> Reply
+        ensures { IsStepped O.standing L.standing self.old self.new (event.Tap device product token moment) result }
     {
         let Some(place) = self.scheme.device_position(device) else {
-            return Ok(Reply::Refused(Refusal::UnknownDevice));
+            return Reply::Refused(Refusal::UnknownDevice);
         };
         let Ok(day) = traffic_day(self.scheme.zone(), moment) else {
-            return Ok(Reply::Refused(Refusal::BadMoment));
+            return Reply::Refused(Refusal::BadMoment);
         };
         match self.devices[place].tap(&self.scheme, product, token, moment, day) {
-            Ok(row) => Ok(Reply::Recorded {
+            Ok(row) => Reply::Recorded {
                 link: row.link(),
                 lane: row.lane(),
-            }),
-            Err(TapRefusal::UnknownProduct) => Ok(Reply::Refused(Refusal::UnknownProduct)),
-            Err(TapRefusal::DayClosed) => Ok(Reply::Refused(Refusal::DayClosed)),
-            Err(TapRefusal::DayAhead) => Ok(Reply::Refused(Refusal::DayAhead)),
-            Err(TapRefusal::NumbersSpent) => Ok(Reply::Refused(Refusal::NumbersSpent)),
-            Err(TapRefusal::BufferFull) => Ok(Reply::Refused(Refusal::BufferFull)),
+            },
+            Err(TapRefusal::UnknownProduct) => Reply::Refused(Refusal::UnknownProduct),
+            Err(TapRefusal::DayClosed) => Reply::Refused(Refusal::DayClosed),
+            Err(TapRefusal::DayAhead) => Reply::Refused(Refusal::DayAhead),
+            Err(TapRefusal::NumbersSpent) => Reply::Refused(Refusal::NumbersSpent),
+            Err(TapRefusal::BufferFull) => Reply::Refused(Refusal::BufferFull),
         }
     }
 
     // A device goes back to its first tap that waits.
-    pub(super) fn rewind(&mut self, device: DeviceId) -> Result<Reply, Fault>
-        ensures { Applied self.old self.new (event.Rewind device) result }
+    pub(super) fn rewind(&mut self, device: DeviceId) -> Reply
+        ensures { IsStepped O.standing L.standing self.old self.new (event.Rewind device) result }
     {
         let Some(place) = self.scheme.device_position(device) else {
-            return Ok(Reply::Refused(Refusal::UnknownDevice));
+            return Reply::Refused(Refusal::UnknownDevice);
         };
         self.devices[place].rewind();
-        Ok(Reply::Rewound)
+        Reply::Rewound
     }
 
     // The next unsent tap of a device goes into the air.
     pub(super) fn send(&mut self, device: DeviceId) -> Result<Reply, Fault>
-        ensures { Applied self.old self.new (event.Send device) result }
+        ensures { Applied O.standing L.standing self.old self.new (event.Send device) result }
     {
         let Some(place) = self.scheme.device_position(device) else {
             return Ok(Reply::Refused(Refusal::UnknownDevice));
         };
+        if self.devices[place].sent() == self.devices[place].last() {
+            return Ok(Reply::Idle);
+        }
         // The room comes first, since the device moves on with its answer.
         let mut packet = Packet::new(self.alloc)?;
         self.air.reserve(1)?;
         let device = &mut self.devices[place];
         let Some(frame) = device.next_frame() else {
-            return Ok(Reply::Idle);
+            unreachable!()
         };
         let link = device.sent();
         packet.write(&frame);

@@ -1,29 +1,73 @@
-use Rattle.std.proofs.Common.{◌≡◌, ◌++◌, ◌∷◌, [], refl, arith}
+use Rattle.fare_world.proofs.ShowLink.{shown_ack_unknown}
+use Rattle.std.proofs.Common.{◌≡◌, ◌<◌, ◌≤◌, ◌++◌, ◌∷◌, [], length, refl, sym, ap, ◌∙◌, subst, arith}
+use Rattle.std.specs.Prelude.{Ok, Err}
 use Rattle.std.proofs.lemmas.Grind.{common_steps}
-use Rattle.fare_collector.specs.Collecting.{next_in}
+use Rattle.fare_store.specs.Standing.{Reads}
+use Rattle.fare_world.specs.declared.reply.Reply.TheVariants as reply
+use Rattle.fare_world.specs.declared.station.Station.{Station}
 use Rattle.fare_world.specs.Rooms.{HasStation}
-use Rattle.fare_world.specs.Whole.{shape}
-use Rattle.fare_world.proofs.ShowStation.{station_same}
-use Rattle.fare_world.proofs.WorldLink.{world_acked}
-use Rattle.fare_world.proofs.Showing.{stepped, applied_err}
+use Rattle.fare_world.specs.Steps as step
+use Rattle.fare_world.specs.Whole.{seen, station_shape, shape}
+use Rattle.fare_world.proofs.ShowLink.{shown_ack_busy, ack_may_fail}
+use Rattle.fare_world.proofs.ShowStation.{station_read, same_station}
+use Rattle.fare_world.proofs.WorldLink.{with_station, world_acked}
+use Rattle.fare_world.proofs.RoomLemmas.{line_room, rooms_of_station}
+use Rattle.fare_world.proofs.Showing.{Answers}
+use Rattle.fare_world.proofs.Stores.{steps, same_stores, outbox_stepped, outbox_failed, applied_err}
 use Rattle.fare_world.proofs.world.World.ack.Goals as goal
 
-pub returns-in_err-push_back : goal.returns-in_err-push_back
-returns-in_err-push_back c =
-    let w = c.args.self.now in
+pub returns-then-len-capacity : goal.returns-then-len-capacity
+returns-then-len-capacity g c =
+    let w = seen g.O.Outbox.standing g.L.Ledger.standing c.args.self.now in
     let k = c.in-Some.place in
-    let x = c.index_mut.result.now in
+    let x = c.index.result.now in
     let has : HasStation w.scheme c.args.device k = c.in-Some.ensures.some in
-    let same : c.push_back.new.self.items ≡ x.line.items = grind (arith, common_steps) in
-    applied_err w _ _ c.from_residual.result c.from_residual.ensures.0 (record {
-      scheme = refl;
-      seen = λ i. record (shape w) { stations = station_same w has.station k x (record x { line = c.push_back.new.self }) has.at c.in-Some.ensures.within c.index_mut.ensures.value (λ j. record { nexts = next_in x.collector; line = same j }) i };
-    })
+    let room = line_room c.args.self.now k x c.in-Some.ensures.within c.index.ensures in
+    let full : w.scheme.inbox_capacity ≤ length x.line.items = omega (arith, room, c.if-len-capacity.true, c.len.ensures.len, c.capacity.ensures) in
+    steps g.O.Outbox.standing g.L.Ledger.standing c.args.self.now _ _ _ refl (same_stores _ _ refl refl) (λ s sh. shown_ack_busy w.scheme (shape w) s c.args.device has.station (station_shape x) sh has.of (station_read w has.station k x has.at c.in-Some.ensures.within c.index.ensures) full)
+
+pub returns-in_err-upto : goal.returns-in_err-upto
+returns-in_err-upto g c =
+    let w = seen g.O.Outbox.standing g.L.Ledger.standing c.args.self.now in
+    let k = c.in-Some.place in
+    let x = c.index.result.now in
+    let has : HasStation w.scheme c.args.device k = c.in-Some.ensures.some in
+    let room = line_room c.args.self.now k x c.in-Some.ensures.within c.index.ensures in
+    let free : length x.line.items < w.scheme.inbox_capacity = omega (arith, room, c.if-len-capacity.false, c.len.ensures.len, c.capacity.ensures) in
+    let did : Reads (g.O.Outbox.standing c.args.self.now.outbox) (g.O.Outbox.standing c.upto.new.self) (λ u. u ≡ w.outbox.upto c.args.device) (Err c.in_err-upto.field-0.0) = c.in_err-upto.ensures.read in
+    applied_err g.O.Outbox.standing g.L.Ledger.standing c.args.self.now _ _ c.from_residual.result _ c.from_residual.ensures.1 (outbox_failed g.O.Outbox.standing g.L.Ledger.standing c.args.self.now _ _ _ _ _ refl refl did (λ is i. record (shape w) { outbox = is.0 i })
+    (λ s sh. ack_may_fail w.scheme (shape w) s c.args.device has.station (station_shape x) sh has.of (station_read w has.station k x has.at c.in-Some.ensures.within c.index.ensures) free))
 
 pub returns : goal.returns
-returns c =
-    let w = c.args.self.now in
+returns g c =
+    let w = seen g.O.Outbox.standing g.L.Ledger.standing c.args.self.now in
     let d = c.args.device in
+    let k = c.in-Some.place in
     let x = c.index_mut.result.now in
-    let gained : c.push_back.new.self.items ≡ x.line.items ++ record { device = d; upto = c.upto-upto.result } ∷ [] = grind (arith, common_steps) in
-    stepped w _ _ _ refl (λ s sh. world_acked w s d c.in-Some.place c.upto-upto.result x (record x { line = c.push_back.new.self }) sh c.in-Some.ensures.some c.in-Some.ensures.within c.index_mut.ensures.value c.upto-upto.ensures.value refl gained)
+    let room = line_room c.args.self.now k c.index.result.now c.in-Some.ensures.within c.index.ensures in
+    let same : c.index.result.now ≡ x = same_station w k c.index.result.now x c.in-Some.ensures.within c.index.ensures c.index_mut.ensures.value in
+    let before : length c.index.result.now.line.items < w.scheme.inbox_capacity = omega (arith, room, c.if-len-capacity.false, c.len.ensures.len, c.capacity.ensures) in
+    let free : length x.line.items < w.scheme.inbox_capacity = subst (λ (z : Station). length z.line.items < w.scheme.inbox_capacity) same before in
+    let gained : c.try_push_back-pushed.new.self.items ≡ x.line.items ++ record { device = d; upto = c.in_ok-upto.upto } ∷ [] = ? in
+    let did : Reads (g.O.Outbox.standing c.args.self.now.outbox) (g.O.Outbox.standing c.upto.new.self) (λ u. u ≡ w.outbox.upto c.args.device) (Ok c.in_ok-upto.upto) = c.in_ok-upto.ensures.read in
+    outbox_stepped g.O.Outbox.standing g.L.Ledger.standing c.args.self.now _ _ _ _ _ refl refl did (λ s is sh.
+    subst (λ o. Answers w.scheme (record (shape w) { outbox = o; stations = with_station w k (record x { line = c.try_push_back-pushed.new.self }) }) (step.ack w.scheme s d) (reply.Acknowledged c.in_ok-upto.upto)) (sym is.0)
+    (world_acked w s d k c.in_ok-upto.upto x (record x { line = c.try_push_back-pushed.new.self }) sh c.in-Some.ensures.some c.in-Some.ensures.within c.index_mut.ensures.value is.1 refl gained free))
+
+pub returns-in_default : goal.returns-in_default
+returns-in_default g c =
+    let w = seen g.O.Outbox.standing g.L.Ledger.standing c.args.self.now in
+    steps g.O.Outbox.standing g.L.Ledger.standing c.args.self.now _ _ _ refl (same_stores _ _ refl refl) (λ s sh. shown_ack_unknown w.scheme (shape w) s c.args.device sh c.in_default.ensures.none)
+
+pub unreachable-requires : goal.unreachable-requires
+unreachable-requires g c =
+    let w = seen g.O.Outbox.standing g.L.Ledger.standing c.args.self.now in
+    let k = c.in-Some.place in
+    let x = c.index_mut.result.now in
+    let same : c.index.result.now ≡ x = same_station w k c.index.result.now x c.in-Some.ensures.within c.index.ensures c.index_mut.ensures.value in
+    ?
+
+pub invariant_of-self-2 : goal.invariant_of-self-2
+invariant_of-self-2 g c =
+    let x = c.index_mut.result.now in
+    record { rooms = rooms_of_station c.args.self.now c.in-Some.place x (record x { line = c.try_push_back-pushed.new.self }) c.in-Some.ensures.within c.index_mut.ensures.value ? }

@@ -4,34 +4,41 @@ use Rattle.fare_world.specs.System.{Tapped, Acked}
 use Rattle.fare_world.specs.Steps.{comes}
 use Rattle.fare_world.specs.Packets.{bytes_at, IsPacketRead}
 use Rattle.fare_world.specs.Shown.{IsAt, IsAck}
-use Rattle.fare_world.proofs.ShowLink.{shown_no_packet, tap_found, ack_found, nothing_else}
-use Rattle.fare_world.proofs.Showing.{stepped, done_all, does_all}
-use Rattle.fare_world.specs.Whole.{shape}
+use Rattle.fare_world.proofs.ShowLink.{shown_no_packet, packet_there, tap_found, ack_found, nothing_else}
+use Rattle.fare_world.proofs.Stores.{steps, stepped, does, does_all, applied_err, unchanged, same_stores}
+use Rattle.fare_world.specs.Whole.{IsUnchanged, seen, shape}
 use Rattle.fare_world.proofs.world.World.arrive.Goals as goal
 
 pub returns-in_default : goal.returns-in_default
-returns-in_default c =
-    let w = c.args.self.now in
-    stepped w _ _ _ refl (λ s sh. shown_no_packet w.scheme (shape w) s c.args.packet sh (subst (IsPacketRead (bytes_at w.air.items c.args.packet)) c.in_default.is c.in_ok-frame.ensures))
+returns-in_default g c =
+    let w = seen g.O.Outbox.standing g.L.Ledger.standing c.args.self.now in
+    steps g.O.Outbox.standing g.L.Ledger.standing c.args.self.now _ _ _ refl (same_stores _ _ refl refl) (λ s sh. shown_no_packet w.scheme (shape w) s c.args.packet sh (subst (IsPacketRead (bytes_at w.air c.args.packet)) c.in_default.is c.in_ok-frame.ensures.read))
 
 pub returns-in-Some-tapped : goal.returns-in-Some-tapped
-returns-in-Some-tapped c =
-    let w = c.args.self.now in
+returns-in-Some-tapped g c =
+    let w = seen g.O.Outbox.standing g.L.Ledger.standing c.args.self.now in
     let r = c.in-Some-tapped.tapped in
-    let read = subst (IsPacketRead (bytes_at w.air.items c.args.packet)) c.in-Some.is c.in_ok-frame.ensures in
-    done_all w c.collect.new.self (λ s. IsAt (s.devices r.device).taps r.link r) (λ s. comes w.scheme s (Some (Tapped r.device r.link))) (event.Arrive c.args.packet) c.collect.result
+    let read = subst (IsPacketRead (bytes_at w.air c.args.packet)) c.in-Some.is c.in_ok-frame.ensures.read in
+    does_all g.O.Outbox.standing g.L.Ledger.standing c.args.self.now c.collect.new.self (λ s. IsAt (s.devices r.device).taps r.link r) (λ s. comes w.scheme s (Some (Tapped r.device r.link))) (event.Arrive c.args.packet) c.collect.result
     (λ s sh. tap_found w.scheme (shape w) s c.args.packet c.in-Some.frame r sh read (sym c.tapped.ensures ∙ c.in-Some-tapped.is)) c.collect.ensures
 
 pub returns-in-Some-acked : goal.returns-in-Some-acked
-returns-in-Some-acked c =
-    let w = c.args.self.now in
+returns-in-Some-acked g c =
+    let w = seen g.O.Outbox.standing g.L.Ledger.standing c.args.self.now in
     let a = c.in-Some-acked.ack in
-    let read = subst (IsPacketRead (bytes_at w.air.items c.args.packet)) c.in-Some.is c.in_ok-frame.ensures in
-    does_all w c.hear.new.self (λ s. IsAck w.scheme s.devices a.device a.upto) (λ s. comes w.scheme s (Some (Acked a.device a.upto))) (event.Arrive c.args.packet) c.hear.result
+    let read = subst (IsPacketRead (bytes_at w.air c.args.packet)) c.in-Some.is c.in_ok-frame.ensures.read in
+    does_all g.O.Outbox.standing g.L.Ledger.standing c.args.self.now c.hear.new.self (λ s. IsAck w.scheme s.devices a.device a.upto) (λ s. comes w.scheme s (Some (Acked a.device a.upto))) (event.Arrive c.args.packet) c.hear.result
     (λ s sh. ack_found w.scheme (shape w) s c.args.packet c.in-Some.frame a sh read (sym c.acked.ensures ∙ c.in-Some-acked.is)) c.hear.ensures
 
 pub returns : goal.returns
-returns c =
-    let w = c.args.self.now in
-    let read = subst (IsPacketRead (bytes_at w.air.items c.args.packet)) c.in-Some.is c.in_ok-frame.ensures in
-    stepped w _ _ _ refl (λ s sh. absurd (nothing_else w.scheme (shape w) s c.args.packet c.in-Some.frame sh read (sym c.tapped.ensures ∙ c.in_default-tapped.is) (sym c.acked.ensures ∙ c.in_default-acked.is)))
+returns g c =
+    let w = seen g.O.Outbox.standing g.L.Ledger.standing c.args.self.now in
+    let read = subst (IsPacketRead (bytes_at w.air c.args.packet)) c.in-Some.is c.in_ok-frame.ensures.read in
+    steps g.O.Outbox.standing g.L.Ledger.standing c.args.self.now _ _ _ refl (same_stores _ _ refl refl) (λ s sh. absurd (nothing_else w.scheme (shape w) s c.args.packet c.in-Some.frame sh read (sym c.tapped.ensures ∙ c.in_default-tapped.is) (sym c.acked.ensures ∙ c.in_default-acked.is)))
+
+pub returns-in_err-frame : goal.returns-in_err-frame
+returns-in_err-frame g c =
+    let w = seen g.O.Outbox.standing g.L.Ledger.standing c.args.self.now in
+    applied_err g.O.Outbox.standing g.L.Ledger.standing c.args.self.now _ _ c.from_residual.result _ c.from_residual.ensures.1
+    (subst (IsUnchanged g.O.Outbox.standing g.L.Ledger.standing c.args.self.now _ (event.Arrive c.args.packet)) (sym c.in_err-frame.ensures.memory.0)
+    (unchanged g.O.Outbox.standing g.L.Ledger.standing _ _ _ refl (same_stores _ _ refl refl) refl (λ s sh. packet_there w.scheme (shape w) s c.args.packet sh c.in_err-frame.ensures.memory.1)))

@@ -4,19 +4,19 @@ use Rattle.fare_world.specs.declared.reply.Reply.TheVariants.{Restarted}
 use Rattle.fare_world.proofs.ShowLink.{shown_restart_device_unknown, shown_restart_device}
 use Rattle.fare_world.proofs.ShowStation.{device_written}
 use Rattle.fare_world.proofs.ShowTap.{device_read}
-use Rattle.fare_world.proofs.Showing.{stepped}
-use Rattle.fare_world.specs.Whole.{shape}
+use Rattle.fare_world.proofs.Stores.{steps, stepped, does, does_all, applied_err, unchanged, same_stores}
+use Rattle.fare_world.specs.Whole.{seen, shape}
 use Rattle.fare_world.proofs.world.World.restart_device.Goals as goal
 
 pub returns-in_default : goal.returns-in_default
-returns-in_default c =
-    let w = c.args.self.now in
-    stepped w _ _ _ refl (λ s sh. shown_restart_device_unknown w.scheme (shape w) s c.args.device sh (sym c.device_position.ensures.value ∙ c.in_default.is))
+returns-in_default g c =
+    let w = seen g.O.Outbox.standing g.L.Ledger.standing c.args.self.now in
+    steps g.O.Outbox.standing g.L.Ledger.standing c.args.self.now _ _ _ refl (same_stores _ _ refl refl) (λ s sh. shown_restart_device_unknown w.scheme (shape w) s c.args.device sh (sym c.device_position.ensures.value ∙ c.in_default.is))
 
 pub returns : goal.returns
-returns c =
-    let w = c.args.self.now in
+returns g c =
+    let w = seen g.O.Outbox.standing g.L.Ledger.standing c.args.self.now in
     let at = sym c.device_position.ensures.value ∙ c.in-Some.is in
-    let within : c.in-Some.place < length w.devices.items = omega (arith, c.in-Some.ensures.within, w.rooms.device_count) in
-    stepped w _ _ _ refl (λ s sh. device_written w c.args.device c.in-Some.place c.restart.new.self (restart_device w.scheme s c.args.device) Restarted at within
+    let within : c.in-Some.place < length w.devices = omega (arith, c.in-Some.ensures.within, c.args.self.now.rooms.device_count) in
+    steps g.O.Outbox.standing g.L.Ledger.standing c.args.self.now _ _ _ refl (same_stores _ _ refl refl) (λ s sh. device_written w c.args.device c.in-Some.place c.restart.new.self (restart_device w.scheme s c.args.device) Restarted at within
     (shown_restart_device w.scheme (shape w) s c.args.device c.in-Some.place c.index_mut.result.now c.restart.new.self sh at (device_read w c.args.device c.in-Some.place c.index_mut.result.now at within c.index_mut.ensures.value) c.restart.ensures.value))

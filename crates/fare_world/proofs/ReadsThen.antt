@@ -1,0 +1,70 @@
+-- Reads of a store one after the other.
+use Rattle.std.proofs.Common.{◌≡◌, ◌≢◌, ℕ, ◌+◌, ◌<◌, ◌≤◌, List, length, set, arith, Some, None, refl, sym, ap, ◌∙◌, subst, inl, inr}
+use Rattle.std.specs.Prelude.{◌⊎◌, Option, Result, Ok, Err, IsErrAnd, slice_get}
+use Rattle.std.proofs.lemmas.Bool.Decides.{nat_tests}
+use Rattle.std.proofs.lemmas.Option.{slice_get_within}
+use Rattle.fare_scheme.specs.Values.{SchemeValue}
+use Rattle.fare_scheme.specs.Words.{position_of_device}
+use Rattle.fare_store.specs.declared.fault.Fault.{Fault}
+use Rattle.fare_store.specs.declared.fault.Fault.TheVariants as fault
+use Rattle.fare_store.specs.Standing.{Standing, Calls, Counted, Reads}
+use Rattle.fare_world.specs.Rooms.{AreUptos}
+use Rattle.fare_world.proofs.TableLemmas.{set_cases, devices_apart}
+
+-- a read that answered, and then one that answered or failed
+pub reads_then : {V : Type 0} (a b c : Standing V) (P Q : Type 0) (f : Option Fault) → Calls a b None ((b.value ≡ a.value) × P) (λ v. ⊥) → Calls b c f ((c.value ≡ b.value) × Q) (λ v. ⊥) → Calls a c f ((c.value ≡ a.value) × ((b.value ≡ a.value) × P × Q)) (λ v. ⊥)
+reads_then a b c P Q f first second = record {
+  value = λ live lawful.
+      let one = first.value (second.live live) lawful in
+      let two = second.value live one.0 in
+      (two.0, (two.1.0 ∙ one.1.0, (one.1.0, one.1.1, two.1.1)));
+  stop = λ clean lawful v leaves. elim (second.stop clean (λ live. (first.value live (lawful (first.live live))).0) v leaves) [
+    | inl before ↦ first.stop (second.clean clean) lawful v before
+    | inr none ↦ inr (first.live none.0, none.1)
+  ];
+  clean = λ h. first.clean (second.clean h);
+  live = λ h. first.live (second.live h);
+  stays = λ e live clean. second.stays e (first.stays refl live (second.clean clean)) clean;
+  cause = subst (λ n. Counted n c.failures f) first.cause second.cause;
+}
+
+-- nothing was read, and nothing is said
+pub reads_none : {V : Type 0} (a : Standing V) (P : Type 0) → P → Calls a a None ((a.value ≡ a.value) × P) (λ v. ⊥)
+reads_none a P p = record { value = λ live lawful. (lawful, (refl, p)); stop = λ clean lawful v leaves. inl leaves; clean = λ h. h; live = λ h. h; stays = λ e live clean. live; cause = refl }
+
+-- the same reads, of which something else is said
+pub reads_say : {V : Type 0} (a b : Standing V) (P Q : Type 0) (f : Option Fault) → ((b.value ≡ a.value) × P → (b.value ≡ a.value) × Q) → Calls a b f ((b.value ≡ a.value) × P) (λ v. ⊥) → Calls a b f ((b.value ≡ a.value) × Q) (λ v. ⊥)
+reads_say a b P Q f say c = record { value = λ live lawful. let is = c.value live lawful in (is.0, say is.1); stop = c.stop; clean = c.clean; live = c.live; stays = c.stays; cause = c.cause }
+
+-- and then there was no memory
+pub reads_memory : {V : Type 0} (a b : Standing V) (P Q : Type 0) → (P → Q) → Calls a b None ((b.value ≡ a.value) × P) (λ v. ⊥) → Calls a b (Some fault.Memory) ((b.value ≡ a.value) × Q) (λ v. ⊥)
+reads_memory a b P Q say c = record { value = λ live lawful. let is = c.value live lawful in (is.0, (is.1.0, say is.1.1)); stop = c.stop; clean = c.clean; live = c.live; stays = λ e. absurd (cc); cause = c.cause }
+
+-- a read that failed, whatever else is said
+pub read_failed : {V A : Type 0} (a b : Standing V) (P : Type 0) (answer : A → Type 0) (r : Result A Fault) (f : Fault) → IsErrAnd r (λ q. q ≡ f) → Calls a b (Some f) ((b.value ≡ a.value) × P) (λ v. ⊥) → Reads a b answer r
+read_failed a b P answer (Ok x) f is c = absurd is
+read_failed a b P answer (Err q) f is c = subst (λ (z : Fault). Calls a b (Some z) ((b.value ≡ a.value) × Unit {0}) (λ v. ⊥)) (sym is) (record { value = λ live lawful. let did = c.value live lawful in (did.0, (did.1.0, tt)); stop = c.stop; clean = c.clean; live = c.live; stays = c.stays; cause = c.cause })
+
+-- WHAT WAS TOLD OF EACH DEVICE
+-- a list tells of each device before a position what a table has
+pub record ToldTo {A : Type 0} (sc : SchemeValue) (table : ℕ → A) (place : ℕ) (told : List A) : Type 0 where
+  pub each : (device k : ℕ) (n : A) → k < place → position_of_device sc device ≡ Some k → slice_get told k ≡ Some n → n ≡ table device
+
+-- one device more
+pub one_told : {A : Type 0} (sc : SchemeValue) (table : ℕ → A) (told : List A) (place device : ℕ) (n : A) → ToldTo sc table place told → position_of_device sc device ≡ Some place → n ≡ table device → ToldTo sc table (place + 1) (set told place n)
+one_told sc table told place device n so at is = record {
+  each = λ d k m lt there e. elim (set_cases told place n k m e) [
+    | inl new ↦ sym new.1 ∙ is ∙ ap table (devices_apart sc device d k (at ∙ ap Some (sym new.0)) there)
+    | inr was ↦ so.each d k m (less k place lt was.0) there was.1
+  ];
+}
+  where
+    less : (k place : ℕ) → k < place + 1 → k ≢ place → k < place
+    less k place lt apart = grind (arith, nat_tests)
+
+-- all of them
+pub told_all : (sc : SchemeValue) (upto : ℕ → ℕ) (uptos : List ℕ) (place : ℕ) → ToldTo sc upto place uptos → length sc.devices ≤ place → length uptos ≡ length sc.devices → AreUptos sc upto uptos
+told_all sc upto uptos place so le count = record {
+  count = count;
+  each = λ d k n at e. let within = slice_get_within uptos k n e in so.each d k n (omega (arith, within, count, le)) at e;
+}

@@ -1,0 +1,67 @@
+-- A world's tables keep their lengths, and its queues their room.
+use Rattle.std.proofs.Common.{◌≡◌, ℕ, ◌<◌, Some, length, set, get_or, refl, sym, ap, ◌∙◌, subst, length-set, inl, inr}
+use Rattle.std.specs.Prelude.{slice_get}
+use Rattle.std.proofs.lemmas.Option.{slice_get_read}
+use Rattle.fare_device.specs.DeviceWords.{DeviceValue}
+use Rattle.fare_device.proofs.Places.{slice_get-set_cases}
+use Rattle.fare_world.proofs.TableLemmas.{set_cases}
+use Rattle.fare_world.specs.declared.owner.Owner.{Owner}
+use Rattle.fare_world.specs.declared.station.Station.{Station}
+use Rattle.fare_world.specs.declared.world.World.{World}
+use Rattle.fare_world.specs.Rooms.{HasOwnerRooms, HasRooms}
+
+-- a device with as many lanes takes the place of another
+pub rooms_of_device : {O L : Type 0} (w : World O L) (k : ℕ) (x new : DeviceValue) → k < length w.devices.items → x ≡ get_or w.devices.items k x → length new.lanes ≡ length x.lanes → HasRooms w.scheme (set w.devices.items k new) w.stations.items w.inbox.capacity w.owners.items (length w.uptos.items)
+rooms_of_device w k x new within e long = record {
+  device_count = length-set w.devices.items k new ∙ w.rooms.device_count;
+  station_count = w.rooms.station_count;
+  owner_count = w.rooms.owner_count;
+  lanes = λ j y f. elim (slice_get-set_cases w.devices.items k new j y f) [
+    | inl is ↦ ap (λ (z : DeviceValue). length z.lanes) (sym is) ∙ long ∙ w.rooms.lanes k x (slice_get_read w.devices.items (length w.devices.items) k x refl within e)
+    | inr is ↦ w.rooms.lanes j y is
+  ];
+  inbox_room = w.rooms.inbox_room;
+  lines = w.rooms.lines;
+  sides = w.rooms.sides;
+  upto_count = w.rooms.upto_count;
+}
+
+-- a station with as long a line takes the place of another
+pub rooms_of_station : {O L : Type 0} (w : World O L) (k : ℕ) (x new : Station) → k < length w.stations.items → x ≡ get_or w.stations.items k x → new.line.capacity ≡ x.line.capacity → HasRooms w.scheme w.devices.items (set w.stations.items k new) w.inbox.capacity w.owners.items (length w.uptos.items)
+rooms_of_station w k x new within e long = record {
+  device_count = w.rooms.device_count;
+  station_count = length-set w.stations.items k new ∙ w.rooms.station_count;
+  owner_count = w.rooms.owner_count;
+  lanes = w.rooms.lanes;
+  inbox_room = w.rooms.inbox_room;
+  lines = λ j y f. elim (slice_get-set_cases w.stations.items k new j y f) [
+    | inl is ↦ ap (λ (z : Station). z.line.capacity) (sym is) ∙ long ∙ w.rooms.lines k x (slice_get_read w.stations.items (length w.stations.items) k x refl within e)
+    | inr is ↦ w.rooms.lines j y is
+  ];
+  sides = w.rooms.sides;
+  upto_count = w.rooms.upto_count;
+}
+
+-- how long a station's line may be
+pub line_room : {O L : Type 0} (w : World O L) (k : ℕ) (x : Station) → k < length w.stations.items → x ≡ get_or w.stations.items k x → x.line.capacity ≡ w.scheme.inbox_capacity
+line_room w k x within e = w.rooms.lines k x (slice_get_read w.stations.items (length w.stations.items) k x refl within e)
+
+-- the rooms of an owner that the code read
+pub side_of_owner : {O L : Type 0} (w : World O L) (a : ℕ) (y : Owner L) → a < length w.owners.items → y ≡ get_or w.owners.items a y → HasOwnerRooms w.scheme a y
+side_of_owner w a y within e = w.rooms.sides a y (slice_get_read w.owners.items (length w.owners.items) a y refl within e)
+
+-- an owner with as much room takes the place of another
+pub rooms_of_owner : {O L : Type 0} (w : World O L) (a : ℕ) (y new : Owner L) → a < length w.owners.items → y ≡ get_or w.owners.items a y → (HasOwnerRooms w.scheme a y → HasOwnerRooms w.scheme a new) → HasRooms w.scheme w.devices.items w.stations.items w.inbox.capacity (set w.owners.items a new) (length w.uptos.items)
+rooms_of_owner {O} {L} w a y new within e keeps = record {
+  device_count = w.rooms.device_count;
+  station_count = w.rooms.station_count;
+  owner_count = length-set w.owners.items a new ∙ w.rooms.owner_count;
+  lanes = w.rooms.lanes;
+  inbox_room = w.rooms.inbox_room;
+  lines = w.rooms.lines;
+  sides = λ j z f. elim (set_cases w.owners.items a new j z f) [
+    | inl is ↦ subst (λ (q : ℕ × Owner L). HasOwnerRooms w.scheme q.0 q.1) (λ i. (sym is.0 i, is.1 i)) (keeps (side_of_owner w a y within e))
+    | inr is ↦ w.rooms.sides j z is.1
+  ];
+  upto_count = w.rooms.upto_count;
+}

@@ -1,0 +1,56 @@
+use Rattle.std.proofs.Common.{◌≡◌, ◌≢◌, ◌+◌, ◌<◌, ℕ, Some, None, length, set, refl, sym, ap, ◌∙◌, subst, arith, length-set, inl, inr}
+use Rattle.std.specs.Prelude.{Ok, Err, slice_get}
+use Rattle.std.proofs.lemmas.Bool.Decides.{nat_tests}
+use Rattle.fare_record.specs.Limits.{IsCount}
+use Rattle.fare_store.specs.Standing.{Reads, Calls}
+use Rattle.fare_store.specs.OutboxWords.{OutboxValue}
+use Rattle.fare_world.specs.Rooms.{AreUptos}
+use Rattle.fare_world.proofs.TableLemmas.{set_cases}
+use Rattle.fare_world.proofs.ReadsThen.{read_failed, reads_none, reads_then, reads_say, ToldTo, one_told, told_all}
+use Rattle.fare_world.proofs.world.restarting.ask_uptos.Goals as goal
+
+less : (j place : ℕ) → j < place + 1 → j ≢ place → j < place
+less j place lt apart = grind (arith, nat_tests)
+
+pub loop-place-init : goal.loop-place-init
+loop-place-init g c = record {
+  read = reads_none (g.O.Outbox.standing c.args.outbox.now) (ToldTo c.args.scheme.now (g.O.Outbox.standing c.args.outbox.now).value.upto 0 c.args.uptos.now) (record { each = λ d k n lt. absurd (omega (arith, lt)) });
+  valid = λ k n lt. absurd (omega (arith, lt));
+}
+
+pub loop-place-preserved : goal.loop-place-preserved
+loop-place-preserved g c =
+    let i = c.loop-place.invariant in
+    let sc = c.args.scheme.now in
+    let first = g.O.Outbox.standing c.args.outbox.now in
+    let before = g.O.Outbox.standing c.loop-place.outbox in
+    let now = g.O.Outbox.standing c.upto.new.self in
+    let device = c.in-Some.device in
+    let u = c.in_ok-uptos.field-0.0 in
+    let k = c.loop-place.place in
+    let xs = c.loop-place.uptos in
+    let one : Reads before now (λ n. n ≡ before.value.upto device) (Ok u) = c.in_ok-uptos.ensures.read in
+    record {
+      read = reads_say first now ((before.value ≡ first.value) × ToldTo sc first.value.upto k xs × (u ≡ before.value.upto device)) (ToldTo sc first.value.upto (k + 1) (set xs k u)) None
+          (λ is. (is.0, one_told sc first.value.upto xs k device u is.1.1 c.in-Some.ensures.placed (is.1.2 ∙ ap (λ (v : OutboxValue). v.upto device) is.1.0)))
+          (reads_then first before now (ToldTo sc first.value.upto k xs) (u ≡ before.value.upto device) None i.read one);
+      valid = λ j n lt e. elim (set_cases xs k u j n e) [ inl is ↦ subst IsCount is.1 c.in_ok-uptos.ensures.valid | inr was ↦ i.valid j n (less j k lt was.0) was.1 ];
+    }
+
+pub returns-clause-read : goal.returns-clause-read
+returns-clause-read g c =
+    let i = c.loop-place.invariant in
+    let sc = c.args.scheme.now in
+    let first = g.O.Outbox.standing c.args.outbox.now in
+    let last = g.O.Outbox.standing c.loop-place.outbox in
+    reads_say first last (ToldTo sc first.value.upto c.loop-place.place c.loop-place.uptos) (AreUptos sc first.value.upto c.loop-place.uptos) None
+    (λ is. (is.0, told_all sc first.value.upto c.loop-place.uptos c.loop-place.place is.1 (omega (arith, c.device_count-place-end.ensures.value)) (omega (arith, c.requires)))) i.read
+
+pub returns-in_err-uptoss-clause-read : goal.returns-in_err-uptoss-clause-read
+returns-in_err-uptoss-clause-read g c =
+    let first = g.O.Outbox.standing c.args.outbox.now in
+    let before = g.O.Outbox.standing c.loop-place.outbox in
+    let now = g.O.Outbox.standing c.upto.new.self in
+    let one : Reads before now (λ n. n ≡ before.value.upto c.in-Some.device) (Err c.in_err-uptos.field-0.0) = c.in_err-uptos.ensures.read in
+    read_failed first now _ _ c.from_residual.result c.in_err-uptos.field-0.0 c.from_residual.ensures.1
+    (reads_then first before now (ToldTo c.args.scheme.now first.value.upto c.loop-place.place c.loop-place.uptos) (Unit {0}) (Some c.in_err-uptos.field-0.0) c.loop-place.invariant.read one)
