@@ -29,5 +29,6 @@ pub mod MayFail
 pub mod Running
 pub mod Resuming
 pub mod ReadsThen
+pub mod Pairs
 pub mod Starting
 pub mod Packets

@@ -8,7 +8,8 @@ use Rattle.fare_scheme.specs.Words.{position_of_device}
 use Rattle.fare_store.specs.declared.fault.Fault.{Fault}
 use Rattle.fare_store.specs.declared.fault.Fault.TheVariants as fault
 use Rattle.fare_store.specs.Standing.{Standing, Calls, Counted, Reads}
-use Rattle.fare_world.specs.Rooms.{AreUptos}
+use Rattle.fare_store.specs.LedgerWords.{LedgerValue, closed_through}
+use Rattle.fare_world.specs.Rooms.{AreUptos, AreStandings}
 use Rattle.fare_world.proofs.TableLemmas.{set_cases, devices_apart}
 
 -- a read that answered, and then one that answered or failed
@@ -67,4 +68,14 @@ pub told_all : (sc : SchemeValue) (upto : ℕ → ℕ) (uptos : List ℕ) (place
 told_all sc upto uptos place so le count = record {
   count = count;
   each = λ d k n at e. let within = slice_get_within uptos k n e in so.each d k n (omega (arith, within, count, le)) at e;
+}
+
+-- where a ledger stands with a device
+abbrev pub standing_of : LedgerValue → ℕ → ℕ × Option ℕ
+standing_of v device = (length (v.taken device), closed_through v device)
+
+pub standings_told : (sc : SchemeValue) (v : LedgerValue) (standings : List (ℕ × Option ℕ)) (place : ℕ) → ToldTo sc (standing_of v) place standings → length sc.devices ≤ place → length standings ≡ length sc.devices → AreStandings sc v standings
+standings_told sc v standings place so le count = record {
+  count = count;
+  each = λ d k p at e. let within = slice_get_within standings k p e in so.each d k p (omega (arith, within, count, le)) at e;
 }

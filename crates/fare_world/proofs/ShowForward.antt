@@ -55,6 +55,13 @@ shown_unknown_owner sc h s o d w none =
     forward_device : SchemeValue → System → ℕ → ℕ → System × Reply
     forward_device sc s o d = if knows_device sc d then forward_next sc s o d else (s, Refused UnknownDevice)
 
+pub shown_forward_unknown : (sc : SchemeValue) (h : Shape) (s : System) (o d a : ℕ) → Shows sc h s → position_of_owner sc o ≡ Some a → is_some (position_of_device sc d) ≡ false → Answers sc h (forward sc s o d) (Refused UnknownDevice)
+shown_forward_unknown sc h s o d a w owner none =
+    answers_by sc h (Refused UnknownDevice) (forward sc s o d) (s, Refused UnknownDevice) (λ i. known (is_some (owner i)) (none i)) refl w
+  where
+    known : Bool → Bool → System × Reply
+    known p q = if p then (if q then forward_next sc s o d else (s, Refused UnknownDevice)) else (s, Refused UnknownOwner)
+
 forward_known : (sc : SchemeValue) (s : System) (o d a k : ℕ) → position_of_owner sc o ≡ Some a → position_of_device sc d ≡ Some k → forward sc s o d ≡ forward_next sc s o d
 forward_known sc s o d a k owner device = λ i. known (is_some (owner i)) (is_some (device i))
   where

@@ -339,4 +339,3 @@ pub world_idle : (w : Seen) (s : System) (d k : ℕ) (x new : DeviceValue) (air 
 world_idle w s d k x new air sh at within e all same kept =
     subst (λ (q : (ℕ → Option DeviceValue) × List (List ℕ)). Answers w.scheme (record (shape w) { devices = q.0; air = q.1 }) (send w.scheme s d) Idle) (λ i. (sym (device_same w k x new e same) i, sym kept i))
     (shown_idle w.scheme (shape w) s d k x sh at (device_read w d k x at within e) all)
-

@@ -225,14 +225,16 @@ module _ {O L : Type 0} (out : O → Standing OutboxValue) (led : L → Standing
   pub ledger_lawful : (old new : World O L) (a : ℕ) (x y : Owner L) (faulted : Option Fault) (did : Type 0) (commits : LedgerValue → Type 0) → new.outbox ≡ old.outbox → slice_get old.owners.items a ≡ Some x → new.owners.items ≡ set old.owners.items a y → Calls (led x.ledger) (led y.ledger) faulted did commits → AreLive out led new → AreLawful out led old → AreLawful out led new × did
   ledger_lawful old new a x y faulted did commits outbox at owners c live lawful =
       let now : slice_get new.owners.items a ≡ Some y = ap (λ l. slice_get l a) owners ∙ slice_get-set_same old.owners.items a y (slice_get_within old.owners.items a x at) in
-      let is = c.value (live.ledgers_are a y now) (lawful.ledgers_are a x at) in
-      (record {
-        outbox_is = subst (λ o. (out o).lawful) (sym outbox) lawful.outbox_is;
-        ledgers_are = λ k z e. elim (at_or_not k a) [
-          | inl here ↦ subst (λ (v : Owner L). (led v.ledger).lawful) (same_Some y z (sym now ∙ ap (slice_get new.owners.items) (sym here) ∙ e)) is.0
-          | inr apart ↦ lawful.ledgers_are k z (sym (slice_get-set_other old.owners.items a k y apart) ∙ ap (λ l. slice_get l k) (sym owners) ∙ e)
-        ];
-      }, is.1)
+      let is = c.value (live.ledgers_are a y now) (lawful.ledgers_are a x at) in (
+        record {
+          outbox_is = subst (λ o. (out o).lawful) (sym outbox) lawful.outbox_is;
+          ledgers_are = λ k z e. elim (at_or_not k a) [
+            | inl here ↦ subst (λ (v : Owner L). (led v.ledger).lawful) (same_Some y z (sym now ∙ ap (slice_get new.owners.items) (sym here) ∙ e)) is.0
+            | inr apart ↦ lawful.ledgers_are k z (sym (slice_get-set_other old.owners.items a k y apart) ∙ ap (λ l. slice_get l k) (sym owners) ∙ e)
+          ];
+        },
+        is.1,
+      )
 
   pub ledger_stepped : (old new : World O L) (e : Event) (r : Reply) (a : ℕ) (x y : Owner L) (did : Type 0) (commits : LedgerValue → Type 0) → new.scheme ≡ old.scheme → new.outbox ≡ old.outbox → slice_get old.owners.items a ≡ Some x → new.owners.items ≡ set old.owners.items a y → Calls (led x.ledger) (led y.ledger) None did commits
       → ((s : System) → did → Shows old.scheme (shape (seen out led old)) s → Answers old.scheme (shape (seen out led new)) (step old.scheme s e) r) → IsStepped out led old new e r
@@ -261,14 +263,16 @@ module _ {O L : Type 0} (out : O → Standing OutboxValue) (led : L → Standing
   pub forward_lawful : (old new : World O L) (a : ℕ) (x y : Owner L) {faulted : Option Fault} (did : Type 0) (commits : OutboxValue → Type 0) {P : Type 0} → y.ledger ≡ x.ledger → slice_get old.owners.items a ≡ Some x → new.owners.items ≡ set old.owners.items a y → Calls (out old.outbox) (out new.outbox) faulted did commits → AreLive out led new → AreLawful out led old → (did → P) → AreLawful out led new × P
   forward_lawful old new a x y did commits same at owners c live lawful f =
       let is = c.value live.outbox_is lawful.outbox_is in
-      let now : slice_get new.owners.items a ≡ Some y = ap (λ l. slice_get l a) owners ∙ slice_get-set_same old.owners.items a y (slice_get_within old.owners.items a x at) in
-      (record {
-        outbox_is = is.0;
-        ledgers_are = λ k z e. elim (at_or_not k a) [
-          | inl here ↦ subst (λ (v : Owner L). (led v.ledger).lawful) (same_Some y z (sym now ∙ ap (slice_get new.owners.items) (sym here) ∙ e)) (subst (λ l. (led l).lawful) (sym same) (lawful.ledgers_are a x at))
-          | inr apart ↦ lawful.ledgers_are k z (sym (slice_get-set_other old.owners.items a k y apart) ∙ ap (λ l. slice_get l k) (sym owners) ∙ e)
-        ];
-      }, f is.1)
+      let now : slice_get new.owners.items a ≡ Some y = ap (λ l. slice_get l a) owners ∙ slice_get-set_same old.owners.items a y (slice_get_within old.owners.items a x at) in (
+        record {
+          outbox_is = is.0;
+          ledgers_are = λ k z e. elim (at_or_not k a) [
+            | inl here ↦ subst (λ (v : Owner L). (led v.ledger).lawful) (same_Some y z (sym now ∙ ap (slice_get new.owners.items) (sym here) ∙ e)) (subst (λ l. (led l).lawful) (sym same) (lawful.ledgers_are a x at))
+            | inr apart ↦ lawful.ledgers_are k z (sym (slice_get-set_other old.owners.items a k y apart) ∙ ap (λ l. slice_get l k) (sym owners) ∙ e)
+          ];
+        },
+        f is.1,
+      )
 
   pub forward_stepped : (old new : World O L) (e : Event) (r : Reply) (a : ℕ) (x y : Owner L) (did : Type 0) (commits : OutboxValue → Type 0) → y.ledger ≡ x.ledger → slice_get old.owners.items a ≡ Some x → new.scheme ≡ old.scheme → new.owners.items ≡ set old.owners.items a y → Calls (out old.outbox) (out new.outbox) None did commits
       → ((s : System) → did → Shows old.scheme (shape (seen out led old)) s → Answers old.scheme (shape (seen out led new)) (step old.scheme s e) r) → IsStepped out led old new e r
@@ -294,14 +298,17 @@ module _ {O L : Type 0} (out : O → Standing OutboxValue) (led : L → Standing
   both_lawful old new a x y read reads did commits at owners first c live lawful =
       let now : slice_get new.owners.items a ≡ Some y = ap (λ l. slice_get l a) owners ∙ slice_get-set_same old.owners.items a y (slice_get_within old.owners.items a x at) in
       let one = first.value (live.ledgers_are a y now) (lawful.ledgers_are a x at) in
-      let is = c.value live.outbox_is lawful.outbox_is in
-      (record {
-        outbox_is = is.0;
-        ledgers_are = λ k z e. elim (at_or_not k a) [
-          | inl here ↦ subst (λ (v : Owner L). (led v.ledger).lawful) (same_Some y z (sym now ∙ ap (slice_get new.owners.items) (sym here) ∙ e)) one.0
-          | inr apart ↦ lawful.ledgers_are k z (sym (slice_get-set_other old.owners.items a k y apart) ∙ ap (λ l. slice_get l k) (sym owners) ∙ e)
-        ];
-      }, one.1, is.1)
+      let is = c.value live.outbox_is lawful.outbox_is in (
+        record {
+          outbox_is = is.0;
+          ledgers_are = λ k z e. elim (at_or_not k a) [
+            | inl here ↦ subst (λ (v : Owner L). (led v.ledger).lawful) (same_Some y z (sym now ∙ ap (slice_get new.owners.items) (sym here) ∙ e)) one.0
+            | inr apart ↦ lawful.ledgers_are k z (sym (slice_get-set_other old.owners.items a k y apart) ∙ ap (λ l. slice_get l k) (sym owners) ∙ e)
+          ];
+        },
+        one.1,
+        is.1,
+      )
 
   pub both_stepped : (old new : World O L) (e : Event) (r : Reply) (a : ℕ) (x y : Owner L) (read : Type 0) (reads : LedgerValue → Type 0) (did : Type 0) (commits : OutboxValue → Type 0) → new.scheme ≡ old.scheme → slice_get old.owners.items a ≡ Some x → new.owners.items ≡ set old.owners.items a y
       → Calls (led x.ledger) (led y.ledger) None read reads → Calls (out old.outbox) (out new.outbox) None did commits

@@ -63,7 +63,8 @@ impl<L: Ledger + Drop> Owner<L> {
                 unreachable!()
             };
             let standing = self.standings[place];
-            self.forwarder.resume(scheme, device, standing.0, standing.1);
+            self.forwarder
+                .resume(scheme, device, standing.0, standing.1);
         }
     }
 }

@@ -125,10 +125,7 @@ impl<O: Outbox + Drop, L: Ledger + Drop> World<O, L> {
     /// replies tell; each tap so numbered is in the ledger, in the outbox behind what the ledger has, or in
     /// the device behind what the outbox has had, so none is lost; and no reply says that a packet is a
     /// stranger's, misrouted or ahead.
-    pub fn run(
-        mut self,
-        events: &[Event],
-    ) -> Result<(World<O, L>, Vec<Reply>), Stopped<O, L>>
+    pub fn run(mut self, events: &[Event]) -> Result<(World<O, L>, Vec<Reply>), Stopped<O, L>>
         ensures ran { IfOk result (λ r. HasRun O.standing L.standing self r.0 events.now r.1.items) }
         ensures whole { IfOk result (λ r. length r.1.items ≡ length events.now) }
         ensures stopped { IfErr result (λ stop. WasStopped O.standing L.standing self stop.world events.now stop.replies.items stop.fault) }

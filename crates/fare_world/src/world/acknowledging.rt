@@ -38,7 +38,9 @@ impl<O: Outbox + Drop, L: Ledger + Drop> World<O, L> {
             return Ok(Reply::Refused(Refusal::Busy));
         }
         let upto = self.outbox.upto(device)?;
-        let pushed = self.stations[place].line.try_push_back(Ack::new(device, upto));
+        let pushed = self.stations[place]
+            .line
+            .try_push_back(Ack::new(device, upto));
         if pushed.is_err() {
             unreachable!()
         }

@@ -5,8 +5,8 @@ ghost use Rattle.fare_world.specs.declared.event.Event.TheVariants as event;
 
 use crate::world::World;
 use crate::{Refusal, Reply};
-use fare_record::{DeviceId, OwnerId};
 use fare_owner::TapFault;
+use fare_record::{DeviceId, OwnerId};
 use fare_store::{Fault, Ledger, Outbox, Refused};
 
 impl<O: Outbox + Drop, L: Ledger + Drop> World<O, L> {

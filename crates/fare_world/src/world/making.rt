@@ -2,11 +2,11 @@ ghost use Rattle.std.specs.Prelude.{IfOk};
 ghost use Rattle.fare_world.specs.Fresh.{AreFreshDevices, AreFreshStations};
 
 use crate::station::Station;
-use fare_store::Fault;
+use circular_buffer::HeapCircularBuffer;
 use fare_collector::{Collector, CollectorFault};
 use fare_device::{Device, DeviceFault};
-use circular_buffer::HeapCircularBuffer;
 use fare_scheme::Scheme;
+use fare_store::Fault;
 use std::alloc::Global;
 
 // The scheme's devices, none of which has numbered anything.
@@ -48,4 +48,3 @@ fn fresh_stations(alloc: Global, scheme: &Scheme) -> Result<Vec<Station>, Fault>
     }
     Ok(stations)
 }
-

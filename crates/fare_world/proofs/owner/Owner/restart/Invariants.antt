@@ -1,0 +1,15 @@
+use Rattle.std.proofs.Common.{◌≡◌, ℕ, [], None}
+use Rattle.circular_buffer.specs.Buffer.{buffer}
+use Rattle.fare_world.specs.Rooms.{lane_of_cursor, taken_at}
+use Rattle.fare_world.proofs.Resuming.{resumed_to}
+use Rattle.fare_world.proofs.owner.Owner.restart.Given as goal
+
+abbrev pub invariant-loop-place : goal.invariant-loop-place
+invariant-loop-place g l = record {
+  ledger : l.self.ledger ≡ l.fn.self.ledger;
+  standings : l.self.standings ≡ l.fn.self.standings;
+  queue : l.self.queue ≡ buffer [] l.fn.self.queue.capacity;
+  hand : l.self.hand ≡ None;
+  owner : l.self.forwarder.owner ≡ l.fn.self.forwarder.owner;
+  lanes : (device : ℕ) → lane_of_cursor l.self.forwarder device ≡ resumed_to l.scheme (taken_at l.scheme l.fn.self.standings.items) (lane_of_cursor l.fn.self.forwarder) l.place device;
+}
