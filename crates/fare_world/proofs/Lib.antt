@@ -30,5 +30,8 @@ pub mod Running
 pub mod Resuming
 pub mod ReadsThen
 pub mod Pairs
+pub mod Queues
+pub mod Asking
+pub mod Forwarding
 pub mod Starting
 pub mod Packets

@@ -29,7 +29,7 @@ pub returns-in_err-ask_uptos : goal.returns-in_err-ask_uptos
 returns-in_err-ask_uptos g c =
     let w = seen g.O.Outbox.standing g.L.Ledger.standing c.args.self.now in
     let at = sym c.station_position.ensures.value ∙ c.in-Some.is in
-    let did : Reads (g.O.Outbox.standing c.args.self.now.outbox) (g.O.Outbox.standing c.ask_uptos.new.outbox) (λ (_ : Unit). AreUptos w.scheme w.outbox.upto c.ask_uptos.new.uptos) (Err c.in_err-ask_uptos.field-0.0) = c.in_err-ask_uptos.ensures.read in
+    let did : Reads (g.O.Outbox.standing c.args.self.now.outbox) (g.O.Outbox.standing c.ask_uptos.new.outbox) (λ (_ : Unit {0}). AreUptos w.scheme w.outbox.upto c.ask_uptos.new.uptos) (Err c.in_err-ask_uptos.field-0.0) = c.in_err-ask_uptos.ensures.read in
     applied_err g.O.Outbox.standing g.L.Ledger.standing c.args.self.now _ _ c.from_residual.result _ c.from_residual.ensures.1 (outbox_failed g.O.Outbox.standing g.L.Ledger.standing c.args.self.now _ _ _ _ _ refl refl did (λ is i. record (shape w) { outbox = is.0 i }) (λ s sh. ap is_some at))
 
 pub returns : goal.returns
@@ -41,7 +41,7 @@ returns g c =
     let new = c.resume_all.new.self in
     let at = sym c.station_position.ensures.value ∙ c.in-Some.is in
     let within : k < length w.stations = omega (arith, c.in-Some.ensures.within, c.args.self.now.rooms.station_count) in
-    let did : Reads (g.O.Outbox.standing c.args.self.now.outbox) (g.O.Outbox.standing c.ask_uptos.new.outbox) (λ (_ : Unit). AreUptos w.scheme w.outbox.upto c.ask_uptos.new.uptos) (Ok tt) = c.in_ok-ask_uptos.ensures.read in
+    let did : Reads (g.O.Outbox.standing c.args.self.now.outbox) (g.O.Outbox.standing c.ask_uptos.new.outbox) (λ (_ : Unit {0}). AreUptos w.scheme w.outbox.upto c.ask_uptos.new.uptos) (Ok tt) = c.in_ok-ask_uptos.ensures.read in
     let same : c.deref.result.now ≡ c.ask_uptos.new.uptos = grind (arith, common_steps) in
     let resumed : (d : ℕ) → IsSome (position_of_device w.scheme d) → next_in new.collector d ≡ option_map (λ _. upto_at w.scheme c.deref.result.now d + 1) (next_in x.collector d) = λ d known. c.resume_all.ensures.resumed d known in
     outbox_stepped g.O.Outbox.standing g.L.Ledger.standing c.args.self.now _ _ _ _ _ refl refl did (λ s is sh.
