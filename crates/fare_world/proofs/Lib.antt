@@ -33,5 +33,7 @@ pub mod Pairs
 pub mod Queues
 pub mod Asking
 pub mod Forwarding
+pub mod Again
+pub mod Hub
 pub mod Starting
 pub mod Packets

@@ -80,7 +80,7 @@ returns-in-Err-Failed g c =
     let cursor = some_of (cursor_of y.forwarder d) (has.forwarder.each d known) in
     let device = some_of (position_of_device w.scheme d) known in
     let new : Owner g.row.L.Denot = record y { forwarder = c.next.new.self } in
-    let did : Asks {R = UnknownDevice} (g.O.Outbox.standing c.args.self.now.outbox) (g.O.Outbox.standing c.next.new.outbox) (IsNextOf w.outbox y.forwarder.owner d (cursor_of y.forwarder d)) (Err (refused.Failed c.in-Err-Failed.fault)) = subst (λ (v : Refused UnknownDevice). Asks {R = UnknownDevice} (g.O.Outbox.standing c.args.self.now.outbox) (g.O.Outbox.standing c.next.new.outbox) (IsNextOf w.outbox y.forwarder.owner d (cursor_of y.forwarder d)) (Err v)) (c.in-Err-Failed.field-0-is ∙ ap refused.Failed (sym c.in-Err-Failed.fault-is)) c.in-Err-Failed.ensures.read in
+    let did = subst (λ (v : Refused UnknownDevice). Asks {R = UnknownDevice} (g.O.Outbox.standing c.args.self.now.outbox) (g.O.Outbox.standing c.next.new.outbox) (IsNextOf w.outbox y.forwarder.owner d (cursor_of y.forwarder d)) (Err v)) (c.in-Err-Failed.field-0-is ∙ ap refused.Failed (sym c.in-Err-Failed.fault-is)) c.in-Err-Failed.ensures.read in
     forward_failed g.O.Outbox.standing g.L.Ledger.standing c.args.self.now _ _ _ a y new _ _ refl here refl refl did
     (λ is i. shape_of w (is.0 i) (owners_kept g.L.Ledger.standing xs a y new c.index_mut-side.ensures.value (λ k. record (owner_seen g.L.Ledger.standing y) { cursors = λ e. ap (option_map (λ (z : Cursor). z.lane)) (c.in-Err-Failed.ensures.unmoved e) k }) i))
     (λ s sh i. is_some (owner i) && known i)

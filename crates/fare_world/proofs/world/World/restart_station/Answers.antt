@@ -1,3 +1,5 @@
+use Rattle.fare_world.proofs.RoomLemmas.{rooms_of_station, rooms_of_uptos}
+use Rattle.fare_world.proofs.Hub.{written}
 use Rattle.circular_buffer.specs.Buffer.{Buffer}
 use Rattle.fare_record.specs.Values.{AckValue}
 use Rattle.std.proofs.Common.{◌≡◌, ◌<◌, ℕ, Some, None, length, set, refl, sym, ap, ◌∙◌, subst, arith, ◌+◌}
@@ -51,4 +53,9 @@ returns g c =
     (λ d known. resumed d known ∙ ap (λ l. option_map (λ _. upto_at w.scheme l d + 1) (next_in x.collector d)) same ∙ ap (λ n. option_map (λ _. n + 1) (next_in x.collector d)) (uptos_at w.scheme w.outbox.upto c.ask_uptos.new.uptos d is.1 known)) c.resume_all.ensures.others (ap (λ (l : Buffer AckValue). l.items) c.resume_all.ensures.line))))
 
 pub invariant_of-self-2 : goal.invariant_of-self-2
-invariant_of-self-2 g c = ?
+invariant_of-self-2 g c =
+    let old = c.args.self.now in
+    let x = c.index_mut.result.now in
+    let within : c.in-Some.place < length old.stations.items = omega (arith, c.in-Some.ensures.within, old.rooms.station_count) in
+    let long = c.ask_uptos.auto.uptos ∙ ap length c.deref_mut.ensures.value in
+    record { rooms = rooms_of_uptos old _ _ (ap length (written old.uptos c.ask_uptos.new.uptos long) ∙ long) (rooms_of_station old c.in-Some.place x c.resume_all.new.self within c.index_mut.ensures.value (ap (λ (b : Buffer AckValue). b.capacity) c.resume_all.ensures.line)) }
