@@ -1,11 +1,11 @@
-ghost use Rattle.std.specs.Prelude.{◌≡◌, ◌∷◌, [], ◌≤◌};
+ghost use Rattle.std.specs.Prelude.{◌≡◌, ◌++◌, ◌∷◌, [], ◌≤◌, All};
 ghost use Rattle.fare_record.specs.Limits.{IsNumber};
 ghost use Rattle.fare_inbox_queue.specs.InboxPasses.{station_of, stations_of, IsStationOf, IsWriterOf, IsInboxEnded};
-ghost use Rattle.fare_inbox_queue.specs.LinePasses.{IsAckOf};
+ghost use Rattle.fare_inbox_queue.specs.LinePasses.{IsAckOf, IsHearOf};
 
 use fare_inbox_queue::{
-    AckItem, AckLine, AckPass, Arrived, Full, Inbox, InboxEnded, QueueFault, StationPass,
-    WriterPass,
+    AckItem, AckLine, AckPass, Arrived, Full, HearPass, Inbox, InboxEnded, QueueFault,
+    StationPass, WriterPass,
 };
 use fare_record::{Ack, Day, DeviceId, Moment, OwnerId, ProductId, Record, StationId, Tap, Token};
 use std::alloc::Global;
@@ -66,6 +66,17 @@ fn tapped(rt: &impl Abort, device: DeviceId, link: u64) -> Record
     Record::new(device, link, owner, link, Tap::new(product, token, moment, day))
 }
 
+// The last of the passes.
+#[tactic(auto, using(crate::proofs::Passes::popped))]
+fn last(rt: &impl Abort, inbox: &Inbox, passes: &mut Vec<StationPass>) -> StationPass
+    requires { All (IsStationOf inbox.now) passes.old.items }
+    ensures others { All (IsStationOf inbox.now) passes.new.items }
+    ensures pass { IsStationOf inbox.now result }
+    ensures items { passes.old.items ≡ passes.new.items ++ result ∷ [] }
+{
+    passes.pop().expect(rt, "pass")
+}
+
 // An inbox for the stations 1 and 2, with its passes.
 fn two_stations(
     rt: &impl Abort,
@@ -77,8 +88,8 @@ fn two_stations(
 {
     let stations = [station(rt, 1), station(rt, 2)];
     let (inbox, mut passes, writer) = Inbox::new(alloc, capacity, &stations).expect(rt, "inbox");
-    let second = passes.pop().expect(rt, "second pass");
-    let first = passes.pop().expect(rt, "first pass");
+    let second = last(rt, &inbox, &mut passes);
+    let first = last(rt, &inbox, &mut passes);
     (inbox, first, second, writer)
 }
 
@@ -308,36 +319,57 @@ fn a_line_has_room_for_1_to_1024_items(rt: HostRuntime) {
     }
 }
 
-// An acknowledgement of all taps of a device up to the second.
+// All taps of device 7 up to the second.
+fn two(rt: &impl Abort) -> Ack
+    ensures { result.upto ≡ 2 }
+{
+    Ack::new(device(rt, 7), 2)
+}
+
 fn put_two<R: Wait>(
     rt: &R,
     line: &AckLine,
     pass: &mut AckPass,
-    device: DeviceId,
+    acked: Ack,
     stored: u64,
 ) -> Result<(), Full<AckItem>>
     requires queue { IsAckOf line.now pass.old }
-    requires stored { 2 ≤ stored }
+    requires stored { acked.upto ≤ stored }
     ensures { IsAckOf line.now pass.new }
 {
-    line.put(rt, pass, AckItem::Upto(Ack::new(device, 2)), stored)
+    line.put(rt, pass, AckItem::Upto(acked), stored)
+}
+
+fn take_twice<R: Wait>(rt: &R, line: &AckLine, pass: &mut HearPass) -> [Option<AckItem>; 2]
+    requires { IsHearOf line.now pass.old }
+    ensures { IsHearOf line.now pass.new }
+{
+    [line.take(rt, pass), line.take(rt, pass)]
+}
+
+// How many items were taken and how many are left, and the next two of these.
+fn ending<R: Wait>(
+    rt: &R,
+    line: AckLine,
+    ack: AckPass,
+    hear: HearPass,
+) -> ((u64, u64), [Option<AckItem>; 2])
+    requires { IsAckOf line ack × IsHearOf line hear }
+{
+    let mut ended = line.finish(rt, ack, hear);
+    let counts = (ended.taken, ended.left);
+    (counts, [ended.next(rt), ended.next(rt)])
 }
 
 #[test]
 fn a_line_of_one_holds_one(rt: HostRuntime) {
-    let seven = device(&rt, 7);
-    let acked = Ack::new(seven, 2);
+    let acked = two(&rt);
     let (line, mut ack, mut hear) = AckLine::new(rt.alloc(), 1).expect(&rt, "line");
-    let put = [
-        put_two(&rt, &line, &mut ack, seven, 2),
-        put_two(&rt, &line, &mut ack, seven, 2),
-    ];
-    assert_eq!(rt; put, [Ok(()), Err(Full(AckItem::Upto(acked)))]);
-    let taken = [line.take(&rt, &mut hear), line.take(&rt, &mut hear)];
-    assert_eq!(rt; taken, [Some(AckItem::Upto(acked)), None]);
-    assert!(rt; put_two(&rt, &line, &mut ack, seven, 3).is_ok());
-    let mut ended = line.finish(&rt, ack, hear);
-    assert_eq!(rt; (ended.taken, ended.left), (1, 1));
-    let left = [ended.next(&rt), ended.next(&rt)];
-    assert_eq!(rt; left, [Some(AckItem::Upto(acked)), None]);
+    assert_eq!(rt; put_two(&rt, &line, &mut ack, acked, 2), Ok(()));
+    let full = Err(Full(AckItem::Upto(acked)));
+    assert_eq!(rt; put_two(&rt, &line, &mut ack, acked, 2), full);
+    let want = [Some(AckItem::Upto(acked)), None];
+    assert_eq!(rt; take_twice(&rt, &line, &mut hear), want);
+    assert_eq!(rt; put_two(&rt, &line, &mut ack, acked, 3), Ok(()));
+    assert_eq!(rt; ending(&rt, line, ack, hear), ((1, 1), want));
 }
