@@ -4,8 +4,8 @@ ghost use Rattle.fare_inbox_queue.specs.InboxPasses.{station_of, stations_of, Is
 ghost use Rattle.fare_inbox_queue.specs.LinePasses.{IsAckOf, IsHearOf};
 
 use fare_inbox_queue::{
-    AckItem, AckLine, AckPass, Arrived, Full, HearPass, Inbox, InboxEnded, QueueFault,
-    StationPass, WriterPass,
+    AckItem, AckLine, AckPass, Arrived, Full, HearPass, Inbox, InboxEnded, QueueFault, StationPass,
+    WriterPass,
 };
 use fare_record::{Ack, Day, DeviceId, Moment, OwnerId, ProductId, Record, StationId, Tap, Token};
 use std::alloc::Global;
@@ -23,12 +23,7 @@ fn device(rt: &impl Abort, number: u64) -> DeviceId {
 }
 
 // Why there is no inbox for so many items of the stations with these numbers, if there is none.
-fn fault(
-    rt: &impl Abort,
-    alloc: Global,
-    capacity: u32,
-    numbers: &[u64],
-) -> Option<QueueFault> {
+fn fault(rt: &impl Abort, alloc: Global, capacity: u32, numbers: &[u64]) -> Option<QueueFault> {
     let mut stations = Vec::new(alloc);
     for number in numbers {
         stations.push(station(rt, *number)).expect(rt, "stations");
@@ -63,7 +58,13 @@ fn tapped(rt: &impl Abort, device: DeviceId, link: u64) -> Record
     let token = Token::new(77).expect(rt, "token");
     let moment = Moment::new(1_704_100_000).expect(rt, "moment");
     let day = Day::new(19_723).expect(rt, "day");
-    Record::new(device, link, owner, link, Tap::new(product, token, moment, day))
+    Record::new(
+        device,
+        link,
+        owner,
+        link,
+        Tap::new(product, token, moment, day),
+    )
 }
 
 // The last of the passes.
@@ -142,7 +143,10 @@ fn an_inbox_of_three_gives_them_in_order(rt: HostRuntime) {
         put_link(&rt, &inbox, &mut first, seven, 3),
         put_link(&rt, &inbox, &mut second, seven, 4),
     ];
-    assert_eq!(rt; put, [Ok(()), Ok(()), Ok(()), Err(Full(arrived(&rt, 2, 4)))]);
+    assert_eq!(rt;
+        put,
+        [Ok(()), Ok(()), Ok(()), Err(Full(arrived(&rt, 2, 4)))]
+    );
     let taken = inbox.take(&rt, &mut writer);
     let mut ended = finish(&rt, rt.alloc(), inbox, first, second, writer);
     assert_eq!(rt; (ended.taken, ended.left), (1, 2));

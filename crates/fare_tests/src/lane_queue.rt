@@ -15,14 +15,23 @@ fn device(rt: &impl Abort, number: u64) -> DeviceId
 
 // Why there is no queue for so many items with bases of device 1, device 2 and this one, if there is none.
 fn fault(rt: &impl Abort, alloc: Global, capacity: u32, third: u64) -> Option<LaneQueueFault> {
-    let bases = [(device(rt, 1), 1), (device(rt, 2), 1), (device(rt, third), 2)];
+    let bases = [
+        (device(rt, 1), 1),
+        (device(rt, 2), 1),
+        (device(rt, third), 2),
+    ];
     LaneQueue::new(alloc, capacity, &bases).err()
 }
 
 #[test]
 fn a_lane_queue_has_room_for_1_to_1024_items(rt: HostRuntime) {
     let range = Some(LaneQueueFault::Range);
-    let cases = [(0, 3, range), (1025, 3, range), (4, 1, range), (1024, 3, None)];
+    let cases = [
+        (0, 3, range),
+        (1025, 3, range),
+        (4, 1, range),
+        (1024, 3, None),
+    ];
     for (capacity, third, want) in cases {
         assert_eq!(rt; fault(&rt, rt.alloc(), capacity, third), want);
     }
@@ -89,6 +98,9 @@ fn what_is_taken_and_left_is_what_was_put(rt: HostRuntime) {
     let mut ended = queue.finish(&rt, forward, owner);
     assert_eq!(rt; (ended.taken, ended.left), (1, 1));
     let left = [taken, ended.next(&rt), ended.next(&rt)];
-    assert_eq!(rt; left, [Some(Item::Tap(tapped)), Some(Item::Stated(stated)), None]);
+    assert_eq!(rt;
+        left,
+        [Some(Item::Tap(tapped)), Some(Item::Stated(stated)), None]
+    );
     assert_eq!(rt; (ended.taken, ended.left), (1, 0));
 }

@@ -32,6 +32,6 @@ loop-station-preserved c =
         station ∷ done,
         was.ended.1 ∙ (ap (λ (l : List StationPass). l ++ done) c.in-Some.ensures.items ∙ append_assoc c.pop.new.self.items (station ∷ []) done),
         ap (λ (v : View). v.ended) step
-        ∙ ap (λ (y : ℕ × List Arrived × List (ℕ × List Arrived)). (y.0, y.1) ∷ y.2) (λ i. (((λ i. (view (own i)).station) ∙ out.1.named) i, (view (own i)).sent, was.ended.2 i)),
+            ∙ ap (λ (y : ℕ × List Arrived × List (ℕ × List Arrived)). (y.0, y.1) ∷ y.2) (λ i. (((λ i. (view (own i)).station) ∙ out.1.named) i, (view (own i)).sent, was.ended.2 i)),
       );
     }
