@@ -1,4 +1,4 @@
-use Rattle.std.proofs.Common.{◌≡◌, true, ap, ◌∙◌}
+use Rattle.std.proofs.Common.{ap, ◌∙◌}
 use Rattle.crossbeam_queue.specs.Passes.{view}
 use Rattle.fare_lane_queue.specs.declared.rule.View.{View}
 use Rattle.fare_lane_queue.proofs.Steps.{joins, learns_all}
