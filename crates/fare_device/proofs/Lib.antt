@@ -1,2 +1,5 @@
+pub mod Counting
+pub mod Kept
 pub mod Places
 pub mod Sums
+pub mod Without

@@ -1,2 +1,3 @@
 pub mod DeviceWords
 pub mod Tapping
+pub mod Turning
