@@ -34,6 +34,11 @@ IsTail id base waiting = (place : ℕ) (r : RecordValue) → slice_get waiting p
 abbrev pub AreWithin : ℕ → List ℕ → Type 0
 AreWithin most ns = (k n : ℕ) → slice_get ns k ≡ Some n → n ≤ most
 
+-- counts with a place for each owner that a scheme may have
+pub record AreCounts (ns : List ℕ) : Type 0 where
+  pub places : length ns ≡ 16
+  pub within : AreWithin 1099511627775 ns
+
 pub record IsDeviceValue (x : DeviceValue) : Type 0 where
   pub few : last_link x ≤ 1099511627775
   pub within : length x.waiting ≤ x.room

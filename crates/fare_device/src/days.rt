@@ -1,4 +1,4 @@
-ghost use Rattle.std.specs.Prelude.{◌≡◌, ◌↔◌, ◌<◌, ◌≤◌, [], ◌∷◌, ◌++◌, ℕ, IfOk, IfSome, IsTrue, length, slice_get};
+ghost use Rattle.std.specs.Prelude.{◌≡◌, ◌↔◌, ◌<◌, ◌≤◌, [], ◌∷◌, ◌++◌, ℕ, IfOk, IfSome, IsSome, IsTrue, length, slice_get};
 ghost use Rattle.fare_record.specs.Limits.{IsCount};
 ghost use Rattle.fare_device.specs.DeviceWords.{AreWithin};
 ghost use Rattle.fare_device.specs.Turning.{count_on, is_waiting, without};
@@ -23,13 +23,13 @@ struct DayCounts {
 
 impl Model for DayCounts {
     ghost use Rattle.std.specs.Prelude.{ℕ, List};
-    ghost use Rattle.fare_device.specs.DeviceWords.{AreWithin};
+    ghost use Rattle.fare_device.specs.DeviceWords.{AreCounts};
 
     ghost Value = { ℕ × List ℕ };
 
     ghost view = { λ a. (a.day, a.counts) };
 
-    ghost invariant = { λ a. AreWithin 1099511627775 a.counts };
+    ghost invariant = { λ a. AreCounts a.counts };
 
     ghost inverse = { λ v. record { day = v.0; counts = v.1 } };
 }
@@ -88,9 +88,11 @@ impl WaitingDays {
         }
     }
 
-    /// The count of a day for the owner at a place; None where the day doesn't wait.
+    /// The count of a day for the owner at a place; None where the day doesn't wait, or there is no such
+    /// place.
     pub(crate) fn count(&self, day: Day, place: usize) -> Option<u64>
         ensures value { result ≡ count_on self.now day place }
+        ensures found { place < 16 → IsSome result ↔ IsTrue (is_waiting self.now day) }
         ensures valid { IfSome result IsCount }
     {
         for kept in &self.days {

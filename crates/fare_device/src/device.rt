@@ -1,4 +1,4 @@
-ghost use Rattle.std.specs.Prelude.{◌≡◌, ◌↔◌, ◌<◌, ◌≤◌, ◌+◌, ◌-◌, ℕ, None, Some, IsSome, IsTrue, IsFalse, IfNone, IfOk, IfErr, IsErr, OnOk, OnErr, MatchResult, length, nat_eq, option_map, position, slice_get};
+ghost use Rattle.std.specs.Prelude.{◌≡◌, ◌↔◌, ◌<◌, ◌≤◌, ◌+◌, ◌-◌, ℕ, None, Some, IsSome, IsTrue, IsFalse, IfSome, IfNone, IsOk, IfOk, IfErr, IsErr, OnOk, OnErr, MatchResult, length, nat_eq, option_map, position, slice_get};
 ghost use Rattle.fare_frame.specs.declared.frame.Frame.TheVariants.{Tapped};
 ghost use Rattle.fare_scheme.specs.Words.{buffer_of, position_of_device};
 ghost use Rattle.fare_device.specs.DeviceWords.{IsDeviceValue, fresh_device, taking_over, acknowledged, last_link, AreNumbers};
@@ -133,6 +133,7 @@ impl Device {
     pub fn new(alloc: Global, id: DeviceId, scheme: &Scheme) -> Result<Device, DeviceFault>
         ensures made { IfOk result (λ device. device ≡ fresh_device id scheme.now.start device.room (keys_of scheme.now.owners)) }
         ensures room { IfOk result (λ device. buffer_of scheme.now id ≡ Some device.room) }
+        ensures lanes { IfOk result (λ device. length device.lanes ≡ length scheme.now.owners) }
         ensures known { IfOk result (λ _. IsSome (position_of_device scheme.now id)) }
         ensures unknown { IfErr result (λ fault. (fault ≡ DeviceFault.UnknownDevice) ↔ (position_of_device scheme.now id ≡ None)) }
     {
@@ -181,6 +182,7 @@ impl Device {
     ) -> Result<Device, NumbersFault>
         ensures made { IfOk result (λ device. device ≡ taking_over id day device.room (keys_of scheme.now.owners) last lanes.now) }
         ensures room { IfOk result (λ device. buffer_of scheme.now id ≡ Some device.room) }
+        ensures lanes { IfOk result (λ device. length device.lanes ≡ length scheme.now.owners) }
         ensures numbers { IfOk result (λ _. AreNumbers scheme.now last lanes.now) }
         ensures unknown { IfErr result (λ fault. (fault ≡ NumbersFault.UnknownDevice) ↔ (position_of_device scheme.now id ≡ None)) }
         ensures range { IfErr result (λ fault. (fault ≡ NumbersFault.Range) ↔ (IsSome (position_of_device scheme.now id) × (AreNumbers scheme.now last lanes.now → ⊥))) }
@@ -286,7 +288,8 @@ impl Device {
     /// The statement of a day that waits: how many taps of it the device numbered for an owner. `NotWaiting`
     /// where the day does not wait, or the owner is not one of the scheme that the device was made with.
     pub fn statement(&self, day: Day, owner: OwnerId) -> Result<Frame, NotWaiting>
-        ensures { MatchResult result (λ frame. stated self.now day owner ≡ Some frame) (λ _. stated self.now day owner ≡ None) }
+        ensures ok { IsOk result ↔ (IsTrue (is_waiting self.now.days day) × IsSome (position (nat_eq owner) self.now.owners)) }
+        ensures value { MatchResult result (λ frame. stated self.now day owner ≡ Some frame) (λ _. stated self.now day owner ≡ None) }
     {
         let Some(place) = place_of(&self.owners, owner) else {
             return Err(NotWaiting);
@@ -383,7 +386,8 @@ fn owners_of(alloc: Global, scheme: &Scheme) -> Result<Vec<OwnerId>, AllocError>
 
 // The place of an owner.
 fn place_of(owners: &[OwnerId], owner: OwnerId) -> Option<usize>
-    ensures { result ≡ position (nat_eq owner) owners.now }
+    ensures is { result ≡ position (nat_eq owner) owners.now }
+    ensures within { IfSome result (λ place. place < length owners.now) }
 {
     owners.iter().position(|known| *known == owner)
 }

@@ -6,5 +6,7 @@
 
 mod days;
 mod device;
+mod laws;
 
 pub use device::{Device, DeviceFault, NotWaiting, NumbersFault, TapRefusal, TurnRefusal};
+pub use laws::a_device_counts_what_it_numbered;
