@@ -43,7 +43,7 @@ enum Answer {
 
 // Two owners, each with the product of its number, and device 1 with room for eight taps.
 fn two_owners(rt: &impl Abort, alloc: Global) -> Scheme {
-    let zone = Zone::read(alloc, "GMT0BST,M3.5.0/1,M10.5.0").expect(rt, "zone");
+    let zone = Zone::read("GMT0BST,M3.5.0/1,M10.5.0").expect(rt, "zone");
     let mut draft = Draft::new(alloc);
     draft.add_owner(1, 4).expect(rt, "owner");
     draft.add_owner(2, 4).expect(rt, "owner");
