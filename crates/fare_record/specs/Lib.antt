@@ -5,3 +5,4 @@ pub mod Lanes
 pub mod Bodies
 pub mod Wide
 pub mod Fields
+pub mod Items
