@@ -9,6 +9,8 @@ use Rattle.fare_collector.specs.declared.fault.CollectorFault.{CollectorFault}
 use Rattle.fare_collector.specs.declared.fault.CollectorFault.TheVariants.{UnknownStation}
 use Rattle.fare_collector.specs.declared.fault.CollectRefusal.{CollectRefusal}
 use Rattle.fare_collector.specs.declared.fault.CollectRefusal.TheVariants.{Stranger, Misrouted, Old, Ahead}
+use Rattle.fare_collector.specs.declared.fault.StatementRefusal.{StatementRefusal}
+use Rattle.fare_collector.specs.declared.fault.StatementRefusal.TheVariants as statement
 
 -- the link that a collector accepts next from a device, none for a device of another station
 abbrev pub next_in : Collector → ℕ → Option ℕ
@@ -43,6 +45,12 @@ collect_judged (Some next) owned link =
     else (if nat_lt link next then Err Old
     else (if nat_lt next link then Err Ahead
     else Ok tt))
+
+-- the first refusal of a statement that applies, by the next link of its device and the place of its owner
+abbrev pub statement_judged : Option ℕ → Option ℕ → Result Unit StatementRefusal
+statement_judged None owner = Err statement.Stranger
+statement_judged (Some next) None = Err statement.Misrouted
+statement_judged (Some next) (Some place) = Ok tt
 
 -- the table with the number at one place changed, where there is one
 abbrev pub changed : (ℕ → ℕ) → (ℕ → Option ℕ) → ℕ → ℕ → Option ℕ

@@ -1,11 +1,11 @@
 ghost use Rattle.std.specs.Prelude.{◌≡◌, ◌↔◌, ◌+◌, ◌≤◌, ℕ, IsSome, IfSome, IsOk, OnOk, IfOk, OnErr, IfErr, unwrap_or};
 ghost use Rattle.fare_link.specs.Values.{IsReceiver};
-ghost use Rattle.fare_scheme.specs.Words.{position_of_station};
-ghost use Rattle.fare_collector.specs.Collecting.{next_in, first_link, new_refusal, is_owned, collect_judged, IsDue, changed, one_back};
+ghost use Rattle.fare_scheme.specs.Words.{position_of_owner, position_of_station};
+ghost use Rattle.fare_collector.specs.Collecting.{next_in, first_link, new_refusal, is_owned, collect_judged, statement_judged, IsDue, changed, one_back};
 
-use crate::{CollectRefusal, CollectorFault};
+use crate::{CollectRefusal, CollectorFault, StatementRefusal};
 use fare_link::{Receiver, Verdict};
-use fare_record::{DeviceId, LAST_NUMBER, Record, StationId};
+use fare_record::{DeviceId, LAST_NUMBER, Record, Statement, StationId};
 use fare_scheme::Scheme;
 use std::alloc::Global;
 use std::collections::HashMap;
@@ -90,6 +90,27 @@ impl Collector {
                 Ok(())
             }
         }
+    }
+
+    /// Accepts a statement of one of its devices, for an owner that is registered. Nothing changes: statements
+    /// have no link, and may come in any order and again.
+    ///
+    /// Refused by the first case of `StatementRefusal` that applies.
+    pub fn accept_statement(
+        &self,
+        scheme: &Scheme,
+        statement: &Statement,
+    ) -> Result<(), StatementRefusal>
+        ensures ok { IsOk result ↔ (IsSome (next_in self.now statement.now.device) × IsSome (position_of_owner scheme.now statement.now.owner)) }
+        ensures judged { result ≡ statement_judged (next_in self.now statement.now.device) (position_of_owner scheme.now statement.now.owner) }
+    {
+        if self.next(statement.device()).is_none() {
+            return Err(StatementRefusal::Stranger);
+        }
+        if scheme.owner_position(statement.owner()).is_none() {
+            return Err(StatementRefusal::Misrouted);
+        }
+        Ok(())
     }
 
     /// Undoes the last accept of a device: the link that it accepts next is one less, where it is above 1.

@@ -27,3 +27,14 @@ pub enum CollectRefusal {
     #[error("an earlier link comes first")]
     Ahead,
 }
+
+/// Why a statement isn't accepted, in the order in which this is tested.
+#[derive(Clone, Copy, PartialEq, Eq, Debug, Error)]
+pub enum StatementRefusal {
+    /// Its device isn't one of this station.
+    #[error("the device isn't one of this station")]
+    Stranger,
+    /// Its owner isn't registered.
+    #[error("the owner isn't registered")]
+    Misrouted,
+}

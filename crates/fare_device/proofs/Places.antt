@@ -1,7 +1,10 @@
--- What stands at a place of a list after a write.
-use Rattle.std.proofs.Common.{◌≡◌, ℕ, zero, suc, List, [], ◌∷◌, Some, inl, inr}
+-- What stands at a place of a list after a write, an append or a cut.
+use Rattle.std.proofs.Common.{◌≡◌, ℕ, zero, suc, ◌+◌, ◌≤◌, List, [], ◌∷◌, ◌++◌, length, take, drop, Some, inl, inr, refl, sym, ap, ◌∙◌, arith}
 use Rattle.std.proofs.Math.ListN.{set}
+use Rattle.std.proofs.lemmas.Map.Entries.{length-keys_of}
 use Rattle.std.specs.Prelude.{slice_get, ◌⊎◌}
+use Rattle.std.specs.Map.{keys_of}
+use Rattle.fare_scheme.specs.Words.{id_at}
 
 pub slice_get-set_cases : {X : Type 0} (xs : List X) (i : ℕ) (v : X) (k : ℕ) (x : X) → slice_get (set xs i v) k ≡ Some x → (v ≡ x) ⊎ (slice_get xs k ≡ Some x)
 slice_get-set_cases [] i v k x e = inr e
@@ -9,3 +12,33 @@ slice_get-set_cases (y ∷ ys) zero v zero x e = let same : v ≡ x = cc in inl 
 slice_get-set_cases (y ∷ ys) zero v (suc k) x e = inr e
 slice_get-set_cases (y ∷ ys) (suc i) v zero x e = inr e
 slice_get-set_cases (y ∷ ys) (suc i) v (suc k) x e = slice_get-set_cases ys i v k x e
+
+next_place : {X : Type 0} (n k : ℕ) (x y : X) (P : Type 0) → P ⊎ ((k ≡ n) × (y ≡ x)) → P ⊎ ((suc k ≡ suc n) × (y ≡ x))
+next_place n k x y P (inl h) = inl h
+next_place n k x y P (inr h) = inr (ap suc h.0, h.1)
+
+pub slice_get-push_cases : {X : Type 0} (xs : List X) (y : X) (k : ℕ) (x : X) → slice_get (xs ++ y ∷ []) k ≡ Some x → (slice_get xs k ≡ Some x) ⊎ ((k ≡ length xs) × (y ≡ x))
+slice_get-push_cases [] y zero x e = let same : y ≡ x = cc in inr (refl, same)
+slice_get-push_cases [] y (suc k) x e = absurd (cc)
+slice_get-push_cases (z ∷ zs) y zero x e = inl e
+slice_get-push_cases (z ∷ zs) y (suc k) x e = next_place (length zs) k x y (slice_get zs k ≡ Some x) (slice_get-push_cases zs y k x e)
+
+pub slice_get-drop : {X : Type 0} (n : ℕ) (xs : List X) (k : ℕ) → slice_get (drop n xs) k ≡ slice_get xs (n + k)
+slice_get-drop zero xs k = ap (slice_get xs) (omega arith)
+slice_get-drop (suc n) [] k = refl
+slice_get-drop (suc n) (x ∷ xs) k = let e : suc n + k ≡ suc (n + k) = omega arith in slice_get-drop n xs k ∙ sym (ap (slice_get (x ∷ xs)) e)
+
+-- one id more from the front
+pub one_more : {X : Type 0} (entries : List (ℕ × X)) (k id : ℕ) → id_at entries k ≡ Some id → take (k + 1) (keys_of entries) ≡ take k (keys_of entries) ++ id ∷ []
+one_more [] k id e = absurd (cc)
+one_more (x ∷ xs) zero id e = let same : x.0 ≡ id = cc in ap (λ i. i ∷ []) same
+one_more (x ∷ xs) (suc k) id e =
+    let next : suc k + 1 ≡ suc (k + 1) = omega arith in
+    ap (λ n. take n (keys_of (x ∷ xs))) next ∙ ap (λ t. x.0 ∷ t) (one_more xs k id e)
+
+-- all ids
+pub take_keys : {X : Type 0} (entries : List (ℕ × X)) (k : ℕ) → length entries ≤ k → take k (keys_of entries) ≡ keys_of entries
+take_keys [] zero le = refl
+take_keys [] (suc k) le = refl
+take_keys (x ∷ xs) zero le = absurd (omega arith)
+take_keys (x ∷ xs) (suc k) le = ap (λ t. x.0 ∷ t) (take_keys xs k (omega arith))

@@ -1,2 +1,4 @@
 pub mod DeviceWords
+pub mod Numbered
 pub mod Tapping
+pub mod Turning

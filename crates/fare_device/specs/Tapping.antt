@@ -7,7 +7,7 @@ use Rattle.fare_device.specs.DeviceWords.{DeviceValue, last_link}
 use Rattle.fare_device.specs.declared.device.TapRefusal.{TapRefusal}
 use Rattle.fare_device.specs.declared.device.TapRefusal.TheVariants.{UnknownProduct, DayClosed, DayAhead, NumbersSpent, BufferFull}
 
--- the tap gets the device's next link and its owner's next lane, and waits behind the others
+-- the tap gets the device's next link and its owner's next lane, waits behind the others, and is one more of its owner's taps of the open day
 pub record IsTapped (sc : SchemeValue) (old : DeviceValue) (product token moment day : ℕ) (r : RecordValue) (new : DeviceValue) : Type 0 where
   pub place : ℕ
   pub owner : owner_of sc product ≡ Some r.owner
@@ -16,7 +16,7 @@ pub record IsTapped (sc : SchemeValue) (old : DeviceValue) (product token moment
   pub few : last_link old < 1099511627775
   pub room : length old.waiting < old.room
   pub is : r ≡ record { device = old.id; link = last_link old + 1; owner = r.owner; lane = slice_index old.lanes place + 1; tap = record { product = product; token = token; moment = moment; day = day } }
-  pub value : new ≡ record old { waiting = old.waiting ++ r ∷ []; lanes = slice_set old.lanes place r.lane }
+  pub value : new ≡ record old { waiting = old.waiting ++ r ∷ []; lanes = slice_set old.lanes place r.lane; counts = slice_set old.counts place (slice_index old.counts place + 1) }
 
 -- when each refusal comes: no earlier one applies, and this one does
 abbrev pub TapRefused : SchemeValue → DeviceValue → ℕ → ℕ → TapRefusal → Type 0

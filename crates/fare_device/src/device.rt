@@ -1,16 +1,21 @@
-ghost use Rattle.std.specs.Prelude.{◌≡◌, ◌↔◌, ◌<◌, ◌≤◌, ◌+◌, ◌-◌, ℕ, None, Some, IsSome, IsTrue, IfNone, IfOk, IfErr, IsErr, OnOk, OnErr, length, option_map, slice_get};
+ghost use Rattle.std.specs.Prelude.{◌≡◌, ◌↔◌, ◌<◌, ◌≤◌, ◌+◌, ◌-◌, ℕ, None, Some, IsSome, IsTrue, IsFalse, IfSome, IfNone, IsOk, IfOk, IfErr, IsErr, OnOk, OnErr, MatchResult, length, nat_eq, option_map, position, slice_get};
 ghost use Rattle.fare_frame.specs.declared.frame.Frame.TheVariants.{Tapped};
 ghost use Rattle.fare_scheme.specs.Words.{buffer_of, position_of_device};
-ghost use Rattle.fare_device.specs.DeviceWords.{fresh_device, taking_over, acknowledged, last_link, AreNumbers};
+ghost use Rattle.fare_device.specs.DeviceWords.{IsDeviceValue, fresh_device, taking_over, acknowledged, last_link, AreNumbers};
 ghost use Rattle.std.specs.List.{sum};
+ghost use Rattle.std.specs.Map.{keys_of};
 ghost use Rattle.fare_device.specs.Tapping.{IsTapped, TapRefused};
+ghost use Rattle.fare_device.specs.Turning.{turn_judged, turned, stated, is_waiting, day_acknowledged};
 
+use crate::days::{Counts, WaitingDays};
 use fare_buffer::{Waiting, WaitingFault};
 use fare_frame::Frame;
 use fare_link::{AckAhead, Sender};
-use fare_record::{Day, DeviceId, LAST_NUMBER, Moment, ProductId, Record, Tap, Token};
-use fare_scheme::Scheme;
-use std::alloc::Global;
+use fare_record::{
+    Day, DeviceId, LAST_NUMBER, Moment, OwnerId, ProductId, Record, Statement, Tap, Token,
+};
+use fare_scheme::{MOST_OWNERS, Scheme};
+use std::alloc::{AllocError, Global};
 use std::marker::Model;
 use thiserror::Error;
 
@@ -60,14 +65,34 @@ pub enum TapRefusal {
     BufferFull,
 }
 
-/// A device: a validator that numbers the taps of its open day and keeps them until they are acknowledged.
+/// Why the open day was not turned.
+#[derive(Clone, Copy, PartialEq, Eq, Debug, Error)]
+pub enum TurnRefusal {
+    /// The open day is the last that there is.
+    #[error("the open day is the last")]
+    LastDay,
+    /// As many days as there may be wait for their acknowledgement.
+    #[error("the statements are full")]
+    StatementsFull,
+}
+
+/// A day that does not wait, or an owner that is not registered: there is no such statement.
+#[derive(Clone, Copy, PartialEq, Eq, Debug, Error)]
+#[error("no such statement waits")]
+pub struct NotWaiting;
+
+/// A device: a validator that numbers the taps of its open day and keeps them until they are acknowledged, and
+/// that keeps the counts of each turned day until its statements are acknowledged.
 #[derive(Debug, Drop)]
 pub struct Device {
     id: DeviceId,
     day: Day,
     waiting: Waiting,
     link: Sender,
+    owners: Vec<OwnerId>,
     lanes: Vec<u64>,
+    counts: Counts,
+    days: WaitingDays,
 }
 
 impl Model for Device {
@@ -75,17 +100,40 @@ impl Model for Device {
 
     ghost Value = { DeviceValue };
 
-    ghost view = { λ a. record { id = a.id; day = a.day; waiting = a.waiting.items; room = a.waiting.capacity; base = a.link.base; cursor = a.link.cursor; lanes = a.lanes.items } };
+    ghost view = { λ a. record {
+      id = a.id;
+      day = a.day;
+      waiting = a.waiting.items;
+      room = a.waiting.capacity;
+      base = a.link.base;
+      cursor = a.link.cursor;
+      owners = a.owners.items;
+      lanes = a.lanes.items;
+      counts = a.counts;
+      days = a.days;
+    } };
 
-    ghost invariant = { λ a. IsDeviceValue (record { id = a.id; day = a.day; waiting = a.waiting.items; room = a.waiting.capacity; base = a.link.base; cursor = a.link.cursor; lanes = a.lanes.items }) };
+    ghost invariant = { λ a. IsDeviceValue (record {
+      id = a.id;
+      day = a.day;
+      waiting = a.waiting.items;
+      room = a.waiting.capacity;
+      base = a.link.base;
+      cursor = a.link.cursor;
+      owners = a.owners.items;
+      lanes = a.lanes.items;
+      counts = a.counts;
+      days = a.days;
+    }) };
 }
 
 impl Device {
     /// A device that has numbered nothing; its open day is the scheme's first. `UnknownDevice` where it is
     /// not registered, `Memory` where there was none.
     pub fn new(alloc: Global, id: DeviceId, scheme: &Scheme) -> Result<Device, DeviceFault>
-        ensures made { IfOk result (λ device. device ≡ fresh_device id scheme.now.start device.room (length scheme.now.owners)) }
+        ensures made { IfOk result (λ device. device ≡ fresh_device id scheme.now.start device.room (keys_of scheme.now.owners)) }
         ensures room { IfOk result (λ device. buffer_of scheme.now id ≡ Some device.room) }
+        ensures lanes { IfOk result (λ device. length device.lanes ≡ length scheme.now.owners) }
         ensures known { IfOk result (λ _. IsSome (position_of_device scheme.now id)) }
         ensures unknown { IfErr result (λ fault. (fault ≡ DeviceFault.UnknownDevice) ↔ (position_of_device scheme.now id ≡ None)) }
     {
@@ -100,18 +148,28 @@ impl Device {
         let Ok(lanes) = vec![in alloc; 0; scheme.owner_count()] else {
             return Err(DeviceFault::Memory);
         };
+        let Ok(owners) = owners_of(alloc, scheme) else {
+            return Err(DeviceFault::Memory);
+        };
+        let Ok(days) = WaitingDays::new(alloc) else {
+            return Err(DeviceFault::Memory);
+        };
         Ok(Device {
             id,
             day: scheme.start(),
             waiting,
             link: Sender::new(),
+            owners,
             lanes,
+            counts: [0; MOST_OWNERS],
+            days,
         })
     }
 
     /// The device that takes the place of one which gave out the links up to `last`, and to each owner, in
     /// order of registration, as many lane numbers as `lanes` says. All of them count as acknowledged, so
-    /// nothing waits. Its open day is `day`, of which the caller knows that no tap was numbered.
+    /// nothing waits, no day either. Its open day is `day`, of which the caller knows that no tap was numbered,
+    /// so its counts are 0.
     ///
     /// The first fault that applies, in the order `UnknownDevice`, `Range`, `Memory`.
     pub fn with_numbers(
@@ -122,8 +180,9 @@ impl Device {
         last: u64,
         lanes: &[u64],
     ) -> Result<Device, NumbersFault>
-        ensures made { IfOk result (λ device. device ≡ taking_over id day device.room last lanes.now) }
+        ensures made { IfOk result (λ device. device ≡ taking_over id day device.room (keys_of scheme.now.owners) last lanes.now) }
         ensures room { IfOk result (λ device. buffer_of scheme.now id ≡ Some device.room) }
+        ensures lanes { IfOk result (λ device. length device.lanes ≡ length scheme.now.owners) }
         ensures numbers { IfOk result (λ _. AreNumbers scheme.now last lanes.now) }
         ensures unknown { IfErr result (λ fault. (fault ≡ NumbersFault.UnknownDevice) ↔ (position_of_device scheme.now id ≡ None)) }
         ensures range { IfErr result (λ fault. (fault ≡ NumbersFault.Range) ↔ (IsSome (position_of_device scheme.now id) × (AreNumbers scheme.now last lanes.now → ⊥))) }
@@ -147,7 +206,8 @@ impl Device {
 
     /// Its id.
     pub fn id(&self) -> DeviceId
-        ensures { result ≡ self.now.id }
+        ensures value { result ≡ self.now.id }
+        ensures valid { IsDeviceValue self.now }
     {
         self.id
     }
@@ -167,8 +227,8 @@ impl Device {
         self.link.base() + self.waiting.len() as u64
     }
 
-    /// Numbers a tap and keeps it at the end of those that wait. `day` is the traffic day of `moment`, and
-    /// the scheme is the one that the device was made with. Answers the numbered record, or the first refusal
+    /// Numbers a tap, counts it for its owner and keeps it at the end of those that wait. `day` is the traffic
+    /// day of `moment`, and the scheme is the one that the device was made with. Answers the numbered record, or the first refusal
     /// that applies, in the order `UnknownProduct`, `DayClosed`, `DayAhead`, `NumbersSpent`,
     /// `BufferFull`; then the device is as before.
     pub fn tap(
@@ -208,7 +268,44 @@ impl Device {
             return Err(TapRefusal::BufferFull);
         }
         self.lanes[place] = lane;
+        self.counts[place] += 1;
         Ok(numbered)
+    }
+
+    /// Turns the open day: the counts of its taps are final, and its statements wait for their
+    /// acknowledgement. Answers the new open day, the day after it, of which nothing is counted. The first
+    /// refusal that applies, in the order `LastDay`, `StatementsFull`; then the device is as before.
+    pub fn turn_day(&mut self) -> Result<Day, TurnRefusal>
+        ensures judged { result ≡ turn_judged self.old }
+        ensures ok { OnOk result (self.new ≡ turned self.old) }
+        ensures err { OnErr result (self.new ≡ self.old) }
+        ensures lanes { length self.new.lanes ≡ length self.old.lanes }
+    {
+        let Some(next) = Day::new(u64::from(self.day.get()) + 1) else {
+            return Err(TurnRefusal::LastDay);
+        };
+        if self.days.is_full() {
+            return Err(TurnRefusal::StatementsFull);
+        }
+        self.days.push(self.day, self.counts);
+        self.counts = [0; MOST_OWNERS];
+        self.day = next;
+        Ok(next)
+    }
+
+    /// The statement of a day that waits: how many taps of it the device numbered for an owner. `NotWaiting`
+    /// where the day does not wait, or the owner is not one of the scheme that the device was made with.
+    pub fn statement(&self, day: Day, owner: OwnerId) -> Result<Frame, NotWaiting>
+        ensures ok { IsOk result ↔ (IsTrue (is_waiting self.now.days day) × IsSome (position (nat_eq owner) self.now.owners)) }
+        ensures value { MatchResult result (λ frame. stated self.now day owner ≡ Some frame) (λ _. stated self.now day owner ≡ None) }
+    {
+        let Some(place) = place_of(&self.owners, owner) else {
+            return Err(NotWaiting);
+        };
+        let Some(count) = self.days.count(day, place) else {
+            return Err(NotWaiting);
+        };
+        Ok(Frame::Stated(Statement::new(self.id, day, owner, count)))
     }
 
     /// The frame of the first tap that was not sent, which counts as sent from now on; None where all were
@@ -253,13 +350,46 @@ impl Device {
         Ok(dropped)
     }
 
-    /// Starts again: buffer and numbers are kept, and what waits is sent again.
+    /// Hears that the hub has all statements of a day: they wait no more. False where the day did not wait; then
+    /// nothing changes.
+    pub fn hear_day_ack(&mut self, day: Day) -> bool
+        ensures value { result ≡ is_waiting self.old.days day }
+        ensures heard { self.new ≡ day_acknowledged self.old day }
+        ensures stays { IsFalse result → self.new ≡ self.old }
+        ensures lanes { length self.new.lanes ≡ length self.old.lanes }
+    {
+        self.days.remove(day)
+    }
+
+    /// Starts again: buffer, numbers, counts and days are kept, and what waits is sent again.
     pub fn restart(&mut self)
         ensures value { self.new ≡ record self.old { cursor = self.old.base } }
         ensures lanes { length self.new.lanes ≡ length self.old.lanes }
     {
         self.rewind();
     }
+}
+
+// The owners, in order of registration.
+fn owners_of(alloc: Global, scheme: &Scheme) -> Result<Vec<OwnerId>, AllocError>
+    ensures { IfOk result (λ owners. owners.items ≡ keys_of scheme.now.owners) }
+{
+    let mut owners = Vec::with_capacity(alloc, scheme.owner_count())?;
+    for place in 0..scheme.owner_count() {
+        let Some(owner) = scheme.owner_at(place) else {
+            unreachable!()
+        };
+        owners.push(owner)?;
+    }
+    Ok(owners)
+}
+
+// The place of an owner.
+fn place_of(owners: &[OwnerId], owner: OwnerId) -> Option<usize>
+    ensures is { result ≡ position (nat_eq owner) owners.now }
+    ensures within { IfSome result (λ place. place < length owners.now) }
+{
+    owners.iter().position(|known| *known == owner)
 }
 
 /// Whether the counts have this sum.

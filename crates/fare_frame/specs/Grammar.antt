@@ -1,7 +1,7 @@
 -- Frames as bytes: a length of two bytes, the highest first, which counts the bytes after itself, a type of one byte, and a body.
 use Rattle.std.specs.Prelude.{◌≡◌, ◌≢◌, ◌+◌, ◌-◌, ◌*◌, ◌<◌, ◌≤◌, ◌⊎◌, ℕ, List, ◌∷◌, ◌++◌, length, take, Option, Some, None}
 use Rattle.std.specs.List.{flat_map}
-use Rattle.fare_record.specs.Values.{RecordValue, AckValue}
+use Rattle.fare_record.specs.Values.{RecordValue, StatementValue, AckValue, DayAckValue}
 use Rattle.fare_record.specs.Bodies.{record_bytes, record_in, statement_bytes, statement_in, ack_bytes, ack_in, day_ack_bytes, day_ack_in, hello_bytes, hello_in}
 use Rattle.fare_record.specs.Lawful.{IsLawfulRecord, IsLawfulStatement, IsLawfulAck, IsLawfulDayAck, IsLawfulHello}
 use Rattle.fare_frame.specs.Table.{code_of, length_of, head_of}
@@ -40,10 +40,20 @@ abbrev pub tap_of : Frame → Option RecordValue
 tap_of (Tapped r) = Some r
 tap_of _ = None
 
+-- a device's statement
+abbrev pub statement_of : Frame → Option StatementValue
+statement_of (Stated s) = Some s
+statement_of _ = None
+
 -- the acknowledgement of taps
 abbrev pub ack_of : Frame → Option AckValue
 ack_of (Acked a) = Some a
 ack_of _ = None
+
+-- the acknowledgement of a day's statements
+abbrev pub day_ack_of : Frame → Option DayAckValue
+day_ack_of (DayAcked a) = Some a
+day_ack_of _ = None
 
 -- the frame of a kind with the numbers in a body, whatever they are
 abbrev pub frame_in : Kind → List ℕ → Frame

@@ -1,6 +1,6 @@
 ghost use Rattle.std.specs.Prelude.{◌≡◌, ◌<◌, ◌≤◌, ◌+◌, ◌++◌, length, vec_len, vec_capacity, OnOk, OnErr};
 ghost use Rattle.fare_frame.specs.Table.{head_of};
-ghost use Rattle.fare_frame.specs.Grammar.{frame_bytes, tap_of, ack_of, IsFrame};
+ghost use Rattle.fare_frame.specs.Grammar.{frame_bytes, tap_of, statement_of, ack_of, day_ack_of, IsFrame};
 
 use crate::kind::Kind;
 use fare_record::{Ack, DayAck, Hello, Record, Statement};
@@ -55,12 +55,32 @@ impl Frame {
         }
     }
 
+    /// A device's statement; None for any other frame.
+    pub fn stated(&self) -> Option<Statement>
+        ensures { result ≡ statement_of self.now }
+    {
+        match self {
+            Frame::Stated(statement) => Some(*statement),
+            _ => None,
+        }
+    }
+
     /// The acknowledgement of taps; None for any other frame.
     pub fn acked(&self) -> Option<Ack>
         ensures { result ≡ ack_of self.now }
     {
         match self {
             Frame::Acked(ack) => Some(*ack),
+            _ => None,
+        }
+    }
+
+    /// The acknowledgement of a day's statements; None for any other frame.
+    pub fn day_acked(&self) -> Option<DayAck>
+        ensures { result ≡ day_ack_of self.now }
+    {
+        match self {
+            Frame::DayAcked(ack) => Some(*ack),
             _ => None,
         }
     }

@@ -7,7 +7,6 @@ use crossbeam_queue::Pass;
 use std::sync::Wait;
 
 /// An acknowledgement line at its end, with what is left in it.
-#[derive(Drop)]
 pub struct AckLineEnded {
     pub(crate) queue: AckLine,
     pub(crate) pass: Pass<Told, View>,
@@ -15,6 +14,19 @@ pub struct AckLineEnded {
     pub taken: u64,
     /// How many items are left, fewer by one after each that `next` gives.
     pub left: u64,
+}
+
+impl Drop for AckLineEnded {
+    fn drop(self) {
+        let AckLineEnded {
+            queue,
+            pass,
+            taken: _,
+            left: _,
+        } = self;
+        drop(queue);
+        drop(pass);
+    }
 }
 
 impl AckLineEnded {

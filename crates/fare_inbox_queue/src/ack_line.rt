@@ -11,9 +11,16 @@ use std::alloc::Global;
 use std::sync::Wait;
 
 /// What the writer has told one station and the station has not yet taken, at most `capacity` items.
-#[derive(Drop)]
 pub struct AckLine {
     pub(crate) queue: RuledArrayQueue<Told, View, LineRule>,
+}
+
+impl Drop for AckLine {
+    // Derived, the parts of the queue would stand in the proof of each function that may let a line go.
+    fn drop(self) {
+        let AckLine { queue } = self;
+        drop(queue);
+    }
 }
 
 impl AckLine {
@@ -101,8 +108,8 @@ impl AckLine {
         ensures left { result.left ≡ length (unheard_list result) }
         ensures few { length (unheard_list result) ≤ line_capacity self }
     {
-        let AckPass { mut pass } = ack;
-        let HearPass { pass: other, count } = hear;
+        let mut pass = ack.into_pass();
+        let (other, count) = hear.into_parts();
         self.queue.absorb::<Together>(&mut pass, other);
         let left = self.queue.len_as::<Drains, R>(rt, &mut pass);
         AckLineEnded {

@@ -18,9 +18,16 @@ use std::sync::Wait;
 const MOST_STATIONS: usize = 16;
 
 /// What the stations have accepted and the writer has not yet taken, at most `capacity` items.
-#[derive(Drop)]
 pub struct Inbox {
     pub(crate) queue: RuledArrayQueue<Arrived, View, InboxRule>,
+}
+
+impl Drop for Inbox {
+    // Derived, the parts of the queue would stand in the proof of each function that may let an inbox go.
+    fn drop(self) {
+        let Inbox { queue } = self;
+        drop(queue);
+    }
 }
 
 // A pass for a station that has none, cut off the writer's.
@@ -81,7 +88,7 @@ fn gather(inbox: &Inbox, pass: &mut Pass<Arrived, View>, mut passes: Vec<Station
     ensures ended { (view pass.new).ended ≡ map sent_with passes.items }
 {
     while let Some(station) = passes.pop() {
-        inbox.queue.absorb::<Gathers>(pass, station.pass);
+        inbox.queue.absorb::<Gathers>(pass, station.into_pass());
     }
 }
 
@@ -170,7 +177,7 @@ impl Inbox {
         ensures left { HaveLeft result result.left }
         ensures few { result.left ≤ capacity_of self }
     {
-        let WriterPass { mut pass, count } = writer;
+        let (mut pass, count) = writer.into_parts();
         gather(&self, &mut pass, passes);
         let left = self.queue.len_as::<Drains, R>(rt, &mut pass);
         InboxEnded {

@@ -8,7 +8,6 @@ use crossbeam_queue::Pass;
 use std::sync::Wait;
 
 /// An inbox at its end, with what is left in it.
-#[derive(Drop)]
 pub struct InboxEnded {
     pub(crate) queue: Inbox,
     pub(crate) pass: Pass<Arrived, View>,
@@ -16,6 +15,19 @@ pub struct InboxEnded {
     pub taken: u64,
     /// How many items are left, fewer by one after each that `next` gives.
     pub left: u64,
+}
+
+impl Drop for InboxEnded {
+    fn drop(self) {
+        let InboxEnded {
+            queue,
+            pass,
+            taken: _,
+            left: _,
+        } = self;
+        drop(queue);
+        drop(pass);
+    }
 }
 
 impl InboxEnded {

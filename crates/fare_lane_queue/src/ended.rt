@@ -8,7 +8,6 @@ use fare_record::Item;
 use std::sync::Wait;
 
 /// A lane queue at its end, with what is left in it.
-#[derive(Drop)]
 pub struct Ended {
     pub(crate) queue: LaneQueue,
     pub(crate) pass: Pass<Item, View>,
@@ -16,6 +15,19 @@ pub struct Ended {
     pub taken: u64,
     /// How many items are left, fewer by one after each that `next` gives.
     pub left: u64,
+}
+
+impl Drop for Ended {
+    fn drop(self) {
+        let Ended {
+            queue,
+            pass,
+            taken: _,
+            left: _,
+        } = self;
+        drop(queue);
+        drop(pass);
+    }
 }
 
 impl Ended {

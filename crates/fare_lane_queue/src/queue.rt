@@ -15,9 +15,16 @@ use std::sync::Wait;
 const MOST_CAPACITY: u32 = 1024;
 
 /// What one forwarder has handed on to one owner and the owner has not yet taken, at most `capacity` items.
-#[derive(Drop)]
 pub struct LaneQueue {
     pub(crate) queue: RuledArrayQueue<Item, View, LaneRule>,
+}
+
+impl Drop for LaneQueue {
+    // Derived, the parts of the queue would stand in the proof of each function that may let one go.
+    fn drop(self) {
+        let LaneQueue { queue } = self;
+        drop(queue);
+    }
 }
 
 // Cuts the one pass of a new queue into the forwarder's, which it becomes, and the owner's. Both show the bases.
@@ -121,8 +128,8 @@ impl LaneQueue {
         ensures left { result.left ≡ length (left_list result) }
         ensures few { length (left_list result) ≤ capacity_of self }
     {
-        let ForwardPass { mut pass } = forward;
-        let OwnerPass { pass: other, count } = owner;
+        let mut pass = forward.into_pass();
+        let (other, count) = owner.into_parts();
         self.queue.absorb::<Together>(&mut pass, other);
         let left = self.queue.len_as::<Ends, R>(rt, &mut pass);
         Ended {

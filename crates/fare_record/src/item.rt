@@ -13,7 +13,7 @@ pub enum Item {
 }
 
 impl Item {
-    /// The record of a tap; None for a statement.
+    /// The record of a numbered tap; None for a statement.
     pub fn tap(&self) -> Option<Record>
         ensures { result ≡ tap_of self.now }
     {
@@ -23,13 +23,13 @@ impl Item {
         }
     }
 
-    /// The statement; None for a tap.
+    /// A device's statement; None for a tap.
     pub fn stated(&self) -> Option<Statement>
         ensures { result ≡ statement_of self.now }
     {
         match self {
-            Item::Stated(statement) => Some(*statement),
             Item::Tap(_) => None,
+            Item::Stated(statement) => Some(*statement),
         }
     }
 }

@@ -15,10 +15,18 @@ use std::collections::HashMap;
 
 /// The forwarder of one owner: for each device of the scheme how far it has handed on that device's taps and
 /// statements.
-#[derive(Debug, Drop)]
+#[derive(Debug)]
 pub struct Forwarder {
     owner: OwnerId,
     cursors: HashMap<DeviceId, Cursor>,
+}
+
+impl Drop for Forwarder {
+    // Derived, the map's parts would stand in the proof of each function that may let a forwarder go.
+    fn drop(self) {
+        let Forwarder { owner: _, cursors } = self;
+        drop(cursors);
+    }
 }
 
 impl Forwarder {

@@ -12,7 +12,8 @@ use indexmap::{IndexMap, IndexSet};
 use std::alloc::Global;
 use std::marker::Model;
 
-const MOST_OWNERS: usize = 16;
+/// How many owners a scheme has at most.
+pub const MOST_OWNERS: usize = 16;
 
 const MOST_OPERATORS: usize = 16;
 

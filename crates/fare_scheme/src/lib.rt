@@ -12,7 +12,7 @@ mod laws;
 mod scheme;
 
 pub use demo::{DemoFault, DemoSize};
-pub use draft::Draft;
+pub use draft::{Draft, MOST_OWNERS};
 pub use entry::{Placement, Product, Tariff};
 pub use fault::{AddFault, CapsFault, OutOfRange, SealFault};
 pub use laws::registered_ids_have_positions;

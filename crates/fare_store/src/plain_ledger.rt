@@ -14,7 +14,6 @@ use std::collections::{BTreeMap, HashMap};
 type Place = (u32, u64, u32, u64);
 
 /// The ledger of an owner, in memory. It never answers `Store`.
-#[derive(Drop)]
 pub struct PlainLedger {
     alloc: Global,
     owner: OwnerId,
@@ -35,4 +34,25 @@ pub struct PlainLedger {
     ghost every: { HasEvery (λ device. items_of (get nat_eq taken device)) ordered },
     ghost counted: { AreCounted (λ device. items_of (get nat_eq taken device)) (get same_day counts) },
     ghost days: { AreClosed start (get same_day stated) (get nat_eq closed) },
+}
+
+impl Drop for PlainLedger {
+    // Derived, it would stand map by map in the proof of each function that may let a ledger go.
+    fn drop(self) {
+        let PlainLedger {
+            alloc: _,
+            owner: _,
+            start: _,
+            taken,
+            ordered,
+            counts,
+            stated,
+            closed,
+        } = self;
+        drop(taken);
+        drop(ordered);
+        drop(counts);
+        drop(stated);
+        drop(closed);
+    }
 }

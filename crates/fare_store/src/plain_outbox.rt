@@ -9,7 +9,6 @@ use fare_record::{Day, DeviceId, OwnerId, Record};
 use std::collections::{BTreeMap, HashMap};
 
 /// The outbox of the hub, in memory. It never answers `Store`.
-#[derive(Drop)]
 pub struct PlainOutbox {
     // The greatest link that it has had of each device that it saw.
     upto: HashMap<DeviceId, u64>,
@@ -20,4 +19,18 @@ pub struct PlainOutbox {
     ghost seen: { AreLinks (get nat_eq upto) },
     ghost placed: { ArePlaced rows },
     ghost counts: { AreCounts statements },
+}
+
+impl Drop for PlainOutbox {
+    // Derived, it would stand map by map in the proof of each function that may let an outbox go.
+    fn drop(self) {
+        let PlainOutbox {
+            upto,
+            rows,
+            statements,
+        } = self;
+        drop(upto);
+        drop(rows);
+        drop(statements);
+    }
 }

@@ -1,49 +1,53 @@
 use fare_buffer::{Full, Waiting, WaitingFault};
 use fare_record::{Day, DeviceId, Moment, OwnerId, ProductId, Record, Tap, Token};
-use std::test::Fail;
+use std::alloc::Global;
+use std::process::Abort;
 
-fn numbered(first: bool) -> Option<Record> {
-    let product = ProductId::new(1)?;
-    let token = Token::new(77)?;
-    let moment = Moment::new(1_704_100_000)?;
-    let tap = Tap::new(product, token, moment, Day::new(19723)?);
-    let link = if first { 1 } else { 2 };
-    Some(Record::new(DeviceId::new(1)?, link, OwnerId::new(1)?, link, tap))
+// The first tap of device 1, or its second.
+fn numbered(rt: &impl Abort, is_first: bool) -> Record {
+    let device = DeviceId::new(1).expect(rt, "device");
+    let owner = OwnerId::new(1).expect(rt, "owner");
+    let product = ProductId::new(1).expect(rt, "product");
+    let token = Token::new(77).expect(rt, "token");
+    let moment = Moment::new(1_704_100_000).expect(rt, "moment");
+    let day = Day::new(19_723).expect(rt, "day");
+    let link = if is_first { 1 } else { 2 };
+    Record::new(
+        device,
+        link,
+        owner,
+        link,
+        Tap::new(product, token, moment, day),
+    )
+}
+
+// Why there is no room for so many, if there is none.
+fn fault(alloc: Global, capacity: u32) -> Option<WaitingFault> {
+    Waiting::new(alloc, capacity).err()
 }
 
 #[test]
-fn takes_the_room_that_was_asked_for(rt: HostRuntime) -> Result<(), Fail> {
-    let fault = |made: Result<Waiting, WaitingFault>| made.err();
-    assert_eq!(rt;
-        fault(Waiting::new(rt.alloc(), 0)),
-        Some(WaitingFault::Range)
-    );
-    assert_eq!(rt;
-        fault(Waiting::new(rt.alloc(), 4097)),
-        Some(WaitingFault::Range)
-    );
-    let waiting = Waiting::new(rt.alloc(), 4096)?;
-    assert_eq!(rt; waiting.capacity(), 4096);
-    assert!(rt; waiting.is_empty());
-    Ok(())
+fn takes_the_room_that_was_asked_for(rt: HostRuntime) {
+    let range = Some(WaitingFault::Range);
+    for (capacity, want) in [(0, range), (4097, range), (4096, None)] {
+        assert_eq!(rt; fault(rt.alloc(), capacity), want);
+    }
+    let waiting = Waiting::new(rt.alloc(), 4096).expect(&rt, "waiting");
+    assert_eq!(rt; (waiting.capacity(), waiting.is_empty()), (4096, true));
 }
 
 #[test]
-fn hands_back_what_finds_no_room(rt: HostRuntime) -> Result<(), Fail> {
-    let first = numbered(true).ok_or("first")?;
-    let second = numbered(false).ok_or("second")?;
-    let mut waiting = Waiting::new(rt.alloc(), 2)?;
-    waiting.push(first)?;
-    assert!(rt; !waiting.is_full());
-    waiting.push(second)?;
-    assert!(rt; waiting.is_full());
-    assert_eq!(rt; waiting.push(first), Err(Full(first)));
-    assert_eq!(rt; waiting.len(), 2);
+fn hands_back_what_finds_no_room(rt: HostRuntime) {
+    let (first, second) = (numbered(&rt, true), numbered(&rt, false));
+    let mut waiting = Waiting::new(rt.alloc(), 2).expect(&rt, "waiting");
+    let one = (waiting.push(first), waiting.is_full());
+    let two = (waiting.push(second), waiting.is_full());
+    assert_eq!(rt; [one, two], [(Ok(()), false), (Ok(()), true)]);
+    let full = (waiting.push(first), waiting.len());
+    assert_eq!(rt; full, (Err(Full(first)), 2));
     waiting.drop_front(1);
-    assert_eq!(rt; waiting.get(0), Some(second));
-    assert_eq!(rt; waiting.push(first), Ok(()));
-    assert_eq!(rt; waiting.get(0), Some(second));
-    assert_eq!(rt; waiting.get(1), Some(first));
-    assert_eq!(rt; waiting.get(2), None);
-    Ok(())
+    let front = (waiting.get(0), waiting.push(first));
+    assert_eq!(rt; front, (Some(second), Ok(())));
+    let all = [waiting.get(0), waiting.get(1), waiting.get(2)];
+    assert_eq!(rt; all, [Some(second), Some(first), None]);
 }

@@ -1,6 +1,7 @@
-use fare_collector::{CollectRefusal, Collector, CollectorFault};
+use fare_collector::{CollectRefusal, Collector, CollectorFault, StatementRefusal};
 use fare_record::{
-    Day, DeviceId, LAST_NUMBER, Moment, OwnerId, ProductId, Record, StationId, Tap, Token,
+    Day, DeviceId, LAST_NUMBER, Moment, OwnerId, ProductId, Record, Statement, StationId, Tap,
+    Token,
 };
 use fare_scheme::{DemoSize, Scheme};
 use std::alloc::Global;
@@ -154,6 +155,34 @@ fn each_station_has_its_devices(rt: HostRuntime) {
         (accept(2, 1), Ok(())),
     ];
     answers(&rt, rt.alloc(), 2, &calls);
+}
+
+// What a collector of station 1 answers to the statement of a device and an owner.
+fn stated(
+    collector: &Collector,
+    scheme: &Scheme,
+    device: u64,
+    owner: u64,
+) -> Option<Result<(), StatementRefusal>> {
+    let (device, owner) = (DeviceId::new(device)?, OwnerId::new(owner)?);
+    let statement = Statement::new(device, Day::new(19_723)?, owner, 3);
+    Some(collector.accept_statement(scheme, &statement))
+}
+
+#[test]
+fn accepts_statements_of_its_devices(rt: HostRuntime) {
+    let scheme = two_devices(rt.alloc()).expect(&rt, "scheme");
+    let collector = collector_of(rt.alloc(), &scheme, 1).expect(&rt, "collector");
+    let cases = [
+        (1, 1, Ok(())),
+        (1, 1, Ok(())),
+        (2, 1, Err(StatementRefusal::Stranger)),
+        (2, 2, Err(StatementRefusal::Stranger)),
+        (1, 2, Err(StatementRefusal::Misrouted)),
+    ];
+    for (device, owner, answer) in cases {
+        assert_eq!(rt; stated(&collector, &scheme, device, owner), Some(answer));
+    }
 }
 
 // Why there is no collector of a station.

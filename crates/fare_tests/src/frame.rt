@@ -2,7 +2,8 @@ ghost use Rattle.std.specs.Prelude.{◌<◌};
 
 use fare_frame::{Frame, ReadFault, Reader};
 use fare_record::{
-    Ack, Day, DayAck, DeviceId, Hello, Moment, OwnerId, ProductId, Record, Statement, Tap, Token,
+    Ack, Day, DayAck, DeviceId, Hello, Item, Moment, OwnerId, ProductId, Record, Statement, Tap,
+    Token,
 };
 use std::alloc::Global;
 use std::process::Abort;
@@ -222,16 +223,39 @@ fn a_long_stream_reads_the_same_in_any_pieces(rt: HostRuntime) {
     assert!(rt; whole.as_slice() == single.as_slice());
 }
 
+// Whether a frame has a tap, a statement, an acknowledgement of taps and one of a day.
+fn holds(frame: Frame) -> [bool; 4] {
+    [
+        frame.tapped().is_some(),
+        frame.stated().is_some(),
+        frame.acked().is_some(),
+        frame.day_acked().is_some(),
+    ]
+}
+
 #[test]
 fn a_frame_tells_what_it_holds(rt: HostRuntime) {
-    let tapped = tapped().expect(&rt, "tapped");
-    let acked = acked().expect(&rt, "acked");
-    assert_eq!(rt;
-        (tapped.tapped().is_some(), tapped.acked().is_some()),
-        (true, false)
-    );
-    assert_eq!(rt;
-        (acked.tapped().is_some(), acked.acked().is_some()),
-        (false, true)
-    );
+    let cases = [
+        (tapped(), [true, false, false, false]),
+        (stated(), [false, true, false, false]),
+        (acked(), [false, false, true, false]),
+        (day_acked(), [false, false, false, true]),
+        (greeted(), [false, false, false, false]),
+    ];
+    for (frame, held) in cases {
+        assert_eq!(rt; frame.map(holds), Some(held));
+    }
+}
+
+#[test]
+fn an_item_tells_what_it_holds(rt: HostRuntime) {
+    let record = tapped()
+        .and_then(|frame| frame.tapped())
+        .expect(&rt, "record");
+    let statement = stated()
+        .and_then(|frame| frame.stated())
+        .expect(&rt, "statement");
+    let (tap, stated) = (Item::Tap(record), Item::Stated(statement));
+    assert_eq!(rt; (tap.tap(), tap.stated()), (Some(record), None));
+    assert_eq!(rt; (stated.tap(), stated.stated()), (None, Some(statement)));
 }

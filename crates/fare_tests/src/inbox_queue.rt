@@ -1,68 +1,63 @@
-ghost use Rattle.std.specs.Prelude.{◌≡◌, ◌∷◌, [], ◌≤◌, IfOk};
+ghost use Rattle.std.specs.Prelude.{◌≡◌, ◌++◌, ◌∷◌, [], ◌≤◌, All};
 ghost use Rattle.fare_record.specs.Limits.{IsNumber};
 ghost use Rattle.fare_inbox_queue.specs.InboxPasses.{station_of, stations_of, IsStationOf, IsWriterOf, IsInboxEnded};
-ghost use Rattle.fare_inbox_queue.specs.LinePasses.{IsAckOf};
+ghost use Rattle.fare_inbox_queue.specs.LinePasses.{IsAckOf, IsHearOf};
 
 use fare_inbox_queue::{
-    AckItem, AckLine, AckPass, Arrived, Full, Inbox, InboxEnded, QueueFault, StationPass,
+    AckItem, AckLine, AckPass, Arrived, Full, HearPass, Inbox, InboxEnded, QueueFault, StationPass,
     WriterPass,
 };
 use fare_record::{Ack, Day, DeviceId, Moment, OwnerId, ProductId, Record, StationId, Tap, Token};
-use std::alloc::{AllocError, Global};
+use std::alloc::Global;
+use std::process::Abort;
 use std::sync::Wait;
-use std::test::Fail;
 use std::thread;
 use std::thread::Threads;
 
-fn station(number: u64) -> Result<StationId, Fail> {
-    Ok(StationId::new(number).ok_or("a station")?)
+fn station(rt: &impl Abort, number: u64) -> StationId {
+    StationId::new(number).expect(rt, "station")
 }
 
-// Why no inbox is made, if none is.
-fn fault(alloc: Global, capacity: u32, stations: &[StationId]) -> Option<QueueFault> {
-    Inbox::new(alloc, capacity, stations).err()
+fn device(rt: &impl Abort, number: u64) -> DeviceId {
+    DeviceId::new(number).expect(rt, "device")
 }
 
-fn numbered(alloc: Global, count: u64) -> Result<Vec<StationId>, Fail> {
+// Why there is no inbox for so many items of the stations with these numbers, if there is none.
+fn fault(rt: &impl Abort, alloc: Global, capacity: u32, numbers: &[u64]) -> Option<QueueFault> {
     let mut stations = Vec::new(alloc);
-    for number in 0..count {
-        stations.push(station(number.saturating_add(1))?)?;
+    for number in numbers {
+        stations.push(station(rt, *number)).expect(rt, "stations");
     }
-    Ok(stations)
+    Inbox::new(alloc, capacity, &stations).err()
 }
 
 #[test]
-fn an_inbox_has_room_for_1_to_1024_items(rt: HostRuntime) -> Result<(), Fail> {
-    let one = station(1)?;
+fn an_inbox_has_room_for_1_to_1024_items_of_1_to_16_stations(rt: HostRuntime) {
+    let many = [1, 2, 3, 4, 5, 6, 7, 8, 9, 10, 11, 12, 13, 14, 15, 16, 17];
     let range = Some(QueueFault::Range);
-    assert_eq!(rt; fault(rt.alloc(), 0, &[one]), range);
-    assert_eq!(rt; fault(rt.alloc(), 1025, &[one]), range);
-    assert_eq!(rt; fault(rt.alloc(), 1024, &[one]), None);
-    Ok(())
-}
-
-#[test]
-fn an_inbox_is_for_1_to_16_stations(rt: HostRuntime) -> Result<(), Fail> {
-    let (one, two) = (station(1)?, station(2)?);
-    let range = Some(QueueFault::Range);
-    assert_eq!(rt; fault(rt.alloc(), 4, &[]), range);
-    assert_eq!(rt; fault(rt.alloc(), 4, &[one, two, one]), range);
-    assert_eq!(rt; fault(rt.alloc(), 4, &numbered(rt.alloc(), 17)?), range);
-    assert_eq!(rt; fault(rt.alloc(), 4, &numbered(rt.alloc(), 16)?), None);
-    Ok(())
+    let cases = [
+        (0, &many[..1], range),
+        (1025, &many[..1], range),
+        (1024, &many[..1], None),
+        (4, &[], range),
+        (4, &[1, 2, 1], range),
+        (4, &many, range),
+        (4, &many[..16], None),
+    ];
+    for (capacity, numbers, want) in cases {
+        assert_eq!(rt; fault(&rt, rt.alloc(), capacity, numbers), want);
+    }
 }
 
 // A tap of a device.
-fn tapped(device: DeviceId, link: u64) -> Record
+fn tapped(rt: &impl Abort, device: DeviceId, link: u64) -> Record
     requires { IsNumber link }
 {
-    let ids = (OwnerId::new(1), ProductId::new(1), Token::new(77));
-    let (Some(owner), Some(product), Some(token)) = ids else {
-        unreachable!()
-    };
-    let (Some(moment), Some(day)) = (Moment::new(1_704_100_000), Day::new(19723)) else {
-        unreachable!()
-    };
+    let owner = OwnerId::new(1).expect(rt, "owner");
+    let product = ProductId::new(1).expect(rt, "product");
+    let token = Token::new(77).expect(rt, "token");
+    let moment = Moment::new(1_704_100_000).expect(rt, "moment");
+    let day = Day::new(19_723).expect(rt, "day");
     Record::new(
         device,
         link,
@@ -72,40 +67,50 @@ fn tapped(device: DeviceId, link: u64) -> Record
     )
 }
 
-// An inbox for two stations, with its passes.
-fn two_stations(
-    alloc: Global,
-    capacity: u32,
-    one: StationId,
-    two: StationId,
-) -> Result<(Inbox, StationPass, StationPass, WriterPass), QueueFault>
-    ensures passes { IfOk result (λ made. IsStationOf made.0 made.1 × IsStationOf made.0 made.2 × IsWriterOf made.0 made.3) }
-    ensures stations { IfOk result (λ made. stations_of made.3 ≡ station_of made.1 ∷ station_of made.2 ∷ []) }
+// The last of the passes.
+#[tactic(auto, using(crate::proofs::Passes::popped))]
+fn last(rt: &impl Abort, inbox: &Inbox, passes: &mut Vec<StationPass>) -> StationPass
+    requires { All (IsStationOf inbox.now) passes.old.items }
+    ensures others { All (IsStationOf inbox.now) passes.new.items }
+    ensures pass { IsStationOf inbox.now result }
+    ensures items { passes.old.items ≡ passes.new.items ++ result ∷ [] }
 {
-    let (inbox, mut passes, writer) = Inbox::new(alloc, capacity, &[one, two])?;
-    let (Some(second), Some(first)) = (passes.pop(), passes.pop()) else {
-        unreachable!()
-    };
-    Ok((inbox, first, second, writer))
+    passes.pop().expect(rt, "pass")
 }
 
-fn finish<R: Wait>(
+// An inbox for the stations 1 and 2, with its passes.
+fn two_stations(
+    rt: &impl Abort,
+    alloc: Global,
+    capacity: u32,
+) -> (Inbox, StationPass, StationPass, WriterPass)
+    ensures passes { IsStationOf result.0 result.1 × IsStationOf result.0 result.2 × IsWriterOf result.0 result.3 }
+    ensures stations { stations_of result.3 ≡ station_of result.1 ∷ station_of result.2 ∷ [] }
+{
+    let stations = [station(rt, 1), station(rt, 2)];
+    let (inbox, mut passes, writer) = Inbox::new(alloc, capacity, &stations).expect(rt, "inbox");
+    let second = last(rt, &inbox, &mut passes);
+    let first = last(rt, &inbox, &mut passes);
+    (inbox, first, second, writer)
+}
+
+fn finish<R: Wait + Abort>(
     rt: &R,
     alloc: Global,
     inbox: Inbox,
     first: StationPass,
     second: StationPass,
     writer: WriterPass,
-) -> Result<InboxEnded, AllocError>
+) -> InboxEnded
     requires passes { IsStationOf inbox first × IsStationOf inbox second × IsWriterOf inbox writer }
     requires stations { stations_of writer ≡ station_of first ∷ station_of second ∷ [] }
-    ensures { IfOk result IsInboxEnded }
+    ensures { IsInboxEnded result }
 {
-    let passes = vec![in alloc; first, second]?;
-    Ok(inbox.finish(rt, passes, writer))
+    let passes = vec![in alloc; first, second].expect(rt, "passes");
+    inbox.finish(rt, passes, writer)
 }
 
-fn put_link<R: Wait>(
+fn put_link<R: Wait + Abort>(
     rt: &R,
     inbox: &Inbox,
     pass: &mut StationPass,
@@ -117,39 +122,53 @@ fn put_link<R: Wait>(
     ensures queue { IsStationOf inbox.now pass.new }
     ensures station { station_of pass.new ≡ station_of pass.old }
 {
-    let item = Arrived::Tap(pass.station(), tapped(device, link));
+    let item = Arrived::Tap(pass.station(), tapped(rt, device, link));
     inbox.put(rt, pass, item)
 }
 
+// What a station's pass puts for device 7.
+fn arrived(rt: &impl Abort, number: u64, link: u64) -> Arrived
+    requires { IsNumber link }
+{
+    Arrived::Tap(station(rt, number), tapped(rt, device(rt, 7), link))
+}
+
 #[test]
-fn an_inbox_of_three_gives_them_in_order(rt: HostRuntime) -> Result<(), Fail> {
-    let (one, two) = (station(1)?, station(2)?);
-    let device = DeviceId::new(7).ok_or("a device")?;
-    let (inbox, mut first, mut second, mut writer) = two_stations(rt.alloc(), 3, one, two)?;
-    assert_eq!(rt; put_link(&rt, &inbox, &mut first, device, 1), Ok(()));
-    assert_eq!(rt; put_link(&rt, &inbox, &mut second, device, 2), Ok(()));
-    assert_eq!(rt; put_link(&rt, &inbox, &mut first, device, 3), Ok(()));
-    let fourth = Arrived::Tap(two, tapped(device, 4));
+fn an_inbox_of_three_gives_them_in_order(rt: HostRuntime) {
+    let (inbox, mut first, mut second, mut writer) = two_stations(&rt, rt.alloc(), 3);
+    let seven = device(&rt, 7);
+    let put = [
+        put_link(&rt, &inbox, &mut first, seven, 1),
+        put_link(&rt, &inbox, &mut second, seven, 2),
+        put_link(&rt, &inbox, &mut first, seven, 3),
+        put_link(&rt, &inbox, &mut second, seven, 4),
+    ];
     assert_eq!(rt;
-        put_link(&rt, &inbox, &mut second, device, 4),
-        Err(Full(fourth))
+        put,
+        [Ok(()), Ok(()), Ok(()), Err(Full(arrived(&rt, 2, 4)))]
     );
-    assert_eq!(rt;
-        inbox.take(&rt, &mut writer),
-        Some(Arrived::Tap(one, tapped(device, 1)))
-    );
-    let mut ended = finish(&rt, rt.alloc(), inbox, first, second, writer)?;
+    let taken = inbox.take(&rt, &mut writer);
+    let mut ended = finish(&rt, rt.alloc(), inbox, first, second, writer);
     assert_eq!(rt; (ended.taken, ended.left), (1, 2));
-    assert_eq!(rt; ended.next(&rt), Some(Arrived::Tap(two, tapped(device, 2))));
-    assert_eq!(rt; ended.next(&rt), Some(Arrived::Tap(one, tapped(device, 3))));
-    assert_eq!(rt; ended.next(&rt), None);
-    Ok(())
+    let left = [taken, ended.next(&rt), ended.next(&rt), ended.next(&rt)];
+    let want = [
+        Some(arrived(&rt, 1, 1)),
+        Some(arrived(&rt, 2, 2)),
+        Some(arrived(&rt, 1, 3)),
+        None,
+    ];
+    assert_eq!(rt; left, want);
 }
 
 const LINKS: u64 = 100;
 
 // Puts links 1 to 100, again where the inbox is full.
-fn put_all<R: Wait>(rt: &R, inbox: &Inbox, mut pass: StationPass, device: DeviceId) -> StationPass
+fn put_all<R: Wait + Abort>(
+    rt: &R,
+    inbox: &Inbox,
+    mut pass: StationPass,
+    device: DeviceId,
+) -> StationPass
     requires { IsStationOf inbox.now pass }
     ensures { IsStationOf inbox.now result × (station_of result ≡ station_of pass) }
 {
@@ -158,9 +177,10 @@ fn put_all<R: Wait>(rt: &R, inbox: &Inbox, mut pass: StationPass, device: Device
         if link > LINKS {
             break;
         }
-        match put_link(rt, inbox, &mut pass, device, link) {
-            Ok(()) => link += 1,
-            Err(_) => thread::yield_now(),
+        if put_link(rt, inbox, &mut pass, device, link).is_ok() {
+            link += 1;
+        } else {
+            thread::yield_now();
         }
     }
     pass
@@ -169,7 +189,7 @@ fn put_all<R: Wait>(rt: &R, inbox: &Inbox, mut pass: StationPass, device: Device
 const ITEMS: usize = 200;
 
 // Takes items, again where the inbox is empty, until it has all.
-fn take_all<R: Wait>(
+fn take_all<R: Wait + Abort>(
     rt: &R,
     inbox: &Inbox,
     mut writer: WriterPass,
@@ -179,11 +199,11 @@ fn take_all<R: Wait>(
     ensures { IsWriterOf inbox.now result.0 × (stations_of result.0 ≡ stations_of writer) }
 {
     for _ in rt.forever() {
-        if kept.len() >= ITEMS || kept.reserve(1).is_err() {
+        if kept.len() >= ITEMS {
             break;
         }
         match inbox.take(rt, &mut writer) {
-            Some(item) => kept.push_reserved(item),
+            Some(item) => kept.push(item).expect(rt, "room"),
             None => thread::yield_now(),
         }
     }
@@ -191,7 +211,7 @@ fn take_all<R: Wait>(
 }
 
 // One station's thread, and the writer's.
-fn put_and_take<R: Threads + Wait + Sync>(
+fn put_and_take<R: Threads + Wait + Abort + Sync>(
     rt: &R,
     inbox: &Inbox,
     pass: StationPass,
@@ -225,7 +245,7 @@ struct Ran {
 }
 
 // Two stations' threads, and the writer's.
-fn run<R: Threads + Wait + Sync>(
+fn run<R: Threads + Wait + Abort + Sync>(
     rt: &R,
     inbox: &Inbox,
     first: StationPass,
@@ -274,26 +294,20 @@ fn in_order(kept: &[Arrived], station: StationId) -> bool {
 }
 
 #[test]
-fn each_stations_links_come_in_its_order(rt: HostRuntime) -> Result<(), Fail> {
-    let (one, two) = (station(1)?, station(2)?);
-    let seven = DeviceId::new(7).ok_or("a device")?;
-    let eight = DeviceId::new(8).ok_or("a device")?;
-    let (inbox, first, second, writer) = two_stations(rt.alloc(), 4, one, two)?;
+fn each_stations_links_come_in_its_order(rt: HostRuntime) {
+    let (inbox, first, second, writer) = two_stations(&rt, rt.alloc(), 4);
+    let devices = (device(&rt, 7), device(&rt, 8));
     let kept = Vec::new(rt.alloc());
-    let ran = run(&rt, &inbox, first, second, writer, (seven, eight), kept);
     let Ran {
         first,
         second,
         writer,
         kept,
-    } = ran;
-    assert_eq!(rt; kept.len(), ITEMS);
-    assert!(rt; in_order(kept.as_slice(), one));
-    assert!(rt; in_order(kept.as_slice(), two));
-    let mut ended = finish(&rt, rt.alloc(), inbox, first, second, writer)?;
-    assert_eq!(rt; (ended.taken, ended.left), (200, 0));
-    assert_eq!(rt; ended.next(&rt), None);
-    Ok(())
+    } = run(&rt, &inbox, first, second, writer, devices, kept);
+    let ordered = [1, 2].map(|number| in_order(&kept, station(&rt, number)));
+    assert_eq!(rt; (kept.len(), ordered), (ITEMS, [true, true]));
+    let mut ended = finish(&rt, rt.alloc(), inbox, first, second, writer);
+    assert_eq!(rt; (ended.taken, ended.left, ended.next(&rt)), (200, 0, None));
 }
 
 // Why no line is made, if none is.
@@ -303,12 +317,20 @@ fn line_fault(alloc: Global, capacity: u32) -> Option<QueueFault> {
 
 #[test]
 fn a_line_has_room_for_1_to_1024_items(rt: HostRuntime) {
-    assert_eq!(rt; line_fault(rt.alloc(), 0), Some(QueueFault::Range));
-    assert_eq!(rt; line_fault(rt.alloc(), 1025), Some(QueueFault::Range));
-    assert_eq!(rt; line_fault(rt.alloc(), 1024), None);
+    let range = Some(QueueFault::Range);
+    for (capacity, want) in [(0, range), (1025, range), (1024, None)] {
+        assert_eq!(rt; line_fault(rt.alloc(), capacity), want);
+    }
 }
 
-fn put_upto<R: Wait>(
+// All taps of device 7 up to the second.
+fn two(rt: &impl Abort) -> Ack
+    ensures { result.upto ≡ 2 }
+{
+    Ack::new(device(rt, 7), 2)
+}
+
+fn put_two<R: Wait>(
     rt: &R,
     line: &AckLine,
     pass: &mut AckPass,
@@ -322,28 +344,36 @@ fn put_upto<R: Wait>(
     line.put(rt, pass, AckItem::Upto(acked), stored)
 }
 
-// All taps of a device up to the second.
-fn two_of(device: DeviceId) -> Ack
-    ensures { result.upto ≡ 2 }
+fn take_twice<R: Wait>(rt: &R, line: &AckLine, pass: &mut HearPass) -> [Option<AckItem>; 2]
+    requires { IsHearOf line.now pass.old }
+    ensures { IsHearOf line.now pass.new }
 {
-    Ack::new(device, 2)
+    [line.take(rt, pass), line.take(rt, pass)]
+}
+
+// How many items were taken and how many are left, and the next two of these.
+fn ending<R: Wait>(
+    rt: &R,
+    line: AckLine,
+    ack: AckPass,
+    hear: HearPass,
+) -> ((u64, u64), [Option<AckItem>; 2])
+    requires { IsAckOf line ack × IsHearOf line hear }
+{
+    let mut ended = line.finish(rt, ack, hear);
+    let counts = (ended.taken, ended.left);
+    (counts, [ended.next(rt), ended.next(rt)])
 }
 
 #[test]
-fn a_line_of_one_holds_one(rt: HostRuntime) -> Result<(), Fail> {
-    let acked = two_of(DeviceId::new(7).ok_or("a device")?);
-    let (line, mut ack, mut hear) = AckLine::new(rt.alloc(), 1)?;
-    assert_eq!(rt; put_upto(&rt, &line, &mut ack, acked, 2), Ok(()));
-    assert_eq!(rt;
-        put_upto(&rt, &line, &mut ack, acked, 2),
-        Err(Full(AckItem::Upto(acked)))
-    );
-    assert_eq!(rt; line.take(&rt, &mut hear), Some(AckItem::Upto(acked)));
-    assert_eq!(rt; line.take(&rt, &mut hear), None);
-    assert_eq!(rt; put_upto(&rt, &line, &mut ack, acked, 3), Ok(()));
-    let mut ended = line.finish(&rt, ack, hear);
-    assert_eq!(rt; (ended.taken, ended.left), (1, 1));
-    assert_eq!(rt; ended.next(&rt), Some(AckItem::Upto(acked)));
-    assert_eq!(rt; ended.next(&rt), None);
-    Ok(())
+fn a_line_of_one_holds_one(rt: HostRuntime) {
+    let acked = two(&rt);
+    let (line, mut ack, mut hear) = AckLine::new(rt.alloc(), 1).expect(&rt, "line");
+    assert_eq!(rt; put_two(&rt, &line, &mut ack, acked, 2), Ok(()));
+    let full = Err(Full(AckItem::Upto(acked)));
+    assert_eq!(rt; put_two(&rt, &line, &mut ack, acked, 2), full);
+    let want = [Some(AckItem::Upto(acked)), None];
+    assert_eq!(rt; take_twice(&rt, &line, &mut hear), want);
+    assert_eq!(rt; put_two(&rt, &line, &mut ack, acked, 3), Ok(()));
+    assert_eq!(rt; ending(&rt, line, ack, hear), ((1, 1), want));
 }

@@ -1,109 +1,106 @@
-ghost use Rattle.std.specs.Prelude.{◌≡◌, ◌∷◌, [], IfOk};
+ghost use Rattle.std.specs.Prelude.{◌≡◌, ◌∷◌, []};
 ghost use Rattle.fare_lane_queue.specs.Passes.{sent_list, forward_bases, IsForwardOf, IsOwnerOf};
 
 use fare_lane_queue::{ForwardPass, Full, LaneQueue, LaneQueueFault, OwnerPass};
 use fare_record::{Day, DeviceId, Item, Moment, OwnerId, ProductId, Record, Statement, Tap, Token};
 use std::alloc::Global;
+use std::process::Abort;
 use std::sync::Wait;
-use std::test::Fail;
 
-fn device(number: u64) -> Result<DeviceId, Fail> {
-    Ok(DeviceId::new(number).ok_or("a device")?)
+fn device(rt: &impl Abort, number: u64) -> DeviceId
+    ensures { result ≡ number }
+{
+    DeviceId::new(number).expect(rt, "device")
 }
 
-// Why no queue is made, if none is.
-fn fault(alloc: Global, capacity: u32, bases: &[(DeviceId, u64)]) -> Option<LaneQueueFault> {
-    LaneQueue::new(alloc, capacity, bases).err()
+// Why there is no queue for so many items with bases of device 1, device 2 and this one, if there is none.
+fn fault(rt: &impl Abort, alloc: Global, capacity: u32, third: u64) -> Option<LaneQueueFault> {
+    let bases = [
+        (device(rt, 1), 1),
+        (device(rt, 2), 1),
+        (device(rt, third), 2),
+    ];
+    LaneQueue::new(alloc, capacity, &bases).err()
 }
 
 #[test]
-fn a_lane_queue_has_room_for_1_to_1024_items(rt: HostRuntime) -> Result<(), Fail> {
-    let (one, two) = (device(1)?, device(2)?);
+fn a_lane_queue_has_room_for_1_to_1024_items(rt: HostRuntime) {
     let range = Some(LaneQueueFault::Range);
-    assert_eq!(rt; fault(rt.alloc(), 0, &[]), range);
-    assert_eq!(rt; fault(rt.alloc(), 1025, &[]), range);
-    assert_eq!(rt;
-        fault(rt.alloc(), 4, &[(one, 1), (two, 1), (one, 2)]),
-        range
-    );
-    assert_eq!(rt; fault(rt.alloc(), 1024, &[(one, 1), (two, 1)]), None);
-    Ok(())
+    let cases = [
+        (0, 3, range),
+        (1025, 3, range),
+        (4, 1, range),
+        (1024, 3, None),
+    ];
+    for (capacity, third, want) in cases {
+        assert_eq!(rt; fault(&rt, rt.alloc(), capacity, third), want);
+    }
+}
+
+fn owner(rt: &impl Abort) -> OwnerId {
+    OwnerId::new(1).expect(rt, "owner")
+}
+
+fn day(rt: &impl Abort) -> Day {
+    Day::new(19_723).expect(rt, "day")
 }
 
 // The first tap of device 7 behind four that its owner has.
-fn fifth() -> Record
+fn fifth(rt: &impl Abort) -> Record
     ensures { (result.device ≡ 7) × (result.lane ≡ 5) }
 {
-    let ids = (DeviceId::new(7), OwnerId::new(1), ProductId::new(1));
-    let (Some(device), Some(owner), Some(product)) = ids else {
-        unreachable!()
-    };
-    let parts = (Token::new(77), Moment::new(1_704_100_000), Day::new(19723));
-    let (Some(token), Some(moment), Some(day)) = parts else {
-        unreachable!()
-    };
-    Record::new(device, 9, owner, 5, Tap::new(product, token, moment, day))
+    let product = ProductId::new(1).expect(rt, "product");
+    let token = Token::new(77).expect(rt, "token");
+    let moment = Moment::new(1_704_100_000).expect(rt, "moment");
+    let tap = Tap::new(product, token, moment, day(rt));
+    Record::new(device(rt, 7), 9, owner(rt), 5, tap)
 }
 
-fn stated() -> Result<Statement, Fail> {
-    let day = Day::new(19723).ok_or("a day")?;
-    let owner = OwnerId::new(1).ok_or("an owner")?;
-    Ok(Statement::new(device(7)?, day, owner, 5))
+fn stated(rt: &impl Abort) -> Statement {
+    Statement::new(device(rt, 7), day(rt), owner(rt), 5)
 }
 
 // A queue of two behind four taps of device 7.
-fn behind_four(alloc: Global) -> Result<(LaneQueue, ForwardPass, OwnerPass), LaneQueueFault>
-    ensures passes { IfOk result (λ made. IsForwardOf made.0 made.1 × IsOwnerOf made.0 made.2) }
-    ensures bases { IfOk result (λ made. forward_bases made.1 ≡ (7, 4) ∷ []) }
-    ensures none { IfOk result (λ made. sent_list made.1 ≡ []) }
+fn behind_four(rt: &impl Abort, alloc: Global) -> (LaneQueue, ForwardPass, OwnerPass)
+    ensures passes { IsForwardOf result.0 result.1 × IsOwnerOf result.0 result.2 }
+    ensures bases { forward_bases result.1 ≡ (7, 4) ∷ [] }
+    ensures none { sent_list result.1 ≡ [] }
 {
-    let Some(device) = DeviceId::new(7) else {
-        unreachable!()
-    };
-    LaneQueue::new(alloc, 2, &[(device, 4)])
+    LaneQueue::new(alloc, 2, &[(device(rt, 7), 4)]).expect(rt, "queue")
 }
 
-fn put_tap<R: Wait>(
+// The tap and then the statement twice, into a queue of two.
+fn puts<R: Wait>(
     rt: &R,
     queue: &LaneQueue,
     pass: &mut ForwardPass,
     tapped: Record,
-) -> Result<(), Full>
+    stated: Statement,
+) -> [Result<(), Full>; 3]
     requires queue { IsForwardOf queue.now pass.old }
     requires first { (forward_bases pass.old ≡ (7, 4) ∷ []) × (sent_list pass.old ≡ []) }
     requires fifth { (tapped.device ≡ 7) × (tapped.lane ≡ 5) }
     ensures { IsForwardOf queue.now pass.new }
 {
-    queue.put(rt, pass, Item::Tap(tapped))
-}
-
-fn put_stated<R: Wait>(
-    rt: &R,
-    queue: &LaneQueue,
-    pass: &mut ForwardPass,
-    item: Statement,
-) -> Result<(), Full>
-    requires { IsForwardOf queue.now pass.old }
-    ensures { IsForwardOf queue.now pass.new }
-{
-    queue.put(rt, pass, Item::Stated(item))
+    let first = queue.put(rt, pass, Item::Tap(tapped));
+    let second = queue.put(rt, pass, Item::Stated(stated));
+    let third = queue.put(rt, pass, Item::Stated(stated));
+    [first, second, third]
 }
 
 #[test]
-fn what_is_taken_and_left_is_what_was_put(rt: HostRuntime) -> Result<(), Fail> {
-    let (queue, mut forward, mut owner) = behind_four(rt.alloc())?;
-    let (tapped, item) = (fifth(), stated()?);
-    assert_eq!(rt; put_tap(&rt, &queue, &mut forward, tapped), Ok(()));
-    assert_eq!(rt; put_stated(&rt, &queue, &mut forward, item), Ok(()));
-    assert_eq!(rt;
-        put_stated(&rt, &queue, &mut forward, item),
-        Err(Full(Item::Stated(item)))
-    );
-    assert_eq!(rt; queue.take(&rt, &mut owner), Some(Item::Tap(tapped)));
+fn what_is_taken_and_left_is_what_was_put(rt: HostRuntime) {
+    let (queue, mut forward, mut owner) = behind_four(&rt, rt.alloc());
+    let (tapped, stated) = (fifth(&rt), stated(&rt));
+    let put = puts(&rt, &queue, &mut forward, tapped, stated);
+    assert_eq!(rt; put, [Ok(()), Ok(()), Err(Full(Item::Stated(stated)))]);
+    let taken = queue.take(&rt, &mut owner);
     let mut ended = queue.finish(&rt, forward, owner);
     assert_eq!(rt; (ended.taken, ended.left), (1, 1));
-    assert_eq!(rt; ended.next(&rt), Some(Item::Stated(item)));
-    assert_eq!(rt; ended.next(&rt), None);
+    let left = [taken, ended.next(&rt), ended.next(&rt)];
+    assert_eq!(rt;
+        left,
+        [Some(Item::Tap(tapped)), Some(Item::Stated(stated)), None]
+    );
     assert_eq!(rt; (ended.taken, ended.left), (1, 0));
-    Ok(())
 }

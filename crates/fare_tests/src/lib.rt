@@ -10,6 +10,8 @@ mod collector;
 #[cfg(test)]
 mod day;
 #[cfg(test)]
+mod days;
+#[cfg(test)]
 mod device;
 #[cfg(test)]
 mod frame;

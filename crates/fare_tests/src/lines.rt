@@ -2,63 +2,77 @@ use fare_record::{DeviceId, StationId};
 use fare_scheme::DemoSize;
 use fare_trace::{Line, ParseFault, SchemeLine, parse, print_reply};
 use fare_world::{Event, Refusal, Reply};
-use std::test::Fail;
+use std::alloc::Global;
+use std::process::Abort;
 
-#[test]
-fn parses_event_lines(rt: HostRuntime) -> Result<(), Fail> {
-    let lines = parse(rt.alloc(), b"arrive 18446744073709551615\ndraw")?;
-    assert_eq!(rt; lines.len(), 2);
-    let packet = 18446744073709551615;
-    assert!(rt; matches!(&lines[0], Line::Step(event) if *event == Event::Arrive { packet }));
-    assert!(rt; matches!(&lines[1], Line::Step(Event::Draw)));
-    Ok(())
+fn device(rt: &impl Abort, number: u64) -> DeviceId {
+    DeviceId::new(number).expect(rt, "device")
+}
+
+fn station(rt: &impl Abort, number: u64) -> StationId {
+    StationId::new(number).expect(rt, "station")
+}
+
+// The text has lines of these events.
+fn has_events(rt: &impl Abort, alloc: Global, text: &[u8], want: &[Event]) {
+    let lines = parse(alloc, text).expect(rt, "lines");
+    assert_eq!(rt; lines.len(), want.len());
+    for (line, event) in lines.iter().zip(want) {
+        assert!(rt; matches!(line, Line::Step(line) if line == event));
+    }
+}
+
+// The text is refused at this line.
+fn is_refused(rt: &impl Abort, alloc: Global, text: &[u8], line: u64) {
+    let fault = parse(alloc, text).err();
+    assert_eq!(rt; fault, Some(ParseFault::BadLine { line }), "{line}");
+}
+
+// The replies are printed so.
+fn are_printed(rt: &impl Abort, alloc: Global, replies: &[Reply], want: &[u8]) {
+    let mut text = Vec::new(alloc);
+    for reply in replies {
+        print_reply(reply, &mut text).expect(rt, "reply");
+    }
+    assert_eq!(rt; text.as_slice(), want);
 }
 
 #[test]
-fn parses_acknowledging_lines(rt: HostRuntime) -> Result<(), Fail> {
-    let lines = parse(
-        rt.alloc(),
-        b"rewind 4294967295\nack 4294967295\nanswer 65535\nresume 4294967295\n",
-    )?;
-    let device = DeviceId::new(4294967295).unwrap();
-    let station = StationId::new(65535).unwrap();
+fn parses_event_lines(rt: HostRuntime) {
+    let packet = 18446744073709551615;
+    let want = [Event::Arrive { packet }, Event::Draw];
+    has_events(&rt, rt.alloc(), b"arrive 18446744073709551615\ndraw", &want);
+}
+
+#[test]
+fn parses_acknowledging_lines(rt: HostRuntime) {
+    let device = device(&rt, 4294967295);
+    let station = station(&rt, 65535);
     let want = [
         Event::Rewind { device },
         Event::Ack { device },
         Event::Answer { station },
         Event::Resume { device },
     ];
-    assert_eq!(rt; lines.len(), want.len());
-    for (line, event) in lines.iter().zip(&want) {
-        assert!(rt; matches!(line, Line::Step(line) if line == event));
-    }
-    Ok(())
+    let text = b"rewind 4294967295\nack 4294967295\nanswer 65535\nresume 4294967295\n";
+    has_events(&rt, rt.alloc(), text, &want);
 }
 
 #[test]
-fn parses_restart_lines(rt: HostRuntime) -> Result<(), Fail> {
-    let lines = parse(
-        rt.alloc(),
-        b"restart device 7\nrestart station 9\nrestart writer\n",
-    )?;
+fn parses_restart_lines(rt: HostRuntime) {
+    let device = device(&rt, 7);
+    let station = station(&rt, 9);
     let want = [
-        Event::RestartDevice {
-            device: DeviceId::new(7).unwrap(),
-        },
-        Event::RestartStation {
-            station: StationId::new(9).unwrap(),
-        },
+        Event::RestartDevice { device },
+        Event::RestartStation { station },
         Event::RestartWriter,
     ];
-    assert_eq!(rt; lines.len(), want.len());
-    for (line, event) in lines.iter().zip(&want) {
-        assert!(rt; matches!(line, Line::Step(line) if line == event));
-    }
-    Ok(())
+    let text = b"restart device 7\nrestart station 9\nrestart writer\n";
+    has_events(&rt, rt.alloc(), text, &want);
 }
 
 #[test]
-fn parses_scheme_lines(rt: HostRuntime) -> Result<(), Fail> {
+fn parses_scheme_lines(rt: HostRuntime) {
     let lines = parse(
         rt.alloc(),
         b"owner 65535 4294967295
@@ -72,7 +86,8 @@ start 4294967295
 seal
 demo 1 0 4294967295 7
 demo 2 1 2 3",
-    )?;
+    )
+    .expect(&rt, "lines");
     let want = [
         SchemeLine::Owner {
             owner: 65535,
@@ -118,28 +133,27 @@ demo 2 1 2 3",
     for (line, setup) in lines.iter().zip(&want) {
         assert!(rt; matches!(line, Line::Setup(line) if line == setup));
     }
-    Ok(())
+}
+
+// Whether it is a zone line with this rule.
+fn has_rule(line: &Line, want: &str) -> bool {
+    matches!(line, Line::Setup(SchemeLine::Zone { rule }) if rule.as_str() == want)
 }
 
 #[test]
-fn parses_a_zone_line(rt: HostRuntime) -> Result<(), Fail> {
-    let lines = parse(rt.alloc(), b"zone GMT0BST,M3.5.0/1,M10.5.0\nzone !~\n")?;
-    assert_eq!(rt; lines.len(), 2);
+fn parses_a_zone_line(rt: HostRuntime) {
+    let text = b"zone GMT0BST,M3.5.0/1,M10.5.0\nzone !~\n";
+    let lines = parse(rt.alloc(), text).expect(&rt, "lines");
     let wants = ["GMT0BST,M3.5.0/1,M10.5.0", "!~"];
+    assert_eq!(rt; lines.len(), wants.len());
     for (line, want) in lines.iter().zip(wants) {
-        let Line::Setup(SchemeLine::Zone { rule }) = line else {
-            return Err(Fail::from("not a zone"));
-        };
-        assert_eq!(rt; rule.as_str(), want);
+        assert!(rt; has_rule(line, want));
     }
-    Ok(())
 }
 
 #[test]
-fn reads_the_greatest_numbers(rt: HostRuntime) -> Result<(), Fail> {
-    let lines = parse(
-        rt.alloc(),
-        b"tap 4294967295 4294967295 9223372036854775807 8640200000
+fn reads_the_greatest_numbers(rt: HostRuntime) {
+    let text = b"tap 4294967295 4294967295 9223372036854775807 8640200000
 tap 1 1 1 0
 send 4294967295
 arrive 0
@@ -148,14 +162,13 @@ fetch 65535
 take 65535
 upto 4294967295
 count 65535 4294967295
-",
-    )?;
+";
+    let lines = parse(rt.alloc(), text).expect(&rt, "lines");
     assert_eq!(rt; lines.len(), 9);
-    Ok(())
 }
 
 #[test]
-fn refuses_bad_lines(rt: HostRuntime) -> Result<(), Fail> {
+fn refuses_bad_lines(rt: HostRuntime) {
     let cases: [(&[u8], u64); 39] = [
         (b"\n", 1),
         (b"draw\n\n", 2),
@@ -198,18 +211,12 @@ fn refuses_bad_lines(rt: HostRuntime) -> Result<(), Fail> {
         (b"zone\tGMT0", 1),
     ];
     for (text, number) in cases {
-        let fault = parse(rt.alloc(), text).err();
-        assert_eq!(rt;
-            fault,
-            Some(ParseFault::BadLine { line: number }),
-            "{number}"
-        );
+        is_refused(&rt, rt.alloc(), text, number);
     }
-    Ok(())
 }
 
 #[test]
-fn refuses_bad_acknowledging_lines(rt: HostRuntime) -> Result<(), Fail> {
+fn refuses_bad_acknowledging_lines(rt: HostRuntime) {
     let cases: [&[u8]; 10] = [
         b"rewind",
         b"rewind 1 1",
@@ -223,14 +230,12 @@ fn refuses_bad_acknowledging_lines(rt: HostRuntime) -> Result<(), Fail> {
         b"resume  1",
     ];
     for text in cases {
-        let fault = parse(rt.alloc(), text).err();
-        assert_eq!(rt; fault, Some(ParseFault::BadLine { line: 1 }));
+        is_refused(&rt, rt.alloc(), text, 1);
     }
-    Ok(())
 }
 
 #[test]
-fn refuses_bad_restart_lines(rt: HostRuntime) -> Result<(), Fail> {
+fn refuses_bad_restart_lines(rt: HostRuntime) {
     let cases: [&[u8]; 11] = [
         b"restart",
         b"restart ",
@@ -245,15 +250,13 @@ fn refuses_bad_restart_lines(rt: HostRuntime) -> Result<(), Fail> {
         b"restart writer 1",
     ];
     for text in cases {
-        let fault = parse(rt.alloc(), text).err();
-        assert_eq!(rt; fault, Some(ParseFault::BadLine { line: 1 }));
+        is_refused(&rt, rt.alloc(), text, 1);
     }
-    Ok(())
 }
 
 #[test]
-fn prints_replies(rt: HostRuntime) -> Result<(), Fail> {
-    let device = DeviceId::new(4294967295).unwrap();
+fn prints_replies(rt: HostRuntime) {
+    let device = device(&rt, 4294967295);
     let replies = [
         Reply::Done,
         Reply::Idle,
@@ -270,10 +273,6 @@ fn prints_replies(rt: HostRuntime) -> Result<(), Fail> {
         Reply::Upto(18446744073709551615),
         Reply::Count(0),
     ];
-    let mut text = Vec::new(rt.alloc());
-    for reply in &replies {
-        print_reply(reply, &mut text)?;
-    }
     let want: &[u8] = b"ok
 idle
 empty
@@ -289,13 +288,12 @@ taken 4294967295 lane 4
 upto 18446744073709551615
 count 0
 ";
-    assert_eq!(rt; text.as_slice(), want);
-    Ok(())
+    are_printed(&rt, rt.alloc(), &replies, want);
 }
 
 #[test]
-fn prints_replies_of_acknowledging_and_restarts(rt: HostRuntime) -> Result<(), Fail> {
-    let device = DeviceId::new(4294967295).unwrap();
+fn prints_replies_of_acknowledging_and_restarts(rt: HostRuntime) {
+    let device = device(&rt, 4294967295);
     let replies = [
         Reply::Rewound,
         Reply::Dropped(3),
@@ -312,10 +310,6 @@ fn prints_replies_of_acknowledging_and_restarts(rt: HostRuntime) -> Result<(), F
         Reply::Refused(Refusal::Misrouted),
         Reply::Refused(Refusal::AckAhead),
     ];
-    let mut text = Vec::new(rt.alloc());
-    for reply in &replies {
-        print_reply(reply, &mut text)?;
-    }
     let want: &[u8] = b"rewound
 acked 3
 ack 5
@@ -327,6 +321,5 @@ refused Stranger
 refused Misrouted
 refused AckAhead
 ";
-    assert_eq!(rt; text.as_slice(), want);
-    Ok(())
+    are_printed(&rt, rt.alloc(), &replies, want);
 }

@@ -1,5 +1,6 @@
 -- The parts of a new world.
 use Rattle.std.specs.Prelude.{◌≡◌, ℕ, List, [], Some, None, length, slice_get, replicate}
+use Rattle.std.specs.Map.{keys_of}
 use Rattle.fare_scheme.specs.Values.{SchemeValue}
 use Rattle.fare_scheme.specs.Words.{buffer_of, position_of_device, position_of_station, position_of_owner}
 use Rattle.fare_collector.specs.Collecting.{next_in, first_link}
@@ -11,7 +12,7 @@ use Rattle.fare_world.specs.declared.station.Station.{Station}
 pub record IsFreshDevice (sc : SchemeValue) (k : ℕ) (x : DeviceValue) : Type 0 where
   pub at : position_of_device sc x.id ≡ Some k
   pub room : buffer_of sc x.id ≡ Some x.room
-  pub fresh : x ≡ fresh_device x.id sc.start x.room (length sc.owners)
+  pub fresh : x ≡ fresh_device x.id sc.start x.room (keys_of sc.owners)
 
 pub record AreFreshDevices (sc : SchemeValue) (xs : List DeviceValue) : Type 0 where
   pub count : length xs ≡ length sc.devices

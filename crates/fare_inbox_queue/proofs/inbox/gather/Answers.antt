@@ -11,7 +11,7 @@ use Rattle.fare_inbox_queue.proofs.inbox.gather.Goals as goal
 pub absorb-requires-clause-rule : goal.absorb-requires-clause-rule
 absorb-requires-clause-rule c =
     let out = popped (IsStationOf c.args.inbox.now) c.loop-station.passes.items c.pop.new.self.items c.in-Some.station c.in-Some.ensures.items c.loop-station.invariant.passes in
-    joins _ _ _ _ c.loop-station.invariant.takes out.1.puts
+    joins _ _ _ _ c.loop-station.invariant.takes ((λ i. (view (c.into_pass.ensures i)).puts) ∙ out.1.puts)
 
 pub loop-station-preserved : goal.loop-station-preserved
 loop-station-preserved c =
@@ -20,6 +20,7 @@ loop-station-preserved c =
     let same = c.absorb.ensures.queue in
     let was = c.loop-station.invariant in
     let station = c.in-Some.station in
+    let own = c.into_pass.ensures in
     let done = was.ended.0 in
     record {
       queue = (same.0 ∙ was.queue.0, same.2 ∙ was.queue.1);
@@ -30,6 +31,7 @@ loop-station-preserved c =
       ended = (
         station ∷ done,
         was.ended.1 ∙ (ap (λ (l : List StationPass). l ++ done) c.in-Some.ensures.items ∙ append_assoc c.pop.new.self.items (station ∷ []) done),
-        ap (λ (v : View). v.ended) step ∙ ap (λ (y : ℕ × List (ℕ × List Arrived)). (y.0, (view station.pass).sent) ∷ y.1) (λ i. (out.1.named i, was.ended.2 i)),
+        ap (λ (v : View). v.ended) step
+            ∙ ap (λ (y : ℕ × List Arrived × List (ℕ × List Arrived)). (y.0, y.1) ∷ y.2) (λ i. (((λ i. (view (own i)).station) ∙ out.1.named) i, (view (own i)).sent, was.ended.2 i)),
       );
     }
