@@ -25,7 +25,7 @@ fn answered_bytewise(alloc: Global, bytes: &[u8]) -> Result<Vec<u8>, ReplayFault
 
 #[test]
 fn replays_traces(rt: HostRuntime) {
-    let cases: [(&[u8], &[u8]); 17] = [
+    let cases: [(&[u8], &[u8]); 19] = [
         (b"", b""),
         (ONE_TAP, ONE_TAP_ANSWERED),
         (FULL_BUFFER, FULL_BUFFER_ANSWERED),
@@ -35,6 +35,8 @@ fn replays_traces(rt: HostRuntime) {
         (REGISTRAR_REFUSALS, REGISTRAR_REFUSALS_ANSWERED),
         (REGISTRAR_SEALS, REGISTRAR_SEALS_ANSWERED),
         (WRITER_RESTART, WRITER_RESTART_ANSWERED),
+        (FULL_INBOX, FULL_INBOX_ANSWERED),
+        (PRUNE_AND_OWNER_RESTART, PRUNE_AND_OWNER_RESTART_ANSWERED),
         (SENT_AGAIN, SENT_AGAIN_ANSWERED),
         (UNKNOWN_PARTS, UNKNOWN_PARTS_ANSWERED),
         (SETTINGS, SETTINGS_ANSWERED),

@@ -373,3 +373,83 @@ refused UnknownStation
 resumed 0
 restarted
 ";
+
+pub const FULL_INBOX: &[u8] = b"demo 1 4 1 4
+tap 1 1 77 1704100000
+tap 1 1 77 1704100000
+send 1
+send 1
+arrive 1
+arrive 2
+draw
+arrive 2
+draw
+";
+
+pub const FULL_INBOX_ANSWERED: &[u8] = b"ok
+record 1 1
+record 2 2
+packet 1 link 1
+packet 2 link 2
+accepted
+refused Busy
+drawn 1 link 1
+accepted
+refused HandFull
+";
+
+pub const PRUNE_AND_OWNER_RESTART: &[u8] = b"demo 1 4 4 4
+tap 1 1 77 1704100000
+tap 1 1 77 1704100000
+send 1
+send 1
+arrive 1
+arrive 2
+draw
+store
+draw
+store
+forward 1 1
+forward 1 1
+prune 1 1
+restart owner 1
+fetch 1
+forward 1 1
+fetch 1
+take 1
+prune 1 1
+restart owner 1
+forward 1 1
+fetch 1
+take 1
+count 1 1
+forward 1 1
+";
+
+pub const PRUNE_AND_OWNER_RESTART_ANSWERED: &[u8] = b"ok
+record 1 1
+record 2 2
+packet 1 link 1
+packet 2 link 2
+accepted
+accepted
+drawn 1 link 1
+stored 1 link 1
+drawn 1 link 2
+stored 1 link 2
+forwarded lane 1
+forwarded lane 2
+pruned 0
+restarted
+empty
+forwarded lane 1
+fetched 1 lane 1
+taken 1 lane 1
+pruned 1
+restarted
+forwarded lane 2
+fetched 1 lane 2
+taken 1 lane 2
+count 2
+idle
+";

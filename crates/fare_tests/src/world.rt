@@ -1,8 +1,27 @@
 use fare_day::Zone;
-use fare_record::{DeviceId, Moment, OwnerId, ProductId, StationId, Token};
+use fare_record::{Day, DeviceId, Moment, OwnerId, ProductId, Record, StationId, Tap, Token};
 use fare_scheme::{DemoSize, Draft, Scheme};
-use fare_world::{Event, Reply, World};
+use fare_store::{FailingOutbox, Fault, Outbox, PlainLedger, PlainOutbox};
+use fare_world::{Event, Reply, World, WorldFault};
 use std::alloc::Global;
+
+// A world whose stores are in memory.
+type PlainWorld = World<PlainOutbox, PlainLedger>;
+
+// An empty ledger for each owner of a scheme.
+fn ledgers_of(alloc: Global, scheme: &Scheme) -> Option<Vec<PlainLedger>> {
+    let mut ledgers = Vec::new(alloc);
+    for place in 0..scheme.owner_count() {
+        let ledger = PlainLedger::new(alloc, scheme, scheme.owner_at(place)?).ok()?;
+        ledgers.push(ledger).ok()?;
+    }
+    Some(ledgers)
+}
+
+fn world_over(alloc: Global, scheme: Scheme) -> Option<PlainWorld> {
+    let ledgers = ledgers_of(alloc, &scheme)?;
+    World::new(alloc, scheme, PlainOutbox::new(alloc), ledgers).ok()
+}
 
 // What brings the first tap of a device to the ledger of the owner of a product with the owner's number.
 fn journey(device: u64, product: u64, packet: u64) -> Option<[Event; 10]> {
@@ -44,19 +63,19 @@ fn answers(device: u64, packet: u64) -> Option<[Reply; 10]> {
     ])
 }
 
-fn small_world(alloc: Global) -> Option<World> {
+fn small_world(alloc: Global) -> Option<PlainWorld> {
     let scheme = Scheme::demo(alloc, DemoSize::OneDevice, 4, 4, 4).ok()?;
-    World::new(alloc, scheme).ok()
+    world_over(alloc, scheme)
 }
 
 // The replies of a run.
-fn run(alloc: Global, world: World, events: &[Event]) -> Option<Vec<Reply>> {
-    let (_world, replies) = world.run(alloc, events).ok()?;
+fn run(world: PlainWorld, events: &[Event]) -> Option<Vec<Reply>> {
+    let (_world, replies) = world.run(events).ok()?;
     Some(replies)
 }
 
 // Whether a device's first tap comes to its owner's ledger.
-fn reaches_its_owner(world: &mut World, device: u64, product: u64) -> Option<bool> {
+fn reaches_its_owner(world: &mut PlainWorld, device: u64, product: u64) -> Option<bool> {
     let answers = answers(device, device)?;
     let mut place = 0;
     for event in &journey(device, product, device)? {
@@ -97,11 +116,11 @@ fn seal(mut draft: Draft) -> Option<Scheme> {
 }
 
 // 16 owners with a product each, 16 operators with a station each, and 256 devices.
-fn wide_world(alloc: Global) -> Option<World> {
+fn wide_world(alloc: Global) -> Option<PlainWorld> {
     let mut draft = Draft::new(alloc);
     add_parts(&mut draft)?;
     add_devices(&mut draft)?;
-    World::new(alloc, seal(draft)?).ok()
+    world_over(alloc, seal(draft)?)
 }
 
 // What brings 450 taps of device 1 to the ledger of owner 1, one after the other, each acknowledged.
@@ -130,7 +149,7 @@ fn end_of(replies: &[Reply]) -> Option<(usize, [Reply; 4])> {
 fn a_tap_reaches_the_ledger(rt: HostRuntime) {
     let world = small_world(rt.alloc()).expect(&rt, "world");
     let events = journey(1, 1, 1).expect(&rt, "journey");
-    let replies = run(rt.alloc(), world, &events).expect(&rt, "run");
+    let replies = run(world, &events).expect(&rt, "run");
     let answers = answers(1, 1).expect(&rt, "answers");
     assert_eq!(rt; replies.as_slice(), answers.as_slice());
 }
@@ -148,7 +167,7 @@ fn each_of_256_devices_reaches_its_owner(rt: HostRuntime) {
 fn a_long_run_answers_each_event(rt: HostRuntime) {
     let world = small_world(rt.alloc()).expect(&rt, "world");
     let events = many_journeys(rt.alloc()).expect(&rt, "journeys");
-    let replies = run(rt.alloc(), world, &events).expect(&rt, "run");
+    let replies = run(world, &events).expect(&rt, "run");
     let device = DeviceId::new(1).expect(&rt, "device");
     let last = [
         Reply::Count(450),
@@ -161,4 +180,76 @@ fn a_long_run_answers_each_event(rt: HostRuntime) {
         Reply::Dropped(1),
     ];
     assert_eq!(rt; end_of(&replies), Some((5_850, last)));
+}
+
+// A world of one device, whose outbox fails at this call of it.
+fn failing_world(
+    alloc: Global,
+    call: u64,
+) -> Option<World<FailingOutbox<PlainOutbox>, PlainLedger>> {
+    let scheme = Scheme::demo(alloc, DemoSize::OneDevice, 4, 4, 4).ok()?;
+    let ledgers = ledgers_of(alloc, &scheme)?;
+    let outbox = FailingOutbox::new(PlainOutbox::new(alloc), call);
+    World::new(alloc, scheme, outbox, ledgers).ok()
+}
+
+// What brings a tap to the writer's hand.
+fn to_the_hand() -> Option<[Event; 4]> {
+    let [tap, send, arrive, draw, ..] = journey(1, 1, 1)?;
+    Some([tap, send, arrive, draw])
+}
+
+// The answers to a store that the outbox fails, and to the same once more.
+fn stored_twice(alloc: Global) -> Option<[Result<Reply, Fault>; 2]> {
+    // Making the world asks the outbox once, whether it is empty.
+    let mut world = failing_world(alloc, 2)?;
+    for event in &to_the_hand()? {
+        world.apply(event).ok()?;
+    }
+    Some([world.apply(&Event::Store), world.apply(&Event::Store)])
+}
+
+#[test]
+fn a_failing_store_leaves_the_hand(rt: HostRuntime) {
+    let device = DeviceId::new(1).expect(&rt, "device");
+    let answers = stored_twice(rt.alloc()).expect(&rt, "answers");
+    let stored = Reply::Stored { device, link: 1 };
+    assert_eq!(rt; answers, [Err(Fault::Store), Ok(stored)]);
+}
+
+// The first tap of device 1, for owner 1.
+fn first_row() -> Option<Record> {
+    let tap = Tap::new(
+        ProductId::new(1)?,
+        Token::new(77)?,
+        Moment::new(1_704_100_000)?,
+        Day::new(19_723)?,
+    );
+    Some(Record::new(DeviceId::new(1)?, 1, OwnerId::new(1)?, 1, tap))
+}
+
+// Why there is no world of one owner over this many ledgers and an outbox with a row or none; None where
+// there is one.
+fn fault_over(alloc: Global, ledgers: usize, has_row: bool) -> Option<WorldFault> {
+    let scheme = Scheme::demo(alloc, DemoSize::OneDevice, 4, 4, 4).ok()?;
+    let mut owned = ledgers_of(alloc, &scheme)?;
+    owned.truncate(ledgers);
+    let mut outbox = PlainOutbox::new(alloc);
+    if has_row {
+        outbox.store(&first_row()?).ok()?;
+    }
+    let (_parts, fault) = World::new(alloc, scheme, outbox, owned).err()?;
+    Some(fault)
+}
+
+#[test]
+fn a_world_asks_for_its_ledgers_and_for_empty_stores(rt: HostRuntime) {
+    let faults = [
+        fault_over(rt.alloc(), 0, false),
+        fault_over(rt.alloc(), 0, true),
+        fault_over(rt.alloc(), 1, true),
+        fault_over(rt.alloc(), 1, false),
+    ];
+    let wrong = Some(WorldFault::WrongLedgers);
+    assert_eq!(rt; faults, [wrong, wrong, Some(WorldFault::NotEmpty), None]);
 }

@@ -56,10 +56,13 @@ same_step sc clock s (event.Answer station) same = refl
 same_step sc clock s (event.Forward owner device) same = refl
 same_step sc clock s (event.Fetch owner) same = refl
 same_step sc clock s (event.Take owner) same = refl
+same_step sc clock s (event.Prune owner device) same = refl
 same_step sc clock s (event.Resume device) same = refl
 same_step sc clock s (event.RestartDevice device) same = refl
 same_step sc clock s (event.RestartStation station) same = refl
 same_step sc clock s event.RestartWriter same = refl
+same_step sc clock s (event.RestartOwner owner) same = refl
+same_step sc clock s event.RestartHub same = refl
 same_step sc clock s (event.Upto device) same = refl
 same_step sc clock s (event.Count owner device) same = refl
 

@@ -6,14 +6,14 @@ use borrow.Author.Tests.{ltb-true}
 use Rattle.fare_trace.specs.declared.keyword.Keyword.{Keyword}
 use Rattle.fare_trace.specs.declared.keyword.Keyword.TheVariants.{OfScheme, OfEvent}
 use Rattle.fare_trace.specs.declared.keyword.SchemeKeyword.TheVariants.{Owner, Operator, Station, Product, Caps, Device, Inbox, Start, Seal, Demo}
-use Rattle.fare_trace.specs.declared.keyword.EventKeyword.TheVariants.{Tap, Send, Rewind, Arrive, Draw, Store, Ack, Answer, Forward, Fetch, Take, Resume, RestartDevice, RestartStation, RestartWriter, Upto, Count}
+use Rattle.fare_trace.specs.declared.keyword.EventKeyword.TheVariants.{Tap, Send, Rewind, Arrive, Draw, Store, Ack, Answer, Forward, Fetch, Take, Prune, Resume, RestartDevice, RestartStation, RestartWriter, RestartOwner, RestartHub, Upto, Count}
 use Rattle.fare_trace.specs.Reading.{any_keyword}
 use Rattle.fare_trace.specs.Grammar.{keyword_text}
 use Rattle.fare_trace.proofs.Cuts.{Lacks}
 
 -- a row for each keyword
 abbrev pub keywords : List Keyword
-keywords = OfScheme Owner ∷ OfScheme Operator ∷ OfScheme Station ∷ OfScheme Product ∷ OfScheme Caps ∷ OfScheme Device ∷ OfScheme Inbox ∷ OfScheme Start ∷ OfScheme Seal ∷ OfScheme Demo ∷ OfEvent Tap ∷ OfEvent Send ∷ OfEvent Rewind ∷ OfEvent Arrive ∷ OfEvent Draw ∷ OfEvent Store ∷ OfEvent Ack ∷ OfEvent Answer ∷ OfEvent Forward ∷ OfEvent Fetch ∷ OfEvent Take ∷ OfEvent Resume ∷ OfEvent RestartDevice ∷ OfEvent RestartStation ∷ OfEvent RestartWriter ∷ OfEvent Upto ∷ OfEvent Count ∷ []
+keywords = OfScheme Owner ∷ OfScheme Operator ∷ OfScheme Station ∷ OfScheme Product ∷ OfScheme Caps ∷ OfScheme Device ∷ OfScheme Inbox ∷ OfScheme Start ∷ OfScheme Seal ∷ OfScheme Demo ∷ OfEvent Tap ∷ OfEvent Send ∷ OfEvent Rewind ∷ OfEvent Arrive ∷ OfEvent Draw ∷ OfEvent Store ∷ OfEvent Ack ∷ OfEvent Answer ∷ OfEvent Forward ∷ OfEvent Fetch ∷ OfEvent Take ∷ OfEvent Prune ∷ OfEvent Resume ∷ OfEvent RestartDevice ∷ OfEvent RestartStation ∷ OfEvent RestartWriter ∷ OfEvent RestartOwner ∷ OfEvent RestartHub ∷ OfEvent Upto ∷ OfEvent Count ∷ []
 
 abbrev pub place : Keyword → ℕ
 place (OfScheme Owner) = 0
@@ -37,12 +37,15 @@ place (OfEvent Answer) = 17
 place (OfEvent Forward) = 18
 place (OfEvent Fetch) = 19
 place (OfEvent Take) = 20
-place (OfEvent Resume) = 21
-place (OfEvent RestartDevice) = 22
-place (OfEvent RestartStation) = 23
-place (OfEvent RestartWriter) = 24
-place (OfEvent Upto) = 25
-place (OfEvent Count) = 26
+place (OfEvent Prune) = 21
+place (OfEvent Resume) = 22
+place (OfEvent RestartDevice) = 23
+place (OfEvent RestartStation) = 24
+place (OfEvent RestartWriter) = 25
+place (OfEvent RestartOwner) = 26
+place (OfEvent RestartHub) = 27
+place (OfEvent Upto) = 28
+place (OfEvent Count) = 29
 
 pub at_place : (k : Keyword) → (place k < length keywords) × (get_or keywords (place k) any_keyword ≡ k)
 at_place (OfScheme Owner) = (lit< tt, refl)
@@ -66,10 +69,13 @@ at_place (OfEvent Answer) = (lit< tt, refl)
 at_place (OfEvent Forward) = (lit< tt, refl)
 at_place (OfEvent Fetch) = (lit< tt, refl)
 at_place (OfEvent Take) = (lit< tt, refl)
+at_place (OfEvent Prune) = (lit< tt, refl)
 at_place (OfEvent Resume) = (lit< tt, refl)
 at_place (OfEvent RestartDevice) = (lit< tt, refl)
 at_place (OfEvent RestartStation) = (lit< tt, refl)
 at_place (OfEvent RestartWriter) = (lit< tt, refl)
+at_place (OfEvent RestartOwner) = (lit< tt, refl)
+at_place (OfEvent RestartHub) = (lit< tt, refl)
 at_place (OfEvent Upto) = (lit< tt, refl)
 at_place (OfEvent Count) = (lit< tt, refl)
 

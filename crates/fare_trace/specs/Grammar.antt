@@ -11,7 +11,7 @@ use Rattle.fare_trace.specs.declared.keyword.Keyword.TheVariants.{OfScheme, OfEv
 use Rattle.fare_trace.specs.declared.keyword.SchemeKeyword.{SchemeKeyword}
 use Rattle.fare_trace.specs.declared.keyword.SchemeKeyword.TheVariants.{Owner, Operator, Station, Product, Caps, Device, Inbox, Start, Seal, Demo}
 use Rattle.fare_trace.specs.declared.keyword.EventKeyword.{EventKeyword}
-use Rattle.fare_trace.specs.declared.keyword.EventKeyword.TheVariants.{Tap, Send, Rewind, Arrive, Draw, Store, Ack, Answer, Forward, Fetch, Take, Resume, RestartDevice, RestartStation, RestartWriter, Upto, Count}
+use Rattle.fare_trace.specs.declared.keyword.EventKeyword.TheVariants.{Tap, Send, Rewind, Arrive, Draw, Store, Ack, Answer, Forward, Fetch, Take, Prune, Resume, RestartDevice, RestartStation, RestartWriter, RestartOwner, RestartHub, Upto, Count}
 use Rattle.fare_trace.specs.declared.line.Line.{Line}
 use Rattle.fare_trace.specs.declared.line.Line.TheVariants.{Setup, Step}
 use Rattle.fare_trace.specs.declared.line.SchemeLine.TheVariants as scheme
@@ -43,10 +43,13 @@ event_keyword_text Answer = codes "answer "
 event_keyword_text Forward = codes "forward "
 event_keyword_text Fetch = codes "fetch "
 event_keyword_text Take = codes "take "
+event_keyword_text Prune = codes "prune "
 event_keyword_text Resume = codes "resume "
 event_keyword_text RestartDevice = codes "restart device "
 event_keyword_text RestartStation = codes "restart station "
 event_keyword_text RestartWriter = codes "restart writer"
+event_keyword_text RestartOwner = codes "restart owner "
+event_keyword_text RestartHub = codes "restart hub"
 event_keyword_text Upto = codes "upto "
 event_keyword_text Count = codes "count "
 
@@ -112,10 +115,13 @@ event_keyword_kinds Answer = AStation ∷ []
 event_keyword_kinds Forward = AnOwner ∷ ADevice ∷ []
 event_keyword_kinds Fetch = AnOwner ∷ []
 event_keyword_kinds Take = AnOwner ∷ []
+event_keyword_kinds Prune = AnOwner ∷ ADevice ∷ []
 event_keyword_kinds Resume = ADevice ∷ []
 event_keyword_kinds RestartDevice = ADevice ∷ []
 event_keyword_kinds RestartStation = AStation ∷ []
 event_keyword_kinds RestartWriter = []
+event_keyword_kinds RestartOwner = AnOwner ∷ []
+event_keyword_kinds RestartHub = []
 event_keyword_kinds Upto = ADevice ∷ []
 event_keyword_kinds Count = AnOwner ∷ ADevice ∷ []
 
@@ -158,10 +164,13 @@ line_parts (Step (event.Answer station)) = Numbered (OfEvent Answer) (station �
 line_parts (Step (event.Forward owner device)) = Numbered (OfEvent Forward) (owner ∷ device ∷ [])
 line_parts (Step (event.Fetch owner)) = Numbered (OfEvent Fetch) (owner ∷ [])
 line_parts (Step (event.Take owner)) = Numbered (OfEvent Take) (owner ∷ [])
+line_parts (Step (event.Prune owner device)) = Numbered (OfEvent Prune) (owner ∷ device ∷ [])
 line_parts (Step (event.Resume device)) = Numbered (OfEvent Resume) (device ∷ [])
 line_parts (Step (event.RestartDevice device)) = Numbered (OfEvent RestartDevice) (device ∷ [])
 line_parts (Step (event.RestartStation station)) = Numbered (OfEvent RestartStation) (station ∷ [])
 line_parts (Step event.RestartWriter) = Numbered (OfEvent RestartWriter) []
+line_parts (Step (event.RestartOwner owner)) = Numbered (OfEvent RestartOwner) (owner ∷ [])
+line_parts (Step event.RestartHub) = Numbered (OfEvent RestartHub) []
 line_parts (Step (event.Upto device)) = Numbered (OfEvent Upto) (device ∷ [])
 line_parts (Step (event.Count owner device)) = Numbered (OfEvent Count) (owner ∷ device ∷ [])
 

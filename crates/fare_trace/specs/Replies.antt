@@ -35,9 +35,14 @@ refusal_name refusal.Misrouted = codes "Misrouted"
 refusal_name refusal.Old = codes "Old"
 refusal_name refusal.Ahead = codes "Ahead"
 refusal_name refusal.AckAhead = codes "AckAhead"
+refusal_name refusal.Busy = codes "Busy"
 refusal_name refusal.HandFull = codes "HandFull"
 refusal_name refusal.Duplicate = codes "Duplicate"
 refusal_name refusal.Gap = codes "Gap"
+refusal_name refusal.Conflict = codes "Conflict"
+refusal_name refusal.OutboxFull = codes "OutboxFull"
+refusal_name refusal.NotMine = codes "NotMine"
+refusal_name refusal.AfterClose = codes "AfterClose"
 
 -- the words of a reply
 abbrev pub reply_words : Reply → List (List ℕ)
@@ -61,6 +66,7 @@ reply_words (reply.Resumed upto) = codes "resumed" ∷ decimal upto ∷ []
 reply_words reply.Restarted = codes "restarted" ∷ []
 reply_words (reply.Upto number) = codes "upto" ∷ decimal number ∷ []
 reply_words (reply.Count number) = codes "count" ∷ decimal number ∷ []
+reply_words (reply.Pruned rows) = codes "pruned" ∷ decimal rows ∷ []
 
 -- words with one space between each two, ended by a line feed
 abbrev pub words_line : List (List ℕ) → List ℕ

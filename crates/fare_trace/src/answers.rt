@@ -8,7 +8,8 @@ ghost use Rattle.fare_trace.specs.Weaving.{AppendsAnswer, AppendsAnswers, events
 use crate::line::Line;
 use crate::registering::{Registration, refuse, set_up};
 use fare_scheme::{Draft, Scheme};
-use fare_world::{Event, Refusal, Reply, World};
+use fare_store::{Fault, LedgerFault, PlainLedger, PlainOutbox};
+use fare_world::{Event, Refusal, Reply, World, WorldFault};
 use std::alloc::{AllocError, Global};
 
 /// The events of lines, in their order.
@@ -52,13 +53,37 @@ fn run_events(alloc: Global, scheme: Scheme, events: &[Event]) -> Result<Vec<Rep
     ensures answers { IfOk result (λ answered. answered.items ≡ replies scheme (start scheme) (take (length answered.items) events.now)) }
     ensures whole { IfOk result (λ answered. length answered.items ≡ length events.now) }
 {
-    let Ok(world) = World::new(alloc, scheme) else {
-        return Err(AllocError);
+    let ledgers = empty_ledgers(alloc, &scheme)?;
+    let world = match World::new(alloc, scheme, PlainOutbox::new(alloc), ledgers) {
+        Ok(world) => world,
+        Err((_parts, WorldFault::Memory)) => return Err(AllocError),
+        Err(_) => unreachable!(),
     };
-    match world.run(alloc, events) {
+    match world.run(events) {
         Ok((_world, answered)) => Ok(answered),
-        Err(_) => Err(AllocError),
+        Err(stopped) => match stopped.fault {
+            Fault::Memory => Err(AllocError),
+            Fault::Store => unreachable!(),
+        },
     }
+}
+
+/// An empty ledger for each owner of a scheme, in order of registration.
+fn empty_ledgers(alloc: Global, scheme: &Scheme) -> Result<Vec<PlainLedger>, AllocError>
+    ensures { IfOk result (λ ledgers. AreEmptyLedgers scheme.now ledgers.items) }
+{
+    let mut ledgers = Vec::new(alloc);
+    for place in 0..scheme.owner_count() {
+        let Some(owner) = scheme.owner_at(place) else {
+            unreachable!()
+        };
+        match PlainLedger::new(alloc, scheme, owner) {
+            Ok(ledger) => ledgers.push(ledger)?,
+            Err(LedgerFault::Memory) => return Err(AllocError),
+            Err(LedgerFault::UnknownOwner) => unreachable!(),
+        }
+    }
+    Ok(ledgers)
 }
 
 /// Appends the replies to lines that follow the seal of a scheme: one run of a new world over their events.

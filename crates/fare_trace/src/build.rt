@@ -108,6 +108,7 @@ fn build_bare_event(keyword: EventKeyword) -> Option<Event>
         EventKeyword::Draw => Some(Event::Draw),
         EventKeyword::Store => Some(Event::Store),
         EventKeyword::RestartWriter => Some(Event::RestartWriter),
+        EventKeyword::RestartHub => Some(Event::RestartHub),
         _ => None,
     }
 }
@@ -142,6 +143,9 @@ fn build_single_event(keyword: EventKeyword, number: u64) -> Option<Event>
         EventKeyword::RestartStation => Some(Event::RestartStation {
             station: StationId::new(number)?,
         }),
+        EventKeyword::RestartOwner => Some(Event::RestartOwner {
+            owner: OwnerId::new(number)?,
+        }),
         EventKeyword::Fetch => Some(Event::Fetch {
             owner: OwnerId::new(number)?,
         }),
@@ -161,6 +165,10 @@ fn build_event(keyword: EventKeyword, numbers: &[u64]) -> Option<Event>
         (_, []) => build_bare_event(keyword),
         (_, [number]) => build_single_event(keyword, *number),
         (EventKeyword::Forward, [owner, device]) => Some(Event::Forward {
+            owner: OwnerId::new(*owner)?,
+            device: DeviceId::new(*device)?,
+        }),
+        (EventKeyword::Prune, [owner, device]) => Some(Event::Prune {
             owner: OwnerId::new(*owner)?,
             device: DeviceId::new(*device)?,
         }),

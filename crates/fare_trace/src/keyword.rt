@@ -31,10 +31,13 @@ pub enum EventKeyword {
     Forward,
     Fetch,
     Take,
+    Prune,
     Resume,
     RestartDevice,
     RestartStation,
     RestartWriter,
+    RestartOwner,
+    RestartHub,
     Upto,
     Count,
 }
@@ -83,10 +86,13 @@ impl EventKeyword {
             EventKeyword::Forward => b"forward ",
             EventKeyword::Fetch => b"fetch ",
             EventKeyword::Take => b"take ",
+            EventKeyword::Prune => b"prune ",
             EventKeyword::Resume => b"resume ",
             EventKeyword::RestartDevice => b"restart device ",
             EventKeyword::RestartStation => b"restart station ",
             EventKeyword::RestartWriter => b"restart writer",
+            EventKeyword::RestartOwner => b"restart owner ",
+            EventKeyword::RestartHub => b"restart hub",
             EventKeyword::Upto => b"upto ",
             EventKeyword::Count => b"count ",
         }
@@ -95,7 +101,7 @@ impl EventKeyword {
 
 impl Keyword {
     /// Each keyword once.
-    const ALL: [Keyword; 27] = [
+    const ALL: [Keyword; 30] = [
         Keyword::OfScheme(SchemeKeyword::Owner),
         Keyword::OfScheme(SchemeKeyword::Operator),
         Keyword::OfScheme(SchemeKeyword::Station),
@@ -117,10 +123,13 @@ impl Keyword {
         Keyword::OfEvent(EventKeyword::Forward),
         Keyword::OfEvent(EventKeyword::Fetch),
         Keyword::OfEvent(EventKeyword::Take),
+        Keyword::OfEvent(EventKeyword::Prune),
         Keyword::OfEvent(EventKeyword::Resume),
         Keyword::OfEvent(EventKeyword::RestartDevice),
         Keyword::OfEvent(EventKeyword::RestartStation),
         Keyword::OfEvent(EventKeyword::RestartWriter),
+        Keyword::OfEvent(EventKeyword::RestartOwner),
+        Keyword::OfEvent(EventKeyword::RestartHub),
         Keyword::OfEvent(EventKeyword::Upto),
         Keyword::OfEvent(EventKeyword::Count),
     ];

@@ -37,9 +37,14 @@ fn name_of(refusal: Refusal) -> &'static [u8]
         Refusal::Old => b"Old",
         Refusal::Ahead => b"Ahead",
         Refusal::AckAhead => b"AckAhead",
+        Refusal::Busy => b"Busy",
         Refusal::HandFull => b"HandFull",
         Refusal::Duplicate => b"Duplicate",
         Refusal::Gap => b"Gap",
+        Refusal::Conflict => b"Conflict",
+        Refusal::OutboxFull => b"OutboxFull",
+        Refusal::NotMine => b"NotMine",
+        Refusal::AfterClose => b"AfterClose",
     }
 }
 
@@ -160,5 +165,6 @@ pub fn print_reply(reply: &Reply, out: &mut Vec<u8>) -> Result<(), AllocError>
         Reply::Resumed(upto) => append_number(b"resumed", upto, out),
         Reply::Upto(number) => append_number(b"upto", number, out),
         Reply::Count(number) => append_number(b"count", number, out),
+        Reply::Pruned(rows) => append_number(b"pruned", rows, out),
     }
 }
