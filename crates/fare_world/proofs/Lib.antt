@@ -30,5 +30,6 @@ pub mod Running
 pub mod Resuming
 pub mod ReadsThen
 pub mod Pairs
+pub mod Emptiness
 pub mod Starting
 pub mod Packets

@@ -1,5 +1,5 @@
 -- The parts of a new world.
-use Rattle.std.specs.Prelude.{◌≡◌, ◌≤◌, ℕ, List, [], Some, None, length, slice_get, replicate, vec_capacity}
+use Rattle.std.specs.Prelude.{◌≡◌, ◌≤◌, ℕ, List, [], Some, None, length, map, slice_get, replicate, vec_capacity}
 use Rattle.fare_scheme.specs.Values.{SchemeValue}
 use Rattle.fare_scheme.specs.Words.{buffer_of, lane_capacity_of, position_of_device, position_of_station, position_of_owner}
 use Rattle.fare_collector.specs.Collecting.{next_in, first_link}
@@ -57,11 +57,12 @@ pub record AreFresh {L : Type 0} (sc : SchemeValue) (x : Fresh L) : Type 0 where
   pub none : x.owners.items ≡ []
   pub room : length sc.owners ≤ vec_capacity x.owners
 
--- an owner of a side and a ledger, with nothing in its hand
-abbrev pub owner_of_side : {L : Type 0} → Side → L → Owner L
-owner_of_side x ledger = record { ledger = ledger; queue = x.queue; hand = None; forwarder = x.forwarder; standings = x.standings }
+-- an owner's side, but for its ledger
+abbrev pub side_of : {L : Type 0} → Owner L → Side
+side_of x = record { queue = x.queue; forwarder = x.forwarder; standings = x.standings }
 
--- each side with the ledger at its place
+-- the owners of these sides and ledgers, in order, with nothing in their hands
 pub record AreJoined {L : Type 0} (sides : List Side) (ledgers : List L) (owners : List (Owner L)) : Type 0 where
-  pub count : length owners ≡ length ledgers
-  pub each : (k : ℕ) (x : Side) (l : L) → slice_get sides k ≡ Some x → slice_get ledgers k ≡ Some l → slice_get owners k ≡ Some (owner_of_side x l)
+  pub sides_are : map side_of owners ≡ sides
+  pub ledgers_are : map (λ x. x.ledger) owners ≡ ledgers
+  pub hands : (k : ℕ) (x : Owner L) → slice_get owners k ≡ Some x → x.hand ≡ None

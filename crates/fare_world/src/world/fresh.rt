@@ -111,10 +111,10 @@ fn fresh_stations(alloc: Global, scheme: &Scheme) -> Result<Vec<Station>, AllocE
             unreachable!()
         };
         match Collector::new(alloc, scheme, id) {
-            Ok(collector) => stations.push(Station {
-                collector,
-                line: HeapCircularBuffer::with_capacity(alloc, room)?,
-            })?,
+            Ok(collector) => {
+                let line = HeapCircularBuffer::with_capacity(alloc, room)?;
+                stations.push(Station { collector, line })?;
+            }
             Err(CollectorFault::Memory) => return Err(AllocError),
             Err(CollectorFault::UnknownStation) => unreachable!(),
         }
