@@ -1,9 +1,10 @@
 -- Stores that are asked whether they are empty, one by one.
 use Rattle.std.proofs.Common.{◌≡◌, ◌≢◌, ℕ, ◌+◌, ◌<◌, ◌≤◌, Bool, true, false, List, length, set, arith, Some, None, refl, sym, ap, ◌∙◌, subst, inl, inr}
-use Rattle.std.specs.Prelude.{◌⊎◌, ◌↔◌, Option, Result, Ok, Err, IsErrAnd, IsTrue, not, slice_get}
-use Rattle.std.proofs.lemmas.Bool.Decides.{nat_tests}
+use Rattle.std.specs.Prelude.{◌==◌, ◌⊎◌, ◌↔◌, Option, Result, Ok, Err, IsErrAnd, IsTrue, slice_get}
+use Rattle.std.proofs.lemmas.Bool.Decides.{Decides-eqb, nat_tests}
 use Rattle.std.proofs.lemmas.Option.{slice_get_within, same_Some}
 use Rattle.fare_scheme.specs.Values.{SchemeValue}
+use Rattle.fare_scheme.specs.Words.{id_at}
 use Rattle.fare_store.specs.declared.fault.Fault.{Fault}
 use Rattle.fare_store.specs.declared.fault.Fault.TheVariants as fault
 use Rattle.fare_store.specs.Standing.{Standing, Calls, Reads, fault_of}
@@ -43,25 +44,17 @@ pub fault_is : {A : Type 0} (r : Result A Fault) (f : Fault) → IsErrAnd r (λ 
 fault_is (Ok x) f is = absurd is
 fault_is (Err q) f is = ap Some is
 
-is_so : (b : Bool) → not b ≡ false → IsTrue b
-is_so true e = refl
-is_so false e = absurd (cc)
-
-is_not : (b : Bool) → not b ≡ true → IsTrue b → ⊥
-is_not true e = absurd (cc)
-is_not false e = λ t. absurd (cc)
-
 module _ {L : Type 0} (led : L → Standing LedgerValue) where
   -- a ledger that said that it is empty
   pub record IsFoundEmpty (x y : L) : Type 0 where
     pub kept : IsKept (led x) (led y) None
     pub empty : (led y).live → (led x).lawful → IsEmptyLedger (led x).value
 
-  pub found_empty : (x y : L) (b : Bool) → Reads (led x) (led y) (λ empty. IsTrue empty ↔ IsEmptyLedger (led x).value) (Ok b) → not b ≡ false → IsFoundEmpty x y
-  found_empty x y b c e = record { kept = kept_asked (led x) (led y) None (IsTrue b ↔ IsEmptyLedger (led x).value) c; empty = λ live lawful. let is = c.value live lawful in is.1.1.0 (is_so b e) }
+  pub found_empty : (x y : L) (b : Bool) → Reads (led x) (led y) (λ empty. IsTrue empty ↔ IsEmptyLedger (led x).value) (Ok b) → IsTrue b → IsFoundEmpty x y
+  found_empty x y b c e = record { kept = kept_asked (led x) (led y) None (IsTrue b ↔ IsEmptyLedger (led x).value) c; empty = λ live lawful. let is = c.value live lawful in is.1.1.0 e }
 
-  pub found_other : (x y : L) (b : Bool) → Reads (led x) (led y) (λ empty. IsTrue empty ↔ IsEmptyLedger (led x).value) (Ok b) → not b ≡ true → (led y).live → (led x).lawful → IsEmptyLedger (led x).value → ⊥
-  found_other x y b c e live lawful empty = let is = c.value live lawful in is_not b e (is.1.1.1 empty)
+  pub found_other : (x y : L) (b : Bool) → Reads (led x) (led y) (λ empty. IsTrue empty ↔ IsEmptyLedger (led x).value) (Ok b) → b ≡ false → (led y).live → (led x).lawful → IsEmptyLedger (led x).value → ⊥
+  found_other x y b c e live lawful empty = let is = c.value live lawful in let so : b ≡ true = is.1.1.1 empty in absurd (cc)
 
   -- the ledgers up to a place were found empty, then the next one answered, and those behind it were not reached
   pub asked_up_to : (old new : List L) (place : ℕ) (x y : L) (f : Option Fault) → PairedTo IsFoundEmpty old new place → slice_get new place ≡ Some x → IsKept (led x) (led y) f → AreLedgersKept led old (set new place y) f
@@ -127,3 +120,18 @@ module _ {L : Type 0} (led : L → Standing LedgerValue) where
 
   pub kept_unasked : (xs : List L) (f : Option Fault) → AreLedgersKept led xs xs f
   kept_unasked xs f = record { forth = λ k x e. (x, e, kept_itself (led x) f); back = λ k x e. (x, e, kept_itself (led x) f) }
+
+  -- one ledger more is its owner's
+  pub one_owned : (sc : SchemeValue) (xs : List L) (k : ℕ) (y : L) → ((j : ℕ) (x : L) → j < k → slice_get xs j ≡ Some x → id_at sc.owners j ≡ Some (led x).value.owner) → slice_get xs k ≡ Some y → id_at sc.owners k ≡ Some (led y).value.owner
+      → (j : ℕ) (x : L) → j < k + 1 → slice_get xs j ≡ Some x → id_at sc.owners j ≡ Some (led x).value.owner
+  one_owned sc xs k y so here is j x lt e = elim (here_or j) [
+    | inl at ↦ ap (id_at sc.owners) at ∙ is ∙ ap (λ (z : L). Some (led z).value.owner) (same_Some y x (sym here ∙ ap (slice_get xs) (sym at) ∙ e))
+    | inr before ↦ so j x (before lt) e
+  ]
+    where
+      here_or : (j : ℕ) → (j ≡ k) ⊎ (j < k + 1 → j < k)
+      here_or j = by (j == k) refl
+        where
+          by : (b : Bool) → (j == k) ≡ b → (j ≡ k) ⊎ (j < k + 1 → j < k)
+          by true e = inl ((Decides-eqb j k).0 e)
+          by false e = inr (λ lt. grind (arith, nat_tests))

@@ -14,12 +14,12 @@ loop-place-preserved c =
     let xs = c.loop-place.stations.items in
     let i = c.loop-place.invariant in
     let collector = c.in-Ok.collector in
-    let station : Station = record { collector = collector; line = c.in_ok-line.line } in
+    let station : Station = record { collector = collector; line = c.in_ok-line-in-Ok.line } in
     let is_there : collector.station ≡ c.in-Some.id = c.in-Ok.ensures.station in
     let at : position_of_station sc collector.station ≡ Some (length xs) = ap (position_of_station sc) is_there ∙ c.in-Some.ensures.placed ∙ ap Some (sym i.count) in
     let nexts : (device : ℕ) → next_in collector device ≡ first_link sc collector.station device = λ device. c.in-Ok.ensures.next device ∙ ap (λ q. first_link sc q device) (sym is_there) in
-    let is : IsFreshStation sc (length xs) station = record { at = at; nexts = nexts; line = c.in_ok-line.ensures } in
-    let pushed : c.push.new.self.items ≡ xs ++ station ∷ [] = c.in_ok-push.ensures.items in
+    let is : IsFreshStation sc (length xs) station = record { at = at; nexts = nexts; line = c.in_ok-line-in-Ok.ensures } in
+    let pushed : c.push.new.self.items ≡ xs ++ station ∷ [] = c.in_ok-push-in-Ok.ensures.items in
     record {
       count = ap length pushed ∙ length_push xs station ∙ ap (λ n. n + 1) i.count;
       each = λ k x e. one_station_more sc xs station i.each is k x (ap (λ l. slice_get l k) (sym pushed) ∙ e);
