@@ -135,3 +135,13 @@ module _ {L : Type 0} (led : L → Standing LedgerValue) where
           by : (b : Bool) → (j == k) ≡ b → (j ≡ k) ⊎ (j < k + 1 → j < k)
           by true e = inl ((Decides-eqb j k).0 e)
           by false e = inr (λ lt. grind (arith, nat_tests))
+
+module _ {O L : Type 0} (out : O → Standing OutboxValue) (led : L → Standing LedgerValue) where
+  pub kept_beside_all : (old : O) (olds : List L) (new : O) (news : List L) (f : Option Fault) → AreKept out led old olds new news None → AreKept out led old olds new news f
+  kept_beside_all old olds new news f k = record {
+    outbox_is = kept_beside (out old) (out new) f k.outbox_is;
+    ledgers_are = record {
+      forth = λ j x e. let y = k.ledgers_are.forth j x e in (y.0, y.1, kept_beside (led x) (led y.0) f y.2);
+      back = λ j y e. let x = k.ledgers_are.back j y e in (x.0, x.1, kept_beside (led x.0) (led y) f x.2);
+    };
+  }

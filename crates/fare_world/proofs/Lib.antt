@@ -32,4 +32,5 @@ pub mod ReadsThen
 pub mod Pairs
 pub mod Emptiness
 pub mod Starting
+pub mod Made
 pub mod Packets

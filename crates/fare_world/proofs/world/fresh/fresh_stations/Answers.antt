@@ -1,6 +1,7 @@
 use Rattle.std.proofs.Common.{◌≡◌, ℕ, ◌+◌, ◌++◌, ◌∷◌, [], Some, length, sym, ap, ◌∙◌, arith}
 use Rattle.std.specs.Prelude.{slice_get}
 use Rattle.std.proofs.lemmas.List.{length_push}
+use Rattle.circular_buffer.specs.Buffer.{buffer}
 use Rattle.fare_scheme.specs.Words.{position_of_station}
 use Rattle.fare_collector.specs.Collecting.{next_in, first_link}
 use Rattle.fare_world.specs.declared.station.Station.{Station}
@@ -18,7 +19,7 @@ loop-place-preserved c =
     let is_there : collector.station ≡ c.in-Some.id = c.in-Ok.ensures.station in
     let at : position_of_station sc collector.station ≡ Some (length xs) = ap (position_of_station sc) is_there ∙ c.in-Some.ensures.placed ∙ ap Some (sym i.count) in
     let nexts : (device : ℕ) → next_in collector device ≡ first_link sc collector.station device = λ device. c.in-Ok.ensures.next device ∙ ap (λ q. first_link sc q device) (sym is_there) in
-    let is : IsFreshStation sc (length xs) station = record { at = at; nexts = nexts; line = c.in_ok-line-in-Ok.ensures } in
+    let is : IsFreshStation sc (length xs) station = record { at = at; nexts = nexts; line = c.in_ok-line-in-Ok.ensures ∙ ap (buffer []) c.inbox_capacity-room.ensures.value } in
     let pushed : c.push.new.self.items ≡ xs ++ station ∷ [] = c.in_ok-push-in-Ok.ensures.items in
     record {
       count = ap length pushed ∙ length_push xs station ∙ ap (λ n. n + 1) i.count;
