@@ -98,7 +98,7 @@ module _ {O L : Type 0} (out : O → Standing OutboxValue) (led : L → Standing
   pub starts : (o : O) (ls : List L) (sides : List Side) (w : World O L) → IsReady out led w.scheme o ls → IsMadeOf out led w.scheme o ls w → AreFreshDevices w.scheme w.devices.items → AreFreshStations w.scheme w.stations.items → w.air.items ≡ [] → w.inbox.items ≡ [] → w.hand ≡ None
       → AreFreshSides w.scheme sides → map side_of w.owners.items ≡ sides → ((k : ℕ) (x : Owner L) → slice_get w.owners.items k ≡ Some x → x.hand ≡ None) → StandsAt out led w (start w.scheme)
   starts o ls sides w ready made devices stations air inbox hand fresh are hands = record {
-    lawful = λ live. record { outbox_is = (made.stores.outbox_is.same live.outbox_is (were_lawful live).outbox_is).0; ledgers_are = λ k x e. (ledger_is live k x e).2.0 };
+    lawful = λ live. record { outbox_is = (made.stores.outbox_is.same live.outbox_is (were_lawful live).outbox_is).0; ledgers_are = λ k x e. (ledger_is live k x e).2 };
     shows = λ live.
         let v : (out w.outbox).value ≡ (out o).value = (made.stores.outbox_is.same live.outbox_is (were_lawful live).outbox_is).1 in
         let empty = (made.empty (all_live live) (were_lawful live)).outbox_is in
@@ -170,7 +170,7 @@ module _ {O L : Type 0} (out : O → Standing OutboxValue) (led : L → Standing
           one : (x : Owner L) → slice_get w.owners.items k ≡ Some x → IsOwnerOf sc (start sc).devices p ((start sc).owners p) ((start sc).lanes p) (owner_seen led x)
           one x e =
               let l = ledger_is live k x e in
-              let v = l.2.1 in
+              let v = l.3 in
               let is = side_there sc sides w.owners.items fresh are k x e in
               let empty = (made.empty (all_live live) (were_lawful live)).ledgers_are k l.0 l.1 in
               record {
