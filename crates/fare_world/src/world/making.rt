@@ -15,10 +15,10 @@ impl<O: Outbox + Drop, L: Ledger + Drop> World<O, L> {
     /// first. The outbox and the ledgers are to be empty, and each ledger made with this scheme, which is the
     /// caller's to see to.
     ///
-    /// Refused by the first case of `WorldFault` that applies, with all that was handed in: `WrongLedgers`
-    /// where there is not one ledger for each owner of the scheme, in order of registration; `NotEmpty` where
-    /// the outbox says that it is not empty, or else a ledger does. A store that fails while it is asked is
-    /// told as `Memory` or `Store`; `Memory` where there was none for the world's own parts.
+    /// Refused with all that was handed in: `WrongLedgers` where there is not one ledger for each owner of the
+    /// scheme, in order of registration, before any store is asked. Then the outbox and the ledgers are asked in
+    /// turn: `NotEmpty` at the first that is not empty, `Memory` or `Store` at the first that fails. At last
+    /// `Memory` where there was none for the world's own parts.
     pub fn new(
         alloc: Global,
         scheme: Scheme,

@@ -26,10 +26,12 @@ returns-then-ne g c =
     let k = c.loop-place.place in
     let y = c.index-ledgers-place.result in
     let here : slice_get xs k ≡ Some y = slice_get_read xs (length xs) k y refl c.loop-place-test.true c.index-ledgers-place.is in
-    let own : c.owner.result ≡ (led y).value.owner = c.owner.ensures in
-    (λ t. absurd (cc), λ all. absurd (
-        let is : (led y).value.owner ≡ c.in-Some.owner = same_Some _ _ (sym (all.each k y here) ∙ sym c.owner_at.ensures.value ∙ c.in-Some.is) in
-        grind (arith, nat_tests, common_steps)))
+    let own : c.owner.result ≡ (led y).value.owner = c.owner.ensures in (
+      λ t. absurd (cc),
+      λ all. absurd (
+          let is : (led y).value.owner ≡ c.in-Some.owner = same_Some _ _ (sym (all.each k y here) ∙ sym c.owner_at.ensures.value ∙ c.in-Some.is) in
+          grind (arith, nat_tests, common_steps)),
+    )
 
 pub loop-place-preserved : goal.loop-place-preserved
 loop-place-preserved g c =
