@@ -22,6 +22,14 @@ both_there P None None both there = absurd (cc)
 below : (a b : ℕ) → a ≤ b → a ≢ b → nat_lt a b ≡ true
 below a b le ne = grind (arith, nat_tests)
 
+-- what two reads of a device say of its last link and of the one that was sent
+pub unsent : (x y : DeviceValue) (sent last : ℕ) → x ≡ y → sent ≡ x.cursor → last ≡ last_link y → (sent ≢ last) → x.cursor ≢ last_link x
+unsent x y sent last one is_sent is_last differ same =
+    differ (is_sent ∙ same ∙ ap last_link one ∙ sym is_last)
+
+pub all_sent : (x y : DeviceValue) (sent last : ℕ) → x ≡ y → sent ≡ x.cursor → last ≡ last_link y → sent ≡ last → x.cursor ≡ last_link x
+all_sent x y sent last one is_sent is_last same = sym is_sent ∙ same ∙ is_last ∙ sym (ap last_link one)
+
 pub send_may_fail : (sc : SchemeValue) (h : Shape) (s : System) (d k : ℕ) (x : DeviceValue) → Shows sc h s → position_of_device sc d ≡ Some k → h.devices d ≡ Some x → x.cursor ≢ last_link x → may_fail sc s (event.Send d) ≡ true
 send_may_fail sc h s d k x w at here more = (λ i. is_some (at i) && unsent i)
   where

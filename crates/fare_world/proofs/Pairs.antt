@@ -48,21 +48,29 @@ one_paired P old new place x y so at is = record {
     beyond : (k : ℕ) → place + 1 ≤ k → k ≢ place
     beyond k le same = absurd (omega (arith, le, same))
 
+pub wider : {X : Type 0} (P Q : X → X → Type 0) (old new : List X) (place : ℕ) → ((x y : X) → P x y → Q x y) → PairedTo P old new place → PairedTo Q old new place
+wider P Q old new place more so = record {
+  count = so.count;
+  forth = λ k x lt e. let found = so.forth k x lt e in (found.0, found.1, more x found.0 found.2);
+  back = λ k y lt e. let found = so.back k y lt e in (found.0, found.1, more found.0 y found.2);
+  rest = so.rest;
+}
+
 pub all_paired : {X : Type 0} (P : X → X → Type 0) (old new : List X) (place : ℕ) → PairedTo P old new place → length old ≤ place → Paired P old new
 all_paired P old new place so le = record {
   forth = λ k x e. so.forth k x (let lt = slice_get_within old k x e in omega (arith, lt, le)) e;
   back = λ k y e. so.back k y (let lt = slice_get_within new k y e in omega (arith, lt, le, so.count)) e;
 }
 
--- what a part of them says is said of all where it is weaker, and each that was not reached stands to itself like this
-pub some_paired : {X : Type 0} (P Q : X → X → Type 0) (old new : List X) (place : ℕ) → PairedTo P old new place → ((x y : X) → P x y → Q x y) → ((x : X) → Q x x) → Paired Q old new
-some_paired P Q old new place so weaker itself = record {
+-- where each that was not reached stands to itself like this
+pub part_paired : {X : Type 0} (P : X → X → Type 0) (old new : List X) (place : ℕ) → PairedTo P old new place → ((x : X) → P x x) → Paired P old new
+part_paired P old new place so itself = record {
   forth = λ k x e. elim (before_or k place) [
-    | inl lt ↦ let found = so.forth k x lt e in (found.0, found.1, weaker x found.0 found.2)
+    | inl lt ↦ so.forth k x lt e
     | inr le ↦ (x, so.rest k le ∙ e, itself x)
   ];
   back = λ k y e. elim (before_or k place) [
-    | inl lt ↦ let found = so.back k y lt e in (found.0, found.1, weaker found.0 y found.2)
+    | inl lt ↦ so.back k y lt e
     | inr le ↦ (y, sym (so.rest k le) ∙ e, itself y)
   ];
 }

@@ -1,5 +1,5 @@
 -- A world's tables keep their lengths, and its queues their room.
-use Rattle.std.proofs.Common.{◌≡◌, ℕ, ◌<◌, Some, length, set, get_or, refl, sym, ap, ◌∙◌, subst, length-set, inl, inr}
+use Rattle.std.proofs.Common.{◌≡◌, ℕ, ◌<◌, List, Some, length, set, get_or, refl, sym, ap, ◌∙◌, subst, length-set, inl, inr}
 use Rattle.std.specs.Prelude.{slice_get}
 use Rattle.std.proofs.lemmas.Option.{slice_get_read}
 use Rattle.fare_device.specs.DeviceWords.{DeviceValue}
@@ -65,3 +65,11 @@ rooms_of_owner {O} {L} w a y new within e keeps = record {
   ];
   upto_count = w.rooms.upto_count;
 }
+
+-- an inbox of the same room takes the place of another
+pub rooms_of_inbox : {O L : Type 0} (w : World O L) (stations : List Station) (room : ℕ) → room ≡ w.inbox.capacity → HasRooms w.scheme w.devices.items stations w.inbox.capacity w.owners.items (length w.uptos.items) → HasRooms w.scheme w.devices.items stations room w.owners.items (length w.uptos.items)
+rooms_of_inbox w stations room same has = subst (λ n. HasRooms w.scheme w.devices.items stations n w.owners.items (length w.uptos.items)) (sym same) has
+
+-- as many numbers of how far the devices are had
+pub rooms_of_uptos : {O L : Type 0} (w : World O L) (stations : List Station) (count : ℕ) → count ≡ length w.uptos.items → HasRooms w.scheme w.devices.items stations w.inbox.capacity w.owners.items (length w.uptos.items) → HasRooms w.scheme w.devices.items stations w.inbox.capacity w.owners.items count
+rooms_of_uptos w stations count same has = subst (HasRooms w.scheme w.devices.items stations w.inbox.capacity w.owners.items) (sym same) has

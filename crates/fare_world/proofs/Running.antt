@@ -219,7 +219,7 @@ module _ {O L : Type 0} (out : O → Standing OutboxValue) (led : L → Standing
       rows_behind n =
           let number : length ((led x.ledger).value.taken d) + 1 + n ≡ l.took + n + 1 = omega (arith, long) in
           let place : l.took + n + 1 - 1 ≡ l.took + n = omega arith in
-          ap ((out new.outbox).value.rows o d) number ∙ shown.rows o d (l.took + n + 1) ∙ row_here l.gone rows (l.took + n + 1) (omega (arith, is.gone)) ∙ ap (slice_get rows) place ∙ slice_get-drop rows l.took n
+          ap ((out new.outbox).value.rows o d) number ∙ shown.rows o d (l.took + n + 1) ∙ row_here l.gone rows (l.took + n + 1) (omega (arith, is.gone)) ∙ ap (slice_get rows) place ∙ sym (slice_get-drop l.took rows n)
 
       in_three : part o (s.devices d).taps ≡ (led x.ledger).value.taken d ++ (drop l.took rows ++ part o (beyond ((out new.outbox).value.upto d) v.waiting))
       in_three =

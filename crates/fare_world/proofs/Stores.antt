@@ -31,7 +31,7 @@ pub record Goes {V : Type 0} (old new : Standing V) (faulted : Option Fault) : T
   pub counts : (faulted ≡ Some fault.Store → ⊥) → new.failures ≡ old.failures
 
 -- a count that rises at Store alone
-same_count : (old new : ℕ) (faulted : Option Fault) → Counted old new faulted → (faulted ≡ Some fault.Store → ⊥) → new ≡ old
+pub same_count : (old new : ℕ) (faulted : Option Fault) → Counted old new faulted → (faulted ≡ Some fault.Store → ⊥) → new ≡ old
 same_count old new None c not = c
 same_count old new (Some fault.Memory) c not = c
 same_count old new (Some fault.Store) c not = absurd (not refl)
@@ -279,6 +279,17 @@ module _ {O L : Type 0} (out : O → Standing OutboxValue) (led : L → Standing
   forward_stepped old new e r a x y did commits same at scheme owners c f =
       stepped old new e r scheme (forward_follows old new a x y did commits same at owners c) (λ live lawful. (forward_lawful old new a x y did commits same at owners c live lawful (λ is. is)).0)
       (λ s live lawful. f s (forward_lawful old new a x y did commits same at owners c live lawful (λ is. is)).1)
+
+  pub forward_failed : (old new : World O L) (e : Event) (f : Fault) (a : ℕ) (x y : Owner L) (did : Type 0) (commits : OutboxValue → Type 0) → y.ledger ≡ x.ledger → slice_get old.owners.items a ≡ Some x → new.scheme ≡ old.scheme → new.owners.items ≡ set old.owners.items a y → Calls (out old.outbox) (out new.outbox) (Some f) did commits
+      → (did → shape (seen out led new) ≡ shape (seen out led old)) → ((s : System) → Shows old.scheme (shape (seen out led old)) s → may_fail old.scheme s e ≡ true) → IsUnchanged out led old new e f
+  forward_failed old new e f a x y did commits same at scheme owners c is fails =
+      let goes = forward_follows old new a x y did commits same at owners c in
+      record {
+        scheme = scheme;
+        fails = λ s w live. fails s (w.shows (goes.live live));
+        seen_is = λ live lawful. forward_lawful old new a x y did commits same at owners c live lawful is;
+        stores = goes;
+      }
 
   -- an owner's change that leaves its ledger, and no store is called
   pub same_ledgers : (old new : World O L) (a : ℕ) (x y : Owner L) → new.outbox ≡ old.outbox → y.ledger ≡ x.ledger → slice_get old.owners.items a ≡ Some x → new.owners.items ≡ set old.owners.items a y → SameStores old new

@@ -39,6 +39,7 @@ module _ {L : Type 0} (ledger : L → Standing LedgerValue) where
     pub clean : (ledger y.ledger).clean → (ledger x.ledger).clean
     pub stays : faulted ≡ None → (ledger x.ledger).live → (ledger y.ledger).clean → (ledger y.ledger).live
     pub same : (ledger y.ledger).live → (ledger x.ledger).lawful → (ledger y.ledger).lawful × ((ledger y.ledger).value ≡ (ledger x.ledger).value)
+    pub counts : (faulted ≡ Some fault.Store → ⊥) → (ledger y.ledger).failures ≡ (ledger x.ledger).failures
     pub told : faulted ≡ None → (ledger y.ledger).live → (ledger x.ledger).lawful → AreStandings sc (ledger x.ledger).value y.standings.items
     pub count : length y.standings.items ≡ length x.standings.items
     pub queue : y.queue ≡ x.queue

@@ -84,7 +84,7 @@ pub struct Stopped<O, L> {
 impl<O: Outbox + Drop, L: Ledger + Drop> World<O, L> {
     ghost use Rattle.std.specs.List.{AllByRecursion};
     ghost use Rattle.fare_world.specs.Headline.{IsOrderly};
-    ghost use Rattle.fare_world.specs.Whole.{AreLive, StandsAt, Applied, HasRun, WasStopped, TakenInOrder};
+    ghost use Rattle.fare_world.specs.Whole.{AreLive, StandsAt, Applied, HasRun, WasStopped, TakenInOrder, KeepsEachTap};
 
     /// One event: what it changes, and its reply. `Memory` where there was none, which only an event can want
     /// that makes something grow or asks a store, and `Store` where a store failed; then the world is as it
@@ -133,6 +133,8 @@ impl<O: Outbox + Drop, L: Ledger + Drop> World<O, L> {
         ensures stopped { IfErr result (λ stop. WasStopped O.standing L.standing self stop.world events.now stop.replies.items stop.fault) }
         ensures taken { IfOk result (λ r. StandsAt O.standing L.standing self (start self.scheme) → AreLive O.standing L.standing r.0 → TakenInOrder L.standing r.0 events.now r.1.items) }
         ensures taken_before { IfErr result (λ stop. StandsAt O.standing L.standing self (start self.scheme) → AreLive O.standing L.standing stop.world → TakenInOrder L.standing stop.world events.now stop.replies.items) }
+        ensures kept { IfOk result (λ r. StandsAt O.standing L.standing self (start self.scheme) → AreLive O.standing L.standing r.0 → KeepsEachTap O.standing L.standing r.0 events.now r.1.items) }
+        ensures kept_before { IfErr result (λ stop. StandsAt O.standing L.standing self (start self.scheme) → AreLive O.standing L.standing stop.world → KeepsEachTap O.standing L.standing stop.world events.now stop.replies.items) }
         ensures orderly { IfOk result (λ r. StandsAt O.standing L.standing self (start self.scheme) → AreLive O.standing L.standing r.0 → AllByRecursion IsOrderly r.1.items) }
         ensures orderly_before { IfErr result (λ stop. StandsAt O.standing L.standing self (start self.scheme) → AreLive O.standing L.standing stop.world → AllByRecursion IsOrderly stop.replies.items) }
     {

@@ -26,7 +26,10 @@ impl<O: Outbox + Drop, L: Ledger + Drop> World<O, L> {
             Err(Refused::Failed(fault)) => return Err(fault),
             Err(Refused::Because(_)) => unreachable!(),
         };
-        let Some(row) = item.and_then(|item| item.tap()) else {
+        let Some(item) = item else {
+            return Ok(Reply::Idle);
+        };
+        let Some(row) = item.tap() else {
             return Ok(Reply::Idle);
         };
         if side.queue.try_push_back(row).is_err() {

@@ -1,3 +1,6 @@
+use Rattle.circular_buffer.specs.Buffer.{Buffer}
+use Rattle.fare_record.specs.Values.{AckValue}
+use Rattle.fare_world.proofs.Queues.{pushed, refused}
 use Rattle.fare_world.proofs.ShowLink.{shown_ack_unknown}
 use Rattle.std.proofs.Common.{◌≡◌, ◌<◌, ◌≤◌, ◌++◌, ◌∷◌, [], length, refl, sym, ap, ◌∙◌, subst, arith}
 use Rattle.std.specs.Prelude.{Ok, Err}
@@ -23,7 +26,7 @@ returns-then-len-capacity g c =
     let x = c.index.result.now in
     let has : HasStation w.scheme c.args.device k = c.in-Some.ensures.some in
     let room = line_room c.args.self.now k x c.in-Some.ensures.within c.index.ensures in
-    let full : w.scheme.inbox_capacity ≤ length x.line.items = omega (arith, room, c.if-len-capacity.true, c.len.ensures.len, c.capacity.ensures) in
+    let full : w.scheme.inbox_capacity ≤ length x.line.items = omega (arith, room, c.if-len-capacity.true, c.len.ensures.len, c.capacity.ensures.capacity) in
     steps g.O.Outbox.standing g.L.Ledger.standing c.args.self.now _ _ _ refl (same_stores _ _ refl refl) (λ s sh. shown_ack_busy w.scheme (shape w) s c.args.device has.station (station_shape x) sh has.of (station_read w has.station k x has.at c.in-Some.ensures.within c.index.ensures) full)
 
 pub returns-in_err-upto : goal.returns-in_err-upto
@@ -33,7 +36,7 @@ returns-in_err-upto g c =
     let x = c.index.result.now in
     let has : HasStation w.scheme c.args.device k = c.in-Some.ensures.some in
     let room = line_room c.args.self.now k x c.in-Some.ensures.within c.index.ensures in
-    let free : length x.line.items < w.scheme.inbox_capacity = omega (arith, room, c.if-len-capacity.false, c.len.ensures.len, c.capacity.ensures) in
+    let free : length x.line.items < w.scheme.inbox_capacity = omega (arith, room, c.if-len-capacity.false, c.len.ensures.len, c.capacity.ensures.capacity) in
     let did : Reads (g.O.Outbox.standing c.args.self.now.outbox) (g.O.Outbox.standing c.upto.new.self) (λ u. u ≡ w.outbox.upto c.args.device) (Err c.in_err-upto.field-0.0) = c.in_err-upto.ensures.read in
     applied_err g.O.Outbox.standing g.L.Ledger.standing c.args.self.now _ _ c.from_residual.result _ c.from_residual.ensures.1 (outbox_failed g.O.Outbox.standing g.L.Ledger.standing c.args.self.now _ _ _ _ _ refl refl did (λ is i. record (shape w) { outbox = is.0 i })
     (λ s sh. ack_may_fail w.scheme (shape w) s c.args.device has.station (station_shape x) sh has.of (station_read w has.station k x has.at c.in-Some.ensures.within c.index.ensures) free))
@@ -46,9 +49,9 @@ returns g c =
     let x = c.index_mut.result.now in
     let room = line_room c.args.self.now k c.index.result.now c.in-Some.ensures.within c.index.ensures in
     let same : c.index.result.now ≡ x = same_station w k c.index.result.now x c.in-Some.ensures.within c.index.ensures c.index_mut.ensures.value in
-    let before : length c.index.result.now.line.items < w.scheme.inbox_capacity = omega (arith, room, c.if-len-capacity.false, c.len.ensures.len, c.capacity.ensures) in
+    let before : length c.index.result.now.line.items < w.scheme.inbox_capacity = omega (arith, room, c.if-len-capacity.false, c.len.ensures.len, c.capacity.ensures.capacity) in
     let free : length x.line.items < w.scheme.inbox_capacity = subst (λ (z : Station). length z.line.items < w.scheme.inbox_capacity) same before in
-    let gained : c.try_push_back-pushed.new.self.items ≡ x.line.items ++ record { device = d; upto = c.in_ok-upto.upto } ∷ [] = ? in
+    let gained : c.try_push_back-pushed.new.self.items ≡ x.line.items ++ record { device = d; upto = c.in_ok-upto.upto } ∷ [] = ap (λ (b : Buffer AckValue). b.items) (pushed c.try_push_back-pushed.result x.line c.try_push_back-pushed.new.self c.new.result (sym c.is_err.ensures.value ∙ c.if-is_err.false) c.try_push_back-pushed.ensures.variant c.try_push_back-pushed.ensures.ok).1 ∙ ap (λ (a : AckValue). x.line.items ++ a ∷ []) c.new.ensures in
     let did : Reads (g.O.Outbox.standing c.args.self.now.outbox) (g.O.Outbox.standing c.upto.new.self) (λ u. u ≡ w.outbox.upto c.args.device) (Ok c.in_ok-upto.upto) = c.in_ok-upto.ensures.read in
     outbox_stepped g.O.Outbox.standing g.L.Ledger.standing c.args.self.now _ _ _ _ _ refl refl did (λ s is sh.
     subst (λ o. Answers w.scheme (record (shape w) { outbox = o; stations = with_station w k (record x { line = c.try_push_back-pushed.new.self }) }) (step.ack w.scheme s d) (reply.Acknowledged c.in_ok-upto.upto)) (sym is.0)
@@ -65,9 +68,12 @@ unreachable-requires g c =
     let k = c.in-Some.place in
     let x = c.index_mut.result.now in
     let same : c.index.result.now ≡ x = same_station w k c.index.result.now x c.in-Some.ensures.within c.index.ensures c.index_mut.ensures.value in
-    ?
+    let less : length c.index.result.now.line.items < c.index.result.now.line.capacity = omega (arith, c.if-len-capacity.false, c.len.ensures.len, c.capacity.ensures.capacity) in
+    let here : length x.line.items < x.line.capacity = subst (λ (z : Station). length z.line.items < z.line.capacity) same less in
+    let full = (refused c.try_push_back-pushed.result x.line c.try_push_back-pushed.new.self c.new.result (sym c.is_err.ensures.value ∙ c.if-is_err.true) c.try_push_back-pushed.ensures.variant c.try_push_back-pushed.ensures.err).0 in
+    absurd (omega (arith, here, full))
 
 pub invariant_of-self-2 : goal.invariant_of-self-2
 invariant_of-self-2 g c =
     let x = c.index_mut.result.now in
-    record { rooms = rooms_of_station c.args.self.now c.in-Some.place x (record x { line = c.try_push_back-pushed.new.self }) c.in-Some.ensures.within c.index_mut.ensures.value ? }
+    record { rooms = rooms_of_station c.args.self.now c.in-Some.place x (record x { line = c.try_push_back-pushed.new.self }) c.in-Some.ensures.within c.index_mut.ensures.value (ap (λ (b : Buffer AckValue). b.capacity) (pushed c.try_push_back-pushed.result x.line c.try_push_back-pushed.new.self c.new.result (sym c.is_err.ensures.value ∙ c.if-is_err.false) c.try_push_back-pushed.ensures.variant c.try_push_back-pushed.ensures.ok).1) }

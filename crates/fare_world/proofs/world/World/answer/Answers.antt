@@ -27,7 +27,7 @@ returns-in_default-copied g c =
     let x = c.index.result.now in
     let at = sym c.station_position.ensures.value ∙ c.in-Some.is in
     let within : k < length w.stations = omega (arith, c.in-Some.ensures.within, c.args.self.now.rooms.station_count) in
-    let none : x.line.items ≡ [] = none_left x.line.items (sym c.front.ensures ∙ copied_none c.front.result c.copied.result c.copied.ensures c.in_default-copied.is) in
+    let none : x.line.items ≡ [] = none_left x.line.items (sym c.front.ensures ∙ sym c.copied.ensures ∙ c.in_default-copied.is) in
     steps g.O.Outbox.standing g.L.Ledger.standing c.args.self.now _ _ _ refl (same_stores _ _ refl refl) (λ s sh. shown_no_answer w.scheme (shape w) s c.args.station k (station_shape x) sh at (station_read w c.args.station k x at within c.index.ensures) none)
 
 pub returns-in_err-push : goal.returns-in_err-push

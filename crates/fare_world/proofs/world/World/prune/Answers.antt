@@ -84,3 +84,9 @@ returns g c =
     (over w (pruned c.args.owner c.args.device c.in_ok-taken.taken w.outbox) (g.O.Outbox.standing c.prune.new.self).value w.owners _ (step.prune w.scheme s c.args.owner c.args.device) (reply.Pruned (rows_upto c.in_ok-taken.taken (w.outbox.rows c.args.owner c.args.device))) is.1
     (owners_kept g.L.Ledger.standing xs c.in-Some.at y new c.index_mut.ensures.value (λ k. record (owner_seen g.L.Ledger.standing y) { ledger = first.0 k }))
     (shown_prune w.scheme (shape w) s c.args.owner c.args.device c.in-Some.at (owner_seen g.L.Ledger.standing y) c.in_ok-taken.taken sh owner device (owner_read w c.args.owner c.in-Some.at (owner_seen g.L.Ledger.standing y) owner (within_seen g.L.Ledger.standing xs c.in-Some.at within) (owner_at g.L.Ledger.standing xs c.in-Some.at y within c.index_mut.ensures.value)) first.1)))
+
+pub invariant_of-self-2 : goal.invariant_of-self-2
+invariant_of-self-2 g c =
+    let y = c.index_mut.result.now in
+    let within : c.in-Some.at < length c.args.self.now.owners.items = omega (arith, c.in-Some.ensures.within, c.args.self.now.rooms.owner_count) in
+    record { rooms = rooms_of_owner c.args.self.now c.in-Some.at y (record y { ledger = c.count.new.self }) within c.index_mut.ensures.value (λ h. record { forwarder = h.forwarder; queue = h.queue; standings = h.standings }) }

@@ -1,7 +1,11 @@
 use Rattle.fare_world.proofs.ShowTap.{shown_send_unknown}
 use Rattle.std.proofs.Common.{◌≡◌, ◌<◌, ◌+◌, ◌++◌, ◌∷◌, [], length, refl, sym, ap, ◌∙◌, arith}
 use Rattle.std.proofs.lemmas.Grind.{common_steps}
-use Rattle.fare_world.proofs.ShowTap.{world_sent, world_idle}
+use Rattle.fare_world.proofs.ShowTap.{device_read, shown_idle, world_sent}
+use Rattle.fare_world.proofs.ShowStation.{same_device}
+use Rattle.fare_world.proofs.MayFail.{send_may_fail, unsent, all_sent}
+use Rattle.fare_device.specs.DeviceWords.{last_link}
+use Rattle.std.proofs.Common.{◌≢◌}
 use Rattle.fare_world.proofs.RoomLemmas.{rooms_of_device}
 use Rattle.fare_world.proofs.Stores.{steps, stepped, does, does_all, applied_err, unchanged, same_stores}
 use Rattle.fare_frame.specs.Grammar.{frame_bytes}
@@ -10,7 +14,17 @@ use Rattle.fare_world.specs.Whole.{seen, shape}
 use Rattle.fare_world.proofs.world.World.send.Goals as goal
 
 pub returns-in_err-reserve : goal.returns-in_err-reserve
-returns-in_err-reserve g c = applied_err g.O.Outbox.standing g.L.Ledger.standing c.args.self.now _ _ c.from_residual-in_err-reserve.result _ c.from_residual-in_err-reserve.ensures.1 (unchanged g.O.Outbox.standing g.L.Ledger.standing _ _ _ refl (same_stores _ _ refl refl) (λ i. record (shape (seen g.O.Outbox.standing g.L.Ledger.standing c.args.self.now)) { air = c.in_err-reserve.ensures.items i }) (λ s sh. ?))
+returns-in_err-reserve g c =
+    let w = seen g.O.Outbox.standing g.L.Ledger.standing c.args.self.now in
+    let k = c.in-Some.place in
+    let x = c.index.result.now in
+    let at = sym c.device_position.ensures.value ∙ c.in-Some.is in
+    let within : k < length w.devices = omega (arith, c.in-Some.ensures.within, c.args.self.now.rooms.device_count) in
+    let one : x ≡ c.index-2.result.now = same_device w k x c.index-2.result.now within c.index.ensures c.index-2.ensures in
+    let more : x.cursor ≢ last_link x = unsent x c.index-2.result.now c.sent.result c.last.result one c.sent.ensures c.last.ensures.value c.if-sent-last.false in
+    applied_err g.O.Outbox.standing g.L.Ledger.standing c.args.self.now _ _ c.from_residual-in_err-reserve.result _ c.from_residual-in_err-reserve.ensures.1
+    (unchanged g.O.Outbox.standing g.L.Ledger.standing c.args.self.now _ _ refl (same_stores _ _ refl refl) (λ i. record (shape w) { air = c.in_err-reserve.ensures.items i })
+    (λ s sh. send_may_fail w.scheme (shape w) s c.args.device k x sh at (device_read w c.args.device k x at within c.index.ensures) more))
 
 pub invariant_of-self-2 : goal.invariant_of-self-2
 invariant_of-self-2 g c =
@@ -24,10 +38,28 @@ returns-in_default g c =
     steps g.O.Outbox.standing g.L.Ledger.standing c.args.self.now _ _ _ refl (same_stores _ _ refl refl) (λ s sh. shown_send_unknown w.scheme (shape w) s c.args.device sh (sym c.device_position.ensures.value ∙ c.in_default.is))
 
 pub returns-then-sent-last : goal.returns-then-sent-last
-returns-then-sent-last g c = ?
+returns-then-sent-last g c =
+    let w = seen g.O.Outbox.standing g.L.Ledger.standing c.args.self.now in
+    let k = c.in-Some.place in
+    let x = c.index.result.now in
+    let at = sym c.device_position.ensures.value ∙ c.in-Some.is in
+    let within : k < length w.devices = omega (arith, c.in-Some.ensures.within, c.args.self.now.rooms.device_count) in
+    let one : x ≡ c.index-2.result.now = same_device w k x c.index-2.result.now within c.index.ensures c.index-2.ensures in
+    let all : x.cursor ≡ last_link x = all_sent x c.index-2.result.now c.sent.result c.last.result one c.sent.ensures c.last.ensures.value c.if-sent-last.true in
+    steps g.O.Outbox.standing g.L.Ledger.standing c.args.self.now _ _ _ refl (same_stores _ _ refl refl) (λ s sh. shown_idle w.scheme (shape w) s c.args.device k x sh at (device_read w c.args.device k x at within c.index.ensures) all)
 
 pub returns-in_err-packet : goal.returns-in_err-packet
-returns-in_err-packet g c = ?
+returns-in_err-packet g c =
+    let w = seen g.O.Outbox.standing g.L.Ledger.standing c.args.self.now in
+    let k = c.in-Some.place in
+    let x = c.index.result.now in
+    let at = sym c.device_position.ensures.value ∙ c.in-Some.is in
+    let within : k < length w.devices = omega (arith, c.in-Some.ensures.within, c.args.self.now.rooms.device_count) in
+    let one : x ≡ c.index-2.result.now = same_device w k x c.index-2.result.now within c.index.ensures c.index-2.ensures in
+    let more : x.cursor ≢ last_link x = unsent x c.index-2.result.now c.sent.result c.last.result one c.sent.ensures c.last.ensures.value c.if-sent-last.false in
+    applied_err g.O.Outbox.standing g.L.Ledger.standing c.args.self.now _ _ c.from_residual.result _ c.from_residual.ensures.1
+    (unchanged g.O.Outbox.standing g.L.Ledger.standing c.args.self.now _ _ refl (same_stores _ _ refl refl) refl
+    (λ s sh. send_may_fail w.scheme (shape w) s c.args.device k x sh at (device_read w c.args.device k x at within c.index.ensures) more))
 
 pub returns : goal.returns
 returns g c =

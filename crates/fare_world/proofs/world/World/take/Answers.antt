@@ -99,3 +99,15 @@ returns g c =
     (owner_written w c.args.owner c.in-Some.at (owner_seen g.L.Ledger.standing new) (record (owner_seen g.L.Ledger.standing y) { hand = None }) (step.take_event w.scheme s c.args.owner) (reply.Refused c.named.result) owner (within_seen g.L.Ledger.standing xs c.in-Some.at within)
     (λ i. record (owner_seen g.L.Ledger.standing y) { ledger = is.1 i; hand = None })
     (subst (Answers w.scheme (record (shape w) { owners = put (shape w).owners c.args.owner (Some (record (owner_seen g.L.Ledger.standing y) { hand = None })) }) (step.take_event w.scheme s c.args.owner)) (ap reply.Refused (sym (c.named.ensures ∙ ap step.take_refusal_of c.in-Err-Because.why-is))) by)))
+
+pub invariant_of-self-in-Failed-1 : goal.invariant_of-self-in-Failed-1
+invariant_of-self-in-Failed-1 g c =
+    let y = c.index_mut-side.result.now in
+    let within : c.in-Some.at < length c.args.self.now.owners.items = omega (arith, c.in-Some.ensures.within, c.args.self.now.rooms.owner_count) in
+    record { rooms = rooms_of_owner c.args.self.now c.in-Some.at y (record y { ledger = c.take.new.self }) within c.index_mut-side.ensures.value (λ h. record { forwarder = h.forwarder; queue = h.queue; standings = h.standings }) }
+
+pub invariant_of-self-2 : goal.invariant_of-self-2
+invariant_of-self-2 g c =
+    let y = c.index_mut-side.result.now in
+    let within : c.in-Some.at < length c.args.self.now.owners.items = omega (arith, c.in-Some.ensures.within, c.args.self.now.rooms.owner_count) in
+    record { rooms = rooms_of_owner c.args.self.now c.in-Some.at y (record y { ledger = c.take.new.self; hand = None }) within c.index_mut-side.ensures.value (λ h. record { forwarder = h.forwarder; queue = h.queue; standings = h.standings }) }

@@ -26,7 +26,7 @@ loop-place-preserved g c =
     let before = g.O.Outbox.standing c.loop-place.outbox in
     let now = g.O.Outbox.standing c.upto.new.self in
     let device = c.in-Some.device in
-    let u = c.in_ok-uptos.field-0.0 in
+    let u = c.in_ok-uptos.field-0 in
     let k = c.loop-place.place in
     let xs = c.loop-place.uptos in
     let one : Reads before now (λ n. n ≡ before.value.upto device) (Ok u) = c.in_ok-uptos.ensures.read in
@@ -46,8 +46,8 @@ returns-clause-read g c =
     reads_say first last (ToldTo sc first.value.upto c.loop-place.place c.loop-place.uptos) (AreUptos sc first.value.upto c.loop-place.uptos) None
     (λ is. (is.0, told_all sc first.value.upto c.loop-place.uptos c.loop-place.place is.1 (omega (arith, c.device_count-place-end.ensures.value)) (omega (arith, c.requires)))) i.read
 
-pub returns-in_err-uptoss-clause-read : goal.returns-in_err-uptoss-clause-read
-returns-in_err-uptoss-clause-read g c =
+pub returns-in_err-uptos-clause-read : goal.returns-in_err-uptos-clause-read
+returns-in_err-uptos-clause-read g c =
     let first = g.O.Outbox.standing c.args.outbox.now in
     let before = g.O.Outbox.standing c.loop-place.outbox in
     let now = g.O.Outbox.standing c.upto.new.self in
