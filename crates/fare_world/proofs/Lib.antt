@@ -30,10 +30,12 @@ pub mod Running
 pub mod Resuming
 pub mod ReadsThen
 pub mod Pairs
+pub mod Emptiness
 pub mod Queues
 pub mod Asking
 pub mod Forwarding
 pub mod Again
 pub mod Hub
 pub mod Starting
+pub mod Made
 pub mod Packets

@@ -7,3 +7,4 @@ pub mod Restarts
 pub mod Shown
 pub mod Fresh
 pub mod Whole
+pub mod Making

@@ -19,6 +19,8 @@ mod acknowledging;
 mod asking;
 mod collecting;
 mod forwarding;
+mod fresh;
+mod judging;
 mod making;
 mod restarting;
 mod tapping;

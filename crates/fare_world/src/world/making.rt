@@ -1,50 +1,70 @@
-ghost use Rattle.std.specs.Prelude.{IfOk};
-ghost use Rattle.fare_world.specs.Fresh.{AreFreshDevices, AreFreshStations};
+ghost use Rattle.std.specs.Prelude.{◌≡◌, IfOk, IfErr};
+ghost use Rattle.fare_world.specs.Making.{IsReady, IsMadeOf, IsRefused};
+ghost use Rattle.fare_world.specs.System.{start};
+ghost use Rattle.fare_world.specs.Whole.{StandsAt};
 
-use crate::station::Station;
-use circular_buffer::HeapCircularBuffer;
-use fare_collector::{Collector, CollectorFault};
-use fare_device::{Device, DeviceFault};
+use crate::world::fresh::{Fresh, fresh_parts, joined};
+use crate::world::judging::judge;
+use crate::world::{Parts, World, WorldFault};
 use fare_scheme::Scheme;
-use fare_store::Fault;
+use fare_store::{Ledger, Outbox};
 use std::alloc::Global;
 
-// The scheme's devices, none of which has numbered anything.
-fn fresh_devices(alloc: Global, scheme: &Scheme) -> Result<Vec<Device>, Fault>
-    ensures { IfOk result (λ devices. AreFreshDevices scheme.now devices.items) }
-{
-    let mut devices = Vec::new(alloc);
-    for place in 0..scheme.device_count() {
-        let Some(id) = scheme.device_at(place) else {
-            unreachable!()
-        };
-        match Device::new(alloc, id, scheme) {
-            Ok(device) => devices.push(device)?,
-            Err(DeviceFault::Memory) => return Err(Fault::Memory),
-            Err(DeviceFault::UnknownDevice) => unreachable!(),
+impl<O: Outbox + Drop, L: Ledger + Drop> World<O, L> {
+    /// A new world: nothing was numbered, sent, stored or taken, and each device's open day is the scheme's
+    /// first. The outbox and the ledgers are to be empty, and each ledger made with this scheme, which is the
+    /// caller's to see to.
+    ///
+    /// Refused with all that was handed in: `WrongLedgers` where there is not one ledger for each owner of the
+    /// scheme, in order of registration, before any store is asked. Then the outbox and the ledgers are asked in
+    /// turn: `NotEmpty` at the first that is not empty, `Memory` or `Store` at the first that fails. At last
+    /// `Memory` where there was none for the world's own parts.
+    pub fn new(
+        alloc: Global,
+        scheme: Scheme,
+        mut outbox: O,
+        mut ledgers: Vec<L>,
+    ) -> Result<World<O, L>, (Parts<O, L>, WorldFault)>
+        ensures scheme { IfOk result (λ world. world.scheme ≡ scheme) }
+        ensures start { IsReady O.standing L.standing scheme outbox ledgers.items → IfOk result (λ world. StandsAt O.standing L.standing world (start scheme)) }
+        ensures made { IfOk result (λ world. IsMadeOf O.standing L.standing scheme outbox ledgers.items world) }
+        ensures refused { IfErr result (λ e. IsRefused O.standing L.standing scheme outbox ledgers.items e.0 e.1) }
+    {
+        if let Err(fault) = judge(&scheme, &mut outbox, &mut ledgers) {
+            let parts = Parts {
+                scheme,
+                outbox,
+                ledgers,
+            };
+            return Err((parts, fault));
         }
-    }
-    Ok(devices)
-}
-
-// The scheme's stations, none of which has accepted anything.
-fn fresh_stations(alloc: Global, scheme: &Scheme) -> Result<Vec<Station>, Fault>
-    ensures { IfOk result (λ stations. AreFreshStations scheme.now stations.items) }
-{
-    let room = scheme.inbox_capacity() as usize;
-    let mut stations = Vec::new(alloc);
-    for place in 0..scheme.station_count() {
-        let Some(id) = scheme.station_at(place) else {
-            unreachable!()
+        let Ok(fresh) = fresh_parts(alloc, &scheme) else {
+            let parts = Parts {
+                scheme,
+                outbox,
+                ledgers,
+            };
+            return Err((parts, WorldFault::Memory));
         };
-        match Collector::new(alloc, scheme, id) {
-            Ok(collector) => stations.push(Station {
-                collector,
-                line: HeapCircularBuffer::with_capacity(alloc, room)?,
-            })?,
-            Err(CollectorFault::Memory) => return Err(Fault::Memory),
-            Err(CollectorFault::UnknownStation) => unreachable!(),
-        }
+        let Fresh {
+            devices,
+            stations,
+            inbox,
+            uptos,
+            sides,
+            owners,
+        } = fresh;
+        Ok(World {
+            alloc,
+            scheme,
+            devices,
+            stations,
+            air: Vec::new(alloc),
+            inbox,
+            hand: None,
+            outbox,
+            owners: joined(owners, sides, ledgers),
+            uptos,
+        })
     }
-    Ok(stations)
 }

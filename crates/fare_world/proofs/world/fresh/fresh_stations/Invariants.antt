@@ -2,7 +2,7 @@ use Rattle.std.proofs.Common.{◌≡◌, ℕ, Some, length}
 use Rattle.std.specs.Prelude.{slice_get}
 use Rattle.fare_world.specs.declared.station.Station.{Station}
 use Rattle.fare_world.specs.Fresh.{IsFreshStation}
-use Rattle.fare_world.proofs.world.making.fresh_stations.Given as goal
+use Rattle.fare_world.proofs.world.fresh.fresh_stations.Given as goal
 
 abbrev pub invariant-loop-place : goal.invariant-loop-place
 invariant-loop-place l = record {

@@ -2,7 +2,7 @@ use Rattle.std.proofs.Common.{◌≡◌, ℕ, Some, length}
 use Rattle.std.specs.Prelude.{slice_get}
 use Rattle.fare_device.specs.DeviceWords.{DeviceValue}
 use Rattle.fare_world.specs.Fresh.{IsFreshDevice}
-use Rattle.fare_world.proofs.world.making.fresh_devices.Given as goal
+use Rattle.fare_world.proofs.world.fresh.fresh_devices.Given as goal
 
 abbrev pub invariant-loop-place : goal.invariant-loop-place
 invariant-loop-place l = record {

@@ -6,7 +6,7 @@ use Rattle.fare_scheme.specs.Words.{buffer_of, position_of_device}
 use Rattle.fare_device.specs.DeviceWords.{DeviceValue, fresh_device}
 use Rattle.fare_world.specs.Fresh.{IsFreshDevice}
 use Rattle.fare_world.proofs.Starting.{one_device_more}
-use Rattle.fare_world.proofs.world.making.fresh_devices.Goals as goal
+use Rattle.fare_world.proofs.world.fresh.fresh_devices.Goals as goal
 
 pub loop-place-preserved : goal.loop-place-preserved
 loop-place-preserved c =
