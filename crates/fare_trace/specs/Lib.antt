@@ -7,4 +7,5 @@ pub mod Replies
 pub mod Answers
 pub mod Registration
 pub mod Weaving
+pub mod Stores
 pub mod Replay

@@ -3,6 +3,7 @@ ghost use Rattle.fare_world.specs.System.{start};
 ghost use Rattle.fare_world.specs.Steps.{replies};
 ghost use Rattle.fare_trace.specs.Answers.{AnswersAll, Drafting, Running, first_stage};
 ghost use Rattle.fare_trace.specs.Registration.{stage_of};
+ghost use Rattle.fare_trace.specs.Stores.{AreEmptyLedgers};
 ghost use Rattle.fare_trace.specs.Weaving.{AppendsAnswer, AppendsAnswers, events_of, woven};
 
 use crate::line::Line;

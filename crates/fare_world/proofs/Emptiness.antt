@@ -6,13 +6,12 @@ use Rattle.std.proofs.lemmas.Option.{slice_get_within, same_Some}
 use Rattle.fare_scheme.specs.Values.{SchemeValue}
 use Rattle.fare_scheme.specs.Words.{id_at}
 use Rattle.fare_store.specs.declared.fault.Fault.{Fault}
-use Rattle.fare_store.specs.declared.fault.Fault.TheVariants as fault
 use Rattle.fare_store.specs.Standing.{Standing, Calls, Reads, fault_of}
-use Rattle.fare_store.specs.OutboxWords.{OutboxValue, IsEmptyOutbox}
+use Rattle.fare_store.specs.OutboxWords.{OutboxValue}
 use Rattle.fare_store.specs.LedgerWords.{LedgerValue, IsEmptyLedger}
 use Rattle.fare_world.specs.Restarts.{Paired, Rose}
-use Rattle.fare_world.specs.Making.{IsKept, EachLedger, AreLedgersKept, LedgerFailed, AllLive, AllLawful, AllEmpty, AreKept, SomeFailed}
-use Rattle.fare_world.proofs.Stores.{Goes, called, rose, rests}
+use Rattle.fare_world.specs.Making.{IsKept, EachLedger, AreLedgersKept, LedgerFailed, AreKept}
+use Rattle.fare_world.proofs.Stores.{called}
 use Rattle.fare_world.proofs.Pairs.{PairedTo}
 use Rattle.fare_world.proofs.TableLemmas.{set_cases, slice_get-set_same, slice_get-set_other}
 

@@ -1,5 +1,5 @@
 -- A new world has the rooms of its scheme, and stands at the start.
-use Rattle.std.proofs.Common.{◌≡◌, ◌<◌, ◌≤◌, ℕ, zero, suc, Bool, true, false, List, [], length, Some, None, refl, sym, ap, ◌∙◌, subst, arith}
+use Rattle.std.proofs.Common.{◌≡◌, ◌<◌, ℕ, zero, suc, Bool, true, false, List, [], length, Some, None, refl, sym, ap, ◌∙◌, subst, arith}
 use Rattle.std.specs.Prelude.{map, slice_get, Option, IfSome, IsSome, option_map, option_and_then, replicate, nat_eq, nat_le, if◌then◌else◌}
 use Rattle.std.specs.Map.{keys_of}
 use Rattle.std.proofs.lemmas.List.{length-replicate, length-map}
@@ -7,11 +7,11 @@ use Rattle.std.proofs.lemmas.List.Quantifiers.{position-Some}
 use Rattle.std.proofs.lemmas.Map.Entries.{length-keys_of}
 use Rattle.std.proofs.lemmas.Option.{slice_get-map, same_Some}
 use Rattle.fare_scheme.specs.Values.{SchemeValue}
-use Rattle.fare_scheme.specs.Words.{id_at, lane_capacity_of, position_of_device, position_of_station, position_of_owner}
+use Rattle.fare_scheme.specs.Words.{position_of_device, position_of_station, position_of_owner}
 use Rattle.fare_scheme.proofs.Known.{id_at_place}
 use Rattle.fare_collector.specs.Collecting.{first_link}
 use Rattle.fare_device.specs.DeviceWords.{DeviceValue}
-use Rattle.fare_route.specs.Routing.{cursor_of, standing_at, started}
+use Rattle.fare_route.specs.Routing.{standing_at, started}
 use Rattle.fare_store.specs.Standing.{Standing}
 use Rattle.fare_store.specs.OutboxWords.{OutboxValue}
 use Rattle.fare_store.specs.LedgerWords.{LedgerValue, IsOfScheme}
@@ -21,11 +21,11 @@ use Rattle.fare_world.specs.declared.world.World.{World}
 use Rattle.fare_world.specs.declared.world.fresh.Side.{Side}
 use Rattle.fare_world.specs.declared.world.fresh.Fresh.{Fresh}
 use Rattle.fare_world.specs.System.{start}
-use Rattle.fare_world.specs.Rooms.{HasRooms, HasOwnerRooms}
-use Rattle.fare_world.specs.Shown.{IsDeviceOf, IsStationOf, IsOwnerOf, OwnerShape, Each2, Both, IsPacketOf, IsAnswerOf, IsArrivedOf, IsRoutedOf, entry, Shows}
+use Rattle.fare_world.specs.Rooms.{HasRooms}
+use Rattle.fare_world.specs.Shown.{IsDeviceOf, IsStationOf, IsOwnerOf, OwnerShape, Each2, Both, IsPacketOf, IsAnswerOf, IsArrivedOf, IsRoutedOf, entry}
 use Rattle.fare_world.specs.Fresh.{AreFreshDevices, AreFreshStations, IsSideAt, AreFreshSides, AreFresh, AreJoined, side_of}
-use Rattle.fare_world.specs.Making.{IsKept, AllLive, AllLawful, AllEmpty, IsReady, MayBeMade, IsMadeOf}
-use Rattle.fare_world.specs.Whole.{station_shape, owner_seen, seen, shape, AreLive, AreLawful, StandsAt}
+use Rattle.fare_world.specs.Making.{AllLive, AllLawful, IsReady, IsMadeOf}
+use Rattle.fare_world.specs.Whole.{station_shape, owner_seen, AreLive, StandsAt}
 use Rattle.fare_world.proofs.Starting.{fresh_lanes, slice_get-replicate}
 use Rattle.fare_world.proofs.TableLemmas.{devices_apart, stations_apart}
 use Rattle.fare_world.proofs.Stepping.{start_is}

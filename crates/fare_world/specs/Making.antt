@@ -1,9 +1,7 @@
 -- What a world is made of, and why none is made.
-use Rattle.std.specs.Prelude.{◌≡◌, ◌⊎◌, ℕ, List, [], Option, None, Some, length, map, slice_get, replicate}
-use Rattle.circular_buffer.specs.Buffer.{buffer}
+use Rattle.std.specs.Prelude.{◌≡◌, ◌⊎◌, ℕ, List, Option, None, Some, length, map, slice_get}
 use Rattle.fare_scheme.specs.Values.{SchemeValue}
-use Rattle.fare_scheme.specs.Words.{id_at, lane_capacity_of, position_of_owner}
-use Rattle.fare_route.specs.Routing.{cursor_of, started}
+use Rattle.fare_scheme.specs.Words.{id_at}
 use Rattle.fare_store.specs.declared.fault.Fault.{Fault}
 use Rattle.fare_store.specs.declared.fault.Fault.TheVariants as fault
 use Rattle.fare_store.specs.Standing.{Standing}
@@ -14,7 +12,6 @@ use Rattle.fare_world.specs.declared.world.Parts.{Parts}
 use Rattle.fare_world.specs.declared.world.WorldFault.{WorldFault}
 use Rattle.fare_world.specs.declared.world.WorldFault.TheVariants as world
 use Rattle.fare_world.specs.Restarts.{Paired, Rose}
-use Rattle.fare_world.specs.Whole.{AreLive}
 
 -- a store that was asked whether it is empty, or that was not reached: while it is live it holds what it held, a stop leaves what it could have left, and its failures are counted as ever
 pub record IsKept {V : Type 0} (old new : Standing V) (faulted : Option Fault) : Type 0 where

@@ -1,9 +1,8 @@
-use Rattle.std.proofs.Common.{◌≡◌, ◌<◌, None, Some, length, get_or, set, refl, sym, ap, ◌∙◌, subst, arith}
-use Rattle.std.specs.Prelude.{◌↔◌, IsTrue, Ok, Err, slice_get}
+use Rattle.std.proofs.Common.{◌<◌, None, Some, length, get_or, set, refl, sym, ap, ◌∙◌, subst, arith}
+use Rattle.std.specs.Prelude.{◌↔◌, IsTrue, Ok, Err}
 use Rattle.std.proofs.lemmas.Option.{slice_get_read}
-use Rattle.fare_store.specs.declared.fault.Fault.{Fault}
 use Rattle.fare_store.specs.LedgerWords.{IsEmptyLedger}
-use Rattle.fare_store.specs.Standing.{Reads, fault_of}
+use Rattle.fare_store.specs.Standing.{Reads}
 use Rattle.fare_world.specs.Making.{AreLedgersKept}
 use Rattle.fare_world.proofs.Pairs.{one_paired}
 use Rattle.fare_world.proofs.Stores.{rose}

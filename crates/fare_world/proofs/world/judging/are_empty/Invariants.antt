@@ -1,5 +1,3 @@
-use Rattle.std.proofs.Common.{None}
-use Rattle.fare_world.specs.Making.{IsKept}
 use Rattle.fare_world.proofs.Pairs.{PairedTo}
 use Rattle.fare_world.proofs.Emptiness.{IsFoundEmpty}
 use Rattle.fare_world.proofs.world.judging.are_empty.Given as goal
