@@ -10,3 +10,4 @@ pub mod Words
 pub mod Weaving
 pub mod Answering
 pub mod Clocks
+pub mod Stores

@@ -2,7 +2,7 @@
 use Rattle.std.specs.Prelude.{◌≡◌, ℕ, List, Some, length, slice_get}
 use Rattle.fare_scheme.specs.Values.{SchemeValue}
 use Rattle.fare_scheme.specs.Words.{id_at}
-use Rattle.fare_store.specs.declared.PlainLedger.{PlainLedger}
+use Rattle.fare_store.specs.declared.plain_ledger.PlainLedger.{PlainLedger}
 use Rattle.fare_store.specs.LedgerWords.{IsOfScheme, IsEmptyLedger}
 use Rattle.fare_store.specs.PlainLedgerWords.{plain_ledger}
 

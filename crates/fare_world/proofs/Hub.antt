@@ -85,11 +85,14 @@ module _ {O L : Type 0} (out : O → Standing OutboxValue) (led : L → Standing
 
   pub asked_lawful : (old new : World O L) (sc : SchemeValue) (f : Fault) (did : Type 0) → Calls (out old.outbox) (out new.outbox) None did (λ v. ⊥) → AreAsked led sc old.owners.items new.owners.items (Some f) → AreLive out led new → AreLawful out led old → AreLawful out led new × did × ((k : ℕ) (x y : Owner L) → slice_get old.owners.items k ≡ Some x → slice_get new.owners.items k ≡ Some y → IsAsked led sc (Some f) x y → (led y.ledger).value ≡ (led x.ledger).value)
   asked_lawful old new sc f did c all live lawful =
-      let is = c.value live.outbox_is lawful.outbox_is in
-      (record {
-        outbox_is = is.0;
-        ledgers_are = λ k y e. let found = all.each.back k y e in (found.2.same (live.ledgers_are k y e) (lawful.ledgers_are k found.0 found.1)).0;
-      }, is.1, λ k x y e g a. (a.same (live.ledgers_are k y g) (lawful.ledgers_are k x e)).1)
+      let is = c.value live.outbox_is lawful.outbox_is in (
+        record {
+          outbox_is = is.0;
+          ledgers_are = λ k y e. let found = all.each.back k y e in (found.2.same (live.ledgers_are k y e) (lawful.ledgers_are k found.0 found.1)).0;
+        },
+        is.1,
+        λ k x y e g a. (a.same (live.ledgers_are k y g) (lawful.ledgers_are k x e)).1,
+      )
 
   -- all were asked, and started again
   restarted_goes : (sc : SchemeValue) (x z : Owner L) → IsRestarted led sc x z → Goes (led x.ledger) (led z.ledger) None

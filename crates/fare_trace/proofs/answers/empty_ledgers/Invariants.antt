@@ -1,6 +1,6 @@
 use Rattle.std.proofs.Common.{◌≡◌, ℕ, Some, length}
 use Rattle.std.specs.Prelude.{slice_get}
-use Rattle.fare_store.specs.declared.PlainLedger.{PlainLedger}
+use Rattle.fare_store.specs.declared.plain_ledger.PlainLedger.{PlainLedger}
 use Rattle.fare_trace.specs.Stores.{IsEmptyLedgerAt}
 use Rattle.fare_trace.proofs.answers.empty_ledgers.Given as goal
 

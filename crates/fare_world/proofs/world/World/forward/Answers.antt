@@ -148,8 +148,10 @@ invariant_of-self-then-is_err g c =
     let within : c.in-Some.at < length c.args.self.now.owners.items = omega (arith, c.in-Some.ensures.within, c.args.self.now.rooms.owner_count) in
     let left = queues.refused c.try_push_back.result y.queue c.try_push_back.new.self c.in-Some-tap.row (sym c.is_err.ensures.value ∙ c.if-is_err.true) c.try_push_back.ensures.variant c.try_push_back.ensures.err in
     let new = record y { queue = c.try_push_back.new.self; forwarder = c.put_back.new.self } in
-    record { rooms = rooms_of_owner c.args.self.now c.in-Some.at y new within c.index_mut-side.ensures.value (side_kept c.args.self.now.scheme c.in-Some.at y new
-    (λ e. ap is_some (c.put_back.ensures.cursors e) ∙ some_changed undone (cursor_of c.next.new.self) c.args.device e ∙ (some_after c.next.result (cursor_of y.forwarder) (cursor_of c.next.new.self) c.args.device c.next.ensures.moved c.next.ensures.unmoved) e) (c.put_back.ensures.owner ∙ c.next.ensures.owner) (ap (λ (b : Buffer RecordValue). b.capacity) left.1) refl) }
+    record {
+      rooms = rooms_of_owner c.args.self.now c.in-Some.at y new within c.index_mut-side.ensures.value (side_kept c.args.self.now.scheme c.in-Some.at y new
+          (λ e. ap is_some (c.put_back.ensures.cursors e) ∙ some_changed undone (cursor_of c.next.new.self) c.args.device e ∙ (some_after c.next.result (cursor_of y.forwarder) (cursor_of c.next.new.self) c.args.device c.next.ensures.moved c.next.ensures.unmoved) e) (c.put_back.ensures.owner ∙ c.next.ensures.owner) (ap (λ (b : Buffer RecordValue). b.capacity) left.1) refl);
+    }
 
 pub returns-then-is_err : goal.returns-then-is_err
 returns-then-is_err g c =

@@ -65,7 +65,7 @@ returns-in_err-ask_owners g c =
       seen_is = λ live lawful.
           let is = asked_lawful g.O.Outbox.standing g.L.Ledger.standing old _ sc f _ did all live lawful in
           let stay = entries_stay (IsAsked g.L.Ledger.standing sc (Some f)) (owner_seen g.L.Ledger.standing) old.owners.items (with_items old.owners mid).items all.each
-              (λ k x y e h a. λ j. record { ledger = is.2 k x y e h a j; queue = (a.queue j).items; hand = a.hand j; cursors = lane_of_cursor (a.forwarder j) }) in
+          (λ k x y e h a. λ j. record { ledger = is.2 k x y e h a j; queue = (a.queue j).items; hand = a.hand j; cursors = lane_of_cursor (a.forwarder j) }) in
           (is.0, λ i. record (shape w) { outbox = is.1.0 i; owners = λ o. stay (position_of_owner sc o) i });
       stores = asked_follows g.O.Outbox.standing g.L.Ledger.standing old _ sc f _ did all;
     })
