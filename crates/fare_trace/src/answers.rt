@@ -57,8 +57,12 @@ fn run_events(alloc: Global, scheme: Scheme, events: &[Event]) -> Result<Vec<Rep
     let ledgers = empty_ledgers(alloc, &scheme)?;
     let world = match World::new(alloc, scheme, PlainOutbox::new(alloc), ledgers) {
         Ok(world) => world,
-        Err((_parts, WorldFault::Memory)) => return Err(AllocError),
-        Err(_) => unreachable!(),
+        Err((_parts, fault)) => {
+            if fault != WorldFault::Memory {
+                unreachable!()
+            }
+            return Err(AllocError);
+        }
     };
     match world.run(events) {
         Ok((_world, answered)) => Ok(answered),
