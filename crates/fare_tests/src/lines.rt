@@ -243,7 +243,7 @@ fn refuses_bad_restart_lines(rt: HostRuntime) {
         b"restart device 0",
         b"restart device  1",
         b"restart station 65536",
-        b"restart hub",
+        b"restart hub 1",
         b"restart 1",
         b"restart  writer",
         b"restart writer ",
