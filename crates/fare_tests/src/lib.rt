@@ -4,6 +4,8 @@
 #![tactic(auto)]
 
 #[cfg(test)]
+mod bills;
+#[cfg(test)]
 mod buffer;
 #[cfg(test)]
 mod collector;
@@ -35,6 +37,8 @@ mod replay;
 mod route;
 #[cfg(test)]
 mod scheme;
+#[cfg(test)]
+mod settlements;
 #[cfg(test)]
 mod stores;
 #[cfg(test)]

@@ -1,0 +1,60 @@
+ghost use Rattle.std.specs.Prelude.{◌≡◌, ◌≤◌, ℕ};
+ghost use Rattle.fare_scheme.specs.Facts.{IsTariff};
+ghost use Rattle.fare_cap.specs.Fares.{day_fare as fare_of_day, week_start as start_of_week, fares_before as fares_of_week, amount_by};
+ghost use Rattle.fare_cap.specs.RidesWords.{paid_by};
+
+use crate::{Account, Rides};
+use fare_day::monday_of;
+use fare_record::Day;
+use fare_scheme::{Scheme, Tariff};
+
+/// The fare in pence of a day with so many paid taps: the flat fare of each, at most the daily cap.
+pub fn day_fare(tariff: Tariff, taps: u64) -> u64
+    requires { IsTariff tariff }
+    ensures value { result ≡ fare_of_day tariff taps }
+    ensures capped { result ≤ 1000000 }
+{
+    (tariff.daily as u128).min(tariff.fare as u128 * taps as u128) as u64
+}
+
+/// The day on which the week of a day begins: its Monday, or the scheme's first day where that is later.
+pub fn week_start(scheme: &Scheme, day: Day) -> Day
+    ensures { result ≡ start_of_week scheme.now day }
+{
+    let start = scheme.start();
+    monday_of(day).map_or(start, |monday| monday.max(start))
+}
+
+/// The day fares in pence of an account with this tariff, summed over the days of the week before the day.
+pub fn fares_before(
+    scheme: &Scheme,
+    rides: &Rides,
+    tariff: Tariff,
+    account: Account,
+    day: Day,
+) -> u64
+    requires { IsTariff tariff }
+    ensures value { result ≡ fares_of_week scheme.now tariff (paid_by rides.now account) day }
+    ensures small { result ≤ 100000000000 }
+{
+    let mut fares = 0;
+    for number in week_start(scheme, day).get()..day.get() {
+        let earlier = Day::new(number as u64).unwrap();
+        fares += day_fare(tariff, rides.get(account, earlier));
+    }
+    fares
+}
+
+/// What an account pays for the day, in pence: by how much the day's fare raises what its week comes to under the
+/// weekly cap. Nothing for an account of a product that isn't registered.
+pub fn amount(scheme: &Scheme, rides: &Rides, account: Account, day: Day) -> u64
+    ensures value { result ≡ amount_by scheme.now account (paid_by rides.now account) day }
+    ensures capped { result ≤ 10000000 }
+{
+    let Some(tariff) = scheme.tariff_of(account.product()) else {
+        return 0;
+    };
+    let before = fares_before(scheme, rides, tariff, account, day);
+    let after = before + day_fare(tariff, rides.get(account, day));
+    tariff.weekly.min(after) - tariff.weekly.min(before)
+}
