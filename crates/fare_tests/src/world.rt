@@ -182,14 +182,12 @@ fn a_long_run_answers_each_event(rt: HostRuntime) {
     assert_eq!(rt; end_of(&replies), Some((5_850, last)));
 }
 
-// A world of one device, whose outbox fails at this call of it.
-fn failing_world(
-    alloc: Global,
-    call: u64,
-) -> Option<World<FailingOutbox<PlainOutbox>, PlainLedger>> {
+// A world of one device, whose outbox fails at its second call. Making the world asks it once, whether it is
+// empty.
+fn failing_world(alloc: Global) -> Option<World<FailingOutbox<PlainOutbox>, PlainLedger>> {
     let scheme = Scheme::demo(alloc, DemoSize::OneDevice, 4, 4, 4).ok()?;
     let ledgers = ledgers_of(alloc, &scheme)?;
-    let outbox = FailingOutbox::new(PlainOutbox::new(alloc), call);
+    let outbox = FailingOutbox::new(PlainOutbox::new(alloc), 2);
     World::new(alloc, scheme, outbox, ledgers).ok()
 }
 
@@ -201,8 +199,7 @@ fn to_the_hand() -> Option<[Event; 4]> {
 
 // The answers to a store that the outbox fails, and to the same once more.
 fn stored_twice(alloc: Global) -> Option<[Result<Reply, Fault>; 2]> {
-    // Making the world asks the outbox once, whether it is empty.
-    let mut world = failing_world(alloc, 2)?;
+    let mut world = failing_world(alloc)?;
     for event in &to_the_hand()? {
         world.apply(event).ok()?;
     }
