@@ -13,39 +13,39 @@ use Rattle.fare_trace.proofs.Cuts.{Lacks}
 
 -- a row for each keyword
 abbrev pub keywords : List Keyword
-keywords = OfScheme Owner ∷ OfScheme Operator ∷ OfScheme Station ∷ OfScheme Product ∷ OfScheme Caps ∷ OfScheme Device ∷ OfScheme Inbox ∷ OfScheme Start ∷ OfScheme Seal ∷ OfScheme Demo ∷ OfEvent Tap ∷ OfEvent Send ∷ OfEvent Rewind ∷ OfEvent Arrive ∷ OfEvent Draw ∷ OfEvent Store ∷ OfEvent Ack ∷ OfEvent Answer ∷ OfEvent Forward ∷ OfEvent Fetch ∷ OfEvent Take ∷ OfEvent Prune ∷ OfEvent Resume ∷ OfEvent RestartDevice ∷ OfEvent RestartStation ∷ OfEvent RestartWriter ∷ OfEvent RestartOwner ∷ OfEvent RestartHub ∷ OfEvent Upto ∷ OfEvent Count ∷ []
+keywords = OfEvent Tap ∷ OfEvent Send ∷ OfEvent Rewind ∷ OfEvent Arrive ∷ OfEvent Draw ∷ OfEvent Store ∷ OfEvent Ack ∷ OfEvent Answer ∷ OfEvent Forward ∷ OfEvent Fetch ∷ OfEvent Take ∷ OfEvent Prune ∷ OfEvent Resume ∷ OfEvent RestartDevice ∷ OfEvent RestartStation ∷ OfEvent RestartWriter ∷ OfEvent RestartOwner ∷ OfEvent RestartHub ∷ OfEvent Upto ∷ OfEvent Count ∷ OfScheme Owner ∷ OfScheme Operator ∷ OfScheme Station ∷ OfScheme Product ∷ OfScheme Caps ∷ OfScheme Device ∷ OfScheme Inbox ∷ OfScheme Start ∷ OfScheme Seal ∷ OfScheme Demo ∷ []
 
 abbrev pub place : Keyword → ℕ
-place (OfScheme Owner) = 0
-place (OfScheme Operator) = 1
-place (OfScheme Station) = 2
-place (OfScheme Product) = 3
-place (OfScheme Caps) = 4
-place (OfScheme Device) = 5
-place (OfScheme Inbox) = 6
-place (OfScheme Start) = 7
-place (OfScheme Seal) = 8
-place (OfScheme Demo) = 9
-place (OfEvent Tap) = 10
-place (OfEvent Send) = 11
-place (OfEvent Rewind) = 12
-place (OfEvent Arrive) = 13
-place (OfEvent Draw) = 14
-place (OfEvent Store) = 15
-place (OfEvent Ack) = 16
-place (OfEvent Answer) = 17
-place (OfEvent Forward) = 18
-place (OfEvent Fetch) = 19
-place (OfEvent Take) = 20
-place (OfEvent Prune) = 21
-place (OfEvent Resume) = 22
-place (OfEvent RestartDevice) = 23
-place (OfEvent RestartStation) = 24
-place (OfEvent RestartWriter) = 25
-place (OfEvent RestartOwner) = 26
-place (OfEvent RestartHub) = 27
-place (OfEvent Upto) = 28
-place (OfEvent Count) = 29
+place (OfScheme Owner) = 20
+place (OfScheme Operator) = 21
+place (OfScheme Station) = 22
+place (OfScheme Product) = 23
+place (OfScheme Caps) = 24
+place (OfScheme Device) = 25
+place (OfScheme Inbox) = 26
+place (OfScheme Start) = 27
+place (OfScheme Seal) = 28
+place (OfScheme Demo) = 29
+place (OfEvent Tap) = 0
+place (OfEvent Send) = 1
+place (OfEvent Rewind) = 2
+place (OfEvent Arrive) = 3
+place (OfEvent Draw) = 4
+place (OfEvent Store) = 5
+place (OfEvent Ack) = 6
+place (OfEvent Answer) = 7
+place (OfEvent Forward) = 8
+place (OfEvent Fetch) = 9
+place (OfEvent Take) = 10
+place (OfEvent Prune) = 11
+place (OfEvent Resume) = 12
+place (OfEvent RestartDevice) = 13
+place (OfEvent RestartStation) = 14
+place (OfEvent RestartWriter) = 15
+place (OfEvent RestartOwner) = 16
+place (OfEvent RestartHub) = 17
+place (OfEvent Upto) = 18
+place (OfEvent Count) = 19
 
 pub at_place : (k : Keyword) → (place k < length keywords) × (get_or keywords (place k) any_keyword ≡ k)
 at_place (OfScheme Owner) = (lit< tt, refl)

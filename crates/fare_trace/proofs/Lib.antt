@@ -7,7 +7,7 @@ pub mod Spelling
 pub mod Texts
 pub mod Printing
 pub mod Words
-pub mod Weaving
 pub mod Answering
 pub mod Clocks
 pub mod Stores
+pub mod Progress

@@ -1,19 +1,18 @@
 -- Numbers and their decimal spelling, alone and in a row with one space between each two.
-use Rattle.std.proofs.Common.{◌≡◌, ◌≢◌, ◌≤◌, ◌<◌, ◌^◌, ◌==◌, ℕ, List, [], ◌∷◌, ◌++◌, length, get_or, Bool, true, false, Result, Ok, Err, None, ap, ap₂, sym, subst, refl, arith, ◌∙◌, map, length-append}
+use Rattle.std.proofs.Common.{◌≡◌, ◌≤◌, ◌<◌, ◌^◌, ◌==◌, ℕ, List, [], ◌∷◌, ◌++◌, length, get_or, Bool, true, false, Option, Some, None, IfSome, IfNone, take, ◌+◌, ◌*◌, ◌-◌, ap, ap₂, sym, subst, refl, arith, ◌∙◌, map, length-append}
 use Prim.Native.Nat.{zero, suc}
 use Rattle.std.specs.List.{All, AllByRecursion, join_with_byte, slice_split}
 use Rattle.std.specs.Fmt.{decimal}
-use Rattle.std.specs.Char.{is_ascii_digit}
-use Rattle.std.specs.Str.{IsUtf8}
-use Rattle.std.specs.Str.Parse.{ParsesUnsigned, AllDigits, digits_value}
-use Rattle.std.specs.Result.{OkIff}
+use Rattle.std.specs.Char.{digit_value, is_ascii_digit}
+use Rattle.std.specs.Str.Parse.{AllDigits, digits_value}
 use Rattle.std.proofs.lemmas.Bool.Decides.{nat_tests}
 use Rattle.std.proofs.lemmas.Bool.{ne_eqb}
 use Rattle.std.proofs.lemmas.Grind.{common_steps}
 use Rattle.std.proofs.lemmas.List.Splits.{slice_split_none, slice_split_at, join_with_byte-slice_split}
-use Rattle.std.proofs.lemmas.Str.{IsUtf8-from_ascii}
-use Rattle.std.proofs.lemmas.Str.Parse.{IsNumeralModel, numerals_by_value, tells_digits, parse_plain, digit_at}
-use Rattle.std.proofs.lemmas.Fmt.{decimal-digits_value, parse-decimal, decimal_nonempty, decimal_digit, decimal_injective, digits_decimal, first_decimal, IsAscii-decimal}
+use Rattle.std.proofs.lemmas.Int.Digits.{digits_more, digits_value_more}
+use Rattle.std.proofs.lemmas.Str.{digit_value_digit}
+use Rattle.std.proofs.lemmas.Str.Parse.{IsNumeralModel, numerals_by_value, tells_digits, digit_at, digits_value-take-le}
+use Rattle.std.proofs.lemmas.Fmt.{decimal-digits_value, digits_value-decimal, decimal_nonempty, decimal_digit, decimal_injective, digits_decimal, first_decimal}
 use Rattle.fare_trace.specs.Grammar.{numbers_text}
 use Rattle.fare_trace.specs.Reading.{BeginsWith, ReadsNumbers}
 use Rattle.fare_trace.proofs.Cuts.{Lacks, append_nil, lacks_of_index}
@@ -26,20 +25,51 @@ IsU64 n = n < 18446744073709551616
 numerals : IsNumeralModel (AllDigits 10) (digits_value 10)
 numerals = numerals_by_value (AllDigits 10) tells_digits
 
--- a word that parses, with no sign and no leading zero, is the number's spelling
-pub parsed_is_spelled : {E : Type 0} (word : List ℕ) (n : ℕ) (r : Result ℕ E) → ParsesUnsigned 64 10 word r → r ≡ Ok n → 0 < length word → get_or word 0 0 ≢ 43 → (get_or word 0 0 ≡ 48 → length word ≡ 1) → word ≡ decimal n
-parsed_is_spelled {E} word n r parses is some unsigned lone =
-    let Parsed : Result ℕ E → Type 0 = λ r. OkIff r (AllDigits 10 word × (0 < length word) × (digits_value 10 word < 2 ^ 64)) (digits_value 10 word) in
-    let got : Parsed (Ok n) = subst Parsed is (parse_plain numerals 64 word r parses unsigned) in
-    sym (decimal-digits_value numerals word got.0.0 some lone got.0.2) ∙ ap decimal (sym got.1)
+-- digits with no leading zero are the spelling of their number
+pub digits_are_spelled : (word : List ℕ) (r : Option ℕ) → IfSome r (λ n. AllDigits 10 word × (n ≡ digits_value 10 word) × (n < 2 ^ 64)) → 0 < length word → (get_or word 0 0 ≡ 48 → length word ≡ 1) → IfSome r (λ n. word ≡ decimal n)
+digits_are_spelled word None read some lone = tt
+digits_are_spelled word (Some n) read some lone =
+    sym (decimal-digits_value numerals word read.0 some lone (omega (arith, read.1, read.2))) ∙ ap decimal (sym read.1)
 
--- the words that spell no number below 2^64
-pub unparsed_is_none : {E : Type 0} (word : List ℕ) (e : E) (r : Result ℕ E) → ParsesUnsigned 64 10 word r → r ≡ Err e → (n : ℕ) → n < 2 ^ 64 → word ≡ decimal n → ⊥
-unparsed_is_none word e r parses fails n small is =
-    let parsed : r ≡ Ok n = parse-decimal 64 n word r small small is parses in cc
+-- what is no number in digits is the spelling of none
+pub digits_are_none : (word : List ℕ) (r : Option ℕ) → IfNone r (AllDigits 10 word → digits_value 10 word < 2 ^ 64 → ⊥) → IfNone r ((n : ℕ) → n < 2 ^ 64 → word ≡ decimal n → ⊥)
+digits_are_none word (Some n) none = tt
+digits_are_none word None none = λ n small is.
+    let spelled : (AllDigits 10 (decimal n)) × (digits_value 10 (decimal n) < 2 ^ 64) = (digits_decimal numerals n small, omega (arith, digits_value-decimal numerals n small)) in
+    let own : AllDigits 10 word × (digits_value 10 word < 2 ^ 64) = subst (λ w. AllDigits 10 w × (digits_value 10 w < 2 ^ 64)) (sym is) spelled in
+    none own.0 own.1
 
-pub spelled_is_utf8 : (word : List ℕ) (n : ℕ) → n < 2 ^ 64 → word ≡ decimal n → IsUtf8 word
-spelled_is_utf8 word n small is = let P : List ℕ → Type 0 = IsUtf8 in subst P (sym is) (IsUtf8-from_ascii (decimal n) (IsAscii-decimal n small))
+-- the digits so far
+digit_of : (byte : ℕ) → is_ascii_digit byte ≡ true → (48 ≤ byte) × (byte ≤ 57)
+digit_of byte digit = (grind (arith, nat_tests), grind (arith, nat_tests))
+
+is_digit_of : (byte : ℕ) → 48 ≤ byte → byte ≤ 57 → is_ascii_digit byte ≡ true
+is_digit_of byte low high = grind (arith, nat_tests)
+
+pub one_digit_more : (word : List ℕ) (i number : ℕ) → i < length word → is_ascii_digit (get_or word i 0) ≡ true → AllDigits 10 (take i word) → number ≡ digits_value 10 (take i word) → AllDigits 10 (take (i + 1) word) × (number * 10 + (get_or word i 0 - 48) ≡ digits_value 10 (take (i + 1) word))
+one_digit_more word i number below digit all is =
+    let byte = get_or word i 0 in
+    let within = digit_of byte digit in
+    let value : digit_value byte + 48 ≡ byte = digit_value_digit byte within in
+    let small : digit_value byte < 10 = omega (arith, value, within.1) in
+    (digits_more 10 word i below all small, omega (arith, digits_value_more 10 word i below, is, value, within.0))
+
+pub not_all_digits : (word : List ℕ) (i : ℕ) → i < length word → is_ascii_digit (get_or word i 0) ≡ false → AllDigits 10 word → ⊥
+not_all_digits word i below other all =
+    let within = digit_at word i all below in
+    let both : true ≡ false = sym (is_digit_of (get_or word i 0) within.0 within.1) ∙ other in absurd (cc)
+
+-- what is more than a u64 holds after some digits is so after all
+pub too_large : (word : List ℕ) (i number : ℕ) → i < length word → is_ascii_digit (get_or word i 0) ≡ true → AllDigits 10 (take i word) → number ≡ digits_value 10 (take i word) → 2 ^ 64 ≤ number * 10 + (get_or word i 0 - 48) → digits_value 10 word < 2 ^ 64 → ⊥
+too_large word i number below digit all is large small =
+    omega (arith, (one_digit_more word i number below digit all is).1, digits_value-take-le 10 word (i + 1) (omega arith), large, small)
+
+pub take_all : (k : ℕ) (xs : List ℕ) → length xs ≤ k → take k xs ≡ xs
+take_all k xs whole = grind (arith, common_steps)
+
+pub if_none : {A : Type 0} (o : Option A) (P : Type 0) → P → IfNone o P
+if_none None P holds = holds
+if_none (Some x) P holds = tt
 
 pub empty_is_none : (word : List ℕ) → length word ≡ 0 → (n : ℕ) → n < 2 ^ 64 → word ≡ decimal n → ⊥
 empty_is_none word e n small is = omega (arith, ap length is, decimal_nonempty n small)
@@ -47,9 +77,6 @@ empty_is_none word e n small is = omega (arith, ap length is, decimal_nonempty n
 first_is_digit : (n : ℕ) → n < 2 ^ 64 → (48 ≤ get_or (decimal n) 0 0) × (get_or (decimal n) 0 0 ≤ 57)
 first_is_digit n small =
     let digit = digit_at (decimal n) 0 (digits_decimal numerals n small) (decimal_nonempty n small) in (omega arith, omega arith)
-
-pub signed_is_none : (word : List ℕ) → get_or word 0 0 ≡ 43 → (n : ℕ) → n < 2 ^ 64 → word ≡ decimal n → ⊥
-signed_is_none word sign n small is = omega (arith, ap (λ b. get_or b 0 0) is, first_is_digit n small)
 
 zero_is_short : (n : ℕ) → n < 2 ^ 64 → get_or (decimal n) 0 0 ≡ 48 → length (decimal n) ≡ 1
 zero_is_short n small = elim n as (λ n. n < 2 ^ 64 → get_or (decimal n) 0 0 ≡ 48 → length (decimal n) ≡ 1) [

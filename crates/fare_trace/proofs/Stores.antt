@@ -1,16 +1,11 @@
 -- The stores of a new run: they are ready for a world, and never fail.
-use Rattle.std.proofs.Common.{◌≡◌, ◌++◌, ◌∷◌, ◌≤◌, ◌<◌, ◌⊎◌, ℕ, List, [], Some, None, length, refl, sym, ap, ◌∙◌, subst, inl, inr, arith}
+use Rattle.std.proofs.Common.{◌≡◌, ◌++◌, ◌∷◌, ℕ, List, [], Some, length, refl, sym, subst, inl, inr, arith}
 use Rattle.std.specs.Prelude.{slice_get}
 use Rattle.fare_scheme.specs.Values.{SchemeValue}
 use Rattle.fare_store.specs.declared.plain_ledger.PlainLedger.{PlainLedger}
 use Rattle.fare_store.specs.declared.plain_outbox.PlainOutbox.{PlainOutbox}
-use Rattle.fare_store.specs.declared.fault.Fault.{Fault}
-use Rattle.fare_store.specs.declared.fault.Fault.TheVariants as fault
-use Rattle.fare_store.specs.LedgerWords.{LedgerValue}
-use Rattle.fare_store.specs.OutboxWords.{OutboxValue, IsEmptyOutbox}
-use Rattle.fare_store.specs.PlainLedgerWords.{plain_ledger}
+use Rattle.fare_store.specs.OutboxWords.{IsEmptyOutbox}
 use Rattle.fare_store.specs.PlainOutboxWords.{plain_outbox}
-use Rattle.fare_store.specs.Standing.{Standing, plain}
 use Rattle.fare_world.specs.declared.world.World.{World}
 use Rattle.fare_world.specs.declared.world.Parts.{Parts}
 use Rattle.fare_world.specs.declared.world.WorldFault.{WorldFault}
@@ -19,7 +14,7 @@ use Rattle.fare_world.specs.Making.{AreOfOwners, AllEmpty, IsReady, IsRefused, S
 use Rattle.fare_world.specs.Restarts.{Rose}
 use Rattle.fare_world.specs.Whole.{AreLive, CountsFailure}
 use Rattle.fare_world.proofs.Places.{slice_get-push_cases}
-use Rattle.fare_trace.specs.Stores.{AreEmptyLedgers}
+use Rattle.fare_trace.specs.Stores.{AreEmptyLedgers, ledger_is, outbox_is}
 
 -- one ledger more
 pub one_more : {X : Type 0} (Q : ℕ → X → Type 0) (xs : List X) (x : X) → ((k : ℕ) (y : X) → slice_get xs k ≡ Some y → Q k y) → Q (length xs) x → (k : ℕ) (y : X) → slice_get (xs ++ x ∷ []) k ≡ Some y → Q k y
@@ -27,12 +22,6 @@ one_more Q xs x all is k y e = elim (slice_get-push_cases xs x k y e) [
   | inl was ↦ all k y was
   | inr new ↦ subst (λ n. Q n y) (sym new.0) (subst (Q (length xs)) new.1 is)
 ]
-
-abbrev pub outbox_is : PlainOutbox → Standing OutboxValue
-outbox_is o = plain (plain_outbox o)
-
-abbrev pub ledger_is : PlainLedger → Standing LedgerValue
-ledger_is l = plain (plain_ledger l)
 
 -- a world may be made of them
 pub ready : (sc : SchemeValue) (o : PlainOutbox) (ls : List PlainLedger) → AreEmptyLedgers sc ls → IsReady outbox_is ledger_is sc o ls

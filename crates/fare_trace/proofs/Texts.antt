@@ -46,3 +46,7 @@ rest_is_shorter text front [] cut some = absurd (omega arith)
 rest_is_shorter text front (b ∷ bs) cut some =
     let tail : length (take (length (b ∷ bs) - 1) (drop 1 (b ∷ bs))) ≤ length bs = grind (arith, common_steps) in
     omega (arith, ap length cut.is, length-append front (b ∷ bs))
+
+pub no_lines : (text : List ℕ) → length text < 1 → lines_of text ≡ []
+no_lines [] none = refl
+no_lines (b ∷ bs) none = absurd (omega arith)

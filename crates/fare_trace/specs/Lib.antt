@@ -6,6 +6,6 @@ pub mod Reading
 pub mod Replies
 pub mod Answers
 pub mod Registration
-pub mod Weaving
 pub mod Stores
 pub mod Replay
+pub mod Progress

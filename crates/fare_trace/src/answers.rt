@@ -1,77 +1,20 @@
-ghost use Rattle.std.specs.Prelude.{◌≡◌, ◌++◌, OnOk, IfOk, length, take};
+ghost use Rattle.std.specs.Prelude.{◌≡◌, [], ◌++◌, OnOk, IfOk, IfErr, MatchResult};
 ghost use Rattle.fare_world.specs.System.{start};
-ghost use Rattle.fare_world.specs.Steps.{replies};
-ghost use Rattle.fare_trace.specs.Answers.{AnswersAll, Drafting, Running, first_stage};
+ghost use Rattle.fare_trace.specs.Answers.{Drafting, Running};
+ghost use Rattle.fare_trace.specs.Faults.{Refuses};
+ghost use Rattle.fare_trace.specs.Progress.{AnswersText, GoesToEnd, Registers, StopsIn, WritesAnswer};
 ghost use Rattle.fare_trace.specs.Registration.{stage_of};
-ghost use Rattle.fare_trace.specs.Stores.{AreEmptyLedgers};
-ghost use Rattle.fare_trace.specs.Weaving.{AppendsAnswer, AppendsAnswers, events_of, woven};
+ghost use Rattle.fare_trace.specs.Stores.{AreEmptyLedgers, IsNew, Steps, WritesStep};
 
 use crate::line::Line;
+use crate::lines::Lines;
+use crate::print::print_reply;
 use crate::registering::{Registration, refuse, set_up};
+use crate::text::ParseFault;
 use fare_scheme::{Draft, Scheme};
 use fare_store::{Fault, LedgerFault, PlainLedger, PlainOutbox};
 use fare_world::{Event, Refusal, Reply, World, WorldFault};
 use std::alloc::{AllocError, Global};
-
-/// The events of lines, in their order.
-fn collect_events(alloc: Global, lines: &[Line]) -> Result<Vec<Event>, AllocError>
-    ensures { IfOk result (λ events. events.items ≡ events_of lines.now) }
-{
-    let mut events = Vec::new(alloc);
-    for line in lines {
-        if let Line::Step(event) = line {
-            events.push(*event)?;
-        }
-    }
-    Ok(events)
-}
-
-/// Appends the replies to lines that follow the seal, of which those to the events are known.
-fn weave(lines: &[Line], answered: &[Reply], replies: &mut Vec<Reply>) -> Result<(), AllocError>
-    requires { length answered.now ≡ length (events_of lines.now) }
-    ensures { OnOk result (replies.new.items ≡ replies.old.items ++ woven lines.now answered.now) }
-{
-    let mut rest = lines;
-    let mut unused = answered;
-    while let Some((line, later)) = rest.split_first() {
-        match line {
-            Line::Setup(_) => replies.push(Reply::Refused(Refusal::Sealed))?,
-            Line::Step(_) => {
-                let Some((reply, others)) = unused.split_first() else {
-                    unreachable!()
-                };
-                replies.push(*reply)?;
-                unused = others;
-            }
-        }
-        rest = later;
-    }
-    Ok(())
-}
-
-/// The replies to events in a new world over a scheme.
-fn run_events(alloc: Global, scheme: Scheme, events: &[Event]) -> Result<Vec<Reply>, AllocError>
-    ensures answers { IfOk result (λ answered. answered.items ≡ replies scheme (start scheme) (take (length answered.items) events.now)) }
-    ensures whole { IfOk result (λ answered. length answered.items ≡ length events.now) }
-{
-    let ledgers = empty_ledgers(alloc, &scheme)?;
-    let world = match World::new(alloc, scheme, PlainOutbox::new(alloc), ledgers) {
-        Ok(world) => world,
-        Err((_parts, fault)) => {
-            if fault != WorldFault::Memory {
-                unreachable!()
-            }
-            return Err(AllocError);
-        }
-    };
-    match world.run(events) {
-        Ok((_world, answered)) => Ok(answered),
-        Err(stopped) => match stopped.fault {
-            Fault::Memory => Err(AllocError),
-            Fault::Store => unreachable!(),
-        },
-    }
-}
 
 /// An empty ledger for each owner of a scheme, in order of registration.
 fn empty_ledgers(alloc: Global, scheme: &Scheme) -> Result<Vec<PlainLedger>, AllocError>
@@ -91,49 +34,114 @@ fn empty_ledgers(alloc: Global, scheme: &Scheme) -> Result<Vec<PlainLedger>, All
     Ok(ledgers)
 }
 
-/// Appends the replies to lines that follow the seal of a scheme: one run of a new world over their events.
+/// A new world over a scheme. The error is want of memory.
+fn new_world(alloc: Global, scheme: Scheme) -> Result<World<PlainOutbox, PlainLedger>, AllocError>
+    ensures scheme { IfOk result (λ world. world.scheme ≡ scheme) }
+    ensures new { IfOk result IsNew }
+{
+    let ledgers = empty_ledgers(alloc, &scheme)?;
+    match World::new(alloc, scheme, PlainOutbox::new(alloc), ledgers) {
+        Ok(world) => Ok(world),
+        Err((_parts, fault)) => {
+            if fault != WorldFault::Memory {
+                unreachable!()
+            }
+            Err(AllocError)
+        }
+    }
+}
+
+/// What an event is answered. The error is want of memory.
+fn answer_event(
+    world: &mut World<PlainOutbox, PlainLedger>,
+    event: &Event,
+) -> Result<Reply, AllocError>
+    ensures { IfOk result (Steps world.old world.new event.now) }
+{
+    match world.apply(event) {
+        Ok(reply) => Ok(reply),
+        Err(Fault::Memory) => Err(AllocError),
+        Err(Fault::Store) => unreachable!(),
+    }
+}
+
+/// Answers a line that follows the seal. The error is want of memory.
+fn answer_sealed(
+    world: &mut World<PlainOutbox, PlainLedger>,
+    line: Line,
+    out: &mut Vec<u8>,
+) -> Result<(), AllocError>
+    ensures { OnOk result (WritesStep world.old world.new line out.old.items out.new.items) }
+{
+    let reply = match &line {
+        Line::Setup(_) => Reply::Refused(Refusal::Sealed),
+        Line::Step(event) => answer_event(world, event)?,
+    };
+    print_reply(&reply, out)
+}
+
+/// Answers the lines that follow the seal, in a new world.
+fn run_lines(
+    alloc: Global,
+    world: &mut World<PlainOutbox, PlainLedger>,
+    lines: &mut Lines,
+    out: &mut Vec<u8>,
+) -> Result<(), ParseFault>
+    requires { IsNew world.old }
+    ensures ok { OnOk result (GoesToEnd (Running world.old.scheme (start world.old.scheme)) lines.old lines.new out.old.items out.new.items) }
+    ensures fault { IfErr result (StopsIn lines.old) }
+{
+    while let Some(line) = lines.next(alloc)? {
+        answer_sealed(world, line, out)?;
+    }
+    Ok(())
+}
+
+/// Answers the lines that follow the seal of a scheme.
 fn run_sealed(
     alloc: Global,
     scheme: Scheme,
-    lines: &[Line],
-    replies: &mut Vec<Reply>,
-) -> Result<(), AllocError>
-    ensures { OnOk result (AppendsAnswers (Running scheme (start scheme)) lines.now replies.old.items replies.new.items) }
+    lines: &mut Lines,
+    out: &mut Vec<u8>,
+) -> Result<(), ParseFault>
+    ensures ok { OnOk result (GoesToEnd (Running scheme (start scheme)) lines.old lines.new out.old.items out.new.items) }
+    ensures fault { IfErr result (StopsIn lines.old) }
 {
-    let events = collect_events(alloc, lines)?;
-    let answered = run_events(alloc, scheme, &events)?;
-    weave(lines, &answered, replies)
+    let mut world = new_world(alloc, scheme)?;
+    run_lines(alloc, &mut world, lines, out)
 }
 
-/// How far the registration is after a line, whose reply is appended. The error is want of memory.
+/// Answers a line before the seal, and how far the registration is then. The error is want of memory.
 fn answer_line(
     alloc: Global,
     draft: Draft,
     used: bool,
-    line: &Line,
-    replies: &mut Vec<Reply>,
+    line: Line,
+    out: &mut Vec<u8>,
 ) -> Result<Registration, AllocError>
-    ensures { IfOk result (λ next. AppendsAnswer (Drafting draft used) line.now (stage_of next) replies.old.items replies.new.items) }
+    ensures { IfOk result (λ next. WritesAnswer (Drafting draft used) line (stage_of next) out.old.items out.new.items) }
 {
-    let (registration, reply) = match line {
+    let (registration, reply) = match &line {
         Line::Setup(line) => set_up(alloc, draft, used, line)?,
         Line::Step(_) => refuse(draft, used, Refusal::Unsealed),
     };
-    replies.push(reply)?;
+    print_reply(&reply, out)?;
     Ok(registration)
 }
 
-/// The replies to the lines of a trace. The error is want of memory.
-pub fn answer_lines(alloc: Global, lines: &[Line]) -> Result<Vec<Reply>, AllocError>
-    ensures { IfOk result (λ replies. AnswersAll first_stage lines.now replies.items) }
+/// Answers the lines up to the seal of a scheme, which is the result, or all where none comes.
+fn register(
+    alloc: Global,
+    lines: &mut Lines,
+    out: &mut Vec<u8>,
+) -> Result<Option<Scheme>, ParseFault>
+    ensures ok { IfOk result (Registers lines.old lines.new out.old.items out.new.items) }
+    ensures fault { IfErr result (StopsIn lines.old) }
 {
-    let mut replies = Vec::new(alloc);
     let mut draft = Draft::new(alloc);
     let mut used = false;
-    let mut rest = lines;
-    while let Some((line, later)) = rest.split_first() {
-        rest = later;
-        match answer_line(alloc, draft, used, line, &mut replies)? {
+    while let Some(line) = lines.next(alloc)? {
+        match answer_line(alloc, draft, used, line, out)? {
             Registration::Open {
                 draft: next,
                 used: now,
@@ -141,11 +149,21 @@ pub fn answer_lines(alloc: Global, lines: &[Line]) -> Result<Vec<Reply>, AllocEr
                 draft = next;
                 used = now;
             }
-            Registration::Sealed { scheme } => {
-                run_sealed(alloc, scheme, rest, &mut replies)?;
-                return Ok(replies);
-            }
+            Registration::Sealed { scheme } => return Ok(Some(scheme)),
         }
     }
-    Ok(replies)
+    Ok(None)
+}
+
+/// The bytes that answer the lines that a text spells. `BadLine` with the first line that is none; `Memory`
+/// where there was none.
+pub fn answer_text(alloc: Global, text: &[u8]) -> Result<Vec<u8>, ParseFault>
+    ensures { MatchResult result (λ out. AnswersText text.now out.items) (Refuses text.now) }
+{
+    let mut out = Vec::new(alloc);
+    let mut lines = Lines::new(alloc, text);
+    if let Some(scheme) = register(alloc, &mut lines, &mut out)? {
+        run_sealed(alloc, scheme, &mut lines, &mut out)?;
+    }
+    Ok(out)
 }

@@ -197,17 +197,18 @@ fn build(keyword: Keyword, numbers: &[u64]) -> Option<Line>
 }
 
 /// The line that a text spells by a keyword and numbers.
-fn read_numbered(alloc: Global, text: &[u8]) -> Result<Option<Line>, AllocError>
+fn read_numbered(text: &[u8], numbers: &mut Vec<u64>) -> Result<Option<Line>, AllocError>
     ensures { IfOk result (λ found. ReadsNumbered text.now found) }
 {
     let (word, rest) = cut_at_digit(text);
     let Some(keyword) = Keyword::read(word) else {
         return Ok(None);
     };
-    let Some(numbers) = read_numbers(alloc, rest)? else {
+    let found = read_numbers(rest, numbers)?;
+    if !found {
         return Ok(None);
-    };
-    Ok(build(keyword, &numbers))
+    }
+    Ok(build(keyword, numbers))
 }
 
 /// What stands behind `zone` and a space.
@@ -221,12 +222,16 @@ fn after_zone(text: &[u8]) -> Option<&[u8]>
     }
 }
 
-/// The line that a text without a line feed spells.
-pub fn read_line(alloc: Global, text: &[u8]) -> Result<Option<Line>, AllocError>
+/// The line that a text without a line feed spells. What `numbers` holds is lost.
+pub fn read_line(
+    alloc: Global,
+    text: &[u8],
+    numbers: &mut Vec<u64>,
+) -> Result<Option<Line>, AllocError>
     ensures { IfOk result (λ found. ReadsLine text.now found) }
 {
     let Some(rest) = after_zone(text) else {
-        return read_numbered(alloc, text);
+        return read_numbered(text, numbers);
     };
     let Some(rule) = ZoneText::read(alloc, rest)? else {
         return Ok(None);

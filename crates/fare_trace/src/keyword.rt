@@ -100,18 +100,8 @@ impl EventKeyword {
 }
 
 impl Keyword {
-    /// Each keyword once.
+    /// Each keyword once, those of events first, which most lines have.
     const ALL: [Keyword; 30] = [
-        Keyword::OfScheme(SchemeKeyword::Owner),
-        Keyword::OfScheme(SchemeKeyword::Operator),
-        Keyword::OfScheme(SchemeKeyword::Station),
-        Keyword::OfScheme(SchemeKeyword::Product),
-        Keyword::OfScheme(SchemeKeyword::Caps),
-        Keyword::OfScheme(SchemeKeyword::Device),
-        Keyword::OfScheme(SchemeKeyword::Inbox),
-        Keyword::OfScheme(SchemeKeyword::Start),
-        Keyword::OfScheme(SchemeKeyword::Seal),
-        Keyword::OfScheme(SchemeKeyword::Demo),
         Keyword::OfEvent(EventKeyword::Tap),
         Keyword::OfEvent(EventKeyword::Send),
         Keyword::OfEvent(EventKeyword::Rewind),
@@ -132,6 +122,16 @@ impl Keyword {
         Keyword::OfEvent(EventKeyword::RestartHub),
         Keyword::OfEvent(EventKeyword::Upto),
         Keyword::OfEvent(EventKeyword::Count),
+        Keyword::OfScheme(SchemeKeyword::Owner),
+        Keyword::OfScheme(SchemeKeyword::Operator),
+        Keyword::OfScheme(SchemeKeyword::Station),
+        Keyword::OfScheme(SchemeKeyword::Product),
+        Keyword::OfScheme(SchemeKeyword::Caps),
+        Keyword::OfScheme(SchemeKeyword::Device),
+        Keyword::OfScheme(SchemeKeyword::Inbox),
+        Keyword::OfScheme(SchemeKeyword::Start),
+        Keyword::OfScheme(SchemeKeyword::Seal),
+        Keyword::OfScheme(SchemeKeyword::Demo),
     ];
 
     /// Its text, with the space that parts it from the first number where numbers follow.

@@ -9,6 +9,7 @@ mod cut;
 mod keyword;
 pub mod laws;
 mod line;
+mod lines;
 mod number;
 mod print;
 mod registering;

@@ -1,13 +1,9 @@
-ghost use Rattle.std.specs.Prelude.{◌≡◌, OnOk, IfOk, IfErr, IfSome};
-ghost use Rattle.fare_trace.specs.Replay.{IsOutput, ReadsAll, ReplayFails, Replays};
-ghost use Rattle.fare_trace.specs.Replies.{replies_text};
+ghost use Rattle.std.specs.Prelude.{OnOk, IfErr, IfSome};
+ghost use Rattle.fare_trace.specs.Replay.{ReadsAll, ReplayFails, Replays};
 
-use crate::answers::answer_lines;
-use crate::line::Line;
-use crate::print::print_reply;
-use crate::text::{ParseFault, parse};
-use fare_world::{Event, Reply};
-use std::alloc::{AllocError, Global};
+use crate::answers::answer_text;
+use crate::text::ParseFault;
+use std::alloc::Global;
 use std::io::{ErrorKind, Read, Write};
 use thiserror::Error;
 
@@ -61,25 +57,6 @@ fn read_all<R: Read>(alloc: Global, reader: &mut R) -> Result<Vec<u8>, ReplayFau
     Err(ReplayFault::Read)
 }
 
-/// The lines of replies, one after the other.
-fn print_replies(alloc: Global, replies: &[Reply]) -> Result<Vec<u8>, AllocError>
-    ensures { IfOk result (λ text. text.items ≡ replies_text replies.now) }
-{
-    let mut text = Vec::new(alloc);
-    for reply in replies {
-        print_reply(reply, &mut text)?;
-    }
-    Ok(text)
-}
-
-/// The bytes that answer the lines of a trace.
-fn output(alloc: Global, lines: &[Line]) -> Result<Vec<u8>, AllocError>
-    ensures { IfOk result (λ text. IsOutput lines.now text.items) }
-{
-    let replies = answer_lines(alloc, lines)?;
-    print_replies(alloc, &replies)
-}
-
 /// Reads a trace to its end, runs it, and then writes the replies to its lines. `Read` where the reader fails
 /// or has no end within 16,777,216 bytes and 16,777,217 reads; `BadLine` with the first line that is none;
 /// `Memory` where there was none; `Write` where the writer fails. But for `Write`, a fault leaves the writer
@@ -93,13 +70,10 @@ pub fn replay<R: Read, W: Write>(
     ensures fails { IfErr result (ReplayFails (R.remaining reader.old) (W.contents writer.old) (W.contents writer.new)) }
 {
     let bytes = read_all(alloc, reader)?;
-    let lines = match parse(alloc, &bytes) {
-        Ok(lines) => lines,
+    let text = match answer_text(alloc, &bytes) {
+        Ok(text) => text,
         Err(ParseFault::BadLine { line }) => return Err(ReplayFault::BadLine { line }),
         Err(ParseFault::Memory) => return Err(ReplayFault::Memory),
-    };
-    let Ok(text) = output(alloc, &lines) else {
-        return Err(ReplayFault::Memory);
     };
     if writer.write_all(&text).is_err() {
         return Err(ReplayFault::Write);

@@ -3,9 +3,8 @@ ghost use Rattle.fare_trace.specs.Lines.{Spells};
 ghost use Rattle.fare_trace.specs.Faults.{Refuses};
 ghost use Rattle.fare_trace.specs.declared.text.ParseFault.TheVariants.{Memory};
 
-use crate::build::read_line;
-use crate::cut::cut_at;
 use crate::line::Line;
+use crate::lines::Lines;
 use fare_world::Event;
 use std::alloc::{AllocError, AllocFailed, Global};
 use thiserror::Error;
@@ -44,20 +43,10 @@ pub fn parse(alloc: Global, text: &[u8]) -> Result<Vec<Line>, ParseFault>
 {
     // The check finds the variants of `Event` below `Line` only where a local names them.
     let _event: Option<Event> = None;
-    let mut lines = Vec::new(alloc);
-    let mut rest = text;
-    let mut number: u64 = 1;
-    while !rest.is_empty() {
-        let (line, after) = cut_at(rest, b'\n');
-        match read_line(alloc, line)? {
-            Some(line) => lines.push(line)?,
-            None => return Err(ParseFault::BadLine { line: number }),
-        }
-        number += 1;
-        match after {
-            [] => return Ok(lines),
-            [_, next @ ..] => rest = next,
-        }
+    let mut read = Vec::new(alloc);
+    let mut lines = Lines::new(alloc, text);
+    while let Some(line) = lines.next(alloc)? {
+        read.push(line)?;
     }
-    Ok(lines)
+    Ok(read)
 }
