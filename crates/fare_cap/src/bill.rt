@@ -47,7 +47,7 @@ fn total(rows: &[Row]) -> u128
 {
     let mut total = 0;
     for row in rows {
-        total += row.amount as u128;
+        total += row.amount.get() as u128;
     }
     total
 }

@@ -5,16 +5,18 @@ ghost use Rattle.fare_cap.specs.RidesWords.{paid_by};
 
 use crate::{Account, Rides};
 use fare_day::monday_of;
-use fare_record::Day;
+use fare_record::{Day, Pence};
 use fare_scheme::{Scheme, Tariff};
 
-/// The fare in pence of a day with so many paid taps: the flat fare of each, at most the daily cap.
-pub fn day_fare(tariff: Tariff, taps: u64) -> u64
+/// The fare of a day with so many paid taps: the flat fare of each, at most the daily cap.
+pub fn day_fare(tariff: Tariff, taps: u64) -> Pence
     requires { IsTariff tariff }
     ensures value { result ≡ fare_of_day tariff taps }
     ensures capped { result ≤ 1000000 }
 {
-    (tariff.daily as u128).min(tariff.fare as u128 * taps as u128) as u64
+    let daily = tariff.daily.get() as u128;
+    let rides = tariff.fare.get() as u128 * taps as u128;
+    Pence::new(daily.min(rides) as u64)
 }
 
 /// The day on which the week of a day begins: its Monday, or the scheme's first day where that is later.
@@ -25,36 +27,37 @@ pub fn week_start(scheme: &Scheme, day: Day) -> Day
     monday_of(day).map_or(start, |monday| monday.max(start))
 }
 
-/// The day fares in pence of an account with this tariff, summed over the days of the week before the day.
+/// The day fares of an account with this tariff, summed over the days of the week before the day.
 pub fn fares_before(
     scheme: &Scheme,
     rides: &Rides,
     tariff: Tariff,
     account: Account,
     day: Day,
-) -> u64
+) -> Pence
     requires { IsTariff tariff }
     ensures value { result ≡ fares_of_week scheme.now tariff (paid_by rides.now account) day }
     ensures small { result ≤ 100000000000 }
 {
-    let mut fares = 0;
+    let mut fares: u64 = 0;
     for number in week_start(scheme, day).get()..day.get() {
         let earlier = Day::new(number as u64).unwrap();
-        fares += day_fare(tariff, rides.get(account, earlier));
+        fares += day_fare(tariff, rides.get(account, earlier)).get();
     }
-    fares
+    Pence::new(fares)
 }
 
-/// What an account pays for the day, in pence: by how much the day's fare raises what its week comes to under the
+/// What an account pays for the day: by how much the day's fare raises what its week comes to under the
 /// weekly cap. Nothing for an account of a product that isn't registered.
-pub fn amount(scheme: &Scheme, rides: &Rides, account: Account, day: Day) -> u64
+pub fn amount(scheme: &Scheme, rides: &Rides, account: Account, day: Day) -> Pence
     ensures value { result ≡ amount_by scheme.now account (paid_by rides.now account) day }
     ensures capped { result ≤ 10000000 }
 {
     let Some(tariff) = scheme.tariff_of(account.product()) else {
-        return 0;
+        return Pence::new(0);
     };
-    let before = fares_before(scheme, rides, tariff, account, day);
-    let after = before + day_fare(tariff, rides.get(account, day));
-    tariff.weekly.min(after) - tariff.weekly.min(before)
+    let before = fares_before(scheme, rides, tariff, account, day).get();
+    let after = before + day_fare(tariff, rides.get(account, day)).get();
+    let weekly = tariff.weekly.get();
+    Pence::new(weekly.min(after) - weekly.min(before))
 }

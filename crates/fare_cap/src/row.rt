@@ -1,4 +1,5 @@
 use crate::Account;
+use fare_record::Pence;
 
 /// What an account pays for a day.
 #[derive(Clone, Copy, PartialEq, Eq, Debug)]
@@ -7,6 +8,6 @@ pub struct Row {
     pub account: Account,
     /// How many of its taps count on the day.
     pub rides: u64,
-    /// In pence, at most the product's weekly cap.
-    pub amount: u64,
+    /// At most the product's weekly cap.
+    pub amount: Pence,
 }

@@ -1,4 +1,4 @@
-//! What the parts of a fare scheme speak of: ids, tokens, days and moments, each within its limits, a tap,
+//! What the parts of a fare scheme speak of: ids, tokens, days, moments and amounts, each within its limits, a tap,
 //! its numbered record, and the other bodies that travel between a device and its station. A value of one
 //! of these types is always within its limits, so no later crate tests them again. `decode` accepts exactly
 //! what `encode` gives. No call here takes memory.
@@ -16,6 +16,7 @@ mod laws;
 mod moment;
 mod operator_id;
 mod owner_id;
+mod pence;
 mod product_id;
 mod record;
 mod statement;
@@ -34,6 +35,7 @@ pub use laws::bodies_read_back;
 pub use moment::Moment;
 pub use operator_id::OperatorId;
 pub use owner_id::OwnerId;
+pub use pence::Pence;
 pub use product_id::ProductId;
 pub use record::{LAST_NUMBER, Record};
 pub use statement::Statement;

@@ -7,7 +7,7 @@ ghost use Rattle.fare_scheme.specs.Sealing.{lacks_a_kind, seal_refusal, IsSealed
 
 use crate::{AddFault, CapsFault, OutOfRange, Placement, Product, Scheme, SealFault, Tariff};
 use fare_day::Zone;
-use fare_record::{Day, DeviceId, OperatorId, OwnerId, ProductId, StationId};
+use fare_record::{Day, DeviceId, OperatorId, OwnerId, Pence, ProductId, StationId};
 use indexmap::{IndexMap, IndexSet};
 use std::alloc::Global;
 use std::marker::Model;
@@ -116,9 +116,9 @@ fn uncapped(owner: OwnerId, fare: u32) -> Product
     Product {
         owner,
         tariff: Tariff {
-            fare: fare as u64,
-            daily: MOST_DAILY as u64,
-            weekly: MOST_WEEKLY as u64,
+            fare: Pence::new(fare as u64),
+            daily: Pence::new(MOST_DAILY as u64),
+            weekly: Pence::new(MOST_WEEKLY as u64),
         },
     }
 }
@@ -267,8 +267,10 @@ impl Draft {
         let Some(product) = self.products.get_mut(&id) else {
             return Err(CapsFault::UnknownParent);
         };
-        product.tariff.daily = daily as u64;
-        product.tariff.weekly = weekly as u64;
+        let daily_cap = Pence::new(daily as u64);
+        let weekly_cap = Pence::new(weekly as u64);
+        product.tariff.daily = daily_cap;
+        product.tariff.weekly = weekly_cap;
         Ok(())
     }
 

@@ -1,12 +1,12 @@
-use fare_record::{OwnerId, StationId};
+use fare_record::{OwnerId, Pence, StationId};
 
-/// What an account of a product pays, in pence: a flat fare for each ride, at most the daily cap on a traffic
+/// What an account of a product pays: a flat fare for each ride, at most the daily cap on a traffic
 /// day, and at most the weekly cap from Monday to Sunday.
 #[derive(Clone, Copy, PartialEq, Eq, Debug)]
 pub struct Tariff {
-    pub fare: u64,
-    pub daily: u64,
-    pub weekly: u64,
+    pub fare: Pence,
+    pub daily: Pence,
+    pub weekly: Pence,
 }
 
 /// What is registered of a product.

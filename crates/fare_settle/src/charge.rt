@@ -1,10 +1,10 @@
-use fare_record::OperatorId;
+use fare_record::{OperatorId, Pence};
 
 /// What a tap is charged.
 #[derive(Clone, Copy, PartialEq, Eq, Debug)]
 pub struct Charge {
     /// The operator of the tap's device.
     pub operator: OperatorId,
-    /// In pence.
-    pub amount: u64,
+    /// By how much the tap raises what its account pays.
+    pub amount: Pence,
 }

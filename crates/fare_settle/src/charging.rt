@@ -6,7 +6,7 @@ ghost use Rattle.fare_settle.specs.Charges.{charge_by, charges_of};
 
 use crate::Charge;
 use fare_cap::{Account, Rides, counts_on, day_fare, fares_before, in_order};
-use fare_record::{Day, Record};
+use fare_record::{Day, Pence, Record};
 use fare_scheme::{Scheme, Tariff};
 use std::alloc::{AllocError, Global};
 
@@ -23,12 +23,13 @@ fn charge(scheme: &Scheme, rides: &Rides, day: Day, tap: Record, before: u64, af
     ) else {
         unreachable!()
     };
-    let week = fares_before(scheme, rides, tariff, Account::of(tap), day);
-    let from = week + day_fare(tariff, before);
-    let to = week + day_fare(tariff, after);
+    let week = fares_before(scheme, rides, tariff, Account::of(tap), day).get();
+    let from = week + day_fare(tariff, before).get();
+    let to = week + day_fare(tariff, after).get();
+    let weekly = tariff.weekly.get();
     Charge {
         operator,
-        amount: tariff.weekly.min(to) - tariff.weekly.min(from),
+        amount: Pence::new(weekly.min(to) - weekly.min(from)),
     }
 }
 

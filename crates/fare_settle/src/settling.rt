@@ -16,7 +16,7 @@ fn share(charges: &[Charge], operator: OperatorId) -> Settled
     for charge in charges {
         if charge.operator == operator {
             taps += 1;
-            amount += charge.amount as u128;
+            amount += charge.amount.get() as u128;
         }
     }
     Settled {

@@ -72,7 +72,7 @@ fn row(bill: &Bill, place: usize) -> Option<(u32, u64, u64, u64)> {
         row.account.product().get(),
         row.account.token().get(),
         row.rides,
-        row.amount,
+        row.amount.get(),
     ))
 }
 
@@ -83,7 +83,7 @@ fn only_account(bill: Option<Bill>) -> Option<(u64, u64, u128)> {
         [row] => *row,
         _ => return None,
     };
-    Some((row.rides, row.amount, bill.total()))
+    Some((row.rides, row.amount.get(), bill.total()))
 }
 
 #[test]

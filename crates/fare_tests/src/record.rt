@@ -1,6 +1,6 @@
 ghost use Rattle.std.specs.Prelude.{◌<◌};
 
-use fare_record::{Ack, DayAck, Hello, LAST_NUMBER, Record, RecordFault, Statement};
+use fare_record::{Ack, DayAck, Hello, LAST_NUMBER, Pence, Record, RecordFault, Statement};
 use std::test::Fail;
 
 const RECORD: [u8; 46] = [
@@ -108,4 +108,11 @@ fn numbers_end_at_their_limits(rt: HostRuntime) {
     assert_eq!(rt; links, [Ok(LAST_NUMBER), Err(RecordFault::NumberRange)]);
     let nobody = Hello::decode(&[0, 0, 0, 0, 0, 1]);
     assert_eq!(rt; nobody.err(), Some(RecordFault::ZeroId));
+}
+
+#[test]
+fn an_amount_is_any_number_of_pence(rt: HostRuntime) {
+    for number in [0, 175, u64::MAX] {
+        assert_eq!(rt; Pence::new(number).get(), number);
+    }
 }

@@ -1,5 +1,5 @@
 use fare_day::Zone;
-use fare_record::{DeviceId, OwnerId, ProductId};
+use fare_record::{DeviceId, OwnerId, Pence, ProductId};
 use fare_scheme::{AddFault, CapsFault, DemoFault, DemoSize, Draft, Scheme, SealFault, Tariff};
 use std::alloc::Global;
 use std::process::Abort;
@@ -169,9 +169,9 @@ fn reads_product_back(scheme: &Scheme, owner: OwnerId) -> bool {
         return false;
     };
     let tariff = Tariff {
-        fare: 175,
-        daily: 525,
-        weekly: 2_470,
+        fare: Pence::new(175),
+        daily: Pence::new(525),
+        weekly: Pence::new(2_470),
     };
     scheme.owner_of(product) == Some(owner) && scheme.tariff_of(product) == Some(tariff)
 }

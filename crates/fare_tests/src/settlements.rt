@@ -42,7 +42,7 @@ fn charged(
 ) -> Option<(u16, u64)> {
     let charges = charges(alloc, scheme, taps, Day::new(day)?).ok()?;
     let charge = charges.get(place)?;
-    Some((charge.operator.get(), charge.amount))
+    Some((charge.operator.get(), charge.amount.get()))
 }
 
 // Five taps a day from Monday to Thursday, and four on Friday, on the devices of two operators in turn.
