@@ -9,9 +9,9 @@ use fare_record::{Day, Pence};
 use fare_scheme::{Scheme, Tariff};
 
 /// The fare of a day with so many paid taps: the flat fare of each, at most the daily cap.
-pub fn day_fare(tariff: Tariff, taps: u64) -> Pence
-    requires { IsTariff tariff }
-    ensures value { result ≡ fare_of_day tariff taps }
+pub fn day_fare(tariff: &Tariff, taps: u64) -> Pence
+    requires { IsTariff tariff.now }
+    ensures value { result ≡ fare_of_day tariff.now taps }
     ensures capped { result ≤ 1000000 }
 {
     let daily = tariff.daily.get() as u128;
@@ -31,12 +31,12 @@ pub fn week_start(scheme: &Scheme, day: Day) -> Day
 pub fn fares_before(
     scheme: &Scheme,
     rides: &Rides,
-    tariff: Tariff,
+    tariff: &Tariff,
     account: Account,
     day: Day,
 ) -> Pence
-    requires { IsTariff tariff }
-    ensures value { result ≡ fares_of_week scheme.now tariff (paid_by rides.now account) day }
+    requires { IsTariff tariff.now }
+    ensures value { result ≡ fares_of_week scheme.now tariff.now (paid_by rides.now account) day }
     ensures small { result ≤ 100000000000 }
 {
     let mut fares: u64 = 0;
@@ -56,8 +56,8 @@ pub fn amount(scheme: &Scheme, rides: &Rides, account: Account, day: Day) -> Pen
     let Some(tariff) = scheme.tariff_of(account.product()) else {
         return Pence::new(0);
     };
-    let before = fares_before(scheme, rides, tariff, account, day).get();
-    let after = before + day_fare(tariff, rides.get(account, day)).get();
+    let before = fares_before(scheme, rides, &tariff, account, day).get();
+    let after = before + day_fare(&tariff, rides.get(account, day)).get();
     let weekly = tariff.weekly.get();
     Pence::new(weekly.min(after) - weekly.min(before))
 }

@@ -23,9 +23,9 @@ fn charge(scheme: &Scheme, rides: &Rides, day: Day, tap: Record, before: u64, af
     ) else {
         unreachable!()
     };
-    let week = fares_before(scheme, rides, tariff, Account::of(tap), day).get();
-    let from = week + day_fare(tariff, before).get();
-    let to = week + day_fare(tariff, after).get();
+    let week = fares_before(scheme, rides, &tariff, Account::of(tap), day).get();
+    let from = week + day_fare(&tariff, before).get();
+    let to = week + day_fare(&tariff, after).get();
     let weekly = tariff.weekly.get();
     Charge {
         operator,

@@ -7,7 +7,7 @@ pub returns-clause-value : goal.returns-clause-value
 returns-clause-value c =
     let start = week_start c.args.scheme.now c.args.day in
     let whole : c.loop-number.number - start ≡ c.args.day - start = omega arith in
-    c.loop-number.invariant.value ∙ ap (λ n. sum_below n (λ k. day_fare c.args.tariff (paid_by c.args.rides.now c.args.account (start + k)))) whole
+    c.new-2.ensures ∙ c.loop-number.invariant.value ∙ ap (λ n. sum_below n (λ k. day_fare c.args.tariff.now (paid_by c.args.rides.now c.args.account (start + k)))) whole
 
 pub returns-clause-small : goal.returns-clause-small
-returns-clause-small c = omega (arith, c.loop-number.invariant.small)
+returns-clause-small c = omega (arith, c.new-2.ensures, c.loop-number.invariant.small)
