@@ -74,10 +74,6 @@ if_none (Some x) P holds = tt
 pub empty_is_none : (word : List ℕ) → length word ≡ 0 → (n : ℕ) → n < 2 ^ 64 → word ≡ decimal n → ⊥
 empty_is_none word e n small is = omega (arith, ap length is, decimal_nonempty n small)
 
-first_is_digit : (n : ℕ) → n < 2 ^ 64 → (48 ≤ get_or (decimal n) 0 0) × (get_or (decimal n) 0 0 ≤ 57)
-first_is_digit n small =
-    let digit = digit_at (decimal n) 0 (digits_decimal numerals n small) (decimal_nonempty n small) in (omega arith, omega arith)
-
 zero_is_short : (n : ℕ) → n < 2 ^ 64 → get_or (decimal n) 0 0 ≡ 48 → length (decimal n) ≡ 1
 zero_is_short n small = elim n as (λ n. n < 2 ^ 64 → get_or (decimal n) 0 0 ≡ 48 → length (decimal n) ≡ 1) [
   | zero ↦ λ s h. ap length (decimal_digit 0 (omega arith))

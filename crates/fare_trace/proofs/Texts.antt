@@ -36,10 +36,6 @@ lines_last text front rest cut none some =
     let long : 0 < length front = omega (arith, ap length cut.is, length-append front rest) in
     ap without_empty_last (split_last is_feed text front rest cut none) ∙ one_line front long
 
-pub lines_front : (text front rest : List ℕ) → CutsAt is_feed text front rest → 0 < length text → (parts : List (List ℕ)) × (lines_of text ≡ front ∷ parts)
-lines_front text front [] cut some = ([], lines_last text front [] cut (omega arith) some)
-lines_front text front (b ∷ bs) cut some = (_, lines_next text front (b ∷ bs) cut (omega arith))
-
 -- the rest of a text is shorter than it
 pub rest_is_shorter : (text front rest : List ℕ) → CutsAt is_feed text front rest → 1 ≤ length rest → length (take (length rest - 1) (drop 1 rest)) + 1 ≤ length text
 rest_is_shorter text front [] cut some = absurd (omega arith)
