@@ -7,3 +7,4 @@ pub mod Rows
 pub mod Counting
 pub mod Least
 pub mod Steps
+pub mod Removing
