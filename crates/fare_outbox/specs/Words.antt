@@ -12,51 +12,52 @@ use Rattle.fare_outbox.specs.declared.tables.SqlOutbox.{SqlOutbox}
 use Rattle.fare_outbox.specs.Held.{Held, AreReadable, held_of}
 use Rattle.fare_outbox.specs.Tables.{outbox_schema}
 
--- TAPS
-abbrev pub is_at : ℕ → ℕ → ℕ → RecordValue → Bool
-is_at owner device lane t = (t.owner == owner) && (t.device == device) && (t.lane == lane)
+-- KEYED LISTS: each member has an owner, a device and a number, which is a tap's lane number and a statement's day
+abbrev pub Key : Type 0
+Key = ℕ × ℕ × ℕ
 
--- the row with an owner, a device and a lane number
-abbrev pub row_at : List RecordValue → ℕ → ℕ → ℕ → Option RecordValue
-row_at [] owner device lane = None
-row_at (t ∷ taps) owner device lane = if is_at owner device lane t then Some t else row_at taps owner device lane
+abbrev pub tap_key : RecordValue → Key
+tap_key t = (t.owner, t.device, t.lane)
 
--- no two rows have the same three
-abbrev pub AreApart : List RecordValue → Type 0
-AreApart [] = Unit {0}
-AreApart (t ∷ taps) = AllByRecursion (λ x. is_at t.owner t.device t.lane x ≡ false) taps × AreApart taps
+abbrev pub stated_key : StatementValue → Key
+stated_key s = (s.owner, s.device, s.day)
+
+abbrev pub is_at : {T : Type 0} → (T → Key) → ℕ → ℕ → ℕ → T → Bool
+is_at key owner device number t = ((key t).0 == owner) && ((key t).1 == device) && ((key t).2 == number)
+
+-- what the first member with these three is seen as
+abbrev pub first_at : {T V : Type 0} → (T → Key) → (T → V) → List T → ℕ → ℕ → ℕ → Option V
+first_at key out [] owner device number = None
+first_at key out (t ∷ ts) owner device number = if is_at key owner device number t then Some (out t) else first_at key out ts owner device number
+
+-- no two members have the same three
+abbrev pub AreApart : {T : Type 0} → (T → Key) → List T → Type 0
+AreApart key [] = Unit {0}
+AreApart key (t ∷ ts) = AllByRecursion (λ x. is_at key (key t).0 (key t).1 (key t).2 x ≡ false) ts × AreApart key ts
+
+abbrev pub itself : RecordValue → RecordValue
+itself t = t
+
+abbrev pub count_of : StatementValue → ℕ
+count_of s = s.count
 
 -- a row's link is at most the greatest of its device, and its lane number is an integer of SQLite
 pub record IsKnown (upto : ℕ → ℕ) (t : RecordValue) : Type 0 where
   pub link : t.link ≤ upto t.device
   pub lane : t.lane ≤ 9223372036854775807
 
--- STATEMENTS
-abbrev pub is_of : ℕ → ℕ → ℕ → StatementValue → Bool
-is_of owner device day s = (s.owner == owner) && (s.device == device) && (s.day == day)
-
--- the count that is stated by an owner, a device and a day
-abbrev pub stated_at : List StatementValue → ℕ → ℕ → ℕ → Option ℕ
-stated_at [] owner device day = None
-stated_at (s ∷ all) owner device day = if is_of owner device day s then Some s.count else stated_at all owner device day
-
--- no two statements have the same three
-abbrev pub AreSingle : List StatementValue → Type 0
-AreSingle [] = Unit {0}
-AreSingle (s ∷ all) = AllByRecursion (λ x. is_of s.owner s.device s.day x ≡ false) all × AreSingle all
-
 -- THE VALUE
 abbrev pub value_in : Held → OutboxValue
-value_in h = record { upto = h.upto; rows = row_at h.taps; row_count = length h.taps; stated = stated_at h.statements; stated_count = length h.statements }
+value_in h = record { upto = h.upto; rows = first_at tap_key itself h.taps; row_count = length h.taps; stated = first_at stated_key count_of h.statements; stated_count = length h.statements }
 
 abbrev pub value_at : Trees → OutboxValue
 value_at trees = value_in (held_of trees)
 
 -- the rows fit together
 pub record FitTogether (h : Held) : Type 0 where
-  pub apart : AreApart h.taps
+  pub apart : AreApart tap_key h.taps
   pub known : AllByRecursion (IsKnown h.upto) h.taps
-  pub single : AreSingle h.statements
+  pub single : AreApart stated_key h.statements
 
 pub record IsLawful (trees : Trees) : Type 0 where
   pub readable : AreReadable trees
