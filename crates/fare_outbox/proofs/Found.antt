@@ -1,5 +1,5 @@
 -- What the questions of the outbox find.
-use Rattle.std.proofs.Common.{◌≡◌, ◌⊎◌, inl, inr, ℕ, suc, ◌==◌, ◌≤◌, nat_lt, nat_le, pos, List, [], ◌∷◌, map, filter, length, Bool, true, false, Option, Some, None, Ok, Err, Result, IfOk, refl, sym, ap, subst, ◌∙◌, arith}
+use Rattle.std.proofs.Common.{◌≡◌, ◌⊎◌, inl, inr, ℕ, suc, ◌==◌, ◌<◌, ◌≤◌, min, nat_lt, nat_le, pos, List, [], ◌∷◌, map, filter, length, Bool, true, false, Option, Some, None, Ok, Err, Result, IfOk, refl, sym, ap, subst, ◌∙◌, arith}
 use Rattle.std.specs.List.{AllByRecursion, flat_map}
 use Rattle.std.specs.List.Sorted.{IsPermutation}
 use Rattle.std.proofs.lemmas.Bool.{cases_Bool}
@@ -32,6 +32,15 @@ device_ids r ok = ap (λ x. column x 0) ok
 pub number_is : {E : Type 0} (r : Result ℕ E) (row : Row) (n : ℕ) → row ≡ int n ∷ [] → IfOk r (λ k. column row 0 ≡ int k) → IfOk r (λ k. k ≡ n)
 number_is (Ok k) row n is h = ap nat_in (sym h ∙ ap (λ r. column r 0) is)
 number_is (Err e) row n is h = tt
+
+-- a count below the greatest integer is exact
+pub exact_is : {E : Type 0} (r : Result ℕ E) (n : ℕ) (row : Row) (size : ℕ) → row ≡ int (counted size) ∷ [] → column row 0 ≡ int n → IfOk r (λ k. (k ≡ n) × (k < 9223372036854775807)) → IfOk r (λ k. k ≡ size)
+exact_is (Ok k) n row size is shown h =
+    let n_is : n ≡ counted size = ap nat_in (sym shown ∙ ap (λ r. column r 0) is) in
+    let low = h.1 in
+    let same = h.0 in
+    grind (arith, nat_tests)
+exact_is (Err e) n row size is shown h = tt
 
 -- ---- the greatest link of a device
 

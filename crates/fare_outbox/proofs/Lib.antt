@@ -4,3 +4,10 @@ pub mod Links
 pub mod Puts
 pub mod Cuts
 pub mod Makes
+pub mod Keyed
+pub mod Lanes
+pub mod Pruned
+pub mod Stored
+pub mod Seen
+pub mod Judged
+pub mod Opened

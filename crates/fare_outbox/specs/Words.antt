@@ -71,3 +71,8 @@ pub record IsWell (rows statements : ℕ) (trees : Trees) : Type 0 where
 
 abbrev pub stands : {S : Type 0} → (g : Ghosts S) → SqlOutbox S g → Standing OutboxValue
 stands g o = tabled outbox_schema value_at (IsWell o.rows o.statements) (state g o.conn) o.failures
+
+-- a row may be written: none of its key is held, and its link is the next one of its device
+pub record MayStore (v : OutboxValue) (r : RecordValue) : Type 0 where
+  pub free : v.rows r.owner r.device r.lane ≡ None
+  pub next : v.upto r.device ≤ r.link

@@ -4,8 +4,11 @@
 #![tactic(auto)]
 
 mod asking;
+mod calls;
 mod making;
+mod opening;
 mod reading;
+mod storing;
 mod tables;
 mod writing;
 

@@ -108,9 +108,20 @@ pub(crate) fn read_statement<S: Alter>(
     }
 }
 
+// A count that SQLite didn't end at its greatest integer.
+fn exact(n: u64) -> Result<u64, Fault>
+    ensures { IfOk result (λ k. (k ≡ n) × (k < 9223372036854775807)) }
+{
+    if n < 9_223_372_036_854_775_807 {
+        Ok(n)
+    } else {
+        Err(Fault::Store)
+    }
+}
+
 // How many rows of taps there are.
 pub(crate) fn count_rows<S: Alter>(conn: &mut Connection<S>) -> Result<u64, Fault>
-    ensures value { IsLive (state S.Store conn.new) → IsReady (state S.Store conn.old) → IfOk result (λ n. n ≡ counted (length (held_of (state S.Store conn.old).now.trees).taps)) }
+    ensures value { IsLive (state S.Store conn.new) → IsReady (state S.Store conn.old) → IfOk result (λ n. n ≡ length (held_of (state S.Store conn.old).now.trees).taps) }
     ensures same { IsLive (state S.Store conn.new) → IsAtRest outbox_schema (state S.Store conn.old) → SameRows (state S.Store conn.old) (state S.Store conn.new) }
     ensures crash { Survives (state S.Store conn.old) (state S.Store conn.new) (λ _. ¬ IsAtRest outbox_schema (state S.Store conn.old)) }
     ensures live { IsLive (state S.Store conn.new) → IsLive (state S.Store conn.old) }
@@ -118,14 +129,14 @@ pub(crate) fn count_rows<S: Alter>(conn: &mut Connection<S>) -> Result<u64, Faul
     ensures mode { conn.old.in_transaction ≡ false → conn.new.in_transaction ≡ false }
 {
     match ask(conn, "SELECT count(*) FROM tap", &[])? {
-        Some(row) => number(&row, 0),
+        Some(row) => exact(number(&row, 0)?),
         None => Err(Fault::Store),
     }
 }
 
 // How many statements there are.
 pub(crate) fn count_statements<S: Alter>(conn: &mut Connection<S>) -> Result<u64, Fault>
-    ensures value { IsLive (state S.Store conn.new) → IsReady (state S.Store conn.old) → IfOk result (λ n. n ≡ counted (length (held_of (state S.Store conn.old).now.trees).statements)) }
+    ensures value { IsLive (state S.Store conn.new) → IsReady (state S.Store conn.old) → IfOk result (λ n. n ≡ length (held_of (state S.Store conn.old).now.trees).statements) }
     ensures same { IsLive (state S.Store conn.new) → IsAtRest outbox_schema (state S.Store conn.old) → SameRows (state S.Store conn.old) (state S.Store conn.new) }
     ensures crash { Survives (state S.Store conn.old) (state S.Store conn.new) (λ _. ¬ IsAtRest outbox_schema (state S.Store conn.old)) }
     ensures live { IsLive (state S.Store conn.new) → IsLive (state S.Store conn.old) }
@@ -133,7 +144,7 @@ pub(crate) fn count_statements<S: Alter>(conn: &mut Connection<S>) -> Result<u64
     ensures mode { conn.old.in_transaction ≡ false → conn.new.in_transaction ≡ false }
 {
     match ask(conn, "SELECT count(*) FROM stated", &[])? {
-        Some(row) => number(&row, 0),
+        Some(row) => exact(number(&row, 0)?),
         None => Err(Fault::Store),
     }
 }
