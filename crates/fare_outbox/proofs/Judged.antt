@@ -113,11 +113,14 @@ pub held_then : (a b c : Standing OutboxValue) (s : StatementValue) (held : Opti
 held_then a b c s held first second =
     says a c None _ _ (λ v. ⊥) (λ v. ⊥) (λ lawful p. (p.0, p.1.2 ∙ ap (λ (v : OutboxValue). v.stated s.owner s.device s.day) p.1.0)) (λ v none. none) (read_then a b c (Unit {0}) (held ≡ b.value.stated s.owner s.device s.day) None first second)
 
-pub stated_before : (v : OutboxValue) (s : StatementValue) (n : ℕ) → (n == s.count) ≡ true → Some n ≡ v.stated s.owner s.device s.day → Err stated.Duplicate ≡ stated_judged v s
-stated_before v s n same is = rw (sym is, same) refl
+pub stated_before : (v : OutboxValue) (s : StatementValue) (n : ℕ) → n ≡ s.count → Some n ≡ v.stated s.owner s.device s.day → Err stated.Duplicate ≡ stated_judged v s
+stated_before v s n same is = let told : (n == s.count) ≡ true = grind (arith, nat_tests) in rw (sym is, told) refl
 
-pub stated_otherwise : (v : OutboxValue) (s : StatementValue) (n : ℕ) → (n == s.count) ≡ false → Some n ≡ v.stated s.owner s.device s.day → Err stated.Conflict ≡ stated_judged v s
-stated_otherwise v s n other is = rw (sym is, other) refl
+pub stated_otherwise : (v : OutboxValue) (s : StatementValue) (n : ℕ) → (n ≡ s.count → ⊥) → Some n ≡ v.stated s.owner s.device s.day → Err stated.Conflict ≡ stated_judged v s
+stated_otherwise v s n other is = elim (cases_Bool (n == s.count)) [
+  | inl same ↦ absurd (other (grind (arith, nat_tests)))
+  | inr told ↦ rw (sym is, told) refl
+]
 
 pub stated_full : (v : OutboxValue) (s : StatementValue) (statements : ℕ) → statements ≡ v.stated_count → 1000000 ≤ statements → None ≡ v.stated s.owner s.device s.day → Err stated.OutboxFull ≡ stated_judged v s
 stated_full v s statements count high is =

@@ -24,7 +24,7 @@ returns-then-held-count-clause-does g c =
     let s = c.args.statement.now in
     let first : Calls a b None ((b.value ≡ a.value) × Unit {0}) (λ v. ⊥) = c.in_ok-begin.ensures.does in
     let second : Calls b d None ((d.value ≡ b.value) × (Some c.in-Some.held ≡ b.value.stated s.owner s.device s.day)) (λ v. ⊥) = rw c.in-Some.is at c.in_ok-held.ensures.does in
-    let same = c.if-held-count.true in
+    let same = c.if-held-count.true ∙ c.count.ensures.value in
     said a d s (Some c.in-Some.held) (Err stated.Duplicate) (λ lawful seen. stated_before a.value s c.in-Some.held same seen) (held_then a b d s (Some c.in-Some.held) first second)
 
 pub returns-else-held-count-clause-does : goal.returns-else-held-count-clause-does
@@ -35,7 +35,7 @@ returns-else-held-count-clause-does g c =
     let s = c.args.statement.now in
     let first : Calls a b None ((b.value ≡ a.value) × Unit {0}) (λ v. ⊥) = c.in_ok-begin.ensures.does in
     let second : Calls b d None ((d.value ≡ b.value) × (Some c.in-Some.held ≡ b.value.stated s.owner s.device s.day)) (λ v. ⊥) = rw c.in-Some.is at c.in_ok-held.ensures.does in
-    let other = c.if-held-count.false in
+    let other = λ (e : c.in-Some.held ≡ s.count). c.if-held-count.false (e ∙ sym c.count.ensures.value) in
     said a d s (Some c.in-Some.held) (Err stated.Conflict) (λ lawful seen. stated_otherwise a.value s c.in-Some.held other seen) (held_then a b d s (Some c.in-Some.held) first second)
 
 pub returns-then-self-ge-MOST_ROWS-clause-does : goal.returns-then-self-ge-MOST_ROWS-clause-does
