@@ -1,5 +1,6 @@
 -- What an open finds, and what it makes.
-use Rattle.std.proofs.Common.{◌≡◌, ℕ, List, [], ◌∷◌, map, length, Option, Some, None, refl, sym, ap, subst, ◌∙◌, arith}
+use Rattle.std.proofs.Common.{◌≡◌, ℕ, List, [], ◌∷◌, map, length, Option, Some, None, Result, Ok, Err, IfOk, refl, sym, ap, subst, ◌∙◌, arith}
+use Rattle.std.specs.Prelude.{IfSome}
 use Rattle.std.specs.List.{AllByRecursion}
 use Rattle.sqlite.specs.Schema.{Schema}
 use Rattle.sqlite.specs.Tree.{Trees}
@@ -69,3 +70,10 @@ kept_fits old new rows statements fit it = (
   same_fit outbox_schema value_at (IsWell rows statements) old new it.0 (record { rest = fit.rest; fits = record { lawful = fit.fits; rows_are = it.1.rows_are; statements_are = it.1.statements_are } }),
   ap (λ (d : Database). value_at d.trees) it.0.0,
 )
+
+-- the tables are an outbox's already
+pub ours : (old new : State) {E : Type 0} (r : Result (Option (ℕ × ℕ)) E) → old.now.schema ≡ outbox_schema → (IsReady old → IfOk r (λ found. IfSome found (λ n. IsCounted old.now.trees n.0 n.1))) → (IsAtRest outbox_schema old → SameRows old new)
+    → IfOk r (λ found. IfSome found (λ n. Settles old new n.0 n.1))
+ours old new (Ok (Some n)) has counted same = record { made = λ none. absurd (not_both (sym none ∙ has)); kept = λ ready. (same ready.rest, counted ready) }
+ours old new (Ok None) has counted same = tt
+ours old new (Err e) has counted same = tt

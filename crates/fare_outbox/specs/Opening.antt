@@ -1,5 +1,5 @@
 -- What an open finds in a database, and what it makes of it.
-use Rattle.std.specs.Prelude.{◌≡◌, ℕ, pos, [], ◌∷◌, length, codes}
+use Rattle.std.specs.Prelude.{◌≡◌, ℕ, pos, List, [], ◌∷◌, length, codes}
 use Rattle.sqlite.specs.declared.types.Value.TheVariants.{Int}
 use Rattle.sqlite_value.specs.Order.{Row, column}
 use Rattle.sqlite.specs.Tree.{Trees}
@@ -13,9 +13,15 @@ use Rattle.fare_outbox.specs.Making.{IsNew}
 abbrev pub IsMetaRow : Row → Type 0
 IsMetaRow row = (column row 0 ≡ Int (pos 1)) × (column row 1 ≡ Int (pos 0))
 
--- meta shows that row, and no other
+-- that row, and no other
+abbrev pub AreMeta : List Row → Type 0
+AreMeta [] = ⊥
+AreMeta (row ∷ []) = IsMetaRow row
+AreMeta (row ∷ more ∷ rest) = ⊥
+
+-- meta shows it
 abbrev pub HoldsMeta : State → State → Type 0
-HoldsMeta old new = (row : Row) × Shown (codes "SELECT format, owner FROM meta") [] old new (row ∷ []) × IsMetaRow row
+HoldsMeta old new = (rows : List Row) × Shown (codes "SELECT format, owner FROM meta") [] old new rows × AreMeta rows
 
 pub record IsCounted (trees : Trees) (rows statements : ℕ) : Type 0 where
   pub rows_are : rows ≡ length (held_of trees).taps

@@ -8,7 +8,7 @@ ghost use Rattle.fare_outbox.specs.Tables.{outbox_schema};
 ghost use Rattle.fare_store.specs.OutboxWords.{IsEmptyOutbox};
 ghost use Rattle.fare_tables.specs.Tabled.{IsFit};
 ghost use Rattle.fare_outbox.specs.Held.{IsReady};
-ghost use Rattle.fare_outbox.specs.Opening.{IsMetaRow, HoldsMeta, IsCounted, Settles};
+ghost use Rattle.fare_outbox.specs.Opening.{IsMetaRow, AreMeta, HoldsMeta, IsCounted, Settles};
 ghost use Rattle.fare_outbox.specs.Words.{IsLawful, value_at, stands};
 
 use fare_store::Fault;
@@ -47,6 +47,16 @@ fn is_meta(row: &Row) -> bool
     }
 }
 
+// Whether the rows are that one.
+fn are_meta(rows: &[Row]) -> bool
+    ensures { IsTrue result → AreMeta rows.now }
+{
+    match rows {
+        [first, rest @ ..] => rest.is_empty() && is_meta(first),
+        [] => false,
+    }
+}
+
 // Whether `meta` holds its one row.
 fn has_meta<S: Alter>(conn: &mut Connection<S>) -> Result<bool, Fault>
     ensures meta { HasCleanDisk (state S.Store conn.new) → IfOk result (λ ours. IsTrue ours → HoldsMeta (state S.Store conn.old) (state S.Store conn.new)) }
@@ -56,10 +66,7 @@ fn has_meta<S: Alter>(conn: &mut Connection<S>) -> Result<bool, Fault>
     ensures mode { conn.old.in_transaction ≡ false → conn.new.in_transaction ≡ false }
 {
     let rows = ask_rows(conn, "SELECT format, owner FROM meta", &[])?;
-    match rows.as_slice() {
-        [row] => Ok(is_meta(row)),
-        _ => Ok(false),
-    }
+    Ok(are_meta(rows.as_slice()))
 }
 
 // An empty outbox in memory, whose schema is the wanted one.
@@ -147,5 +154,14 @@ impl<S: Alter> SqlOutbox<S> {
             Ok(None) => Err((conn, OpenFault::Foreign)),
             Err(fault) => Err((conn, open_fault(fault))),
         }
+    }
+
+    /// Gives the connection back, with the rows as they are.
+    pub fn into_connection(self) -> Connection<S>
+        ensures idle { result.in_transaction ≡ false }
+        ensures live { (stands S.Store self).live → IsLive (state S.Store result) }
+        ensures kept { (stands S.Store self).lawful → IsFit outbox_schema IsLawful (state S.Store result) × (value_at (state S.Store result).now.trees ≡ (stands S.Store self).value) }
+    {
+        self.into_parts()
     }
 }

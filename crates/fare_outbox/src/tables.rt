@@ -12,3 +12,30 @@ pub struct SqlOutbox<S: Alter> {
     pub(crate) failures: u64,
     ghost idle: { conn.in_transaction ≡ false },
 }
+
+impl<S: Alter> SqlOutbox<S> {
+    // What it is made of.
+    pub(crate) fn into_parts(self) -> Connection<S>
+        ensures { result ≡ self.conn }
+    {
+        let SqlOutbox {
+            conn,
+            rows: _,
+            statements: _,
+            failures: _,
+        } = self;
+        conn
+    }
+}
+
+// It is written out, so that a caller doesn't prove again how each part is let go.
+impl<S: Alter + Drop> Drop for SqlOutbox<S> {
+    fn drop(self) {
+        let SqlOutbox {
+            conn: _,
+            rows: _,
+            statements: _,
+            failures: _,
+        } = self;
+    }
+}
