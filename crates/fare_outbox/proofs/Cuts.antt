@@ -1,10 +1,9 @@
 -- What the removal of a lane's rows leaves.
-use Rattle.std.proofs.Common.{◌≡◌, inl, inr, ℕ, suc, ◌==◌, nat_le, not, List, [], ◌∷◌, map, filter, length, Bool, true, false, Option, Some, None, Ok, refl, sym, ap, subst, ◌∙◌, arith}
+use Rattle.std.proofs.Common.{◌≡◌, ℕ, ◌==◌, nat_le, not, List, [], ◌∷◌, map, filter, length, Bool, None, Ok, refl, sym, ap, subst, ◌∙◌, arith}
 use Rattle.std.specs.Prelude.{unwrap_or}
 use Rattle.std.specs.List.Sorted.{IsPermutation}
 use Rattle.std.proofs.lemmas.List.{length-map}
 use Rattle.std.proofs.lemmas.List.Sorted.{length_permutation}
-use Rattle.std.proofs.lemmas.Bool.{cases_Bool}
 use Rattle.sqlite.specs.declared.types.Value.TheVariants.{Null}
 use Rattle.sqlite_value.specs.Order.{Row}
 use Rattle.sqlite.specs.Tree.{Trees}
@@ -28,7 +27,7 @@ use Rattle.fare_tables.proofs.Lists.{filter_of_map}
 use Rattle.fare_tables.proofs.Rows.{all_of, rows_filter}
 use Rattle.fare_tables.proofs.Removing.{id_shown, left_over}
 use Rattle.fare_tables.proofs.Statements.{made, went, same_value}
-use Rattle.fare_tables.proofs.Terms.{chosen, matched, shown_as, eq_holds, le_holds, three_terms}
+use Rattle.fare_tables.proofs.Terms.{chosen, matched, eq_holds, le_holds, three_terms}
 use Rattle.fare_outbox.specs.Tables.{outbox_schema, tap_table, cut_terms, cut_query}
 use Rattle.fare_outbox.specs.Held.{AreReadable, Becomes, IsDevice, IsTap, IsStated, upto_of, tap_cells, tap_of, stated_of, held_of, is_cut, without_lane}
 use Rattle.fare_outbox.proofs.Texts.{cut_text, cut_is, cut_plain}

@@ -1,14 +1,12 @@
 -- What the questions of the outbox find.
-use Rattle.std.proofs.Common.{◌≡◌, ◌⊎◌, inl, inr, ℕ, suc, ◌==◌, ◌<◌, ◌≤◌, min, nat_lt, nat_le, pos, List, [], ◌∷◌, map, filter, length, Bool, true, false, Option, Some, None, Ok, Err, Result, IfOk, refl, sym, ap, subst, ◌∙◌, arith}
-use Rattle.std.specs.List.{AllByRecursion, flat_map}
+use Rattle.std.proofs.Common.{◌≡◌, ◌⊎◌, inl, inr, ℕ, suc, ◌==◌, ◌<◌, nat_lt, nat_le, List, [], ◌∷◌, map, filter, length, true, Some, None, Ok, Err, Result, IfOk, refl, sym, ap, subst, ◌∙◌, arith}
+use Rattle.std.specs.List.{flat_map}
 use Rattle.std.specs.List.Sorted.{IsPermutation}
-use Rattle.std.proofs.lemmas.Bool.{cases_Bool}
 use Rattle.std.proofs.lemmas.Bool.Decides.{nat_tests}
 use Rattle.std.proofs.lemmas.List.{length-map}
 use Rattle.sqlite.specs.declared.types.Value.TheVariants.{Null}
 use Rattle.sqlite_value.specs.Order.{Row, column}
 use Rattle.sqlite.specs.Tree.{Trees}
-use Rattle.sqlite_rules.specs.Lists.{Has}
 use Rattle.sqlite.specs.Query.{IsAnswer, matches_as, end, output, page, Output}
 use Rattle.sqlite.specs.Program.{overlay}
 use Rattle.sqlite.specs.State.{State, QueriesRow, Shown}
@@ -57,13 +55,13 @@ link_answer db d rows ok a =
     let shown : (os : List Output) → a.ordered ≡ os → rows ≡ page link_query (int d ∷ []) (map (λ (p : Output). p.1) os) = λ os e. a.shown ∙ ap (λ xs. page link_query (int d ∷ []) (map (λ (p : Output). p.1) xs)) e in
     elim (held_one IsDevice device_ids (db 1) d ok) [
       | inl none ↦ (
-        let kept : a.kept ≡ [] = a.distinct ∙ ap (map (output link_query)) (staged ∙ ap (map (λ r. (int d ∷ []) ∷ r ∷ [])) none.0) in
-        inl (shown [] (empty_permutation a.ordered (subst (λ k. IsPermutation k a.ordered) kept a.same)), ap upto_of none.1))
+          let kept : a.kept ≡ [] = a.distinct ∙ ap (map (output link_query)) (staged ∙ ap (map (λ r. (int d ∷ []) ∷ r ∷ [])) none.0) in
+          inl (shown [] (empty_permutation a.ordered (subst (λ k. IsPermutation k a.ordered) kept a.same)), ap upto_of none.1))
       | inr one ↦ (
-        let o : Output = ([], column one.0 2 ∷ []) in
-        let kept : a.kept ≡ o ∷ [] = a.distinct ∙ ap (map (output link_query)) (staged ∙ ap (map (λ r. (int d ∷ []) ∷ r ∷ [])) one.2) in
-        let value : column one.0 2 ≡ int (upto_of (held (db 1) d)) = ap (λ r. column r 2) one.1 ∙ ap (λ h. int (upto_of h)) (sym one.3) in
-        inr (shown (o ∷ []) (one_permutation o a.ordered (subst (λ k. IsPermutation k a.ordered) kept a.same)) ∙ ap (λ v. (v ∷ []) ∷ []) value))
+          let o : Output = ([], column one.0 2 ∷ []) in
+          let kept : a.kept ≡ o ∷ [] = a.distinct ∙ ap (map (output link_query)) (staged ∙ ap (map (λ r. (int d ∷ []) ∷ r ∷ [])) one.2) in
+          let value : column one.0 2 ≡ int (upto_of (held (db 1) d)) = ap (λ r. column r 2) one.1 ∙ ap (λ h. int (upto_of h)) (sym one.3) in
+          inr (shown (o ∷ []) (one_permutation o a.ordered (subst (λ k. IsPermutation k a.ordered) kept a.same)) ∙ ap (λ v. (v ∷ []) ∷ []) value))
     ]
 
 pub link_row : (old new : State) (d : ℕ) (row : Row) → old.now.schema ≡ outbox_schema → AreRows IsDevice (old.now.trees 1) → QueriesRow link_text (int d ∷ []) old new (Ok row) → row ≡ int (upto_of (held (old.now.trees 1) d)) ∷ []
@@ -139,9 +137,9 @@ next_row old new o d n t row shows has ok h =
     elim (row_answer old.now.trees o d n (row ∷ got.0) ok a) [
       | inl none ↦ absurd (let e = none.0 in cc)
       | inr it ↦ (
-        let first : row ≡ row_shown it.one = let e = it.is in cc in
-        let past = (of_filter (is_past o d n) (map tap_of (old.now.trees 2)) it.one it.has).1 in
-        subst (λ u. IsNext (map tap_of (old.now.trees 2)) o d n (Some u)) (same_tap o d n it.one t row shows past first) (it.has, it.least))
+          let first : row ≡ row_shown it.one = let e = it.is in cc in
+          let past = (of_filter (is_past o d n) (map tap_of (old.now.trees 2)) it.one it.has).1 in
+          subst (λ u. IsNext (map tap_of (old.now.trees 2)) o d n (Some u)) (same_tap o d n it.one t row shows past first) (it.has, it.least))
     ]
 
 pub next_none : (old new : State) (o d n : ℕ) → old.now.schema ≡ outbox_schema → AreRows IsTap (old.now.trees 2) → Shown next_text (asked o d n) old new [] → IsNext (map tap_of (old.now.trees 2)) o d n None
@@ -198,9 +196,9 @@ next_day_row old new o d n s row shows has ok h =
     elim (day_answer old.now.trees o d n (row ∷ got.0) ok a) [
       | inl none ↦ absurd (let e = none.0 in cc)
       | inr it ↦ (
-        let first : row ≡ day_shown it.one = let e = it.is in cc in
-        let from = (of_filter (is_from o d n) (map stated_of (old.now.trees 5)) it.one it.has).1 in
-        subst (λ u. IsNextStated (map stated_of (old.now.trees 5)) o d n (Some u)) (same_statement o d n it.one s row shows from first) (it.has, it.least))
+          let first : row ≡ day_shown it.one = let e = it.is in cc in
+          let from = (of_filter (is_from o d n) (map stated_of (old.now.trees 5)) it.one it.has).1 in
+          subst (λ u. IsNextStated (map stated_of (old.now.trees 5)) o d n (Some u)) (same_statement o d n it.one s row shows from first) (it.has, it.least))
     ]
 
 pub next_day_none : (old new : State) (o d n : ℕ) → old.now.schema ≡ outbox_schema → AreRows IsStated (old.now.trees 5) → Shown next_day_text (asked o d n) old new [] → IsNextStated (map stated_of (old.now.trees 5)) o d n None

@@ -1,5 +1,5 @@
 -- What is answered to a row or a statement, from what was read.
-use Rattle.std.proofs.Common.{◌≡◌, ◌⊎◌, inl, inr, ℕ, ◌+◌, ◌==◌, ◌<◌, ◌≤◌, nat_lt, nat_le, Bool, true, false, Some, None, Ok, Err, Result, refl, sym, ap, subst, ◌∙◌, arith}
+use Rattle.std.proofs.Common.{◌≡◌, inl, inr, ℕ, ◌+◌, ◌==◌, ◌<◌, ◌≤◌, nat_lt, nat_le, Bool, true, false, Some, None, Ok, Err, Result, refl, sym, ap, ◌∙◌, arith}
 use Rattle.std.specs.Prelude.{Option, is_some}
 use Rattle.std.proofs.lemmas.Bool.{cases_Bool}
 use Rattle.std.proofs.lemmas.Bool.Decides.{nat_tests}
@@ -26,10 +26,13 @@ pub all_read : (a b c d : Standing OutboxValue) (r : RecordValue) (upto : ℕ) (
 all_read a b c d r upto held first second third =
     let two = read_then a b c (Unit {0}) (upto ≡ b.value.upto r.device) None first second in
     let three = read_then a c d _ (held ≡ is_some (c.value.rows r.owner r.device r.lane)) None two third in
-    says a d None _ _ (λ v. ⊥) (λ v. ⊥) (λ lawful p. (p.0, record {
-      upto_is = p.1.1.2 ∙ ap (λ (v : OutboxValue). v.upto r.device) p.1.1.0;
-      held_is = p.1.2 ∙ ap (λ (v : OutboxValue). is_some (v.rows r.owner r.device r.lane)) p.1.0;
-    })) (λ v none. none) three
+    says a d None _ _ (λ v. ⊥) (λ v. ⊥) (λ lawful p. (
+      p.0,
+      record {
+        upto_is = p.1.1.2 ∙ ap (λ (v : OutboxValue). v.upto r.device) p.1.1.0;
+        held_is = p.1.2 ∙ ap (λ (v : OutboxValue). is_some (v.rows r.owner r.device r.lane)) p.1.0;
+      },
+    )) (λ v none. none) three
 
 pub answered : (a d : Standing OutboxValue) (r : RecordValue) (upto : ℕ) (held : Bool) (answer : Result Unit StoreFault)
     → (a.lawful → Found a.value r upto held → answer ≡ store_judged a.value r)

@@ -1,5 +1,5 @@
 -- Lists whose members have an owner, a device and a number, as tables by these three.
-use Rattle.std.proofs.Common.{◌≡◌, ◌⊎◌, inl, inr, ℕ, ◌+◌, ◌==◌, ◌&&◌, ◌<◌, ◌≤◌, if◌then◌else◌, Bool, true, false, List, [], ◌∷◌, ◌++◌, filter, Some, None, Option, refl, sym, ap, subst, ◌∙◌, arith}
+use Rattle.std.proofs.Common.{◌≡◌, inl, inr, ℕ, ◌==◌, ◌&&◌, ◌<◌, ◌≤◌, if◌then◌else◌, Bool, true, false, List, [], ◌∷◌, ◌++◌, filter, Some, None, refl, sym, ap, subst, ◌∙◌, arith}
 use Rattle.std.specs.List.{AllByRecursion}
 use Rattle.std.proofs.lemmas.Bool.{cases_Bool}
 use Rattle.std.proofs.lemmas.Bool.Decides.{nat_tests}
@@ -20,14 +20,14 @@ pub put_at : {A : Type 0} (table : ℕ → ℕ → ℕ → A) (a b c o d n : ℕ
 put_at table a b c o d n v = rw (turned a o, turned b d, turned c n) (elim (cases_Bool (o == a)) [
   | inr x ↦ rw x refl
   | inl x ↦ (let at : o ≡ a = grind (arith, nat_tests) in
-    elim (cases_Bool (d == b)) [
-    | inr y ↦ rw (x, y) (ap (λ k. table k d n) at)
-    | inl y ↦ (let beside : d ≡ b = grind (arith, nat_tests) in
-      elim (cases_Bool (n == c)) [
-      | inr z ↦ rw (x, y, z) (ap (λ k. table k d n) at ∙ ap (λ k. table a k n) beside)
-      | inl z ↦ rw (x, y, z) refl
-    ])
-  ])
+      elim (cases_Bool (d == b)) [
+        | inr y ↦ rw (x, y) (ap (λ k. table k d n) at)
+        | inl y ↦ (let beside : d ≡ b = grind (arith, nat_tests) in
+            elim (cases_Bool (n == c)) [
+              | inr z ↦ rw (x, y, z) (ap (λ k. table k d n) at ∙ ap (λ k. table a k n) beside)
+              | inl z ↦ rw (x, y, z) refl
+            ])
+      ])
 ])
 
 module _ {T V : Type 0} (key : T → Key) (out : T → V) where
@@ -37,12 +37,12 @@ module _ {T V : Type 0} (key : T → Key) (out : T → V) where
   pushed (x ∷ ts) t o d n none = elim (cases_Bool (is_at key (key t).0 (key t).1 (key t).2 x)) [
     | inl same ↦ absurd (let e : Some (out x) ≡ None = rw same at none in cc)
     | inr other ↦ (
-      let rest : first_at key out ts (key t).0 (key t).1 (key t).2 ≡ None = rw other at none in
-      let more = pushed ts t o d n rest in
-      elim (cases_Bool (is_at key o d n x)) [
-        | inl here ↦ (let away : is_at key o d n t ≡ false = grind (arith, nat_tests) in rw (here, away) refl)
-        | inr there ↦ rw there more
-      ])
+        let rest : first_at key out ts (key t).0 (key t).1 (key t).2 ≡ None = rw other at none in
+        let more = pushed ts t o d n rest in
+        elim (cases_Bool (is_at key o d n x)) [
+          | inl here ↦ (let away : is_at key o d n t ≡ false = grind (arith, nat_tests) in rw (here, away) refl)
+          | inr there ↦ rw there more
+        ])
   ]
 
   pub apart_pushed : (ts : List T) (t : T) → AreApart key ts → first_at key out ts (key t).0 (key t).1 (key t).2 ≡ None → AreApart key (ts ++ t ∷ [])
@@ -50,8 +50,8 @@ module _ {T V : Type 0} (key : T → Key) (out : T → V) where
   apart_pushed (x ∷ ts) t apart none = elim (cases_Bool (is_at key (key t).0 (key t).1 (key t).2 x)) [
     | inl same ↦ absurd (let e : Some (out x) ≡ None = rw same at none in cc)
     | inr other ↦ (
-      let away : is_at key (key x).0 (key x).1 (key x).2 t ≡ false = grind (arith, nat_tests) in
-      (all_pushed (λ y. is_at key (key x).0 (key x).1 (key x).2 y ≡ false) ts t apart.0 away, apart_pushed ts t apart.1 (rw other at none)))
+        let away : is_at key (key x).0 (key x).1 (key x).2 t ≡ false = grind (arith, nat_tests) in
+        (all_pushed (λ y. is_at key (key x).0 (key x).1 (key x).2 y ≡ false) ts t apart.0 away, apart_pushed ts t apart.1 (rw other at none)))
   ]
 
   own_key : (t : T) → is_at key (key t).0 (key t).1 (key t).2 t ≡ true
@@ -71,10 +71,10 @@ module _ {T V : Type 0} (key : T → Key) (out : T → V) where
   none_below [] o d counts n k all is below = refl
   none_below (x ∷ ts) o d counts n k all is below = elim (cases_Bool (is_at key o d k x)) [
     | inl same ↦ (
-      let number : (key x).2 ≡ k = grind (arith, nat_tests) in
-      let among : is_among key o d counts x ≡ true = let yes : counts (key x).2 ≡ true = ap counts number ∙ is in grind (arith, nat_tests) in
-      let here : AllByRecursion (λ y. n ≤ (key y).2) (x ∷ filter (is_among key o d counts) ts) = rw among at all in
-      absurd (let low = here.0 in omega (arith, low, number, below)))
+        let number : (key x).2 ≡ k = grind (arith, nat_tests) in
+        let among : is_among key o d counts x ≡ true = let yes : counts (key x).2 ≡ true = ap counts number ∙ is in grind (arith, nat_tests) in
+        let here : AllByRecursion (λ y. n ≤ (key y).2) (x ∷ filter (is_among key o d counts) ts) = rw among at all in
+        absurd (let low = here.0 in omega (arith, low, number, below)))
     | inr other ↦ rw other (elim (cases_Bool (is_among key o d counts x)) [
       | inl among ↦ none_below ts o d counts n k (let here : AllByRecursion (λ y. n ≤ (key y).2) (x ∷ filter (is_among key o d counts) ts) = rw among at all in here.1) is below
       | inr not ↦ none_below ts o d counts n k (let here : AllByRecursion (λ y. n ≤ (key y).2) (filter (is_among key o d counts) ts) = rw not at all in here) is below

@@ -1,18 +1,15 @@
 -- The rows and the statements by their keys, and what a write makes of them.
-use Rattle.std.proofs.Common.{◌≡◌, ◌⊎◌, inl, inr, ℕ, zero, suc, ◌+◌, ◌-◌, ◌==◌, ◌&&◌, ◌<◌, ◌≤◌, not, nat_lt, nat_le, if◌then◌else◌, Bool, true, false, List, [], ◌∷◌, ◌++◌, filter, length, Some, None, Option, refl, sym, ap, subst, ◌∙◌, arith}
-use Rattle.std.specs.Prelude.{is_some}
+use Rattle.std.proofs.Common.{◌≡◌, ◌⊎◌, inl, inr, ℕ, ◌+◌, ◌==◌, ◌<◌, ◌≤◌, nat_lt, nat_le, if◌then◌else◌, true, length, Some, None, Option, sym, subst, ◌∙◌, arith}
 use Rattle.std.specs.List.{AllByRecursion}
 use Rattle.std.proofs.lemmas.Bool.{cases_Bool}
 use Rattle.std.proofs.lemmas.Bool.Decides.{nat_tests}
 use Rattle.std.proofs.lemmas.List.{length_push}
-use Rattle.sqlite_rules.specs.Lists.{Has}
 use Rattle.fare_record.specs.Values.{RecordValue, StatementValue}
-use Rattle.fare_store.specs.Tables.{put2}
-use Rattle.fare_store.specs.OutboxWords.{OutboxValue, stored, stored_statement, pruned, behind, rows_upto, IsNextRow, IsNextStatement}
-use Rattle.fare_tables.proofs.Lists.{member, of_filter, all_in_filter, all_pushed, all_weaker, same_filter}
-use Rattle.fare_outbox.specs.Held.{Held, with_tap, with_statement, without_lane, is_past, IsNext, is_from, IsNextStated, is_cut}
-use Rattle.fare_outbox.specs.Words.{tap_key, stated_key, is_at, first_at, AreApart, itself, count_of, IsKnown, FitTogether, value_in, MayStore}
-use Rattle.fare_outbox.proofs.Keyed.{turned, put_at, pushed, apart_pushed, stands_at, none_below, among_facts, apart_filter}
+use Rattle.fare_store.specs.OutboxWords.{stored, stored_statement, IsNextRow, IsNextStatement}
+use Rattle.fare_tables.proofs.Lists.{member, of_filter, all_pushed, all_weaker}
+use Rattle.fare_outbox.specs.Held.{Held, with_tap, with_statement, is_past, IsNext, is_from, IsNextStated}
+use Rattle.fare_outbox.specs.Words.{tap_key, stated_key, first_at, itself, count_of, IsKnown, FitTogether, value_in, MayStore}
+use Rattle.fare_outbox.proofs.Keyed.{turned, put_at, pushed, apart_pushed, stands_at, none_below}
 
 -- ---- a row more
 
@@ -29,9 +26,9 @@ known_more : (h : Held) (t x : RecordValue) → MayStore (value_in h) t → IsKn
 known_more h t x may known = record {
   link = elim (cases_Bool (t.device == x.device)) [
     | inl same ↦ rw same (
-      let at : t.device ≡ x.device = grind (arith, nat_tests) in
-      let was : x.link ≤ h.upto t.device = subst (λ d. x.link ≤ h.upto d) (sym at) known.link in
-      let next = may.next in omega (arith, was, next))
+        let at : t.device ≡ x.device = grind (arith, nat_tests) in
+        let was : x.link ≤ h.upto t.device = subst (λ d. x.link ≤ h.upto d) (sym at) known.link in
+        let next = may.next in omega (arith, was, next))
     | inr other ↦ rw other known.link
   ];
   lane = known.lane;

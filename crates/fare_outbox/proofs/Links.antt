@@ -1,9 +1,9 @@
 -- What the upsert of a device's greatest link makes of the devices.
-use Rattle.std.proofs.Common.{◌≡◌, ◌⊎◌, inl, inr, ℕ, ◌==◌, ◌&&◌, ◌||◌, ℤ, pos, List, [], ◌∷◌, map, filter, Bool, true, false, cond, if◌then◌else◌, Option, Some, None, Ok, refl, sym, ap, subst, ◌∙◌, arith}
+use Rattle.std.proofs.Common.{◌≡◌, ◌⊎◌, inl, inr, ℕ, ◌==◌, ◌&&◌, ◌||◌, ℤ, pos, List, [], ◌∷◌, map, filter, Bool, true, false, Option, Some, None, Ok, refl, sym, ap, subst, ◌∙◌, arith}
 use Rattle.std.specs.List.Sorted.{IsPermutation}
 use Rattle.std.proofs.lemmas.Bool.{cases_Bool}
 use Rattle.std.proofs.lemmas.Bool.Decides.{nat_tests}
-use Rattle.sqlite.specs.declared.types.Value.TheVariants.{Null, Int}
+use Rattle.sqlite.specs.declared.types.Value.TheVariants.{Null}
 use Rattle.sqlite_value.specs.Order.{Row, column}
 use Rattle.sqlite.specs.Term.{lit, col}
 use Rattle.sqlite.specs.Query.{IsAnswer, matches_as, end, output, page, Output}
@@ -19,7 +19,6 @@ use Rattle.sqlite.specs.Cast.{cast_row}
 use Rattle.sqlite.specs.Rows.{nothing, rowids_for, count_of, InsertsOr, Written, Task, Tries, TriesEach, Updates, Puts, Clears, Upserts, Judged, Meets}
 use Rattle.sqlite_schema.specs.declared.command.Conflict.TheVariants.{Abort}
 use Rattle.sqlite_schema.specs.declared.command.Upsert.{Upsert}
-use Rattle.sqlite_schema.specs.declared.program.Program.{Program}
 use Rattle.sqlite_rules.specs.Calls.{ids_of}
 use Rattle.sqlite.specs.Source.TheVariants.{Values}
 use Rattle.sqlite.specs.Command.TheVariants.{InsertOr}
@@ -68,11 +67,11 @@ renews db d u x rows ok has is a =
     elim (held_one IsDevice device_ids (db 1) d ok) [
       | inl none ↦ absurd (has_none (db 1) x d has is none.0)
       | inr one ↦ (
-        let o : Output = ([], column one.0 0 ∷ column one.0 0 ∷ Null ∷ int u ∷ []) in
-        let kept : a.kept ≡ o ∷ [] = a.distinct ∙ ap (map (output renew_query)) (staged ∙ ap (map (λ r. given d u ∷ r ∷ [])) one.2) in
-        let ordered : a.ordered ≡ o ∷ [] = one_permutation o a.ordered (subst (λ k. IsPermutation k a.ordered) kept a.same) in
-        let id : column one.0 0 ≡ int d = device_ids one.0 one.1 ∙ ap int (one_id (db 1) one.0 d one.2) in
-        a.shown ∙ ap (λ xs. page renew_query (given d u) (map (λ (p : Output). p.1) xs)) ordered ∙ ap (λ v. (v ∷ v ∷ Null ∷ int u ∷ []) ∷ []) id)
+          let o : Output = ([], column one.0 0 ∷ column one.0 0 ∷ Null ∷ int u ∷ []) in
+          let kept : a.kept ≡ o ∷ [] = a.distinct ∙ ap (map (output renew_query)) (staged ∙ ap (map (λ r. given d u ∷ r ∷ [])) one.2) in
+          let ordered : a.ordered ≡ o ∷ [] = one_permutation o a.ordered (subst (λ k. IsPermutation k a.ordered) kept a.same) in
+          let id : column one.0 0 ≡ int d = device_ids one.0 one.1 ∙ ap int (one_id (db 1) one.0 d one.2) in
+          a.shown ∙ ap (λ xs. page renew_query (given d u) (map (λ (p : Output). p.1) xs)) ordered ∙ ap (λ v. (v ∷ v ∷ Null ∷ int u ∷ []) ∷ []) id)
     ]
   where
     one_id : (rows : List Row) (r : Row) (d : ℕ) → filter (λ y. id_of y == d) rows ≡ r ∷ [] → id_of r ≡ d

@@ -1,5 +1,5 @@
 -- The four tables in turn, and the row of meta.
-use Rattle.std.proofs.Common.{◌≡◌, ℕ, List, [], ◌∷◌, None, Ok, pos, refl, sym, ap, subst, ◌∙◌, arith}
+use Rattle.std.proofs.Common.{◌≡◌, ℕ, List, [], ◌∷◌, None, Ok, pos, refl, ap, subst, ◌∙◌, arith}
 use Rattle.sqlite.specs.declared.types.Value.TheVariants.{Null, Int}
 use Rattle.sqlite_value.specs.Order.{Row}
 use Rattle.sqlite.specs.Tree.{Trees}
@@ -76,4 +76,3 @@ puts_meta old new count blank h =
       taps = at 2 ∙ step.tables.1.1.0 (λ e. let e = e in omega arith) ∙ blank.taps;
       stated = at 5 ∙ step.tables.1.1.1.0 (λ e. let e = e in omega arith) ∙ blank.stated;
     }
-

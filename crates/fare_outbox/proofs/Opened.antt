@@ -1,9 +1,8 @@
 -- What an open finds, and what it makes.
-use Rattle.std.proofs.Common.{◌≡◌, ℕ, List, [], ◌∷◌, map, length, Option, Some, None, Result, Ok, Err, IfOk, refl, sym, ap, subst, ◌∙◌, arith}
+use Rattle.std.proofs.Common.{◌≡◌, ℕ, List, [], map, length, Option, Some, None, Result, Ok, Err, IfOk, sym, ap, subst, ◌∙◌, arith}
 use Rattle.std.specs.Prelude.{IfSome}
 use Rattle.std.specs.List.{AllByRecursion}
 use Rattle.sqlite.specs.Schema.{Schema}
-use Rattle.sqlite.specs.Tree.{Trees}
 use Rattle.sqlite.specs.Effect.{Database}
 use Rattle.sqlite.specs.State.{State}
 use Rattle.fare_store.specs.OutboxWords.{IsEmptyOutbox}
@@ -11,12 +10,12 @@ use Rattle.fare_tables.specs.Asking.{IsAtRest, SameRows}
 use Rattle.fare_tables.specs.Cells.{AreRows, held}
 use Rattle.fare_tables.specs.Making.{no_schema}
 use Rattle.fare_tables.specs.Tabled.{IsFit}
-use Rattle.fare_tables.proofs.Steps.{same_rest, same_fit}
+use Rattle.fare_tables.proofs.Steps.{same_fit}
 use Rattle.fare_outbox.specs.Tables.{outbox_schema}
-use Rattle.fare_outbox.specs.Held.{IsReady, AreReadable, IsDevice, IsTap, IsStated, upto_of, tap_of, stated_of, held_of}
+use Rattle.fare_outbox.specs.Held.{IsReady, IsDevice, IsTap, IsStated, upto_of, tap_of, stated_of, held_of}
 use Rattle.fare_outbox.specs.Making.{IsNew}
 use Rattle.fare_outbox.specs.Opening.{IsCounted, Settles}
-use Rattle.fare_outbox.specs.Words.{tap_key, stated_key, first_at, itself, count_of, value_at, AreApart, IsKnown, FitTogether, IsLawful, IsWell}
+use Rattle.fare_outbox.specs.Words.{tap_key, stated_key, first_at, itself, count_of, value_at, AreApart, IsKnown, IsLawful, IsWell}
 
 -- no schema is both
 pub not_both : ¬ (no_schema ≡ outbox_schema)

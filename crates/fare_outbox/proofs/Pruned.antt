@@ -1,12 +1,11 @@
 -- What the removal of a lane's rows makes of the rows by key.
-use Rattle.std.proofs.Common.{◌≡◌, ◌⊎◌, inl, inr, ℕ, zero, suc, ◌+◌, ◌-◌, ◌==◌, ◌&&◌, ◌<◌, ◌≤◌, not, nat_lt, nat_le, if◌then◌else◌, Bool, true, false, List, [], ◌∷◌, filter, length, Some, None, Option, refl, sym, ap, subst, ◌∙◌, arith}
-use Rattle.std.specs.Prelude.{is_some}
+use Rattle.std.proofs.Common.{◌≡◌, ◌⊎◌, inl, inr, ℕ, zero, suc, ◌+◌, ◌-◌, ◌==◌, ◌&&◌, ◌≤◌, not, nat_le, if◌then◌else◌, Bool, true, false, List, [], ◌∷◌, filter, length, None, Option, refl, sym, ap, subst, ◌∙◌, arith}
 use Rattle.std.specs.List.{AllByRecursion}
 use Rattle.std.proofs.lemmas.Bool.{cases_Bool}
 use Rattle.std.proofs.lemmas.Bool.Decides.{nat_tests}
 use Rattle.fare_record.specs.Values.{RecordValue}
 use Rattle.fare_store.specs.Tables.{put2}
-use Rattle.fare_store.specs.OutboxWords.{OutboxValue, pruned, behind, rows_upto}
+use Rattle.fare_store.specs.OutboxWords.{pruned, behind, rows_upto}
 use Rattle.fare_tables.proofs.Lists.{all_in_filter, all_weaker, same_filter}
 use Rattle.fare_outbox.specs.Held.{Held, without_lane, is_cut}
 use Rattle.fare_outbox.specs.Words.{tap_key, stated_key, is_at, first_at, AreApart, itself, count_of, IsKnown, FitTogether, value_in}
@@ -25,9 +24,9 @@ row_left [] o d n o2 d2 l = go ((o2 == o) && (d2 == d) && nat_le l n)
 row_left (x ∷ taps) o d n o2 d2 l = elim (cases_Bool (is_at tap_key o2 d2 l x)) [
   | inl here ↦ elim (cases_Bool (is_cut o d n x)) [
     | inl gone ↦ (let off : ((o2 == o) && (d2 == d) && nat_le l n) ≡ true = grind (arith, nat_tests) in
-      rw gone (row_left taps o d n o2 d2 l ∙ rw off refl))
+        rw gone (row_left taps o d n o2 d2 l ∙ rw off refl))
     | inr stays ↦ (let on : ((o2 == o) && (d2 == d) && nat_le l n) ≡ false = grind (arith, nat_tests) in
-      rw (stays, here, on) refl)
+        rw (stays, here, on) refl)
   ]
   | inr other ↦ elim (cases_Bool (is_cut o d n x)) [
     | inl gone ↦ rw (gone, other) (row_left taps o d n o2 d2 l)
@@ -39,33 +38,33 @@ behind_at : (rows : ℕ → ℕ → ℕ → Option RecordValue) (o d n o2 d2 l :
 behind_at rows o d n o2 d2 l = elim (cases_Bool (o2 == o)) [
   | inr x ↦ rw x refl
   | inl x ↦ (let at : o2 ≡ o = grind (arith, nat_tests) in
-    elim (cases_Bool (d2 == d)) [
-    | inr y ↦ rw (x, y) (ap (λ k. rows k d2 l) at)
-    | inl y ↦ (let beside : d2 ≡ d = grind (arith, nat_tests) in
-      elim (cases_Bool (nat_le l n)) [
-      | inl z ↦ rw (x, y, z) refl
-      | inr z ↦ rw (x, y, z) (ap (λ k. rows k d2 l) at ∙ ap (λ k. rows o k l) beside)
-    ])
-  ])
+      elim (cases_Bool (d2 == d)) [
+        | inr y ↦ rw (x, y) (ap (λ k. rows k d2 l) at)
+        | inl y ↦ (let beside : d2 ≡ d = grind (arith, nat_tests) in
+            elim (cases_Bool (nat_le l n)) [
+              | inl z ↦ rw (x, y, z) refl
+              | inr z ↦ rw (x, y, z) (ap (λ k. rows k d2 l) at ∙ ap (λ k. rows o k l) beside)
+            ])
+      ])
 ]
 
 -- a row more at one lane number is one row more up to any number that is not lower
 count_more : (o d : ℕ) (x : RecordValue) (taps : List RecordValue) → x.owner ≡ o → x.device ≡ d → row_at taps o d x.lane ≡ None → (n : ℕ) → rows_upto n (row_at (x ∷ taps) o d) ≡ rows_upto n (row_at taps o d) + (if nat_le x.lane n then 1 else 0)
 count_more o d x taps owner device free zero = elim (cases_Bool (is_at tap_key o d 0 x)) [
   | inl here ↦ (let lane : x.lane ≡ 0 = grind (arith, nat_tests) in
-    let low : nat_le x.lane 0 ≡ true = grind (arith, nat_tests) in
-    let none : row_at taps o d 0 ≡ None = subst (λ l. row_at taps o d l ≡ None) lane free in
-    rw (here, low, none) refl)
+      let low : nat_le x.lane 0 ≡ true = grind (arith, nat_tests) in
+      let none : row_at taps o d 0 ≡ None = subst (λ l. row_at taps o d l ≡ None) lane free in
+      rw (here, low, none) refl)
   | inr other ↦ (let high : nat_le x.lane 0 ≡ false = grind (arith, nat_tests) in rw (other, high) (omega arith))
 ]
 count_more o d x taps owner device free (suc n) =
     let more = count_more o d x taps owner device free n in
     elim (cases_Bool (is_at tap_key o d (suc n) x)) [
       | inl here ↦ (let lane : x.lane ≡ suc n = grind (arith, nat_tests) in
-        let before : nat_le x.lane n ≡ false = grind (arith, nat_tests) in
-        let low : nat_le x.lane (suc n) ≡ true = grind (arith, nat_tests) in
-        let none : row_at taps o d (suc n) ≡ None = subst (λ l. row_at taps o d l ≡ None) lane free in
-        rw (here, low, none) (let fewer = rw before at more in omega (arith, fewer)))
+          let before : nat_le x.lane n ≡ false = grind (arith, nat_tests) in
+          let low : nat_le x.lane (suc n) ≡ true = grind (arith, nat_tests) in
+          let none : row_at taps o d (suc n) ≡ None = subst (λ l. row_at taps o d l ≡ None) lane free in
+          rw (here, low, none) (let fewer = rw before at more in omega (arith, fewer)))
       | inr other ↦ elim (cases_Bool (nat_le x.lane n)) [
         | inl below ↦ (let low : nat_le x.lane (suc n) ≡ true = grind (arith, nat_tests) in rw (other, low) (let one = rw below at more in omega (arith, one)))
         | inr above ↦ (let high : nat_le x.lane (suc n) ≡ false = grind (arith, nat_tests) in rw (other, high) (let none = rw above at more in omega (arith, none)))
@@ -89,18 +88,18 @@ cut_is o d n (x ∷ taps) apart =
     let rest = cut_is o d n taps apart.1 in
     elim (cases_Bool ((x.owner == o) && (x.device == d))) [
       | inr away ↦ (let kept : is_cut o d n x ≡ false = grind (arith, nat_tests) in
-        rw kept (rest ∙ ap (rows_upto n) (λ i l. sym (same_lane o d x taps away l) i)))
+          rw kept (rest ∙ ap (rows_upto n) (λ i l. sym (same_lane o d x taps away l) i)))
       | inl here ↦ (
-        let owner : x.owner ≡ o = grind (arith, nat_tests) in
-        let device : x.device ≡ d = grind (arith, nat_tests) in
-        let free : row_at taps o d x.lane ≡ None = subst (λ a. row_at taps a d x.lane ≡ None) owner (subst (λ b. row_at taps x.owner b x.lane ≡ None) device (free_at x taps apart.0)) in
-        let more = count_more o d x taps owner device free n in
-        elim (cases_Bool (nat_le x.lane n)) [
-          | inl low ↦ (let gone : is_cut o d n x ≡ true = grind (arith, nat_tests) in
-            let one = rw low at more in rw gone (omega (arith, one, rest)))
-          | inr high ↦ (let kept : is_cut o d n x ≡ false = grind (arith, nat_tests) in
-            let none = rw high at more in rw kept (omega (arith, none, rest)))
-        ])
+          let owner : x.owner ≡ o = grind (arith, nat_tests) in
+          let device : x.device ≡ d = grind (arith, nat_tests) in
+          let free : row_at taps o d x.lane ≡ None = subst (λ a. row_at taps a d x.lane ≡ None) owner (subst (λ b. row_at taps x.owner b x.lane ≡ None) device (free_at x taps apart.0)) in
+          let more = count_more o d x taps owner device free n in
+          elim (cases_Bool (nat_le x.lane n)) [
+            | inl low ↦ (let gone : is_cut o d n x ≡ true = grind (arith, nat_tests) in
+                let one = rw low at more in rw gone (omega (arith, one, rest)))
+            | inr high ↦ (let kept : is_cut o d n x ≡ false = grind (arith, nat_tests) in
+                let none = rw high at more in rw kept (omega (arith, none, rest)))
+          ])
     ]
 
 two_parts : (p : RecordValue → Bool) (taps : List RecordValue) → length (filter (λ t. not (p t)) taps) + length (filter p taps) ≡ length taps

@@ -1,11 +1,10 @@
 -- What one INSERT writes, and what the tables then hold.
-use Rattle.std.proofs.Common.{◌≡◌, ◌⊎◌, inl, inr, ℕ, ◌==◌, pos, List, [], ◌∷◌, ◌++◌, map, if◌then◌else◌, Bool, true, false, Option, Some, None, Ok, refl, sym, ap, subst, ◌∙◌, arith}
+use Rattle.std.proofs.Common.{◌≡◌, ◌⊎◌, inl, inr, ℕ, ◌==◌, pos, List, [], ◌∷◌, map, if◌then◌else◌, Bool, true, false, Option, Some, None, Ok, refl, sym, ap, subst, ◌∙◌, arith}
 use Rattle.std.proofs.lemmas.List.{map-append}
 use Rattle.sqlite.specs.declared.types.Value.TheVariants.{Null, Int}
 use Rattle.sqlite_value.specs.Order.{Row, column}
 use Rattle.sqlite.specs.Tree.{Trees, put_row, without_rowid}
 use Rattle.sqlite_rules.specs.Edit.{next_rowid}
-use Rattle.sqlite.specs.Term.{lit, col}
 use Rattle.sqlite.specs.Source.TheVariants.{Values}
 use Rattle.sqlite.specs.Command.TheVariants.{Insert}
 use Rattle.sqlite.specs.Edit.{edit_of, edited}
@@ -22,7 +21,7 @@ use Rattle.fare_tables.specs.Cells.{nat_in, int, id_of, AreRows, held}
 use Rattle.fare_tables.proofs.Rows.{appended, rows_put, rows_without, held_put, held_replaced}
 use Rattle.fare_tables.proofs.Statements.{made, cast_int, cast_null, went, same_value}
 use Rattle.fare_outbox.specs.Tables.{outbox_schema, tap_table, stated_table}
-use Rattle.fare_outbox.specs.Held.{Held, PutsTap, PutsLink, PutsStated, Becomes, AreReadable, IsDevice, IsTap, IsStated, device_row, upto_of, tap_cells, tap_of, stated_cells, stated_of, held_of, with_tap, with_statement}
+use Rattle.fare_outbox.specs.Held.{PutsTap, PutsLink, PutsStated, Becomes, AreReadable, IsDevice, IsTap, IsStated, device_row, upto_of, tap_cells, tap_of, stated_cells, stated_of, held_of, with_tap, with_statement}
 use Rattle.fare_outbox.proofs.Texts.{put_tap_text, put_tap_is, put_tap_plain, tap_terms, put_statement_text, put_statement_is, put_statement_plain, stated_terms}
 use Rattle.fare_outbox.proofs.Found.{device_ids}
 

@@ -1,11 +1,10 @@
 -- What a transaction makes of an outbox whose rows fit together.
-use Rattle.std.proofs.Common.{◌≡◌, ◌⊎◌, ℕ, ◌+◌, ◌-◌, ◌≤◌, None, refl, sym, ap, subst, ◌∙◌, arith}
-use Rattle.std.specs.Prelude.{length, filter, not}
+use Rattle.std.proofs.Common.{◌≡◌, ◌⊎◌, ℕ, ◌+◌, ◌-◌, ◌≤◌, None, sym, ap, subst, ◌∙◌, arith}
+use Rattle.std.specs.Prelude.{length, filter}
 use Rattle.std.proofs.lemmas.List.{length_push}
 use Rattle.sqlite.specs.State.{State}
 use Rattle.fare_record.specs.Values.{RecordValue, StatementValue}
 use Rattle.fare_store.specs.OutboxWords.{pruned}
-use Rattle.fare_tables.specs.Asking.{IsAtRest}
 use Rattle.fare_tables.specs.Tabled.{IsFit}
 use Rattle.fare_outbox.specs.Tables.{outbox_schema}
 use Rattle.fare_outbox.specs.Held.{Held, Becomes, IsReady, held_of, with_tap, with_statement, without_lane, is_cut}

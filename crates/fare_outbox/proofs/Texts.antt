@@ -1,5 +1,5 @@
 -- What the texts of the outbox mean under its schema.
-use Rattle.std.proofs.Common.{◌≡◌, [], ◌∷◌, codes, List, ℕ, Ok, refl, false, None, Some, pos}
+use Rattle.std.proofs.Common.{◌≡◌, [], ◌∷◌, codes, List, ℕ, Ok, refl, false, Some, pos}
 use Rattle.sqlite.specs.Compile.{table_defined_by}
 use Rattle.sqlite_tied.specs.Compute.{everything}
 use Rattle.sqlite.specs.Listing.{understood, reads_listing}

@@ -2,12 +2,11 @@ ghost use Rattle.std.proofs.Common.{sym, ap, ◌∙◌};
 ghost use Rattle.sqlite.specs.Effect.{Database};
 ghost use Rattle.fare_outbox.specs.Words.{value_at, stands};
 
+use crate::SqlOutbox;
+use crate::storing::is_nothing;
 use fare_record::{Day, DeviceId, OwnerId, Record, Statement};
 use fare_store::{Fault, Outbox, Refused, StatedFault, StoreFault};
 use sqlite::Alter;
-
-use crate::SqlOutbox;
-use crate::storing::is_nothing;
 
 impl<S: Alter> Outbox for SqlOutbox<S> {
     ghost standing = { λ o. stands S.Store o };

@@ -11,15 +11,14 @@ ghost use Rattle.fare_outbox.specs.Held.{IsReady};
 ghost use Rattle.fare_outbox.specs.Opening.{IsMetaRow, AreMeta, HoldsMeta, IsCounted, Settles};
 ghost use Rattle.fare_outbox.specs.Words.{IsLawful, value_at, stands};
 
+use crate::SqlOutbox;
+use crate::making::make_outbox;
+use crate::reading::{count_rows, count_statements};
 use fare_store::Fault;
 use fare_tables::{Found, OpenFault, ask_all, find, open_fault};
 use sqlite::types::ValueRef;
 use sqlite::{Alter, Connection, MemStore, Row};
 use std::alloc::Global;
-
-use crate::SqlOutbox;
-use crate::making::make_outbox;
-use crate::reading::{count_rows, count_statements};
 
 // All rows of the answer to one of the outbox's texts.
 fn ask_rows<S: Alter>(

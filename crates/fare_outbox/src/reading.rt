@@ -7,12 +7,11 @@ ghost use Rattle.fare_outbox.specs.Tables.{outbox_schema};
 ghost use Rattle.fare_outbox.specs.Held.{held_of, IsReady, IsNext, IsNextStated, is_seen};
 ghost use Rattle.fare_outbox.specs.Shown.{ShowsRow, ShowsStatement};
 
+use crate::asking::ask;
 use fare_record::{DeviceId, OwnerId, Record, Statement};
 use fare_store::Fault;
 use fare_tables::{cell, count, day, number, numbered, tap};
 use sqlite::{Alter, Connection, Row};
-
-use crate::asking::ask;
 
 // The greatest link of a device, 0 where it has no row.
 pub(crate) fn read_link<S: Alter>(conn: &mut Connection<S>, device: DeviceId) -> Result<u64, Fault>
@@ -23,7 +22,11 @@ pub(crate) fn read_link<S: Alter>(conn: &mut Connection<S>, device: DeviceId) ->
     ensures stays { HasCleanDisk (state S.Store conn.new) → OnOk result (IsTrue (state S.Store conn.new).is_open) }
     ensures mode { conn.old.in_transaction ≡ false → conn.new.in_transaction ≡ false }
 {
-    match ask(conn, "SELECT upto FROM device WHERE id = ?1", &[cell(u64::from(device.get()))])? {
+    match ask(
+        conn,
+        "SELECT upto FROM device WHERE id = ?1",
+        &[cell(u64::from(device.get()))],
+    )? {
         Some(row) => number(&row, 0),
         None => Ok(0),
     }

@@ -7,14 +7,13 @@ ghost use Rattle.fare_tables.specs.Asking.{IsUp};
 ghost use Rattle.fare_tables.specs.Tabled.{given, Makes};
 ghost use Rattle.fare_outbox.specs.Words.{stands, MayStore};
 
+use crate::SqlOutbox;
+use crate::reading::{count_seen, read_link, read_next, read_statement};
+use crate::writing::{write_cut, write_row, write_statement};
 use fare_record::{Day, DeviceId, LAST_NUMBER, OwnerId, Record, Statement};
 use fare_store::{Fault, StatedFault, StoreFault};
 use fare_tables::{note, touch};
 use sqlite::Alter;
-
-use crate::SqlOutbox;
-use crate::reading::{count_seen, read_link, read_next, read_statement};
-use crate::writing::{write_cut, write_row, write_statement};
 
 // As many taps, and as many statements, may be held.
 const MOST_ROWS: u64 = 1_000_000;
@@ -247,12 +246,7 @@ impl<S: Alter> SqlOutbox<S> {
     }
 
     // Removes the rows of a lane up to a lane number.
-    pub(crate) fn cut(
-        &mut self,
-        owner: OwnerId,
-        device: DeviceId,
-        upto: u64,
-    ) -> Result<u64, Fault>
+    pub(crate) fn cut(&mut self, owner: OwnerId, device: DeviceId, upto: u64) -> Result<u64, Fault>
         requires { IsUp (state S.Store self.old.conn) }
         ensures { Removes (stands S.Store self.old) (stands S.Store self.new) (pruned owner device upto (stands S.Store self.old).value) (rows_upto upto ((stands S.Store self.old).value.rows owner device)) result }
     {

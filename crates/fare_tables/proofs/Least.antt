@@ -1,6 +1,6 @@
 -- What a query answers that shows the least row by a column.
-use Rattle.std.proofs.Common.{◌≡◌, ◌⊎◌, inl, inr, ℕ, ◌+◌, ◌<◌, ◌≤◌, nat_lt, add-one, pos, negsuc, List, [], ◌∷◌, map, filter, length, get_or, Bool, true, false, refl, Equal, sym, ap, subst, ◌∙◌, arith}
-use Rattle.std.specs.Ordering.{is_lt, int_cmp, ordering_then}
+use Rattle.std.proofs.Common.{◌≡◌, ◌⊎◌, inl, inr, ℕ, ◌+◌, ◌≤◌, nat_lt, add-one, pos, List, [], ◌∷◌, map, filter, get_or, Bool, false, refl, Equal, sym, ap, subst, ◌∙◌, arith}
+use Rattle.std.specs.Ordering.{is_lt, ordering_then}
 use Rattle.std.specs.List.{AllByRecursion}
 use Rattle.std.specs.List.Sorted.{IsPermutation, IsSorted}
 use Rattle.std.proofs.lemmas.List.Sorted.{IsPermutation-sym}
@@ -16,7 +16,7 @@ use Rattle.sqlite_sql.specs.Query.{output_cmp}
 use Rattle.fare_tables.specs.Cells.{nat_in, int}
 use Rattle.fare_tables.specs.Queries.{least_query}
 use Rattle.fare_tables.proofs.Counting.{found}
-use Rattle.fare_tables.proofs.Lists.{empty_permutation, empty_map, all_members, of_map, all_of_map, all_in_map}
+use Rattle.fare_tables.proofs.Lists.{empty_permutation, empty_map, all_members, of_map, all_of_map}
 use Rattle.fare_tables.proofs.Terms.{shown_as}
 
 abbrev key_in : Output → ℕ

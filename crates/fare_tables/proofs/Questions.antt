@@ -1,5 +1,5 @@
 -- What a question answers, and that it changes nothing.
-use Rattle.std.proofs.Common.{arith, IfOk, Option, ◌≡◌, ◌⊎◌, inl, inr, ℕ, List, [], ◌∷◌, codes, true, false, Some, None, Ok, Err, Result, IsTrue, refl, sym, ap, subst, ◌∙◌}
+use Rattle.std.proofs.Common.{arith, IfOk, Option, ◌≡◌, inl, inr, ℕ, List, [], true, Some, None, Ok, Err, Result, IsTrue, sym, ap, subst, ◌∙◌}
 use Rattle.std.specs.Prelude.{IfErr}
 use Rattle.sqlite_value.specs.Order.{Row}
 use Rattle.sqlite.specs.Tree.{Trees}

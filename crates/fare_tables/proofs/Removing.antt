@@ -1,5 +1,5 @@
 -- Which rows a DELETE leaves, by the rowids that its query shows.
-use Rattle.std.proofs.Common.{◌≡◌, ◌⊎◌, inl, inr, ℕ, ◌<◌, ◌==◌, not, ℤ, pos, List, [], ◌∷◌, map, filter, Bool, true, false, refl, sym, ap, subst, ◌∙◌, arith}
+use Rattle.std.proofs.Common.{◌≡◌, inl, inr, ℕ, ◌<◌, ◌==◌, not, ℤ, pos, List, [], ◌∷◌, map, filter, Bool, true, refl, sym, ap, ◌∙◌, arith}
 use Rattle.std.specs.Ordering.{is_eq}
 use Rattle.std.specs.List.{AllByRecursion, list_any}
 use Rattle.std.specs.List.Sorted.{IsPermutation}
@@ -83,21 +83,21 @@ module _ (Kind : Row → Type 0) (ids : (r : Row) → Kind r → column r 0 ≡ 
     decides : (r : Row) → Has rows r → list_any (λ id. has_rowid id r) (ids_in ordered) ≡ test r
     decides r has = elim (cases_Bool (test r)) [
       | inl goes ↦ (
-        let there = member (Has ordered) (map id_shown (filter test rows)) (id_shown r) (all-permutation (Has ordered) _ _ (IsPermutation-sym _ _ same) (all_members ordered)) (in_map id_shown (filter test rows) r (in_filter test rows r has goes)) in
-        let kind = kind_of rows r ok has in
-        let hit : has_rowid (id_at (id_shown r)) r ≡ true = ap (λ v. has_rowid (id_in v) r) (ids r kind) ∙ has_id (id_of r) r kind ∙ (let e : (id_of r == id_of r) ≡ true = grind (arith, nat_tests) in e) in
-        any_to r ordered (id_shown r) there hit ∙ sym goes)
+          let there = member (Has ordered) (map id_shown (filter test rows)) (id_shown r) (all-permutation (Has ordered) _ _ (IsPermutation-sym _ _ same) (all_members ordered)) (in_map id_shown (filter test rows) r (in_filter test rows r has goes)) in
+          let kind = kind_of rows r ok has in
+          let hit : has_rowid (id_at (id_shown r)) r ≡ true = ap (λ v. has_rowid (id_in v) r) (ids r kind) ∙ has_id (id_of r) r kind ∙ (let e : (id_of r == id_of r) ≡ true = grind (arith, nat_tests) in e) in
+          any_to r ordered (id_shown r) there hit ∙ sym goes)
       | inr stays ↦ elim (cases_Bool (list_any (λ id. has_rowid id r) (ids_in ordered))) [
         | inl any ↦ absurd (
-          let it = any_from r ordered any in
-          let comes = member (Has (map id_shown (filter test rows))) ordered it.0 (all-permutation (Has (map id_shown (filter test rows))) _ _ same (all_members _)) it.1 in
-          let from = of_map id_shown (filter test rows) it.0 comes in
-          let other = of_filter test rows from.0 from.1 in
-          let hit : (id_of r == id_of from.0) ≡ true = sym (has_id (id_of from.0) r (kind_of rows r ok has)) ∙ sym (ap (λ v. has_rowid (id_in v) r) (ids from.0 (kind_of rows from.0 ok other.0))) ∙ sym (ap (λ y. has_rowid (id_at y) r) from.2) ∙ it.2 in
-          let equal : id_of r ≡ id_of from.0 = grind (arith, nat_tests) in
-          let one : r ≡ from.0 = same_id rows r from.0 ok has other.0 equal in
-          let yes : test r ≡ true = ap test one ∙ other.1 in
-          let no = stays in cc)
+            let it = any_from r ordered any in
+            let comes = member (Has (map id_shown (filter test rows))) ordered it.0 (all-permutation (Has (map id_shown (filter test rows))) _ _ same (all_members _)) it.1 in
+            let from = of_map id_shown (filter test rows) it.0 comes in
+            let other = of_filter test rows from.0 from.1 in
+            let hit : (id_of r == id_of from.0) ≡ true = sym (has_id (id_of from.0) r (kind_of rows r ok has)) ∙ sym (ap (λ v. has_rowid (id_in v) r) (ids from.0 (kind_of rows from.0 ok other.0))) ∙ sym (ap (λ y. has_rowid (id_at y) r) from.2) ∙ it.2 in
+            let equal : id_of r ≡ id_of from.0 = grind (arith, nat_tests) in
+            let one : r ≡ from.0 = same_id rows r from.0 ok has other.0 equal in
+            let yes : test r ≡ true = ap test one ∙ other.1 in
+            let no = stays in cc)
         | inr none ↦ none ∙ sym stays
       ]
     ]

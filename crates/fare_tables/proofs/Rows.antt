@@ -1,5 +1,5 @@
 -- Rows of one kind in the order of their rowids.
-use Rattle.std.proofs.Common.{◌≡◌, ◌⊎◌, inl, inr, ℕ, ◌+◌, ◌<◌, ◌≤◌, ◌==◌, pos, ◌+ℤ◌, List, [], ◌∷◌, ◌++◌, fold, filter, Bool, true, false, cond, if◌then◌else◌, Option, Some, None, refl, sym, ap, subst, ◌∙◌, arith, Less, Equal, Greater}
+use Rattle.std.proofs.Common.{◌≡◌, ◌⊎◌, inl, inr, ℕ, ◌+◌, ◌<◌, ◌≤◌, ◌==◌, pos, ◌+ℤ◌, List, [], ◌∷◌, ◌++◌, fold, filter, Bool, true, false, if◌then◌else◌, Some, None, refl, sym, ap, subst, ◌∙◌, arith, Less, Equal, Greater}
 use Rattle.std.specs.Ordering.{is_eq, int_cmp}
 use Rattle.std.specs.List.{AllByRecursion}
 use Rattle.std.proofs.lemmas.Bool.{cases_Bool}
@@ -105,7 +105,7 @@ module _ (Kind : Row → Type 0) (ids : (r : Row) → Kind r → column r 0 ≡ 
   held_put [] d c x ok = refl
   held_put (r ∷ rows) d c x ok = elim (three (id_of r) d) [
     | inl less ↦ rw (cmp_ids r d ok.0 ∙ pos_less (id_of r) d less) (
-      ap (λ n. if id_of r == x then Some r else n) (held_put rows d c x ok.2) ∙ if_if (id_of r == x) (d == x) (Some r) (Some (int d ∷ c)) (held rows x) (λ e. grind (arith, nat_tests)))
+        ap (λ n. if id_of r == x then Some r else n) (held_put rows d c x ok.2) ∙ if_if (id_of r == x) (d == x) (Some r) (Some (int d ∷ c)) (held rows x) (λ e. grind (arith, nat_tests)))
     | inr (inl same) ↦ rw (cmp_ids r d ok.0 ∙ ap (λ a. int_cmp (pos a) (pos d)) same ∙ pos_equal d) (elim (cases_Bool (d == x)) [
       | inl here ↦ rw here refl
       | inr there ↦ (let no : (id_of r == x) ≡ false = grind (arith, nat_tests) in rw (there, no) refl)
@@ -134,9 +134,9 @@ module _ (Kind : Row → Type 0) (ids : (r : Row) → Kind r → column r 0 ≡ 
   held_without [] d x ok other = refl
   held_without (r ∷ rows) d x ok other = elim (cases_Bool (has_rowid (pos d) r)) [
     | inl gone ↦ rw gone (
-      let is = sym (has_id r d ok.0) ∙ gone in
-      let no : (id_of r == x) ≡ false = grind (arith, nat_tests) in
-      rw no (held_without rows d x ok.2 other))
+        let is = sym (has_id r d ok.0) ∙ gone in
+        let no : (id_of r == x) ≡ false = grind (arith, nat_tests) in
+        rw no (held_without rows d x ok.2 other))
     | inr stays ↦ rw stays (ap (λ n. if id_of r == x then Some r else n) (held_without rows d x ok.2 other))
   ]
 
@@ -159,9 +159,9 @@ module _ (Kind : Row → Type 0) (ids : (r : Row) → Kind r → column r 0 ≡ 
   held_one [] d ok = inl (refl, refl)
   held_one (r ∷ rows) d ok = elim (cases_Bool (id_of r == d)) [
     | inl same ↦ (
-      let at : id_of r ≡ d = grind (arith, nat_tests) in
-      let none = none_above rows d (id_of r) (omega (arith, at)) ok.1 in
-      inr (r, ok.0, rw (same, none) refl, rw same refl))
+        let at : id_of r ≡ d = grind (arith, nat_tests) in
+        let none = none_above rows d (id_of r) (omega (arith, at)) ok.1 in
+        inr (r, ok.0, rw (same, none) refl, rw same refl))
     | inr other ↦ rw other (held_one rows d ok.2)
   ]
 

@@ -1,5 +1,5 @@
 -- How the terms of a WHERE compare numbers, and which rows pass them.
-use Rattle.std.proofs.Common.{◌≡◌, ℕ, ◌==◌, ◌&&◌, ◌≤◌, inl, inr, if◌then◌else◌, nat_lt, nat_le, pos, List, [], ◌∷◌, map, filter, Bool, true, false, cond, Option, Some, refl, ap, ◌∙◌, arith}
+use Rattle.std.proofs.Common.{◌≡◌, ℕ, ◌==◌, ◌&&◌, inl, inr, if◌then◌else◌, nat_lt, nat_le, pos, List, [], ◌∷◌, map, filter, Bool, true, false, Some, refl, ap, ◌∙◌, arith}
 use Rattle.std.specs.Ordering.{is_eq, is_ge, is_gt, is_le, int_cmp}
 use Rattle.std.specs.List.{AllByRecursion, flat_map}
 use Rattle.std.proofs.lemmas.Bool.{cases_Bool}

@@ -4,11 +4,10 @@ ghost use Rattle.sqlite.specs.Held.{state};
 ghost use Rattle.sqlite.specs.Values.{bound};
 ghost use Rattle.fare_tables.specs.Asking.{IsLive, SameRows, Reads};
 
+use crate::fault_of;
 use fare_store::Fault;
 use sqlite::types::ValueRef;
 use sqlite::{Alter, Connection, Error, Row};
-
-use crate::fault_of;
 
 /// Whether the connection is open: it compiles a short text. A later question on a connection that has passed
 /// this commits nothing, whatever was before.

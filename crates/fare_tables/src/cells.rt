@@ -2,11 +2,10 @@ ghost use Rattle.std.specs.Prelude.{◌≡◌, ℕ, ◌<◌, ◌^◌, pos, IfOk}
 ghost use Rattle.sqlite_value.specs.Order.{column};
 ghost use Rattle.fare_tables.specs.Cells.{int};
 
+use crate::fault_of;
 use fare_store::Fault;
 use sqlite::Row;
 use sqlite::types::ValueRef;
-
-use crate::fault_of;
 
 /// A number as a parameter of a statement.
 pub fn cell(n: u64) -> ValueRef<'static>

@@ -4,11 +4,10 @@ ghost use Rattle.sqlite.specs.Held.{state};
 ghost use Rattle.sqlite.specs.Values.{bound};
 ghost use Rattle.fare_tables.specs.Asking.{Inside};
 
+use crate::fault_of;
 use fare_store::Fault;
 use sqlite::types::ValueRef;
 use sqlite::{Alter, Transaction};
-
-use crate::fault_of;
 
 /// One statement of a transaction, and how many rows it changed. Nothing is committed.
 pub fn change<S: Alter>(

@@ -6,12 +6,11 @@ ghost use Rattle.fare_tables.specs.Asking.{Inside};
 ghost use Rattle.fare_tables.specs.Making.{Defines, Made, Finds};
 ghost use Rattle.fare_tables.specs.Opened.{opening_fault};
 
+use crate::{change, is_blank, same_schema};
 use fare_store::Fault;
 use sqlite::{Alter, Transaction};
 use sqlite_schema::schema::Schema;
 use thiserror::Error;
-
-use crate::{change, is_blank, same_schema};
 
 /// Why a database isn't opened as a store, in the order in which this is tested.
 #[derive(Clone, Copy, PartialEq, Eq, Debug, Error)]

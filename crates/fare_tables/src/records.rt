@@ -4,11 +4,10 @@ ghost use Rattle.fare_record.specs.Limits.{IsNumber, IsCount};
 ghost use Rattle.fare_tables.specs.Cells.{int};
 ghost use Rattle.fare_tables.specs.Records.{ShowsTap};
 
+use crate::number;
 use fare_record::{Day, LAST_NUMBER, Moment, ProductId, Tap, Token};
 use fare_store::Fault;
 use sqlite::Row;
-
-use crate::number;
 
 /// The link or lane number of a cell. A number that no device gives a tap answers Store.
 pub fn numbered(row: &Row, at: usize) -> Result<u64, Fault>
@@ -53,7 +52,11 @@ pub fn tap(row: &Row, from: usize) -> Result<Tap, Fault>
     let token = number(row, from + 1)?;
     let moment = number(row, from + 2)?;
     let day = day(row, from + 3)?;
-    match (ProductId::new(product), Token::new(token), Moment::new(moment)) {
+    match (
+        ProductId::new(product),
+        Token::new(token),
+        Moment::new(moment),
+    ) {
         (Some(product), Some(token), Some(moment)) => Ok(Tap::new(product, token, moment, day)),
         _ => Err(Fault::Store),
     }

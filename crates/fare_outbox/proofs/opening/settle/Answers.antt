@@ -1,4 +1,4 @@
-use Rattle.std.proofs.Common.{◌≡◌, ℕ, refl, sym, ◌∙◌}
+use Rattle.std.proofs.Common.{refl, sym, ◌∙◌}
 use Rattle.sqlite.specs.Held.{state}
 use Rattle.fare_tables.specs.Making.{Finds}
 use Rattle.fare_tables.specs.declared.opening.Found.TheVariants.{Blank, Ours}

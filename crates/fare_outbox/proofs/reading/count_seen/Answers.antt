@@ -1,7 +1,6 @@
-use Rattle.std.proofs.Common.{[], ◌∷◌, Ok, sym}
+use Rattle.std.proofs.Common.{[], Ok}
 use Rattle.sqlite.specs.Held.{state}
 use Rattle.sqlite.specs.State.{QueriesRow}
-use Rattle.fare_tables.specs.Cells.{int}
 use Rattle.fare_outbox.proofs.Texts.{seen_text, seen_reads}
 use Rattle.fare_outbox.proofs.Found.{seen_counted, number_is}
 use Rattle.fare_outbox.proofs.reading.count_seen.Goals as goal

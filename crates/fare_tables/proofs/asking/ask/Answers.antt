@@ -1,4 +1,4 @@
-use Rattle.std.proofs.Common.{Ok, Err}
+use Rattle.std.proofs.Common.{Err}
 use Rattle.sqlite.specs.declared.error.Error.TheVariants.{QueryReturnedNoRows}
 use Rattle.sqlite.specs.Held.{state}
 use Rattle.sqlite.specs.State.{QueriesRow}
@@ -19,16 +19,16 @@ returns-in-Ok g c = record {
 pub returns-in-Err-QueryReturnedNoRows : goal.returns-in-Err-QueryReturnedNoRows
 returns-in-Err-QueryReturnedNoRows g c = record {
   row = λ clean reads.
-    let e = c.in-Err-QueryReturnedNoRows.field-0-is in
-    let h : QueriesRow c.args.sql.now (bound c.args.params.now) (state g.S.Store c.args.conn.now) (state g.S.Store c.query_row.new.self) (Err QueryReturnedNoRows) = rw e at (c.in-Err-QueryReturnedNoRows.ensures.row clean) in
-    asked_none c.args.sql.now _ (state g.S.Store c.args.conn.now) (state g.S.Store c.query_row.new.self) reads h;
+      let e = c.in-Err-QueryReturnedNoRows.field-0-is in
+      let h : QueriesRow c.args.sql.now (bound c.args.params.now) (state g.S.Store c.args.conn.now) (state g.S.Store c.query_row.new.self) (Err QueryReturnedNoRows) = rw e at (c.in-Err-QueryReturnedNoRows.ensures.row clean) in
+      asked_none c.args.sql.now _ (state g.S.Store c.args.conn.now) (state g.S.Store c.query_row.new.self) reads h;
   same = λ live reads settled. reads_keep c.args.sql.now _ (state g.S.Store c.args.conn.now) (state g.S.Store c.query_row.new.self) _ reads.0 settled live.1 (c.query_row.ensures.row live.0);
   crash = asked_survives c.args.sql.now _ (state g.S.Store c.args.conn.now) (state g.S.Store c.query_row.new.self) c.query_row.ensures.survives;
   live = λ live. asked_live c.args.sql.now _ (state g.S.Store c.args.conn.now) (state g.S.Store c.query_row.new.self) _ (c.query_row.ensures.row live.0) c.query_row.ensures.survives live;
   stays = λ clean.
-    let e = c.in-Err-QueryReturnedNoRows.field-0-is in
-    let h : QueriesRow c.args.sql.now (bound c.args.params.now) (state g.S.Store c.args.conn.now) (state g.S.Store c.query_row.new.self) (Err QueryReturnedNoRows) = rw e at (c.in-Err-QueryReturnedNoRows.ensures.row clean) in
-    no_row_is_open c.args.sql.now _ (state g.S.Store c.args.conn.now) (state g.S.Store c.query_row.new.self) h;
+      let e = c.in-Err-QueryReturnedNoRows.field-0-is in
+      let h : QueriesRow c.args.sql.now (bound c.args.params.now) (state g.S.Store c.args.conn.now) (state g.S.Store c.query_row.new.self) (Err QueryReturnedNoRows) = rw e at (c.in-Err-QueryReturnedNoRows.ensures.row clean) in
+      no_row_is_open c.args.sql.now _ (state g.S.Store c.args.conn.now) (state g.S.Store c.query_row.new.self) h;
   mode = c.query_row.ensures.mode;
 }
 

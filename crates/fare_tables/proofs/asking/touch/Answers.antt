@@ -1,4 +1,3 @@
-use Rattle.std.proofs.Common.{codes}
 use Rattle.sqlite.specs.Held.{state}
 use Rattle.fare_tables.proofs.Questions.{prepared_same, prepared_live}
 use Rattle.fare_tables.proofs.asking.touch.Goals as goal

@@ -1,4 +1,3 @@
-use Rattle.sqlite.specs.Held.{state}
 use Rattle.fare_tables.proofs.Statements.{stays_inside}
 use Rattle.fare_tables.proofs.changing.change.Goals as goal
 

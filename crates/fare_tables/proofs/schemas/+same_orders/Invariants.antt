@@ -1,4 +1,4 @@
-use Rattle.std.proofs.Common.{length, ◌≡◌, ℕ}
+use Rattle.std.proofs.Common.{length}
 use Rattle.fare_tables.proofs.schemas.+same_orders.Given as goal
 
 abbrev pub decreases-same_orders : goal.decreases-same_orders

@@ -1,4 +1,4 @@
-use Rattle.std.proofs.Common.{length, ◌≡◌, ℕ}
+use Rattle.std.proofs.Common.{length}
 use Rattle.fare_tables.proofs.schemas.+same_tables.Given as goal
 
 abbrev pub decreases-same_tables : goal.decreases-same_tables

@@ -1,4 +1,4 @@
-use Rattle.std.proofs.Common.{◌≡◌, ℕ, Bool, Some, None, sym, subst, ◌∙◌}
+use Rattle.std.proofs.Common.{◌≡◌, ℕ, Some, None, subst, ◌∙◌}
 use Rattle.std.specs.Prelude.{IsTrue, ◌↔◌}
 use Rattle.sqlite.specs.Held.{state}
 use Rattle.fare_store.specs.Standing.{Calls}
@@ -19,8 +19,11 @@ returns g c =
     let second : Calls b d None ((d.value ≡ b.value) × Q) (λ v. ⊥) = c.in_ok-none.ensures.does in
     let rows : c.saw_none.new.self.rows ≡ c.args.self.now.rows = c.in_ok-none.ensures.rows ∙ c.in_ok-begin.ensures.rows in
     let statements : c.saw_none.new.self.statements ≡ c.args.self.now.statements = c.in_ok-none.ensures.statements ∙ c.in_ok-begin.ensures.statements in
-    says a d None _ _ (λ v. ⊥) (λ v. ⊥) (λ lawful p. (p.0, empty_is (held_of (state g.S.Store c.args.self.now.conn).now.trees) c.in_ok-none.none c.is_nothing.result c.saw_none.new.self.rows c.saw_none.new.self.statements
-      (subst (λ (v : OutboxValue). IsTrue c.in_ok-none.none ↔ ((device : ℕ) → v.upto device ≡ 0)) p.1.0 p.1.2) (rows ∙ lawful.fits.rows_are) (statements ∙ lawful.fits.statements_are) c.is_nothing.ensures)) (λ v none. none)
+    says a d None _ _ (λ v. ⊥) (λ v. ⊥) (λ lawful p. (
+      p.0,
+      empty_is (held_of (state g.S.Store c.args.self.now.conn).now.trees) c.in_ok-none.none c.is_nothing.result c.saw_none.new.self.rows c.saw_none.new.self.statements
+          (subst (λ (v : OutboxValue). IsTrue c.in_ok-none.none ↔ ((device : ℕ) → v.upto device ≡ 0)) p.1.0 p.1.2) (rows ∙ lawful.fits.rows_are) (statements ∙ lawful.fits.statements_are) c.is_nothing.ensures,
+    )) (λ v none. none)
     (read_then a b d (Unit {0}) Q None first second)
 
 pub returns-in_err-none : goal.returns-in_err-none

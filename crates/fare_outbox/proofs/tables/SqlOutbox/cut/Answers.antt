@@ -1,5 +1,4 @@
-use Rattle.std.proofs.Common.{◌≡◌, ℕ, ◌-◌, Some, None, refl, ap, ◌∙◌}
-use Rattle.std.specs.Prelude.{length, filter}
+use Rattle.std.proofs.Common.{◌≡◌, Some, None, refl, ap, ◌∙◌}
 use Rattle.sqlite_trees.specs.Tree.{Trees}
 use Rattle.sqlite.specs.Held.{state}
 use Rattle.fare_store.specs.OutboxWords.{pruned, rows_upto}
@@ -26,16 +25,16 @@ returns-in-Ok g c =
     let done = pruned o d n (value_at old.now.trees) in
     let count = c.in-Ok.count in
     given_none _ _ _ None _ (write_step outbox_schema value_at (IsWell self.rows self.statements) (IsWell c.saturating_sub-self.result self.statements) old new self.failures self.failures None (Unit {0}) ((count ≡ rows_upto n (first_at tap_key itself h.taps o d)) × (value_at new.now.trees ≡ done)) done
-      (λ (trees : Trees). IsReady old → held_of trees ≡ without_lane o d last h) c.requires
-      (λ live known.
-        let fit = known.0 in
-        let together = fit.fits.lawful.together in
-        let wrote = c.in-Ok.ensures.value live (ready old self.rows self.statements fit) in
-        let is = c.in-Ok.ensures.count live (ready old self.rows self.statements fit) in
-        (rw c.saturating_sub-self.ensures (cut_fits old new self.rows self.statements o d last count fit wrote is), (is ∙ cut_count o d last n h together low which, ap value_in wrote.0.value ∙ cut_value h o d last n together low which)))
-      c.write_cut.ensures.crash
-      (λ fit trees wrote may. ap value_in (wrote (ready old self.rows self.statements fit)) ∙ cut_value h o d last n fit.fits.lawful.together low which)
-      c.write_cut.ensures.live (λ e. c.in-Ok.ensures.stays) refl)
+    (λ (trees : Trees). IsReady old → held_of trees ≡ without_lane o d last h) c.requires
+    (λ live known.
+    let fit = known.0 in
+    let together = fit.fits.lawful.together in
+    let wrote = c.in-Ok.ensures.value live (ready old self.rows self.statements fit) in
+    let is = c.in-Ok.ensures.count live (ready old self.rows self.statements fit) in
+    (rw c.saturating_sub-self.ensures (cut_fits old new self.rows self.statements o d last count fit wrote is), (is ∙ cut_count o d last n h together low which, ap value_in wrote.0.value ∙ cut_value h o d last n together low which)))
+    c.write_cut.ensures.crash
+    (λ fit trees wrote may. ap value_in (wrote (ready old self.rows self.statements fit)) ∙ cut_value h o d last n fit.fits.lawful.together low which)
+    c.write_cut.ensures.live (λ e. c.in-Ok.ensures.stays) refl)
 
 pub returns-in-Err : goal.returns-in-Err
 returns-in-Err g c =
@@ -49,10 +48,10 @@ returns-in-Err g c =
     let h = held_of old.now.trees in
     let done = pruned o d n (value_at old.now.trees) in
     given_none _ _ _ (Some c.note.result) _ (write_step outbox_schema value_at (IsWell self.rows self.statements) (IsWell self.rows self.statements) old new self.failures c.note.new.failures (Some c.note.result) (Unit {0}) (value_at new.now.trees ≡ value_at old.now.trees) done
-      (λ (trees : Trees). IsReady old → held_of trees ≡ without_lane o d last h) c.requires
-      (λ live known.
-        let same = c.in-Err.ensures.same live (ready old self.rows self.statements known.0) in
-        (same_fit outbox_schema value_at (IsWell self.rows self.statements) old new same known.0, same_at outbox_schema value_at old new same))
-      c.write_cut.ensures.crash
-      (λ fit trees wrote may. ap value_in (wrote (ready old self.rows self.statements fit)) ∙ cut_value h o d last n fit.fits.lawful.together c.within-last.ensures.low c.within-last.ensures.which)
-      c.write_cut.ensures.live (λ e. absurd (cc)) c.note.ensures.counted)
+    (λ (trees : Trees). IsReady old → held_of trees ≡ without_lane o d last h) c.requires
+    (λ live known.
+    let same = c.in-Err.ensures.same live (ready old self.rows self.statements known.0) in
+    (same_fit outbox_schema value_at (IsWell self.rows self.statements) old new same known.0, same_at outbox_schema value_at old new same))
+    c.write_cut.ensures.crash
+    (λ fit trees wrote may. ap value_in (wrote (ready old self.rows self.statements fit)) ∙ cut_value h o d last n fit.fits.lawful.together c.within-last.ensures.low c.within-last.ensures.which)
+    c.write_cut.ensures.live (λ e. absurd (cc)) c.note.ensures.counted)

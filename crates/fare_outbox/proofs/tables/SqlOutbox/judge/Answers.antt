@@ -1,9 +1,6 @@
-use Rattle.std.proofs.Common.{◌≡◌, ℕ, ◌+◌, ◌<◌, ◌≤◌, Some, None, Ok, Err, true, false, refl, sym, ap, ◌∙◌, arith}
-use Rattle.std.specs.Prelude.{is_some}
-use Rattle.sqlite.specs.Held.{state}
+use Rattle.std.proofs.Common.{◌≡◌, ◌+◌, Some, None, Ok, Err, ◌∙◌, arith}
 use Rattle.fare_store.specs.declared.fault.StoreFault.TheVariants as store
 use Rattle.fare_store.specs.Standing.{Calls}
-use Rattle.fare_store.specs.OutboxWords.{store_judged}
 use Rattle.fare_outbox.specs.Words.{stands}
 use Rattle.fare_tables.proofs.Steps.{read_then, read_failed}
 use Rattle.fare_outbox.proofs.Judged.{all_read, answered, duplicate, gap, conflict, full, welcome}

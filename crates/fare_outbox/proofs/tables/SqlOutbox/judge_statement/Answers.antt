@@ -1,5 +1,4 @@
-use Rattle.std.proofs.Common.{◌≡◌, ℕ, ◌<◌, ◌≤◌, Some, None, Ok, Err, Option, refl, sym, ap, ◌∙◌, arith}
-use Rattle.sqlite.specs.Held.{state}
+use Rattle.std.proofs.Common.{◌≡◌, ℕ, Some, None, Ok, Err, Option, sym, ◌∙◌, arith}
 use Rattle.fare_store.specs.declared.fault.StatedFault.TheVariants as stated
 use Rattle.fare_store.specs.Standing.{Calls}
 use Rattle.fare_outbox.specs.Words.{stands}

@@ -17,6 +17,6 @@ returns-in-Ok-clause-does g c =
     let h = held_of old.now.trees in
     read_step outbox_schema value_at (IsWell self.rows self.statements) old new self.failures self.failures None (IsNextStatement (first_at stated_key count_of h.statements) c.args.owner c.args.device c.args.from c.in-Ok.next) c.requires
     (λ live fit.
-      let next : IsNextStated h.statements c.args.owner c.args.device c.args.from c.in-Ok.next = rw (c.from.ensures, c.get.ensures.value) at (c.in-Ok.ensures.value live (ready old self.rows self.statements fit)) in
-      next_day_answer h c.args.owner c.args.device c.args.from c.in-Ok.next fit.fits.lawful.together next)
+    let next : IsNextStated h.statements c.args.owner c.args.device c.args.from c.in-Ok.next = rw (c.from.ensures, c.get.ensures.value) at (c.in-Ok.ensures.value live (ready old self.rows self.statements fit)) in
+    next_day_answer h c.args.owner c.args.device c.args.from c.in-Ok.next fit.fits.lawful.together next)
     c.read_statement.ensures.same c.read_statement.ensures.crash c.read_statement.ensures.live (λ e. c.in-Ok.ensures.stays) refl
