@@ -211,7 +211,7 @@ fn stopped(alloc: Global, calls: u64) -> Option<(u64, u64, bool)> {
 fn a_stop_leaves_a_tap_and_its_link_or_neither(rt: HostRuntime) {
     let mut early = 0u64;
     let mut full = 0u64;
-    for calls in 10..120 {
+    for calls in [16, 24, 32, 40, 48, 56, 64, 72, 80, 1_000] {
         let Some((stored, upto, whole)) = stopped(rt.alloc(), calls) else {
             continue;
         };
