@@ -1,5 +1,5 @@
 -- What an open finds, and what it makes.
-use Rattle.std.proofs.Common.{◌≡◌, ℕ, List, [], map, length, Option, Some, None, Result, Ok, Err, IfOk, sym, ap, subst, ◌∙◌, arith}
+use Rattle.std.proofs.Common.{◌≡◌, ◌≢◌, ℕ, List, [], map, length, Option, Some, None, Result, Ok, Err, IfOk, sym, ap, subst, ◌∙◌, arith}
 use Rattle.std.specs.Prelude.{IfSome}
 use Rattle.std.specs.List.{AllByRecursion}
 use Rattle.sqlite.specs.Schema.{Schema}
@@ -76,3 +76,8 @@ pub ours : (old new : State) {E : Type 0} (r : Result (Option (ℕ × ℕ)) E) �
 ours old new (Ok (Some n)) has counted same = record { made = λ none. absurd (not_both (sym none ∙ has)); kept = λ ready. (same ready.rest, counted ready) }
 ours old new (Ok None) has counted same = tt
 ours old new (Err e) has counted same = tt
+
+-- what has the tables of an outbox isn't without tables
+pub not_blank : {E : Type 0} (old : State) (r : Result (Option (ℕ × ℕ)) E) → old.now.schema ≡ outbox_schema → IfOk r (λ found. found ≡ None → old.now.schema ≢ no_schema)
+not_blank old (Ok found) has = λ none blank. not_both (sym blank ∙ has)
+not_blank old (Err e) has = tt

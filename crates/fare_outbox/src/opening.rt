@@ -1,4 +1,4 @@
-ghost use Rattle.std.specs.Prelude.{◌≡◌, false, None, IsTrue, IfOk, IfErr, IfSome, OnOk, OnErr};
+ghost use Rattle.std.specs.Prelude.{◌≡◌, ◌≢◌, false, None, IsTrue, IfOk, IfErr, IfSome, OnOk, OnErr};
 ghost use Rattle.sqlite.specs.State.{HasCleanDisk, Shown};
 ghost use Rattle.sqlite.specs.Held.{state};
 ghost use Rattle.sqlite.specs.Values.{bound};
@@ -110,6 +110,7 @@ fn settle<S: Alter>(conn: &mut Connection<S>, found: Found) -> Result<Option<(u6
     requires found { Finds (state S.Store conn.old).now.schema outbox_schema found }
     ensures opens { IsLive (state S.Store conn.new) → IfOk result (λ found. IfSome found (λ n. Settles (state S.Store conn.old) (state S.Store conn.new) n.0 n.1)) }
     ensures refused { IsLive (state S.Store conn.new) → (state S.Store conn.old).now ≡ (state S.Store conn.old).committed → IfOk result (λ found. found ≡ None → SameRows (state S.Store conn.old) (state S.Store conn.new)) }
+    ensures foreign { IfOk result (λ found. found ≡ None → (state S.Store conn.old).now.schema ≢ no_schema) }
     ensures failed { IsLive (state S.Store conn.new) → (state S.Store conn.old).now ≡ (state S.Store conn.old).committed → OnErr result (SameRows (state S.Store conn.old) (state S.Store conn.new)) }
     ensures idle { conn.new.in_transaction ≡ false }
 {
@@ -125,7 +126,8 @@ fn settle<S: Alter>(conn: &mut Connection<S>, found: Found) -> Result<Option<(u6
 
 impl<S: Alter> SqlOutbox<S> {
     /// Takes a database for the outbox: one that holds an outbox as it is, and one with no table after it made
-    /// the outbox's tables there. Where it can't, the connection comes back, with its rows as before.
+    /// the outbox's tables there. Where it can't, the connection comes back, with its rows as before. A
+    /// connection that is inside a transaction answers Store.
     pub fn open(
         alloc: Global,
         conn: Connection<S>,
@@ -133,6 +135,7 @@ impl<S: Alter> SqlOutbox<S> {
         ensures made { IfOk result (λ o. (stands S.Store o).live → (state S.Store conn).now.schema ≡ no_schema → (stands S.Store o).lawful × IsEmptyOutbox (stands S.Store o).value) }
         ensures kept { IfOk result (λ o. (stands S.Store o).live → IsFit outbox_schema IsLawful (state S.Store conn) → (stands S.Store o).lawful × ((stands S.Store o).value ≡ value_at (state S.Store conn).now.trees)) }
         ensures failures { IfOk result (λ o. (stands S.Store o).failures ≡ 0) }
+        ensures foreign { IfErr result (λ e. e.1 ≡ OpenFault.Foreign → (state S.Store conn).now.schema ≢ no_schema) }
         ensures refused { IfErr result (λ e. IsLive (state S.Store e.0) → (state S.Store conn).now ≡ (state S.Store conn).committed → SameRows (state S.Store conn) (state S.Store e.0)) }
     {
         let mut conn = conn;
