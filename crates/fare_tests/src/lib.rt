@@ -26,6 +26,8 @@ mod lines;
 #[cfg(test)]
 mod link;
 #[cfg(test)]
+mod outbox_tables;
+#[cfg(test)]
 mod owner;
 #[cfg(test)]
 mod readers;

@@ -42,7 +42,7 @@ fn stating(count: u64) -> Option<Statement> {
 
 /// A call on an outbox, for device 1 and owner 1.
 #[derive(Clone, Copy)]
-enum Asked {
+pub(crate) enum Asked {
     /// Whether it is empty.
     Empty,
     /// The greatest link.
@@ -63,7 +63,7 @@ enum Asked {
 
 /// What it answers.
 #[derive(Clone, Copy, PartialEq, Eq, Debug)]
-enum Said {
+pub(crate) enum Said {
     Empty(Result<bool, Fault>),
     Number(Result<u64, Fault>),
     Found(Result<Option<u64>, Fault>),
@@ -93,7 +93,7 @@ fn next_statement<O: Outbox>(outbox: &mut O, from: u64) -> Option<Said> {
     Some(Said::Found(stated.map(|stated| stated.map(|stated| stated.count()))))
 }
 
-fn ask<O: Outbox>(outbox: &mut O, asked: Asked) -> Option<Said> {
+pub(crate) fn ask<O: Outbox>(outbox: &mut O, asked: Asked) -> Option<Said> {
     match asked {
         Asked::Empty => Some(Said::Empty(outbox.is_empty())),
         Asked::Upto => Some(Said::Number(outbox.upto(device()?))),
@@ -107,17 +107,17 @@ fn ask<O: Outbox>(outbox: &mut O, asked: Asked) -> Option<Said> {
 }
 
 // The outbox answers these calls so, one after the other.
-fn says<O: Outbox>(rt: &impl Abort, outbox: &mut O, calls: &[(Asked, Said)]) {
+pub(crate) fn says<O: Outbox>(rt: &impl Abort, outbox: &mut O, calls: &[(Asked, Said)]) {
     for (asked, want) in calls {
         assert_eq!(rt; ask(outbox, *asked), Some(*want));
     }
 }
 
-fn refused(why: StoreFault) -> Said {
+pub(crate) fn refused(why: StoreFault) -> Said {
     Said::Stored(Err(Refused::Because(why)))
 }
 
-fn unstated(why: StatedFault) -> Said {
+pub(crate) fn unstated(why: StatedFault) -> Said {
     Said::Stated(Err(Refused::Because(why)))
 }
 

@@ -1,0 +1,103 @@
+-- What the removal of a lane's rows leaves.
+use Rattle.std.proofs.Common.{◌≡◌, ℕ, ◌==◌, nat_le, not, List, [], ◌∷◌, map, filter, length, Bool, None, Ok, refl, sym, ap, subst, ◌∙◌, arith}
+use Rattle.std.specs.Prelude.{unwrap_or}
+use Rattle.std.specs.List.Sorted.{IsPermutation}
+use Rattle.std.proofs.lemmas.List.{length-map}
+use Rattle.std.proofs.lemmas.List.Sorted.{length_permutation}
+use Rattle.sqlite.specs.declared.types.Value.TheVariants.{Null}
+use Rattle.sqlite_value.specs.Order.{Row}
+use Rattle.sqlite.specs.Tree.{Trees}
+use Rattle.sqlite_rules.specs.Edit.{without_all}
+use Rattle.sqlite_rules.specs.Calls.{ids_of}
+use Rattle.sqlite.specs.Query.{IsAnswer, matches_as, end, output, Output}
+use Rattle.sqlite.specs.Program.{overlay}
+use Rattle.sqlite.specs.Command.TheVariants.{Delete}
+use Rattle.sqlite.specs.Edit.{edit_of}
+use Rattle.sqlite.specs.Rowids.TheVariants.{Given}
+use Rattle.sqlite.specs.Does.{Does}
+use Rattle.sqlite.specs.Rows.{Written, Task}
+use Rattle.sqlite_schema.specs.declared.schema.Keys.TheVariants.{Enforced}
+use Rattle.sqlite.specs.Listing.{understood}
+use Rattle.sqlite.specs.Effect.{Database}
+use Rattle.sqlite.specs.State.{State, mode_of, Executes}
+use Rattle.sqlite.proofs.Callers.{statement_of, runs_as, one_step}
+use Rattle.fare_record.specs.Values.{RecordValue}
+use Rattle.fare_tables.specs.Cells.{int, id_of, AreRows, held}
+use Rattle.fare_tables.proofs.Lists.{filter_of_map}
+use Rattle.fare_tables.proofs.Rows.{all_of, rows_filter}
+use Rattle.fare_tables.proofs.Removing.{id_shown, left_over}
+use Rattle.fare_tables.proofs.Statements.{made, went, same_value}
+use Rattle.fare_tables.proofs.Terms.{chosen, matched, eq_holds, le_holds, three_terms}
+use Rattle.fare_outbox.specs.Tables.{outbox_schema, tap_table, cut_terms, cut_query}
+use Rattle.fare_outbox.specs.Held.{AreReadable, Becomes, IsDevice, IsTap, IsStated, upto_of, tap_cells, tap_of, stated_of, held_of, is_cut, without_lane}
+use Rattle.fare_outbox.proofs.Texts.{cut_text, cut_is, cut_plain}
+use Rattle.fare_outbox.proofs.Found.{asked}
+use Rattle.fare_outbox.proofs.Puts.{tap_ids}
+
+abbrev goes : ℕ → ℕ → ℕ → Row → Bool
+goes o d l r = is_cut o d l (tap_of r)
+
+cut_cell : (id : ℕ) (t : RecordValue) (o d l : ℕ) → matches_as Null (λ _. []) cut_terms end (asked o d l ∷ (int id ∷ tap_cells t) ∷ []) ≡ chosen (is_cut o d l t) (asked o d l ∷ (int id ∷ tap_cells t) ∷ [])
+cut_cell id t o d l = rw (eq_holds t.owner o, eq_holds t.device d, le_holds t.lane l) (three_terms (t.owner == o) (t.device == d) (nat_le t.lane l) (asked o d l ∷ (int id ∷ tap_cells t) ∷ []))
+
+cut_each : (o d l : ℕ) (r : Row) → IsTap r → matches_as Null (λ _. []) cut_terms end (asked o d l ∷ r ∷ []) ≡ chosen (goes o d l r) (asked o d l ∷ r ∷ [])
+cut_each o d l r ok = subst (λ x. matches_as Null (λ _. []) cut_terms end (asked o d l ∷ x ∷ []) ≡ chosen (goes o d l x) (asked o d l ∷ x ∷ [])) (sym ok) (cut_cell (id_of r) (tap_of r) o d l)
+
+shown : (o d l : ℕ) (rows : List Row) → map (output cut_query) (map (λ r. asked o d l ∷ r ∷ []) rows) ≡ map id_shown rows
+shown o d l [] = refl
+shown o d l (r ∷ rows) = ap (λ more. id_shown r ∷ more) (shown o d l rows)
+
+kept_of : (db : Trees) (o d l : ℕ) (out : List Row) → AreRows IsTap (db 2) → (a : IsAnswer cut_query (overlay db []) (asked o d l) out) → a.kept ≡ map id_shown (filter (goes o d l) (db 2))
+kept_of db o d l out ok a =
+    a.distinct ∙ ap (map (output cut_query)) (a.grouped ∙ matched IsTap (goes o d l) (asked o d l) cut_terms (cut_each o d l) (db 2) (all_of IsTap (db 2) ok)) ∙ shown o d l (filter (goes o d l) (db 2))
+
+left : (db : Trees) (o d l : ℕ) (out : List Row) → AreRows IsTap (db 2) → IsAnswer cut_query (overlay db []) (asked o d l) out → without_all (db 2) (ids_of out) ≡ filter (λ r. not (goes o d l r)) (db 2)
+left db o d l out ok a =
+    ap (λ rows. without_all (db 2) (ids_of rows)) a.shown ∙ left_over IsTap tap_ids (goes o d l) (db 2) a.ordered ok (subst (λ k. IsPermutation k a.ordered) (kept_of db o d l out ok a) a.same)
+
+answer_length : (db : Trees) (o d l : ℕ) (out : List Row) → AreRows IsTap (db 2) → IsAnswer cut_query (overlay db []) (asked o d l) out → length out ≡ length (filter (is_cut o d l) (map tap_of (db 2)))
+answer_length db o d l out ok a =
+    let same = length_permutation _ _ (subst (λ k. IsPermutation k a.ordered) (kept_of db o d l out ok a) a.same) in
+    let rows : length out ≡ length a.ordered = ap length a.shown ∙ length-map a.ordered (λ (p : Output). p.1) in
+    rows ∙ same ∙ length-map (filter (goes o d l) (db 2)) id_shown ∙ sym (ap length (filter_of_map tap_of (is_cut o d l) (db 2)) ∙ length-map (filter (goes o d l) (db 2)) tap_of)
+
+pub record IsCut (old new : Database) (o d l count : ℕ) : Type 0 where
+  pub becomes : Becomes new (without_lane o d l (held_of old.trees))
+  pub counted : count ≡ length (filter (is_cut o d l) (held_of old.trees).taps)
+
+pub cuts : (old new : State) (o d l count : ℕ) → old.now.schema ≡ outbox_schema → AreReadable old.now.trees → Executes cut_text (asked o d l) old new (Ok count) → IsCut old.now new.now o d l count
+unfolding outbox_schema
+cuts old new o d l count has ok h =
+    let db = old.now.trees in
+    let params = asked o d l in
+    let command = Delete 2 (record { lets = []; body = cut_query }) in
+    let w = runs_as cut_text params old new outbox_schema has command cut_is cut_plain count h in
+    let text = statement_of cut_text (understood outbox_schema cut_text) in
+    let task : Task = record { limit = old.step_limit; keys = Enforced; schema = outbox_schema; table = tap_table 2; params = params } in
+    let done = made task (mode_of old) command db w.tally new.now (subst (λ s. Does old.step_limit (mode_of old) params (record old.now { schema = s }) text None command (Ok (w.tally, new.now))) has w.changed) in
+    let it = went done.wrote in
+    let step = went it.2 in
+    let trees : new.now.trees ≡ step.0 = ap (λ (d : Database). d.trees) done.after_is ∙ ap (λ (x : Written). x.trees) (same_value step.2) in
+    let one = one_step outbox_schema Enforced db step.0 (edit_of db (tap_table 2) (ids_of it.0) Given 0 []) refl step.1 in
+    let at : (k : ℕ) → new.now.trees k ≡ step.0 k = λ k. ap (λ (t : Trees). t k) trees in
+    let answer = it.1.answer Null in
+    let taps : new.now.trees 2 ≡ filter (λ r. not (goes o d l r)) (db 2) = at 2 ∙ one.rows ∙ left db o d l it.0 ok.taps answer in
+    let devices : new.now.trees 1 ≡ db 1 = at 1 ∙ one.tables.1.0 (λ e. let e = e in omega arith) in
+    let statements : new.now.trees 5 ≡ db 5 = at 5 ∙ one.tables.1.1.1.0 (λ e. let e = e in omega arith) in
+    let gone : length done.written.rows ≡ length it.0 = ap (λ (x : Written). length x.rows) (same_value step.2) ∙ length-map (ids_of it.0) _ ∙ length-map it.0 _ in
+    record {
+      becomes = record {
+        schema = ap (λ (d : Database). d.schema) done.after_is;
+        readable = record {
+          devices = subst (AreRows IsDevice) (sym devices) ok.devices;
+          taps = subst (AreRows IsTap) (sym taps) (rows_filter IsTap tap_ids _ (db 2) ok.taps);
+          statements = subst (AreRows IsStated) (sym statements) ok.statements;
+        };
+        value = λ i. record {
+          upto = λ x. upto_of (held (devices i) x);
+          taps = (ap (map tap_of) taps ∙ sym (filter_of_map tap_of (λ t. not (is_cut o d l t)) (db 2))) i;
+          statements = map stated_of (statements i);
+        };
+      };
+      counted = w.counted ∙ ap (λ n. unwrap_or n 0) done.told ∙ gone ∙ answer_length db o d l it.0 ok.taps answer;
+    }

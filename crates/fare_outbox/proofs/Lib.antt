@@ -1,0 +1,13 @@
+pub mod Texts
+pub mod Found
+pub mod Links
+pub mod Puts
+pub mod Cuts
+pub mod Makes
+pub mod Keyed
+pub mod Lanes
+pub mod Pruned
+pub mod Stored
+pub mod Seen
+pub mod Judged
+pub mod Opened

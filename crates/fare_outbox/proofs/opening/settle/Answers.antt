@@ -1,0 +1,25 @@
+use Rattle.std.proofs.Common.{refl, sym, ◌∙◌}
+use Rattle.sqlite.specs.Held.{state}
+use Rattle.fare_tables.specs.Making.{Finds}
+use Rattle.fare_tables.specs.declared.opening.Found.TheVariants.{Blank, Ours}
+use Rattle.fare_outbox.specs.Tables.{outbox_schema}
+use Rattle.fare_outbox.proofs.Opened.{not_both, not_blank, ours}
+use Rattle.fare_outbox.proofs.opening.settle.Goals as goal
+
+pub returns-in_ok-make_outbox-in-Blank-clause-opens : goal.returns-in_ok-make_outbox-in-Blank-clause-opens
+returns-in_ok-make_outbox-in-Blank-clause-opens g c live =
+    let it : Finds (state g.S.Store c.args.conn.now).now.schema outbox_schema Blank = rw c.in-Blank.is at c.requires.found in
+    record {
+      made = λ has. (let made = c.in_ok-make_outbox-in-Blank.ensures.made live has in (made.0, made.1, refl, refl));
+      kept = λ ready. absurd (not_both (sym it ∙ ready.rest.schema_is));
+    }
+
+pub returns-in-Ours-clause-opens : goal.returns-in-Ours-clause-opens
+returns-in-Ours-clause-opens g c live =
+    let it : Finds (state g.S.Store c.args.conn.now).now.schema outbox_schema Ours = rw c.in-Ours.is at c.requires.found in
+    ours (state g.S.Store c.args.conn.now) (state g.S.Store c.counts.new.conn) c.counts.result it (c.counts.ensures.counted live) (c.counts.ensures.same live)
+
+pub returns-in-Ours-clause-foreign : goal.returns-in-Ours-clause-foreign
+returns-in-Ours-clause-foreign g c =
+    let it : Finds (state g.S.Store c.args.conn.now).now.schema outbox_schema Ours = rw c.in-Ours.is at c.requires.found in
+    not_blank (state g.S.Store c.args.conn.now) c.counts.result it

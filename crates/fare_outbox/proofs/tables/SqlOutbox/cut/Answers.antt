@@ -1,0 +1,57 @@
+use Rattle.std.proofs.Common.{◌≡◌, Some, None, refl, ap, ◌∙◌}
+use Rattle.sqlite_trees.specs.Tree.{Trees}
+use Rattle.sqlite.specs.Held.{state}
+use Rattle.fare_store.specs.OutboxWords.{pruned, rows_upto}
+use Rattle.fare_tables.proofs.Steps.{write_step, given_none, same_fit, same_at}
+use Rattle.fare_outbox.specs.Tables.{outbox_schema}
+use Rattle.fare_outbox.specs.Held.{IsReady, held_of, without_lane}
+use Rattle.fare_outbox.specs.Words.{tap_key, first_at, itself, value_at, value_in, IsWell}
+use Rattle.fare_outbox.proofs.Stored.{ready, cut_fits, cut_value}
+use Rattle.fare_outbox.proofs.Pruned.{cut_count}
+use Rattle.fare_outbox.proofs.tables.SqlOutbox.cut.Goals as goal
+
+pub returns-in-Ok : goal.returns-in-Ok
+returns-in-Ok g c =
+    let old = state g.S.Store c.args.self.now.conn in
+    let new = state g.S.Store c.write_cut.new.conn in
+    let self = c.args.self.now in
+    let o = c.args.owner in
+    let d = c.args.device in
+    let n = c.args.upto in
+    let last = c.within-last.result in
+    let low = c.within-last.ensures.low in
+    let which = c.within-last.ensures.which in
+    let h = held_of old.now.trees in
+    let done = pruned o d n (value_at old.now.trees) in
+    let count = c.in-Ok.count in
+    given_none _ _ _ None _ (write_step outbox_schema value_at (IsWell self.rows self.statements) (IsWell c.saturating_sub-self.result self.statements) old new self.failures self.failures None (Unit {0}) ((count ≡ rows_upto n (first_at tap_key itself h.taps o d)) × (value_at new.now.trees ≡ done)) done
+    (λ (trees : Trees). IsReady old → held_of trees ≡ without_lane o d last h) c.requires
+    (λ live known.
+    let fit = known.0 in
+    let together = fit.fits.lawful.together in
+    let wrote = c.in-Ok.ensures.value live (ready old self.rows self.statements fit) in
+    let is = c.in-Ok.ensures.count live (ready old self.rows self.statements fit) in
+    (rw c.saturating_sub-self.ensures (cut_fits old new self.rows self.statements o d last count fit wrote is), (is ∙ cut_count o d last n h together low which, ap value_in wrote.0.value ∙ cut_value h o d last n together low which)))
+    c.write_cut.ensures.crash
+    (λ fit trees wrote may. ap value_in (wrote (ready old self.rows self.statements fit)) ∙ cut_value h o d last n fit.fits.lawful.together low which)
+    c.write_cut.ensures.live (λ e. c.in-Ok.ensures.stays) refl)
+
+pub returns-in-Err : goal.returns-in-Err
+returns-in-Err g c =
+    let old = state g.S.Store c.args.self.now.conn in
+    let new = state g.S.Store c.write_cut.new.conn in
+    let self = c.args.self.now in
+    let o = c.args.owner in
+    let d = c.args.device in
+    let n = c.args.upto in
+    let last = c.within-last.result in
+    let h = held_of old.now.trees in
+    let done = pruned o d n (value_at old.now.trees) in
+    given_none _ _ _ (Some c.note.result) _ (write_step outbox_schema value_at (IsWell self.rows self.statements) (IsWell self.rows self.statements) old new self.failures c.note.new.failures (Some c.note.result) (Unit {0}) (value_at new.now.trees ≡ value_at old.now.trees) done
+    (λ (trees : Trees). IsReady old → held_of trees ≡ without_lane o d last h) c.requires
+    (λ live known.
+    let same = c.in-Err.ensures.same live (ready old self.rows self.statements known.0) in
+    (same_fit outbox_schema value_at (IsWell self.rows self.statements) old new same known.0, same_at outbox_schema value_at old new same))
+    c.write_cut.ensures.crash
+    (λ fit trees wrote may. ap value_in (wrote (ready old self.rows self.statements fit)) ∙ cut_value h o d last n fit.fits.lawful.together c.within-last.ensures.low c.within-last.ensures.which)
+    c.write_cut.ensures.live (λ e. absurd (cc)) c.note.ensures.counted)

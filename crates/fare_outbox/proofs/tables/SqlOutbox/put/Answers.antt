@@ -1,0 +1,41 @@
+use Rattle.std.proofs.Common.{◌≡◌, Some, None, refl, ◌+◌, ap, ◌∙◌}
+use Rattle.sqlite_trees.specs.Tree.{Trees}
+use Rattle.sqlite.specs.Held.{state}
+use Rattle.fare_store.specs.OutboxWords.{stored}
+use Rattle.fare_tables.proofs.Steps.{write_step, same_fit, same_at}
+use Rattle.fare_outbox.specs.Tables.{outbox_schema}
+use Rattle.fare_outbox.specs.Held.{IsReady, held_of, with_tap}
+use Rattle.fare_outbox.specs.Words.{value_at, value_in, IsWell, MayStore}
+use Rattle.fare_outbox.proofs.Stored.{ready, put_fits}
+use Rattle.fare_outbox.proofs.Lanes.{store_value}
+use Rattle.fare_outbox.proofs.tables.SqlOutbox.put.Goals as goal
+
+pub returns-in-Ok : goal.returns-in-Ok
+returns-in-Ok g c =
+    let old = state g.S.Store c.args.self.now.conn in
+    let new = state g.S.Store c.write_row.new.conn in
+    let self = c.args.self.now in
+    let r = c.args.row.now in
+    let h = held_of old.now.trees in
+    write_step outbox_schema value_at (IsWell self.rows self.statements) (IsWell (self.rows + 1) self.statements) old new self.failures self.failures None (MayStore (value_at old.now.trees) r) (value_at new.now.trees ≡ stored r (value_at old.now.trees)) (stored r (value_at old.now.trees)) (λ (trees : Trees). IsReady old → held_of trees ≡ with_tap r h) c.requires.up
+    (λ live known.
+    let wrote = c.in-Ok.ensures.value live (ready old self.rows self.statements known.0) in
+    (put_fits old new self.rows self.statements r c.requires.lane known.0 known.1 wrote, ap value_in wrote.0.value ∙ store_value h r known.1))
+    c.write_row.ensures.crash
+    (λ fit trees wrote may. ap value_in (wrote (ready old self.rows self.statements fit)) ∙ store_value h r may)
+    c.write_row.ensures.live (λ e. c.in-Ok.ensures.stays) refl
+
+pub returns-in-Err : goal.returns-in-Err
+returns-in-Err g c =
+    let old = state g.S.Store c.args.self.now.conn in
+    let new = state g.S.Store c.write_row.new.conn in
+    let self = c.args.self.now in
+    let r = c.args.row.now in
+    let h = held_of old.now.trees in
+    write_step outbox_schema value_at (IsWell self.rows self.statements) (IsWell self.rows self.statements) old new self.failures c.note.new.failures (Some c.note.result) (MayStore (value_at old.now.trees) r) (value_at new.now.trees ≡ value_at old.now.trees) (stored r (value_at old.now.trees)) (λ (trees : Trees). IsReady old → held_of trees ≡ with_tap r h) c.requires.up
+    (λ live known.
+    let same = c.in-Err.ensures.same live (ready old self.rows self.statements known.0) in
+    (same_fit outbox_schema value_at (IsWell self.rows self.statements) old new same known.0, same_at outbox_schema value_at old new same))
+    c.write_row.ensures.crash
+    (λ fit trees wrote may. ap value_in (wrote (ready old self.rows self.statements fit)) ∙ store_value h r may)
+    c.write_row.ensures.live (λ e. absurd (cc)) c.note.ensures.counted

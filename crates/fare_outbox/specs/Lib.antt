@@ -1,0 +1,6 @@
+pub mod Tables
+pub mod Held
+pub mod Making
+pub mod Opening
+pub mod Words
+pub mod Shown

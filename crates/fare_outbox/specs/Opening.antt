@@ -1,0 +1,33 @@
+-- What an open finds in a database, and what it makes of it.
+use Rattle.std.specs.Prelude.{◌≡◌, ℕ, pos, List, [], ◌∷◌, length, codes}
+use Rattle.sqlite.specs.declared.types.Value.TheVariants.{Int}
+use Rattle.sqlite_value.specs.Order.{Row, column}
+use Rattle.sqlite.specs.Tree.{Trees}
+use Rattle.sqlite.specs.State.{State, Shown}
+use Rattle.fare_tables.specs.Asking.{SameRows}
+use Rattle.fare_tables.specs.Making.{no_schema}
+use Rattle.fare_outbox.specs.Held.{IsReady, held_of}
+use Rattle.fare_outbox.specs.Making.{IsNew}
+
+-- format 1, owner 0
+abbrev pub IsMetaRow : Row → Type 0
+IsMetaRow row = (column row 0 ≡ Int (pos 1)) × (column row 1 ≡ Int (pos 0))
+
+-- that row, and no other
+abbrev pub AreMeta : List Row → Type 0
+AreMeta [] = ⊥
+AreMeta (row ∷ []) = IsMetaRow row
+AreMeta (row ∷ more ∷ rest) = ⊥
+
+-- meta shows it
+abbrev pub HoldsMeta : State → State → Type 0
+HoldsMeta old new = (rows : List Row) × Shown (codes "SELECT format, owner FROM meta") [] old new rows × AreMeta rows
+
+pub record IsCounted (trees : Trees) (rows statements : ℕ) : Type 0 where
+  pub rows_are : rows ≡ length (held_of trees).taps
+  pub statements_are : statements ≡ length (held_of trees).statements
+
+-- a database without tables gets those of an empty outbox, and one that has the outbox's stays as it is and is counted
+pub record Settles (old new : State) (rows statements : ℕ) : Type 0 where
+  pub made : old.now.schema ≡ no_schema → IsNew new.now × (new.now ≡ new.committed) × (rows ≡ 0) × (statements ≡ 0)
+  pub kept : IsReady old → SameRows old new × IsCounted old.now.trees rows statements

@@ -1,0 +1,73 @@
+ghost use Rattle.std.proofs.Common.{sym, ap, ◌∙◌};
+ghost use Rattle.sqlite.specs.Effect.{Database};
+ghost use Rattle.fare_outbox.specs.Words.{value_at, stands};
+
+use crate::SqlOutbox;
+use crate::storing::is_nothing;
+use fare_record::{Day, DeviceId, OwnerId, Record, Statement};
+use fare_store::{Fault, Outbox, Refused, StatedFault, StoreFault};
+use sqlite::Alter;
+
+impl<S: Alter> Outbox for SqlOutbox<S> {
+    ghost standing = { λ o. stands S.Store o };
+
+    ghost sound = { λ o. record { clean = λ live. live.0; settled = λ live lawful v leaves. sym leaves.2 ∙ ap value_at (S.Store.settled o.conn.store leaves.0 live.1 leaves.1 ∙ sym (ap (λ (d : Database). d.trees) lawful.rest.settled)) } };
+
+    fn is_empty(&mut self) -> Result<bool, Fault> {
+        self.begin()?;
+        let none = self.saw_none()?;
+        Ok(is_nothing(none, self.rows, self.statements))
+    }
+
+    fn upto(&mut self, device: DeviceId) -> Result<u64, Fault> {
+        self.begin()?;
+        self.greatest_link(device)
+    }
+
+    fn store(&mut self, row: &Record) -> Result<(), Refused<StoreFault>> {
+        match self.judge(row) {
+            Err(fault) => Err(Refused::Failed(fault)),
+            Ok(Err(why)) => Err(Refused::Because(why)),
+            Ok(Ok(())) => match self.put(row) {
+                Ok(()) => Ok(()),
+                Err(fault) => Err(Refused::Failed(fault)),
+            },
+        }
+    }
+
+    fn store_statement(&mut self, statement: &Statement) -> Result<(), Refused<StatedFault>> {
+        match self.judge_statement(statement) {
+            Err(fault) => Err(Refused::Failed(fault)),
+            Ok(Err(why)) => Err(Refused::Because(why)),
+            Ok(Ok(())) => match self.put_statement(statement) {
+                Ok(()) => Ok(()),
+                Err(fault) => Err(Refused::Failed(fault)),
+            },
+        }
+    }
+
+    fn next_row(
+        &mut self,
+        owner: OwnerId,
+        device: DeviceId,
+        after: u64,
+    ) -> Result<Option<Record>, Fault> {
+        self.begin()?;
+        self.row_after(owner, device, after)
+    }
+
+    fn next_statement(
+        &mut self,
+        owner: OwnerId,
+        device: DeviceId,
+        from: Day,
+    ) -> Result<Option<Statement>, Fault> {
+        self.begin()?;
+        self.statement_from(owner, device, from)
+    }
+
+    fn prune(&mut self, owner: OwnerId, device: DeviceId, upto: u64) -> Result<u64, Fault> {
+        self.begin()?;
+        self.cut(owner, device, upto)
+    }
+}

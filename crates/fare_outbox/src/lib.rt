@@ -1,0 +1,15 @@
+//! The outbox of the hub in tables of SQLite: what was acknowledged outlives the program. It meets the contract of
+//! the outbox as the plain one does, for as long as the disk has kept what was committed and no failure has shut
+//! the connection. Each write is one transaction. The value alone holds its connection.
+#![tactic(auto)]
+
+mod asking;
+mod calls;
+mod making;
+mod opening;
+mod reading;
+mod storing;
+mod tables;
+mod writing;
+
+pub use tables::SqlOutbox;

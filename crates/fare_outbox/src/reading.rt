@@ -1,0 +1,168 @@
+ghost use Rattle.std.specs.Prelude.{◌≡◌, ◌<◌, ◌^◌, false, length, filter, IsTrue, IfOk, OnOk};
+ghost use Rattle.sqlite.specs.State.{HasCleanDisk, Survives};
+ghost use Rattle.sqlite.specs.Held.{state};
+ghost use Rattle.fare_tables.specs.Asking.{IsLive, IsAtRest, SameRows};
+ghost use Rattle.fare_tables.specs.Cells.{counted};
+ghost use Rattle.fare_outbox.specs.Tables.{outbox_schema};
+ghost use Rattle.fare_outbox.specs.Held.{held_of, IsReady, IsNext, IsNextStated, is_seen};
+ghost use Rattle.fare_outbox.specs.Shown.{ShowsRow, ShowsStatement};
+
+use crate::asking::ask;
+use fare_record::{DeviceId, OwnerId, Record, Statement};
+use fare_store::Fault;
+use fare_tables::{cell, count, day, number, numbered, tap};
+use sqlite::{Alter, Connection, Row};
+
+// The greatest link of a device, 0 where it has no row.
+pub(crate) fn read_link<S: Alter>(conn: &mut Connection<S>, device: DeviceId) -> Result<u64, Fault>
+    ensures value { IsLive (state S.Store conn.new) → IsReady (state S.Store conn.old) → IfOk result (λ upto. upto ≡ (held_of (state S.Store conn.old).now.trees).upto device) }
+    ensures same { IsLive (state S.Store conn.new) → IsAtRest outbox_schema (state S.Store conn.old) → SameRows (state S.Store conn.old) (state S.Store conn.new) }
+    ensures crash { Survives (state S.Store conn.old) (state S.Store conn.new) (λ _. ¬ IsAtRest outbox_schema (state S.Store conn.old)) }
+    ensures live { IsLive (state S.Store conn.new) → IsLive (state S.Store conn.old) }
+    ensures stays { HasCleanDisk (state S.Store conn.new) → OnOk result (IsTrue (state S.Store conn.new).is_open) }
+    ensures mode { conn.old.in_transaction ≡ false → conn.new.in_transaction ≡ false }
+{
+    match ask(
+        conn,
+        "SELECT upto FROM device WHERE id = ?1",
+        &[cell(u64::from(device.get()))],
+    )? {
+        Some(row) => number(&row, 0),
+        None => Ok(0),
+    }
+}
+
+// The record that a row of the lane shows.
+fn row_in(row: &Row, owner: OwnerId, device: DeviceId) -> Result<Record, Fault>
+    ensures { IfOk result (ShowsRow row.now owner device) }
+{
+    let lane = numbered(row, 0)?;
+    let link = numbered(row, 1)?;
+    let tap = tap(row, 2)?;
+    Ok(Record::new(device, link, owner, lane, tap))
+}
+
+// The row of least lane number past one.
+pub(crate) fn read_next<S: Alter>(
+    conn: &mut Connection<S>,
+    owner: OwnerId,
+    device: DeviceId,
+    after: u64,
+) -> Result<Option<Record>, Fault>
+    requires { after < 2 ^ 63 }
+    ensures value { IsLive (state S.Store conn.new) → IsReady (state S.Store conn.old) → IfOk result (IsNext (held_of (state S.Store conn.old).now.trees).taps owner device after) }
+    ensures same { IsLive (state S.Store conn.new) → IsAtRest outbox_schema (state S.Store conn.old) → SameRows (state S.Store conn.old) (state S.Store conn.new) }
+    ensures crash { Survives (state S.Store conn.old) (state S.Store conn.new) (λ _. ¬ IsAtRest outbox_schema (state S.Store conn.old)) }
+    ensures live { IsLive (state S.Store conn.new) → IsLive (state S.Store conn.old) }
+    ensures stays { HasCleanDisk (state S.Store conn.new) → OnOk result (IsTrue (state S.Store conn.new).is_open) }
+    ensures mode { conn.old.in_transaction ≡ false → conn.new.in_transaction ≡ false }
+{
+    let asked = [
+        cell(u64::from(owner.get())),
+        cell(u64::from(device.get())),
+        cell(after),
+    ];
+    match ask(
+        conn,
+        "SELECT lane, link, product, token, moment, day FROM tap WHERE owner = ?1 AND device = ?2 AND lane > ?3 ORDER BY lane LIMIT 1",
+        &asked,
+    )? {
+        Some(row) => Ok(Some(row_in(&row, owner, device)?)),
+        None => Ok(None),
+    }
+}
+
+// The statement that a row shows.
+fn statement_in(row: &Row, owner: OwnerId, device: DeviceId) -> Result<Statement, Fault>
+    ensures { IfOk result (ShowsStatement row.now owner device) }
+{
+    let day = day(row, 0)?;
+    let total = count(row, 1)?;
+    Ok(Statement::new(device, day, owner, total))
+}
+
+// The statement of least day from one on.
+pub(crate) fn read_statement<S: Alter>(
+    conn: &mut Connection<S>,
+    owner: OwnerId,
+    device: DeviceId,
+    from: u64,
+) -> Result<Option<Statement>, Fault>
+    requires { from < 2 ^ 63 }
+    ensures value { IsLive (state S.Store conn.new) → IsReady (state S.Store conn.old) → IfOk result (IsNextStated (held_of (state S.Store conn.old).now.trees).statements owner device from) }
+    ensures same { IsLive (state S.Store conn.new) → IsAtRest outbox_schema (state S.Store conn.old) → SameRows (state S.Store conn.old) (state S.Store conn.new) }
+    ensures crash { Survives (state S.Store conn.old) (state S.Store conn.new) (λ _. ¬ IsAtRest outbox_schema (state S.Store conn.old)) }
+    ensures live { IsLive (state S.Store conn.new) → IsLive (state S.Store conn.old) }
+    ensures stays { HasCleanDisk (state S.Store conn.new) → OnOk result (IsTrue (state S.Store conn.new).is_open) }
+    ensures mode { conn.old.in_transaction ≡ false → conn.new.in_transaction ≡ false }
+{
+    let asked = [
+        cell(u64::from(owner.get())),
+        cell(u64::from(device.get())),
+        cell(from),
+    ];
+    match ask(
+        conn,
+        "SELECT day, total FROM stated WHERE owner = ?1 AND device = ?2 AND day >= ?3 ORDER BY day LIMIT 1",
+        &asked,
+    )? {
+        Some(row) => Ok(Some(statement_in(&row, owner, device)?)),
+        None => Ok(None),
+    }
+}
+
+// A count that SQLite didn't end at its greatest integer.
+fn exact(n: u64) -> Result<u64, Fault>
+    ensures { IfOk result (λ k. (k ≡ n) × (k < 9223372036854775807)) }
+{
+    if n < 9_223_372_036_854_775_807 {
+        Ok(n)
+    } else {
+        Err(Fault::Store)
+    }
+}
+
+// How many rows of taps there are.
+pub(crate) fn count_rows<S: Alter>(conn: &mut Connection<S>) -> Result<u64, Fault>
+    ensures value { IsLive (state S.Store conn.new) → IsReady (state S.Store conn.old) → IfOk result (λ n. n ≡ length (held_of (state S.Store conn.old).now.trees).taps) }
+    ensures same { IsLive (state S.Store conn.new) → IsAtRest outbox_schema (state S.Store conn.old) → SameRows (state S.Store conn.old) (state S.Store conn.new) }
+    ensures crash { Survives (state S.Store conn.old) (state S.Store conn.new) (λ _. ¬ IsAtRest outbox_schema (state S.Store conn.old)) }
+    ensures live { IsLive (state S.Store conn.new) → IsLive (state S.Store conn.old) }
+    ensures stays { HasCleanDisk (state S.Store conn.new) → OnOk result (IsTrue (state S.Store conn.new).is_open) }
+    ensures mode { conn.old.in_transaction ≡ false → conn.new.in_transaction ≡ false }
+{
+    match ask(conn, "SELECT count(*) FROM tap", &[])? {
+        Some(row) => exact(number(&row, 0)?),
+        None => Err(Fault::Store),
+    }
+}
+
+// How many statements there are.
+pub(crate) fn count_statements<S: Alter>(conn: &mut Connection<S>) -> Result<u64, Fault>
+    ensures value { IsLive (state S.Store conn.new) → IsReady (state S.Store conn.old) → IfOk result (λ n. n ≡ length (held_of (state S.Store conn.old).now.trees).statements) }
+    ensures same { IsLive (state S.Store conn.new) → IsAtRest outbox_schema (state S.Store conn.old) → SameRows (state S.Store conn.old) (state S.Store conn.new) }
+    ensures crash { Survives (state S.Store conn.old) (state S.Store conn.new) (λ _. ¬ IsAtRest outbox_schema (state S.Store conn.old)) }
+    ensures live { IsLive (state S.Store conn.new) → IsLive (state S.Store conn.old) }
+    ensures stays { HasCleanDisk (state S.Store conn.new) → OnOk result (IsTrue (state S.Store conn.new).is_open) }
+    ensures mode { conn.old.in_transaction ≡ false → conn.new.in_transaction ≡ false }
+{
+    match ask(conn, "SELECT count(*) FROM stated", &[])? {
+        Some(row) => exact(number(&row, 0)?),
+        None => Err(Fault::Store),
+    }
+}
+
+// How many devices were seen.
+pub(crate) fn count_seen<S: Alter>(conn: &mut Connection<S>) -> Result<u64, Fault>
+    ensures value { IsLive (state S.Store conn.new) → IsReady (state S.Store conn.old) → IfOk result (λ n. n ≡ counted (length (filter is_seen ((state S.Store conn.old).now.trees 1)))) }
+    ensures same { IsLive (state S.Store conn.new) → IsAtRest outbox_schema (state S.Store conn.old) → SameRows (state S.Store conn.old) (state S.Store conn.new) }
+    ensures crash { Survives (state S.Store conn.old) (state S.Store conn.new) (λ _. ¬ IsAtRest outbox_schema (state S.Store conn.old)) }
+    ensures live { IsLive (state S.Store conn.new) → IsLive (state S.Store conn.old) }
+    ensures stays { HasCleanDisk (state S.Store conn.new) → OnOk result (IsTrue (state S.Store conn.new).is_open) }
+    ensures mode { conn.old.in_transaction ≡ false → conn.new.in_transaction ≡ false }
+{
+    match ask(conn, "SELECT count(*) FROM device WHERE upto > 0", &[])? {
+        Some(row) => number(&row, 0),
+        None => Err(Fault::Store),
+    }
+}

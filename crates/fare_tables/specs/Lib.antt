@@ -1,0 +1,7 @@
+pub mod Cells
+pub mod Asking
+pub mod Queries
+pub mod Making
+pub mod Tabled
+pub mod Opened
+pub mod Records

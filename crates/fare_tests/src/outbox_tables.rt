@@ -1,0 +1,229 @@
+use crate::stores::{Asked, Said, ask, refused, says, unstated};
+use fare_outbox::SqlOutbox;
+use fare_store::{Fault, Refused, StatedFault, StoreFault};
+use fare_tables::OpenFault;
+use sqlite::{Alter, Connection, FileStore, Files, MemStore, Options};
+use sqlite_disk::{Fuse, Memory};
+use sqlite_trees::store::Reopen;
+use std::alloc::Global;
+
+// The tables of an outbox, and the row that says so.
+const TABLES: &str = "CREATE TABLE meta (format INTEGER NOT NULL, owner INTEGER NOT NULL) STRICT;
+CREATE TABLE device (id INTEGER PRIMARY KEY, upto INTEGER NOT NULL CHECK (upto >= 0)) STRICT;
+CREATE TABLE tap (owner INTEGER NOT NULL, device INTEGER NOT NULL, lane INTEGER NOT NULL,
+  link INTEGER NOT NULL, product INTEGER NOT NULL, token INTEGER NOT NULL,
+  moment INTEGER NOT NULL, day INTEGER NOT NULL,
+  PRIMARY KEY (owner, device, lane), UNIQUE (device, link)) STRICT;
+CREATE TABLE stated (owner INTEGER NOT NULL, device INTEGER NOT NULL, day INTEGER NOT NULL,
+  total INTEGER NOT NULL, PRIMARY KEY (owner, device, day)) STRICT;";
+
+// A database in memory in which these statements were run.
+fn database(alloc: Global, sql: [&str; 2]) -> Option<Connection<MemStore>> {
+    let mut conn = Connection::open_in_memory(alloc).ok()?;
+    for text in sql {
+        conn.execute_batch(text).ok()?;
+    }
+    Some(conn)
+}
+
+fn outbox(alloc: Global, sql: [&str; 2]) -> Option<SqlOutbox<MemStore>> {
+    SqlOutbox::open(alloc, database(alloc, sql)?).ok()
+}
+
+// Why the database isn't opened, and what this question then answers.
+fn refusal(alloc: Global, sql: [&str; 2], question: &str) -> Option<(OpenFault, i64)> {
+    let (mut conn, fault) = SqlOutbox::open(alloc, database(alloc, sql)?).err()?;
+    let rows = conn.query_row(question, &[]).ok()?.get(0).ok()?;
+    Some((fault, rows))
+}
+
+#[test]
+fn an_outbox_in_tables_stores_each_next_tap(rt: HostRuntime) {
+    let calls = [
+        (Asked::Empty, Said::Empty(Ok(true))),
+        (Asked::Upto, Said::Number(Ok(0))),
+        (Asked::StoreAll(300), Said::Stored(Ok(()))),
+        (Asked::Upto, Said::Number(Ok(300))),
+        (Asked::Empty, Said::Empty(Ok(false))),
+        (Asked::Store(300, 301), refused(StoreFault::Duplicate)),
+        (Asked::Store(302, 301), refused(StoreFault::Gap)),
+        (Asked::Store(301, 300), refused(StoreFault::Conflict)),
+        (Asked::Store(301, 303), Said::Stored(Ok(()))),
+        (Asked::NextRow(0), Said::Found(Ok(Some(1)))),
+        (Asked::NextRow(300), Said::Found(Ok(Some(303)))),
+        (Asked::NextRow(303), Said::Found(Ok(None))),
+        (Asked::NextRow(u64::MAX), Said::Found(Ok(None))),
+        (Asked::Prune(302), Said::Number(Ok(300))),
+        (Asked::NextRow(0), Said::Found(Ok(Some(303)))),
+        (Asked::Prune(u64::MAX), Said::Number(Ok(1))),
+        (Asked::Empty, Said::Empty(Ok(false))),
+        (Asked::Upto, Said::Number(Ok(301))),
+    ];
+    let mut outbox = outbox(rt.alloc(), ["", ""]).expect(&rt, "outbox");
+    says(&rt, &mut outbox, &calls);
+}
+
+#[test]
+fn an_outbox_in_tables_holds_a_statement_once(rt: HostRuntime) {
+    let calls = [
+        (Asked::State(3), Said::Stated(Ok(()))),
+        (Asked::State(3), unstated(StatedFault::Duplicate)),
+        (Asked::State(4), unstated(StatedFault::Conflict)),
+        (Asked::NextStatement(0), Said::Found(Ok(Some(3)))),
+        (Asked::NextStatement(19_724), Said::Found(Ok(None))),
+        (Asked::Empty, Said::Empty(Ok(false))),
+    ];
+    let mut outbox = outbox(rt.alloc(), ["", ""]).expect(&rt, "outbox");
+    says(&rt, &mut outbox, &calls);
+}
+
+#[test]
+fn an_outbox_takes_its_own_tables(rt: HostRuntime) {
+    let calls = [
+        (Asked::Upto, Said::Number(Ok(2))),
+        (Asked::NextRow(0), Said::Found(Ok(Some(2)))),
+        (Asked::Store(3, 3), Said::Stored(Ok(()))),
+        (Asked::Prune(3), Said::Number(Ok(2))),
+    ];
+    let rows = "INSERT INTO meta VALUES (1, 0); INSERT INTO device VALUES (1, 2);
+INSERT INTO tap VALUES (1, 1, 2, 2, 1, 77, 1704100000, 19723)";
+    let mut outbox = outbox(rt.alloc(), [TABLES, rows]).expect(&rt, "outbox");
+    says(&rt, &mut outbox, &calls);
+}
+
+#[test]
+fn a_row_past_its_limits_is_a_failure(rt: HostRuntime) {
+    let calls = [
+        (Asked::Upto, Said::Number(Err(Fault::Store))),
+        (Asked::NextRow(0), Said::Found(Err(Fault::Store))),
+        (Asked::NextStatement(0), Said::Found(Err(Fault::Store))),
+    ];
+    let rows = "INSERT INTO meta VALUES (1, 0); INSERT INTO device VALUES (1, 1099511627776);
+INSERT INTO tap VALUES (1, 1, 2, 2, 1, 0, 1704100000, 19723); INSERT INTO stated VALUES (1, 1, 100001, 3)";
+    let mut outbox = outbox(rt.alloc(), [TABLES, rows]).expect(&rt, "outbox");
+    says(&rt, &mut outbox, &calls);
+}
+
+#[test]
+fn another_database_is_foreign_and_stays(rt: HostRuntime) {
+    let other = "CREATE TABLE tap (a INTEGER NOT NULL) STRICT; INSERT INTO tap VALUES (5)";
+    let whole = "CREATE TABLE meta (format INTEGER NOT NULL, owner INTEGER NOT NULL) STRICT";
+    let taps = "SELECT count(*) FROM tap";
+    let metas = "SELECT count(*) + 10 * coalesce(sum(format), 0) FROM meta";
+    let cases = [
+        ([TABLES, "INSERT INTO meta VALUES (9, 0)"], metas, 91),
+        ([TABLES, "INSERT INTO meta VALUES (1, 3)"], metas, 11),
+        (
+            [TABLES, "INSERT INTO meta VALUES (1, 0), (1, 0)"],
+            metas,
+            22,
+        ),
+        ([TABLES, ""], metas, 0),
+        (
+            [TABLES, "INSERT INTO meta VALUES (1, 0); DROP TABLE stated"],
+            metas,
+            11,
+        ),
+        ([other, ""], taps, 1),
+        ([whole, other], taps, 1),
+        (
+            [
+                "CREATE TABLE others (a INTEGER) STRICT; INSERT INTO others VALUES (5)",
+                "",
+            ],
+            "SELECT count(*) FROM others",
+            1,
+        ),
+    ];
+    for (sql, question, rows) in cases {
+        assert_eq!(rt;
+            refusal(rt.alloc(), sql, question),
+            Some((OpenFault::Foreign, rows))
+        );
+    }
+}
+
+/// A database in two disks in memory that fail after some calls.
+type Burning = Connection<FileStore<Fuse<Memory>>>;
+
+fn burning(alloc: Global, calls: u64) -> Option<Burning> {
+    let files = Files {
+        log: Fuse::new(Memory::new(alloc), calls),
+        db: Fuse::new(Memory::new(alloc), calls),
+    };
+    Connection::open_files(alloc, files, Options::new(1)).ok()
+}
+
+// The database after the machine stopped and came back.
+fn reopened<S: Alter + Reopen + Drop>(alloc: Global, conn: Connection<S>) -> Option<Connection<S>> {
+    let mut store = conn.into_store();
+    store.crash_and_reopen().ok()?;
+    Connection::over(alloc, store).ok()
+}
+
+#[test]
+fn an_outbox_in_tables_is_opened_again(rt: HostRuntime) {
+    let calls = [
+        (Asked::StoreAll(3), Said::Stored(Ok(()))),
+        (Asked::State(3), Said::Stated(Ok(()))),
+    ];
+    let again = [
+        (Asked::Upto, Said::Number(Ok(3))),
+        (Asked::NextRow(2), Said::Found(Ok(Some(3)))),
+        (Asked::State(3), unstated(StatedFault::Duplicate)),
+        (Asked::Store(4, 4), Said::Stored(Ok(()))),
+        (Asked::Prune(4), Said::Number(Ok(4))),
+    ];
+    let alloc = rt.alloc();
+    let conn = burning(alloc, 1_000_000).expect(&rt, "database");
+    let mut outbox = SqlOutbox::open(alloc, conn).ok().expect(&rt, "outbox");
+    says(&rt, &mut outbox, &calls);
+    let conn = reopened(alloc, outbox.into_connection()).expect(&rt, "database");
+    let mut outbox = SqlOutbox::open(alloc, conn).ok().expect(&rt, "outbox");
+    says(&rt, &mut outbox, &again);
+}
+
+// How many taps were stored before a disk that fails after some calls failed, and how many an open then finds: the
+// greatest link, and whether the row of that link and no later one is there.
+fn stopped(alloc: Global, calls: u64) -> Option<(u64, u64, bool)> {
+    let conn = burning(alloc, calls)?;
+    let mut outbox = SqlOutbox::open(alloc, conn).ok()?;
+    let mut stored = 0u64;
+    for link in 1..=5 {
+        match ask(&mut outbox, Asked::Store(link, link))? {
+            Said::Stored(Ok(())) => stored = link,
+            Said::Stored(Err(Refused::Failed(Fault::Store))) => break,
+            _ => return None,
+        }
+    }
+    let conn = reopened(alloc, outbox.into_connection())?;
+    let mut outbox = SqlOutbox::open(alloc, conn).ok()?;
+    let Said::Number(Ok(upto)) = ask(&mut outbox, Asked::Upto)? else {
+        return None;
+    };
+    let last = ask(&mut outbox, Asked::NextRow(upto.saturating_sub(1)))?;
+    let next = ask(&mut outbox, Asked::NextRow(upto))?;
+    let whole = last == Said::Found(Ok(if upto == 0 { None } else { Some(upto) }));
+    Some((stored, upto, whole && next == Said::Found(Ok(None))))
+}
+
+#[test]
+fn a_stop_leaves_a_tap_and_its_link_or_neither(rt: HostRuntime) {
+    let mut early = 0u64;
+    let mut full = 0u64;
+    for calls in [16, 24, 32, 40, 48, 56, 64, 72, 80, 1_000] {
+        let Some((stored, upto, whole)) = stopped(rt.alloc(), calls) else {
+            continue;
+        };
+        assert_eq!(rt;
+            (whole, upto == stored || upto == stored.saturating_add(1)),
+            (true, true)
+        );
+        if stored == 5 {
+            full = full.saturating_add(1);
+        } else {
+            early = early.saturating_add(1);
+        }
+    }
+    assert_eq!(rt; (early > 0, full > 0), (true, true));
+}
