@@ -48,4 +48,6 @@ mod supervisor;
 #[cfg(test)]
 mod traces;
 #[cfg(test)]
+mod traces_of_days;
+#[cfg(test)]
 mod world;

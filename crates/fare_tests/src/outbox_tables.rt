@@ -161,28 +161,6 @@ fn reopened<S: Alter + Reopen + Drop>(alloc: Global, conn: Connection<S>) -> Opt
     Connection::over(alloc, store).ok()
 }
 
-#[test]
-fn an_outbox_in_tables_is_opened_again(rt: HostRuntime) {
-    let calls = [
-        (Asked::StoreAll(3), Said::Stored(Ok(()))),
-        (Asked::State(3), Said::Stated(Ok(()))),
-    ];
-    let again = [
-        (Asked::Upto, Said::Number(Ok(3))),
-        (Asked::NextRow(2), Said::Found(Ok(Some(3)))),
-        (Asked::State(3), unstated(StatedFault::Duplicate)),
-        (Asked::Store(4, 4), Said::Stored(Ok(()))),
-        (Asked::Prune(4), Said::Number(Ok(4))),
-    ];
-    let alloc = rt.alloc();
-    let conn = burning(alloc, 1_000_000).expect(&rt, "database");
-    let mut outbox = SqlOutbox::open(alloc, conn).ok().expect(&rt, "outbox");
-    says(&rt, &mut outbox, &calls);
-    let conn = reopened(alloc, outbox.into_connection()).expect(&rt, "database");
-    let mut outbox = SqlOutbox::open(alloc, conn).ok().expect(&rt, "outbox");
-    says(&rt, &mut outbox, &again);
-}
-
 // How many taps were stored before a disk that fails after some calls failed, and how many an open then finds: the
 // greatest link, and whether the row of that link and no later one is there.
 fn stopped(alloc: Global, calls: u64) -> Option<(u64, u64, bool)> {

@@ -1,5 +1,6 @@
 use crate::readers::{Bytewise, Closed, Lossy, Zeros};
 use crate::traces::*;
+use crate::traces_of_days::*;
 use fare_trace::{ParseFault, ReplayFault, parse, replay};
 use std::alloc::{AllocError, Global};
 
@@ -25,7 +26,7 @@ fn answered_bytewise(alloc: Global, bytes: &[u8]) -> Result<Vec<u8>, ReplayFault
 
 #[test]
 fn replays_traces(rt: HostRuntime) {
-    let cases: [(&[u8], &[u8]); 19] = [
+    let cases: [(&[u8], &[u8]); 28] = [
         (b"", b""),
         (ONE_TAP, ONE_TAP_ANSWERED),
         (FULL_BUFFER, FULL_BUFFER_ANSWERED),
@@ -37,6 +38,18 @@ fn replays_traces(rt: HostRuntime) {
         (WRITER_RESTART, WRITER_RESTART_ANSWERED),
         (FULL_INBOX, FULL_INBOX_ANSWERED),
         (PRUNE_AND_OWNER_RESTART, PRUNE_AND_OWNER_RESTART_ANSWERED),
+        (SHORT_COUNT_THEN_CLOSE, SHORT_COUNT_THEN_CLOSE_ANSWERED),
+        (DAYS_IN_ORDER, DAYS_IN_ORDER_ANSWERED),
+        (EIGHT_WAITING_DAYS, EIGHT_WAITING_DAYS_ANSWERED),
+        (TWO_DEVICES_CLOSE, TWO_DEVICES_CLOSE_ANSWERED),
+        (A_DAY_WITH_BILL, A_DAY_WITH_BILL_ANSWERED),
+        (A_STATEMENT_GOES_ONCE, A_STATEMENT_GOES_ONCE_ANSWERED),
+        (
+            A_STATEMENT_OUTLIVES_A_RESTART,
+            A_STATEMENT_OUTLIVES_A_RESTART_ANSWERED,
+        ),
+        (SMALL_ROOMS, SMALL_ROOMS_ANSWERED),
+        (TWO_OWNERS_A_DAY, TWO_OWNERS_A_DAY_ANSWERED),
         (SENT_AGAIN, SENT_AGAIN_ANSWERED),
         (UNKNOWN_PARTS, UNKNOWN_PARTS_ANSWERED),
         (SETTINGS, SETTINGS_ANSWERED),

@@ -21,7 +21,9 @@ use Rattle.fare_world.specs.declared.reply.Reply.TheVariants.{Refused}
 use Rattle.fare_world.specs.declared.reply.Refusal.{Refusal}
 use Rattle.fare_world.specs.declared.reply.Refusal.TheVariants.{UnknownDevice}
 use Rattle.fare_world.specs.System.{System}
-use Rattle.fare_world.specs.Steps.{knows_device, step, tap_on, tap}
+use Rattle.fare_world.specs.Knowing.{knows_device}
+use Rattle.fare_world.specs.Steps.{step}
+use Rattle.fare_world.specs.Tapping.{tap_on, tap}
 use Rattle.fare_trace.specs.declared.line.Line.{Line}
 use Rattle.fare_trace.specs.declared.line.Line.TheVariants.{Setup, Step}
 use Rattle.fare_trace.specs.declared.line.SchemeLine.{SchemeLine}
@@ -46,16 +48,20 @@ same_tap sc clock s device product token moment same =
 
 same_step : (sc : SchemeValue) (clock : Zone) (s : System) (e : Event) → SameDays sc.zone clock → step (on_clock sc clock) s e ≡ step sc s e
 same_step sc clock s (event.Tap device product token moment) same = same_tap sc clock s device product token moment same
+same_step sc clock s (event.Turn device) same = refl
 same_step sc clock s (event.Send device) same = refl
 same_step sc clock s (event.Rewind device) same = refl
+same_step sc clock s (event.State device day owner) same = refl
 same_step sc clock s (event.Arrive packet) same = refl
 same_step sc clock s event.Draw same = refl
 same_step sc clock s event.Store same = refl
 same_step sc clock s (event.Ack device) same = refl
+same_step sc clock s (event.DayAck device day) same = refl
 same_step sc clock s (event.Answer station) same = refl
 same_step sc clock s (event.Forward owner device) same = refl
 same_step sc clock s (event.Fetch owner) same = refl
 same_step sc clock s (event.Take owner) same = refl
+same_step sc clock s (event.Close owner device day) same = refl
 same_step sc clock s (event.Prune owner device) same = refl
 same_step sc clock s (event.Resume device) same = refl
 same_step sc clock s (event.RestartDevice device) same = refl

@@ -6,48 +6,76 @@ use borrow.Author.Tests.{ltb-true}
 use Rattle.fare_trace.specs.declared.keyword.Keyword.{Keyword}
 use Rattle.fare_trace.specs.declared.keyword.Keyword.TheVariants.{OfScheme, OfEvent}
 use Rattle.fare_trace.specs.declared.keyword.SchemeKeyword.TheVariants.{Owner, Operator, Station, Product, Caps, Device, Inbox, Start, Seal, Demo}
-use Rattle.fare_trace.specs.declared.keyword.EventKeyword.TheVariants.{Tap, Send, Rewind, Arrive, Draw, Store, Ack, Answer, Forward, Fetch, Take, Prune, Resume, RestartDevice, RestartStation, RestartWriter, RestartOwner, RestartHub, Upto, Count}
+use Rattle.fare_trace.specs.declared.keyword.EventKeyword.TheVariants.{Tap, Turn, Send, Rewind, State, Arrive, Draw, Store, Ack, DayAck, Answer, Forward, Fetch, Take, Close, Prune, Resume, RestartDevice, RestartStation, RestartWriter, RestartOwner, RestartHub, Upto, Count}
 use Rattle.fare_trace.specs.Reading.{any_keyword}
 use Rattle.fare_trace.specs.Grammar.{keyword_text}
 use Rattle.fare_trace.proofs.Cuts.{Lacks}
 
 -- a row for each keyword
 abbrev pub keywords : List Keyword
-keywords = OfEvent Tap ∷ OfEvent Send ∷ OfEvent Rewind ∷ OfEvent Arrive ∷ OfEvent Draw ∷ OfEvent Store ∷ OfEvent Ack ∷ OfEvent Answer ∷ OfEvent Forward ∷ OfEvent Fetch ∷ OfEvent Take ∷ OfEvent Prune ∷ OfEvent Resume ∷ OfEvent RestartDevice ∷ OfEvent RestartStation ∷ OfEvent RestartWriter ∷ OfEvent RestartOwner ∷ OfEvent RestartHub ∷ OfEvent Upto ∷ OfEvent Count ∷ OfScheme Owner ∷ OfScheme Operator ∷ OfScheme Station ∷ OfScheme Product ∷ OfScheme Caps ∷ OfScheme Device ∷ OfScheme Inbox ∷ OfScheme Start ∷ OfScheme Seal ∷ OfScheme Demo ∷ []
+keywords = OfEvent Tap ∷ OfEvent Turn ∷ OfEvent Send ∷ OfEvent Rewind ∷ OfEvent State ∷ OfEvent Arrive ∷ OfEvent Draw ∷ OfEvent Store ∷ OfEvent Ack ∷ OfEvent DayAck ∷ OfEvent Answer ∷ OfEvent Forward ∷ OfEvent Fetch ∷ OfEvent Take ∷ OfEvent Close ∷ OfEvent Prune ∷ OfEvent Resume ∷ OfEvent RestartDevice ∷ OfEvent RestartStation ∷ OfEvent RestartWriter ∷ OfEvent RestartOwner ∷ OfEvent RestartHub ∷ OfEvent Upto ∷ OfEvent Count ∷ OfScheme Owner ∷ OfScheme Operator ∷ OfScheme Station ∷ OfScheme Product ∷ OfScheme Caps ∷ OfScheme Device ∷ OfScheme Inbox ∷ OfScheme Start ∷ OfScheme Seal ∷ OfScheme Demo ∷ []
 
 abbrev pub place : Keyword → ℕ
-place (OfScheme Owner) = 20
-place (OfScheme Operator) = 21
-place (OfScheme Station) = 22
-place (OfScheme Product) = 23
-place (OfScheme Caps) = 24
-place (OfScheme Device) = 25
-place (OfScheme Inbox) = 26
-place (OfScheme Start) = 27
-place (OfScheme Seal) = 28
-place (OfScheme Demo) = 29
 place (OfEvent Tap) = 0
-place (OfEvent Send) = 1
-place (OfEvent Rewind) = 2
-place (OfEvent Arrive) = 3
-place (OfEvent Draw) = 4
-place (OfEvent Store) = 5
-place (OfEvent Ack) = 6
-place (OfEvent Answer) = 7
-place (OfEvent Forward) = 8
-place (OfEvent Fetch) = 9
-place (OfEvent Take) = 10
-place (OfEvent Prune) = 11
-place (OfEvent Resume) = 12
-place (OfEvent RestartDevice) = 13
-place (OfEvent RestartStation) = 14
-place (OfEvent RestartWriter) = 15
-place (OfEvent RestartOwner) = 16
-place (OfEvent RestartHub) = 17
-place (OfEvent Upto) = 18
-place (OfEvent Count) = 19
+place (OfEvent Turn) = 1
+place (OfEvent Send) = 2
+place (OfEvent Rewind) = 3
+place (OfEvent State) = 4
+place (OfEvent Arrive) = 5
+place (OfEvent Draw) = 6
+place (OfEvent Store) = 7
+place (OfEvent Ack) = 8
+place (OfEvent DayAck) = 9
+place (OfEvent Answer) = 10
+place (OfEvent Forward) = 11
+place (OfEvent Fetch) = 12
+place (OfEvent Take) = 13
+place (OfEvent Close) = 14
+place (OfEvent Prune) = 15
+place (OfEvent Resume) = 16
+place (OfEvent RestartDevice) = 17
+place (OfEvent RestartStation) = 18
+place (OfEvent RestartWriter) = 19
+place (OfEvent RestartOwner) = 20
+place (OfEvent RestartHub) = 21
+place (OfEvent Upto) = 22
+place (OfEvent Count) = 23
+place (OfScheme Owner) = 24
+place (OfScheme Operator) = 25
+place (OfScheme Station) = 26
+place (OfScheme Product) = 27
+place (OfScheme Caps) = 28
+place (OfScheme Device) = 29
+place (OfScheme Inbox) = 30
+place (OfScheme Start) = 31
+place (OfScheme Seal) = 32
+place (OfScheme Demo) = 33
 
 pub at_place : (k : Keyword) → (place k < length keywords) × (get_or keywords (place k) any_keyword ≡ k)
+at_place (OfEvent Tap) = (lit< tt, refl)
+at_place (OfEvent Turn) = (lit< tt, refl)
+at_place (OfEvent Send) = (lit< tt, refl)
+at_place (OfEvent Rewind) = (lit< tt, refl)
+at_place (OfEvent State) = (lit< tt, refl)
+at_place (OfEvent Arrive) = (lit< tt, refl)
+at_place (OfEvent Draw) = (lit< tt, refl)
+at_place (OfEvent Store) = (lit< tt, refl)
+at_place (OfEvent Ack) = (lit< tt, refl)
+at_place (OfEvent DayAck) = (lit< tt, refl)
+at_place (OfEvent Answer) = (lit< tt, refl)
+at_place (OfEvent Forward) = (lit< tt, refl)
+at_place (OfEvent Fetch) = (lit< tt, refl)
+at_place (OfEvent Take) = (lit< tt, refl)
+at_place (OfEvent Close) = (lit< tt, refl)
+at_place (OfEvent Prune) = (lit< tt, refl)
+at_place (OfEvent Resume) = (lit< tt, refl)
+at_place (OfEvent RestartDevice) = (lit< tt, refl)
+at_place (OfEvent RestartStation) = (lit< tt, refl)
+at_place (OfEvent RestartWriter) = (lit< tt, refl)
+at_place (OfEvent RestartOwner) = (lit< tt, refl)
+at_place (OfEvent RestartHub) = (lit< tt, refl)
+at_place (OfEvent Upto) = (lit< tt, refl)
+at_place (OfEvent Count) = (lit< tt, refl)
 at_place (OfScheme Owner) = (lit< tt, refl)
 at_place (OfScheme Operator) = (lit< tt, refl)
 at_place (OfScheme Station) = (lit< tt, refl)
@@ -58,26 +86,6 @@ at_place (OfScheme Inbox) = (lit< tt, refl)
 at_place (OfScheme Start) = (lit< tt, refl)
 at_place (OfScheme Seal) = (lit< tt, refl)
 at_place (OfScheme Demo) = (lit< tt, refl)
-at_place (OfEvent Tap) = (lit< tt, refl)
-at_place (OfEvent Send) = (lit< tt, refl)
-at_place (OfEvent Rewind) = (lit< tt, refl)
-at_place (OfEvent Arrive) = (lit< tt, refl)
-at_place (OfEvent Draw) = (lit< tt, refl)
-at_place (OfEvent Store) = (lit< tt, refl)
-at_place (OfEvent Ack) = (lit< tt, refl)
-at_place (OfEvent Answer) = (lit< tt, refl)
-at_place (OfEvent Forward) = (lit< tt, refl)
-at_place (OfEvent Fetch) = (lit< tt, refl)
-at_place (OfEvent Take) = (lit< tt, refl)
-at_place (OfEvent Prune) = (lit< tt, refl)
-at_place (OfEvent Resume) = (lit< tt, refl)
-at_place (OfEvent RestartDevice) = (lit< tt, refl)
-at_place (OfEvent RestartStation) = (lit< tt, refl)
-at_place (OfEvent RestartWriter) = (lit< tt, refl)
-at_place (OfEvent RestartOwner) = (lit< tt, refl)
-at_place (OfEvent RestartHub) = (lit< tt, refl)
-at_place (OfEvent Upto) = (lit< tt, refl)
-at_place (OfEvent Count) = (lit< tt, refl)
 
 -- a test that each keyword of a list passes
 abbrev passes_each : (Keyword → Bool) → List Keyword → Bool

@@ -6,7 +6,7 @@ use Rattle.std.specs.Char.{is_ascii_digit}
 use Rattle.fare_trace.specs.ZoneWord.{IsZoneText}
 use Rattle.fare_trace.specs.declared.line.Line.{Line}
 use Rattle.fare_trace.specs.declared.keyword.Keyword.{Keyword}
-use Rattle.fare_trace.specs.Grammar.{Kind, ADevice, AnOwner, AStation, AProduct, AToken, AMoment, OneOrTwo, AnyU16, AnyU32, AnyU64, IsOf, AreOf, Parts, Numbered, Worded, PartsFit, keyword_text, keyword_kinds, line_parts, parts_text, numbers_text}
+use Rattle.fare_trace.specs.Grammar.{Kind, ADevice, AnOwner, AStation, AProduct, AToken, AMoment, ADay, OneOrTwo, AnyU16, AnyU32, AnyU64, IsOf, AreOf, Parts, Numbered, Worded, PartsFit, keyword_text, keyword_kinds, line_parts, parts_text, numbers_text}
 use Rattle.fare_trace.specs.Reading.{CutsAt, ReadsNumbers, ReadsNumbered, ReadsLine, Builds}
 use Rattle.fare_trace.proofs.Cuts.{one_cut}
 use Rattle.fare_trace.proofs.Numbers.{IsU64, begins_with_digit, numbers_same}
@@ -19,6 +19,7 @@ kind_is_u64 AStation n h = omega arith
 kind_is_u64 AProduct n h = omega arith
 kind_is_u64 AToken n h = omega arith
 kind_is_u64 AMoment n h = omega arith
+kind_is_u64 ADay n h = omega arith
 kind_is_u64 OneOrTwo n h = omega arith
 kind_is_u64 AnyU16 n h = omega arith
 kind_is_u64 AnyU32 n h = omega arith

@@ -2,7 +2,7 @@
 use Rattle.std.specs.Prelude.{ℕ, ◌<◌, ◌≤◌, List, [], ◌∷◌, ◌++◌, codes, map}
 use Rattle.std.specs.List.{join_with_byte}
 use Rattle.std.specs.Fmt.{decimal}
-use Rattle.fare_record.specs.Limits.{IsDeviceId, IsOwnerId, IsStationId, IsProductId, IsToken, IsMoment}
+use Rattle.fare_record.specs.Limits.{IsDeviceId, IsOwnerId, IsStationId, IsProductId, IsToken, IsMoment, IsDay}
 use Rattle.fare_scheme.specs.declared.demo.DemoSize.{DemoSize}
 use Rattle.fare_scheme.specs.declared.demo.DemoSize.TheVariants.{OneDevice, TwoDevices}
 use Rattle.fare_world.specs.declared.event.Event.TheVariants as event
@@ -11,7 +11,7 @@ use Rattle.fare_trace.specs.declared.keyword.Keyword.TheVariants.{OfScheme, OfEv
 use Rattle.fare_trace.specs.declared.keyword.SchemeKeyword.{SchemeKeyword}
 use Rattle.fare_trace.specs.declared.keyword.SchemeKeyword.TheVariants.{Owner, Operator, Station, Product, Caps, Device, Inbox, Start, Seal, Demo}
 use Rattle.fare_trace.specs.declared.keyword.EventKeyword.{EventKeyword}
-use Rattle.fare_trace.specs.declared.keyword.EventKeyword.TheVariants.{Tap, Send, Rewind, Arrive, Draw, Store, Ack, Answer, Forward, Fetch, Take, Prune, Resume, RestartDevice, RestartStation, RestartWriter, RestartOwner, RestartHub, Upto, Count}
+use Rattle.fare_trace.specs.declared.keyword.EventKeyword.TheVariants.{Tap, Turn, Send, Rewind, State, Arrive, Draw, Store, Ack, DayAck, Answer, Forward, Fetch, Take, Close, Prune, Resume, RestartDevice, RestartStation, RestartWriter, RestartOwner, RestartHub, Upto, Count}
 use Rattle.fare_trace.specs.declared.line.Line.{Line}
 use Rattle.fare_trace.specs.declared.line.Line.TheVariants.{Setup, Step}
 use Rattle.fare_trace.specs.declared.line.SchemeLine.TheVariants as scheme
@@ -33,16 +33,20 @@ scheme_keyword_text Demo = codes "demo "
 
 abbrev pub event_keyword_text : EventKeyword → List ℕ
 event_keyword_text Tap = codes "tap "
+event_keyword_text Turn = codes "turn "
 event_keyword_text Send = codes "send "
 event_keyword_text Rewind = codes "rewind "
+event_keyword_text State = codes "state "
 event_keyword_text Arrive = codes "arrive "
 event_keyword_text Draw = codes "draw"
 event_keyword_text Store = codes "store"
 event_keyword_text Ack = codes "ack "
+event_keyword_text DayAck = codes "dayack "
 event_keyword_text Answer = codes "answer "
 event_keyword_text Forward = codes "forward "
 event_keyword_text Fetch = codes "fetch "
 event_keyword_text Take = codes "take "
+event_keyword_text Close = codes "close "
 event_keyword_text Prune = codes "prune "
 event_keyword_text Resume = codes "resume "
 event_keyword_text RestartDevice = codes "restart device "
@@ -65,6 +69,7 @@ pub data Kind : Type 0 where
   AProduct : Kind
   AToken : Kind
   AMoment : Kind
+  ADay : Kind
   OneOrTwo : Kind
   AnyU16 : Kind  -- below 2^16
   AnyU32 : Kind  -- below 2^32
@@ -78,6 +83,7 @@ IsOf AStation n = IsStationId n
 IsOf AProduct n = IsProductId n
 IsOf AToken n = IsToken n
 IsOf AMoment n = IsMoment n
+IsOf ADay n = IsDay n
 IsOf OneOrTwo n = (1 ≤ n) × (n ≤ 2)
 IsOf AnyU16 n = n < 65536
 IsOf AnyU32 n = n < 4294967296
@@ -105,16 +111,20 @@ scheme_keyword_kinds Demo = OneOrTwo ∷ AnyU32 ∷ AnyU32 ∷ AnyU32 ∷ []
 
 abbrev pub event_keyword_kinds : EventKeyword → List Kind
 event_keyword_kinds Tap = ADevice ∷ AProduct ∷ AToken ∷ AMoment ∷ []
+event_keyword_kinds Turn = ADevice ∷ []
 event_keyword_kinds Send = ADevice ∷ []
 event_keyword_kinds Rewind = ADevice ∷ []
+event_keyword_kinds State = ADevice ∷ ADay ∷ AnOwner ∷ []
 event_keyword_kinds Arrive = AnyU64 ∷ []
 event_keyword_kinds Draw = []
 event_keyword_kinds Store = []
 event_keyword_kinds Ack = ADevice ∷ []
+event_keyword_kinds DayAck = ADevice ∷ ADay ∷ []
 event_keyword_kinds Answer = AStation ∷ []
 event_keyword_kinds Forward = AnOwner ∷ ADevice ∷ []
 event_keyword_kinds Fetch = AnOwner ∷ []
 event_keyword_kinds Take = AnOwner ∷ []
+event_keyword_kinds Close = AnOwner ∷ ADevice ∷ ADay ∷ []
 event_keyword_kinds Prune = AnOwner ∷ ADevice ∷ []
 event_keyword_kinds Resume = ADevice ∷ []
 event_keyword_kinds RestartDevice = ADevice ∷ []
@@ -154,16 +164,20 @@ line_parts (Setup (scheme.Start day)) = Numbered (OfScheme Start) (day ∷ [])
 line_parts (Setup scheme.Seal) = Numbered (OfScheme Seal) []
 line_parts (Setup (scheme.Demo size buffer inbox lane)) = Numbered (OfScheme Demo) (size_number size ∷ buffer ∷ inbox ∷ lane ∷ [])
 line_parts (Step (event.Tap device product token moment)) = Numbered (OfEvent Tap) (device ∷ product ∷ token ∷ moment ∷ [])
+line_parts (Step (event.Turn device)) = Numbered (OfEvent Turn) (device ∷ [])
 line_parts (Step (event.Send device)) = Numbered (OfEvent Send) (device ∷ [])
 line_parts (Step (event.Rewind device)) = Numbered (OfEvent Rewind) (device ∷ [])
+line_parts (Step (event.State device day owner)) = Numbered (OfEvent State) (device ∷ day ∷ owner ∷ [])
 line_parts (Step (event.Arrive packet)) = Numbered (OfEvent Arrive) (packet ∷ [])
 line_parts (Step event.Draw) = Numbered (OfEvent Draw) []
 line_parts (Step event.Store) = Numbered (OfEvent Store) []
 line_parts (Step (event.Ack device)) = Numbered (OfEvent Ack) (device ∷ [])
+line_parts (Step (event.DayAck device day)) = Numbered (OfEvent DayAck) (device ∷ day ∷ [])
 line_parts (Step (event.Answer station)) = Numbered (OfEvent Answer) (station ∷ [])
 line_parts (Step (event.Forward owner device)) = Numbered (OfEvent Forward) (owner ∷ device ∷ [])
 line_parts (Step (event.Fetch owner)) = Numbered (OfEvent Fetch) (owner ∷ [])
 line_parts (Step (event.Take owner)) = Numbered (OfEvent Take) (owner ∷ [])
+line_parts (Step (event.Close owner device day)) = Numbered (OfEvent Close) (owner ∷ device ∷ day ∷ [])
 line_parts (Step (event.Prune owner device)) = Numbered (OfEvent Prune) (owner ∷ device ∷ [])
 line_parts (Step (event.Resume device)) = Numbered (OfEvent Resume) (device ∷ [])
 line_parts (Step (event.RestartDevice device)) = Numbered (OfEvent RestartDevice) (device ∷ [])

@@ -1,5 +1,5 @@
 -- The text of a reply: its words with one space between each two, ended by a line feed.
-use Rattle.std.specs.Prelude.{ℕ, List, [], ◌∷◌, ◌++◌, codes}
+use Rattle.std.specs.Prelude.{ℕ, List, [], ◌∷◌, ◌++◌, codes, Option, Some, None}
 use Rattle.std.specs.List.{join_with_byte, flat_map}
 use Rattle.std.specs.Fmt.{decimal}
 use Rattle.fare_world.specs.declared.reply.Reply.{Reply}
@@ -35,6 +35,9 @@ refusal_name refusal.Misrouted = codes "Misrouted"
 refusal_name refusal.Old = codes "Old"
 refusal_name refusal.Ahead = codes "Ahead"
 refusal_name refusal.AckAhead = codes "AckAhead"
+refusal_name refusal.LastDay = codes "LastDay"
+refusal_name refusal.StatementsFull = codes "StatementsFull"
+refusal_name refusal.NotWaiting = codes "NotWaiting"
 refusal_name refusal.Busy = codes "Busy"
 refusal_name refusal.HandFull = codes "HandFull"
 refusal_name refusal.Duplicate = codes "Duplicate"
@@ -43,25 +46,52 @@ refusal_name refusal.Conflict = codes "Conflict"
 refusal_name refusal.OutboxFull = codes "OutboxFull"
 refusal_name refusal.NotMine = codes "NotMine"
 refusal_name refusal.AfterClose = codes "AfterClose"
+refusal_name refusal.Unstated = codes "Unstated"
+refusal_name refusal.Repeated = codes "Repeated"
+refusal_name refusal.AlreadyClosed = codes "AlreadyClosed"
+refusal_name refusal.OutOfOrder = codes "OutOfOrder"
+refusal_name (refusal.CountsShort stated taken) = codes "CountsShort"
+refusal_name (refusal.CountsOver stated taken) = codes "CountsOver"
+
+-- the numbers that are shown with it
+abbrev pub refusal_counts : Refusal → Option (ℕ × ℕ)
+refusal_counts (refusal.CountsShort stated taken) = Some (stated, taken)
+refusal_counts (refusal.CountsOver stated taken) = Some (stated, taken)
+refusal_counts _ = None
+
+abbrev pub counts_words : Option (ℕ × ℕ) → List (List ℕ)
+counts_words None = []
+counts_words (Some counts) = decimal counts.0 ∷ decimal counts.1 ∷ []
 
 -- the words of a reply
 abbrev pub reply_words : Reply → List (List ℕ)
 reply_words reply.Done = codes "ok" ∷ []
 reply_words reply.Idle = codes "idle" ∷ []
 reply_words reply.Empty = codes "empty" ∷ []
-reply_words (reply.Refused name) = codes "refused" ∷ refusal_name name ∷ []
+reply_words (reply.Refused name) = codes "refused" ∷ refusal_name name ∷ counts_words (refusal_counts name)
+reply_words (reply.Opened day) = codes "open" ∷ decimal day ∷ []
 reply_words (reply.Recorded link lane) = codes "record" ∷ decimal link ∷ decimal lane ∷ []
 reply_words (reply.Sent packet link) = codes "packet" ∷ decimal packet ∷ codes "link" ∷ decimal link ∷ []
+reply_words (reply.SentDay packet day owner) = codes "packet" ∷ decimal packet ∷ codes "day" ∷ decimal day ∷ codes "owner" ∷ decimal owner ∷ []
 reply_words reply.Rewound = codes "rewound" ∷ []
 reply_words reply.Accepted = codes "accepted" ∷ []
 reply_words (reply.Dropped count) = codes "acked" ∷ decimal count ∷ []
+reply_words (reply.DroppedDay day) = codes "acked" ∷ codes "day" ∷ decimal day ∷ []
 reply_words (reply.Drawn device link) = codes "drawn" ∷ decimal device ∷ codes "link" ∷ decimal link ∷ []
+reply_words (reply.DrawnDay device day owner) = codes "drawn" ∷ decimal device ∷ codes "day" ∷ decimal day ∷ codes "owner" ∷ decimal owner ∷ []
 reply_words (reply.Stored device link) = codes "stored" ∷ decimal device ∷ codes "link" ∷ decimal link ∷ []
+reply_words (reply.StoredDay device day owner) = codes "stored" ∷ decimal device ∷ codes "day" ∷ decimal day ∷ codes "owner" ∷ decimal owner ∷ []
 reply_words (reply.Acknowledged upto) = codes "ack" ∷ decimal upto ∷ []
+reply_words (reply.AcknowledgedDay day) = codes "dayack" ∷ decimal day ∷ []
 reply_words (reply.Answered packet device upto) = codes "packet" ∷ decimal packet ∷ codes "ack" ∷ decimal device ∷ decimal upto ∷ []
+reply_words (reply.AnsweredDay packet device day) = codes "packet" ∷ decimal packet ∷ codes "dayack" ∷ decimal device ∷ decimal day ∷ []
 reply_words (reply.Forwarded lane) = codes "forwarded" ∷ codes "lane" ∷ decimal lane ∷ []
+reply_words (reply.ForwardedDay day) = codes "forwarded" ∷ codes "day" ∷ decimal day ∷ []
 reply_words (reply.Fetched device lane) = codes "fetched" ∷ decimal device ∷ codes "lane" ∷ decimal lane ∷ []
+reply_words (reply.FetchedDay device day) = codes "fetched" ∷ decimal device ∷ codes "day" ∷ decimal day ∷ []
 reply_words (reply.Taken device lane) = codes "taken" ∷ decimal device ∷ codes "lane" ∷ decimal lane ∷ []
+reply_words (reply.Stated device day count) = codes "stated" ∷ decimal device ∷ codes "day" ∷ decimal day ∷ codes "count" ∷ decimal count ∷ []
+reply_words (reply.Closed device day) = codes "closed" ∷ decimal device ∷ decimal day ∷ []
 reply_words (reply.Resumed upto) = codes "resumed" ∷ decimal upto ∷ []
 reply_words reply.Restarted = codes "restarted" ∷ []
 reply_words (reply.Upto number) = codes "upto" ∷ decimal number ∷ []

@@ -11,7 +11,7 @@ use crate::keyword::{EventKeyword, Keyword, SchemeKeyword};
 use crate::line::{Line, SchemeLine};
 use crate::number::read_numbers;
 use crate::zone_text::ZoneText;
-use fare_record::{DeviceId, Moment, OwnerId, ProductId, StationId, Token};
+use fare_record::{Day, DeviceId, Moment, OwnerId, ProductId, StationId, Token};
 use fare_scheme::DemoSize;
 use fare_world::Event;
 use std::alloc::{AllocError, Global};
@@ -120,6 +120,7 @@ fn build_device_event(keyword: EventKeyword, number: u64) -> Option<Event>
 {
     let device = DeviceId::new(number)?;
     match keyword {
+        EventKeyword::Turn => Some(Event::Turn { device }),
         EventKeyword::Send => Some(Event::Send { device }),
         EventKeyword::Rewind => Some(Event::Rewind { device }),
         EventKeyword::Ack => Some(Event::Ack { device }),
@@ -175,6 +176,20 @@ fn build_event(keyword: EventKeyword, numbers: &[u64]) -> Option<Event>
         (EventKeyword::Count, [owner, device]) => Some(Event::Count {
             owner: OwnerId::new(*owner)?,
             device: DeviceId::new(*device)?,
+        }),
+        (EventKeyword::DayAck, [device, day]) => Some(Event::DayAck {
+            device: DeviceId::new(*device)?,
+            day: Day::new(*day)?,
+        }),
+        (EventKeyword::State, [device, day, owner]) => Some(Event::State {
+            device: DeviceId::new(*device)?,
+            day: Day::new(*day)?,
+            owner: OwnerId::new(*owner)?,
+        }),
+        (EventKeyword::Close, [owner, device, day]) => Some(Event::Close {
+            owner: OwnerId::new(*owner)?,
+            device: DeviceId::new(*device)?,
+            day: Day::new(*day)?,
         }),
         (EventKeyword::Tap, [device, product, token, moment]) => Some(Event::Tap {
             device: DeviceId::new(*device)?,

@@ -1,7 +1,8 @@
-ghost use Rattle.std.specs.Prelude.{◌≡◌, [], ◌∷◌, ◌++◌, OnOk, OnErr, length, map, take};
+ghost use Rattle.std.specs.Prelude.{◌≡◌, [], ◌∷◌, ◌++◌, OnOk, OnErr, codes, length, map, take};
 ghost use Rattle.std.specs.Fmt.{decimal};
-ghost use Rattle.fare_trace.specs.Replies.{refusal_name, reply_text, words_line};
+ghost use Rattle.fare_trace.specs.Replies.{counts_words, refusal_counts, refusal_name, reply_text, words_line};
 
+use fare_record::{Day, DeviceId, OwnerId};
 use fare_world::{Refusal, Reply};
 use itoa::Buffer;
 use std::alloc::AllocError;
@@ -37,6 +38,9 @@ fn name_of(refusal: Refusal) -> &'static [u8]
         Refusal::Old => b"Old",
         Refusal::Ahead => b"Ahead",
         Refusal::AckAhead => b"AckAhead",
+        Refusal::LastDay => b"LastDay",
+        Refusal::StatementsFull => b"StatementsFull",
+        Refusal::NotWaiting => b"NotWaiting",
         Refusal::Busy => b"Busy",
         Refusal::HandFull => b"HandFull",
         Refusal::Duplicate => b"Duplicate",
@@ -45,6 +49,24 @@ fn name_of(refusal: Refusal) -> &'static [u8]
         Refusal::OutboxFull => b"OutboxFull",
         Refusal::NotMine => b"NotMine",
         Refusal::AfterClose => b"AfterClose",
+        Refusal::Unstated => b"Unstated",
+        Refusal::Repeated => b"Repeated",
+        Refusal::AlreadyClosed => b"AlreadyClosed",
+        Refusal::OutOfOrder => b"OutOfOrder",
+        Refusal::CountsShort { .. } => b"CountsShort",
+        Refusal::CountsOver { .. } => b"CountsOver",
+    }
+}
+
+/// The stated and the taken count that are shown with a refusal, if it tells of counts.
+fn counts_of(refusal: Refusal) -> Option<(u64, u64)>
+    ensures { result ≡ refusal_counts refusal }
+{
+    match refusal {
+        Refusal::CountsShort { stated, taken } | Refusal::CountsOver { stated, taken } => {
+            Some((stated, taken))
+        }
+        _ => None,
     }
 }
 
@@ -127,6 +149,92 @@ fn append_answer(packet: u64, device: u64, upto: u64, out: &mut Vec<u8>) -> Resu
     append_line(b"packet", &[packet, b"ack", device, upto], out)
 }
 
+/// Appends a refusal, with its counts if it tells of any.
+fn append_refusal(refusal: Refusal, out: &mut Vec<u8>) -> Result<(), AllocError>
+    ensures appended { OnOk result (out.new.items ≡ out.old.items ++ reply_text (Reply.Refused refusal)) }
+    ensures kept { OnErr result (out.new.items ≡ out.old.items) }
+{
+    let name = name_of(refusal);
+    let Some((stated, taken)) = counts_of(refusal) else {
+        return append_line(b"refused", &[name], out);
+    };
+    let mut one = Buffer::new();
+    let mut two = Buffer::new();
+    let stated = one.format(stated).as_bytes();
+    let taken = two.format(taken).as_bytes();
+    append_line(b"refused", &[name, stated, taken], out)
+}
+
+/// Appends a name, a number and a word, a day and an owner.
+fn append_statement(
+    name: &[u8],
+    first: u64,
+    day: Day,
+    owner: OwnerId,
+    out: &mut Vec<u8>,
+) -> Result<(), AllocError>
+    ensures appended { OnOk result (out.new.items ≡ out.old.items ++ words_line (name.now ∷ decimal first ∷ codes "day" ∷ decimal day ∷ codes "owner" ∷ decimal owner ∷ [])) }
+    ensures kept { OnErr result (out.new.items ≡ out.old.items) }
+{
+    let mut one = Buffer::new();
+    let mut two = Buffer::new();
+    let mut three = Buffer::new();
+    let first = one.format(first).as_bytes();
+    let day = two.format(day.get()).as_bytes();
+    let owner = three.format(owner.get()).as_bytes();
+    append_line(name, &[first, b"day", day, b"owner", owner], out)
+}
+
+/// Appends the packet of a day's acknowledgement, with its device.
+fn append_day_answer(
+    packet: u64,
+    device: DeviceId,
+    day: Day,
+    out: &mut Vec<u8>,
+) -> Result<(), AllocError>
+    ensures appended { OnOk result (out.new.items ≡ out.old.items ++ reply_text (Reply.AnsweredDay packet device day)) }
+    ensures kept { OnErr result (out.new.items ≡ out.old.items) }
+{
+    let mut one = Buffer::new();
+    let mut two = Buffer::new();
+    let mut three = Buffer::new();
+    let packet = one.format(packet).as_bytes();
+    let device = two.format(device.get()).as_bytes();
+    let day = three.format(day.get()).as_bytes();
+    append_line(b"packet", &[packet, b"dayack", device, day], out)
+}
+
+/// Appends a taken statement, with its count.
+fn append_stated(
+    device: DeviceId,
+    day: Day,
+    count: u64,
+    out: &mut Vec<u8>,
+) -> Result<(), AllocError>
+    ensures appended { OnOk result (out.new.items ≡ out.old.items ++ reply_text (Reply.Stated device day count)) }
+    ensures kept { OnErr result (out.new.items ≡ out.old.items) }
+{
+    let mut one = Buffer::new();
+    let mut two = Buffer::new();
+    let mut three = Buffer::new();
+    let device = one.format(device.get()).as_bytes();
+    let day = two.format(day.get()).as_bytes();
+    let count = three.format(count).as_bytes();
+    append_line(b"stated", &[device, b"day", day, b"count", count], out)
+}
+
+/// Appends a closed day.
+fn append_closed(device: DeviceId, day: Day, out: &mut Vec<u8>) -> Result<(), AllocError>
+    ensures appended { OnOk result (out.new.items ≡ out.old.items ++ reply_text (Reply.Closed device day)) }
+    ensures kept { OnErr result (out.new.items ≡ out.old.items) }
+{
+    let mut one = Buffer::new();
+    let mut two = Buffer::new();
+    let device = one.format(device.get()).as_bytes();
+    let day = two.format(day.get()).as_bytes();
+    append_line(b"closed", &[device, day], out)
+}
+
 /// Appends a reply's line, ended by a line feed. The error is want of memory, and after it `out` is as before.
 pub fn print_reply(reply: &Reply, out: &mut Vec<u8>) -> Result<(), AllocError>
     ensures appended { OnOk result (out.new.items ≡ out.old.items ++ reply_text reply.now) }
@@ -139,9 +247,38 @@ pub fn print_reply(reply: &Reply, out: &mut Vec<u8>) -> Result<(), AllocError>
         Reply::Rewound => append_line(b"rewound", &[], out),
         Reply::Accepted => append_line(b"accepted", &[], out),
         Reply::Restarted => append_line(b"restarted", &[], out),
-        Reply::Refused(refusal) => append_line(b"refused", &[name_of(refusal)], out),
+        Reply::Refused(refusal) => append_refusal(refusal, out),
+        Reply::Opened(day) => append_number(b"open", u64::from(day.get()), out),
         Reply::Recorded { link, lane } => append_record(link, lane, out),
         Reply::Sent { packet, link } => append_numbers(b"packet", packet, b"link", link, out),
+        Reply::SentDay { packet, day, owner } => {
+            append_statement(b"packet", packet, day, owner, out)
+        }
+        Reply::DroppedDay(day) => append_number(b"acked day", u64::from(day.get()), out),
+        Reply::DrawnDay { device, day, owner } => {
+            append_statement(b"drawn", u64::from(device.get()), day, owner, out)
+        }
+        Reply::StoredDay { device, day, owner } => {
+            append_statement(b"stored", u64::from(device.get()), day, owner, out)
+        }
+        Reply::AcknowledgedDay(day) => append_number(b"dayack", u64::from(day.get()), out),
+        Reply::AnsweredDay {
+            packet,
+            device,
+            day,
+        } => append_day_answer(packet, device, day, out),
+        Reply::ForwardedDay { day } => {
+            append_number(b"forwarded day", u64::from(day.get()), out)
+        }
+        Reply::FetchedDay { device, day } => append_numbers(
+            b"fetched",
+            u64::from(device.get()),
+            b"day",
+            u64::from(day.get()),
+            out,
+        ),
+        Reply::Stated { device, day, count } => append_stated(device, day, count, out),
+        Reply::Closed { device, day } => append_closed(device, day, out),
         Reply::Drawn { device, link } => {
             append_numbers(b"drawn", u64::from(device.get()), b"link", link, out)
         }

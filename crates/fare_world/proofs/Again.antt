@@ -1,61 +1,62 @@
 -- Owners and stations that start again, one by one and all of them.
-use Rattle.std.proofs.Common.{◌≡◌, ◌+◌, ◌<◌, ℕ, List, [], length, None, Some, Bool, true, false, refl, sym, ap, ◌∙◌, subst, arith}
+use Rattle.std.proofs.Common.{◌≡◌, ◌+◌, ℕ, List, [], length, None, Some, Bool, true, false, refl, sym, ap, ◌∙◌, subst}
 use Rattle.std.specs.Prelude.{if◌then◌else◌, Option, IfSome, is_some, map, option_map, slice_get}
-use Rattle.std.proofs.lemmas.Option.{slice_get-map, same_Some}
-use Rattle.circular_buffer.specs.Buffer.{Buffer, buffer}
-use Rattle.fare_record.specs.Values.{RecordValue, AckValue}
+use Rattle.std.proofs.lemmas.Option.{slice_get-map}
+use Rattle.circular_buffer.specs.Buffer.{Buffer}
+use Rattle.fare_record.specs.declared.item.Item.{Item}
+use Rattle.fare_world.specs.declared.acknowledgement.Acknowledgement.{Acknowledgement}
 use Rattle.fare_scheme.specs.Values.{SchemeValue}
-use Rattle.fare_scheme.specs.Words.{station_of, lane_capacity_of, position_of_device, position_of_station, position_of_owner}
+use Rattle.fare_scheme.specs.Words.{station_of, lane_capacity_of, position_of_owner}
 use Rattle.fare_collector.specs.Collecting.{next_in, is_id}
 use Rattle.fare_route.specs.declared.cursor.Cursor.{Cursor}
 use Rattle.fare_route.specs.declared.forwarder.Forwarder.{Forwarder}
 use Rattle.fare_route.specs.Routing.{cursor_of}
-use Rattle.fare_store.specs.declared.fault.Fault.{Fault}
 use Rattle.fare_store.specs.LedgerWords.{LedgerValue}
 use Rattle.fare_store.specs.Standing.{Standing}
 use Rattle.fare_world.specs.declared.owner.Owner.{Owner}
 use Rattle.fare_world.specs.declared.station.Station.{Station}
 use Rattle.fare_world.specs.System.{System}
-use Rattle.fare_world.specs.Steps.{next_at, resumed_device, fresh_owner, forwarded_again, hub_again}
-use Rattle.fare_world.specs.Shown.{entry, IsAnswerOf, IsStationOf, IsOwnerOf, Each2, StationShape, OwnerShape, Shape, Shows}
-use Rattle.fare_world.specs.Rooms.{lane_of_cursor, taken_at, upto_at, AreUptos, AreStandings, IsForwarder, HasOwnerRooms}
-use Rattle.fare_world.specs.Restarts.{Paired, IsOwnerAgain, IsAsked, IsStationAgain}
-use Rattle.fare_world.specs.Whole.{Seen, owner_seen, station_shape, shape}
+use Rattle.fare_world.specs.Arriving.{next_at}
+use Rattle.fare_world.specs.Restarting.{hub_again}
+use Rattle.fare_world.specs.Shown.{entry, IsAnswerOf, IsStationOf, Each2, Shape, Shows}
+use Rattle.fare_world.specs.Rooms.{place_of_cursor, place_at, upto_at, AreUptos, AreStandings, IsForwarder, HasOwnerRooms}
+use Rattle.fare_world.specs.Restarts.{Paired, IsOwnerAgain, IsStationAgain}
+use Rattle.fare_world.specs.Whole.{owner_seen, station_shape}
 use Rattle.fare_world.proofs.Known.{no_place, placed}
 use Rattle.fare_world.proofs.Showing.{station_shown}
 use Rattle.fare_world.proofs.Resuming.{uptos_at, standings_at}
-use Rattle.fare_world.proofs.ShowAgain.{IsAgain, owner_is_again}
+use Rattle.fare_world.proofs.ShowAgain.{IsAgain}
 
 -- ROOMS
 -- an owner whose ledger was asked has as much room
 pub asked_rooms : {L : Type 0} (sc : SchemeValue) (k : ℕ) (x y : Owner L) → length y.standings.items ≡ length x.standings.items → y.queue ≡ x.queue → y.forwarder ≡ x.forwarder → HasOwnerRooms sc k x → HasOwnerRooms sc k y
 asked_rooms sc k x y count queue forwarder h = record {
   forwarder = subst (IsForwarder sc k) (sym forwarder) h.forwarder;
-  queue = ap (λ (f : Forwarder). lane_capacity_of sc f.owner) forwarder ∙ h.queue ∙ ap (λ (q : Buffer RecordValue). Some q.capacity) (sym queue);
+  queue = ap (λ (f : Forwarder). lane_capacity_of sc f.owner) forwarder ∙ h.queue ∙ ap (λ (q : Buffer Item). Some q.capacity) (sym queue);
   standings = count ∙ h.standings;
 }
 
-some_lane : (o : Option Cursor) → is_some (option_map (λ (z : Cursor). z.lane) o) ≡ is_some o
-some_lane None = refl
-some_lane (Some c) = refl
+some_place : (o : Option Cursor) → is_some {T = ℕ × ℕ} (option_map (λ (z : Cursor). (z.lane, z.day)) o) ≡ is_some o
+some_place None = refl
+some_place (Some c) = refl
 
-some_number : (o : Option ℕ) (n : ℕ) → is_some (option_map (λ _. n) o) ≡ is_some o
-some_number None n = refl
-some_number (Some m) n = refl
+some_other : (o : Option (ℕ × ℕ)) (n : ℕ × ℕ) → is_some (option_map (λ _. n) o) ≡ is_some o
+some_other None n = refl
+some_other (Some m) n = refl
 
 -- and so has one that starts again
 pub again_rooms : {L : Type 0} (sc : SchemeValue) (k : ℕ) (x y : Owner L) → IsOwnerAgain sc x y → HasOwnerRooms sc k x → HasOwnerRooms sc k y
 again_rooms sc k x y again h = record {
   forwarder = record {
     owner = ap (position_of_owner sc) again.owner ∙ h.forwarder.owner;
-    each = λ d known. sym (some_lane (cursor_of y.forwarder d)) ∙ ap is_some (again.resumed d known) ∙ some_number (lane_of_cursor x.forwarder d) (taken_at sc x.standings.items d) ∙ some_lane (cursor_of x.forwarder d) ∙ h.forwarder.each d known;
+    each = λ d known. sym (some_place (cursor_of y.forwarder d)) ∙ ap is_some (again.resumed d known) ∙ some_other (place_of_cursor x.forwarder d) (place_at sc x.standings.items d) ∙ some_place (cursor_of x.forwarder d) ∙ h.forwarder.each d known;
   };
-  queue = ap (lane_capacity_of sc) again.owner ∙ h.queue ∙ ap (λ (q : Buffer RecordValue). Some q.capacity) (sym again.queue);
+  queue = ap (lane_capacity_of sc) again.owner ∙ h.queue ∙ ap (λ (q : Buffer Item). Some q.capacity) (sym again.queue);
   standings = ap (λ v. length v.items) again.standings ∙ h.standings;
 }
 
 -- WHAT IS SEEN OF AN OWNER
-mapped : (o : Option ℕ) (m n : ℕ) → option_map (λ _. m) o ≡ Some n → n ≡ m
+mapped : (o : Option (ℕ × ℕ)) (m n : ℕ × ℕ) → option_map (λ _. m) o ≡ Some n → n ≡ m
 mapped None m n e = absurd (cc)
 mapped (Some q) m n e = let same : m ≡ n = cc in sym same
 
@@ -63,10 +64,9 @@ mapped (Some q) m n e = let same : m ≡ n = cc in sym same
 pub seen_again : {L : Type 0} (led : L → Standing LedgerValue) (sc : SchemeValue) (x y z : Owner L) → y.forwarder ≡ x.forwarder → AreStandings sc (led x.ledger).value y.standings.items → (led y.ledger).value ≡ (led x.ledger).value → IsOwnerAgain sc y z → IsAgain sc (owner_seen led x) (owner_seen led z)
 seen_again led sc x y z forwarder told value again = record {
   ledger = ap (λ l. (led l).value) again.ledger ∙ value;
-  queue = ap (λ (q : Buffer RecordValue). q.items) again.queue;
+  queue = ap (λ (q : Buffer Item). q.items) again.queue;
   hand = again.hand;
-  resumed = λ d n known e. mapped (lane_of_cursor y.forwarder d) (taken_at sc y.standings.items d) n (sym (again.resumed d known) ∙ e) ∙ standings_at sc (led x.ledger).value y.standings.items d told known;
-  others = λ d none. again.others d none ∙ ap (λ f. lane_of_cursor f d) forwarder;
+  resumed = λ d n known e. mapped (place_of_cursor y.forwarder d) (place_at sc y.standings.items d) n (sym (again.resumed d known) ∙ e) ∙ standings_at sc (led x.ledger).value y.standings.items d told known;
 }
 
 -- ENTRIES
@@ -106,16 +106,16 @@ none_next : (o : Option ℕ) (station m n : ℕ) → o ≡ None → (if is_id o 
 none_next None station m n e = refl
 none_next (Some q) station m n e = absurd (cc)
 
-pub station_again : (sc : SchemeValue) (h : Shape) (s : System) (uptos : List ℕ) (station : ℕ) (x y : Station) → Shows sc h s → AreUptos sc h.outbox.upto uptos → h.stations station ≡ Some (station_shape x) → IsStationAgain sc uptos x y → IsStationOf sc (hub_again s).devices station [] (station_shape y)
+pub station_again : (sc : SchemeValue) (h : Shape) (s : System) (uptos : List ℕ) (station : ℕ) (x y : Station) → Shows sc h s → AreUptos sc h.outbox.upto uptos → h.stations station ≡ Some (station_shape x) → IsStationAgain sc uptos x y → IsStationOf sc (hub_again sc s).devices station [] (station_shape y)
 station_again sc h s uptos station x y w told here again = record {
   nexts = λ d. next d (station_of sc d) refl;
-  waits = subst (Each2 IsAnswerOf []) (sym (ap (λ (b : Buffer AckValue). b.items) again.line)) tt;
+  waits = subst (Each2 IsAnswerOf []) (sym (ap (λ (b : Buffer Acknowledgement). b.items) again.line)) tt;
 }
   where
     shown : IsStationOf sc s.devices station (s.lines station) (station_shape x)
     shown = station_shown sc h s station (station_shape x) w here
 
-    next : (d : ℕ) (o : Option ℕ) → station_of sc d ≡ o → next_in y.collector d ≡ next_at sc (hub_again s).devices station d
+    next : (d : ℕ) (o : Option ℕ) → station_of sc d ≡ o → next_in y.collector d ≡ next_at sc (hub_again sc s).devices station d
     next d None of = again.others d (no_place sc d of) ∙ shown.nexts d ∙ none_next (station_of sc d) station (s.devices d).next ((s.devices d).upto + 1) of
     next d (Some q) of =
         let known = placed sc d q of in

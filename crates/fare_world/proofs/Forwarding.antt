@@ -1,26 +1,24 @@
 -- What a forwarder hands on, and where it then stands.
-use Rattle.std.proofs.Common.{◌≡◌, ℕ, ◌<◌, length, None, Some, Bool, true, false, refl, sym, ap, ◌∙◌, subst, get_or}
+use Rattle.std.proofs.Common.{◌≡◌, ℕ, length, None, Some, Bool, true, false, refl, sym, ap, ◌∙◌, subst}
 use Rattle.std.specs.Prelude.{◌==◌, if◌then◌else◌, Option, is_some, option_map, unwrap_or, Result, Ok, Err, IfOk, OnErr}
 use Rattle.std.proofs.lemmas.Bool.Decides.{Decides-eqb}
-use Rattle.fare_record.specs.Values.{RecordValue}
-use Rattle.fare_record.specs.Items.{tap_of}
 use Rattle.fare_record.specs.declared.item.Item.{Item}
 use Rattle.fare_record.specs.declared.item.Item.TheVariants.{Tap, Stated}
 use Rattle.fare_scheme.specs.Values.{SchemeValue}
-use Rattle.fare_scheme.specs.Words.{lane_capacity_of, position_of_device, position_of_owner}
+use Rattle.fare_scheme.specs.Words.{lane_capacity_of, position_of_owner}
 use Rattle.fare_route.specs.declared.cursor.Cursor.{Cursor}
-use Rattle.fare_route.specs.declared.forwarder.Forwarder.{Forwarder}
 use Rattle.fare_route.specs.Cursors.{moved, undone}
 use Rattle.fare_route.specs.Routing.{cursor_of, IsNext, IsNextOf, changed}
-use Rattle.fare_store.specs.OutboxWords.{OutboxValue, IsNextRow}
+use Rattle.fare_store.specs.OutboxWords.{OutboxValue}
 use Rattle.fare_world.specs.System.{put}
-use Rattle.fare_world.specs.Steps.{lane_room}
-use Rattle.fare_world.specs.Rooms.{lane_of_cursor, IsForwarder, HasOwnerRooms}
+use Rattle.fare_world.specs.Owning.{lane_room}
+use Rattle.fare_world.specs.Rooms.{HasOwnerRooms}
 use Rattle.fare_world.specs.declared.owner.Owner.{Owner}
 use Rattle.fare_world.proofs.TableLemmas.{owners_apart}
+use Rattle.fare_world.proofs.ShowForward.{cursor_past}
 
-abbrev lane_in : Option Cursor → Option ℕ
-lane_in o = option_map (λ (z : Cursor). z.lane) o
+abbrev place_in : Option Cursor → Option (ℕ × ℕ)
+place_in o = option_map (λ (z : Cursor). (z.lane, z.day)) o
 
 -- CURSORS ARE KEPT
 some_mapped : (b : Bool) (f : Cursor → Cursor) (o : Option Cursor) → is_some (if b then option_map f o else o) ≡ is_some o
@@ -55,25 +53,15 @@ its_room sc k o x at h = ap (λ n. unwrap_or n 0) (sym (ap (lane_capacity_of sc)
 pub next_for : (v : OutboxValue) (f o device : ℕ) (c : Option Cursor) (at : Cursor) (item : Option Item) → f ≡ o → c ≡ Some at → IsNextOf v f device c item → IsNext v o device at item
 next_for v f o device c at item owner here next = subst (λ (q : ℕ × Option Cursor). IsNextOf v q.0 device q.1 item) (λ i. (owner i, here i)) next
 
--- a tap is the lane's next row
-pub tap_next : (v : OutboxValue) (o device : ℕ) (c : Cursor) (item : Item) (r : RecordValue) → tap_of item ≡ Some r → IsNext v o device c (Some item) → IsNextRow v.rows o device c.lane (Some r)
-tap_next v o device c (Tap q) r is next = let same : q ≡ r = cc in subst (λ z. IsNextRow v.rows o device c.lane (Some z)) same next
-tap_next v o device c (Stated s) r is next = absurd (cc)
-
--- a statement is held
-pub stated_never : (v : OutboxValue) (o device : ℕ) (c : Cursor) (item : Item) → tap_of item ≡ None → ((day : ℕ) → v.stated o device day ≡ None) → IsNext v o device c (Some item) → ⊥
-stated_never v o device c (Tap q) none held next = absurd (cc)
-stated_never v o device c (Stated s) none held next = let both : None ≡ Some s.count = sym (held s.day) ∙ next.1.is_held in absurd (cc)
-
 -- WHERE IT STANDS
-lane_stays : (b : Bool) (f : Cursor → Cursor) (o : Option Cursor) → ((c : Cursor) → (f c).lane ≡ c.lane) → lane_in (if b then option_map f o else o) ≡ lane_in o
-lane_stays true f None same = refl
-lane_stays true f (Some c) same = ap Some (same c)
-lane_stays false f o same = refl
+place_stays : (b : Bool) (f : Cursor → Cursor) (o : Option Cursor) → ((c : Cursor) → ◌≡◌ {A = ℕ × ℕ} ((f c).lane, (f c).day) (c.lane, c.day)) → place_in (if b then option_map f o else o) ≡ place_in o
+place_stays true f None same = refl
+place_stays true f (Some c) same = ap Some (same c)
+place_stays false f o same = refl
 
 -- nothing was handed on
-pub lanes_stay : (old new : ℕ → Option Cursor) (device : ℕ) → ((d : ℕ) → new d ≡ changed (moved None) old device d) → (d : ℕ) → lane_in (new d) ≡ lane_in (old d)
-lanes_stay old new device after d = ap lane_in (after d) ∙ lane_stays (d == device) (moved None) (old d) (λ c. refl)
+pub places_stay : (old new : ℕ → Option Cursor) (device : ℕ) → ((d : ℕ) → new d ≡ changed (moved None) old device d) → (d : ℕ) → place_in (new d) ≡ place_in (old d)
+places_stay old new device after d = ap place_in (after d) ∙ place_stays (d == device) (moved None) (old d) (λ c. refl)
 
 -- what was handed on was put back
 twice : (b : Bool) (f g : Cursor → Cursor) (o : Option Cursor) → (if b then option_map g (if b then option_map f o else o) else (if b then option_map f o else o)) ≡ (if b then option_map (λ c. g (f c)) o else o)
@@ -81,23 +69,23 @@ twice true f g None = refl
 twice true f g (Some c) = refl
 twice false f g o = refl
 
-undone_lane : (item : Item) (c : Cursor) → (undone (moved (Some item) c)).lane ≡ c.lane
-undone_lane (Tap r) c = refl
-undone_lane (Stated s) c = refl
+undone_place : (item : Item) (c : Cursor) → ◌≡◌ {A = ℕ × ℕ} ((undone (moved (Some item) c)).lane, (undone (moved (Some item) c)).day) (c.lane, c.day)
+undone_place (Tap r) c = refl
+undone_place (Stated s) c = refl
 
-pub lanes_undone : (old mid new : ℕ → Option Cursor) (device : ℕ) (item : Item) → ((d : ℕ) → mid d ≡ changed (moved (Some item)) old device d) → ((d : ℕ) → new d ≡ changed undone mid device d) → (d : ℕ) → lane_in (new d) ≡ lane_in (old d)
-lanes_undone old mid new device item first second d =
-    ap lane_in (second d ∙ ap (λ o. if d == device then option_map undone o else o) (first d) ∙ twice (d == device) (moved (Some item)) undone (old d))
-    ∙ lane_stays (d == device) (λ c. undone (moved (Some item) c)) (old d) (undone_lane item)
+pub places_undone : (old mid new : ℕ → Option Cursor) (device : ℕ) (item : Item) → ((d : ℕ) → mid d ≡ changed (moved (Some item)) old device d) → ((d : ℕ) → new d ≡ changed undone mid device d) → (d : ℕ) → place_in (new d) ≡ place_in (old d)
+places_undone old mid new device item first second d =
+    ap place_in (second d ∙ ap (λ o. if d == device then option_map undone o else o) (first d) ∙ twice (d == device) (moved (Some item)) undone (old d))
+    ∙ place_stays (d == device) (λ c. undone (moved (Some item) c)) (old d) (undone_place item)
 
--- a tap was handed on
-moved_lane : (item : Item) (r : RecordValue) (c : Cursor) → tap_of item ≡ Some r → (moved (Some item) c).lane ≡ r.lane
-moved_lane (Tap q) r c is = let same : q ≡ r = cc in ap (λ (z : RecordValue). z.lane) same
-moved_lane (Stated s) r c is = absurd (cc)
+-- an item was handed on
+moved_place : (item : Item) (c : Cursor) → ◌≡◌ {A = ℕ × ℕ} ((moved (Some item) c).lane, (moved (Some item) c).day) (cursor_past (c.lane, c.day) item)
+moved_place (Tap q) c = refl
+moved_place (Stated s) c = refl
 
-pub lanes_moved : (old new : ℕ → Option Cursor) (device : ℕ) (c : Cursor) (item : Item) (r : RecordValue) → old device ≡ Some c → tap_of item ≡ Some r → ((d : ℕ) → new d ≡ changed (moved (Some item)) old device d) → (d : ℕ) → lane_in (new d) ≡ put (λ e. lane_in (old e)) device (Some r.lane) d
-lanes_moved old new device c item r here is after d = ap lane_in (after d) ∙ by (d == device) (old d) (λ same. ap old ((Decides-eqb d device).0 same) ∙ here) refl
+pub places_moved : (old new : ℕ → Option Cursor) (device : ℕ) (c : Cursor) (item : Item) → old device ≡ Some c → ((d : ℕ) → new d ≡ changed (moved (Some item)) old device d) → (d : ℕ) → place_in (new d) ≡ put (λ e. place_in (old e)) device (Some (cursor_past (c.lane, c.day) item)) d
+places_moved old new device c item here after d = ap place_in (after d) ∙ by (d == device) (old d) (λ same. ap old ((Decides-eqb d device).0 same) ∙ here)
   where
-    by : (b : Bool) (o : Option Cursor) → (b ≡ true → o ≡ Some c) → b ≡ b → lane_in (if b then option_map (moved (Some item)) o else o) ≡ (if b then Some r.lane else lane_in o)
-    by true o there e = ap (λ q. lane_in (option_map (moved (Some item)) q)) (there refl) ∙ ap Some (moved_lane item r c is)
-    by false o there e = refl
+    by : (b : Bool) (o : Option Cursor) → (b ≡ true → o ≡ Some c) → place_in (if b then option_map (moved (Some item)) o else o) ≡ (if b then Some (cursor_past (c.lane, c.day) item) else place_in o)
+    by true o there = ap (λ q. place_in (option_map (moved (Some item)) q)) (there refl) ∙ ap Some (moved_place item c)
+    by false o there = refl

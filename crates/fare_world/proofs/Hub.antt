@@ -1,16 +1,16 @@
 -- The hub's restart: its stores, its rooms, and what is seen of it.
-use Rattle.std.proofs.Common.{◌≡◌, ℕ, List, [], length, None, Some, refl, sym, ap, ◌∙◌, subst, arith, inl, inr}
+use Rattle.fare_record.specs.declared.item.Item.{Item}
+use Rattle.fare_world.specs.declared.acknowledgement.Acknowledgement.{Acknowledgement}
+use Rattle.std.proofs.Common.{◌≡◌, ℕ, List, [], length, None, Some, refl, sym, ap, ◌∙◌, subst, inr}
 use Rattle.std.specs.Prelude.{Option, IfSome, map, option_map, slice_get, Vec}
 use Rattle.std.specs.Global.{Global}
 use Rattle.std.specs.Vec.{with_items}
 use Rattle.std.proofs.lemmas.List.{with_items_is}
 use Rattle.std.proofs.lemmas.Option.{slice_get-map, same_Some}
 use Rattle.circular_buffer.specs.Buffer.{Buffer}
-use Rattle.fare_record.specs.Values.{RecordValue, AckValue}
 use Rattle.fare_scheme.specs.Values.{SchemeValue}
 use Rattle.fare_scheme.specs.Words.{position_of_station, position_of_owner}
 use Rattle.fare_store.specs.declared.fault.Fault.{Fault}
-use Rattle.fare_store.specs.declared.fault.Fault.TheVariants as fault
 use Rattle.fare_store.specs.Standing.{Standing, Calls}
 use Rattle.fare_store.specs.OutboxWords.{OutboxValue}
 use Rattle.fare_store.specs.LedgerWords.{LedgerValue}
@@ -19,15 +19,15 @@ use Rattle.fare_world.specs.declared.station.Station.{Station}
 use Rattle.fare_world.specs.declared.world.World.{World}
 use Rattle.fare_world.specs.declared.reply.Reply.TheVariants.{Restarted}
 use Rattle.fare_world.specs.System.{System}
-use Rattle.fare_world.specs.Steps.{fresh_owner, forwarded_again, hub_again, restart_hub}
-use Rattle.fare_world.specs.Shown.{entry, IsStationOf, IsOwnerOf, OwnerShape, StationShape, Shape, Shows}
-use Rattle.fare_world.specs.Rooms.{AreUptos, HasOwnerRooms, HasRooms}
+use Rattle.fare_world.specs.Restarting.{fresh_owner, routed_again, hub_again, restart_hub}
+use Rattle.fare_world.specs.Shown.{entry, IsStationOf, IsOwnerOf, OwnerShape, Shows}
+use Rattle.fare_world.specs.Rooms.{AreUptos, HasOwnerRooms}
 use Rattle.fare_world.specs.Restarts.{Paired, IsOwnerAgain, IsAsked, AreAsked, IsStationAgain}
-use Rattle.fare_world.specs.Whole.{Seen, owner_seen, seen, station_shape, shape, AreLive, AreLawful, Follows}
+use Rattle.fare_world.specs.Whole.{Seen, owner_seen, station_shape, shape, AreLive, AreLawful, Follows}
 use Rattle.fare_world.proofs.Showing.{Answers, owner_shown}
 use Rattle.fare_world.proofs.Stores.{Goes, Beside, called, follows}
 use Rattle.fare_world.proofs.ShowAgain.{IsAgain, owner_is_again, shown_restart_hub}
-use Rattle.fare_world.proofs.Again.{entry_at, entries_stay, station_again, asked_rooms, again_rooms, seen_again}
+use Rattle.fare_world.proofs.Again.{station_again, asked_rooms, again_rooms, seen_again}
 
 -- an owner that was asked and started again
 pub record IsRestarted {L : Type 0} (led : L → Standing LedgerValue) (sc : SchemeValue) (x z : Owner L) : Type 0 where
@@ -51,7 +51,7 @@ restarted_rooms led sc k x z is h = again_rooms sc k is.mid z is.again (asked_ro
 
 -- lines of as much room
 pub lines_kept : (sc : SchemeValue) (uptos : List ℕ) (old new : List Station) → Paired (IsStationAgain sc uptos) old new → ((k : ℕ) (x : Station) → slice_get old k ≡ Some x → x.line.capacity ≡ sc.inbox_capacity) → (k : ℕ) (y : Station) → slice_get new k ≡ Some y → y.line.capacity ≡ sc.inbox_capacity
-lines_kept sc uptos old new both had k y e = let found = both.back k y e in ap (λ (b : Buffer AckValue). b.capacity) found.2.line ∙ had k found.0 found.1
+lines_kept sc uptos old new both had k y e = let found = both.back k y e in ap (λ (b : Buffer Acknowledgement). b.capacity) found.2.line ∙ had k found.0 found.1
 
 -- a list that was written as a slice
 pub written : {X : Type 0} (v : Vec X Global) (ws : List X) → length ws ≡ length v.items → (with_items v ws).items ≡ ws
@@ -135,34 +135,34 @@ module _ {O L : Type 0} (out : O → Standing OutboxValue) (led : L → Standing
   }
 
 -- WHAT IS SEEN
-pub hub_shown : (w : Seen) (s : System) (stations : List Station) (inbox : List RecordValue) (outbox : OutboxValue) (owners : List OwnerShape) (uptos : List ℕ) → Shows w.scheme (shape w) s → inbox ≡ [] → outbox ≡ w.outbox → AreUptos w.scheme w.outbox.upto uptos → Paired (IsStationAgain w.scheme uptos) w.stations stations → Paired (IsAgain w.scheme) w.owners owners
-    → Answers w.scheme (shape (record w { stations = stations; inbox = inbox; hand = None; outbox = outbox; owners = owners })) (restart_hub s) Restarted
+pub hub_shown : (w : Seen) (s : System) (stations : List Station) (inbox : List Item) (outbox : OutboxValue) (owners : List OwnerShape) (uptos : List ℕ) → Shows w.scheme (shape w) s → inbox ≡ [] → outbox ≡ w.outbox → AreUptos w.scheme w.outbox.upto uptos → Paired (IsStationAgain w.scheme uptos) w.stations stations → Paired (IsAgain w.scheme) w.owners owners
+    → Answers w.scheme (shape (record w { stations = stations; inbox = inbox; hand = None; outbox = outbox; owners = owners })) (restart_hub w.scheme s) Restarted
 hub_shown w s stations inbox outbox owners uptos sh empty same told each_station each_owner =
-    subst (λ (q : List RecordValue × OutboxValue). Answers w.scheme (shape (record w { stations = stations; inbox = q.0; hand = None; outbox = q.1; owners = owners })) (restart_hub s) Restarted) (λ i. (sym empty i, sym same i))
+    subst (λ (q : List Item × OutboxValue). Answers w.scheme (shape (record w { stations = stations; inbox = q.0; hand = None; outbox = q.1; owners = owners })) (restart_hub w.scheme s) Restarted) (λ i. (sym empty i, sym same i))
     (shown_restart_hub w.scheme (shape w) s (λ station. option_map station_shape (entry (position_of_station w.scheme station) stations)) (λ o. entry (position_of_owner w.scheme o) owners) sh of_station of_owner)
   where
-    of_station : (station : ℕ) → IfSome (option_map station_shape (entry (position_of_station w.scheme station) stations)) (IsStationOf w.scheme (hub_again s).devices station [])
+    of_station : (station : ℕ) → IfSome (option_map station_shape (entry (position_of_station w.scheme station) stations)) (IsStationOf w.scheme (hub_again w.scheme s).devices station [])
     of_station station = by (position_of_station w.scheme station) refl
       where
-        by : (p : Option ℕ) → position_of_station w.scheme station ≡ p → IfSome (option_map station_shape (entry p stations)) (IsStationOf w.scheme (hub_again s).devices station [])
+        by : (p : Option ℕ) → position_of_station w.scheme station ≡ p → IfSome (option_map station_shape (entry p stations)) (IsStationOf w.scheme (hub_again w.scheme s).devices station [])
         by None at = tt
         by (Some k) at = found (slice_get stations k) refl
           where
-            found : (y : Option Station) → slice_get stations k ≡ y → IfSome (option_map station_shape y) (IsStationOf w.scheme (hub_again s).devices station [])
+            found : (y : Option Station) → slice_get stations k ≡ y → IfSome (option_map station_shape y) (IsStationOf w.scheme (hub_again w.scheme s).devices station [])
             found None e = tt
             found (Some y) e =
                 let was = each_station.back k y e in
                 station_again w.scheme (shape w) s uptos station was.0 y sh told (ap (λ q. option_map station_shape (entry q w.stations)) at ∙ ap (option_map station_shape) was.1) was.2
 
-    of_owner : (o : ℕ) → IfSome (entry (position_of_owner w.scheme o) owners) (IsOwnerOf w.scheme (hub_again s).devices o fresh_owner (λ d. forwarded_again (s.lanes o d)))
+    of_owner : (o : ℕ) → IfSome (entry (position_of_owner w.scheme o) owners) (IsOwnerOf w.scheme (hub_again w.scheme s).devices o fresh_owner (λ d. routed_again w.scheme (s.lanes o d)))
     of_owner o = by (position_of_owner w.scheme o) refl
       where
-        by : (p : Option ℕ) → position_of_owner w.scheme o ≡ p → IfSome (entry p owners) (IsOwnerOf w.scheme (hub_again s).devices o fresh_owner (λ d. forwarded_again (s.lanes o d)))
+        by : (p : Option ℕ) → position_of_owner w.scheme o ≡ p → IfSome (entry p owners) (IsOwnerOf w.scheme (hub_again w.scheme s).devices o fresh_owner (λ d. routed_again w.scheme (s.lanes o d)))
         by None at = tt
         by (Some k) at = found (slice_get owners k) refl
           where
-            found : (y : Option OwnerShape) → slice_get owners k ≡ y → IfSome y (IsOwnerOf w.scheme (hub_again s).devices o fresh_owner (λ d. forwarded_again (s.lanes o d)))
+            found : (y : Option OwnerShape) → slice_get owners k ≡ y → IfSome y (IsOwnerOf w.scheme (hub_again w.scheme s).devices o fresh_owner (λ d. routed_again w.scheme (s.lanes o d)))
             found None e = tt
             found (Some y) e =
                 let was = each_owner.back k y e in
-                owner_is_again w.scheme s (hub_again s).devices o was.0 y sh.system (λ d. refl) (owner_shown w.scheme (shape w) s o was.0 sh (ap (λ q. entry q w.owners) at ∙ was.1)) was.2
+                owner_is_again w.scheme s (hub_again w.scheme s).devices o was.0 y sh.system (λ d. refl) (owner_shown w.scheme (shape w) s o was.0 sh (ap (λ q. entry q w.owners) at ∙ was.1)) was.2

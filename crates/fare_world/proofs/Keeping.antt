@@ -2,13 +2,13 @@
 use Rattle.std.proofs.Common.{◌≡◌, ℕ, zero, suc, ◌+◌, ◌-◌, ◌≤◌, List, [], ◌∷◌, ◌++◌, length, take, drop, Some, refl, sym, ap, ◌∙◌, arith, append_assoc}
 use Rattle.std.specs.Prelude.{◌==◌, slice_get}
 use Rattle.std.proofs.lemmas.Bool.Decides.{nat_tests}
-use Rattle.std.proofs.lemmas.List.{take-append-drop, take-append-le, length-take-le, drop-drop}
+use Rattle.std.proofs.lemmas.List.{take-append-drop, take-append-le, drop-drop}
 use Rattle.std.proofs.lemmas.List.Elements.{filter-append}
 use Rattle.fare_record.specs.Values.{RecordValue}
 use Rattle.fare_record.specs.Lanes.{part}
 use Rattle.fare_scheme.specs.Values.{SchemeValue}
 use Rattle.fare_world.specs.System.{DeviceState, arrived_of}
-use Rattle.fare_world.specs.Shown.{IsDevice}
+use Rattle.fare_world.specs.Kept.{IsDevice}
 use Rattle.fare_world.specs.Whole.{beyond}
 use Rattle.fare_world.proofs.Lists.{slice_get-drop}
 

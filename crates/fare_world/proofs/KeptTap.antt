@@ -1,28 +1,32 @@
--- A tap that gets a device's next numbers leads to a system.
+-- A tap that gets a device's next numbers, and a turn of its open day, lead to a system.
 use Rattle.std.proofs.Common.{◌≡◌, ℕ, ◌+◌, ◌<◌, ◌≤◌, List, [], ◌∷◌, ◌++◌, length, take, Some, None, true, false, refl, sym, ap, ◌∙◌, subst, arith, inl, inr}
-use Rattle.std.specs.Prelude.{◌==◌, slice_get, Option, is_some, nat_le, nat_lt}
+use Rattle.std.specs.Prelude.{◌==◌, slice_get, Option, is_some, nat_le, nat_lt, ◌⊎◌, IsSome, Bool}
 use Rattle.std.proofs.lemmas.List.{take-append-le, append-nil, length_push}
 use Rattle.std.proofs.lemmas.Option.{slice_get_within}
 use Rattle.std.proofs.Math.Seq.{take-length}
 use Rattle.std.proofs.lemmas.Bool.Decides.{nat_tests}
 use Rattle.fare_record.specs.Values.{RecordValue}
-use Rattle.fare_record.specs.Lanes.{part, of_device}
+use Rattle.fare_record.specs.Lanes.{part, of_device, day_count}
 use Rattle.fare_scheme.specs.Values.{SchemeValue}
 use Rattle.fare_scheme.specs.Words.{owner_of, station_of}
 use Rattle.fare_world.specs.declared.event.Event.{Event}
 use Rattle.fare_world.specs.declared.event.Event.TheVariants as event
-use Rattle.fare_world.specs.declared.reply.Refusal.TheVariants.{UnknownDevice, BadMoment, UnknownProduct, DayClosed, DayAhead, NumbersSpent, BufferFull}
-use Rattle.fare_world.specs.declared.reply.Reply.TheVariants.{Refused, Recorded}
-use Rattle.fare_world.specs.System.{put, DeviceState, System, day_of, numbered_for, arrived_of}
-use Rattle.fare_world.specs.Steps.{knows_device, next_record, with_tap, room_of, waiting_count, tap_for, tap_on, tap}
+use Rattle.fare_world.specs.declared.reply.Refusal.TheVariants.{UnknownDevice, BadMoment, UnknownProduct, DayClosed, DayAhead, NumbersSpent, BufferFull, LastDay, StatementsFull}
+use Rattle.fare_world.specs.declared.reply.Reply.TheVariants.{Refused, Recorded, Opened}
+use Rattle.fare_world.specs.System.{put, DeviceState, System, day_of, numbered_for, arrived_of, is_closed}
+use Rattle.fare_world.specs.Knowing.{knows_device}
+use Rattle.fare_world.specs.Storing.{are_all_held}
+use Rattle.fare_world.specs.Tapping.{is_waiting, next_record, with_tap, room_of, waiting_count, tap_for, tap_on, tap, turned, turn}
 use Rattle.fare_world.specs.Headline.{record_of, numbered_by, with_first, Lane, IsLaneStep, lane_at}
-use Rattle.fare_world.specs.Shown.{IsNumbered, IsDevice, IsSystem}
+use Rattle.fare_world.specs.Kept.{IsNumbered, IsDated, IsTurned, IsDevice, IsStatement, pending, lane_numbers, IsLane, IsSystem}
 use Rattle.fare_world.proofs.Known.{station_where_placed}
 use Rattle.fare_world.proofs.Places.{slice_get-push_cases}
-use Rattle.fare_world.proofs.Lists.{if_all, part-push, take-part-push}
-use Rattle.fare_world.proofs.TableLemmas.{put_all, put_apart}
+use Rattle.fare_world.proofs.Lists.{AllByRecursion-weaken, AllByRecursion-push, part-push, take-part-push}
+use Rattle.fare_world.proofs.Waiting.{waits_more, waits_last}
+use Rattle.fare_world.proofs.Tables.{is_one, if_all, above, not_below, put_all, put_apart}
+use Rattle.fare_world.proofs.Lanes.{day_count-other}
 use Rattle.fare_world.proofs.Orderly.{orderly}
-use Rattle.fare_world.proofs.KeptParts.{above, not_below, took_numbered, devices_change}
+use Rattle.fare_world.proofs.KeptParts.{took_numbered, statement_grows, turned_grows, parts_grow, device_changes}
 use Rattle.fare_world.proofs.KeptMoves.{Moves, stays}
 
 -- a tap at the end of the numbered ones
@@ -53,16 +57,21 @@ has_station sc d knows none =
 numbers : (sc : SchemeValue) (s : System) (d o p t m day : ℕ) → IsSystem sc s → knows_device sc d ≡ true → owner_of sc p ≡ Some o → day_of sc m ≡ Some day → day ≡ (s.devices d).day → length (s.devices d).taps < 1099511627775
     → Moves sc s (event.Tap d p t m) (with_tap s d (next_record s d o (record { product = p; token = t; moment = m; day = day })), Recorded (length (s.devices d).taps + 1) (length (numbered_for s o d) + 1))
 numbers sc s d o p t m day h knows owned dated current lt = record {
-  system = devices_change sc s (put s.devices d new) h
+  system = parts_grow sc s (put s.devices d new) s.held h
       (record {
         taps = put_all (λ j a. length (s.devices j).taps ≤ length a.taps) s.devices d new (λ j. omega arith) (omega (arith, longer));
-        arrived = λ q. put_all (λ j a. length (arrived_of q (s.devices j)) ≤ length (arrived_of q a)) s.devices d new (λ j. omega arith) (omega (arith, ap (λ l. length (part q l)) (take-append-le v.upto v.taps (r ∷ []) is.upto)));
+        arrived = λ q. put_all (λ j a. length (arrived_of q (s.devices j)) ≤ length (arrived_of q a)) s.devices d new (λ j. omega arith) (omega (arith, same_arrived q));
         upto = put_all (λ j a. (s.devices j).upto ≤ a.upto) s.devices d new (λ j. omega arith) (omega arith);
+        day = same_day;
+        held = λ q e k is. is;
       })
-      (put_all (IsDevice sc) s.devices d new h.devices numbered_device);
-  lane = λ q. put_all (λ e a. IsLaneStep (lane_at s q e) (side q e a)) s.devices d new (λ e. inr (inr refl)) (here q);
+      (put_all (IsDevice sc) s.devices d new h.devices numbered_device)
+      (λ q e k holds. statement_grows sc s.devices (put s.devices d new) same_day e k q (h.held q e k holds))
+      (λ q. put_all (λ e a. IsLane sc.start (part q a.taps) (length (arrived_of q a)) (s.held q e) (lane_numbers e (pending (s.owners q))) (s.lanes q e)) s.devices d new (h.lanes q) (lane_here q));
+  lane = λ q. put_all (λ e a. IsLaneStep sc.start (lane_at sc s q e) (side q e a)) s.devices d new (λ e. inr (inr (inr (inr refl)))) (here q);
   taps = λ e. added e ∙ sym (ap (λ x. (s.devices e).taps ++ of_device e (with_first x [])) named);
-  orderly = orderly (Recorded (length v.taps + 1) (length (numbered_for s o d) + 1)) refl;
+  orderly = orderly (event.Tap d p t m) (Recorded (length v.taps + 1) (length (numbered_for s o d) + 1)) refl;
+  days = λ kept. put_all (λ e a. (k : ℕ) → IsSome (station_of sc e) → IsTurned sc.start a.day k → (is_waiting a.waiting k ≡ true) ⊎ (are_all_held sc s.held e k ≡ true)) s.devices d new kept (kept d);
 }
   where
     v : DeviceState
@@ -91,10 +100,38 @@ numbers sc s d o p t m day h knows owned dated current lt = record {
       few = omega (arith, longer);
       numbered = numbered_push sc d v.taps r is.numbered (record { of_device = refl; link = refl; lane = ap (λ l. length (part o l) + 1) (sym (take-length v.taps)); owned = owned });
       known = λ none. absurd (has_station sc d knows none);
+      days = record { first = is.days.first; last = is.days.last; dated = AllByRecursion-push (IsDated sc.start v.day) v.taps r is.days.dated (record { first = omega (arith, is.days.first, current); last = omega (arith, current) }); waiting = is.days.waiting; few = is.days.few };
     }
 
+    same_arrived : (q : ℕ) → length (arrived_of q new) ≡ length (arrived_of q v)
+    same_arrived q = ap (λ l. length (part q l)) (take-append-le v.upto v.taps (r ∷ []) is.upto)
+
+    same_day : (e : ℕ) → (s.devices e).day ≤ (put s.devices d new e).day
+    same_day = put_all (λ j a. (s.devices j).day ≤ a.day) s.devices d new (λ j. omega arith) (omega arith)
+
+    -- the tap is of none of the days that were turned
+    uncounted : (q k : ℕ) → IsStatement sc s.devices d k q → day_count (part q (v.taps ++ r ∷ [])) k ≡ day_count (part q v.taps) k
+    uncounted q k of =
+        if_all (r.owner == q) (λ l. (part q (v.taps ++ r ∷ []) ≡ l) → day_count (part q (v.taps ++ r ∷ [])) k ≡ day_count (part q v.taps) k) (part q v.taps ++ r ∷ []) (part q v.taps)
+        (λ _ e. ap (λ l. day_count l k) e ∙ day_count-other (part q v.taps) r k (λ same. omega (arith, same, current, of.turned.past)))
+        (λ _ e. ap (λ l. day_count l k) e)
+        (part-push q v.taps r)
+
+    -- what the device numbered for an owner has the counts of its closed days
+    lane_here : (q : ℕ) → IsLane sc.start (part q (v.taps ++ r ∷ [])) (length (arrived_of q new)) (s.held q d) (lane_numbers d (pending (s.owners q))) (s.lanes q d)
+    lane_here q =
+        let l = h.lanes q d in
+        record {
+          gone = l.gone;
+          run = l.run;
+          forward = omega (arith, l.forward, same_arrived q);
+          stated = l.stated;
+          closed = l.closed;
+          counted = λ k closed. ap (λ x. day_count x k) (take-part-push (s.lanes q d).took q v.taps r (took_numbered sc s q d h)) ∙ l.counted k closed ∙ sym (uncounted q k (h.held q d k (l.stated k (l.closed k closed))));
+        }
+
     side : ℕ → ℕ → DeviceState → Lane
-    side q e a = record { numbered = part q a.taps; taken = take (s.lanes q e).took (part q a.taps); day = a.day }
+    side q e a = record { numbered = part q a.taps; taken = take (s.lanes q e).took (part q a.taps); closed = is_closed sc.start (s.lanes q e).closed; day = a.day }
 
     named : numbered_by sc (event.Tap d p t m) (Recorded (length v.taps + 1) (length (numbered_for s o d) + 1)) ≡ Some r
     named = λ i. record_of d p t m (length v.taps + 1) (length (numbered_for s o d) + 1) (owned i) (dated i)
@@ -102,12 +139,12 @@ numbers sc s d o p t m day h knows owned dated current lt = record {
     added : (e : ℕ) → (put s.devices d new e).taps ≡ (s.devices e).taps ++ of_device e (r ∷ [])
     added = put_apart (λ e a. a.taps ≡ (s.devices e).taps ++ of_device e (r ∷ [])) s.devices d new (λ e apart. grind (arith, nat_tests, append-nil (s.devices e).taps)) (grind (arith, nat_tests))
 
-    here : (q : ℕ) → IsLaneStep (lane_at s q d) (side q d new)
+    here : (q : ℕ) → IsLaneStep sc.start (lane_at sc s q d) (side q d new)
     here q =
         let kept = take-part-push (s.lanes q d).took q v.taps r (took_numbered sc s q d h) in
-        if_all (r.owner == q) (λ l. (part q (v.taps ++ r ∷ []) ≡ l) → IsLaneStep (lane_at s q d) (side q d new)) (part q v.taps ++ r ∷ []) (part q v.taps)
-        (λ _ e. inl (record { tap = r; of_day = current; is = λ i. record { numbered = e i; taken = kept i; day = v.day } }))
-        (λ _ e. inr (inr (λ i. record { numbered = e i; taken = kept i; day = v.day })))
+        if_all (r.owner == q) (λ l. (part q (v.taps ++ r ∷ []) ≡ l) → IsLaneStep sc.start (lane_at sc s q d) (side q d new)) (part q v.taps ++ r ∷ []) (part q v.taps)
+        (λ _ e. inl (record { tap = r; of_day = current; is = λ i. record { numbered = e i; taken = kept i; closed = is_closed sc.start (s.lanes q d).closed; day = v.day } }))
+        (λ _ e. inr (inr (inr (inr (λ i. record { numbered = e i; taken = kept i; closed = is_closed sc.start (s.lanes q d).closed; day = v.day })))))
         (part-push q v.taps r)
 
 pub moves_tap : (sc : SchemeValue) (s : System) (d p t m : ℕ) → IsSystem sc s → Moves sc s (event.Tap d p t m) (tap sc s d p t m)
@@ -128,3 +165,67 @@ moves_tap sc s d p t m h = if_all (knows_device sc d) (Moves sc s e) (tap_on sc 
     on : knows_device sc d ≡ true → (o : Option ℕ) → day_of sc m ≡ o → Moves sc s e (tap_on sc s d p t m o)
     on knows None dated = stays sc s e (Refused BadMoment) refl refl h
     on knows (Some day) dated = of_owner day knows dated (owner_of sc p) refl
+
+-- TURN
+pub moves_turn : (sc : SchemeValue) (s : System) (d : ℕ) → IsSystem sc s → Moves sc s (event.Turn d) (turn sc s d)
+moves_turn sc s d h =
+    if_all (knows_device sc d) (Moves sc s e) _ _
+    (λ _. if_all (nat_le 100000 v.day) (Moves sc s e) _ _ (λ _. stays sc s e (Refused LastDay) refl refl h)
+    (λ early. if_all (nat_le 8 (length v.waiting)) (Moves sc s e) _ _ (λ _. stays sc s e (Refused StatementsFull) refl refl h) (λ room. goes (above _ _ early) (above _ _ room))))
+    (λ _. stays sc s e (Refused UnknownDevice) refl refl h)
+  where
+    e : Event
+    e = event.Turn d
+
+    v : DeviceState
+    v = s.devices d
+
+    is : IsDevice sc d v
+    is = h.devices d
+
+    new : DeviceState
+    new = record v { day = v.day + 1; waiting = v.waiting ++ v.day ∷ [] }
+
+    side : ℕ → ℕ → DeviceState → Lane
+    side q j a = record { numbered = part q a.taps; taken = take (s.lanes q j).took (part q a.taps); closed = is_closed sc.start (s.lanes q j).closed; day = a.day }
+
+    goes : v.day < 100000 → length v.waiting < 8 → Moves sc s e (turned s d, Opened (v.day + 1))
+    goes early room = record {
+      system = device_changes sc s d new h (record { taps = refl; upto = omega arith; day = omega arith }) device;
+      lane = λ q. put_all (λ j a. IsLaneStep sc.start (lane_at sc s q j) (side q j a)) s.devices d new (λ j. inr (inr (inr (inr refl)))) (inr (inl refl));
+      taps = λ j. put_all (λ i a. a.taps ≡ (s.devices i).taps) s.devices d new (λ i. refl) refl j ∙ sym (append-nil (s.devices j).taps);
+      orderly = orderly e (Opened (v.day + 1)) refl;
+      days = λ kept. put_all (λ j a. (k : ℕ) → IsSome (station_of sc j) → IsTurned sc.start a.day k → (is_waiting a.waiting k ≡ true) ⊎ (are_all_held sc s.held j k ≡ true)) s.devices d new kept (λ k known turned. here k turned (k == v.day) refl (kept d k known));
+    }
+      where
+        -- the old day waits, and each day before it waits on or is held
+        here : (k : ℕ) → IsTurned sc.start (v.day + 1) k → (b : Bool) → (k == v.day) ≡ b → (IsTurned sc.start v.day k → (is_waiting v.waiting k ≡ true) ⊎ (are_all_held sc s.held d k ≡ true)) → (is_waiting (v.waiting ++ v.day ∷ []) k ≡ true) ⊎ (are_all_held sc s.held d k ≡ true)
+        here k turned true same before = inl (ap (is_waiting (v.waiting ++ v.day ∷ [])) (is_one k v.day same) ∙ waits_last v.waiting v.day)
+        here k turned false other before =
+            elim (before (record { first = turned.first; past = less k v.day turned.past other })) [
+              | inl w ↦ inl (waits_more v.waiting v.day k w)
+              | inr all ↦ inr all
+            ]
+          where
+            less : (a b : ℕ) → a < b + 1 → (a == b) ≡ false → a < b
+            less a b lt other = grind (arith, nat_tests)
+
+        device : IsDevice sc d new
+        device = record {
+          base = is.base;
+          cursor = is.cursor;
+          stored = is.stored;
+          upto = is.upto;
+          first = is.first;
+          next = is.next;
+          few = is.few;
+          numbered = is.numbered;
+          known = is.known;
+          days = record {
+            first = omega (arith, is.days.first);
+            last = λ le. omega (arith, early);
+            dated = AllByRecursion-weaken (IsDated sc.start v.day) (IsDated sc.start (v.day + 1)) (λ r was. record { first = was.first; last = omega (arith, was.last) }) v.taps is.days.dated;
+            waiting = AllByRecursion-push (IsTurned sc.start (v.day + 1)) v.waiting v.day (AllByRecursion-weaken (IsTurned sc.start v.day) (IsTurned sc.start (v.day + 1)) (λ k was. turned_grows sc.start v.day (v.day + 1) k (omega arith) was) v.waiting is.days.waiting) (record { first = is.days.first; past = omega arith });
+            few = omega (arith, room, length_push v.waiting v.day);
+          };
+        }

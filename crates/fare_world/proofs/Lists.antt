@@ -1,19 +1,16 @@
 -- Facts for each element of a list, and for two lists one by one.
 use Rattle.std.proofs.Common.{◌≡◌, ℕ, zero, suc, ◌+◌, ◌<◌, ◌≤◌, List, [], ◌∷◌, ◌++◌, length, take, drop, Some, None, Bool, true, false, refl, sym, ap, ◌∙◌, subst, arith}
-use Rattle.std.specs.Prelude.{◌==◌, slice_get, Option, IfSome, if◌then◌else◌}
-use Rattle.std.specs.List.{AllByRecursion}
+use Rattle.std.specs.Prelude.{◌==◌, ◌&&◌, filter, slice_get, Option, IfSome, if◌then◌else◌}
+use Rattle.std.specs.List.{AllByRecursion, list_all}
 use Rattle.std.proofs.lemmas.List.{take-append-le, take_more}
 use Rattle.std.proofs.lemmas.Option.{slice_get_within, get_or_from_slice_get}
 use Rattle.std.proofs.lemmas.Bool.Decides.{nat_tests}
 use Rattle.fare_record.specs.Values.{RecordValue}
 use Rattle.fare_record.specs.Lanes.{part}
-use Rattle.fare_world.specs.Steps.{is_full}
+use Rattle.fare_world.specs.Arriving.{is_full}
+use Rattle.std.proofs.lemmas.List.Sums.{length-filter, count_by-le-length}
 use Rattle.fare_world.specs.Shown.{Each2, Both}
-
--- what holds of both sides of a test
-pub if_all : {A : Type 0} (b : Bool) (Q : A → Type 0) (x y : A) → (b ≡ true → Q x) → (b ≡ false → Q y) → Q (if b then x else y)
-if_all true Q x y p q = p refl
-if_all false Q x y p q = q refl
+use Rattle.fare_world.proofs.Tables.{if_all, both_left, both_right}
 
 -- ONE LIST
 pub AllByRecursion-weaken : {X : Type 0} (P Q : X → Type 0) → ((x : X) → P x → Q x) → (xs : List X) → AllByRecursion P xs → AllByRecursion Q xs
@@ -32,6 +29,21 @@ AllByRecursion-at P (y ∷ xs) (suc k) x h e = AllByRecursion-at P xs k x h.1 e
 pub IfSome-weaken : {X : Type 0} (P Q : X → Type 0) → ((x : X) → P x → Q x) → (o : Option X) → IfSome o P → IfSome o Q
 IfSome-weaken P Q f None h = tt
 IfSome-weaken P Q f (Some x) h = f x h
+
+pub AllByRecursion-filter : {X : Type 0} (P : X → Type 0) (p : X → Bool) (xs : List X) → AllByRecursion P xs → AllByRecursion P (filter p xs)
+AllByRecursion-filter P p [] h = tt
+AllByRecursion-filter P p (x ∷ xs) h = if_all (p x) (AllByRecursion P) (x ∷ filter p xs) (filter p xs) (λ _. (h.0, AllByRecursion-filter P p xs h.1)) (λ _. AllByRecursion-filter P p xs h.1)
+
+pub length-filter-le : {X : Type 0} (p : X → Bool) (xs : List X) → length (filter p xs) ≤ length xs
+length-filter-le p xs = omega (arith, length-filter p xs, count_by-le-length p xs)
+
+-- a test that more pass
+pub list_all-weaken : {X : Type 0} (p q : X → Bool) → ((x : X) → p x ≡ true → q x ≡ true) → (xs : List X) → list_all p xs ≡ true → list_all q xs ≡ true
+list_all-weaken p q f [] h = refl
+list_all-weaken p q f (x ∷ xs) h =
+    let here = f x (both_left (p x) (list_all p xs) h) in
+    let rest = list_all-weaken p q f xs (both_right (p x) (list_all p xs) h) in
+    ap (λ b. b && list_all q xs) here ∙ rest
 
 -- there is an element at each place below the length
 pub element_at : {X : Type 0} (xs : List X) (k : ℕ) → k < length xs → (x : X) × (slice_get xs k ≡ Some x)

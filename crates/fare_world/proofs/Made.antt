@@ -11,7 +11,7 @@ use Rattle.fare_scheme.specs.Words.{position_of_device, position_of_station, pos
 use Rattle.fare_scheme.proofs.Known.{id_at_place}
 use Rattle.fare_collector.specs.Collecting.{first_link}
 use Rattle.fare_device.specs.DeviceWords.{DeviceValue}
-use Rattle.fare_route.specs.Routing.{standing_at, started}
+use Rattle.fare_route.specs.Routing.{first_day, standing_at, started}
 use Rattle.fare_store.specs.Standing.{Standing}
 use Rattle.fare_store.specs.OutboxWords.{OutboxValue}
 use Rattle.fare_store.specs.LedgerWords.{LedgerValue, IsOfScheme}
@@ -28,6 +28,7 @@ use Rattle.fare_world.specs.Making.{AllLive, AllLawful, IsReady, IsMadeOf}
 use Rattle.fare_world.specs.Whole.{station_shape, owner_seen, AreLive, StandsAt}
 use Rattle.fare_world.proofs.Starting.{fresh_lanes, slice_get-replicate}
 use Rattle.fare_world.proofs.TableLemmas.{devices_apart, stations_apart}
+use Rattle.fare_route.specs.declared.cursor.Cursor.{Cursor}
 use Rattle.fare_world.proofs.Stepping.{start_is}
 
 -- PLACES
@@ -63,20 +64,24 @@ knows_each sc device known = by (position_of_device sc device) refl known
         subst IsSome (sym (ap (option_map (standing_at sc.start)) (replicate_at (length sc.devices) (0, None) k (omega (arith, below, length-keys_of sc.devices))))) refl
 
 -- and has handed on nothing
-begins : (sc : SchemeValue) (device n : ℕ) → option_map (λ c. c.lane) (started sc (replicate (length sc.devices) (0, None)) device) ≡ Some n → n ≡ 0
+begins : (sc : SchemeValue) (device : ℕ) (n : ℕ × ℕ) → option_map (λ (c : Cursor). (c.lane, c.day)) (started sc (replicate (length sc.devices) (0, None)) device) ≡ Some n → n ≡ (0, sc.start)
 begins sc device n e = by (position_of_device sc device) e
   where
-    at_place : (k : ℕ) (o : Option (ℕ × Option ℕ)) → slice_get (replicate (length sc.devices) (0, None)) k ≡ o → option_map (λ c. c.lane) (option_map (standing_at sc.start) o) ≡ Some n → n ≡ 0
-    at_place k None at f = absurd (cc)
-    at_place k (Some q) at f = sym (same_Some q.0 n f) ∙ ap {B = ℕ} (λ (z : ℕ × Option ℕ). z.0) (slice_get-replicate (length sc.devices) (0, None) k q at)
+    same_place : (m n : ℕ × ℕ) → Some m ≡ Some n → m ≡ n
+    same_place m n q = cc
 
-    by : (p : Option ℕ) → option_map (λ c. c.lane) (option_and_then (λ place. option_map (standing_at sc.start) (slice_get (replicate (length sc.devices) (0, None)) place)) p) ≡ Some n → n ≡ 0
+    at_place : (k : ℕ) (o : Option (ℕ × Option ℕ)) → slice_get (replicate (length sc.devices) (0, None)) k ≡ o → option_map (λ (c : Cursor). (c.lane, c.day)) (option_map (standing_at sc.start) o) ≡ Some n → n ≡ (0, sc.start)
+    at_place k None at f = absurd (cc)
+    at_place k (Some q) at f = sym (same_place (q.0, first_day sc.start q.1) n f) ∙ ap {B = ℕ × ℕ} (λ (z : ℕ × Option ℕ). (z.0, first_day sc.start z.1)) (slice_get-replicate (length sc.devices) (0, None) k q at)
+
+    by : (p : Option ℕ) → option_map (λ (c : Cursor). (c.lane, c.day)) (option_and_then (λ place. option_map (standing_at sc.start) (slice_get (replicate (length sc.devices) (0, None)) place)) p) ≡ Some n → n ≡ (0, sc.start)
     by None f = absurd (cc)
     by (Some k) f = at_place k (slice_get (replicate (length sc.devices) (0, None)) k) refl f
 
 -- ROOMS
 pub fresh_rooms : {L : Type 0} (sc : SchemeValue) (x : Fresh L) (ledgers : List L) (owners : List (Owner L)) → AreFresh sc x → AreJoined x.sides.items ledgers owners → HasRooms sc x.devices.items x.stations.items x.inbox.capacity owners (length x.uptos.items)
 fresh_rooms {L} sc x ledgers owners fresh joined = record {
+  start = fresh.start;
   device_count = fresh.devices.count;
   station_count = fresh.stations.count;
   owner_count = sym (length-map owners (side_of {L = L})) ∙ ap length joined.sides_are ∙ fresh.sides.count;
@@ -111,8 +116,9 @@ module _ {O L : Type 0} (out : O → Standing OutboxValue) (led : L → Standing
           hand = subst (Both (IsArrivedOf (start sc).devices) None) (sym hand) tt;
           upto = λ d. ap (λ (z : OutboxValue). z.upto d) v ∙ empty.upto d;
           rows = λ p d lane. ap (λ (z : OutboxValue). z.rows p d lane) v ∙ empty.rows p d lane ∙ sym (nothing_at (nat_le lane 0));
-          held = ap {B = ℕ} (λ (z : OutboxValue). z.row_count) v ∙ empty.row_count;
+          row_count = ap {B = ℕ} (λ (z : OutboxValue). z.row_count) v ∙ empty.row_count;
           stated = λ p d day. ap (λ (z : OutboxValue). z.stated p d day) v ∙ empty.stated p d day;
+          stated_count = ap {B = ℕ} (λ (z : OutboxValue). z.stated_count) v ∙ empty.stated_count;
           owners = λ p. owner live p (position_of_owner sc p) refl;
         };
   }
@@ -177,12 +183,13 @@ module _ {O L : Type 0} (out : O → Standing OutboxValue) (led : L → Standing
                 ledger = record {
                   id = ap {B = ℕ} (λ (z : LedgerValue). z.owner) v ∙ same_Some (led l.0).value.owner p (sym (made.owned.each k l.0 l.1) ∙ id_at_place sc.owners p k at);
                   made = subst (IsOfScheme sc) (sym v) (ready.made k l.0 l.1);
-                  closed = λ d. ap {B = ℕ} (λ (z : LedgerValue). z.closed d) v ∙ empty.closed d;
                 };
                 taken = λ d. ap (λ (z : LedgerValue). z.taken d) v ∙ empty.taken d;
+                stated = λ d day. ap (λ (z : LedgerValue). z.stated d day) v ∙ empty.stated d day;
+                closed = λ d. ap {B = ℕ} (λ (z : LedgerValue). z.closed d) v ∙ empty.closed d;
                 queue = subst (Each2 (IsRoutedOf (start sc).devices p) []) (sym is.fresh.queue) tt;
                 hand = subst (Both (IsRoutedOf (start sc).devices p) None) (sym (hands k x e)) tt;
-                cursors = λ d n f. begins sc d n (ap (option_map (λ c. c.lane)) (sym (is.fresh.cursors d)) ∙ f);
+                cursors = λ d n known f. begins sc d n (ap (option_map (λ (c : Cursor). (c.lane, c.day))) (sym (is.fresh.cursors d)) ∙ f);
               }
 
           found : (y : Option OwnerShape) → slice_get (map (owner_seen led) w.owners.items) k ≡ y → IfSome y (IsOwnerOf sc (start sc).devices p ((start sc).owners p) ((start sc).lanes p))

@@ -1,17 +1,19 @@
 -- Where an event may fail: a packet joins the air, or a store is asked.
-use Rattle.std.proofs.Common.{◌≡◌, ◌≢◌, ℕ, ◌<◌, ◌≤◌, length, Some, None, true, refl, sym, ap, ◌∙◌, subst, arith}
+use Rattle.std.proofs.Common.{◌≡◌, ◌≢◌, ℕ, ◌<◌, ◌≤◌, length, Some, None, true, refl, sym, ap, ◌∙◌, arith}
 use Rattle.std.specs.Prelude.{◌&&◌, nat_lt, Option, is_some}
 use Rattle.std.proofs.lemmas.Bool.Decides.{nat_tests}
-use Rattle.fare_record.specs.Values.{RecordValue}
+use Rattle.fare_record.specs.declared.item.Item.{Item}
 use Rattle.fare_scheme.specs.Values.{SchemeValue}
 use Rattle.fare_scheme.specs.Words.{position_of_device, position_of_station, position_of_owner}
 use Rattle.fare_device.specs.DeviceWords.{DeviceValue, last_link}
 use Rattle.fare_world.specs.declared.event.Event.TheVariants as event
 use Rattle.fare_world.specs.System.{System}
 use Rattle.fare_world.specs.Steps.{may_fail}
-use Rattle.fare_world.specs.Shown.{Both, IsArrivedOf, IsRoutedOf, IsOwnerOf, IsDeviceOf, OwnerShape, StationShape, Shape, Shows}
+use Rattle.fare_world.specs.Shown.{Both, IsArrivedOf, IsRoutedOf, IsDeviceOf, OwnerShape, StationShape, Shape, Shows}
 use Rattle.fare_world.proofs.Showing.{device_shown, owner_shown, last_link_is}
 use Rattle.fare_world.proofs.ShowLink.{line_length}
+use Rattle.fare_world.proofs.ShowDays.{waits_in}
+use Rattle.fare_device.specs.Turning.{is_waiting}
 
 -- where the one is, the other is
 both_there : {X Y : Type 0} (P : X → Y → Type 0) (x : Option X) (y : Option Y) → Both P x y → is_some y ≡ true → is_some x ≡ true
@@ -54,10 +56,15 @@ answer_may_fail sc h s station k x w at here some =
     let waits : nat_lt 0 (length (s.lines station)) ≡ true = grind (arith, nat_tests) in
     (λ i. is_some (at i) && waits i)
 
-pub store_may_fail : (sc : SchemeValue) (h : Shape) (s : System) (r : RecordValue) → Shows sc h s → h.hand ≡ Some r → may_fail sc s event.Store ≡ true
-store_may_fail sc h s r w hand = both_there (IsArrivedOf s.devices) s.hand h.hand w.hand (ap is_some hand)
+pub store_may_fail : (sc : SchemeValue) (h : Shape) (s : System) (y : Item) → Shows sc h s → h.hand ≡ Some y → may_fail sc s event.Store ≡ true
+store_may_fail sc h s y w hand = both_there (IsArrivedOf s.devices) s.hand h.hand w.hand (ap is_some hand)
 
-pub take_may_fail : (sc : SchemeValue) (h : Shape) (s : System) (o a : ℕ) (x : OwnerShape) (r : RecordValue) → Shows sc h s → position_of_owner sc o ≡ Some a → h.owners o ≡ Some x → x.hand ≡ Some r → may_fail sc s (event.Take o) ≡ true
-take_may_fail sc h s o a x r w at here hand =
+pub take_may_fail : (sc : SchemeValue) (h : Shape) (s : System) (o a : ℕ) (x : OwnerShape) (y : Item) → Shows sc h s → position_of_owner sc o ≡ Some a → h.owners o ≡ Some x → x.hand ≡ Some y → may_fail sc s (event.Take o) ≡ true
+take_may_fail sc h s o a x y w at here hand =
     let held = both_there (IsRoutedOf s.devices o) (s.owners o).hand x.hand (owner_shown sc h s o x w here).hand (ap is_some hand) in
     (λ i. is_some (at i) && held i)
+
+pub state_may_fail : (sc : SchemeValue) (h : Shape) (s : System) (d k day o place : ℕ) (x : DeviceValue) → Shows sc h s → position_of_device sc d ≡ Some k → position_of_owner sc o ≡ Some place → h.devices d ≡ Some x → is_waiting x.days day ≡ true → may_fail sc s (event.State d day o) ≡ true
+state_may_fail sc h s d k day o place x w at owned here waits =
+    let there = sym (waits_in sc d day (s.devices d) x (device_shown sc h s d x w here)) ∙ waits in
+    (λ i. is_some (at i) && (is_some (owned i) && there i))

@@ -1,6 +1,5 @@
 -- A world's tables keep their lengths, and its queues their room.
-use Rattle.std.proofs.Common.{◌≡◌, ℕ, ◌<◌, List, Some, length, set, get_or, refl, sym, ap, ◌∙◌, subst, length-set, inl, inr}
-use Rattle.std.specs.Prelude.{slice_get}
+use Rattle.std.proofs.Common.{◌≡◌, ℕ, ◌<◌, List, length, set, get_or, refl, sym, ap, ◌∙◌, subst, length-set, inl, inr}
 use Rattle.std.proofs.lemmas.Option.{slice_get_read}
 use Rattle.fare_device.specs.DeviceWords.{DeviceValue}
 use Rattle.fare_device.proofs.Places.{slice_get-set_cases}
@@ -13,6 +12,7 @@ use Rattle.fare_world.specs.Rooms.{HasOwnerRooms, HasRooms}
 -- a device with as many lanes takes the place of another
 pub rooms_of_device : {O L : Type 0} (w : World O L) (k : ℕ) (x new : DeviceValue) → k < length w.devices.items → x ≡ get_or w.devices.items k x → length new.lanes ≡ length x.lanes → HasRooms w.scheme (set w.devices.items k new) w.stations.items w.inbox.capacity w.owners.items (length w.uptos.items)
 rooms_of_device w k x new within e long = record {
+  start = w.rooms.start;
   device_count = length-set w.devices.items k new ∙ w.rooms.device_count;
   station_count = w.rooms.station_count;
   owner_count = w.rooms.owner_count;
@@ -29,6 +29,7 @@ rooms_of_device w k x new within e long = record {
 -- a station with as long a line takes the place of another
 pub rooms_of_station : {O L : Type 0} (w : World O L) (k : ℕ) (x new : Station) → k < length w.stations.items → x ≡ get_or w.stations.items k x → new.line.capacity ≡ x.line.capacity → HasRooms w.scheme w.devices.items (set w.stations.items k new) w.inbox.capacity w.owners.items (length w.uptos.items)
 rooms_of_station w k x new within e long = record {
+  start = w.rooms.start;
   device_count = w.rooms.device_count;
   station_count = length-set w.stations.items k new ∙ w.rooms.station_count;
   owner_count = w.rooms.owner_count;
@@ -53,6 +54,7 @@ side_of_owner w a y within e = w.rooms.sides a y (slice_get_read w.owners.items 
 -- an owner with as much room takes the place of another
 pub rooms_of_owner : {O L : Type 0} (w : World O L) (a : ℕ) (y new : Owner L) → a < length w.owners.items → y ≡ get_or w.owners.items a y → (HasOwnerRooms w.scheme a y → HasOwnerRooms w.scheme a new) → HasRooms w.scheme w.devices.items w.stations.items w.inbox.capacity (set w.owners.items a new) (length w.uptos.items)
 rooms_of_owner {O} {L} w a y new within e keeps = record {
+  start = w.rooms.start;
   device_count = w.rooms.device_count;
   station_count = w.rooms.station_count;
   owner_count = length-set w.owners.items a new ∙ w.rooms.owner_count;

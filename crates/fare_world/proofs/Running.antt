@@ -1,12 +1,10 @@
 -- A run so far, and one event more.
-use Rattle.std.proofs.Common.{◌≡◌, ◌+◌, ◌-◌, ◌<◌, ◌≤◌, ℕ, true, List, [], ◌∷◌, ◌++◌, length, take, drop, get_or, refl, sym, ap, ◌∙◌, subst, arith, inl, inr}
+use Rattle.std.proofs.Common.{◌≡◌, ◌+◌, ◌-◌, ◌<◌, ◌≤◌, ℕ, zero, suc, true, List, [], ◌∷◌, ◌++◌, length, take, drop, get_or, refl, sym, ap, ◌∙◌, subst, arith, inl, inr}
 use Rattle.std.specs.Prelude.{Some, map, option_map, slice_get}
 use Rattle.std.proofs.lemmas.Option.{slice_get-map, slice_get_read}
-use Rattle.std.specs.List.{AllByRecursion}
 use Rattle.std.proofs.lemmas.List.{take_more, length_push, length-take-le}
 use Rattle.fare_record.specs.Values.{RecordValue}
 use Rattle.fare_record.specs.Lanes.{part, lane_of}
-use Rattle.fare_device.specs.DeviceWords.{DeviceValue}
 use Rattle.fare_scheme.specs.Values.{SchemeValue}
 use Rattle.fare_world.specs.declared.event.Event.{Event}
 use Rattle.fare_world.specs.declared.reply.Reply.{Reply}
@@ -14,15 +12,17 @@ use Rattle.fare_world.specs.declared.world.World.{World}
 use Rattle.fare_world.specs.System.{LaneState, System, start, arrived_of}
 use Rattle.fare_world.specs.Steps.{step, after, replies, may_fail}
 use Rattle.fare_world.specs.Restarts.{Rose}
-use Rattle.fare_world.specs.Headline.{numbered, numbered_by, with_first, IsPrefixOf, IsOrderly}
-use Rattle.fare_world.specs.Shown.{entry, Shape, Shows, IsDeviceOf, IsOwnerOf, IsLane}
+use Rattle.fare_world.specs.Headline.{numbered, numbered_by, with_first, IsOrderly, EachAnswer, IsAnswered, TakesNoneAfterClose}
+use Rattle.fare_world.specs.Shown.{entry, Shape, Shows, IsDeviceOf, IsOwnerOf}
 use Rattle.fare_store.specs.declared.fault.Fault.{Fault}
 use Rattle.fare_store.specs.declared.fault.Fault.TheVariants as fault
 use Rattle.fare_store.specs.Standing.{Standing}
 use Rattle.fare_store.specs.OutboxWords.{OutboxValue}
 use Rattle.fare_store.specs.LedgerWords.{LedgerValue}
 use Rattle.fare_world.specs.Whole.{owner_seen, seen, shape, SameCounts, CountsFailure, AreLive, StandsAt, IsStepped, IsUnchanged, HasRun, WasStopped, TakenInOrder, beyond, AreRowsFrom, KeepsEachTap}
-use Rattle.fare_world.proofs.Showing.{device_shown, owner_shown}
+use Rattle.fare_world.proofs.Showing.{device_shown, owner_shown, waits_behind}
+use Rattle.fare_world.proofs.ShowForward.{took_arrived}
+use Rattle.fare_world.proofs.Closing.{none_after_close}
 use Rattle.fare_world.proofs.Keeping.{lane_in_three, taken_of_arrived}
 use Rattle.fare_world.proofs.RowPlaces.{row_here}
 use Rattle.fare_world.proofs.Lists.{slice_get-drop}
@@ -41,6 +41,22 @@ numbered-take sc [] [] = refl
 numbered-take sc (e ∷ es) [] = refl
 numbered-take sc [] (r ∷ rs) = refl
 numbered-take sc (e ∷ es) (r ∷ rs) = ap (with_first (numbered_by sc e r)) (numbered-take sc es rs)
+
+-- what holds of each answer of the answered events holds of each answer
+each-take : (P : Event → Reply → Type 0) (es : List Event) (rs : List Reply) → EachAnswer P (take (length rs) es) rs → EachAnswer P es rs
+each-take P [] [] h = tt
+each-take P (e ∷ es) [] h = tt
+each-take P [] (r ∷ rs) h = tt
+each-take P (e ∷ es) (r ∷ rs) h = (h.0, each-take P es rs h.1)
+
+event-take : (es : List Event) (rs : List Reply) (place : ℕ) (e : Event) (r : Reply) → slice_get es place ≡ Some e → slice_get rs place ≡ Some r → slice_get (take (length rs) es) place ≡ Some e
+event-take es [] place e r at answered = absurd (cc)
+event-take [] (q ∷ rs) place e r at answered = absurd (cc)
+event-take (x ∷ es) (q ∷ rs) zero e r at answered = at
+event-take (x ∷ es) (q ∷ rs) (suc n) e r at answered = event-take es rs n e r at answered
+
+answered-take : (es : List Event) (rs : List Reply) (place : ℕ) {e : Event} {r : Reply} → IsAnswered es rs place e r → IsAnswered (take (length rs) es) rs place e r
+answered-take es rs place {e} {r} h = record { event = event-take es rs place e r h.event h.reply; reply = h.reply }
 
 module _ {O L : Type 0} (out : O → Standing OutboxValue) (led : L → Standing LedgerValue) where
   -- no store was called
@@ -141,8 +157,18 @@ module _ {O L : Type 0} (out : O → Standing OutboxValue) (led : L → Standing
   stopped_left old new events rs f h = record { scheme = h.scheme; answers = h.answers; stands = h.stands }
 
   -- no reply of a run from the start is disorderly
-  pub orderly_replies : (old new : World O L) (events : List Event) (rs : List Reply) → HasLeft old new events rs → StandsAt out led old (start old.scheme) → AreLive out led new → AllByRecursion IsOrderly rs
-  orderly_replies old new events rs h fresh live = let sc = old.scheme in subst (AllByRecursion IsOrderly) (sym (h.answers (start sc) fresh live)) (orderly_run sc (start sc) (take (length rs) events) (start_is sc))
+  pub orderly_replies : (old new : World O L) (events : List Event) (rs : List Reply) → HasLeft old new events rs → StandsAt out led old (start old.scheme) → AreLive out led new → EachAnswer IsOrderly events rs
+  orderly_replies old new events rs h fresh live =
+      let sc = old.scheme in
+      each-take IsOrderly events rs (subst (EachAnswer IsOrderly (take (length rs) events)) (sym (h.answers (start sc) fresh live)) (orderly_run sc (start sc) (take (length rs) events) (start_is sc)))
+
+  -- and none takes a tap of a day that was closed before
+  pub unclosed_replies : (old new : World O L) (events : List Event) (rs : List Reply) → HasLeft old new events rs → StandsAt out led old (start old.scheme) → AreLive out led new → TakesNoneAfterClose old.scheme events rs
+  unclosed_replies old new events rs h fresh live o d day lane i j lt first later =
+      let sc = old.scheme in
+      let all = subst (TakesNoneAfterClose sc (take (length rs) events)) (sym (h.answers (start sc) fresh live)) (none_after_close sc (take (length rs) events)) in
+      let found = all o d day lane i j lt (answered-take events rs i first) (answered-take events rs j later) in
+      (found.0, ap (λ l. slice_get (lane_of o d l) (lane - 1)) (sym (numbered-take sc events rs)) ∙ found.1, found.2)
 
   -- what a run from the start numbered, by the replies that it had
   same_numbered : (old new : World O L) (events : List Event) (rs : List Reply) → HasLeft old new events rs → StandsAt out led old (start old.scheme) → AreLive out led new
@@ -194,9 +220,6 @@ module _ {O L : Type 0} (out : O → Standing OutboxValue) (led : L → Standing
       shown : Shows new.scheme (shape (seen out led new)) s
       shown = (h.stands (start sc) fresh).shows live
 
-      is : IsLane (length rows) l
-      is = shown.system.lanes o d
-
       found : (shape (seen out led new)).owners o ≡ Some (owner_seen led x)
       found = ap (λ p. entry p (map (owner_seen led) new.owners.items)) at ∙ slice_get-map (owner_seen led) new.owners.items k ∙ ap (option_map (owner_seen led)) here
 
@@ -210,7 +233,7 @@ module _ {O L : Type 0} (out : O → Standing OutboxValue) (led : L → Standing
       lane = ap (part o) (taps_after sc (start sc) es d (start_is sc)) ∙ ap (lane_of o d) (same_numbered old new events rs h fresh live)
 
       took : l.took ≤ length rows
-      took = omega (arith, is.took, is.forward)
+      took = took_arrived new.scheme s o d shown.system
 
       long : length ((led x.ledger).value.taken d) ≡ l.took
       long = ap length (owner.taken d ∙ taken_of_arrived o l.took (s.devices d) took) ∙ length-take-le l.took rows took
@@ -219,9 +242,9 @@ module _ {O L : Type 0} (out : O → Standing OutboxValue) (led : L → Standing
       rows_behind n =
           let number : length ((led x.ledger).value.taken d) + 1 + n ≡ l.took + n + 1 = omega (arith, long) in
           let place : l.took + n + 1 - 1 ≡ l.took + n = omega arith in
-          ap ((out new.outbox).value.rows o d) number ∙ shown.rows o d (l.took + n + 1) ∙ row_here l.gone rows (l.took + n + 1) (omega (arith, is.gone)) ∙ ap (slice_get rows) place ∙ sym (slice_get-drop l.took rows n)
+          ap ((out new.outbox).value.rows o d) number ∙ shown.rows o d (l.took + n + 1) ∙ row_here l.gone rows (l.took + n + 1) (omega (arith, (shown.system.lanes o d).gone)) ∙ ap (slice_get rows) place ∙ sym (slice_get-drop l.took rows n)
 
       in_three : part o (s.devices d).taps ≡ (led x.ledger).value.taken d ++ (drop l.took rows ++ part o (beyond ((out new.outbox).value.upto d) v.waiting))
       in_three =
           lane_in_three new.scheme o d l.took (s.devices d) (shown.system.devices d) took
-          ∙ (λ i. sym (owner.taken d) i ++ (drop l.took rows ++ part o (beyond (sym (shown.upto d) i) (sym device.waiting i))))
+          ∙ (λ i. sym (owner.taken d) i ++ (drop l.took rows ++ part o (beyond (sym (shown.upto d) i) (sym (waits_behind new.scheme d (s.devices d) v device) i))))

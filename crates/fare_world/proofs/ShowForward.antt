@@ -1,37 +1,62 @@
--- What a world shows after a forward, a fetch and a take.
-use Rattle.std.proofs.Common.{◌≡◌, ℕ, ◌+◌, ◌-◌, ◌<◌, ◌≤◌, List, [], ◌∷◌, ◌++◌, length, take, drop, set, get_or, Some, None, Bool, true, false, refl, sym, ap, ◌∙◌, subst, arith, length-set, inl, inr}
-use Rattle.std.specs.Prelude.{◌==◌, slice_get, if◌then◌else◌, Option, Result, Ok, Err, option_map, is_some, nat_lt, nat_le, not}
+-- What a world shows after a forward, a fetch, a take, a close and a prune.
+use Rattle.std.proofs.Common.{◌≡◌, ℕ, ◌+◌, ◌-◌, ◌<◌, ◌≤◌, List, [], ◌∷◌, ◌++◌, length, take, drop, set, get_or, Some, None, Bool, true, false, refl, sym, ap, ◌∙◌, subst, arith}
+use Rattle.std.specs.Prelude.{◌==◌, ◌&&◌, slice_get, if◌then◌else◌, Option, Result, Ok, Err, option_map, is_some, IsSome, nat_lt, nat_le, not}
 use Rattle.std.proofs.lemmas.Bool.Decides.{nat_tests, Decides-eqb}
 use Rattle.std.proofs.lemmas.List.{take-append-drop, length-take-le}
 use Rattle.std.proofs.lemmas.List.Elements.{filter-append}
 use Rattle.std.proofs.lemmas.Option.{slice_get_read, slice_get_within, same_Some}
-use Rattle.fare_record.specs.Values.{RecordValue}
-use Rattle.fare_record.specs.Lanes.{part}
+use Rattle.fare_record.specs.Limits.{IsDay}
+use Rattle.fare_record.specs.Values.{RecordValue, StatementValue}
+use Rattle.fare_record.specs.Lanes.{part, day_count}
+use Rattle.fare_record.specs.declared.item.Item.{Item}
+use Rattle.fare_record.specs.declared.item.Item.TheVariants as item
 use Rattle.fare_scheme.specs.Values.{SchemeValue}
-use Rattle.fare_scheme.specs.Words.{station_of, position_of_device, position_of_owner}
-use Rattle.fare_device.proofs.Places.{slice_get-set_cases}
-use Rattle.fare_world.specs.declared.event.Event.TheVariants as event
-use Rattle.fare_world.specs.declared.reply.Refusal.{Refusal}
-use Rattle.fare_world.specs.declared.reply.Refusal.TheVariants.{UnknownDevice, UnknownOwner, Busy, HandFull, Duplicate, Gap}
-use Rattle.fare_world.specs.declared.reply.Reply.{Reply}
-use Rattle.fare_world.specs.declared.reply.Reply.TheVariants.{Idle, Empty, Refused, Forwarded, Fetched, Taken, Count, Pruned}
-use Rattle.fare_world.specs.System.{put, put2, Lane_of, OwnerState, LaneState, System, numbered_for, arrived_of}
-use Rattle.fare_world.specs.Steps.{knows_device, is_full, lane_room, forwarded, forward_next, forward, fetch_from, fetch, emptied, took, take_from, take_event, take_refusal_of, count, pruned, prune}
+use Rattle.fare_scheme.specs.Words.{position_of_device, position_of_owner}
+use Rattle.fare_owner.specs.TapJudged.{tap_judged}
+use Rattle.fare_owner.specs.StatementJudged.{statement_judged}
+use Rattle.fare_owner.specs.CloseJudged.{close_judged}
 use Rattle.fare_owner.specs.declared.tap.TapFault.{TapFault}
+use Rattle.fare_owner.specs.declared.statement.StatementFault.{StatementFault}
+use Rattle.fare_owner.specs.declared.closing.CloseFault.{CloseFault}
+use Rattle.fare_route.specs.declared.cursor.Cursor.{Cursor}
+use Rattle.fare_route.specs.Routing.{NoRow, IsNext}
 use Rattle.fare_store.specs.OutboxWords.{IsNextRow, behind, rows_upto}
 use Rattle.fare_store.specs.OutboxWords as outbox
-use Rattle.fare_store.specs.LedgerWords.{is_mine, is_closed, take_judged}
+use Rattle.fare_store.specs.LedgerWords.{LedgerValue, is_mine, take_judged, state_judged, close_of}
 use Rattle.fare_store.specs.LedgerWords as ledger
-use Rattle.fare_world.proofs.Known.{placed}
-use Rattle.fare_world.proofs.KeptParts.{below, above, not_below, at_most}
-use Rattle.fare_world.proofs.RowPlaces.{row_here, row_held, row_pruned, rows_pruned}
-use Rattle.fare_world.specs.Shown.{IsLane, IsSystem, IsAt, IsRoutedOf, IsOwnerOf, OwnerShape, Both, Each2, entry, Shape, Shows, row_at}
+use Rattle.fare_world.specs.declared.event.Event.TheVariants as event
+use Rattle.fare_world.specs.declared.reply.Refusal.{Refusal}
+use Rattle.fare_world.specs.declared.reply.Refusal.TheVariants.{UnknownDevice, UnknownOwner, Busy, HandFull}
+use Rattle.fare_world.specs.declared.reply.Reply.{Reply}
+use Rattle.fare_world.specs.declared.reply.Reply.TheVariants as reply
+use Rattle.fare_world.specs.declared.reply.Reply.TheVariants.{Idle, Empty, Refused, Taken, Closed, Count, Pruned}
+use Rattle.fare_world.specs.System.{put, put2, Routed, Lane_of, Day_of, OwnerState, LaneState, System, numbered_for, arrived_of, is_closed}
+use Rattle.fare_world.specs.Steps.{count}
+use Rattle.fare_world.specs.Arriving.{is_full}
+use Rattle.fare_world.specs.Knowing.{knows_device}
+use Rattle.fare_world.specs.ItemReplies.{forwarded_item, fetched_item}
+use Rattle.fare_world.specs.Owning.{lane_room, next_routed, passed, forwarded_reply, forwarded, forward_item, forward, fetched_reply, fetch_from, fetch, emptied, with_lane, is_of_closed_day, tap_refusal, take_tap, statement_refusal, take_statement, take_from, take_event, close_refusal, closed_day, close_by, close_on, close, pruned, prune}
+use Rattle.fare_world.specs.Shown.{IsAt, IsRoutedOf, IsLedgerOf, IsOwnerOf, OwnerShape, Both, Each2, entry, Shape, Shows, row_at, count_of}
+use Rattle.fare_world.specs.Kept.{IsSystem}
 use Rattle.fare_world.specs.Whole.{Seen, shape}
-use Rattle.fare_world.proofs.Lists.{if_all, IfSome-weaken, slice_get-past, length-Each2, has_room, has_no_room, Each2-push, Each2-nil, Each2-cons, Both-none, Both-some, element_at, take-one_more}
+use Rattle.fare_world.proofs.Tables.{if_all, above, not_below, put_all, put2_all, put_both, put_here}
+use Rattle.fare_world.proofs.RowPlaces.{row_here, row_held, row_pruned, rows_pruned}
+use Rattle.fare_world.proofs.Lists.{IfSome-weaken, slice_get-past, length-Each2, has_room, has_no_room, Each2-push, Each2-nil, Each2-cons, Both-none, Both-some, element_at, take-one_more}
 use Rattle.fare_world.proofs.Places.{slice_get-front}
-use Rattle.fare_world.proofs.TableLemmas.{put_all, put2_all, put_both, put_here, option_map-put, entry-set, devices_apart, owners_apart}
-use Rattle.fare_world.proofs.Kept.{moves_step, owner_changes, took_numbered}
-use Rattle.fare_world.proofs.Showing.{Answers, answers_by, put_other, shows_owner, owner_shown, part_get, routed_is}
+use Rattle.fare_world.proofs.TableLemmas.{entry-set, owners_apart}
+use Rattle.fare_world.proofs.Lanes.{Runs-le}
+use Rattle.fare_world.proofs.Kept.{moves_step}
+use Rattle.fare_world.proofs.KeptParts.{took_numbered}
+use Rattle.fare_world.proofs.NextDay.{day_found, statement_found, no_statement_found}
+use Rattle.fare_world.proofs.Showing.{Answers, answers_by, put_other, shows_owner, owner_shown, lane_tap_at, routed_is, routed_states}
+
+-- what was taken was stored
+pub took_arrived : (sc : SchemeValue) (s : System) (o d : ℕ) → IsSystem sc s → (s.lanes o d).took ≤ length (arrived_of o (s.devices d))
+took_arrived sc s o d is = omega (arith, Runs-le (s.lanes o d).took (s.lanes o d).forward _ (is.lanes o d).run, (is.lanes o d).forward)
+
+-- and what was pruned was forwarded
+gone_forwarded : (sc : SchemeValue) (s : System) (o d : ℕ) → IsSystem sc s → (s.lanes o d).gone ≤ (s.lanes o d).forward
+gone_forwarded sc s o d is = omega (arith, (is.lanes o d).gone, Runs-le (s.lanes o d).took (s.lanes o d).forward _ (is.lanes o d).run)
 
 -- one owner and its lanes with others in their place
 pub shows_owner_put : (sc : SchemeValue) (h : Shape) (s : System) (o : ℕ) (side : OwnerState) (lanes : ℕ → LaneState) (x : OwnerShape) → ((d : ℕ) → (lanes d).gone ≡ (s.lanes o d).gone) → Shows sc h s → IsSystem sc (record s { owners = put s.owners o side; lanes = put s.lanes o lanes }) → IsOwnerOf sc s.devices o side lanes x
@@ -53,51 +78,32 @@ shown_unknown_owner sc h s o d w none =
     answers_by sc h (Refused UnknownOwner) (forward sc s o d) (s, Refused UnknownOwner) (ap (λ p. if is_some p then (forward_device sc s o d) else (s, Refused UnknownOwner)) none) refl w
   where
     forward_device : SchemeValue → System → ℕ → ℕ → System × Reply
-    forward_device sc s o d = if knows_device sc d then forward_next sc s o d else (s, Refused UnknownDevice)
+    forward_device sc s o d = if knows_device sc d then forward_item sc s o d (next_routed s o d) else (s, Refused UnknownDevice)
 
 pub shown_forward_unknown : (sc : SchemeValue) (h : Shape) (s : System) (o d a : ℕ) → Shows sc h s → position_of_owner sc o ≡ Some a → is_some (position_of_device sc d) ≡ false → Answers sc h (forward sc s o d) (Refused UnknownDevice)
 shown_forward_unknown sc h s o d a w owner none =
     answers_by sc h (Refused UnknownDevice) (forward sc s o d) (s, Refused UnknownDevice) (λ i. known (is_some (owner i)) (none i)) refl w
   where
     known : Bool → Bool → System × Reply
-    known p q = if p then (if q then forward_next sc s o d else (s, Refused UnknownDevice)) else (s, Refused UnknownOwner)
+    known p q = if p then (if q then forward_item sc s o d (next_routed s o d) else (s, Refused UnknownDevice)) else (s, Refused UnknownOwner)
 
-forward_known : (sc : SchemeValue) (s : System) (o d a k : ℕ) → position_of_owner sc o ≡ Some a → position_of_device sc d ≡ Some k → forward sc s o d ≡ forward_next sc s o d
+forward_known : (sc : SchemeValue) (s : System) (o d a k : ℕ) → position_of_owner sc o ≡ Some a → position_of_device sc d ≡ Some k → forward sc s o d ≡ forward_item sc s o d (next_routed s o d)
 forward_known sc s o d a k owner device = λ i. known (is_some (owner i)) (is_some (device i))
   where
     known : Bool → Bool → System × Reply
-    known p q = if p then (if q then forward_next sc s o d else (s, Refused UnknownDevice)) else (s, Refused UnknownOwner)
+    known p q = if p then (if q then forward_item sc s o d (next_routed s o d) else (s, Refused UnknownDevice)) else (s, Refused UnknownOwner)
 
-forward_rests : (sc : SchemeValue) (s : System) (o d : ℕ) → length (arrived_of o (s.devices d)) ≤ (s.lanes o d).forward → forward_next sc s o d ≡ (s, Idle)
-forward_rests sc s o d past = let t : nat_lt (s.lanes o d).forward (length (arrived_of o (s.devices d))) ≡ false = grind (arith, nat_tests) in ap (λ b. if b then (if is_full (lane_room sc o) (s.owners o).queue then (s, Refused Busy) else (forwarded s o d, Forwarded ((s.lanes o d).forward + 1))) else (s, Idle)) t
-
-forward_more : (sc : SchemeValue) (s : System) (o d : ℕ) (full : Bool) → (s.lanes o d).forward < length (arrived_of o (s.devices d)) → is_full (lane_room sc o) (s.owners o).queue ≡ full
-    → forward_next sc s o d ≡ (if full then (s, Refused Busy) else (forwarded s o d, Forwarded ((s.lanes o d).forward + 1)))
-forward_more sc s o d full more is =
-    let t : nat_lt (s.lanes o d).forward (length (arrived_of o (s.devices d))) ≡ true = grind (arith, nat_tests) in
-    ap (λ b. if b then (if is_full (lane_room sc o) (s.owners o).queue then (s, Refused Busy) else (forwarded s o d, Forwarded ((s.lanes o d).forward + 1))) else (s, Idle)) t
-    ∙ ap (λ b. if b then (s, Refused Busy) else (forwarded s o d, Forwarded ((s.lanes o d).forward + 1))) is
-
-pub shown_idle : (sc : SchemeValue) (h : Shape) (s : System) (o d a k c : ℕ) (x : OwnerShape) → Shows sc h s → position_of_owner sc o ≡ Some a → position_of_device sc d ≡ Some k → h.owners o ≡ Some x → x.cursors d ≡ Some c → IsNextRow h.outbox.rows o d c None → Answers sc h (forward sc s o d) Idle
-shown_idle sc h s o d a k c x w owner device e f none =
-    answers_by sc h Idle (forward sc s o d) (s, Idle) (forward_known sc s o d a k owner device ∙ forward_rests sc s o d past) refl w
+-- no row after the cursor is none that was not forwarded
+none_left_of : (sc : SchemeValue) (h : Shape) (s : System) (o d c : ℕ) → Shows sc h s → c ≡ (s.lanes o d).forward → NoRow h.outbox o d c → length (arrived_of o (s.devices d)) ≤ (s.lanes o d).forward
+none_left_of sc h s o d c w cursor none = omega (arith, slice_get-past rows c empty, cursor)
   where
     rows : List RecordValue
     rows = arrived_of o (s.devices d)
 
-    cursor : c ≡ (s.lanes o d).forward
-    cursor = (owner_shown sc h s o x w e).cursors d c f
-
-    lane : IsLane (length rows) (s.lanes o d)
-    lane = w.system.lanes o d
-
     empty : slice_get rows c ≡ None
     empty =
         let place : c + 1 - 1 ≡ c = omega arith in
-        ap (slice_get rows) (sym place) ∙ sym (row_here (s.lanes o d).gone rows (c + 1) (omega (arith, cursor, lane.gone, lane.took))) ∙ sym (w.rows o d (c + 1)) ∙ none (c + 1) (omega arith)
-
-    past : length rows ≤ (s.lanes o d).forward
-    past = omega (arith, slice_get-past rows c empty, cursor)
+        ap (slice_get rows) (sym place) ∙ sym (row_here (s.lanes o d).gone rows (c + 1) (omega (arith, cursor, gone_forwarded sc s o d w.system))) ∙ sym (w.rows o d (c + 1)) ∙ none (c + 1) (omega arith)
 
 -- the row of least lane number after the cursor is the lane's next
 next_row_is : (sc : SchemeValue) (h : Shape) (s : System) (o d c : ℕ) (r : RecordValue) → Shows sc h s → c ≡ (s.lanes o d).forward → IsNextRow h.outbox.rows o d c (Some r) → (slice_get (arrived_of o (s.devices d)) c ≡ Some r) × (r.lane ≡ c + 1)
@@ -112,15 +118,12 @@ next_row_is sc h s o d c r w cursor next =
     gone : ℕ
     gone = (s.lanes o d).gone
 
-    lane : IsLane (length rows) (s.lanes o d)
-    lane = w.system.lanes o d
-
     by : (b : Bool) → nat_lt (c + 1) r.lane ≡ b → slice_get rows (r.lane - 1) ≡ Some r → c < length rows → (slice_get rows c ≡ Some r) × (r.lane ≡ c + 1)
     by true t at more =
         let above : c + 1 < r.lane = grind (arith, nat_tests) in
         let found = element_at rows c more in
         let place : c + 1 - 1 ≡ c = omega arith in
-        let none : None ≡ Some found.0 = sym (next.least (c + 1) (omega arith) above) ∙ w.rows o d (c + 1) ∙ row_here gone rows (c + 1) (omega (arith, cursor, lane.gone, lane.took)) ∙ ap (slice_get rows) place ∙ found.1 in
+        let none : None ≡ Some found.0 = sym (next.least (c + 1) (omega arith) above) ∙ w.rows o d (c + 1) ∙ row_here gone rows (c + 1) (omega (arith, cursor, gone_forwarded sc s o d w.system)) ∙ ap (slice_get rows) place ∙ found.1 in
         absurd (cc)
     by false t at more =
         let le : r.lane ≤ c + 1 = grind (arith, nat_tests) in
@@ -133,33 +136,81 @@ part_front o n k taps r e =
     ap (λ l. slice_get l k) (sym (ap (part o) (take-append-drop n taps)) ∙ filter-append (λ q. q.owner == o) (take n taps) (drop n taps))
     ∙ slice_get-front (part o (take n taps)) (part o (drop n taps)) k r e
 
--- a row that finds the lane queue full
-pub shown_forward_busy : (sc : SchemeValue) (h : Shape) (s : System) (o d a k c : ℕ) (x : OwnerShape) (r : RecordValue) → Shows sc h s → position_of_owner sc o ≡ Some a → position_of_device sc d ≡ Some k → h.owners o ≡ Some x → x.cursors d ≡ Some c → IsNextRow h.outbox.rows o d c (Some r) → lane_room sc o ≤ length x.queue
+-- THE NEXT ITEM
+-- where the forwarder's cursor stands
+pub cursor_stands : (sc : SchemeValue) (h : Shape) (s : System) (o d a : ℕ) (x : OwnerShape) (c : ℕ × ℕ) → Shows sc h s → position_of_owner sc o ≡ Some a → is_some (position_of_device sc d) ≡ true → h.owners o ≡ Some x → x.cursors d ≡ Some c → (c.0 ≡ (s.lanes o d).forward) × (c.1 ≡ (s.lanes o d).from_day)
+cursor_stands sc h s o d a x c w owner known e f =
+    let p = (owner_shown sc h s o x w e).cursors d c known f in
+    (ap (λ (q : ℕ × ℕ). q.0) p, ap (λ (q : ℕ × ℕ). q.1) p)
+
+-- a row comes first
+row_routed : (s : System) (o d : ℕ) → (s.lanes o d).forward < length (arrived_of o (s.devices d)) → next_routed s o d ≡ Some (Lane_of d ((s.lanes o d).forward + 1))
+row_routed s o d more = let t : nat_lt (s.lanes o d).forward (length (arrived_of o (s.devices d))) ≡ true = grind (arith, nat_tests) in ap (λ b. if b then Some (Lane_of d ((s.lanes o d).forward + 1)) else option_map (Day_of d) (day_found s o d)) t
+
+-- where there is none, a statement
+no_row_routed : (s : System) (o d : ℕ) → length (arrived_of o (s.devices d)) ≤ (s.lanes o d).forward → next_routed s o d ≡ option_map (Day_of d) (day_found s o d)
+no_row_routed s o d past = let t : nat_lt (s.lanes o d).forward (length (arrived_of o (s.devices d))) ≡ false = grind (arith, nat_tests) in ap (λ b. if b then Some (Lane_of d ((s.lanes o d).forward + 1)) else option_map (Day_of d) (day_found s o d)) t
+
+-- what the forwarder finds behind its cursor is what comes next
+pub next_found : (sc : SchemeValue) (h : Shape) (s : System) (o d : ℕ) (c : Cursor) (y : Option Item) → IsDay sc.start → Shows sc h s → c.lane ≡ (s.lanes o d).forward → c.day ≡ (s.lanes o d).from_day → IsNext h.outbox o d c y → Both (IsRoutedOf s.devices o) (next_routed s o d) y
+next_found sc h s o d c (Some (item.Tap r)) first w lane day next =
+    let found = next_row_is sc h s o d c.lane r w lane next in
+    let at : slice_get (arrived_of o (s.devices d)) (s.lanes o d).forward ≡ Some r = ap (slice_get (arrived_of o (s.devices d))) (sym lane) ∙ found.0 in
+    let less : (s.lanes o d).forward + 1 - 1 ≡ (s.lanes o d).forward = omega arith in
+    let is : IsAt (numbered_for s o d) ((s.lanes o d).forward + 1) r = record { positive = omega arith; here = ap (slice_get (numbered_for s o d)) less ∙ part_front o (s.devices d).upto (s.lanes o d).forward (s.devices d).taps r at } in
+    subst (λ x. Both (IsRoutedOf s.devices o) x (Some (item.Tap r))) (sym (row_routed s o d (slice_get_within (arrived_of o (s.devices d)) (s.lanes o d).forward r at))) is
+next_found sc h s o d c (Some (item.Stated x)) first w lane day next =
+    let is = statement_found sc h s o d c.day x w day next.1 in
+    subst (λ z. Both (IsRoutedOf s.devices o) z (Some (item.Stated x))) (sym (no_row_routed s o d (none_left_of sc h s o d c.lane w lane next.0) ∙ ap (option_map (Day_of d)) is.0)) is.1
+next_found sc h s o d c None first w lane day next =
+    let none = no_statement_found sc h s o d c.day first w day next.1 in
+    subst (λ z. Both (IsRoutedOf s.devices o) z None) (sym (no_row_routed s o d (none_left_of sc h s o d c.lane w lane next.0) ∙ ap (option_map (Day_of d)) none)) tt
+
+pub shown_idle : (sc : SchemeValue) (h : Shape) (s : System) (o d a k : ℕ) → Shows sc h s → position_of_owner sc o ≡ Some a → position_of_device sc d ≡ Some k → Both (IsRoutedOf s.devices o) (next_routed s o d) None → Answers sc h (forward sc s o d) Idle
+shown_idle sc h s o d a k w owner device next = answers_by sc h Idle (forward sc s o d) (s, Idle) (forward_known sc s o d a k owner device ∙ ap (forward_item sc s o d) (Both-none (IsRoutedOf s.devices o) (next_routed s o d) next)) refl w
+
+-- what is to be forwarded, where something is
+forward_goes : (sc : SchemeValue) (s : System) (o d a k : ℕ) (x : Routed) (full : Bool) → position_of_owner sc o ≡ Some a → position_of_device sc d ≡ Some k → next_routed s o d ≡ Some x → is_full (lane_room sc o) (s.owners o).queue ≡ full → forward sc s o d ≡ (if full then (s, Refused Busy) else (forwarded s o d x, forwarded_reply x))
+forward_goes sc s o d a k x full owner device next is = forward_known sc s o d a k owner device ∙ ap (forward_item sc s o d) next ∙ ap (λ b. if b then (s, Refused Busy) else (forwarded s o d x, forwarded_reply x)) is
+
+-- an item that finds the lane queue full
+pub shown_forward_busy : (sc : SchemeValue) (h : Shape) (s : System) (o d a k : ℕ) (x : OwnerShape) (y : Item) → Shows sc h s → position_of_owner sc o ≡ Some a → position_of_device sc d ≡ Some k → h.owners o ≡ Some x → Both (IsRoutedOf s.devices o) (next_routed s o d) (Some y) → lane_room sc o ≤ length x.queue
     → Answers sc h (forward sc s o d) (Refused Busy)
-shown_forward_busy sc h s o d a k c x r w owner device e f next full =
+shown_forward_busy sc h s o d a k x y w owner device e next full =
+    let found = Both-some (IsRoutedOf s.devices o) (next_routed s o d) y next in
     answers_by sc h (Refused Busy) (forward sc s o d) (s, Refused Busy)
-    (forward_known sc s o d a k owner device ∙ forward_more sc s o d true (slice_get_within (arrived_of o (s.devices d)) (s.lanes o d).forward r at) (has_no_room (lane_room sc o) (s.owners o).queue (omega (arith, full, length-Each2 (IsRoutedOf s.devices o) (s.owners o).queue x.queue p.queue)))) refl w
-  where
-    p : IsOwnerOf sc s.devices o (s.owners o) (s.lanes o) x
-    p = owner_shown sc h s o x w e
+    (forward_goes sc s o d a k found.0 true owner device found.1 (has_no_room (lane_room sc o) (s.owners o).queue (omega (arith, full, length-Each2 (IsRoutedOf s.devices o) (s.owners o).queue x.queue (owner_shown sc h s o x w e).queue)))) refl w
 
-    cursor : c ≡ (s.lanes o d).forward
-    cursor = p.cursors d c f
+-- where a cursor goes with an item
+abbrev pub cursor_past : ℕ × ℕ → Item → ℕ × ℕ
+cursor_past p (item.Tap r) = (r.lane, p.1)
+cursor_past p (item.Stated x) = (p.0, x.day + 1)
 
-    at : slice_get (arrived_of o (s.devices d)) (s.lanes o d).forward ≡ Some r
-    at = ap (slice_get (arrived_of o (s.devices d))) (sym cursor) ∙ (next_row_is sc h s o d c r w cursor next).0
+-- and a lane with it, and what is replied
+routed_past : (sc : SchemeValue) (s : System) (o d : ℕ) (l : LaneState) (x : Routed) (y : Item) → IsSystem sc s → IsRoutedOf s.devices o x y → next_routed s o d ≡ Some x → (forwarded_item y ≡ forwarded_reply x) × (cursor_past (l.forward, l.from_day) y ≡ ((passed l x).forward, (passed l x).from_day))
+routed_past sc s o d l (Lane_of e n) (item.Tap r) is at next = let t = lane_tap_at sc s o e n r is at in (ap reply.Forwarded t.lane, (λ i. (t.lane i, l.from_day)))
+routed_past sc s o d l (Lane_of e n) (item.Stated y) is at next = absurd at
+routed_past sc s o d l (Day_of e day) (item.Tap r) is at next = absurd at
+routed_past sc s o d l (Day_of e day) (item.Stated y) is at next = let on : y.day ≡ day = ap (λ (q : StatementValue). q.day) at.is in (ap reply.ForwardedDay on, (λ i. (l.forward, on i + 1)))
 
-pub shown_forward : (sc : SchemeValue) (h : Shape) (s : System) (o d a k c : ℕ) (x : OwnerShape) (r : RecordValue) → Shows sc h s → position_of_owner sc o ≡ Some a → position_of_device sc d ≡ Some k → h.owners o ≡ Some x → x.cursors d ≡ Some c → IsNextRow h.outbox.rows o d c (Some r) → length x.queue < lane_room sc o
-    → Answers sc (record h { owners = put h.owners o (Some (record x { queue = x.queue ++ r ∷ []; cursors = put x.cursors d (Some r.lane) })) }) (forward sc s o d) (Forwarded r.lane)
-shown_forward sc h s o d a k c x r w owner device e f next room =
-    answers_by sc (record h { owners = put h.owners o (Some new) }) (Forwarded r.lane) (forward sc s o d) (forwarded s o d, Forwarded (l.forward + 1)) goes (ap Forwarded lane)
-    (shows_owner_put sc h s o side lanes new (put_all (λ j a. a.gone ≡ (s.lanes o j).gone) (s.lanes o) d after (λ j. refl) refl) w (subst (λ (y : System × Reply). IsSystem sc y.0) goes (moves_step sc s (event.Forward o d) w.system).system)
+-- a lane that passed an item has taken what it had
+passed_keeps : (l : LaneState) (x : Routed) → ((passed l x).took ≡ l.took) × ((passed l x).gone ≡ l.gone) × ((passed l x).stated ≡ l.stated) × ((passed l x).closed ≡ l.closed)
+passed_keeps l (Lane_of d n) = (refl, refl, refl, refl)
+passed_keeps l (Day_of d day) = (refl, refl, refl, refl)
+
+pub shown_forward : (sc : SchemeValue) (h : Shape) (s : System) (o d a k : ℕ) (x : OwnerShape) (y : Item) (c : ℕ × ℕ) → Shows sc h s → position_of_owner sc o ≡ Some a → position_of_device sc d ≡ Some k → h.owners o ≡ Some x → x.cursors d ≡ Some c → Both (IsRoutedOf s.devices o) (next_routed s o d) (Some y) → length x.queue < lane_room sc o
+    → Answers sc (record h { owners = put h.owners o (Some (record x { queue = x.queue ++ y ∷ []; cursors = put x.cursors d (Some (cursor_past c y)) })) }) (forward sc s o d) (forwarded_item y)
+shown_forward sc h s o d a k x y c w owner device e f next room =
+    answers_by sc (record h { owners = put h.owners o (Some new) }) (forwarded_item y) (forward sc s o d) (forwarded s o d z, forwarded_reply z) goes past.0
+    (shows_owner_put sc h s o side lanes new (put_all (λ j b. b.gone ≡ (s.lanes o j).gone) (s.lanes o) d after (λ j. refl) keeps.1) w (subst (λ (q : System × Reply). IsSystem sc q.0) goes (moves_step sc s (event.Forward o d) w.system).system)
     (record {
       ledger = p.ledger;
-      taken = λ j. p.taken j ∙ put_all (λ i b. take (s.lanes o i).took (numbered_for s o i) ≡ take b.took (numbered_for s o i)) (s.lanes o) d after (λ i. refl) refl j;
-      queue = Each2-push (IsRoutedOf s.devices o) (s.owners o).queue x.queue (Lane_of d (l.forward + 1)) r p.queue (record { positive = omega arith; here = ap (slice_get (numbered_for s o d)) less ∙ here });
+      taken = λ j. p.taken j ∙ put_all (λ i b. take (s.lanes o i).took (numbered_for s o i) ≡ take b.took (numbered_for s o i)) (s.lanes o) d after (λ i. refl) (ap (λ n. take n (numbered_for s o d)) (sym keeps.0)) j;
+      stated = λ j day. p.stated j day ∙ put_all (λ i b. count_of ((s.lanes o i).stated day) (numbered_for s o i) day ≡ count_of (b.stated day) (numbered_for s o i) day) (s.lanes o) d after (λ i. refl) (ap (λ (g : ℕ → Bool). count_of (g day) (numbered_for s o d) day) (sym keeps.2)) j;
+      closed = λ j. p.closed j ∙ put_all (λ i b. (s.lanes o i).closed ≡ b.closed) (s.lanes o) d after (λ i. refl) (sym keeps.3) j;
+      queue = Each2-push (IsRoutedOf s.devices o) (s.owners o).queue x.queue z y p.queue found.2;
       hand = p.hand;
-      cursors = put_both (λ j b q. (n : ℕ) → b ≡ Some n → n ≡ q.forward) x.cursors (s.lanes o) d (Some r.lane) after p.cursors (λ n is. let same : r.lane ≡ n = cc in sym same ∙ lane);
+      cursors = put_both (λ j b q. (n : ℕ × ℕ) → IsSome (position_of_device sc j) → b ≡ Some n → n ≡ (q.forward, q.from_day)) x.cursors (s.lanes o) d (Some (cursor_past c y)) after p.cursors (λ n known is. sym (same_place (cursor_past c y) n is) ∙ ap (λ q. cursor_past q y) (p.cursors d c known f) ∙ past.1);
     }))
   where
     l : LaneState
@@ -168,47 +219,44 @@ shown_forward sc h s o d a k c x r w owner device e f next room =
     p : IsOwnerOf sc s.devices o (s.owners o) (s.lanes o) x
     p = owner_shown sc h s o x w e
 
-    cursor : c ≡ l.forward
-    cursor = p.cursors d c f
+    found : (z : Routed) × (next_routed s o d ≡ Some z) × IsRoutedOf s.devices o z y
+    found = Both-some (IsRoutedOf s.devices o) (next_routed s o d) y next
 
-    found : (slice_get (arrived_of o (s.devices d)) c ≡ Some r) × (r.lane ≡ c + 1)
-    found = next_row_is sc h s o d c r w cursor next
+    z : Routed
+    z = found.0
 
-    at : slice_get (arrived_of o (s.devices d)) l.forward ≡ Some r
-    at = ap (slice_get (arrived_of o (s.devices d))) (sym cursor) ∙ found.0
+    same_place : (m n : ℕ × ℕ) → Some m ≡ Some n → m ≡ n
+    same_place m n q = cc
 
-    lane : r.lane ≡ l.forward + 1
-    lane = found.1 ∙ ap (λ n. n + 1) cursor
+    past : (forwarded_item y ≡ forwarded_reply z) × (cursor_past (l.forward, l.from_day) y ≡ ((passed l z).forward, (passed l z).from_day))
+    past = routed_past sc s o d l z y w.system found.2 found.1
 
-    here : slice_get (numbered_for s o d) l.forward ≡ Some r
-    here = part_front o (s.devices d).upto l.forward (s.devices d).taps r at
-
-    less : l.forward + 1 - 1 ≡ l.forward
-    less = omega arith
+    keeps : ((passed l z).took ≡ l.took) × ((passed l z).gone ≡ l.gone) × ((passed l z).stated ≡ l.stated) × ((passed l z).closed ≡ l.closed)
+    keeps = passed_keeps l z
 
     side : OwnerState
-    side = record (s.owners o) { queue = (s.owners o).queue ++ Lane_of d (l.forward + 1) ∷ [] }
+    side = record (s.owners o) { queue = (s.owners o).queue ++ z ∷ [] }
 
     after : LaneState
-    after = record l { forward = l.forward + 1 }
+    after = passed l z
 
     lanes : ℕ → LaneState
     lanes = put (s.lanes o) d after
 
     new : OwnerShape
-    new = record x { queue = x.queue ++ r ∷ []; cursors = put x.cursors d (Some r.lane) }
+    new = record x { queue = x.queue ++ y ∷ []; cursors = put x.cursors d (Some (cursor_past c y)) }
 
-    goes : forward sc s o d ≡ (forwarded s o d, Forwarded (l.forward + 1))
-    goes = forward_known sc s o d a k owner device ∙ forward_more sc s o d false (slice_get_within (arrived_of o (s.devices d)) l.forward r at) (has_room (lane_room sc o) (s.owners o).queue (omega (arith, room, length-Each2 (IsRoutedOf s.devices o) (s.owners o).queue x.queue p.queue)))
+    goes : forward sc s o d ≡ (forwarded s o d z, forwarded_reply z)
+    goes = forward_goes sc s o d a k z false owner device found.1 (has_room (lane_room sc o) (s.owners o).queue (omega (arith, room, length-Each2 (IsRoutedOf s.devices o) (s.owners o).queue x.queue p.queue)))
 
 -- FETCH
 fetch_known : (sc : SchemeValue) (s : System) (o a : ℕ) → position_of_owner sc o ≡ Some a → fetch sc s o ≡ fetch_from s o (s.owners o).queue (s.owners o).hand
 fetch_known sc s o a at = ap (λ p. if is_some p then fetch_from s o (s.owners o).queue (s.owners o).hand else (s, Refused UnknownOwner)) at
 
-pub shown_fetch_full : (sc : SchemeValue) (h : Shape) (s : System) (o a : ℕ) (x : OwnerShape) (r : RecordValue) → Shows sc h s → position_of_owner sc o ≡ Some a → h.owners o ≡ Some x → x.hand ≡ Some r → Answers sc h (fetch sc s o) (Refused HandFull)
-shown_fetch_full sc h s o a x r w at e f =
+pub shown_fetch_full : (sc : SchemeValue) (h : Shape) (s : System) (o a : ℕ) (x : OwnerShape) (y : Item) → Shows sc h s → position_of_owner sc o ≡ Some a → h.owners o ≡ Some x → x.hand ≡ Some y → Answers sc h (fetch sc s o) (Refused HandFull)
+shown_fetch_full sc h s o a x y w at e f =
     let p = owner_shown sc h s o x w e in
-    let found = Both-some (IsRoutedOf s.devices o) (s.owners o).hand r (subst (Both (IsRoutedOf s.devices o) (s.owners o).hand) f p.hand) in
+    let found = Both-some (IsRoutedOf s.devices o) (s.owners o).hand y (subst (Both (IsRoutedOf s.devices o) (s.owners o).hand) f p.hand) in
     answers_by sc h (Refused HandFull) (fetch sc s o) (s, Refused HandFull) (fetch_known sc s o a at ∙ ap (fetch_from s o (s.owners o).queue) found.1) refl w
 
 pub shown_fetch_empty : (sc : SchemeValue) (h : Shape) (s : System) (o a : ℕ) (x : OwnerShape) → Shows sc h s → position_of_owner sc o ≡ Some a → h.owners o ≡ Some x → x.hand ≡ None → x.queue ≡ [] → Answers sc h (fetch sc s o) Empty
@@ -218,115 +266,113 @@ shown_fetch_empty sc h s o a x w at e f g =
     let queue = Each2-nil (IsRoutedOf s.devices o) (s.owners o).queue (subst (Each2 (IsRoutedOf s.devices o) (s.owners o).queue) g p.queue) in
     answers_by sc h Empty (fetch sc s o) (s, Empty) (fetch_known sc s o a at ∙ (λ i. fetch_from s o (queue i) (hand i))) refl w
 
-pub shown_fetch : (sc : SchemeValue) (h : Shape) (s : System) (o a : ℕ) (x : OwnerShape) (r : RecordValue) (rest : List RecordValue) → Shows sc h s → position_of_owner sc o ≡ Some a → h.owners o ≡ Some x → x.hand ≡ None → x.queue ≡ r ∷ rest
-    → Answers sc (record h { owners = put h.owners o (Some (record x { queue = rest; hand = Some r })) }) (fetch sc s o) (Fetched r.device r.lane)
-shown_fetch sc h s o a x r rest w at e f g =
+-- what is replied of an item that is fetched
+fetched_by : (sc : SchemeValue) (s : System) (o : ℕ) (x : Routed) (y : Item) → IsSystem sc s → IsRoutedOf s.devices o x y → fetched_item y ≡ fetched_reply x
+fetched_by sc s o (Lane_of d n) (item.Tap r) is at = let t = lane_tap_at sc s o d n r is at in (λ i. reply.Fetched (t.device i) (t.lane i))
+fetched_by sc s o (Lane_of d n) (item.Stated y) is at = absurd at
+fetched_by sc s o (Day_of d day) (item.Tap r) is at = absurd at
+fetched_by sc s o (Day_of d day) (item.Stated y) is at = λ i. reply.FetchedDay (at.is i).device (at.is i).day
+
+pub shown_fetch : (sc : SchemeValue) (h : Shape) (s : System) (o a : ℕ) (x : OwnerShape) (y : Item) (rest : List Item) → Shows sc h s → position_of_owner sc o ≡ Some a → h.owners o ≡ Some x → x.hand ≡ None → x.queue ≡ y ∷ rest
+    → Answers sc (record h { owners = put h.owners o (Some (record x { queue = rest; hand = Some y })) }) (fetch sc s o) (fetched_item y)
+shown_fetch sc h s o a x y rest w at e f g =
     let p = owner_shown sc h s o x w e in
     let hand = Both-none (IsRoutedOf s.devices o) (s.owners o).hand (subst (Both (IsRoutedOf s.devices o) (s.owners o).hand) f p.hand) in
-    let found = Each2-cons (IsRoutedOf s.devices o) (s.owners o).queue r rest (subst (Each2 (IsRoutedOf s.devices o) (s.owners o).queue) g p.queue) in
-    let is = routed_is sc s o found.0 r w.system found.3 in
-    let side : OwnerState = record { queue = found.1; hand = Some (Lane_of r.device r.lane) } in
-    let goes : fetch sc s o ≡ (record s { owners = put s.owners o side }, Fetched r.device r.lane) = fetch_known sc s o a at ∙ (λ i. fetch_from s o ((found.2 ∙ ap (λ y. y ∷ found.1) is.0) i) (hand i)) in
-    answers_by sc (record h { owners = put h.owners o (Some (record x { queue = rest; hand = Some r })) }) (Fetched r.device r.lane) (fetch sc s o) (record s { owners = put s.owners o side }, Fetched r.device r.lane) goes refl
-    (shows_side_put sc h s o side (record x { queue = rest; hand = Some r }) w (subst (λ (y : System × Reply). IsSystem sc y.0) goes (moves_step sc s (event.Fetch o) w.system).system)
-    (record { ledger = p.ledger; taken = p.taken; queue = found.4; hand = is.2; cursors = p.cursors }))
+    let found = Each2-cons (IsRoutedOf s.devices o) (s.owners o).queue y rest (subst (Each2 (IsRoutedOf s.devices o) (s.owners o).queue) g p.queue) in
+    let side : OwnerState = record { queue = found.1; hand = Some found.0 } in
+    let goes : fetch sc s o ≡ (record s { owners = put s.owners o side }, fetched_reply found.0) = fetch_known sc s o a at ∙ (λ i. fetch_from s o (found.2 i) (hand i)) in
+    answers_by sc (record h { owners = put h.owners o (Some (record x { queue = rest; hand = Some y })) }) (fetched_item y) (fetch sc s o) (record s { owners = put s.owners o side }, fetched_reply found.0) goes (fetched_by sc s o found.0 y w.system found.3)
+    (shows_side_put sc h s o side (record x { queue = rest; hand = Some y }) w (subst (λ (y : System × Reply). IsSystem sc y.0) goes (moves_step sc s (event.Fetch o) w.system).system)
+    (record { ledger = p.ledger; taken = p.taken; stated = p.stated; closed = p.closed; queue = found.4; hand = found.3; cursors = p.cursors }))
 
 pub shown_fetch_unknown : (sc : SchemeValue) (h : Shape) (s : System) (o : ℕ) → Shows sc h s → position_of_owner sc o ≡ None → Answers sc h (fetch sc s o) (Refused UnknownOwner)
 shown_fetch_unknown sc h s o w none = answers_by sc h (Refused UnknownOwner) (fetch sc s o) (s, Refused UnknownOwner) (ap (λ p. if is_some p then fetch_from s o (s.owners o).queue (s.owners o).hand else (s, Refused UnknownOwner)) none) refl w
 
 -- TAKE
-take_known : (sc : SchemeValue) (s : System) (o a : ℕ) → position_of_owner sc o ≡ Some a → take_event sc s o ≡ take_from s o (s.owners o).hand
-take_known sc s o a at = ap (λ p. if is_some p then take_from s o (s.owners o).hand else (s, Refused UnknownOwner)) at
+take_known : (sc : SchemeValue) (s : System) (o a : ℕ) → position_of_owner sc o ≡ Some a → take_event sc s o ≡ take_from sc s o (s.owners o).hand
+take_known sc s o a at = ap (λ p. if is_some p then take_from sc s o (s.owners o).hand else (s, Refused UnknownOwner)) at
 
 pub shown_take_idle : (sc : SchemeValue) (h : Shape) (s : System) (o a : ℕ) (x : OwnerShape) → Shows sc h s → position_of_owner sc o ≡ Some a → h.owners o ≡ Some x → x.hand ≡ None → Answers sc h (take_event sc s o) Idle
 shown_take_idle sc h s o a x w at e f =
     let p = owner_shown sc h s o x w e in
     let hand = Both-none (IsRoutedOf s.devices o) (s.owners o).hand (subst (Both (IsRoutedOf s.devices o) (s.owners o).hand) f p.hand) in
-    answers_by sc h Idle (take_event sc s o) (s, Idle) (take_known sc s o a at ∙ ap (take_from s o) hand) refl w
+    answers_by sc h Idle (take_event sc s o) (s, Idle) (take_known sc s o a at ∙ ap (take_from sc s o) hand) refl w
 
 pub shown_take_unknown : (sc : SchemeValue) (h : Shape) (s : System) (o : ℕ) → Shows sc h s → position_of_owner sc o ≡ None → Answers sc h (take_event sc s o) (Refused UnknownOwner)
-shown_take_unknown sc h s o w none = answers_by sc h (Refused UnknownOwner) (take_event sc s o) (s, Refused UnknownOwner) (ap (λ p. if is_some p then take_from s o (s.owners o).hand else (s, Refused UnknownOwner)) none) refl w
+shown_take_unknown sc h s o w none = answers_by sc h (Refused UnknownOwner) (take_event sc s o) (s, Refused UnknownOwner) (ap (λ p. if is_some p then take_from sc s o (s.owners o).hand else (s, Refused UnknownOwner)) none) refl w
 
--- what is in the owner's hand is its tap of the record's numbers
-side_found : (sc : SchemeValue) (h : Shape) (s : System) (o a : ℕ) (x : OwnerShape) (r : RecordValue) → Shows sc h s → position_of_owner sc o ≡ Some a → h.owners o ≡ Some x → x.hand ≡ Some r → (take_event sc s o ≡ take_from s o (Some (Lane_of r.device r.lane))) × (r.owner ≡ o) × IsAt (numbered_for s o r.device) r.lane r
-side_found sc h s o a x r w at e f =
-    let p = owner_shown sc h s o x w e in
-    let found = Both-some (IsRoutedOf s.devices o) (s.owners o).hand r (subst (Both (IsRoutedOf s.devices o) (s.owners o).hand) f p.hand) in
-    let is = routed_is sc s o found.0 r w.system found.2 in
-    (take_known sc s o a at ∙ ap (take_from s o) (found.1 ∙ ap Some is.0), is.1, is.2)
-
--- the ledger is the owner's own, and knows the device
-mine : (sc : SchemeValue) (h : Shape) (s : System) (o a : ℕ) (x : OwnerShape) (r : RecordValue) → Shows sc h s → position_of_owner sc o ≡ Some a → h.owners o ≡ Some x → x.hand ≡ Some r → is_mine x.ledger r.owner r.device ≡ true
-mine sc h s o a x r w at e f =
-    let found = side_found sc h s o a x r w at e f in
-    let own : (r.owner == x.ledger.owner) ≡ true = (Decides-eqb r.owner x.ledger.owner).1 (found.1 ∙ sym p.ledger.id) in
-    let among = part_get o (s.devices r.device).taps (r.lane - 1) r found.2.here in
-    let known : x.ledger.knows r.device ≡ true = p.ledger.made.knows r.device ∙ placed_by among.0 (station_of sc r.device) refl among.1 in
-    grind (arith, nat_tests, own, known)
-  where
-    p : IsOwnerOf sc s.devices o (s.owners o) (s.lanes o) x
-    p = owner_shown sc h s o x w e
-
-    placed_by : (k : ℕ) (q : Option ℕ) → station_of sc r.device ≡ q → slice_get (s.devices r.device).taps k ≡ Some r → is_some (position_of_device sc r.device) ≡ true
-    placed_by k None of here =
-        let none : slice_get {X = RecordValue} [] k ≡ Some r = ap (λ l. slice_get l k) (sym ((w.system.devices r.device).known of)) ∙ here in
-        absurd (cc)
-    placed_by k (Some q) of here = placed sc r.device q of
-
--- no day is closed
-open_day : (sc : SchemeValue) (h : Shape) (s : System) (o : ℕ) (x : OwnerShape) (d day : ℕ) → Shows sc h s → h.owners o ≡ Some x → is_closed x.ledger d day ≡ false
-open_day sc h s o x d day w e =
-    let none : x.ledger.closed d ≡ 0 = (owner_shown sc h s o x w e).ledger.closed d in
-    by (nat_le x.ledger.start day) refl none
-  where
-    by : (b : Bool) → nat_le x.ledger.start day ≡ b → x.ledger.closed d ≡ 0 → is_closed x.ledger d day ≡ false
-    by true t none = grind (arith, nat_tests)
-    by false t none = grind (arith, nat_tests)
+-- what is in the owner's hand
+hand_of : (sc : SchemeValue) (h : Shape) (s : System) (o : ℕ) (x : OwnerShape) (y : Item) → Shows sc h s → h.owners o ≡ Some x → x.hand ≡ Some y → (z : Routed) × ((s.owners o).hand ≡ Some z) × IsRoutedOf s.devices o z y
+hand_of sc h s o x y w e f = Both-some (IsRoutedOf s.devices o) (s.owners o).hand y (subst (Both (IsRoutedOf s.devices o) (s.owners o).hand) f (owner_shown sc h s o x w e).hand)
 
 -- how many taps of a device were taken
 pub taken_count : (sc : SchemeValue) (h : Shape) (s : System) (o d : ℕ) (x : OwnerShape) → Shows sc h s → h.owners o ≡ Some x → length (x.ledger.taken d) ≡ (s.lanes o d).took
 taken_count sc h s o d x w e = ap length ((owner_shown sc h s o x w e).taken d) ∙ length-take-le (s.lanes o d).took (numbered_for s o d) (took_numbered sc s o d w.system)
 
--- a refusal empties the hand
-refused_take : (sc : SchemeValue) (h : Shape) (s : System) (o : ℕ) (x : OwnerShape) (why : Refusal) → Shows sc h s → h.owners o ≡ Some x → take_event sc s o ≡ (emptied s o, Refused why)
-    → Answers sc (record h { owners = put h.owners o (Some (record x { hand = None })) }) (take_event sc s o) (Refused why)
-refused_take sc h s o x why w e goes =
+-- an item of the owner is its ledger's own where the device is known
+mine : (sc : SchemeValue) (h : Shape) (s : System) (o d owner : ℕ) (x : OwnerShape) → Shows sc h s → h.owners o ≡ Some x → owner ≡ o → is_mine x.ledger owner d ≡ knows_device sc d
+mine sc h s o d owner x w e same =
     let p = owner_shown sc h s o x w e in
-    answers_by sc (record h { owners = put h.owners o (Some (record x { hand = None })) }) (Refused why) (take_event sc s o) (emptied s o, Refused why) goes refl
-    (shows_side_put sc h s o (record (s.owners o) { hand = None }) (record x { hand = None }) w
-    (owner_changes sc s o (record (s.owners o) { hand = None }) w.system (record { queue = (w.system.owners o).queue; hand = tt }))
-    (record { ledger = p.ledger; taken = p.taken; queue = p.queue; hand = tt; cursors = p.cursors }))
+    let own : (owner == x.ledger.owner) ≡ true = (Decides-eqb owner x.ledger.owner).1 (same ∙ sym p.ledger.id) in
+    ap (λ b. b && x.ledger.knows d) own ∙ p.ledger.made.knows d
 
-duplicate : (sc : SchemeValue) (h : Shape) (s : System) (o a : ℕ) (x : OwnerShape) (r : RecordValue) → Shows sc h s → position_of_owner sc o ≡ Some a → h.owners o ≡ Some x → x.hand ≡ Some r → r.lane ≤ length (x.ledger.taken r.device)
-    → Answers sc (record h { owners = put h.owners o (Some (record x { hand = None })) }) (take_event sc s o) (Refused Duplicate)
-duplicate sc h s o a x r w at e f le =
-    let low : r.lane < (s.lanes o r.device).took + 1 = omega (arith, taken_count sc h s o r.device x w e) in
-    refused_take sc h s o x Duplicate w e ((side_found sc h s o a x r w at e f).0 ∙ goes low)
-  where
-    goes : r.lane < (s.lanes o r.device).took + 1 → take_from s o (Some (Lane_of r.device r.lane)) ≡ (emptied s o, Refused Duplicate)
-    goes low = grind (arith, nat_tests)
+-- a day is closed in the ledger where it is in the model
+closed_there : (sc : SchemeValue) (h : Shape) (s : System) (o d day : ℕ) (x : OwnerShape) → Shows sc h s → h.owners o ≡ Some x → ledger.is_closed x.ledger d day ≡ is_closed sc.start (s.lanes o d).closed day
+closed_there sc h s o d day x w e = let p = owner_shown sc h s o x w e in (λ i. nat_le (p.ledger.made.start i) day && nat_lt day (p.ledger.made.start i + p.closed d i))
 
-gap : (sc : SchemeValue) (h : Shape) (s : System) (o a : ℕ) (x : OwnerShape) (r : RecordValue) → Shows sc h s → position_of_owner sc o ≡ Some a → h.owners o ≡ Some x → x.hand ≡ Some r → length (x.ledger.taken r.device) + 1 < r.lane
-    → Answers sc (record h { owners = put h.owners o (Some (record x { hand = None })) }) (take_event sc s o) (Refused Gap)
-gap sc h s o a x r w at e f lt =
-    let high : (s.lanes o r.device).took + 1 < r.lane = omega (arith, taken_count sc h s o r.device x w e) in
-    refused_take sc h s o x Gap w e ((side_found sc h s o a x r w at e f).0 ∙ goes high)
-  where
-    goes : (s.lanes o r.device).took + 1 < r.lane → take_from s o (Some (Lane_of r.device r.lane)) ≡ (emptied s o, Refused Gap)
-    goes high = grind (arith, nat_tests)
+-- the hand is empty
+abbrev with_empty_hand : Shape → ℕ → OwnerShape → LedgerValue → Shape
+with_empty_hand h o x v = record h { owners = put h.owners o (Some (record x { ledger = v; hand = None })) }
 
-took_one : (sc : SchemeValue) (h : Shape) (s : System) (o a : ℕ) (x : OwnerShape) (r : RecordValue) → Shows sc h s → position_of_owner sc o ≡ Some a → h.owners o ≡ Some x → x.hand ≡ Some r → r.lane ≡ length (x.ledger.taken r.device) + 1
-    → Answers sc (record h { owners = put h.owners o (Some (record x { ledger = ledger.took r x.ledger; hand = None })) }) (take_event sc s o) (Taken r.device r.lane)
-took_one sc h s o a x r w at e f did =
-    answers_by sc (record h { owners = put h.owners o (Some new) }) (Taken r.device r.lane) (take_event sc s o) (took s o d, Taken d r.lane) goes refl
-    (shows_owner_put sc h s o side (put (s.lanes o) d after) new (put_all (λ j b. b.gone ≡ (s.lanes o j).gone) (s.lanes o) d after (λ j. refl) refl) w (subst (λ (y : System × Reply). IsSystem sc y.0) goes (moves_step sc s (event.Take o) w.system).system)
+-- what is seen where the hand is emptied, and one lane of it changes, whose forwarding and pruning go on where they were
+took_shows : (sc : SchemeValue) (h : Shape) (s : System) (o d : ℕ) (x : OwnerShape) (l : LaneState) (v : LedgerValue) → Shows sc h s → h.owners o ≡ Some x → IsSystem sc (with_lane s o d l) → l.forward ≡ (s.lanes o d).forward → l.from_day ≡ (s.lanes o d).from_day → l.gone ≡ (s.lanes o d).gone → IsLedgerOf sc o v
+    → ((j : ℕ) → v.taken j ≡ take (put (s.lanes o) d l j).took (numbered_for s o j)) → ((j day : ℕ) → v.stated j day ≡ count_of ((put (s.lanes o) d l j).stated day) (numbered_for s o j) day) → ((j : ℕ) → v.closed j ≡ (put (s.lanes o) d l j).closed)
+    → Shows sc (with_empty_hand h o x v) (with_lane s o d l)
+took_shows sc h s o d x l v w e is forward from gone of taken stated closed =
+    shows_owner_put sc h s o (record (s.owners o) { hand = None }) (put (s.lanes o) d l) (record x { ledger = v; hand = None }) (put_all (λ j b. b.gone ≡ (s.lanes o j).gone) (s.lanes o) d l (λ j. refl) gone) w is
     (record {
-      ledger = record { id = p.ledger.id; made = record { start = p.ledger.made.start; knows = p.ledger.made.knows }; closed = p.ledger.closed };
-      taken = put_both (λ i b q. b ≡ take q.took (numbered_for s o i)) x.ledger.taken (s.lanes o) d (x.ledger.taken d ++ r ∷ []) after p.taken (ap (λ t. t ++ r ∷ []) (p.taken d) ∙ sym (take-one_more (numbered_for s o d) l.took r here));
+      ledger = of;
+      taken = taken;
+      stated = stated;
+      closed = closed;
       queue = p.queue;
       hand = tt;
-      cursors = put_all (λ j q. (n : ℕ) → x.cursors j ≡ Some n → n ≡ q.forward) (s.lanes o) d after p.cursors (p.cursors d);
-    }))
+      cursors = put_all (λ j b. (n : ℕ × ℕ) → IsSome (position_of_device sc j) → x.cursors j ≡ Some n → n ≡ (b.forward, b.from_day)) (s.lanes o) d l p.cursors (λ n known f. p.cursors d n known f ∙ (λ i. (sym forward i, sym from i)));
+    })
+  where
+    p : IsOwnerOf sc s.devices o (s.owners o) (s.lanes o) x
+    p = owner_shown sc h s o x w e
+
+-- a refusal empties the hand
+refused_take : (sc : SchemeValue) (h : Shape) (s : System) (o : ℕ) (x : OwnerShape) (why : Refusal) → Shows sc h s → h.owners o ≡ Some x → take_event sc s o ≡ (emptied s o, reply.Refused why) → Answers sc (with_empty_hand h o x x.ledger) (take_event sc s o) (Refused why)
+refused_take sc h s o x why w e goes =
+    let p = owner_shown sc h s o x w e in
+    answers_by sc (with_empty_hand h o x x.ledger) (Refused why) (take_event sc s o) (emptied s o, Refused why) goes refl
+    (shows_side_put sc h s o (record (s.owners o) { hand = None }) (record x { hand = None }) w
+    (subst (λ (y : System × Reply). IsSystem sc y.0) goes (moves_step sc s (event.Take o) w.system).system)
+    (record { ledger = p.ledger; taken = p.taken; stated = p.stated; closed = p.closed; queue = p.queue; hand = tt; cursors = p.cursors }))
+
+-- A TAP IS TAKEN
+-- the step judges as the ledger does
+tap_goes : (sc : SchemeValue) (h : Shape) (s : System) (o a : ℕ) (x : OwnerShape) (r : RecordValue) → Shows sc h s → position_of_owner sc o ≡ Some a → h.owners o ≡ Some x → x.hand ≡ Some (item.Tap r) → (take_event sc s o ≡ take_tap s o r.device r.lane (take_judged x.ledger r)) × IsAt (numbered_for s o r.device) r.lane r
+tap_goes sc h s o a x r w at e f =
+    let found = hand_of sc h s o x (item.Tap r) w e f in
+    let is = routed_is sc s o found.0 r w.system found.2 in
+    let of_day : is_of_closed_day sc.start (s.lanes o r.device).closed (slice_get (numbered_for s o r.device) (r.lane - 1)) ≡ ledger.is_closed x.ledger r.device r.tap.day = ap (is_of_closed_day sc.start (s.lanes o r.device).closed) is.2.here ∙ sym (closed_there sc h s o r.device r.tap.day x w e) in (
+      take_known sc s o a at ∙ ap (take_from sc s o) (found.1 ∙ ap Some is.0)
+          ∙ (λ i. take_tap s o r.device r.lane (tap_judged (sym (mine sc h s o r.device r.owner x w e is.1) i) (sym (taken_count sc h s o r.device x w e) i) (of_day i) r.lane)),
+      is.2,
+    )
+
+took_one : (sc : SchemeValue) (h : Shape) (s : System) (o a : ℕ) (x : OwnerShape) (r : RecordValue) → Shows sc h s → position_of_owner sc o ≡ Some a → h.owners o ≡ Some x → x.hand ≡ Some (item.Tap r) → take_judged x.ledger r ≡ Ok tt → r.lane ≡ length (x.ledger.taken r.device) + 1
+    → Answers sc (with_empty_hand h o x (ledger.took r x.ledger)) (take_event sc s o) (Taken r.device r.lane)
+took_one sc h s o a x r w at e f judged did =
+    answers_by sc (with_empty_hand h o x (ledger.took r x.ledger)) (Taken r.device r.lane) (take_event sc s o) (with_lane s o d after, Taken d r.lane) goes refl
+    (took_shows sc h s o d x after (ledger.took r x.ledger) w e (subst (λ (y : System × Reply). IsSystem sc y.0) goes (moves_step sc s (event.Take o) w.system).system) refl refl refl
+    (record { id = p.ledger.id; made = record { start = p.ledger.made.start; knows = p.ledger.made.knows } })
+    (put_both (λ i b q. b ≡ take q.took (numbered_for s o i)) x.ledger.taken (s.lanes o) d (x.ledger.taken d ++ r ∷ []) after p.taken (ap (λ t. t ++ r ∷ []) (p.taken d) ∙ sym (take-one_more (numbered_for s o d) l.took r here)))
+    (λ j day. p.stated j day ∙ put_all (λ i b. count_of ((s.lanes o i).stated day) (numbered_for s o i) day ≡ count_of (b.stated day) (numbered_for s o i) day) (s.lanes o) d after (λ i. refl) refl j)
+    (λ j. p.closed j ∙ put_all (λ i b. (s.lanes o i).closed ≡ b.closed) (s.lanes o) d after (λ i. refl) refl j))
   where
     d : ℕ
     d = r.device
@@ -334,48 +380,155 @@ took_one sc h s o a x r w at e f did =
     l : LaneState
     l = s.lanes o d
 
+    after : LaneState
+    after = record l { took = l.took + 1 }
+
     p : IsOwnerOf sc s.devices o (s.owners o) (s.lanes o) x
     p = owner_shown sc h s o x w e
 
-    found : (take_event sc s o ≡ take_from s o (Some (Lane_of r.device r.lane))) × (r.owner ≡ o) × IsAt (numbered_for s o r.device) r.lane r
-    found = side_found sc h s o a x r w at e f
+    found : (take_event sc s o ≡ take_tap s o r.device r.lane (take_judged x.ledger r)) × IsAt (numbered_for s o r.device) r.lane r
+    found = tap_goes sc h s o a x r w at e f
 
     next : r.lane ≡ l.took + 1
     next = did ∙ ap (λ n. n + 1) (taken_count sc h s o d x w e)
 
     here : slice_get (numbered_for s o d) l.took ≡ Some r
-    here = let less : l.took ≡ r.lane - 1 = omega (arith, next) in ap (slice_get (numbered_for s o d)) less ∙ found.2.here
+    here = let less : l.took ≡ r.lane - 1 = omega (arith, next) in ap (slice_get (numbered_for s o d)) less ∙ found.1.here
 
-    side : OwnerState
-    side = record (s.owners o) { hand = None }
-
-    after : LaneState
-    after = record l { took = l.took + 1 }
-
-    new : OwnerShape
-    new = record x { ledger = ledger.took r x.ledger; hand = None }
-
-    runs : r.lane ≡ l.took + 1 → take_from s o (Some (Lane_of r.device r.lane)) ≡ (took s o d, Taken d r.lane)
-    runs is = grind (arith, nat_tests)
-
-    goes : take_event sc s o ≡ (took s o d, Taken d r.lane)
-    goes = found.0 ∙ runs next
+    goes : take_event sc s o ≡ (with_lane s o d after, Taken d r.lane)
+    goes = found.0 ∙ ap (take_tap s o d r.lane) judged
 
 -- what is seen after a take that was judged so
 abbrev pub TakeSeen : SchemeValue → Shape → System → ℕ → OwnerShape → RecordValue → Result Unit TapFault → Type 0
-TakeSeen sc h s o x r (Ok _) = Answers sc (record h { owners = put h.owners o (Some (record x { ledger = ledger.took r x.ledger; hand = None })) }) (take_event sc s o) (Taken r.device r.lane)
-TakeSeen sc h s o x r (Err why) = Answers sc (record h { owners = put h.owners o (Some (record x { hand = None })) }) (take_event sc s o) (Refused (take_refusal_of why))
+TakeSeen sc h s o x r (Ok _) = Answers sc (with_empty_hand h o x (ledger.took r x.ledger)) (take_event sc s o) (Taken r.device r.lane)
+TakeSeen sc h s o x r (Err why) = Answers sc (with_empty_hand h o x x.ledger) (take_event sc s o) (Refused (tap_refusal why))
 
-pub shown_take : (sc : SchemeValue) (h : Shape) (s : System) (o a : ℕ) (x : OwnerShape) (r : RecordValue) → Shows sc h s → position_of_owner sc o ≡ Some a → h.owners o ≡ Some x → x.hand ≡ Some r → TakeSeen sc h s o x r (take_judged x.ledger r)
-shown_take sc h s o a x r w at e f =
-    if_all (not (is_mine x.ledger r.owner r.device)) (TakeSeen sc h s o x r) _ _ (λ q. absurd (both_ways (ap not (mine sc h s o a x r w at e f)) q))
-    (λ _. if_all (nat_le r.lane (length (x.ledger.taken r.device))) (TakeSeen sc h s o x r) _ _ (λ q. duplicate sc h s o a x r w at e f (at_most _ _ q))
-    (λ b. if_all (nat_lt (length (x.ledger.taken r.device) + 1) r.lane) (TakeSeen sc h s o x r) _ _ (λ q. gap sc h s o a x r w at e f (below _ _ q))
-    (λ c. if_all (is_closed x.ledger r.device r.tap.day) (TakeSeen sc h s o x r) _ _ (λ q. absurd (both_ways (open_day sc h s o x r.device r.tap.day w e) q))
-    (λ _. took_one sc h s o a x r w at e f (omega (arith, above _ _ b, not_below _ _ c))))))
+-- where the ledger takes a tap it is the next
+taken_next : (v : LedgerValue) (r : RecordValue) → take_judged v r ≡ Ok tt → r.lane ≡ length (v.taken r.device) + 1
+taken_next v r judged =
+    if_all (not (is_mine v r.owner r.device)) (λ (q : Result Unit TapFault). q ≡ Ok tt → r.lane ≡ length (v.taken r.device) + 1) _ _ (λ _ q. absurd (cc))
+    (λ _. if_all (nat_le r.lane (length (v.taken r.device))) (λ (q : Result Unit TapFault). q ≡ Ok tt → r.lane ≡ length (v.taken r.device) + 1) _ _ (λ _ q. absurd (cc))
+    (λ b. if_all (nat_lt (length (v.taken r.device) + 1) r.lane) (λ (q : Result Unit TapFault). q ≡ Ok tt → r.lane ≡ length (v.taken r.device) + 1) _ _ (λ _ q. absurd (cc))
+    (λ c q. omega (arith, above _ _ b, not_below _ _ c)))) judged
+
+pub shown_take : (sc : SchemeValue) (h : Shape) (s : System) (o a : ℕ) (x : OwnerShape) (r : RecordValue) (judged : Result Unit TapFault) → Shows sc h s → position_of_owner sc o ≡ Some a → h.owners o ≡ Some x → x.hand ≡ Some (item.Tap r) → take_judged x.ledger r ≡ judged → TakeSeen sc h s o x r judged
+shown_take sc h s o a x r (Ok u) w at e f is = took_one sc h s o a x r w at e f (is ∙ ap Ok (unit_is u)) (taken_next x.ledger r (is ∙ ap Ok (unit_is u)))
   where
-    both_ways : {b : Bool} → b ≡ false → b ≡ true → ⊥
-    both_ways off on = let both : false ≡ true = sym off ∙ on in absurd (cc)
+    unit_is : (u : Unit {0}) → u ≡ tt
+    unit_is u = refl
+shown_take sc h s o a x r (Err why) w at e f is = refused_take sc h s o x (tap_refusal why) w e ((tap_goes sc h s o a x r w at e f).0 ∙ ap (take_tap s o r.device r.lane) is)
+
+-- A STATEMENT IS TAKEN
+statement_goes : (sc : SchemeValue) (h : Shape) (s : System) (o a : ℕ) (x : OwnerShape) (y : StatementValue) → Shows sc h s → position_of_owner sc o ≡ Some a → h.owners o ≡ Some x → x.hand ≡ Some (item.Stated y) → (take_event sc s o ≡ take_statement s o y.device y.day (state_judged x.ledger y)) × (y.count ≡ day_count (numbered_for s o y.device) y.day)
+statement_goes sc h s o a x y w at e f =
+    let found = hand_of sc h s o x (item.Stated y) w e f in
+    let is = routed_states s.devices o found.0 y found.2 in
+    let count : y.count ≡ day_count (numbered_for s o y.device) y.day = ap (λ (q : StatementValue). q.count) is.2.is in (
+      take_known sc s o a at ∙ ap (take_from sc s o) (found.1 ∙ ap Some is.0)
+          ∙ (λ i. take_statement s o y.device y.day (statement_judged (sym (mine sc h s o y.device y.owner x w e is.1) i) (sym ((owner_shown sc h s o x w e).stated y.device y.day) i) (sym count i))),
+      count,
+    )
+
+stated_one : (sc : SchemeValue) (h : Shape) (s : System) (o a : ℕ) (x : OwnerShape) (y : StatementValue) → Shows sc h s → position_of_owner sc o ≡ Some a → h.owners o ≡ Some x → x.hand ≡ Some (item.Stated y) → state_judged x.ledger y ≡ Ok tt
+    → Answers sc (with_empty_hand h o x (ledger.with_statement y x.ledger)) (take_event sc s o) (reply.Stated y.device y.day y.count)
+stated_one sc h s o a x y w at e f judged =
+    answers_by sc (with_empty_hand h o x (ledger.with_statement y x.ledger)) (reply.Stated y.device y.day y.count) (take_event sc s o) (with_lane s o d after, reply.Stated d y.day (day_count (numbered_for s o d) y.day)) goes (ap (reply.Stated d y.day) found.1)
+    (took_shows sc h s o d x after (ledger.with_statement y x.ledger) w e (subst (λ (y : System × Reply). IsSystem sc y.0) goes (moves_step sc s (event.Take o) w.system).system) refl refl refl
+    (record { id = p.ledger.id; made = record { start = p.ledger.made.start; knows = p.ledger.made.knows } })
+    (λ j. p.taken j ∙ put_all (λ i b. take (s.lanes o i).took (numbered_for s o i) ≡ take b.took (numbered_for s o i)) (s.lanes o) d after (λ i. refl) refl j)
+    (put_both (λ j (b : ℕ → Option ℕ) q. (day : ℕ) → b day ≡ count_of (q.stated day) (numbered_for s o j) day) x.ledger.stated (s.lanes o) d (put (x.ledger.stated d) y.day (Some y.count)) after p.stated
+    (put_both (λ day (b : Option ℕ) (q : Bool). b ≡ count_of q (numbered_for s o d) day) (x.ledger.stated d) l.stated y.day (Some y.count) true (p.stated d) (ap Some found.1)))
+    (λ j. p.closed j ∙ put_all (λ i b. (s.lanes o i).closed ≡ b.closed) (s.lanes o) d after (λ i. refl) refl j))
+  where
+    d : ℕ
+    d = y.device
+
+    l : LaneState
+    l = s.lanes o d
+
+    after : LaneState
+    after = record l { stated = put l.stated y.day true }
+
+    p : IsOwnerOf sc s.devices o (s.owners o) (s.lanes o) x
+    p = owner_shown sc h s o x w e
+
+    found : (take_event sc s o ≡ take_statement s o y.device y.day (state_judged x.ledger y)) × (y.count ≡ day_count (numbered_for s o y.device) y.day)
+    found = statement_goes sc h s o a x y w at e f
+
+    goes : take_event sc s o ≡ (with_lane s o d after, reply.Stated d y.day (day_count (numbered_for s o d) y.day))
+    goes = found.0 ∙ ap (take_statement s o d y.day) judged
+
+abbrev pub StateSeen : SchemeValue → Shape → System → ℕ → OwnerShape → StatementValue → Result Unit StatementFault → Type 0
+StateSeen sc h s o x y (Ok _) = Answers sc (with_empty_hand h o x (ledger.with_statement y x.ledger)) (take_event sc s o) (reply.Stated y.device y.day y.count)
+StateSeen sc h s o x y (Err why) = Answers sc (with_empty_hand h o x x.ledger) (take_event sc s o) (Refused (statement_refusal why))
+
+pub shown_statement : (sc : SchemeValue) (h : Shape) (s : System) (o a : ℕ) (x : OwnerShape) (y : StatementValue) (judged : Result Unit StatementFault) → Shows sc h s → position_of_owner sc o ≡ Some a → h.owners o ≡ Some x → x.hand ≡ Some (item.Stated y) → state_judged x.ledger y ≡ judged → StateSeen sc h s o x y judged
+shown_statement sc h s o a x y (Ok u) w at e f is = stated_one sc h s o a x y w at e f (is ∙ ap Ok (unit_is u))
+  where
+    unit_is : (u : Unit {0}) → u ≡ tt
+    unit_is u = refl
+shown_statement sc h s o a x y (Err why) w at e f is = refused_take sc h s o x (statement_refusal why) w e ((statement_goes sc h s o a x y w at e f).0 ∙ ap (take_statement s o y.device y.day) is)
+
+-- CLOSE
+close_known : (sc : SchemeValue) (s : System) (o d day a : ℕ) → position_of_owner sc o ≡ Some a → is_some (position_of_device sc d) ≡ true → close sc s o d day ≡ close_on sc s o d day
+close_known sc s o d day a owner device = λ i. known (is_some (owner i)) (device i)
+  where
+    known : Bool → Bool → System × Reply
+    known p q = if p then (if q then close_on sc s o d day else (s, Refused UnknownDevice)) else (s, Refused UnknownOwner)
+
+pub shown_close_unknown_owner : (sc : SchemeValue) (h : Shape) (s : System) (o d day : ℕ) → Shows sc h s → position_of_owner sc o ≡ None → Answers sc h (close sc s o d day) (Refused UnknownOwner)
+shown_close_unknown_owner sc h s o d day w none =
+    let known : System × Reply = if knows_device sc d then close_on sc s o d day else (s, Refused UnknownDevice) in
+    answers_by sc h (Refused UnknownOwner) (close sc s o d day) (s, Refused UnknownOwner) (ap (λ p. if is_some p then known else (s, Refused UnknownOwner)) none) refl w
+
+pub shown_close_unknown : (sc : SchemeValue) (h : Shape) (s : System) (o d day a : ℕ) → Shows sc h s → position_of_owner sc o ≡ Some a → is_some (position_of_device sc d) ≡ false → Answers sc h (close sc s o d day) (Refused UnknownDevice)
+shown_close_unknown sc h s o d day a w owner none = answers_by sc h (Refused UnknownDevice) (close sc s o d day) (s, Refused UnknownDevice) (λ i. if is_some (owner i) then (if none i then close_on sc s o d day else (s, Refused UnknownDevice)) else (s, Refused UnknownOwner)) refl w
+
+-- the step judges as the ledger does
+close_goes : (sc : SchemeValue) (h : Shape) (s : System) (o d day a : ℕ) (x : OwnerShape) → Shows sc h s → position_of_owner sc o ≡ Some a → is_some (position_of_device sc d) ≡ true → h.owners o ≡ Some x → close sc s o d day ≡ close_by s o d day (close_of x.ledger d day)
+close_goes sc h s o d day a x w owner device e =
+    close_known sc s o d day a owner device
+    ∙ (λ i. close_by s o d day (close_judged (sym (p.stated d day) i) (sym (closed_there sc h s o d day x w e) i) (day == sym p.ledger.made.start i + sym (p.closed d) i) (day_count (sym (p.taken d) i) day)))
+  where
+    p : IsOwnerOf sc s.devices o (s.owners o) (s.lanes o) x
+    p = owner_shown sc h s o x w e
+
+-- what is seen after a close that was judged so
+abbrev pub CloseSeen : SchemeValue → Shape → System → ℕ → ℕ → ℕ → OwnerShape → Result Unit CloseFault → Type 0
+CloseSeen sc h s o d day x (Ok _) = Answers sc (record h { owners = put h.owners o (Some (record x { ledger = ledger.with_close d x.ledger })) }) (close sc s o d day) (Closed d day)
+CloseSeen sc h s o d day x (Err why) = Answers sc h (close sc s o d day) (Refused (close_refusal why))
+
+closed_one : (sc : SchemeValue) (h : Shape) (s : System) (o d day a : ℕ) (x : OwnerShape) → Shows sc h s → position_of_owner sc o ≡ Some a → h.owners o ≡ Some x → close sc s o d day ≡ (closed_day s o d, Closed d day) → CloseSeen sc h s o d day x (Ok tt)
+closed_one sc h s o d day a x w owner e goes =
+    answers_by sc (record h { owners = put h.owners o (Some new) }) (Closed d day) (close sc s o d day) (closed_day s o d, Closed d day) goes refl
+    (shows_owner sc h s o s.owners (put2 s.lanes o d after) new w (subst (λ (y : System × Reply). IsSystem sc y.0) goes (moves_step sc s (event.Close o d day) w.system).system) (λ j apart. refl) (put_other s.lanes o (put (s.lanes o) d after))
+    (put2_all (λ j i b. b.gone ≡ (s.lanes j i).gone) s.lanes o d after (λ j i. refl) refl)
+    (subst (λ (q : ℕ → LaneState). IsOwnerOf sc s.devices o (s.owners o) q new) (sym (put_here s.lanes o (put (s.lanes o) d after)))
+    (record {
+      ledger = record { id = p.ledger.id; made = record { start = p.ledger.made.start; knows = p.ledger.made.knows } };
+      taken = λ j. p.taken j ∙ put_all (λ i b. take (s.lanes o i).took (numbered_for s o i) ≡ take b.took (numbered_for s o i)) (s.lanes o) d after (λ i. refl) refl j;
+      stated = λ j k. p.stated j k ∙ put_all (λ i b. count_of ((s.lanes o i).stated k) (numbered_for s o i) k ≡ count_of (b.stated k) (numbered_for s o i) k) (s.lanes o) d after (λ i. refl) refl j;
+      closed = put_both (λ j (b : ℕ) q. b ≡ q.closed) x.ledger.closed (s.lanes o) d (x.ledger.closed d + 1) after p.closed (ap (λ n. n + 1) (p.closed d));
+      queue = p.queue;
+      hand = p.hand;
+      cursors = put_all (λ j b. (n : ℕ × ℕ) → IsSome (position_of_device sc j) → x.cursors j ≡ Some n → n ≡ (b.forward, b.from_day)) (s.lanes o) d after p.cursors (p.cursors d);
+    })))
+  where
+    l : LaneState
+    l = s.lanes o d
+
+    after : LaneState
+    after = record l { closed = l.closed + 1 }
+
+    new : OwnerShape
+    new = record x { ledger = ledger.with_close d x.ledger }
+
+    p : IsOwnerOf sc s.devices o (s.owners o) (s.lanes o) x
+    p = owner_shown sc h s o x w e
+
+pub shown_close : (sc : SchemeValue) (h : Shape) (s : System) (o d day a : ℕ) (x : OwnerShape) (judged : Result Unit CloseFault) → Shows sc h s → position_of_owner sc o ≡ Some a → is_some (position_of_device sc d) ≡ true → h.owners o ≡ Some x → close_of x.ledger d day ≡ judged → CloseSeen sc h s o d day x judged
+shown_close sc h s o d day a x (Ok u) w owner device e is = closed_one sc h s o d day a x w owner e (close_goes sc h s o d day a x w owner device e ∙ ap (close_by s o d day) is)
+shown_close sc h s o d day a x (Err why) w owner device e is = answers_by sc h (Refused (close_refusal why)) (close sc s o d day) (s, Refused (close_refusal why)) (close_goes sc h s o d day a x w owner device e ∙ ap (close_by s o d day) is) refl w
 
 -- COUNT
 pub shown_count : (sc : SchemeValue) (h : Shape) (s : System) (o d a : ℕ) (x : OwnerShape) (n : ℕ) → Shows sc h s → position_of_owner sc o ≡ Some a → is_some (position_of_device sc d) ≡ true → h.owners o ≡ Some x → n ≡ length (x.ledger.taken d) → Answers sc h (count sc s o d) (Count n)
@@ -421,8 +574,9 @@ shown_prune sc h s o d a x n w owner device e counted =
       upto = w.upto;
       rows = put_both (λ p (f : ℕ → ℕ → Option RecordValue) (lanes : ℕ → LaneState). (j k : ℕ) → f j k ≡ row_at (lanes j).gone (arrived_of p (s.devices j)) k) h.outbox.rows s.lanes o _ _ w.rows
           (put_both (λ j (f : ℕ → Option RecordValue) (b : LaneState). (k : ℕ) → f k ≡ row_at b.gone (arrived_of o (s.devices j)) k) (h.outbox.rows o) (s.lanes o) d (behind n (h.outbox.rows o d)) after (w.rows o) left);
-      held = (λ i. w.held i - many i);
+      row_count = (λ i. w.row_count i - many i);
       stated = w.stated;
+      stated_count = w.stated_count;
       owners = λ p. IfSome-weaken (IsOwnerOf sc s.devices p (s.owners p) (s.lanes p)) (IsOwnerOf sc s.devices p (s.owners p) (put2 s.lanes o d after p)) (kept p) (h.owners p) (w.owners p);
     })
   where
@@ -435,22 +589,24 @@ shown_prune sc h s o d a x n w owner device e counted =
     is : n ≡ l.took
     is = counted ∙ taken_count sc h s o d x w e
 
-    lane : IsLane (length (arrived_of o (s.devices d))) l
-    lane = w.system.lanes o d
+    within : l.took ≤ length (arrived_of o (s.devices d))
+    within = took_arrived sc s o d w.system
 
     many : rows_upto n (h.outbox.rows o d) ≡ l.took - l.gone
-    many = (λ i. rows_upto n (λ k. w.rows o d k i)) ∙ rows_pruned l.gone (arrived_of o (s.devices d)) n (omega (arith, is, lane.took, lane.forward)) ∙ ap (λ m. m - l.gone) is
+    many = (λ i. rows_upto n (λ k. w.rows o d k i)) ∙ rows_pruned l.gone (arrived_of o (s.devices d)) n (omega (arith, is, within)) ∙ ap (λ m. m - l.gone) is
 
     left : (k : ℕ) → behind n (h.outbox.rows o d) k ≡ row_at l.took (arrived_of o (s.devices d)) k
-    left k = (λ i. behind n (λ j. w.rows o d j i) k) ∙ row_pruned l.gone n (arrived_of o (s.devices d)) k (omega (arith, is, lane.gone)) ∙ ap (λ m. row_at m (arrived_of o (s.devices d)) k) is
+    left k = (λ i. behind n (λ j. w.rows o d j i) k) ∙ row_pruned l.gone n (arrived_of o (s.devices d)) k (omega (arith, is, (w.system.lanes o d).gone)) ∙ ap (λ m. row_at m (arrived_of o (s.devices d)) k) is
 
     kept : (p : ℕ) (y : OwnerShape) → IsOwnerOf sc s.devices p (s.owners p) (s.lanes p) y → IsOwnerOf sc s.devices p (s.owners p) (put2 s.lanes o d after p) y
     kept p y q = record {
       ledger = q.ledger;
       taken = λ j. q.taken j ∙ ap (λ m. take m (part p (s.devices j).taps)) (sym (put2_all (λ v e b. b.took ≡ (s.lanes v e).took) s.lanes o d after (λ v e. refl) refl p j));
+      stated = λ j day. q.stated j day ∙ ap (λ (g : ℕ → Bool). count_of (g day) (part p (s.devices j).taps) day) (sym (put2_all (λ v e b. b.stated ≡ (s.lanes v e).stated) s.lanes o d after (λ v e. refl) refl p j));
+      closed = λ j. q.closed j ∙ sym (put2_all (λ v e b. b.closed ≡ (s.lanes v e).closed) s.lanes o d after (λ v e. refl) refl p j);
       queue = q.queue;
       hand = q.hand;
-      cursors = λ j m f. q.cursors j m f ∙ sym (put2_all (λ v e b. b.forward ≡ (s.lanes v e).forward) s.lanes o d after (λ v e. refl) refl p j);
+      cursors = λ j m known f. q.cursors j m known f ∙ sym (put2_all (λ v e b. ◌≡◌ {A = ℕ × ℕ} (b.forward, b.from_day) ((s.lanes v e).forward, (s.lanes v e).from_day)) s.lanes o d after (λ v e. refl) refl p j);
     }
 
 -- THE CODE'S TABLES
@@ -479,23 +635,30 @@ owner_kept w o a old new at within read same =
 pub same_owner : (w : Seen) (a : ℕ) (x y : OwnerShape) → a < length w.owners → x ≡ get_or w.owners a x → y ≡ get_or w.owners a y → x ≡ y
 same_owner w a x y within e f = same_Some x y (sym (slice_get_read w.owners (length w.owners) a x refl within e) ∙ slice_get_read w.owners (length w.owners) a y refl within f)
 
--- an owner with a row more in its queue, which is the cursor's now
-pub world_forwarded : (w : Seen) (s : System) (o d a k c : ℕ) (y new : OwnerShape) (r : RecordValue) (n : ℕ) → Shows w.scheme (shape w) s → position_of_owner w.scheme o ≡ Some a → position_of_device w.scheme d ≡ Some k → a < length w.owners → y ≡ get_or w.owners a y → y.cursors d ≡ Some c → IsNextRow (shape w).outbox.rows o d c (Some r) → length y.queue < lane_room w.scheme o
-    → new ≡ record y { queue = y.queue ++ r ∷ []; cursors = put y.cursors d (Some r.lane) } → n ≡ r.lane
-    → Answers w.scheme (record (shape w) { owners = λ j. entry (position_of_owner w.scheme j) (set w.owners a new) }) (forward w.scheme s o d) (Forwarded n)
-world_forwarded w s o d a k c y new r n sh owner device within read cursor next room seen same =
-    owner_written w o a new (record y { queue = y.queue ++ r ∷ []; cursors = put y.cursors d (Some r.lane) }) (forward w.scheme s o d) (Forwarded n) owner within seen
-    (subst (Answers w.scheme (record (shape w) { owners = put (shape w).owners o (Some (record y { queue = y.queue ++ r ∷ []; cursors = put y.cursors d (Some r.lane) })) }) (forward w.scheme s o d)) (ap Forwarded (sym same))
-    (shown_forward w.scheme (shape w) s o d a k c y r sh owner device (owner_read w o a y owner within read) cursor next room))
+-- an owner with an item more in its queue, past which the cursor went
+pub world_forwarded : (w : Seen) (s : System) (o d a k : ℕ) (y new : OwnerShape) (x : Item) (c : ℕ × ℕ) (r : Reply) → Shows w.scheme (shape w) s → position_of_owner w.scheme o ≡ Some a → position_of_device w.scheme d ≡ Some k → a < length w.owners → y ≡ get_or w.owners a y → y.cursors d ≡ Some c → Both (IsRoutedOf s.devices o) (next_routed s o d) (Some x) → length y.queue < lane_room w.scheme o
+    → new ≡ record y { queue = y.queue ++ x ∷ []; cursors = put y.cursors d (Some (cursor_past c x)) } → r ≡ forwarded_item x
+    → Answers w.scheme (record (shape w) { owners = λ j. entry (position_of_owner w.scheme j) (set w.owners a new) }) (forward w.scheme s o d) r
+world_forwarded w s o d a k y new x c r sh owner device within read cursor next room seen same =
+    owner_written w o a new (record y { queue = y.queue ++ x ∷ []; cursors = put y.cursors d (Some (cursor_past c x)) }) (forward w.scheme s o d) r owner within seen
+    (subst (Answers w.scheme (record (shape w) { owners = put (shape w).owners o (Some (record y { queue = y.queue ++ x ∷ []; cursors = put y.cursors d (Some (cursor_past c x)) })) }) (forward w.scheme s o d)) (sym same)
+    (shown_forward w.scheme (shape w) s o d a k y x c sh owner device (owner_read w o a y owner within read) cursor next room))
 
-pub world_fetched : (w : Seen) (s : System) (o a : ℕ) (y new : OwnerShape) (r : RecordValue) (device lane : ℕ) → Shows w.scheme (shape w) s → position_of_owner w.scheme o ≡ Some a → a < length w.owners → y ≡ get_or w.owners a y → y.hand ≡ None → y.queue ≡ r ∷ new.queue → new.ledger ≡ y.ledger → new.hand ≡ Some r → new.cursors ≡ y.cursors → device ≡ r.device → lane ≡ r.lane
-    → Answers w.scheme (record (shape w) { owners = λ j. entry (position_of_owner w.scheme j) (set w.owners a new) }) (fetch w.scheme s o) (Fetched device lane)
-world_fetched w s o a y new r device lane sh owner within read empty front ledger hand cursors same_device same_lane =
-    owner_written w o a new (record y { queue = new.queue; hand = Some r }) (fetch w.scheme s o) (Fetched device lane) owner within
+pub world_fetched : (w : Seen) (s : System) (o a : ℕ) (y new : OwnerShape) (x : Item) (r : Reply) → Shows w.scheme (shape w) s → position_of_owner w.scheme o ≡ Some a → a < length w.owners → y ≡ get_or w.owners a y → y.hand ≡ None → y.queue ≡ x ∷ new.queue → new.ledger ≡ y.ledger → new.hand ≡ Some x → new.cursors ≡ y.cursors → r ≡ fetched_item x
+    → Answers w.scheme (record (shape w) { owners = λ j. entry (position_of_owner w.scheme j) (set w.owners a new) }) (fetch w.scheme s o) r
+world_fetched w s o a y new x r sh owner within read empty front ledger hand cursors same =
+    owner_written w o a new (record y { queue = new.queue; hand = Some x }) (fetch w.scheme s o) r owner within
     (λ i. record { ledger = ledger i; queue = new.queue; hand = hand i; cursors = cursors i })
-    (subst (Answers w.scheme (record (shape w) { owners = put (shape w).owners o (Some (record y { queue = new.queue; hand = Some r })) }) (fetch w.scheme s o)) (λ i. Fetched (sym same_device i) (sym same_lane i))
-    (shown_fetch w.scheme (shape w) s o a y r new.queue sh owner (owner_read w o a y owner within read) empty front))
+    (subst (Answers w.scheme (record (shape w) { owners = put (shape w).owners o (Some (record y { queue = new.queue; hand = Some x })) }) (fetch w.scheme s o)) (sym same)
+    (shown_fetch w.scheme (shape w) s o a y x new.queue sh owner (owner_read w o a y owner within read) empty front))
 
 -- a take that was judged so
-pub world_take : (w : Seen) (s : System) (o a : ℕ) (y : OwnerShape) (r : RecordValue) (judged : Result Unit TapFault) → Shows w.scheme (shape w) s → position_of_owner w.scheme o ≡ Some a → a < length w.owners → y ≡ get_or w.owners a y → y.hand ≡ Some r → take_judged y.ledger r ≡ judged → TakeSeen w.scheme (shape w) s o y r judged
-world_take w s o a y r judged sh owner within read held is = subst (TakeSeen w.scheme (shape w) s o y r) is (shown_take w.scheme (shape w) s o a y r sh owner (owner_read w o a y owner within read) held)
+pub world_take : (w : Seen) (s : System) (o a : ℕ) (y : OwnerShape) (r : RecordValue) (judged : Result Unit TapFault) → Shows w.scheme (shape w) s → position_of_owner w.scheme o ≡ Some a → a < length w.owners → y ≡ get_or w.owners a y → y.hand ≡ Some (item.Tap r) → take_judged y.ledger r ≡ judged → TakeSeen w.scheme (shape w) s o y r judged
+world_take w s o a y r judged sh owner within read held is = shown_take w.scheme (shape w) s o a y r judged sh owner (owner_read w o a y owner within read) held is
+
+pub world_statement : (w : Seen) (s : System) (o a : ℕ) (y : OwnerShape) (x : StatementValue) (judged : Result Unit StatementFault) → Shows w.scheme (shape w) s → position_of_owner w.scheme o ≡ Some a → a < length w.owners → y ≡ get_or w.owners a y → y.hand ≡ Some (item.Stated x) → state_judged y.ledger x ≡ judged → StateSeen w.scheme (shape w) s o y x judged
+world_statement w s o a y x judged sh owner within read held is = shown_statement w.scheme (shape w) s o a y x judged sh owner (owner_read w o a y owner within read) held is
+
+-- a close that was judged so
+pub world_close : (w : Seen) (s : System) (o d day a : ℕ) (y : OwnerShape) (judged : Result Unit CloseFault) → Shows w.scheme (shape w) s → position_of_owner w.scheme o ≡ Some a → is_some (position_of_device w.scheme d) ≡ true → a < length w.owners → y ≡ get_or w.owners a y → close_of y.ledger d day ≡ judged → CloseSeen w.scheme (shape w) s o d day y judged
+world_close w s o d day a y judged sh owner device within read is = shown_close w.scheme (shape w) s o d day a y judged sh owner device (owner_read w o a y owner within read) is

@@ -1,13 +1,13 @@
 -- What a world shows after a tap and a send.
-use Rattle.std.proofs.Common.{◌≡◌, ◌≢◌, ℕ, ◌+◌, ◌-◌, ◌<◌, ◌≤◌, List, [], ◌∷◌, ◌++◌, length, take, set, get_or, Some, None, true, false, refl, sym, ap, ◌∙◌, subst, arith}
-use Rattle.std.specs.Prelude.{◌==◌, slice_get, slice_index, if◌then◌else◌, Option, IfSome, is_some, option_map, unwrap_or}
-use Rattle.std.proofs.lemmas.Bool.Decides.{nat_tests, Decides-eqb}
+use Rattle.std.proofs.Common.{◌≡◌, ℕ, ◌+◌, ◌-◌, ◌<◌, ◌≤◌, List, [], ◌∷◌, ◌++◌, length, take, set, get_or, Some, None, true, refl, sym, ap, ◌∙◌, subst, arith}
+use Rattle.std.specs.Prelude.{slice_get, slice_index, if◌then◌else◌, Option, IfSome, is_some, option_map, unwrap_or}
+use Rattle.std.proofs.lemmas.Bool.Decides.{nat_tests}
 use Rattle.std.proofs.lemmas.List.{take-append-le, length-drop, length_push}
 use Rattle.std.proofs.lemmas.Option.{slice_get-get_or, slice_get_within}
 use Rattle.fare_record.specs.Values.{RecordValue, TapValue}
 use Rattle.fare_record.specs.Lanes.{part}
 use Rattle.fare_scheme.specs.Values.{SchemeValue}
-use Rattle.fare_scheme.specs.Words.{owner_of, position_of_device, position_of_owner}
+use Rattle.fare_scheme.specs.Words.{owner_of, position_of_device}
 use Rattle.fare_world.specs.System.{day_of}
 use Rattle.fare_device.specs.DeviceWords.{DeviceValue, last_link}
 use Rattle.fare_device.specs.Tapping.{IsTapped}
@@ -20,28 +20,31 @@ use Rattle.fare_world.specs.declared.reply.Refusal.TheVariants.{UnknownDevice, B
 use Rattle.fare_world.specs.declared.reply.Reply.{Reply}
 use Rattle.fare_world.specs.declared.reply.Reply.TheVariants.{Idle, Refused, Recorded, Sent}
 use Rattle.fare_world.specs.System.{put, Tapped, DeviceState, System, numbered_for, arrived_of}
-use Rattle.fare_world.specs.Steps.{next_record, with_tap, room_of, waiting_count, tap_for, tap_on, tap, sent, send_next, send}
-use Rattle.std.proofs.Common.{inl, inr, length-set}
+use Rattle.fare_world.specs.Tapping.{next_record, with_tap, room_of, waiting_count, tap_for, tap_on, tap, sent, send_next, send}
 use Rattle.std.proofs.lemmas.List.{set-get_or}
 use Rattle.std.proofs.lemmas.Option.{slice_get_read}
 use Rattle.fare_device.specs.Tapping.{TapRefused}
 use Rattle.fare_device.specs.declared.device.TapRefusal.{TapRefusal}
 use Rattle.fare_device.specs.declared.device.TapRefusal.TheVariants as why
-use Rattle.fare_device.proofs.Places.{slice_get-set_cases}
+use Rattle.fare_device.specs.Numbered.{HasNumbered}
+use Rattle.fare_device.proofs.Numbering.{numbered_tap, numbered_cursor}
 use Rattle.fare_world.specs.Whole.{Seen, shape}
 use Rattle.fare_world.specs.Shown.{entry}
-use Rattle.fare_world.specs.Shown.{IsDevice, IsSystem, IsAt, IsPacketOf, IsDeviceOf, Shape, Shows}
-use Rattle.fare_world.proofs.Lists.{if_all, Each2-push, length-Each2, part-push, take-part-push, drop-push, slice_get-drop}
-use Rattle.fare_world.proofs.TableLemmas.{put_all, put_both, put_here, slice_get-set_same, slice_get-set_other, entry-set, devices_apart, owners_apart, owner_within}
-use Rattle.fare_world.proofs.Kept.{moves_step, device_changes, took_numbered}
-use Rattle.fare_world.proofs.Showing.{Answers, answers_by, grows_by_tap, shows_devices, shows_device, stations_same, last_link_is, device_shown}
+use Rattle.fare_world.specs.Shown.{IsAt, IsPacketOf, IsDeviceOf, Shape, Shows}
+use Rattle.fare_world.specs.Kept.{IsDevice, IsSystem}
+use Rattle.fare_world.proofs.Lists.{Each2-push, length-Each2, take-part-push, slice_get-drop}
+use Rattle.fare_world.proofs.TableLemmas.{entry-set, devices_apart, owner_within}
+use Rattle.fare_world.proofs.Tables.{put_all, put_both, put_here}
+use Rattle.fare_world.proofs.Kept.{moves_step}
+use Rattle.fare_world.proofs.KeptParts.{device_changes, took_numbered}
+use Rattle.fare_world.proofs.Showing.{Answers, answers_by, grows_by_tap, shows_devices, shows_device, stations_same, waits_behind, lane_counted, last_link_is, device_shown}
 
 -- what waits in the device's buffer, and how much may
 room_is : (sc : SchemeValue) (d : ℕ) (v : DeviceState) (x : DeviceValue) → IsDeviceOf sc d v x → room_of sc d ≡ x.room
 room_is sc d v x sd = ap (λ o. unwrap_or o 0) sd.room
 
 waiting_is : (sc : SchemeValue) (d : ℕ) (v : DeviceState) (x : DeviceValue) → IsDeviceOf sc d v x → length x.waiting ≡ length v.taps - v.base
-waiting_is sc d v x sd = ap length sd.waiting ∙ length-drop v.base v.taps
+waiting_is sc d v x sd = ap length (waits_behind sc d v x sd) ∙ length-drop v.base v.taps
 
 -- TAP, down to its tests
 tap_on_known : (sc : SchemeValue) (s : System) (d k p t m : ℕ) → position_of_device sc d ≡ Some k → tap sc s d p t m ≡ tap_on sc s d p t m (day_of sc m)
@@ -95,46 +98,25 @@ tap_goes : (s : System) (d o room : ℕ) (tv : TapValue) → tv.day ≡ (s.devic
 tap_goes s d o room tv current few left = grind (arith, nat_tests)
 
 -- the device with the tap at its end
-tapped_device : (sc : SchemeValue) (d : ℕ) (v : DeviceState) (x new : DeviceValue) (p t m day : ℕ) (r : RecordValue) → IsDevice sc d v → IsDeviceOf sc d v x → length x.lanes ≡ length sc.owners → IsTapped sc x p t m day r new → r.lane ≡ length (part r.owner v.taps) + 1 → IsDeviceOf sc d (record v { taps = v.taps ++ r ∷ [] }) new
-tapped_device sc d v x new p t m day r is sd long did lane =
+tapped_device : (sc : SchemeValue) (d : ℕ) (v : DeviceState) (x new : DeviceValue) (p t m day : ℕ) (r : RecordValue) → IsDeviceOf sc d v x → IsTapped sc x p t m day r new → IsDeviceOf sc d (record v { taps = v.taps ++ r ∷ [] }) new
+tapped_device sc d v x new p t m day r sd did =
     subst (IsDeviceOf sc d (record v { taps = v.taps ++ r ∷ [] })) (sym did.value)
     (record {
       id = sd.id;
       day = sd.day;
-      waiting = ap (λ l. l ++ r ∷ []) sd.waiting ∙ sym (drop-push v.base v.taps r (omega (arith, is.base, is.cursor)));
       room = sd.room;
       base = sd.base;
       cursor = sd.cursor;
-      lanes = counts;
+      owners = sd.owners;
+      days = sd.days;
+      numbered = subst (HasNumbered (v.taps ++ r ∷ [])) did.value (numbered_tap sc v.taps x new p t m day r sd.owners sd.numbered did);
     })
-  where
-    within : did.place < length x.lanes
-    within = omega (arith, long, owner_within sc r.owner did.place did.at)
-
-    same_Some : (a b : ℕ) → Some a ≡ Some b → a ≡ b
-    same_Some a b e = cc
-
-    counts : (o place n : ℕ) → position_of_owner sc o ≡ Some place → slice_get (set x.lanes did.place r.lane) place ≡ Some n → n ≡ length (part o (v.taps ++ r ∷ []))
-    counts o place n at e =
-        if_all (r.owner == o) (λ l. part o (v.taps ++ r ∷ []) ≡ l → n ≡ length (part o (v.taps ++ r ∷ []))) (part o v.taps ++ r ∷ []) (part o v.taps)
-        (λ mine f.
-        let me : r.owner ≡ o = (Decides-eqb r.owner o).0 mine in
-        let here : did.place ≡ place = same_Some did.place place (sym did.at ∙ ap (position_of_owner sc) me ∙ at) in
-        let is_lane : r.lane ≡ n = same_Some r.lane n (sym (slice_get-set_same x.lanes did.place r.lane within) ∙ ap (slice_get (set x.lanes did.place r.lane)) here ∙ e) in
-        omega (arith, is_lane, lane, ap length f, length_push (part o v.taps) r, ap (λ z. length (part z v.taps)) me))
-        (λ other f.
-        let differ : place ≢ did.place = λ q. not_other (owners_apart sc r.owner o place (did.at ∙ ap Some (sym q)) at) other in
-        sd.lanes o place n at (sym (slice_get-set_other x.lanes did.place place r.lane differ) ∙ e) ∙ ap length (sym f))
-        (part-push o v.taps r)
-      where
-        not_other : r.owner ≡ o → (r.owner == o) ≡ false → ⊥
-        not_other q apart = absurd (grind (arith, nat_tests))
 
 pub shown_tap : (sc : SchemeValue) (h : Shape) (s : System) (d k p t m day : ℕ) (x new : DeviceValue) (r : RecordValue) → Shows sc h s → position_of_device sc d ≡ Some k → day_of sc m ≡ Some day → h.devices d ≡ Some x → length x.lanes ≡ length sc.owners → IsTapped sc x p t m day r new → Answers sc (record h { devices = put h.devices d (Some new) }) (tap sc s d p t m) (Recorded r.link r.lane)
 shown_tap sc h s d k p t m day x new r w at dated here long did =
     answers_by sc (record h { devices = put h.devices d (Some new) }) (Recorded r.link r.lane) (tap sc s d p t m) (with_tap s d r, Recorded r.link r.lane) goes refl
-    (shows_devices sc h s g (put h.devices d (Some new)) h.stations w system (grows_by_tap s d after r refl)
-    (put_both (λ j a b. IfSome a (IsDeviceOf sc j b)) h.devices s.devices d (Some new) after w.devices (tapped_device sc d v x new p t m day r is sd long did lane))
+    (shows_devices sc h s g (put h.devices d (Some new)) h.stations w system (grows_by_tap s d after r refl refl (ap (λ (z : RecordValue). z.tap.day) same ∙ did.current ∙ sd.day))
+    (put_both (λ j a b. IfSome a (IsDeviceOf sc j b)) h.devices s.devices d (Some new) after w.devices (tapped_device sc d v x new p t m day r sd did))
     (stations_same sc h s g (put_all (λ j a. a.next ≡ (s.devices j).next) s.devices d after (λ j. refl) refl) w)
     (put_all (λ j a. a.upto ≡ (s.devices j).upto) s.devices d after (λ j. refl) refl)
     (λ o. put_all (λ j a. arrived_of o a ≡ arrived_of o (s.devices j)) s.devices d after (λ j. refl) (ap (part o) (take-append-le v.upto v.taps (r ∷ []) is.upto)))
@@ -156,7 +138,7 @@ shown_tap sc h s d k p t m day x new r w at dated here long did =
     within = omega (arith, long, owner_within sc r.owner did.place did.at)
 
     count : slice_index x.lanes did.place ≡ length (part r.owner v.taps)
-    count = sd.lanes r.owner did.place (slice_index x.lanes did.place) did.at (slice_get-get_or x.lanes did.place 0 within)
+    count = lane_counted sc d v x sd r.owner did.place (slice_index x.lanes did.place) did.at (slice_get-get_or x.lanes did.place 0 within)
 
     last : last_link x ≡ length v.taps
     last = last_link_is sc d v x is sd
@@ -215,8 +197,9 @@ shown_send sc h s d k x r n w at here e lawful count =
       hand = devices.hand;
       upto = devices.upto;
       rows = devices.rows;
-      held = devices.held;
+      row_count = devices.row_count;
       stated = devices.stated;
+      stated_count = devices.stated_count;
       owners = devices.owners;
     })
   where
@@ -241,7 +224,7 @@ shown_send sc h s d k x r n w at here e lawful count =
     place : slice_get v.taps v.cursor ≡ Some r
     place =
         let from : v.cursor ≡ v.base + (x.cursor - x.base) = omega (arith, sd.cursor, sd.base, is.base) in
-        ap (slice_get v.taps) from ∙ sym (slice_get-drop v.base v.taps (x.cursor - x.base)) ∙ ap (λ l. slice_get l (x.cursor - x.base)) (sym sd.waiting) ∙ e
+        ap (slice_get v.taps) from ∙ sym (slice_get-drop v.base v.taps (x.cursor - x.base)) ∙ ap (λ l. slice_get l (x.cursor - x.base)) (sym (waits_behind sc d v x sd)) ∙ e
 
     at_end : IsAt (g d).taps (v.cursor + 1) r
     at_end = subst (λ l. IsAt l (v.cursor + 1) r) (ap (λ (z : DeviceState). z.taps) (sym (put_here s.devices d after))) (record { positive = omega arith; here = ap (slice_get v.taps) (omega arith) ∙ place })
@@ -263,9 +246,10 @@ shown_send sc h s d k x r n w at here e lawful count =
 
     devices : Shows sc (record h { devices = put h.devices d (Some new); stations = h.stations }) (record s { devices = g })
     devices = shows_device sc h s d after (put h.devices d (Some new)) h.stations w
-        (device_changes sc s d after w.system refl (omega arith) (record { base = omega (arith, is.base); cursor = omega (arith, unsent); stored = is.stored; upto = is.upto; first = is.first; next = is.next; few = is.few; numbered = is.numbered; known = is.known }))
-        refl refl
-        (put_both (λ j a b. IfSome a (IsDeviceOf sc j b)) h.devices s.devices d (Some new) after w.devices (record { id = sd.id; day = sd.day; waiting = sd.waiting; room = sd.room; base = sd.base; cursor = ap (λ j. j + 1) sd.cursor; lanes = sd.lanes }))
+        (device_changes sc s d after w.system (record { taps = refl; upto = omega arith; day = omega arith })
+        (record { base = omega (arith, is.base); cursor = omega (arith, unsent); stored = is.stored; upto = is.upto; first = is.first; next = is.next; few = is.few; numbered = is.numbered; known = is.known; days = is.days }))
+        refl refl (omega arith)
+        (put_both (λ j a b. IfSome a (IsDeviceOf sc j b)) h.devices s.devices d (Some new) after w.devices (record { id = sd.id; day = sd.day; room = sd.room; base = sd.base; cursor = ap (λ j. j + 1) sd.cursor; owners = sd.owners; days = sd.days; numbered = numbered_cursor v.taps x (x.cursor + 1) sd.numbered }))
         (stations_same sc h s g (put_all (λ j a. a.next ≡ (s.devices j).next) s.devices d after (λ j. refl) refl) w)
 
 -- THE CODE'S TABLES

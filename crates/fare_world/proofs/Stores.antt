@@ -1,9 +1,8 @@
 -- The stores of a world after an event, and the world after it.
-use Rattle.std.proofs.Common.{◌≡◌, ◌≢◌, ℕ, ◌<◌, ◌≤◌, List, length, set, get_or, Some, None, Bool, true, false, refl, sym, ap, ◌∙◌, subst, arith, inl, inr}
+use Rattle.std.proofs.Common.{◌≡◌, ◌≢◌, ℕ, ◌<◌, List, length, set, Some, None, Bool, true, false, refl, sym, ap, ◌∙◌, subst, arith, inl, inr}
 use Rattle.std.specs.Prelude.{◌==◌, ◌⊎◌, slice_get, Option, Result, Ok, Err, IsErrAnd}
 use Rattle.std.proofs.lemmas.Bool.Decides.{Decides-eqb, nat_tests}
-use Rattle.std.proofs.lemmas.Option.{slice_get_read, same_Some, slice_get_within}
-use Rattle.fare_scheme.specs.Values.{SchemeValue}
+use Rattle.std.proofs.lemmas.Option.{same_Some, slice_get_within}
 use Rattle.fare_store.specs.declared.fault.Fault.{Fault}
 use Rattle.fare_store.specs.declared.fault.Fault.TheVariants as fault
 use Rattle.fare_store.specs.Standing.{Standing, Calls, Counted}
@@ -16,9 +15,8 @@ use Rattle.fare_world.specs.declared.world.World.{World}
 use Rattle.fare_world.specs.System.{System}
 use Rattle.fare_world.specs.Steps.{step, may_fail}
 use Rattle.fare_world.specs.Restarts.{Rose}
-use Rattle.fare_world.specs.Shown.{Shape, Shows}
-use Rattle.fare_world.specs.Whole.{Seen, seen, shape, EachStore, AreLive, AreClean, AreLawful, CountsFailure, Follows, StandsAt, IsStepped, IsUnchanged, Applied, Does}
-use Rattle.fare_world.proofs.Lists.{element_at}
+use Rattle.fare_world.specs.Shown.{Shows}
+use Rattle.fare_world.specs.Whole.{seen, shape, AreLive, AreLawful, CountsFailure, Follows, IsStepped, IsUnchanged, Applied, Does}
 use Rattle.fare_world.proofs.TableLemmas.{slice_get-set_same, slice_get-set_other}
 use Rattle.fare_world.proofs.Showing.{Answers}
 

@@ -1,39 +1,16 @@
--- Tables with another value at one place.
-use Rattle.std.proofs.Common.{◌≡◌, ◌≢◌, ℕ, zero, suc, ◌<◌, List, [], ◌∷◌, length, set, get_or, Some, None, Bool, true, false, refl, sym, ap, ◌∙◌, subst, arith, length-set, eqb-true, inl, inr}
+-- Tables whose entries stand at positions.
+use Rattle.std.proofs.Common.{◌≡◌, ◌≢◌, ℕ, zero, suc, ◌<◌, List, [], ◌∷◌, length, set, get_or, Some, None, Bool, true, false, refl, sym, ap, ◌∙◌, arith, length-set, eqb-true, inl, inr}
 use Rattle.std.specs.Prelude.{◌==◌, ◌⊎◌, slice_get, Option, option_map, if◌then◌else◌, nat_eq, position}
 use Rattle.std.specs.Map.{keys_of}
-use Rattle.std.proofs.lemmas.Bool.Decides.{nat_tests, Decides-eqb}
+use Rattle.std.proofs.lemmas.Bool.Decides.{nat_tests}
 use Rattle.std.proofs.lemmas.List.{get_or-set_same, length-map}
 use Rattle.std.proofs.lemmas.List.Quantifiers.{position-Some}
 use Rattle.std.proofs.lemmas.Option.{slice_get-get_or}
 use Rattle.fare_scheme.specs.Values.{SchemeValue}
 use Rattle.fare_scheme.specs.Words.{position_of_device, position_of_station, position_of_owner}
-use Rattle.fare_world.specs.System.{put, put2}
+use Rattle.fare_world.specs.System.{put}
 use Rattle.fare_world.specs.Shown.{entry}
-use Rattle.fare_world.proofs.Lists.{if_all}
-
--- what holds of each entry holds after a write, if it holds of the new one
-pub put_all : {A : Type 0} (P : ℕ → A → Type 0) (f : ℕ → A) (k : ℕ) (v : A) → ((j : ℕ) → P j (f j)) → P k v → (j : ℕ) → P j (put f k v j)
-put_all P f k v each one j = if_all (j == k) (λ a. P j a) v (f j) (λ e. subst (λ i. P i v) (sym ((Decides-eqb j k).0 e)) one) (λ _. each j)
-
--- the same, where the others are known to be others
-pub put_apart : {A : Type 0} (P : ℕ → A → Type 0) (f : ℕ → A) (k : ℕ) (v : A) → ((j : ℕ) → (j == k) ≡ false → P j (f j)) → P k v → (j : ℕ) → P j (put f k v j)
-put_apart P f k v each one j = if_all (j == k) (λ a. P j a) v (f j) (λ e. subst (λ i. P i v) (sym ((Decides-eqb j k).0 e)) one) (each j)
-
--- two tables that change at one place
-pub put_both : {A B : Type 0} (P : ℕ → A → B → Type 0) (f : ℕ → A) (g : ℕ → B) (k : ℕ) (v : A) (w : B) → ((j : ℕ) → P j (f j) (g j)) → P k v w → (j : ℕ) → P j (put f k v j) (put g k w j)
-put_both P f g k v w each one j = if_both (j == k) (P j) v (f j) w (g j) (λ e. subst (λ i. P i v w) (sym ((Decides-eqb j k).0 e)) one) (λ _. each j)
-  where
-    if_both : {A B : Type 0} (b : Bool) (Q : A → B → Type 0) (x y : A) (z w : B) → (b ≡ true → Q x z) → (b ≡ false → Q y w) → Q (if b then x else y) (if b then z else w)
-    if_both true Q x y z w p q = p refl
-    if_both false Q x y z w p q = q refl
-
-pub put2_all : {A : Type 0} (P : ℕ → ℕ → A → Type 0) (f : ℕ → ℕ → A) (o d : ℕ) (v : A) → ((p e : ℕ) → P p e (f p e)) → P o d v → (p e : ℕ) → P p e (put2 f o d v p e)
-put2_all P f o d v each one = put_all (λ p g. (e : ℕ) → P p e (g e)) f o (put (f o) d v) each (put_all (P o) (f o) d v (each o) one)
-
--- the entry that was written
-pub put_here : {A : Type 0} (f : ℕ → A) (k : ℕ) (v : A) → put f k v k ≡ v
-put_here f k v = ap (λ b. if b then v else f k) ((Decides-eqb k k).1 refl)
+use Rattle.fare_world.proofs.Tables.{put_apart}
 
 -- a map over a table with another value at one place
 pub option_map-put : {A B : Type 0} (f : A → B) (t : ℕ → Option A) (k : ℕ) (y : A) (j : ℕ) → option_map f (put t k (Some y) j) ≡ put (λ i. option_map f (t i)) k (Some (f y)) j

@@ -1,6 +1,7 @@
 -- The parts of a new world.
 use Rattle.std.specs.Prelude.{◌≡◌, ◌≤◌, ℕ, List, [], Some, None, length, map, slice_get, replicate, vec_capacity}
 use Rattle.std.specs.Map.{keys_of}
+use Rattle.fare_record.specs.Limits.{IsDay}
 use Rattle.fare_scheme.specs.Values.{SchemeValue}
 use Rattle.fare_scheme.specs.Words.{buffer_of, lane_capacity_of, position_of_device, position_of_station, position_of_owner}
 use Rattle.fare_collector.specs.Collecting.{next_in, first_link}
@@ -48,8 +49,9 @@ pub record AreFreshSides (sc : SchemeValue) (xs : List Side) : Type 0 where
   pub count : length xs ≡ length sc.owners
   pub each : (k : ℕ) (x : Side) → slice_get xs k ≡ Some x → IsSideAt sc k x
 
--- the parts of a new world, and the room for its owners
+-- the parts of a new world, the room for its owners, and a first day that there is
 pub record AreFresh {L : Type 0} (sc : SchemeValue) (x : Fresh L) : Type 0 where
+  pub start : IsDay sc.start
   pub devices : AreFreshDevices sc x.devices.items
   pub stations : AreFreshStations sc x.stations.items
   pub sides : AreFreshSides sc x.sides.items

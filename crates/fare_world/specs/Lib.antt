@@ -1,7 +1,16 @@
 pub mod System
+pub mod Knowing
+pub mod Tapping
+pub mod Arriving
+pub mod Storing
+pub mod Owning
+pub mod Restarting
 pub mod Steps
 pub mod Headline
+pub mod Kept
 pub mod Packets
+pub mod ItemReplies
+pub mod Acknowledging
 pub mod Rooms
 pub mod Restarts
 pub mod Shown

@@ -10,7 +10,7 @@ use Rattle.fare_store.specs.LedgerWords.{LedgerValue}
 use Rattle.fare_store.specs.Standing.{Standing}
 use Rattle.fare_world.specs.declared.owner.Owner.{Owner}
 use Rattle.fare_world.specs.declared.station.Station.{Station}
-use Rattle.fare_world.specs.Rooms.{lane_of_cursor, taken_at, upto_at, AreStandings}
+use Rattle.fare_world.specs.Rooms.{place_of_cursor, place_at, upto_at, AreStandings}
 
 -- each entry of the one list has one at its place in the other, and stands to it like this
 pub record Paired {X Y : Type 0} (P : X → Y → Type 0) (old : List X) (new : List Y) : Type 0 where
@@ -29,8 +29,8 @@ pub record IsOwnerAgain {L : Type 0} (sc : SchemeValue) (x y : Owner L) : Type 0
   pub queue : y.queue ≡ buffer [] x.queue.capacity
   pub hand : y.hand ≡ None
   pub owner : y.forwarder.owner ≡ x.forwarder.owner
-  pub resumed : (device : ℕ) → IsSome (position_of_device sc device) → lane_of_cursor y.forwarder device ≡ option_map (λ _. taken_at sc x.standings.items device) (lane_of_cursor x.forwarder device)
-  pub others : (device : ℕ) → position_of_device sc device ≡ None → lane_of_cursor y.forwarder device ≡ lane_of_cursor x.forwarder device
+  pub resumed : (device : ℕ) → IsSome (position_of_device sc device) → place_of_cursor y.forwarder device ≡ option_map (λ _. place_at sc x.standings.items device) (place_of_cursor x.forwarder device)
+  pub others : (device : ℕ) → position_of_device sc device ≡ None → place_of_cursor y.forwarder device ≡ place_of_cursor x.forwarder device
 
 module _ {L : Type 0} (ledger : L → Standing LedgerValue) where
   -- an owner whose ledger was asked where it stands, or was not reached, since another one failed

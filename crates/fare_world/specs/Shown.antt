@@ -1,78 +1,23 @@
--- What the parts of a world hold, where it stands at a system of numbers: each record anywhere is the device's record of its number.
-use Rattle.std.specs.Prelude.{◌≡◌, ℕ, ◌+◌, ◌-◌, ◌≤◌, List, [], ◌∷◌, length, take, drop, Option, Some, None, slice_get, option_and_then, IsSome, IfSome, nat_le, if◌then◌else◌}
-use Rattle.std.specs.List.{AllByRecursion}
-use Rattle.fare_record.specs.Values.{RecordValue, AckValue}
-use Rattle.fare_record.specs.Lanes.{part}
+-- What the parts of a world hold, where it stands at a system of numbers: each record anywhere is the device's record of its number, and each statement has its day's count.
+use Rattle.std.specs.Prelude.{◌≡◌, ℕ, ◌-◌, ◌<◌, ◌≤◌, Bool, List, [], ◌∷◌, take, Option, Some, None, slice_get, option_and_then, IsSome, IfSome, nat_le, if◌then◌else◌}
+use Rattle.std.specs.Map.{keys_of}
+use Rattle.fare_record.specs.Values.{RecordValue, StatementValue}
+use Rattle.fare_record.specs.Lanes.{part, day_count}
+use Rattle.fare_record.specs.declared.item.Item.{Item}
+use Rattle.fare_record.specs.declared.item.Item.TheVariants as item
 use Rattle.fare_scheme.specs.Values.{SchemeValue}
-use Rattle.fare_scheme.specs.Words.{owner_of, station_of, buffer_of, position_of_owner}
+use Rattle.fare_scheme.specs.Words.{buffer_of, position_of_device}
 use Rattle.fare_device.specs.DeviceWords.{DeviceValue}
+use Rattle.fare_device.specs.Numbered.{HasNumbered}
 use Rattle.fare_frame.specs.Grammar.{frame_bytes, IsFrame}
 use Rattle.fare_frame.specs.declared.frame.Frame.TheVariants as frame
 use Rattle.fare_store.specs.OutboxWords.{OutboxValue}
 use Rattle.fare_store.specs.LedgerWords.{LedgerValue, IsOfScheme}
-use Rattle.fare_world.specs.System.{Packet, Tapped, Acked, Arrived, Tap_of, Answer, Ack_of, Routed, Lane_of, DeviceState, OwnerState, LaneState, System, arrived_of}
-use Rattle.fare_world.specs.Steps.{next_at}
-
--- A SYSTEM that events lead to
--- a tap that has its place in the device's list, from 1, and the owner of its product
-pub record IsNumbered (sc : SchemeValue) (device : ℕ) (taps : List RecordValue) (place : ℕ) (r : RecordValue) : Type 0 where
-  pub of_device : r.device ≡ device
-  pub link : r.link ≡ place + 1
-  pub lane : r.lane ≡ length (part r.owner (take place taps)) + 1
-  pub owned : owner_of sc r.tap.product ≡ Some r.owner
-
--- what was acknowledged was stored, what was stored was numbered, and one that is not registered has numbered nothing
-pub record IsDevice (sc : SchemeValue) (device : ℕ) (v : DeviceState) : Type 0 where
-  pub base : v.base ≤ v.cursor
-  pub cursor : v.cursor ≤ length v.taps
-  pub stored : v.base ≤ v.upto
-  pub upto : v.upto ≤ length v.taps
-  pub first : 1 ≤ v.next
-  pub next : v.next ≤ length v.taps + 1
-  pub few : length v.taps ≤ 1099511627775
-  pub numbered : (place : ℕ) (r : RecordValue) → slice_get v.taps place ≡ Some r → IsNumbered sc device v.taps place r
-  pub known : station_of sc device ≡ None → v.taps ≡ []
-
--- a number of some tap in the list
-abbrev pub IsPlace : List RecordValue → ℕ → Type 0
-IsPlace rs n = (1 ≤ n) × (n ≤ length rs)
-
--- the outbox has had the taps of a registered device up to this link
-abbrev pub IsAck : SchemeValue → (ℕ → DeviceState) → ℕ → ℕ → Type 0
-IsAck sc devices device upto = IsSome (station_of sc device) × (upto ≤ (devices device).upto)
-
-abbrev pub IsPacket : SchemeValue → (ℕ → DeviceState) → Packet → Type 0
-IsPacket sc devices (Tapped device link) = IsPlace (devices device).taps link
-IsPacket sc devices (Acked device upto) = IsAck sc devices device upto
-
-abbrev pub IsAnswer : SchemeValue → (ℕ → DeviceState) → Answer → Type 0
-IsAnswer sc devices (Ack_of device upto) = IsAck sc devices device upto
-
-abbrev pub IsArrived : (ℕ → DeviceState) → Arrived → Type 0
-IsArrived devices (Tap_of device link) = IsPlace (devices device).taps link
-
--- the lane number of a tap that was forwarded
-abbrev pub IsRouted : (ℕ → LaneState) → Routed → Type 0
-IsRouted lanes (Lane_of device lane) = (1 ≤ lane) × (lane ≤ (lanes device).forward)
-
-pub record IsOwner (lanes : ℕ → LaneState) (w : OwnerState) : Type 0 where
-  pub queue : AllByRecursion (IsRouted lanes) w.queue
-  pub hand : IfSome w.hand (IsRouted lanes)
-
--- what was pruned was taken, what was taken was forwarded, and what was forwarded was stored
-pub record IsLane (arrived : ℕ) (l : LaneState) : Type 0 where
-  pub gone : l.gone ≤ l.took
-  pub took : l.took ≤ l.forward
-  pub forward : l.forward ≤ arrived
-
-pub record IsSystem (sc : SchemeValue) (s : System) : Type 0 where
-  pub devices : (device : ℕ) → IsDevice sc device (s.devices device)
-  pub air : AllByRecursion (IsPacket sc s.devices) s.air
-  pub inbox : AllByRecursion (IsArrived s.devices) s.inbox
-  pub hand : IfSome s.hand (IsArrived s.devices)
-  pub lines : (station : ℕ) → AllByRecursion (IsAnswer sc s.devices) (s.lines station)
-  pub owners : (owner : ℕ) → IsOwner (s.lanes owner) (s.owners owner)
-  pub lanes : (owner device : ℕ) → IsLane (length (arrived_of owner (s.devices device))) (s.lanes owner device)
+use Rattle.fare_world.specs.declared.acknowledgement.Acknowledgement.{Acknowledgement}
+use Rattle.fare_world.specs.declared.acknowledgement.Acknowledgement.TheVariants as acknowledgement
+use Rattle.fare_world.specs.System.{Packet, Tapped, Stated, Acked, DayAcked, Arrived, Tap_of, Statement_of, Answer, Ack_of, DayAck_of, Routed, Lane_of, Day_of, DeviceState, OwnerState, LaneState, System, arrived_of}
+use Rattle.fare_world.specs.Arriving.{next_at}
+use Rattle.fare_world.specs.Kept.{IsSystem}
 
 -- THE PARTS
 -- the row of a lane number, from 1, where the lane was pruned up to one
@@ -86,22 +31,22 @@ entry position xs = option_and_then (slice_get xs) position
 -- a station's side of a world: the link that it accepts next from each device, and its acknowledgement line
 pub record StationShape : Type 0 where
   pub nexts : ℕ → Option ℕ
-  pub line : List AckValue
+  pub line : List Acknowledgement
 
--- an owner's side of a world, with what its ledger holds, by device
+-- an owner's side of a world, with what its ledger holds, and how far its forwarder has come with each device: the lane number of the last tap, and the first day whose statement was not handed on
 pub record OwnerShape : Type 0 where
   pub ledger : LedgerValue
-  pub queue : List RecordValue
-  pub hand : Option RecordValue
-  pub cursors : ℕ → Option ℕ
+  pub queue : List Item
+  pub hand : Option Item
+  pub cursors : ℕ → Option (ℕ × ℕ)
 
 -- all that is seen of a world, by ids
 pub record Shape : Type 0 where
   pub devices : ℕ → Option DeviceValue
   pub stations : ℕ → Option StationShape
   pub air : List (List ℕ)  -- the bytes of each packet
-  pub inbox : List RecordValue
-  pub hand : Option RecordValue
+  pub inbox : List Item
+  pub hand : Option Item
   pub outbox : OutboxValue
   pub owners : ℕ → Option OwnerShape
 
@@ -124,6 +69,20 @@ pub record IsAt (rs : List RecordValue) (n : ℕ) (r : RecordValue) : Type 0 whe
   pub positive : 1 ≤ n
   pub here : slice_get rs (n - 1) ≡ Some r
 
+-- a device's statement of a day for an owner: how many taps of the day it numbered for it
+abbrev pub statement_of : (ℕ → DeviceState) → ℕ → ℕ → ℕ → StatementValue
+statement_of devices device day owner = record { device = device; day = day; owner = owner; count = day_count (part owner (devices device).taps) day }
+
+-- the statement of a day that the device has turned, so that its count stays
+pub record IsStatementOf (devices : ℕ → DeviceState) (device day owner : ℕ) (x : StatementValue) : Type 0 where
+  pub past : day < (devices device).day
+  pub is : x ≡ statement_of devices device day owner
+
+-- the count of a statement, where there is one
+abbrev pub count_of : Bool → List RecordValue → ℕ → Option ℕ
+count_of stated taps day = if stated then Some (day_count taps day) else None
+
+-- PACKETS
 -- the bytes are the frame of the tap of this number
 pub record IsTapFrame (rs : List RecordValue) (n : ℕ) (bytes : List ℕ) : Type 0 where
   pub tap : RecordValue
@@ -131,49 +90,74 @@ pub record IsTapFrame (rs : List RecordValue) (n : ℕ) (bytes : List ℕ) : Typ
   pub lawful : IsFrame (frame.Tapped tap)
   pub spelled : bytes ≡ frame_bytes (frame.Tapped tap)
 
+-- the bytes are the frame of this statement
+pub record IsStatedFrame (devices : ℕ → DeviceState) (device day owner : ℕ) (bytes : List ℕ) : Type 0 where
+  pub statement : StatementValue
+  pub of : IsStatementOf devices device day owner statement
+  pub lawful : IsFrame (frame.Stated statement)
+  pub spelled : bytes ≡ frame_bytes (frame.Stated statement)
+
 -- the bytes are the frame of this acknowledgement
 pub record IsAckFrame (device upto : ℕ) (bytes : List ℕ) : Type 0 where
   pub lawful : IsFrame (frame.Acked (record { device = device; upto = upto }))
   pub spelled : bytes ≡ frame_bytes (frame.Acked (record { device = device; upto = upto }))
 
+-- the bytes are the frame of this acknowledgement of a day's statements
+pub record IsDayAckFrame (device day : ℕ) (bytes : List ℕ) : Type 0 where
+  pub lawful : IsFrame (frame.DayAcked (record { device = device; day = day }))
+  pub spelled : bytes ≡ frame_bytes (frame.DayAcked (record { device = device; day = day }))
+
 abbrev pub IsPacketOf : (ℕ → DeviceState) → Packet → List ℕ → Type 0
 IsPacketOf devices (Tapped device link) bytes = IsTapFrame (devices device).taps link bytes
+IsPacketOf devices (Stated device day owner) bytes = IsStatedFrame devices device day owner bytes
 IsPacketOf devices (Acked device upto) bytes = IsAckFrame device upto bytes
+IsPacketOf devices (DayAcked device day) bytes = IsDayAckFrame device day bytes
 
-abbrev pub IsAnswerOf : Answer → AckValue → Type 0
-IsAnswerOf (Ack_of device upto) a = a ≡ record { device = device; upto = upto }
+-- ITEMS AND ANSWERS
+abbrev pub IsAnswerOf : Answer → Acknowledgement → Type 0
+IsAnswerOf (Ack_of device upto) (acknowledgement.Taps a) = a ≡ record { device = device; upto = upto }
+IsAnswerOf (DayAck_of device day) (acknowledgement.Day a) = a ≡ record { device = device; day = day }
+IsAnswerOf x y = ⊥
 
-abbrev pub IsArrivedOf : (ℕ → DeviceState) → Arrived → RecordValue → Type 0
-IsArrivedOf devices (Tap_of device link) r = IsAt (devices device).taps link r
+abbrev pub IsArrivedOf : (ℕ → DeviceState) → Arrived → Item → Type 0
+IsArrivedOf devices (Tap_of device link) (item.Tap r) = IsAt (devices device).taps link r
+IsArrivedOf devices (Statement_of device day owner) (item.Stated x) = IsStatementOf devices device day owner x
+IsArrivedOf devices x y = ⊥
 
-abbrev pub IsRoutedOf : (ℕ → DeviceState) → ℕ → Routed → RecordValue → Type 0
-IsRoutedOf devices owner (Lane_of device lane) r = IsAt (part owner (devices device).taps) lane r
+abbrev pub IsRoutedOf : (ℕ → DeviceState) → ℕ → Routed → Item → Type 0
+IsRoutedOf devices owner (Lane_of device lane) (item.Tap r) = IsAt (part owner (devices device).taps) lane r
+IsRoutedOf devices owner (Day_of device day) (item.Stated x) = IsStatementOf devices device day owner x
+IsRoutedOf devices owner x y = ⊥
 
+-- THE WORLD
+-- a device: what it numbered, and the turned days that wait
 pub record IsDeviceOf (sc : SchemeValue) (device : ℕ) (v : DeviceState) (x : DeviceValue) : Type 0 where
   pub id : x.id ≡ device
   pub day : x.day ≡ v.day
-  pub waiting : x.waiting ≡ drop v.base v.taps
   pub room : buffer_of sc device ≡ Some x.room
   pub base : x.base ≡ v.base
   pub cursor : x.cursor ≡ v.cursor
-  pub lanes : (owner place n : ℕ) → position_of_owner sc owner ≡ Some place → slice_get x.lanes place ≡ Some n → n ≡ length (part owner v.taps)
+  pub owners : x.owners ≡ keys_of sc.owners
+  pub days : keys_of x.days ≡ v.waiting
+  pub numbered : HasNumbered v.taps x
 
 pub record IsStationOf (sc : SchemeValue) (devices : ℕ → DeviceState) (station : ℕ) (line : List Answer) (x : StationShape) : Type 0 where
   pub nexts : (device : ℕ) → x.nexts device ≡ next_at sc devices station device
   pub waits : Each2 IsAnswerOf line x.line
 
--- a ledger is the owner's, of this scheme, and no day is closed
+-- a ledger is the owner's, of this scheme
 pub record IsLedgerOf (sc : SchemeValue) (owner : ℕ) (v : LedgerValue) : Type 0 where
   pub id : v.owner ≡ owner
   pub made : IsOfScheme sc v
-  pub closed : (device : ℕ) → v.closed device ≡ 0
 
 pub record IsOwnerOf (sc : SchemeValue) (devices : ℕ → DeviceState) (owner : ℕ) (w : OwnerState) (lanes : ℕ → LaneState) (x : OwnerShape) : Type 0 where
   pub ledger : IsLedgerOf sc owner x.ledger
   pub taken : (device : ℕ) → x.ledger.taken device ≡ take (lanes device).took (part owner (devices device).taps)
+  pub stated : (device day : ℕ) → x.ledger.stated device day ≡ count_of ((lanes device).stated day) (part owner (devices device).taps) day
+  pub closed : (device : ℕ) → x.ledger.closed device ≡ (lanes device).closed
   pub queue : Each2 (IsRoutedOf devices owner) w.queue x.queue
   pub hand : Both (IsRoutedOf devices owner) w.hand x.hand
-  pub cursors : (device n : ℕ) → x.cursors device ≡ Some n → n ≡ (lanes device).forward
+  pub cursors : (device : ℕ) (p : ℕ × ℕ) → IsSome (position_of_device sc device) → x.cursors device ≡ Some p → p ≡ ((lanes device).forward, (lanes device).from_day)
 
 pub record Shows (sc : SchemeValue) (h : Shape) (s : System) : Type 0 where
   pub system : IsSystem sc s
@@ -184,6 +168,7 @@ pub record Shows (sc : SchemeValue) (h : Shape) (s : System) : Type 0 where
   pub hand : Both (IsArrivedOf s.devices) s.hand h.hand
   pub upto : (device : ℕ) → h.outbox.upto device ≡ (s.devices device).upto
   pub rows : (owner device lane : ℕ) → h.outbox.rows owner device lane ≡ row_at (s.lanes owner device).gone (arrived_of owner (s.devices device)) lane
-  pub held : h.outbox.row_count ≡ s.held
-  pub stated : (owner device day : ℕ) → h.outbox.stated owner device day ≡ None
+  pub row_count : h.outbox.row_count ≡ s.rows
+  pub stated : (owner device day : ℕ) → h.outbox.stated owner device day ≡ count_of (s.held owner device day) (part owner (s.devices device).taps) day
+  pub stated_count : h.outbox.stated_count ≡ s.statements
   pub owners : (owner : ℕ) → IfSome (h.owners owner) (IsOwnerOf sc s.devices owner (s.owners owner) (s.lanes owner))

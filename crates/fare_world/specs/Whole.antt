@@ -1,7 +1,8 @@
 -- What is seen of a world, and what its calls do.
-use Rattle.std.specs.Prelude.{◌≡◌, ◌+◌, ◌≤◌, ℕ, ◌⊎◌, Bool, true, nat_lt, List, [], ◌++◌, map, filter, take, length, Option, None, Some, IfSome, option_map, Result, MatchResult, slice_get}
+use Rattle.std.specs.Prelude.{◌≡◌, ◌+◌, ◌≤◌, ℕ, ◌⊎◌, true, nat_lt, List, [], ◌++◌, map, filter, take, length, Option, None, Some, option_map, Result, MatchResult, slice_get}
 use Rattle.fare_record.specs.Values.{RecordValue}
 use Rattle.fare_record.specs.Lanes.{part, lane_of}
+use Rattle.fare_record.specs.declared.item.Item.{Item}
 use Rattle.fare_scheme.specs.Values.{SchemeValue}
 use Rattle.fare_scheme.specs.Words.{position_of_device, position_of_station, position_of_owner}
 use Rattle.fare_collector.specs.Collecting.{next_in}
@@ -17,7 +18,7 @@ use Rattle.fare_world.specs.declared.owner.Owner.{Owner}
 use Rattle.fare_world.specs.declared.station.Station.{Station}
 use Rattle.fare_world.specs.declared.world.World.{World}
 use Rattle.fare_world.specs.System.{System}
-use Rattle.fare_world.specs.Rooms.{lane_of_cursor}
+use Rattle.fare_world.specs.Rooms.{place_of_cursor}
 use Rattle.fare_world.specs.Restarts.{Paired, Rose, Failed}
 use Rattle.fare_world.specs.Steps.{step, after, replies, may_fail}
 use Rattle.fare_world.specs.Headline.{numbered, IsPrefixOf}
@@ -30,8 +31,8 @@ pub record Seen : Type 0 where
   pub devices : List DeviceValue
   pub stations : List Station
   pub air : List (List ℕ)
-  pub inbox : List RecordValue
-  pub hand : Option RecordValue
+  pub inbox : List Item
+  pub hand : Option Item
   pub outbox : OutboxValue
   pub owners : List OwnerShape
 
@@ -50,10 +51,14 @@ shape w = record {
   owners = λ owner. entry (position_of_owner w.scheme owner) w.owners;
 }
 
+-- the owner at a place has this in its hand
+abbrev pub Holds : {O L : Type 0} → World O L → ℕ → Item → Type 0
+Holds {O} {L} w at i = (x : Owner L) → slice_get w.owners.items at ≡ Some x → x.hand ≡ Some i
+
 -- an owner's side, with what its ledger holds
 module _ {L : Type 0} (ledger : L → Standing LedgerValue) where
   abbrev pub owner_seen : Owner L → OwnerShape
-  owner_seen x = record { ledger = (ledger x.ledger).value; queue = x.queue.items; hand = x.hand; cursors = lane_of_cursor x.forwarder }
+  owner_seen x = record { ledger = (ledger x.ledger).value; queue = x.queue.items; hand = x.hand; cursors = place_of_cursor x.forwarder }
 
 module _ {O L : Type 0} (outbox : O → Standing OutboxValue) (ledger : L → Standing LedgerValue) where
   abbrev pub seen : World O L → Seen

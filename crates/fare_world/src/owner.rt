@@ -3,21 +3,21 @@ ghost use Rattle.circular_buffer.specs.Buffer.{buffer};
 ghost use Rattle.fare_route.specs.Routing.{cursor_of};
 ghost use Rattle.fare_scheme.specs.Words.{position_of_device};
 ghost use Rattle.fare_store.specs.Standing.{Reads};
-ghost use Rattle.fare_world.specs.Rooms.{AreStandings, lane_of_cursor, taken_at};
+ghost use Rattle.fare_world.specs.Rooms.{AreStandings, place_of_cursor, place_at};
 
 use circular_buffer::HeapCircularBuffer;
-use fare_record::{Day, Record};
+use fare_record::{Day, Item};
 use fare_route::Forwarder;
 use fare_scheme::Scheme;
 use fare_store::{Fault, Ledger};
 
-/// An owner's side of the hub: its ledger, its lane queue, the row in its hand, and the forwarder that feeds
+/// An owner's side of the hub: its ledger, its lane queue, the item in its hand, and the forwarder that feeds
 /// the queue.
 #[derive(Debug, Drop)]
 pub struct Owner<L> {
     pub ledger: L,
-    pub queue: HeapCircularBuffer<Record>,
-    pub hand: Option<Record>,
+    pub queue: HeapCircularBuffer<Item>,
+    pub hand: Option<Item>,
     pub forwarder: Forwarder,
     /// Where the ledger stood when it was last asked: for each device, in order of registration, how many of
     /// its taps are taken and its last closed day. A restart asks before it changes anything.
@@ -53,8 +53,8 @@ impl<L: Ledger + Drop> Owner<L> {
         ensures queue { self.new.queue ≡ buffer [] self.old.queue.capacity }
         ensures hand { self.new.hand ≡ None }
         ensures owner { self.new.forwarder.owner ≡ self.old.forwarder.owner }
-        ensures resumed { (device : ℕ) → IsSome (position_of_device scheme.now device) → lane_of_cursor self.new.forwarder device ≡ option_map (λ _. taken_at scheme.now self.old.standings.items device) (lane_of_cursor self.old.forwarder device) }
-        ensures others { (device : ℕ) → position_of_device scheme.now device ≡ None → lane_of_cursor self.new.forwarder device ≡ lane_of_cursor self.old.forwarder device }
+        ensures resumed { (device : ℕ) → IsSome (position_of_device scheme.now device) → place_of_cursor self.new.forwarder device ≡ option_map (λ _. place_at scheme.now self.old.standings.items device) (place_of_cursor self.old.forwarder device) }
+        ensures others { (device : ℕ) → position_of_device scheme.now device ≡ None → place_of_cursor self.new.forwarder device ≡ place_of_cursor self.old.forwarder device }
     {
         self.queue.clear();
         self.hand = None;

@@ -9,7 +9,7 @@ use crate::station::Station;
 use crate::{Event, Reply};
 use circular_buffer::HeapCircularBuffer;
 use fare_device::Device;
-use fare_record::Record;
+use fare_record::Item;
 use fare_scheme::Scheme;
 use fare_store::{Fault, Ledger, Outbox};
 use std::alloc::Global;
@@ -60,8 +60,8 @@ pub struct World<O, L> {
     devices: Vec<Device>,
     stations: Vec<Station>,
     air: Vec<Packet>,
-    inbox: HeapCircularBuffer<Record>,
-    hand: Option<Record>,
+    inbox: HeapCircularBuffer<Item>,
+    hand: Option<Item>,
     outbox: O,
     owners: Vec<Owner<L>>,
     // How far the outbox had each device, in order of registration, when it was last asked for all: a restart
@@ -82,8 +82,7 @@ pub struct Stopped<O, L> {
 }
 
 impl<O: Outbox + Drop, L: Ledger + Drop> World<O, L> {
-    ghost use Rattle.std.specs.List.{AllByRecursion};
-    ghost use Rattle.fare_world.specs.Headline.{IsOrderly};
+    ghost use Rattle.fare_world.specs.Headline.{IsOrderly, EachAnswer, TakesNoneAfterClose};
     ghost use Rattle.fare_world.specs.Whole.{AreLive, StandsAt, Applied, HasRun, WasStopped, TakenInOrder, KeepsEachTap};
 
     /// One event: what it changes, and its reply. `Memory` where there was none, which only an event can want
@@ -99,16 +98,20 @@ impl<O: Outbox + Drop, L: Ledger + Drop> World<O, L> {
                 token,
                 moment,
             } => Ok(self.tap(device, product, token, moment)),
+            Event::Turn { device } => Ok(self.turn(device)),
             Event::Send { device } => self.send(device),
             Event::Rewind { device } => Ok(self.rewind(device)),
+            Event::State { device, day, owner } => self.state(device, day, owner),
             Event::Arrive { packet } => self.arrive(packet),
             Event::Draw => Ok(self.draw()),
             Event::Store => self.store(),
             Event::Ack { device } => self.ack(device),
+            Event::DayAck { device, day } => self.day_ack(device, day),
             Event::Answer { station } => self.answer(station),
             Event::Forward { owner, device } => self.forward(owner, device),
             Event::Fetch { owner } => Ok(self.fetch(owner)),
             Event::Take { owner } => self.take(owner),
+            Event::Close { owner, device, day } => self.close(owner, device, day),
             Event::Prune { owner, device } => self.prune(owner, device),
             Event::Resume { device } => self.resume(device),
             Event::RestartDevice { device } => Ok(self.restart_device(device)),
@@ -125,8 +128,9 @@ impl<O: Outbox + Drop, L: Ledger + Drop> World<O, L> {
     /// the replies of the events before it are handed back. Of a new world, what each owner has then taken
     /// from each device is a prefix of what the device numbered for that owner, as the events and their
     /// replies tell; each tap so numbered is in the ledger, in the outbox behind what the ledger has, or in
-    /// the device behind what the outbox has had, so none is lost; and no reply says that a packet is a
-    /// stranger's, misrouted or ahead.
+    /// the device behind what the outbox has had, so none is lost; after an owner's reply that a device's day is
+    /// closed, no reply says that a tap of that day was taken; and no reply tells of a stranger, of another
+    /// owner's item, of a conflict, of more taps than stated, or of a tap that is not the next to be taken.
     pub fn run(mut self, events: &[Event]) -> Result<(World<O, L>, Vec<Reply>), Stopped<O, L>>
         ensures ran { IfOk result (λ r. HasRun O.standing L.standing self r.0 events.now r.1.items) }
         ensures whole { IfOk result (λ r. length r.1.items ≡ length events.now) }
@@ -135,8 +139,10 @@ impl<O: Outbox + Drop, L: Ledger + Drop> World<O, L> {
         ensures taken_before { IfErr result (λ stop. StandsAt O.standing L.standing self (start self.scheme) → AreLive O.standing L.standing stop.world → TakenInOrder L.standing stop.world events.now stop.replies.items) }
         ensures kept { IfOk result (λ r. StandsAt O.standing L.standing self (start self.scheme) → AreLive O.standing L.standing r.0 → KeepsEachTap O.standing L.standing r.0 events.now r.1.items) }
         ensures kept_before { IfErr result (λ stop. StandsAt O.standing L.standing self (start self.scheme) → AreLive O.standing L.standing stop.world → KeepsEachTap O.standing L.standing stop.world events.now stop.replies.items) }
-        ensures orderly { IfOk result (λ r. StandsAt O.standing L.standing self (start self.scheme) → AreLive O.standing L.standing r.0 → AllByRecursion IsOrderly r.1.items) }
-        ensures orderly_before { IfErr result (λ stop. StandsAt O.standing L.standing self (start self.scheme) → AreLive O.standing L.standing stop.world → AllByRecursion IsOrderly stop.replies.items) }
+        ensures orderly { IfOk result (λ r. StandsAt O.standing L.standing self (start self.scheme) → AreLive O.standing L.standing r.0 → EachAnswer IsOrderly events.now r.1.items) }
+        ensures orderly_before { IfErr result (λ stop. StandsAt O.standing L.standing self (start self.scheme) → AreLive O.standing L.standing stop.world → EachAnswer IsOrderly events.now stop.replies.items) }
+        ensures unclosed { IfOk result (λ r. StandsAt O.standing L.standing self (start self.scheme) → AreLive O.standing L.standing r.0 → TakesNoneAfterClose self.scheme events.now r.1.items) }
+        ensures unclosed_before { IfErr result (λ stop. StandsAt O.standing L.standing self (start self.scheme) → AreLive O.standing L.standing stop.world → TakesNoneAfterClose self.scheme events.now stop.replies.items) }
     {
         let Ok(mut replies) = Vec::with_capacity(self.alloc, events.len()) else {
             return Err(Stopped {

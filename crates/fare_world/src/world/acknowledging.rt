@@ -1,15 +1,18 @@
-ghost use Rattle.std.specs.Prelude.{Some};
-ghost use Rattle.fare_world.specs.System.{Acked};
-ghost use Rattle.fare_world.specs.Steps.{comes};
-ghost use Rattle.fare_world.specs.Shown.{IsAck};
+ghost use Rattle.std.specs.Prelude.{◌≡◌, Some};
+ghost use Rattle.fare_store.specs.Standing.{Reads};
+ghost use Rattle.fare_world.specs.System.{Acked, DayAcked};
+ghost use Rattle.fare_world.specs.Arriving.{comes};
+ghost use Rattle.fare_world.specs.Kept.{IsAck, IsDayAck};
+ghost use Rattle.fare_world.specs.Acknowledging.{are_all_stated, answered_by};
 ghost use Rattle.fare_world.specs.Whole.{Applied, Does};
 ghost use Rattle.fare_world.specs.declared.event.Event.TheVariants as event;
 
+use crate::acknowledgement::Acknowledgement;
 use crate::packet::Packet;
 use crate::world::World;
 use crate::{Refusal, Reply};
-use fare_frame::Frame;
-use fare_record::{Ack, DeviceId, StationId};
+use fare_record::{Ack, Day, DayAck, DeviceId, StationId};
+use fare_scheme::Scheme;
 use fare_store::{Fault, Ledger, Outbox};
 
 impl<O: Outbox + Drop, L: Ledger + Drop> World<O, L> {
@@ -23,6 +26,20 @@ impl<O: Outbox + Drop, L: Ledger + Drop> World<O, L> {
         match self.devices[place].hear_ack(ack.upto()) {
             Ok(dropped) => Reply::Dropped(dropped),
             Err(_) => Reply::Refused(Refusal::AckAhead),
+        }
+    }
+
+    // A device hears that the hub has its statements of a day.
+    pub(super) fn hear_day(&mut self, ack: DayAck) -> Reply
+        ensures { Does O.standing L.standing self.old self.new (λ s. IsDayAck self.old.scheme s.held ack.device ack.day) (λ s. comes self.old.scheme s (Some (DayAcked ack.device ack.day))) result }
+    {
+        let Some(place) = self.scheme.device_position(ack.device()) else {
+            return Reply::Idle;
+        };
+        if self.devices[place].hear_day_ack(ack.day()) {
+            Reply::DroppedDay(ack.day())
+        } else {
+            Reply::Idle
         }
     }
 
@@ -40,11 +57,30 @@ impl<O: Outbox + Drop, L: Ledger + Drop> World<O, L> {
         let upto = self.outbox.upto(device)?;
         let pushed = self.stations[place]
             .line
-            .try_push_back(Ack::new(device, upto));
+            .try_push_back(Acknowledgement::Taps(Ack::new(device, upto)));
         if pushed.is_err() {
             unreachable!()
         }
         Ok(Reply::Acknowledged(upto))
+    }
+
+    // The acknowledgement line of a device's station gains a day of which the outbox holds all statements.
+    pub(super) fn day_ack(&mut self, device: DeviceId, day: Day) -> Result<Reply, Fault>
+        ensures { Applied O.standing L.standing self.old self.new (event.DayAck device day) result }
+    {
+        let Some(place) = self.station_place(device) else {
+            return Ok(Reply::Refused(Refusal::UnknownDevice));
+        };
+        if !are_stated(&self.scheme, &mut self.outbox, device, day)? {
+            return Ok(Reply::Refused(Refusal::Unstated));
+        }
+        let pushed = self.stations[place]
+            .line
+            .try_push_back(Acknowledgement::Day(DayAck::new(device, day)));
+        if pushed.is_err() {
+            return Ok(Reply::Refused(Refusal::Busy));
+        }
+        Ok(Reply::AcknowledgedDay(day))
     }
 
     // The front of a station's acknowledgement line goes into the air.
@@ -54,17 +90,54 @@ impl<O: Outbox + Drop, L: Ledger + Drop> World<O, L> {
         let Some(place) = self.scheme.station_position(station) else {
             return Ok(Reply::Refused(Refusal::UnknownStation));
         };
-        let Some(ack) = self.stations[place].line.front().copied() else {
+        let Some(answer) = self.stations[place].line.front().copied() else {
             return Ok(Reply::Empty);
         };
         let mut packet = Packet::new(self.alloc)?;
-        packet.write(&Frame::Acked(ack));
+        packet.write(&answer.frame());
         self.air.push(packet)?;
         self.stations[place].line.pop_front();
-        Ok(Reply::Answered {
-            packet: self.air.len() as u64,
+        Ok(answered(self.air.len() as u64, &answer))
+    }
+}
+
+// The reply where the air gained this packet with an acknowledgement.
+fn answered(packet: u64, answer: &Acknowledgement) -> Reply
+    ensures { result ≡ answered_by packet answer.now }
+{
+    match answer {
+        Acknowledgement::Taps(ack) => Reply::Answered {
+            packet,
             device: ack.device(),
             upto: ack.upto(),
-        })
+        },
+        Acknowledgement::Day(ack) => Reply::AnsweredDay {
+            packet,
+            device: ack.device(),
+            day: ack.day(),
+        },
     }
+}
+
+// Whether the outbox holds a device's statements of a day for all owners.
+fn are_stated<O: Outbox>(
+    scheme: &Scheme,
+    outbox: &mut O,
+    device: DeviceId,
+    day: Day,
+) -> Result<bool, Fault>
+    ensures { Reads (O.standing outbox.old) (O.standing outbox.new) (λ all. all ≡ are_all_stated scheme.now (O.standing outbox.old).value device day) result }
+{
+    for place in 0..scheme.owner_count() {
+        let Some(owner) = scheme.owner_at(place) else {
+            unreachable!()
+        };
+        let Some(statement) = outbox.next_statement(owner, device, day)? else {
+            return Ok(false);
+        };
+        if statement.day() != day {
+            return Ok(false);
+        }
+    }
+    Ok(true)
 }

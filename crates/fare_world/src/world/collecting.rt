@@ -1,20 +1,23 @@
 ghost use Rattle.std.specs.Prelude.{◌≡◌, ◌<◌, None, Some, IfNone, IfSome, IfOk, IfErr, IsSome, length, option_copied};
 ghost use Rattle.fare_scheme.specs.Words.{station_of};
-ghost use Rattle.fare_world.specs.System.{Tapped};
-ghost use Rattle.fare_world.specs.Steps.{comes, refusal_of};
+ghost use Rattle.fare_record.specs.declared.item.Item.TheVariants as item;
+ghost use Rattle.fare_world.specs.System.{Tapped, Stated};
+ghost use Rattle.fare_world.specs.Arriving.{comes, refusal_of, statement_refusal_of};
 ghost use Rattle.fare_world.specs.Packets.{bytes_at, IsPacketRead};
-ghost use Rattle.fare_world.specs.Shown.{IsAt};
+ghost use Rattle.fare_world.specs.Kept.{IsPacket};
+ghost use Rattle.fare_world.specs.Shown.{IsAt, IsStatementOf};
 ghost use Rattle.fare_world.specs.Rooms.{HasStation};
 ghost use Rattle.fare_world.specs.Whole.{Applied, Does, IsStepped};
 ghost use Rattle.fare_world.specs.declared.event.Event.TheVariants as event;
 
+use crate::item_reply::drawn;
 use crate::packet::Packet;
 use crate::world::World;
 use crate::{Refusal, Reply};
-use fare_collector::CollectRefusal;
+use fare_collector::{CollectRefusal, StatementRefusal};
 use fare_frame::Frame;
-use fare_record::{DeviceId, Record};
-use fare_store::{Fault, Ledger, Outbox, Refused, StoreFault};
+use fare_record::{DeviceId, Item, Record, Statement};
+use fare_store::{Fault, Ledger, Outbox, Refused, StatedFault, StoreFault};
 
 impl<O: Outbox + Drop, L: Ledger + Drop> World<O, L> {
     // A packet, numbered from 1, comes to where it was sent.
@@ -27,8 +30,14 @@ impl<O: Outbox + Drop, L: Ledger + Drop> World<O, L> {
         if let Some(tapped) = frame.tapped() {
             return Ok(self.collect(tapped));
         }
+        if let Some(statement) = frame.stated() {
+            return Ok(self.collect_statement(statement));
+        }
         if let Some(ack) = frame.acked() {
             return Ok(self.hear(ack));
+        }
+        if let Some(ack) = frame.day_acked() {
+            return Ok(self.hear_day(ack));
         }
         Ok(Reply::Refused(Refusal::NoPacket))
     }
@@ -44,8 +53,25 @@ impl<O: Outbox + Drop, L: Ledger + Drop> World<O, L> {
         if let Err(refusal) = collector.accept(&self.scheme, &tapped) {
             return Reply::Refused(named(refusal));
         }
-        if self.inbox.try_push_back(tapped).is_err() {
+        if self.inbox.try_push_back(Item::Tap(tapped)).is_err() {
             collector.unaccept(tapped.device());
+            return Reply::Refused(Refusal::Busy);
+        }
+        Reply::Accepted
+    }
+
+    // A statement comes to the station of its device.
+    fn collect_statement(&mut self, statement: Statement) -> Reply
+        ensures { Does O.standing L.standing self.old self.new (λ s. IsPacket self.old.scheme s.devices s.held (Stated statement.device statement.day statement.owner) × IsStatementOf s.devices statement.device statement.day statement.owner statement) (λ s. comes self.old.scheme s (Some (Stated statement.device statement.day statement.owner))) result }
+    {
+        let Some(place) = self.station_place(statement.device()) else {
+            return Reply::Refused(Refusal::Stranger);
+        };
+        let collector = &self.stations[place].collector;
+        if let Err(refusal) = collector.accept_statement(&self.scheme, &statement) {
+            return Reply::Refused(statement_named(refusal));
+        }
+        if self.inbox.try_push_back(Item::Stated(statement)).is_err() {
             return Reply::Refused(Refusal::Busy);
         }
         Reply::Accepted
@@ -90,23 +116,34 @@ impl<O: Outbox + Drop, L: Ledger + Drop> World<O, L> {
         if self.hand.is_some() {
             return Reply::Refused(Refusal::HandFull);
         }
-        let Some(row) = self.inbox.pop_front() else {
+        let Some(item) = self.inbox.pop_front() else {
             return Reply::Empty;
         };
-        self.hand = Some(row);
-        Reply::Drawn {
-            device: row.device(),
-            link: row.link(),
-        }
+        self.hand = Some(item);
+        drawn(&item)
     }
 
     // The writer's hand goes to the outbox.
     pub(super) fn store(&mut self) -> Result<Reply, Fault>
         ensures { Applied O.standing L.standing self.old self.new event.Store result }
     {
-        let Some(row) = self.hand else {
+        let Some(item) = self.hand else {
             return Ok(Reply::Idle);
         };
+        if let Some(row) = item.tap() {
+            return self.store_tap(row);
+        }
+        let Some(statement) = item.stated() else {
+            unreachable!()
+        };
+        self.store_statement(statement)
+    }
+
+    // The tap in the writer's hand goes to the outbox.
+    fn store_tap(&mut self, row: Record) -> Result<Reply, Fault>
+        requires { self.old.hand ≡ Some (item.Tap row) }
+        ensures { Applied O.standing L.standing self.old self.new event.Store result }
+    {
         let why = match self.outbox.store(&row) {
             Ok(()) => {
                 self.hand = None;
@@ -127,6 +164,32 @@ impl<O: Outbox + Drop, L: Ledger + Drop> World<O, L> {
         self.hand = None;
         Ok(Reply::Refused(refusal))
     }
+
+    // The statement in the writer's hand goes to the outbox.
+    fn store_statement(&mut self, statement: Statement) -> Result<Reply, Fault>
+        requires { self.old.hand ≡ Some (item.Stated statement) }
+        ensures { Applied O.standing L.standing self.old self.new event.Store result }
+    {
+        let why = match self.outbox.store_statement(&statement) {
+            Ok(()) => {
+                self.hand = None;
+                return Ok(Reply::StoredDay {
+                    device: statement.device(),
+                    day: statement.day(),
+                    owner: statement.owner(),
+                });
+            }
+            Err(Refused::Failed(fault)) => return Err(fault),
+            Err(Refused::Because(why)) => why,
+        };
+        let refusal = match why {
+            StatedFault::OutboxFull => return Ok(Reply::Refused(Refusal::OutboxFull)),
+            StatedFault::Duplicate => Refusal::Duplicate,
+            StatedFault::Conflict => Refusal::Conflict,
+        };
+        self.hand = None;
+        Ok(Reply::Refused(refusal))
+    }
 }
 
 // The name of a collector's refusal.
@@ -138,5 +201,15 @@ fn named(refusal: CollectRefusal) -> Refusal
         CollectRefusal::Misrouted => Refusal::Misrouted,
         CollectRefusal::Old => Refusal::Old,
         CollectRefusal::Ahead => Refusal::Ahead,
+    }
+}
+
+// The name of a collector's refusal of a statement.
+fn statement_named(refusal: StatementRefusal) -> Refusal
+    ensures { result ≡ statement_refusal_of refusal }
+{
+    match refusal {
+        StatementRefusal::Stranger => Refusal::Stranger,
+        StatementRefusal::Misrouted => Refusal::Misrouted,
     }
 }

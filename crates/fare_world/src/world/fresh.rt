@@ -7,7 +7,7 @@ use crate::station::Station;
 use circular_buffer::HeapCircularBuffer;
 use fare_collector::{Collector, CollectorFault};
 use fare_device::{Device, DeviceFault};
-use fare_record::{Day, OwnerId, Record};
+use fare_record::{Day, Item, OwnerId};
 use fare_route::{Forwarder, StartFault};
 use fare_scheme::Scheme;
 use std::alloc::{AllocError, Global};
@@ -15,7 +15,7 @@ use std::alloc::{AllocError, Global};
 // An owner's side of a new world, but for its ledger.
 #[derive(Debug, Drop)]
 pub(super) struct Side {
-    queue: HeapCircularBuffer<Record>,
+    queue: HeapCircularBuffer<Item>,
     forwarder: Forwarder,
     standings: Vec<(u64, Option<Day>)>,
 }
@@ -25,7 +25,7 @@ pub(super) struct Side {
 pub(super) struct Fresh<L> {
     pub devices: Vec<Device>,
     pub stations: Vec<Station>,
-    pub inbox: HeapCircularBuffer<Record>,
+    pub inbox: HeapCircularBuffer<Item>,
     pub uptos: Vec<u64>,
     pub sides: Vec<Side>,
     pub owners: Vec<Owner<L>>,

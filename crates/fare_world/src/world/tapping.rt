@@ -5,8 +5,8 @@ use crate::packet::Packet;
 use crate::world::World;
 use crate::{Refusal, Reply};
 use fare_day::traffic_day;
-use fare_device::TapRefusal;
-use fare_record::{DeviceId, Moment, ProductId, Token};
+use fare_device::{TapRefusal, TurnRefusal};
+use fare_record::{Day, DeviceId, Moment, OwnerId, ProductId, Token};
 use fare_store::{Fault, Ledger, Outbox};
 
 impl<O: Outbox + Drop, L: Ledger + Drop> World<O, L> {
@@ -37,6 +37,48 @@ impl<O: Outbox + Drop, L: Ledger + Drop> World<O, L> {
             Err(TapRefusal::NumbersSpent) => Reply::Refused(Refusal::NumbersSpent),
             Err(TapRefusal::BufferFull) => Reply::Refused(Refusal::BufferFull),
         }
+    }
+
+    // The open day of a device is over, and its statements wait.
+    pub(super) fn turn(&mut self, device: DeviceId) -> Reply
+        ensures { IsStepped O.standing L.standing self.old self.new (event.Turn device) result }
+    {
+        let Some(place) = self.scheme.device_position(device) else {
+            return Reply::Refused(Refusal::UnknownDevice);
+        };
+        match self.devices[place].turn_day() {
+            Ok(day) => Reply::Opened(day),
+            Err(TurnRefusal::LastDay) => Reply::Refused(Refusal::LastDay),
+            Err(TurnRefusal::StatementsFull) => Reply::Refused(Refusal::StatementsFull),
+        }
+    }
+
+    // A device's statement of a waiting day, for an owner, goes into the air.
+    pub(super) fn state(
+        &mut self,
+        device: DeviceId,
+        day: Day,
+        owner: OwnerId,
+    ) -> Result<Reply, Fault>
+        ensures { Applied O.standing L.standing self.old self.new (event.State device day owner) result }
+    {
+        let Some(place) = self.scheme.device_position(device) else {
+            return Ok(Reply::Refused(Refusal::UnknownDevice));
+        };
+        if self.scheme.owner_position(owner).is_none() {
+            return Ok(Reply::Refused(Refusal::UnknownOwner));
+        }
+        let Ok(frame) = self.devices[place].statement(day, owner) else {
+            return Ok(Reply::Refused(Refusal::NotWaiting));
+        };
+        let mut packet = Packet::new(self.alloc)?;
+        packet.write(&frame);
+        self.air.push(packet)?;
+        Ok(Reply::SentDay {
+            packet: self.air.len() as u64,
+            day,
+            owner,
+        })
     }
 
     // A device goes back to its first tap that waits.

@@ -1,6 +1,6 @@
-use Rattle.std.proofs.Common.{◌≡◌, ◌+◌, ℕ, None, Some, length, set, refl, sym, ap, ◌∙◌, subst, arith, length-set}
-use Rattle.std.specs.Prelude.{Ok, Err, Option}
-use Rattle.fare_store.specs.Standing.{Reads, Calls}
+use Rattle.std.proofs.Common.{◌≡◌, ◌+◌, None, Some, length, set, refl, ap, ◌∙◌, arith, length-set}
+use Rattle.std.specs.Prelude.{Ok, Err}
+use Rattle.fare_store.specs.Standing.{Reads}
 use Rattle.fare_store.specs.LedgerWords.{LedgerValue, closed_through}
 use Rattle.fare_world.specs.Rooms.{AreStandings}
 use Rattle.fare_world.proofs.ReadsThen.{read_failed, reads_none, reads_then, reads_say, ToldTo, one_told, standing_of, standings_told}

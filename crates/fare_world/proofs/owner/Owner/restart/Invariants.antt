@@ -1,6 +1,6 @@
 use Rattle.std.proofs.Common.{◌≡◌, ℕ, [], None}
 use Rattle.circular_buffer.specs.Buffer.{buffer}
-use Rattle.fare_world.specs.Rooms.{lane_of_cursor, taken_at}
+use Rattle.fare_world.specs.Rooms.{place_of_cursor, place_at}
 use Rattle.fare_world.proofs.Resuming.{resumed_to}
 use Rattle.fare_world.proofs.owner.Owner.restart.Given as goal
 
@@ -11,5 +11,5 @@ invariant-loop-place g l = record {
   queue : l.self.queue ≡ buffer [] l.fn.self.queue.capacity;
   hand : l.self.hand ≡ None;
   owner : l.self.forwarder.owner ≡ l.fn.self.forwarder.owner;
-  lanes : (device : ℕ) → lane_of_cursor l.self.forwarder device ≡ resumed_to l.scheme (taken_at l.scheme l.fn.self.standings.items) (lane_of_cursor l.fn.self.forwarder) l.place device;
+  lanes : (device : ℕ) → place_of_cursor l.self.forwarder device ≡ resumed_to l.scheme (place_at l.scheme l.fn.self.standings.items) (place_of_cursor l.fn.self.forwarder) l.place device;
 }

@@ -1,18 +1,15 @@
-use Rattle.std.proofs.Common.{◌≡◌, ◌<◌, Some, None, Bool, true, false, length, refl, sym, ap, ◌∙◌, subst, arith}
-use Rattle.std.specs.Prelude.{◌&&◌, Ok, Err, is_some, map, slice_get}
+use Rattle.std.proofs.Common.{◌≡◌, ◌<◌, Some, true, false, length, refl, sym, ap, ◌∙◌, arith}
+use Rattle.std.specs.Prelude.{◌&&◌, Ok, Err, is_some, slice_get}
 use Rattle.fare_scheme.specs.Words.{position_of_device, position_of_owner}
-use Rattle.fare_store.specs.Standing.{Reads, Writes, Removes}
-use Rattle.fare_world.specs.declared.owner.Owner.{Owner}
+use Rattle.fare_store.specs.Standing.{Reads}
 use Rattle.fare_world.specs.declared.reply.Reply.TheVariants as reply
-use Rattle.fare_world.specs.Steps as step
 use Rattle.fare_world.specs.Whole.{seen, owner_seen, shape}
-use Rattle.fare_world.proofs.Showing.{Answers}
-use Rattle.fare_world.proofs.OwnersSeen.{owner_at, within_seen, owners_set, owners_kept, owner_here, over}
+use Rattle.fare_world.proofs.OwnersSeen.{owner_at, within_seen, owners_kept, owner_here, over}
 use Rattle.fare_world.proofs.RoomLemmas.{rooms_of_owner}
-use Rattle.fare_world.proofs.Stores.{steps, same_stores, stepped, outbox_stepped, outbox_lawful, outbox_follows, ledger_stepped, ledger_failed, then_memory, applied_err}
-use Rattle.std.specs.Prelude.{option_map}
+use Rattle.fare_world.proofs.Stores.{steps, same_stores, ledger_stepped, ledger_failed, applied_err}
 use Rattle.fare_world.specs.Shown.{entry}
 use Rattle.fare_world.proofs.ShowForward.{shown_count, owner_read, shown_count_unknown_owner, shown_count_unknown}
+use Rattle.fare_world.specs.Steps as step
 use Rattle.fare_world.proofs.world.World.count.Goals as goal
 
 pub returns-in_default : goal.returns-in_default

@@ -4,12 +4,12 @@ use Rattle.fare_device.specs.DeviceWords.{last_link}
 use Rattle.fare_device.specs.DeviceWords as device
 use Rattle.fare_world.specs.declared.reply.Reply.TheVariants.{Dropped}
 use Rattle.fare_world.specs.System.{Acked}
-use Rattle.fare_world.specs.Steps.{comes}
+use Rattle.fare_world.specs.Arriving.{comes}
 use Rattle.fare_world.proofs.ShowLink.{shown_heard, never_ahead, never_unknown}
 use Rattle.fare_world.proofs.ShowStation.{device_written}
 use Rattle.fare_world.proofs.ShowTap.{device_read}
 use Rattle.fare_world.proofs.RoomLemmas.{rooms_of_device}
-use Rattle.fare_world.proofs.Stores.{steps, stepped, does, does_all, applied_err, unchanged, same_stores}
+use Rattle.fare_world.proofs.Stores.{does, same_stores}
 use Rattle.fare_world.specs.Whole.{seen, shape}
 use Rattle.fare_world.proofs.world.World.hear.Goals as goal
 

@@ -1,21 +1,19 @@
-use Rattle.std.proofs.Common.{◌≡◌, ◌<◌, Some, None, Bool, true, false, length, refl, sym, ap, ◌∙◌, subst, arith}
-use Rattle.std.specs.Prelude.{◌&&◌, Ok, Err, is_some, map, slice_get}
+use Rattle.std.proofs.Common.{◌≡◌, ◌<◌, Some, true, false, length, refl, sym, ap, ◌∙◌, subst, arith}
+use Rattle.std.specs.Prelude.{◌&&◌, Ok, Err, is_some, slice_get}
 use Rattle.fare_scheme.specs.Words.{position_of_device, position_of_owner}
-use Rattle.fare_store.specs.Standing.{Reads, Writes, Removes}
+use Rattle.fare_store.specs.Standing.{Reads, Removes}
 use Rattle.fare_world.specs.declared.owner.Owner.{Owner}
 use Rattle.fare_world.specs.declared.reply.Reply.TheVariants as reply
-use Rattle.fare_world.specs.Steps as step
 use Rattle.fare_world.specs.Whole.{seen, owner_seen, shape}
 use Rattle.fare_world.proofs.Showing.{Answers}
-use Rattle.fare_world.proofs.OwnersSeen.{owner_at, within_seen, owners_set, owners_kept, owner_here, over}
+use Rattle.fare_world.proofs.OwnersSeen.{owner_at, within_seen, owners_kept, owner_here, over}
 use Rattle.fare_world.proofs.RoomLemmas.{rooms_of_owner}
 use Rattle.fare_world.proofs.Stores.{steps, same_stores, ledger_failed, both_failed, both_stepped, applied_err}
-use Rattle.std.specs.Prelude.{option_map}
 use Rattle.fare_store.specs.OutboxWords.{pruned, rows_upto}
-use Rattle.fare_world.specs.Shown.{entry}
 use Rattle.fare_world.proofs.ShowForward.{shown_prune, owner_read, shown_prune_unknown_owner, shown_prune_unknown}
-use Rattle.fare_world.proofs.Stores.{both_stepped, both_lawful, both_follows}
+use Rattle.fare_world.proofs.Stores.{both_stepped}
 use Rattle.fare_world.proofs.OwnersSeen.{shape_of}
+use Rattle.fare_world.specs.Owning as owning
 use Rattle.fare_world.proofs.world.World.prune.Goals as goal
 
 pub returns-in_default : goal.returns-in_default
@@ -80,8 +78,8 @@ returns g c =
     let read : Reads (g.L.Ledger.standing y.ledger) (g.L.Ledger.standing c.count.new.self) (λ n. n ≡ length ((g.L.Ledger.standing y.ledger).value.taken c.args.device)) (Ok c.in_ok-taken.taken) = c.in_ok-taken.ensures in
     let did : Removes (g.O.Outbox.standing c.args.self.now.outbox) (g.O.Outbox.standing c.prune.new.self) (pruned c.args.owner c.args.device c.in_ok-taken.taken w.outbox) (rows_upto c.in_ok-taken.taken (w.outbox.rows c.args.owner c.args.device)) (Ok c.in_ok-rows.rows) = c.in_ok-rows.ensures in
     both_stepped g.O.Outbox.standing g.L.Ledger.standing c.args.self.now _ _ _ c.in-Some.at y new _ _ _ _ refl here refl read did (λ s first is sh.
-    subst (Answers w.scheme (shape_of w (g.O.Outbox.standing c.prune.new.self).value _) (step.prune w.scheme s c.args.owner c.args.device)) (ap reply.Pruned (sym is.0))
-    (over w (pruned c.args.owner c.args.device c.in_ok-taken.taken w.outbox) (g.O.Outbox.standing c.prune.new.self).value w.owners _ (step.prune w.scheme s c.args.owner c.args.device) (reply.Pruned (rows_upto c.in_ok-taken.taken (w.outbox.rows c.args.owner c.args.device))) is.1
+    subst (Answers w.scheme (shape_of w (g.O.Outbox.standing c.prune.new.self).value _) (owning.prune w.scheme s c.args.owner c.args.device)) (ap reply.Pruned (sym is.0))
+    (over w (pruned c.args.owner c.args.device c.in_ok-taken.taken w.outbox) (g.O.Outbox.standing c.prune.new.self).value w.owners _ (owning.prune w.scheme s c.args.owner c.args.device) (reply.Pruned (rows_upto c.in_ok-taken.taken (w.outbox.rows c.args.owner c.args.device))) is.1
     (owners_kept g.L.Ledger.standing xs c.in-Some.at y new c.index_mut.ensures.value (λ k. record (owner_seen g.L.Ledger.standing y) { ledger = first.0 k }))
     (shown_prune w.scheme (shape w) s c.args.owner c.args.device c.in-Some.at (owner_seen g.L.Ledger.standing y) c.in_ok-taken.taken sh owner device (owner_read w c.args.owner c.in-Some.at (owner_seen g.L.Ledger.standing y) owner (within_seen g.L.Ledger.standing xs c.in-Some.at within) (owner_at g.L.Ledger.standing xs c.in-Some.at y within c.index_mut.ensures.value)) first.1)))
 

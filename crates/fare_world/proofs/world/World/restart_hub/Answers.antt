@@ -1,15 +1,14 @@
-use Rattle.std.proofs.Common.{◌≡◌, ℕ, [], None, Some, List, length, refl, sym, ap, ◌∙◌, subst, arith}
+use Rattle.fare_record.specs.declared.item.Item.{Item}
+use Rattle.std.proofs.Common.{◌≡◌, ℕ, None, Some, List, length, refl, sym, ap, ◌∙◌, subst}
 use Rattle.std.specs.Prelude.{Ok, Err, map, slice_get}
 use Rattle.std.specs.Vec.{with_items}
 use Rattle.circular_buffer.specs.Buffer.{Buffer}
-use Rattle.fare_record.specs.Values.{RecordValue}
 use Rattle.fare_scheme.specs.Words.{position_of_owner}
 use Rattle.fare_store.specs.Standing.{Reads, fault_of}
 use Rattle.fare_world.specs.declared.owner.Owner.{Owner}
 use Rattle.fare_world.specs.declared.station.Station.{Station}
-use Rattle.fare_world.specs.Rooms.{lane_of_cursor, AreUptos}
+use Rattle.fare_world.specs.Rooms.{place_of_cursor, AreUptos}
 use Rattle.fare_world.specs.Restarts.{Paired, AreAsked, IsAsked, IsOwnerAgain, IsStationAgain}
-use Rattle.fare_world.specs.Shown.{entry}
 use Rattle.fare_world.specs.Whole.{seen, owner_seen, shape}
 use Rattle.fare_world.proofs.Again.{asked_rooms, entries_stay}
 use Rattle.fare_world.proofs.Hub.{IsRestarted, all_restarted, sides_kept, restarted_rooms, lines_kept, written, asked_follows, asked_lawful, hub_follows, hub_lawful, owners_again, hub_shown}
@@ -38,6 +37,7 @@ invariant_of-self-in-Break-branch-2 g c =
     let both : Paired (IsAsked g.L.Ledger.standing sc (fault_of c.ask_owners.result)) old.owners.items mid = subst (λ (q : List (Owner g.row.L.Denot)). Paired (IsAsked g.L.Ledger.standing sc (fault_of c.ask_owners.result)) q mid) c.deref_mut-2.ensures.value c.ask_owners.ensures.each in
     record {
       rooms = record {
+        start = old.rooms.start;
         device_count = old.rooms.device_count;
         station_count = old.rooms.station_count;
         owner_count = ap length mid_is ∙ mid_long ∙ old.rooms.owner_count;
@@ -65,7 +65,7 @@ returns-in_err-ask_owners g c =
       seen_is = λ live lawful.
           let is = asked_lawful g.O.Outbox.standing g.L.Ledger.standing old _ sc f _ did all live lawful in
           let stay = entries_stay (IsAsked g.L.Ledger.standing sc (Some f)) (owner_seen g.L.Ledger.standing) old.owners.items (with_items old.owners mid).items all.each
-          (λ k x y e h a. λ j. record { ledger = is.2 k x y e h a j; queue = (a.queue j).items; hand = a.hand j; cursors = lane_of_cursor (a.forwarder j) }) in
+          (λ k x y e h a. λ j. record { ledger = is.2 k x y e h a j; queue = (a.queue j).items; hand = a.hand j; cursors = place_of_cursor (a.forwarder j) }) in
           (is.0, λ i. record (shape w) { outbox = is.1.0 i; owners = λ o. stay (position_of_owner sc o) i });
       stores = asked_follows g.O.Outbox.standing g.L.Ledger.standing old _ sc f _ did all;
     })
@@ -104,11 +104,12 @@ invariant_of-self-2 g c =
     let stations : Paired (IsStationAgain sc c.deref.result.now) old.stations.items sts = subst (λ (q : List Station). Paired (IsStationAgain sc c.deref.result.now) q sts) c.deref_mut-3.ensures.value c.restart_stations.ensures in
     record {
       rooms = record {
+        start = old.rooms.start;
         device_count = old.rooms.device_count;
         station_count = ap length sts_is ∙ sts_long ∙ old.rooms.station_count;
         owner_count = ap length zs_is ∙ zs_long ∙ ap length mid_is ∙ mid_long ∙ old.rooms.owner_count;
         lanes = old.rooms.lanes;
-        inbox_room = ap (λ (b : Buffer RecordValue). b.capacity) c.clear.ensures ∙ old.rooms.inbox_room;
+        inbox_room = ap (λ (b : Buffer Item). b.capacity) c.clear.ensures ∙ old.rooms.inbox_room;
         lines = λ k y e. lines_kept sc c.deref.result.now old.stations.items sts stations old.rooms.lines k y (ap (λ l. slice_get l k) (sym sts_is) ∙ e);
         sides = λ k y e. sides_kept sc (IsRestarted g.L.Ledger.standing sc) old.owners.items zs (all_restarted g.L.Ledger.standing sc old.owners.items mid zs asked again) (restarted_rooms g.L.Ledger.standing sc) old.rooms.sides k y (ap (λ l. slice_get l k) (sym zs_is) ∙ e);
         upto_count = us_count;
@@ -136,5 +137,5 @@ returns g c =
     stepped g.O.Outbox.standing g.L.Ledger.standing old _ _ _ refl (hub_follows g.O.Outbox.standing g.L.Ledger.standing old _ sc _ did owners) (hub_lawful g.O.Outbox.standing g.L.Ledger.standing old _ sc _ did owners)
     (λ s live lawful sh.
     let is = did.value live.outbox_is lawful.outbox_is in
-    hub_shown w s (with_items old.stations sts).items c.clear.new.self.items (g.O.Outbox.standing c.ask_uptos.new.outbox).value (map (owner_seen g.L.Ledger.standing) (with_items (with_items old.owners mid) zs).items) us sh (ap (λ (b : Buffer RecordValue). b.items) c.clear.ensures) is.1.0 is.1.1 stations
+    hub_shown w s (with_items old.stations sts).items c.clear.new.self.items (g.O.Outbox.standing c.ask_uptos.new.outbox).value (map (owner_seen g.L.Ledger.standing) (with_items (with_items old.owners mid) zs).items) us sh (ap (λ (b : Buffer Item). b.items) c.clear.ensures) is.1.0 is.1.1 stations
     (owners_again g.O.Outbox.standing g.L.Ledger.standing old _ sc owners live lawful))

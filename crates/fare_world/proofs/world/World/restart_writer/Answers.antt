@@ -1,6 +1,6 @@
 use Rattle.std.proofs.Common.{refl}
 use Rattle.fare_world.proofs.ShowCollect.{shown_writer}
-use Rattle.fare_world.proofs.Stores.{steps, stepped, does, does_all, applied_err, unchanged, same_stores}
+use Rattle.fare_world.proofs.Stores.{steps, same_stores}
 use Rattle.fare_world.specs.Whole.{seen, shape}
 use Rattle.fare_world.proofs.world.World.restart_writer.Goals as goal
 

@@ -5,12 +5,12 @@ use Rattle.std.proofs.Common.{◌≡◌, refl, sym, subst}
 use Rattle.std.specs.Prelude.{Ok, Err}
 use Rattle.fare_store.specs.Standing.{Reads}
 use Rattle.fare_world.specs.declared.reply.Reply.TheVariants as reply
-use Rattle.fare_world.specs.Steps as step
 use Rattle.fare_world.specs.Whole.{seen, shape}
 use Rattle.fare_world.proofs.WorldLink.{with_station, world_resumed}
 use Rattle.fare_world.proofs.Known.{placed}
 use Rattle.fare_world.proofs.Showing.{Answers}
 use Rattle.fare_world.proofs.Stores.{outbox_stepped, outbox_failed, applied_err}
+use Rattle.fare_world.specs.Restarting as restarting
 use Rattle.fare_world.proofs.world.World.resume.Goals as goal
 
 pub returns-in_err-upto : goal.returns-in_err-upto
@@ -26,7 +26,7 @@ returns g c =
     let x = c.index_mut.result.now in
     let did : Reads (g.O.Outbox.standing c.args.self.now.outbox) (g.O.Outbox.standing c.upto.new.self) (λ u. u ≡ w.outbox.upto c.args.device) (Ok c.in_ok-upto.upto) = c.in_ok-upto.ensures.read in
     outbox_stepped g.O.Outbox.standing g.L.Ledger.standing c.args.self.now _ _ _ _ _ refl refl did (λ s is sh.
-    subst (λ o. Answers w.scheme (record (shape w) { outbox = o; stations = with_station w c.in-Some.place (record x { collector = c.resume.new.self }) }) (step.resume w.scheme s d) (reply.Resumed c.in_ok-upto.upto)) (sym is.0)
+    subst (λ o. Answers w.scheme (record (shape w) { outbox = o; stations = with_station w c.in-Some.place (record x { collector = c.resume.new.self }) }) (restarting.resume w.scheme s d) (reply.Resumed c.in_ok-upto.upto)) (sym is.0)
     (world_resumed w s d c.in-Some.place c.in_ok-upto.upto x c.resume.new.self sh c.in-Some.ensures.some c.in-Some.ensures.within c.index_mut.ensures.value is.1 c.resume.ensures.next))
 
 pub returns-in_default : goal.returns-in_default

@@ -1,10 +1,10 @@
 use Rattle.std.proofs.Common.{◌<◌, length, refl, sym, ◌∙◌, arith}
-use Rattle.fare_world.specs.Steps.{rewind}
+use Rattle.fare_world.specs.Tapping.{rewind}
 use Rattle.fare_world.specs.declared.reply.Reply.TheVariants.{Rewound}
 use Rattle.fare_world.proofs.ShowLink.{shown_rewind_unknown, shown_rewind}
 use Rattle.fare_world.proofs.ShowStation.{device_written}
 use Rattle.fare_world.proofs.ShowTap.{device_read}
-use Rattle.fare_world.proofs.Stores.{steps, stepped, does, does_all, applied_err, unchanged, same_stores}
+use Rattle.fare_world.proofs.Stores.{steps, same_stores}
 use Rattle.fare_world.specs.Whole.{seen, shape}
 use Rattle.fare_world.proofs.world.World.rewind.Goals as goal
 

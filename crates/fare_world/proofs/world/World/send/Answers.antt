@@ -7,7 +7,7 @@ use Rattle.fare_world.proofs.MayFail.{send_may_fail, unsent, all_sent}
 use Rattle.fare_device.specs.DeviceWords.{last_link}
 use Rattle.std.proofs.Common.{◌≢◌}
 use Rattle.fare_world.proofs.RoomLemmas.{rooms_of_device}
-use Rattle.fare_world.proofs.Stores.{steps, stepped, does, does_all, applied_err, unchanged, same_stores}
+use Rattle.fare_world.proofs.Stores.{steps, applied_err, unchanged, same_stores}
 use Rattle.fare_frame.specs.Grammar.{frame_bytes}
 use Rattle.fare_device.specs.DeviceWords.{DeviceValue}
 use Rattle.fare_world.specs.Whole.{seen, shape}

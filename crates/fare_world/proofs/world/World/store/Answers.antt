@@ -1,68 +1,26 @@
+use Rattle.std.proofs.Common.{ap, sym, ◌∙◌, Some, refl}
+use Rattle.fare_world.specs.Whole.{seen, shape}
+use Rattle.fare_world.proofs.Items.{tap_item, stated_item, some_item}
 use Rattle.fare_world.proofs.ShowCollect.{shown_nothing}
 use Rattle.fare_world.proofs.Stores.{steps, same_stores}
-use Rattle.std.proofs.Common.{◌≡◌, Some, None, refl, sym, ap, ◌∙◌, subst}
-use Rattle.std.specs.Prelude.{Ok, Err}
-use Rattle.fare_store.specs.declared.fault.StoreFault.{StoreFault}
-use Rattle.fare_store.specs.declared.fault.StoreFault.TheVariants as store_fault
-use Rattle.fare_store.specs.declared.fault.Refused.{Refused}
-use Rattle.fare_store.specs.declared.fault.Refused.TheVariants as refused
-use Rattle.fare_store.specs.Standing.{Writes}
-use Rattle.fare_store.specs.OutboxWords.{store_judged, stored}
-use Rattle.fare_world.specs.declared.reply.Refusal.TheVariants as refusal
-use Rattle.fare_world.specs.declared.reply.Reply.TheVariants as reply
-use Rattle.fare_world.specs.Steps.{store}
-use Rattle.fare_world.specs.Whole.{seen, shape}
-use Rattle.fare_world.proofs.ShowCollect.{Judged, shown_store}
-use Rattle.fare_world.proofs.Showing.{Answers}
-use Rattle.fare_world.proofs.Stores.{outbox_stepped, outbox_failed}
-use Rattle.fare_world.proofs.MayFail.{store_may_fail}
-use Rattle.fare_world.proofs.world.World.store.Goals.{in-Duplicate, in-Gap, in-Conflict}
 use Rattle.fare_world.proofs.world.World.store.Goals as goal
-
-pub returns-in-Ok : goal.returns-in-Ok
-returns-in-Ok g c =
-    let w = seen g.O.Outbox.standing g.L.Ledger.standing c.args.self.now in
-    let row = c.in-Some.row in
-    let did : Writes (g.O.Outbox.standing c.args.self.now.outbox) (g.O.Outbox.standing c.store.new.self) (store_judged w.outbox row) (stored row w.outbox) (Ok tt) = c.in-Ok.ensures in
-    outbox_stepped g.O.Outbox.standing g.L.Ledger.standing c.args.self.now _ _ _ _ _ refl refl did (λ s is sh.
-    subst (λ o. Answers w.scheme (record (shape w) { hand = None; outbox = o }) (store s) (reply.Stored c.device.result c.link.result)) (sym is.1) (subst (Answers w.scheme (record (shape w) { hand = None; outbox = stored row w.outbox }) (store s)) (λ i. reply.Stored (sym c.device.ensures i) (sym c.link.ensures.value i))
-    (subst (Judged w.scheme (shape w) s row) is.0 (shown_store w.scheme (shape w) s row sh c.in-Some.is))))
-
-pub returns-in-OutboxFull : goal.returns-in-OutboxFull
-returns-in-OutboxFull g c =
-    let w = seen g.O.Outbox.standing g.L.Ledger.standing c.args.self.now in
-    let row = c.in-Some.row in
-    let did : Writes (g.O.Outbox.standing c.args.self.now.outbox) (g.O.Outbox.standing c.store.new.self) (store_judged w.outbox row) (stored row w.outbox) (Err (refused.Because store_fault.OutboxFull)) = subst (λ (v : Refused StoreFault). Writes (g.O.Outbox.standing c.args.self.now.outbox) (g.O.Outbox.standing c.store.new.self) (store_judged w.outbox row) (stored row w.outbox) (Err v)) (c.in-Err-Because.field-0-is ∙ ap refused.Because (sym c.in-Err-Because.why-is ∙ c.in-OutboxFull.is)) c.in-Err-Because.ensures in
-    outbox_stepped g.O.Outbox.standing g.L.Ledger.standing c.args.self.now _ _ _ _ _ refl refl did (λ s is sh.
-    subst (λ o. Answers w.scheme (record (shape w) { outbox = o }) (store s) (reply.Refused refusal.OutboxFull)) (sym is.1) (subst (Judged w.scheme (shape w) s row) is.0 (shown_store w.scheme (shape w) s row sh c.in-Some.is)))
-
-pub returns : goal.returns
-returns g c =
-    let w = seen g.O.Outbox.standing g.L.Ledger.standing c.args.self.now in
-    let row = c.in-Some.row in
-    elim c.match-why.branch [
-      | in-Duplicate a ↦
-          let did : Writes (g.O.Outbox.standing c.args.self.now.outbox) (g.O.Outbox.standing c.store.new.self) (store_judged w.outbox row) (stored row w.outbox) (Err (refused.Because store_fault.Duplicate)) = subst (λ (v : Refused StoreFault). Writes (g.O.Outbox.standing c.args.self.now.outbox) (g.O.Outbox.standing c.store.new.self) (store_judged w.outbox row) (stored row w.outbox) (Err v)) (c.in-Err-Because.field-0-is ∙ ap refused.Because (sym c.in-Err-Because.why-is ∙ a.in-Duplicate.is)) c.in-Err-Because.ensures in
-          outbox_stepped g.O.Outbox.standing g.L.Ledger.standing c.args.self.now _ _ _ _ _ refl refl did (λ s is sh.
-          subst (λ o. Answers w.scheme (record (shape w) { hand = None; outbox = o }) (store s) (reply.Refused c.match-why.refusal)) (sym is.1) (subst (Answers w.scheme (record (shape w) { hand = None }) (store s)) (ap reply.Refused (sym a.refusal-is)) (subst (Judged w.scheme (shape w) s row) is.0 (shown_store w.scheme (shape w) s row sh c.in-Some.is))))
-      | in-Gap a ↦
-          let did : Writes (g.O.Outbox.standing c.args.self.now.outbox) (g.O.Outbox.standing c.store.new.self) (store_judged w.outbox row) (stored row w.outbox) (Err (refused.Because store_fault.Gap)) = subst (λ (v : Refused StoreFault). Writes (g.O.Outbox.standing c.args.self.now.outbox) (g.O.Outbox.standing c.store.new.self) (store_judged w.outbox row) (stored row w.outbox) (Err v)) (c.in-Err-Because.field-0-is ∙ ap refused.Because (sym c.in-Err-Because.why-is ∙ a.in-Gap.is)) c.in-Err-Because.ensures in
-          outbox_stepped g.O.Outbox.standing g.L.Ledger.standing c.args.self.now _ _ _ _ _ refl refl did (λ s is sh.
-          subst (λ o. Answers w.scheme (record (shape w) { hand = None; outbox = o }) (store s) (reply.Refused c.match-why.refusal)) (sym is.1) (subst (Answers w.scheme (record (shape w) { hand = None }) (store s)) (ap reply.Refused (sym a.refusal-is)) (subst (Judged w.scheme (shape w) s row) is.0 (shown_store w.scheme (shape w) s row sh c.in-Some.is))))
-      | in-Conflict a ↦
-          let did : Writes (g.O.Outbox.standing c.args.self.now.outbox) (g.O.Outbox.standing c.store.new.self) (store_judged w.outbox row) (stored row w.outbox) (Err (refused.Because store_fault.Conflict)) = subst (λ (v : Refused StoreFault). Writes (g.O.Outbox.standing c.args.self.now.outbox) (g.O.Outbox.standing c.store.new.self) (store_judged w.outbox row) (stored row w.outbox) (Err v)) (c.in-Err-Because.field-0-is ∙ ap refused.Because (sym c.in-Err-Because.why-is ∙ a.in-Conflict.is)) c.in-Err-Because.ensures in
-          outbox_stepped g.O.Outbox.standing g.L.Ledger.standing c.args.self.now _ _ _ _ _ refl refl did (λ s is sh.
-          subst (λ o. Answers w.scheme (record (shape w) { hand = None; outbox = o }) (store s) (reply.Refused c.match-why.refusal)) (sym is.1) (subst (Answers w.scheme (record (shape w) { hand = None }) (store s)) (ap reply.Refused (sym a.refusal-is)) (subst (Judged w.scheme (shape w) s row) is.0 (shown_store w.scheme (shape w) s row sh c.in-Some.is))))
-    ]
-
-pub returns-in-Err-Failed : goal.returns-in-Err-Failed
-returns-in-Err-Failed g c =
-    let w = seen g.O.Outbox.standing g.L.Ledger.standing c.args.self.now in
-    let row = c.in-Some.row in
-    let did = subst (λ (v : Refused StoreFault). Writes (g.O.Outbox.standing c.args.self.now.outbox) (g.O.Outbox.standing c.store.new.self) (store_judged w.outbox row) (stored row w.outbox) (Err v)) (c.in-Err-Failed.field-0-is ∙ ap refused.Failed (sym c.in-Err-Failed.fault-is)) c.in-Err-Failed.ensures in
-    outbox_failed g.O.Outbox.standing g.L.Ledger.standing c.args.self.now _ _ _ _ _ refl refl did (λ is i. record (shape w) { outbox = is i }) (λ s sh. store_may_fail w.scheme (shape w) s row sh c.in-Some.is)
 
 pub returns-in_default : goal.returns-in_default
 returns-in_default g c =
     let w = seen g.O.Outbox.standing g.L.Ledger.standing c.args.self.now in
     steps g.O.Outbox.standing g.L.Ledger.standing c.args.self.now _ _ _ refl (same_stores _ _ refl refl) (λ s sh. shown_nothing w.scheme (shape w) s sh c.in_default.is)
+
+pub store_tap-requires : goal.store_tap-requires
+store_tap-requires g c = c.in-Some.is ∙ ap Some (tap_item c.in-Some.item c.in-Some-tap.row (sym c.tap.ensures ∙ c.in-Some-tap.is))
+
+pub returns-in-Some-tap : goal.returns-in-Some-tap
+returns-in-Some-tap g c = c.store_tap.ensures
+
+pub unreachable-requires : goal.unreachable-requires
+unreachable-requires g c = some_item c.in-Some.item (sym c.tap.ensures ∙ c.in_default-tap.is) (sym c.stated.ensures ∙ c.in_default-stated.is)
+
+pub store_statement-requires : goal.store_statement-requires
+store_statement-requires g c = c.in-Some.is ∙ ap Some (stated_item c.in-Some.item c.in-Some-stated.statement (sym c.stated.ensures ∙ c.in-Some-stated.is))
+
+pub returns : goal.returns
+returns g c = c.store_statement.ensures

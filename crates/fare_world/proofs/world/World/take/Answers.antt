@@ -1,26 +1,13 @@
-use Rattle.std.proofs.Common.{◌≡◌, ◌<◌, Some, None, Bool, true, false, length, refl, sym, ap, ◌∙◌, subst, arith}
-use Rattle.std.specs.Prelude.{Ok, Err, is_some, map, slice_get}
-use Rattle.fare_scheme.specs.Words.{position_of_device, position_of_owner}
-use Rattle.fare_store.specs.Standing.{Reads, Writes, Removes}
+use Rattle.std.proofs.Common.{◌≡◌, ◌<◌, Some, length, refl, sym, ap, ◌∙◌, subst, arith}
+use Rattle.fare_scheme.specs.Words.{position_of_owner}
+use Rattle.fare_record.specs.declared.item.Item.TheVariants as item
 use Rattle.fare_world.specs.declared.owner.Owner.{Owner}
-use Rattle.fare_world.specs.declared.reply.Reply.TheVariants as reply
-use Rattle.fare_world.specs.Steps as step
 use Rattle.fare_world.specs.Whole.{seen, owner_seen, shape}
-use Rattle.fare_world.proofs.Showing.{Answers}
-use Rattle.fare_world.proofs.OwnersSeen.{owner_at, within_seen, owners_set, owners_kept, owner_here, over}
-use Rattle.fare_world.proofs.RoomLemmas.{rooms_of_owner}
-use Rattle.fare_world.proofs.Stores.{steps, same_stores, stepped, outbox_stepped, outbox_lawful, outbox_follows, ledger_stepped, ledger_failed, then_memory, applied_err}
-use Rattle.std.specs.Prelude.{option_map}
-use Rattle.std.proofs.Common.{set}
+use Rattle.fare_world.proofs.OwnersSeen.{owner_at, within_seen, owner_here}
+use Rattle.fare_world.proofs.Stores.{steps, same_stores}
 use Rattle.std.proofs.lemmas.Option.{same_Some}
-use Rattle.fare_world.specs.Shown.{entry}
-use Rattle.fare_owner.specs.declared.tap.TapFault.{TapFault}
-use Rattle.fare_store.specs.declared.fault.Refused.{Refused}
-use Rattle.fare_store.specs.declared.fault.Refused.TheVariants as refused
-use Rattle.fare_store.specs.LedgerWords.{take_judged, took}
-use Rattle.fare_world.specs.System.{put}
-use Rattle.fare_world.proofs.ShowForward.{TakeSeen, shown_take, shown_take_idle, owner_read, owner_written, same_owner, world_take, shown_take_unknown}
-use Rattle.fare_world.proofs.MayFail.{take_may_fail}
+use Rattle.fare_world.proofs.ShowForward.{shown_take_idle, owner_read, shown_take_unknown}
+use Rattle.fare_world.proofs.Items.{tap_item, stated_item, some_item}
 use Rattle.fare_world.proofs.world.World.take.Goals as goal
 
 pub returns-in_default : goal.returns-in_default
@@ -37,77 +24,31 @@ returns-in_default-hand g c =
     let within : c.in-Some.at < length xs = omega (arith, c.in-Some.ensures.within, c.args.self.now.rooms.owner_count) in
     steps g.O.Outbox.standing g.L.Ledger.standing c.args.self.now _ _ _ refl (same_stores _ _ refl refl) (λ s sh. shown_take_idle w.scheme (shape w) s c.args.owner c.in-Some.at (owner_seen g.L.Ledger.standing y) sh owner (owner_read w c.args.owner c.in-Some.at (owner_seen g.L.Ledger.standing y) owner (within_seen g.L.Ledger.standing xs c.in-Some.at within) (owner_at g.L.Ledger.standing xs c.in-Some.at y within c.index.ensures)) c.in_default-hand.is)
 
-pub invariant_of-self : goal.invariant_of-self
-invariant_of-self g c =
-    let y = c.index_mut-side.result.now in
-    let within : c.in-Some.at < length c.args.self.now.owners.items = omega (arith, c.in-Some.ensures.within, c.args.self.now.rooms.owner_count) in
-    record { rooms = rooms_of_owner c.args.self.now c.in-Some.at y (record y { ledger = c.take.new.self; hand = None }) within c.index_mut-side.ensures.value (λ h. record { forwarder = h.forwarder; queue = h.queue; standings = h.standings }) }
-
-pub returns-in-Ok : goal.returns-in-Ok
-returns-in-Ok g c =
-    let w = seen g.O.Outbox.standing g.L.Ledger.standing c.args.self.now in
-    let y = c.index_mut-side.result.now in
+pub take_tap-requires-clause-hand : goal.take_tap-requires-clause-hand
+take_tap-requires-clause-hand g c = λ x here.
     let xs = c.args.self.now.owners.items in
-    let owner : position_of_owner w.scheme c.args.owner ≡ Some c.in-Some.at = sym c.owner_position.ensures.value ∙ c.in-Some.is in
     let within : c.in-Some.at < length xs = omega (arith, c.in-Some.ensures.within, c.args.self.now.rooms.owner_count) in
-    let here : slice_get xs c.in-Some.at ≡ Some y = owner_here g.L.Ledger.standing xs c.in-Some.at y within c.index_mut-side.ensures.value in
-    let row = c.in-Some-hand.row in
-    let one : c.index.result.now ≡ y = same_Some c.index.result.now y (sym (owner_here g.L.Ledger.standing xs c.in-Some.at c.index.result.now within c.index.ensures) ∙ here) in
-    let held : y.hand ≡ Some row = subst (λ (z : Owner g.row.L.Denot). z.hand ≡ Some row) one c.in-Some-hand.is in
-    let did : Writes (g.L.Ledger.standing y.ledger) (g.L.Ledger.standing c.take.new.self) (take_judged (g.L.Ledger.standing y.ledger).value row) (took row (g.L.Ledger.standing y.ledger).value) (Ok tt) = c.in-Ok.ensures in
-    let new = record y { ledger = c.take.new.self; hand = None } in
-    ledger_stepped g.O.Outbox.standing g.L.Ledger.standing c.args.self.now _ _ _ c.in-Some.at y new _ _ refl refl here refl did (λ s is sh.
-    let by : TakeSeen w.scheme (shape w) s c.args.owner (owner_seen g.L.Ledger.standing y) row (Ok tt) = world_take w s c.args.owner c.in-Some.at (owner_seen g.L.Ledger.standing y) row (Ok tt) sh owner (within_seen g.L.Ledger.standing xs c.in-Some.at within) (owner_at g.L.Ledger.standing xs c.in-Some.at y within c.index_mut-side.ensures.value) held is.0 in
-    over w w.outbox _ (set w.owners c.in-Some.at (owner_seen g.L.Ledger.standing new)) _ (step.take_event w.scheme s c.args.owner) (reply.Taken c.device.result c.lane.result) refl (owners_set g.L.Ledger.standing xs c.in-Some.at new)
-    (owner_written w c.args.owner c.in-Some.at (owner_seen g.L.Ledger.standing new) (record (owner_seen g.L.Ledger.standing y) { ledger = took row (g.L.Ledger.standing y.ledger).value; hand = None }) (step.take_event w.scheme s c.args.owner) (reply.Taken c.device.result c.lane.result) owner (within_seen g.L.Ledger.standing xs c.in-Some.at within)
-    (λ i. record (owner_seen g.L.Ledger.standing y) { ledger = is.1 i; hand = None })
-    (subst (Answers w.scheme (record (shape w) { owners = put (shape w).owners c.args.owner (Some (record (owner_seen g.L.Ledger.standing y) { ledger = took row (g.L.Ledger.standing y.ledger).value; hand = None })) }) (step.take_event w.scheme s c.args.owner)) (λ i. reply.Taken (sym c.device.ensures i) (sym c.lane.ensures.value i)) by)))
+    let one : c.index.result.now ≡ x = same_Some c.index.result.now x (sym (owner_here g.L.Ledger.standing xs c.in-Some.at c.index.result.now within c.index.ensures) ∙ here) in
+    subst (λ (z : Owner g.row.L.Denot). z.hand ≡ Some (item.Tap c.in-Some-tap.row)) one (c.in-Some-hand.is ∙ ap Some (tap_item c.in-Some-hand.item c.in-Some-tap.row (sym c.tap.ensures ∙ c.in-Some-tap.is)))
 
-pub returns-in-Err-Failed : goal.returns-in-Err-Failed
-returns-in-Err-Failed g c =
-    let w = seen g.O.Outbox.standing g.L.Ledger.standing c.args.self.now in
-    let y = c.index_mut-side.result.now in
+pub take_tap-requires-clause-at : goal.take_tap-requires-clause-at
+take_tap-requires-clause-at g c = sym c.owner_position.ensures.value ∙ c.in-Some.is
+
+pub returns-in-Some-tap : goal.returns-in-Some-tap
+returns-in-Some-tap g c = c.take_tap.ensures
+
+pub unreachable-requires : goal.unreachable-requires
+unreachable-requires g c = some_item c.in-Some-hand.item (sym c.tap.ensures ∙ c.in_default-tap.is) (sym c.stated.ensures ∙ c.in_default-stated.is)
+
+pub take_statement-requires-clause-hand : goal.take_statement-requires-clause-hand
+take_statement-requires-clause-hand g c = λ x here.
     let xs = c.args.self.now.owners.items in
-    let owner : position_of_owner w.scheme c.args.owner ≡ Some c.in-Some.at = sym c.owner_position.ensures.value ∙ c.in-Some.is in
     let within : c.in-Some.at < length xs = omega (arith, c.in-Some.ensures.within, c.args.self.now.rooms.owner_count) in
-    let here : slice_get xs c.in-Some.at ≡ Some y = owner_here g.L.Ledger.standing xs c.in-Some.at y within c.index_mut-side.ensures.value in
-    let row = c.in-Some-hand.row in
-    let new = record y { ledger = c.take.new.self } in
-    let did = subst (λ (v : Refused TapFault). Writes (g.L.Ledger.standing y.ledger) (g.L.Ledger.standing c.take.new.self) (take_judged (g.L.Ledger.standing y.ledger).value row) (took row (g.L.Ledger.standing y.ledger).value) (Err v)) (c.in-Err-Failed.field-0-is ∙ ap refused.Failed (sym c.in-Err-Failed.fault-is)) c.in-Err-Failed.ensures in
-    let one : c.index.result.now ≡ y = same_Some c.index.result.now y (sym (owner_here g.L.Ledger.standing xs c.in-Some.at c.index.result.now within c.index.ensures) ∙ here) in
-    let held : y.hand ≡ Some row = subst (λ (z : Owner g.row.L.Denot). z.hand ≡ Some row) one c.in-Some-hand.is in
-    ledger_failed g.O.Outbox.standing g.L.Ledger.standing c.args.self.now _ _ _ c.in-Some.at y new _ _ refl refl here refl did
-    (λ is i. record (shape w) { owners = λ j. entry (position_of_owner w.scheme j) (owners_kept g.L.Ledger.standing xs c.in-Some.at y new c.index_mut-side.ensures.value (λ k. record (owner_seen g.L.Ledger.standing y) { ledger = is k }) i) })
-    (λ s sh. take_may_fail w.scheme (shape w) s c.args.owner c.in-Some.at (owner_seen g.L.Ledger.standing y) row sh owner (owner_read w c.args.owner c.in-Some.at (owner_seen g.L.Ledger.standing y) owner (within_seen g.L.Ledger.standing xs c.in-Some.at within) (owner_at g.L.Ledger.standing xs c.in-Some.at y within c.index_mut-side.ensures.value)) held)
+    let one : c.index.result.now ≡ x = same_Some c.index.result.now x (sym (owner_here g.L.Ledger.standing xs c.in-Some.at c.index.result.now within c.index.ensures) ∙ here) in
+    subst (λ (z : Owner g.row.L.Denot). z.hand ≡ Some (item.Stated c.in-Some-stated.statement)) one (c.in-Some-hand.is ∙ ap Some (stated_item c.in-Some-hand.item c.in-Some-stated.statement (sym c.stated.ensures ∙ c.in-Some-stated.is)))
+
+pub take_statement-requires-clause-at : goal.take_statement-requires-clause-at
+take_statement-requires-clause-at g c = sym c.owner_position.ensures.value ∙ c.in-Some.is
 
 pub returns : goal.returns
-returns g c =
-    let w = seen g.O.Outbox.standing g.L.Ledger.standing c.args.self.now in
-    let y = c.index_mut-side.result.now in
-    let xs = c.args.self.now.owners.items in
-    let owner : position_of_owner w.scheme c.args.owner ≡ Some c.in-Some.at = sym c.owner_position.ensures.value ∙ c.in-Some.is in
-    let within : c.in-Some.at < length xs = omega (arith, c.in-Some.ensures.within, c.args.self.now.rooms.owner_count) in
-    let here : slice_get xs c.in-Some.at ≡ Some y = owner_here g.L.Ledger.standing xs c.in-Some.at y within c.index_mut-side.ensures.value in
-    let row = c.in-Some-hand.row in
-    let one : c.index.result.now ≡ y = same_Some c.index.result.now y (sym (owner_here g.L.Ledger.standing xs c.in-Some.at c.index.result.now within c.index.ensures) ∙ here) in
-    let held : y.hand ≡ Some row = subst (λ (z : Owner g.row.L.Denot). z.hand ≡ Some row) one c.in-Some-hand.is in
-    let did : Writes (g.L.Ledger.standing y.ledger) (g.L.Ledger.standing c.take.new.self) (take_judged (g.L.Ledger.standing y.ledger).value row) (took row (g.L.Ledger.standing y.ledger).value) (Err (refused.Because c.in-Err-Because.why)) = subst (λ (v : Refused TapFault). Writes (g.L.Ledger.standing y.ledger) (g.L.Ledger.standing c.take.new.self) (take_judged (g.L.Ledger.standing y.ledger).value row) (took row (g.L.Ledger.standing y.ledger).value) (Err v)) c.in-Err-Because.field-0-is c.in-Err-Because.ensures in
-    let new = record y { ledger = c.take.new.self; hand = None } in
-    ledger_stepped g.O.Outbox.standing g.L.Ledger.standing c.args.self.now _ _ _ c.in-Some.at y new _ _ refl refl here refl did (λ s is sh.
-    let by : TakeSeen w.scheme (shape w) s c.args.owner (owner_seen g.L.Ledger.standing y) row (Err c.in-Err-Because.why) = world_take w s c.args.owner c.in-Some.at (owner_seen g.L.Ledger.standing y) row (Err c.in-Err-Because.why) sh owner (within_seen g.L.Ledger.standing xs c.in-Some.at within) (owner_at g.L.Ledger.standing xs c.in-Some.at y within c.index_mut-side.ensures.value) held is.0 in
-    over w w.outbox _ (set w.owners c.in-Some.at (owner_seen g.L.Ledger.standing new)) _ (step.take_event w.scheme s c.args.owner) (reply.Refused c.named.result) refl (owners_set g.L.Ledger.standing xs c.in-Some.at new)
-    (owner_written w c.args.owner c.in-Some.at (owner_seen g.L.Ledger.standing new) (record (owner_seen g.L.Ledger.standing y) { hand = None }) (step.take_event w.scheme s c.args.owner) (reply.Refused c.named.result) owner (within_seen g.L.Ledger.standing xs c.in-Some.at within)
-    (λ i. record (owner_seen g.L.Ledger.standing y) { ledger = is.1 i; hand = None })
-    (subst (Answers w.scheme (record (shape w) { owners = put (shape w).owners c.args.owner (Some (record (owner_seen g.L.Ledger.standing y) { hand = None })) }) (step.take_event w.scheme s c.args.owner)) (ap reply.Refused (sym (c.named.ensures ∙ ap step.take_refusal_of c.in-Err-Because.why-is))) by)))
-
-pub invariant_of-self-in-Failed-1 : goal.invariant_of-self-in-Failed-1
-invariant_of-self-in-Failed-1 g c =
-    let y = c.index_mut-side.result.now in
-    let within : c.in-Some.at < length c.args.self.now.owners.items = omega (arith, c.in-Some.ensures.within, c.args.self.now.rooms.owner_count) in
-    record { rooms = rooms_of_owner c.args.self.now c.in-Some.at y (record y { ledger = c.take.new.self }) within c.index_mut-side.ensures.value (λ h. record { forwarder = h.forwarder; queue = h.queue; standings = h.standings }) }
-
-pub invariant_of-self-2 : goal.invariant_of-self-2
-invariant_of-self-2 g c =
-    let y = c.index_mut-side.result.now in
-    let within : c.in-Some.at < length c.args.self.now.owners.items = omega (arith, c.in-Some.ensures.within, c.args.self.now.rooms.owner_count) in
-    record { rooms = rooms_of_owner c.args.self.now c.in-Some.at y (record y { ledger = c.take.new.self; hand = None }) within c.index_mut-side.ensures.value (λ h. record { forwarder = h.forwarder; queue = h.queue; standings = h.standings }) }
+returns g c = c.take_statement.ensures

@@ -4,7 +4,7 @@ use Rattle.fare_day.specs.TrafficDay.{traffic_day_in_range}
 use Rattle.fare_world.specs.System.{day_of}
 use Rattle.fare_world.proofs.ShowTap.{shown_unknown, shown_bad_moment, world_tapped, world_refused}
 use Rattle.fare_world.proofs.RoomLemmas.{rooms_of_device}
-use Rattle.fare_world.proofs.Stores.{steps, stepped, does, does_all, applied_err, unchanged, same_stores}
+use Rattle.fare_world.proofs.Stores.{steps, same_stores}
 use Rattle.fare_world.specs.Whole.{seen, shape}
 use Rattle.fare_world.proofs.world.World.tap.Goals as goal
 

@@ -1,13 +1,13 @@
-use Rattle.std.proofs.Common.{◌≡◌, Some, Bool, true, false, refl, sym, ap, ◌∙◌, subst}
-use Rattle.std.specs.Prelude.{Ok, Err, is_some, is_none}
+use Rattle.std.proofs.Common.{◌≡◌, true, false, refl, sym, ap, ◌∙◌, subst}
+use Rattle.std.specs.Prelude.{Ok, Err, is_some}
 use Rattle.fare_scheme.specs.Words.{position_of_device}
 use Rattle.fare_store.specs.Standing.{Reads}
 use Rattle.fare_world.specs.declared.reply.Reply.TheVariants as reply
-use Rattle.fare_world.specs.Steps as step
 use Rattle.fare_world.specs.Whole.{seen, shape}
-use Rattle.fare_world.proofs.Showing.{Answers, answers_by}
+use Rattle.fare_world.proofs.Showing.{Answers}
 use Rattle.fare_world.proofs.ShowAsk.{shown_upto, shown_upto_unknown}
 use Rattle.fare_world.proofs.Stores.{steps, same_stores, outbox_stepped, outbox_failed, applied_err}
+use Rattle.fare_world.specs.Steps as step
 use Rattle.fare_world.proofs.world.World.upto.Goals as goal
 
 pub returns-then-is_none : goal.returns-then-is_none

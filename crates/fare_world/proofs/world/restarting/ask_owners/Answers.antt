@@ -1,17 +1,11 @@
-use Rattle.std.proofs.Common.{◌≡◌, ◌+◌, ◌<◌, ◌≤◌, ℕ, None, Some, length, get_or, set, refl, sym, ap, ◌∙◌, subst, arith}
-use Rattle.std.specs.Prelude.{Option, Result, Ok, Err, IsErrAnd, slice_get}
+use Rattle.std.proofs.Common.{◌≡◌, ◌<◌, None, Some, length, get_or, set, refl, sym, ap, ◌∙◌, arith}
+use Rattle.std.specs.Prelude.{Ok, Err, slice_get}
 use Rattle.std.proofs.lemmas.Option.{slice_get_read}
-use Rattle.fare_scheme.specs.Values.{SchemeValue}
-use Rattle.fare_store.specs.declared.fault.Fault.{Fault}
-use Rattle.fare_store.specs.declared.fault.Fault.TheVariants as fault
-use Rattle.fare_store.specs.LedgerWords.{LedgerValue}
-use Rattle.fare_store.specs.Standing.{Standing, Reads, Counted, fault_of}
-use Rattle.fare_world.specs.declared.owner.Owner.{Owner}
+use Rattle.fare_store.specs.Standing.{Reads}
 use Rattle.fare_world.specs.Rooms.{AreStandings}
-use Rattle.fare_world.specs.Restarts.{IsAsked, AreAsked}
+use Rattle.fare_world.specs.Restarts.{IsAsked}
 use Rattle.fare_world.proofs.Pairs.{none_paired, one_paired, all_paired}
 use Rattle.fare_world.proofs.Asking.{asked, one_failed, failed_with}
-use Rattle.fare_world.proofs.TableLemmas.{slice_get-set_same}
 use Rattle.fare_world.proofs.world.restarting.ask_owners.Goals as goal
 
 pub loop-owner-init : goal.loop-owner-init

@@ -1,8 +1,8 @@
-use Rattle.std.proofs.Common.{◌≡◌, ◌≢◌, ◌+◌, ◌<◌, ℕ, Some, None, length, set, refl, sym, ap, ◌∙◌, subst, arith, length-set, inl, inr}
-use Rattle.std.specs.Prelude.{Ok, Err, slice_get}
+use Rattle.std.proofs.Common.{◌≡◌, ◌≢◌, ◌+◌, ◌<◌, ℕ, Some, None, set, ap, ◌∙◌, subst, arith, inl, inr}
+use Rattle.std.specs.Prelude.{Ok, Err}
 use Rattle.std.proofs.lemmas.Bool.Decides.{nat_tests}
 use Rattle.fare_record.specs.Limits.{IsCount}
-use Rattle.fare_store.specs.Standing.{Reads, Calls}
+use Rattle.fare_store.specs.Standing.{Reads}
 use Rattle.fare_store.specs.OutboxWords.{OutboxValue}
 use Rattle.fare_world.specs.Rooms.{AreUptos}
 use Rattle.fare_world.proofs.TableLemmas.{set_cases}

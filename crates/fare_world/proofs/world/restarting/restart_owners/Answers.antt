@@ -1,7 +1,6 @@
-use Rattle.std.proofs.Common.{◌≡◌, ◌+◌, ◌<◌, ◌≤◌, ℕ, Some, length, get_or, refl, sym, ap, ◌∙◌, arith}
+use Rattle.std.proofs.Common.{◌≡◌, ◌<◌, Some, length, get_or, refl, sym, ap, ◌∙◌, arith}
 use Rattle.std.specs.Prelude.{slice_get}
 use Rattle.std.proofs.lemmas.Option.{slice_get_read}
-use Rattle.fare_world.specs.declared.owner.Owner.{Owner}
 use Rattle.fare_world.specs.Restarts.{IsOwnerAgain}
 use Rattle.fare_world.proofs.Pairs.{none_paired, one_paired, all_paired}
 use Rattle.fare_world.proofs.world.restarting.restart_owners.Goals as goal

@@ -1,9 +1,5 @@
-use Rattle.std.proofs.Common.{◌≡◌, ◌+◌, ◌<◌, ◌≤◌, ℕ, [], Some, length, get_or, refl, sym, ap, ◌∙◌, arith}
-use Rattle.std.specs.Prelude.{slice_get}
+use Rattle.std.proofs.Common.{◌<◌, Some, length, get_or, refl, ap, ◌∙◌, arith}
 use Rattle.std.proofs.lemmas.Option.{slice_get_read}
-use Rattle.circular_buffer.specs.Buffer.{Buffer, buffer}
-use Rattle.fare_record.specs.Values.{AckValue}
-use Rattle.fare_world.specs.declared.station.Station.{Station}
 use Rattle.fare_world.specs.Restarts.{IsStationAgain}
 use Rattle.fare_world.proofs.Pairs.{none_paired, one_paired, all_paired}
 use Rattle.fare_world.proofs.world.restarting.restart_stations.Goals as goal

@@ -1,5 +1,3 @@
-use Rattle.std.proofs.Common.{◌≡◌, ◌<◌, ◌≤◌, ℕ, Some, length}
-use Rattle.std.specs.Prelude.{slice_get}
 use Rattle.fare_world.specs.Restarts.{IsStationAgain}
 use Rattle.fare_world.proofs.Pairs.{PairedTo}
 use Rattle.fare_world.proofs.world.restarting.restart_stations.Given as goal
