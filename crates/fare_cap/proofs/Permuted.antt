@@ -39,7 +39,7 @@ all-same {X} (x ∷ xs) (y ∷ ys) long same =
     ∙ ap (λ (l : List X). y ∷ l) (all-same xs ys (omega arith) (λ a b in_xs in_ys. same a b (behind x xs a in_xs) (behind y ys b in_ys)))
 
 -- ONE ORDER
-ties-both : (z a b : RecordValue) → ties is_before z a ≡ true → ties is_before z b ≡ true → ties is_before a b ≡ true
+pub ties-both : (z a b : RecordValue) → ties is_before z a ≡ true → ties is_before z b ≡ true → ties is_before a b ≡ true
 ties-both z a b to_a to_b =
     let za = and_parts (not (is_before z a)) (not (is_before a z)) to_a in
     let zb = and_parts (not (is_before z b)) (not (is_before b z)) to_b in

@@ -1,4 +1,6 @@
 ghost use Rattle.std.specs.Prelude.{◌≡◌, ◌≤◌, IfOk, All, length};
+ghost use Rattle.std.specs.Cmp.{partial_equiv_from_equiv};
+ghost use Rattle.fare_cap.specs.Same.{same_bill, same_bill_equiv};
 ghost use Rattle.fare_cap.specs.Bills.{bill_of, total_of, row_of, bill_rows};
 
 use crate::counting::accounts_on;
@@ -10,7 +12,7 @@ use std::alloc::{AllocError, Global};
 use std::marker::Model;
 
 /// What the accounts pay for a day.
-#[derive(Drop)]
+#[derive(Debug, Drop)]
 pub struct Bill {
     rows: Vec<Row>,
     total: u128,
@@ -22,6 +24,20 @@ impl Model for Bill {
     ghost Value = { BillValue };
 
     ghost view = { λ bill. record { rows = bill.rows.items; total = bill.total } };
+}
+
+impl PartialEq for Bill {
+    ghost eq = { same_bill };
+
+    ghost laws = { partial_equiv_from_equiv same_bill_equiv };
+
+    fn eq(&self, other: &Bill) -> bool {
+        self.rows == other.rows && self.total == other.total
+    }
+}
+
+impl Eq for Bill {
+    ghost laws = { same_bill_equiv };
 }
 
 impl Bill {

@@ -8,10 +8,12 @@ mod charge;
 mod charging;
 mod laws;
 mod settled;
+mod settlement;
 mod settling;
 
 pub use charge::Charge;
 pub use charging::charges;
 pub use laws::{operators_share_the_bill, settlements_are_of_a_week};
 pub use settled::Settled;
+pub use settlement::Settlement;
 pub use settling::settle;

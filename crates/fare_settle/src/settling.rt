@@ -1,7 +1,7 @@
 ghost use Rattle.std.specs.Prelude.{◌≡◌, ◌≤◌, IfOk, All};
 ghost use Rattle.fare_settle.specs.Settling.{share_of, settlement_of};
 
-use crate::{Charge, Settled, charges};
+use crate::{Charge, Settled, Settlement, charges};
 use fare_record::{Day, OperatorId, Record};
 use fare_scheme::Scheme;
 use std::alloc::{AllocError, Global};
@@ -34,16 +34,16 @@ pub fn settle(
     scheme: &Scheme,
     taps: &[Record],
     day: Day,
-) -> Result<Vec<Settled>, AllocError>
-    ensures { IfOk result (λ settlement. settlement.items ≡ settlement_of scheme.now taps.now day) }
+) -> Result<Settlement, AllocError>
+    ensures { IfOk result (λ settlement. settlement ≡ settlement_of scheme.now taps.now day) }
 {
     let charges = charges(alloc, scheme, taps, day)?;
-    let mut settlement = Vec::new(alloc);
+    let mut shares = Vec::new(alloc);
     for position in 0..scheme.operator_count() {
         let Some(operator) = scheme.operator_at(position) else {
             unreachable!()
         };
-        settlement.push(share(&charges, operator))?;
+        shares.push(share(&charges, operator))?;
     }
-    Ok(settlement)
+    Ok(Settlement::new(shares))
 }

@@ -51,3 +51,5 @@ mod traces;
 mod traces_of_days;
 #[cfg(test)]
 mod world;
+#[cfg(test)]
+mod world_bills;

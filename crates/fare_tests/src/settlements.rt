@@ -4,11 +4,11 @@ use crate::bills::{
 use fare_cap::day_bill;
 use fare_record::{Day, Record};
 use fare_scheme::Scheme;
-use fare_settle::{Settled, charges, settle};
+use fare_settle::{Settled, Settlement, charges, settle};
 use std::alloc::Global;
 
 // The settlement of a day, by its number.
-fn settlement(alloc: Global, scheme: &Scheme, taps: &[Record], day: u64) -> Option<Vec<Settled>> {
+fn settlement(alloc: Global, scheme: &Scheme, taps: &[Record], day: u64) -> Option<Settlement> {
     settle(alloc, scheme, taps, Day::new(day)?).ok()
 }
 
@@ -18,18 +18,15 @@ fn billed(alloc: Global, scheme: &Scheme, taps: &[Record], day: u64) -> Option<u
 }
 
 // The share of the operator at a place: operator, taps and amount.
-fn share(settlement: &[Settled], place: usize) -> Option<(u16, u64, u128)> {
-    let settled = settlement.get(place)?;
+fn share(shares: &[Settled], place: usize) -> Option<(u16, u64, u128)> {
+    let settled = shares.get(place)?;
     Some((settled.operator.get(), settled.taps, settled.amount))
 }
 
 // The shares of the two operators and of no third.
-fn shares(settlement: &[Settled]) -> [Option<(u16, u64, u128)>; 3] {
-    [
-        share(settlement, 0),
-        share(settlement, 1),
-        share(settlement, 2),
-    ]
+fn shares(settlement: &Settlement) -> [Option<(u16, u64, u128)>; 3] {
+    let shares = settlement.shares();
+    [share(shares, 0), share(shares, 1), share(shares, 2)]
 }
 
 // The amount of the charge at a place, and its operator.

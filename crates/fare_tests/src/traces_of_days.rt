@@ -37,6 +37,7 @@ take 1
 close 1 1 19723
 close 1 1 19723
 close 1 1 19724
+bill 1 19723
 ";
 
 pub const SHORT_COUNT_THEN_CLOSE_ANSWERED: &[u8] = b"ok
@@ -76,6 +77,8 @@ taken 1 lane 3
 closed 1 19723
 refused AlreadyClosed
 refused Unstated
+bill 1 19723 1 525
+account 1 77 3 525
 ";
 
 pub const DAYS_IN_ORDER: &[u8] = b"demo 1 4 4 4
@@ -139,6 +142,11 @@ take 1
 fetch 1
 take 1
 close 1 1 19723
+bill 1 19723
+close 1 2 19723
+bill 1 19723
+settle 1 19723
+bill 1 19722
 ";
 
 pub const TWO_DEVICES_CLOSE_ANSWERED: &[u8] = b"ok
@@ -164,6 +172,13 @@ stated 1 day 19723 count 0
 fetched 2 day 19723
 stated 2 day 19723 count 0
 closed 1 19723
+refused NotClosed 2
+closed 2 19723
+bill 1 19723 0 0
+settlement 1 19723 2
+operator 1 0 0
+operator 2 0 0
+refused BeforeStart
 ";
 
 pub const A_DAY_WITH_BILL: &[u8] = b"demo 1 4 4 4
@@ -192,6 +207,8 @@ take 1
 fetch 1
 take 1
 close 1 1 19723
+bill 1 19723
+settle 1 19723
 ";
 
 pub const A_DAY_WITH_BILL_ANSWERED: &[u8] = b"ok
@@ -220,6 +237,10 @@ taken 1 lane 2
 fetched 1 day 19723
 stated 1 day 19723 count 2
 closed 1 19723
+bill 1 19723 1 350
+account 1 77 2 350
+settlement 1 19723 1
+operator 1 2 350
 ";
 
 pub const A_STATEMENT_GOES_ONCE: &[u8] = b"demo 1 4 4 4
@@ -436,6 +457,29 @@ forward 7 5
 fetch 7
 take 7
 close 7 5 19723
+bill 7 19723
+settle 7 19723
+bill 9 19723
+forward 9 5
+forward 9 5
+forward 9 5
+fetch 9
+take 9
+forward 9 5
+fetch 9
+take 9
+close 9 5 19723
+fetch 9
+take 9
+close 9 5 19723
+close 9 5 19723
+bill 9 19723
+settle 9 19723
+prune 7 5
+prune 9 5
+forward 7 5
+restart owner 9
+forward 9 5
 ";
 
 pub const TWO_OWNERS_A_DAY_ANSWERED: &[u8] = b"ok
@@ -522,6 +566,35 @@ forwarded day 19723
 fetched 5 day 19723
 stated 5 day 19723 count 3
 closed 5 19723
+bill 7 19723 2 475
+account 11 77 2 300
+account 11 88 1 175
+settlement 7 19723 1
+operator 3 3 475
+refused NotClosed 5
+forwarded lane 1
+forwarded lane 2
+refused Busy
+fetched 5 lane 1
+taken 5 lane 1
+forwarded day 19723
+fetched 5 lane 2
+taken 5 lane 2
+refused Unstated
+fetched 5 day 19723
+stated 5 day 19723 count 2
+closed 5 19723
+refused AlreadyClosed
+bill 9 19723 2 240
+account 22 77 1 120
+account 22 99 1 120
+settlement 9 19723 1
+operator 3 2 240
+pruned 2
+pruned 2
+idle
+restarted
+idle
 ";
 
 pub const A_STATEMENT_OUTLIVES_A_RESTART: &[u8] = b"demo 1 4 4 4

@@ -71,6 +71,8 @@ same_step sc clock s (event.RestartOwner owner) same = refl
 same_step sc clock s event.RestartHub same = refl
 same_step sc clock s (event.Upto device) same = refl
 same_step sc clock s (event.Count owner device) same = refl
+same_step sc clock s (event.Bill owner day) same = refl
+same_step sc clock s (event.Settle owner day) same = refl
 
 -- STAGES
 -- neither draft has a clock, or both have, and the two tell the same days

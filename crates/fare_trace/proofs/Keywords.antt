@@ -6,14 +6,14 @@ use borrow.Author.Tests.{ltb-true}
 use Rattle.fare_trace.specs.declared.keyword.Keyword.{Keyword}
 use Rattle.fare_trace.specs.declared.keyword.Keyword.TheVariants.{OfScheme, OfEvent}
 use Rattle.fare_trace.specs.declared.keyword.SchemeKeyword.TheVariants.{Owner, Operator, Station, Product, Caps, Device, Inbox, Start, Seal, Demo}
-use Rattle.fare_trace.specs.declared.keyword.EventKeyword.TheVariants.{Tap, Turn, Send, Rewind, State, Arrive, Draw, Store, Ack, DayAck, Answer, Forward, Fetch, Take, Close, Prune, Resume, RestartDevice, RestartStation, RestartWriter, RestartOwner, RestartHub, Upto, Count}
+use Rattle.fare_trace.specs.declared.keyword.EventKeyword.TheVariants.{Tap, Turn, Send, Rewind, State, Arrive, Draw, Store, Ack, DayAck, Answer, Forward, Fetch, Take, Close, Prune, Resume, RestartDevice, RestartStation, RestartWriter, RestartOwner, RestartHub, Upto, Count, Bill, Settle}
 use Rattle.fare_trace.specs.Reading.{any_keyword}
 use Rattle.fare_trace.specs.Grammar.{keyword_text}
 use Rattle.fare_trace.proofs.Cuts.{Lacks}
 
 -- a row for each keyword
 abbrev pub keywords : List Keyword
-keywords = OfEvent Tap ∷ OfEvent Turn ∷ OfEvent Send ∷ OfEvent Rewind ∷ OfEvent State ∷ OfEvent Arrive ∷ OfEvent Draw ∷ OfEvent Store ∷ OfEvent Ack ∷ OfEvent DayAck ∷ OfEvent Answer ∷ OfEvent Forward ∷ OfEvent Fetch ∷ OfEvent Take ∷ OfEvent Close ∷ OfEvent Prune ∷ OfEvent Resume ∷ OfEvent RestartDevice ∷ OfEvent RestartStation ∷ OfEvent RestartWriter ∷ OfEvent RestartOwner ∷ OfEvent RestartHub ∷ OfEvent Upto ∷ OfEvent Count ∷ OfScheme Owner ∷ OfScheme Operator ∷ OfScheme Station ∷ OfScheme Product ∷ OfScheme Caps ∷ OfScheme Device ∷ OfScheme Inbox ∷ OfScheme Start ∷ OfScheme Seal ∷ OfScheme Demo ∷ []
+keywords = OfEvent Tap ∷ OfEvent Turn ∷ OfEvent Send ∷ OfEvent Rewind ∷ OfEvent State ∷ OfEvent Arrive ∷ OfEvent Draw ∷ OfEvent Store ∷ OfEvent Ack ∷ OfEvent DayAck ∷ OfEvent Answer ∷ OfEvent Forward ∷ OfEvent Fetch ∷ OfEvent Take ∷ OfEvent Close ∷ OfEvent Prune ∷ OfEvent Resume ∷ OfEvent RestartDevice ∷ OfEvent RestartStation ∷ OfEvent RestartWriter ∷ OfEvent RestartOwner ∷ OfEvent RestartHub ∷ OfEvent Upto ∷ OfEvent Count ∷ OfEvent Bill ∷ OfEvent Settle ∷ OfScheme Owner ∷ OfScheme Operator ∷ OfScheme Station ∷ OfScheme Product ∷ OfScheme Caps ∷ OfScheme Device ∷ OfScheme Inbox ∷ OfScheme Start ∷ OfScheme Seal ∷ OfScheme Demo ∷ []
 
 abbrev pub place : Keyword → ℕ
 place (OfEvent Tap) = 0
@@ -40,16 +40,18 @@ place (OfEvent RestartOwner) = 20
 place (OfEvent RestartHub) = 21
 place (OfEvent Upto) = 22
 place (OfEvent Count) = 23
-place (OfScheme Owner) = 24
-place (OfScheme Operator) = 25
-place (OfScheme Station) = 26
-place (OfScheme Product) = 27
-place (OfScheme Caps) = 28
-place (OfScheme Device) = 29
-place (OfScheme Inbox) = 30
-place (OfScheme Start) = 31
-place (OfScheme Seal) = 32
-place (OfScheme Demo) = 33
+place (OfEvent Bill) = 24
+place (OfEvent Settle) = 25
+place (OfScheme Owner) = 26
+place (OfScheme Operator) = 27
+place (OfScheme Station) = 28
+place (OfScheme Product) = 29
+place (OfScheme Caps) = 30
+place (OfScheme Device) = 31
+place (OfScheme Inbox) = 32
+place (OfScheme Start) = 33
+place (OfScheme Seal) = 34
+place (OfScheme Demo) = 35
 
 pub at_place : (k : Keyword) → (place k < length keywords) × (get_or keywords (place k) any_keyword ≡ k)
 at_place (OfEvent Tap) = (lit< tt, refl)
@@ -76,6 +78,8 @@ at_place (OfEvent RestartOwner) = (lit< tt, refl)
 at_place (OfEvent RestartHub) = (lit< tt, refl)
 at_place (OfEvent Upto) = (lit< tt, refl)
 at_place (OfEvent Count) = (lit< tt, refl)
+at_place (OfEvent Bill) = (lit< tt, refl)
+at_place (OfEvent Settle) = (lit< tt, refl)
 at_place (OfScheme Owner) = (lit< tt, refl)
 at_place (OfScheme Operator) = (lit< tt, refl)
 at_place (OfScheme Station) = (lit< tt, refl)

@@ -62,6 +62,8 @@ line_from (Numbered (OfEvent on.Close) (o ∷ d ∷ k ∷ [])) = Step (event.Clo
 line_from (Numbered (OfEvent on.Prune) (o ∷ d ∷ [])) = Step (event.Prune o d)
 line_from (Numbered (OfEvent on.Upto) (d ∷ [])) = Step (event.Upto d)
 line_from (Numbered (OfEvent on.Count) (o ∷ d ∷ [])) = Step (event.Count o d)
+line_from (Numbered (OfEvent on.Bill) (o ∷ k ∷ [])) = Step (event.Bill o k)
+line_from (Numbered (OfEvent on.Settle) (o ∷ k ∷ [])) = Step (event.Settle o k)
 line_from (Numbered _ _) = Step event.Draw
 
 line_again : (l : Line) → line_from (line_parts l) ≡ l
@@ -100,6 +102,8 @@ line_again (Step (event.Close o d k)) = refl
 line_again (Step (event.Prune o d)) = refl
 line_again (Step (event.Upto d)) = refl
 line_again (Step (event.Count o d)) = refl
+line_again (Step (event.Bill o k)) = refl
+line_again (Step (event.Settle o k)) = refl
 line_again (Step event.Draw) = refl
 
 parts_same : (p q : Parts) → PartsFit p → PartsFit q → parts_text p ≡ parts_text q → p ≡ q

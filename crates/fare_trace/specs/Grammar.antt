@@ -11,7 +11,7 @@ use Rattle.fare_trace.specs.declared.keyword.Keyword.TheVariants.{OfScheme, OfEv
 use Rattle.fare_trace.specs.declared.keyword.SchemeKeyword.{SchemeKeyword}
 use Rattle.fare_trace.specs.declared.keyword.SchemeKeyword.TheVariants.{Owner, Operator, Station, Product, Caps, Device, Inbox, Start, Seal, Demo}
 use Rattle.fare_trace.specs.declared.keyword.EventKeyword.{EventKeyword}
-use Rattle.fare_trace.specs.declared.keyword.EventKeyword.TheVariants.{Tap, Turn, Send, Rewind, State, Arrive, Draw, Store, Ack, DayAck, Answer, Forward, Fetch, Take, Close, Prune, Resume, RestartDevice, RestartStation, RestartWriter, RestartOwner, RestartHub, Upto, Count}
+use Rattle.fare_trace.specs.declared.keyword.EventKeyword.TheVariants.{Tap, Turn, Send, Rewind, State, Arrive, Draw, Store, Ack, DayAck, Answer, Forward, Fetch, Take, Close, Prune, Resume, RestartDevice, RestartStation, RestartWriter, RestartOwner, RestartHub, Upto, Count, Bill, Settle}
 use Rattle.fare_trace.specs.declared.line.Line.{Line}
 use Rattle.fare_trace.specs.declared.line.Line.TheVariants.{Setup, Step}
 use Rattle.fare_trace.specs.declared.line.SchemeLine.TheVariants as scheme
@@ -56,6 +56,8 @@ event_keyword_text RestartOwner = codes "restart owner "
 event_keyword_text RestartHub = codes "restart hub"
 event_keyword_text Upto = codes "upto "
 event_keyword_text Count = codes "count "
+event_keyword_text Bill = codes "bill "
+event_keyword_text Settle = codes "settle "
 
 abbrev pub keyword_text : Keyword → List ℕ
 keyword_text (OfScheme keyword) = scheme_keyword_text keyword
@@ -134,6 +136,8 @@ event_keyword_kinds RestartOwner = AnOwner ∷ []
 event_keyword_kinds RestartHub = []
 event_keyword_kinds Upto = ADevice ∷ []
 event_keyword_kinds Count = AnOwner ∷ ADevice ∷ []
+event_keyword_kinds Bill = AnOwner ∷ ADay ∷ []
+event_keyword_kinds Settle = AnOwner ∷ ADay ∷ []
 
 abbrev pub keyword_kinds : Keyword → List Kind
 keyword_kinds (OfScheme keyword) = scheme_keyword_kinds keyword
@@ -187,6 +191,8 @@ line_parts (Step (event.RestartOwner owner)) = Numbered (OfEvent RestartOwner) (
 line_parts (Step event.RestartHub) = Numbered (OfEvent RestartHub) []
 line_parts (Step (event.Upto device)) = Numbered (OfEvent Upto) (device ∷ [])
 line_parts (Step (event.Count owner device)) = Numbered (OfEvent Count) (owner ∷ device ∷ [])
+line_parts (Step (event.Bill owner day)) = Numbered (OfEvent Bill) (owner ∷ day ∷ [])
+line_parts (Step (event.Settle owner day)) = Numbered (OfEvent Settle) (owner ∷ day ∷ [])
 
 -- numbers in decimal, with one space between each two
 abbrev pub numbers_text : List ℕ → List ℕ

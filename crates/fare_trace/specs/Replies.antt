@@ -1,7 +1,9 @@
 -- The text of a reply: its words with one space between each two, ended by a line feed.
-use Rattle.std.specs.Prelude.{ℕ, List, [], ◌∷◌, ◌++◌, codes, Option, Some, None}
+use Rattle.std.specs.Prelude.{ℕ, List, [], ◌∷◌, ◌++◌, length, codes}
 use Rattle.std.specs.List.{join_with_byte, flat_map}
 use Rattle.std.specs.Fmt.{decimal}
+use Rattle.fare_cap.specs.declared.row.Row.{Row}
+use Rattle.fare_settle.specs.declared.settled.Settled.{Settled}
 use Rattle.fare_world.specs.declared.reply.Reply.{Reply}
 use Rattle.fare_world.specs.declared.reply.Reply.TheVariants as reply
 use Rattle.fare_world.specs.declared.reply.Refusal.{Refusal}
@@ -52,23 +54,22 @@ refusal_name refusal.AlreadyClosed = codes "AlreadyClosed"
 refusal_name refusal.OutOfOrder = codes "OutOfOrder"
 refusal_name (refusal.CountsShort stated taken) = codes "CountsShort"
 refusal_name (refusal.CountsOver stated taken) = codes "CountsOver"
+refusal_name refusal.BeforeStart = codes "BeforeStart"
+refusal_name (refusal.NotClosed device) = codes "NotClosed"
 
 -- the numbers that are shown with it
-abbrev pub refusal_counts : Refusal → Option (ℕ × ℕ)
-refusal_counts (refusal.CountsShort stated taken) = Some (stated, taken)
-refusal_counts (refusal.CountsOver stated taken) = Some (stated, taken)
-refusal_counts _ = None
-
-abbrev pub counts_words : Option (ℕ × ℕ) → List (List ℕ)
-counts_words None = []
-counts_words (Some counts) = decimal counts.0 ∷ decimal counts.1 ∷ []
+abbrev pub refusal_numbers : Refusal → List (List ℕ)
+refusal_numbers (refusal.CountsShort stated taken) = decimal stated ∷ decimal taken ∷ []
+refusal_numbers (refusal.CountsOver stated taken) = decimal stated ∷ decimal taken ∷ []
+refusal_numbers (refusal.NotClosed device) = decimal device ∷ []
+refusal_numbers _ = []
 
 -- the words of a reply
 abbrev pub reply_words : Reply → List (List ℕ)
 reply_words reply.Done = codes "ok" ∷ []
 reply_words reply.Idle = codes "idle" ∷ []
 reply_words reply.Empty = codes "empty" ∷ []
-reply_words (reply.Refused name) = codes "refused" ∷ refusal_name name ∷ counts_words (refusal_counts name)
+reply_words (reply.Refused name) = codes "refused" ∷ refusal_name name ∷ refusal_numbers name
 reply_words (reply.Opened day) = codes "open" ∷ decimal day ∷ []
 reply_words (reply.Recorded link lane) = codes "record" ∷ decimal link ∷ decimal lane ∷ []
 reply_words (reply.Sent packet link) = codes "packet" ∷ decimal packet ∷ codes "link" ∷ decimal link ∷ []
@@ -97,13 +98,28 @@ reply_words reply.Restarted = codes "restarted" ∷ []
 reply_words (reply.Upto number) = codes "upto" ∷ decimal number ∷ []
 reply_words (reply.Count number) = codes "count" ∷ decimal number ∷ []
 reply_words (reply.Pruned rows) = codes "pruned" ∷ decimal rows ∷ []
+reply_words (reply.Bill owner day bill) = codes "bill" ∷ decimal owner ∷ decimal day ∷ decimal (length bill.rows) ∷ decimal bill.total ∷ []
+reply_words (reply.Settlement owner day settlement) = codes "settlement" ∷ decimal owner ∷ decimal day ∷ decimal (length settlement) ∷ []
+
+-- the words of an account's row of a bill, and of an operator's row of a settlement
+abbrev pub account_words : Row → List (List ℕ)
+account_words row = codes "account" ∷ decimal row.account.product ∷ decimal row.account.token ∷ decimal row.rides ∷ decimal row.amount ∷ []
+
+abbrev pub operator_words : Settled → List (List ℕ)
+operator_words share = codes "operator" ∷ decimal share.operator ∷ decimal share.taps ∷ decimal share.amount ∷ []
 
 -- words with one space between each two, ended by a line feed
 abbrev pub words_line : List (List ℕ) → List ℕ
 words_line words = join_with_byte 32 words ++ (10 ∷ [])
 
+-- a line for each row
+abbrev pub rows_text : {X : Type 0} → (X → List (List ℕ)) → List X → List ℕ
+rows_text words rows = flat_map (λ row. words_line (words row)) rows
+
 -- the one spelling of a reply
 abbrev pub reply_text : Reply → List ℕ
+reply_text (reply.Bill owner day bill) = words_line (reply_words (reply.Bill owner day bill)) ++ rows_text account_words bill.rows
+reply_text (reply.Settlement owner day settlement) = words_line (reply_words (reply.Settlement owner day settlement)) ++ rows_text operator_words settlement
 reply_text r = words_line (reply_words r)
 
 -- the spellings of replies, one after the other

@@ -177,6 +177,14 @@ fn build_event(keyword: EventKeyword, numbers: &[u64]) -> Option<Event>
             owner: OwnerId::new(*owner)?,
             device: DeviceId::new(*device)?,
         }),
+        (EventKeyword::Bill, [owner, day]) => Some(Event::Bill {
+            owner: OwnerId::new(*owner)?,
+            day: Day::new(*day)?,
+        }),
+        (EventKeyword::Settle, [owner, day]) => Some(Event::Settle {
+            owner: OwnerId::new(*owner)?,
+            day: Day::new(*day)?,
+        }),
         (EventKeyword::DayAck, [device, day]) => Some(Event::DayAck {
             device: DeviceId::new(*device)?,
             day: Day::new(*day)?,

@@ -44,6 +44,8 @@ pub enum EventKeyword {
     RestartHub,
     Upto,
     Count,
+    Bill,
+    Settle,
 }
 
 /// What a line begins with, but for that of a zone.
@@ -103,13 +105,15 @@ impl EventKeyword {
             EventKeyword::RestartHub => b"restart hub",
             EventKeyword::Upto => b"upto ",
             EventKeyword::Count => b"count ",
+            EventKeyword::Bill => b"bill ",
+            EventKeyword::Settle => b"settle ",
         }
     }
 }
 
 impl Keyword {
     /// Each keyword once, those of events first, which most lines have.
-    const ALL: [Keyword; 34] = [
+    const ALL: [Keyword; 36] = [
         Keyword::OfEvent(EventKeyword::Tap),
         Keyword::OfEvent(EventKeyword::Turn),
         Keyword::OfEvent(EventKeyword::Send),
@@ -134,6 +138,8 @@ impl Keyword {
         Keyword::OfEvent(EventKeyword::RestartHub),
         Keyword::OfEvent(EventKeyword::Upto),
         Keyword::OfEvent(EventKeyword::Count),
+        Keyword::OfEvent(EventKeyword::Bill),
+        Keyword::OfEvent(EventKeyword::Settle),
         Keyword::OfScheme(SchemeKeyword::Owner),
         Keyword::OfScheme(SchemeKeyword::Operator),
         Keyword::OfScheme(SchemeKeyword::Station),

@@ -12,6 +12,7 @@ mod line;
 mod lines;
 mod number;
 mod print;
+mod print_rows;
 mod registering;
 mod stream;
 mod text;

@@ -1,7 +1,8 @@
 ghost use Rattle.std.specs.Prelude.{◌≡◌, [], ◌∷◌, ◌++◌, OnOk, OnErr, codes, length, map, take};
 ghost use Rattle.std.specs.Fmt.{decimal};
-ghost use Rattle.fare_trace.specs.Replies.{counts_words, refusal_counts, refusal_name, reply_text, words_line};
+ghost use Rattle.fare_trace.specs.Replies.{refusal_name, reply_text, words_line};
 
+use crate::print_rows::{append_bill, append_settlement};
 use fare_record::{Day, DeviceId, OwnerId};
 use fare_world::{Refusal, Reply};
 use itoa::Buffer;
@@ -55,18 +56,8 @@ fn name_of(refusal: Refusal) -> &'static [u8]
         Refusal::OutOfOrder => b"OutOfOrder",
         Refusal::CountsShort { .. } => b"CountsShort",
         Refusal::CountsOver { .. } => b"CountsOver",
-    }
-}
-
-/// The stated and the taken count that are shown with a refusal, if it tells of counts.
-fn counts_of(refusal: Refusal) -> Option<(u64, u64)>
-    ensures { result ≡ refusal_counts refusal }
-{
-    match refusal {
-        Refusal::CountsShort { stated, taken } | Refusal::CountsOver { stated, taken } => {
-            Some((stated, taken))
-        }
-        _ => None,
+        Refusal::BeforeStart => b"BeforeStart",
+        Refusal::NotClosed { .. } => b"NotClosed",
     }
 }
 
@@ -85,7 +76,7 @@ fn append_words(first: &[u8], rest: &[&[u8]], out: &mut Vec<u8>) -> Result<(), A
 }
 
 /// Appends words with one space between each two, and a line feed. After an error `out` is as before.
-fn append_line(first: &[u8], rest: &[&[u8]], out: &mut Vec<u8>) -> Result<(), AllocError>
+pub(crate) fn append_line(first: &[u8], rest: &[&[u8]], out: &mut Vec<u8>) -> Result<(), AllocError>
     ensures appended { OnOk result (out.new.items ≡ out.old.items ++ words_line (first.now ∷ map (λ word. word.now) rest.now)) }
     ensures kept { OnErr result (out.new.items ≡ out.old.items) }
 {
@@ -149,20 +140,26 @@ fn append_answer(packet: u64, device: u64, upto: u64, out: &mut Vec<u8>) -> Resu
     append_line(b"packet", &[packet, b"ack", device, upto], out)
 }
 
-/// Appends a refusal, with its counts if it tells of any.
+/// Appends a refusal, with the numbers that are shown with it.
 fn append_refusal(refusal: Refusal, out: &mut Vec<u8>) -> Result<(), AllocError>
     ensures appended { OnOk result (out.new.items ≡ out.old.items ++ reply_text (Reply.Refused refusal)) }
     ensures kept { OnErr result (out.new.items ≡ out.old.items) }
 {
     let name = name_of(refusal);
-    let Some((stated, taken)) = counts_of(refusal) else {
-        return append_line(b"refused", &[name], out);
-    };
     let mut one = Buffer::new();
     let mut two = Buffer::new();
-    let stated = one.format(stated).as_bytes();
-    let taken = two.format(taken).as_bytes();
-    append_line(b"refused", &[name, stated, taken], out)
+    match refusal {
+        Refusal::CountsShort { stated, taken } | Refusal::CountsOver { stated, taken } => {
+            let stated = one.format(stated).as_bytes();
+            let taken = two.format(taken).as_bytes();
+            append_line(b"refused", &[name, stated, taken], out)
+        }
+        Refusal::NotClosed { device } => {
+            let device = one.format(device.get()).as_bytes();
+            append_line(b"refused", &[name, device], out)
+        }
+        _ => append_line(b"refused", &[name], out),
+    }
 }
 
 /// Appends a name, a number and a word, a day and an owner.
@@ -240,33 +237,33 @@ pub fn print_reply(reply: &Reply, out: &mut Vec<u8>) -> Result<(), AllocError>
     ensures appended { OnOk result (out.new.items ≡ out.old.items ++ reply_text reply.now) }
     ensures kept { OnErr result (out.new.items ≡ out.old.items) }
 {
-    match *reply {
+    match reply {
         Reply::Done => append_line(b"ok", &[], out),
         Reply::Idle => append_line(b"idle", &[], out),
         Reply::Empty => append_line(b"empty", &[], out),
         Reply::Rewound => append_line(b"rewound", &[], out),
         Reply::Accepted => append_line(b"accepted", &[], out),
         Reply::Restarted => append_line(b"restarted", &[], out),
-        Reply::Refused(refusal) => append_refusal(refusal, out),
+        Reply::Refused(refusal) => append_refusal(*refusal, out),
         Reply::Opened(day) => append_number(b"open", u64::from(day.get()), out),
-        Reply::Recorded { link, lane } => append_record(link, lane, out),
-        Reply::Sent { packet, link } => append_numbers(b"packet", packet, b"link", link, out),
+        Reply::Recorded { link, lane } => append_record(*link, *lane, out),
+        Reply::Sent { packet, link } => append_numbers(b"packet", *packet, b"link", *link, out),
         Reply::SentDay { packet, day, owner } => {
-            append_statement(b"packet", packet, day, owner, out)
+            append_statement(b"packet", *packet, *day, *owner, out)
         }
         Reply::DroppedDay(day) => append_number(b"acked day", u64::from(day.get()), out),
         Reply::DrawnDay { device, day, owner } => {
-            append_statement(b"drawn", u64::from(device.get()), day, owner, out)
+            append_statement(b"drawn", u64::from(device.get()), *day, *owner, out)
         }
         Reply::StoredDay { device, day, owner } => {
-            append_statement(b"stored", u64::from(device.get()), day, owner, out)
+            append_statement(b"stored", u64::from(device.get()), *day, *owner, out)
         }
         Reply::AcknowledgedDay(day) => append_number(b"dayack", u64::from(day.get()), out),
         Reply::AnsweredDay {
             packet,
             device,
             day,
-        } => append_day_answer(packet, device, day, out),
+        } => append_day_answer(*packet, *device, *day, out),
         Reply::ForwardedDay { day } => {
             append_number(b"forwarded day", u64::from(day.get()), out)
         }
@@ -277,31 +274,37 @@ pub fn print_reply(reply: &Reply, out: &mut Vec<u8>) -> Result<(), AllocError>
             u64::from(day.get()),
             out,
         ),
-        Reply::Stated { device, day, count } => append_stated(device, day, count, out),
-        Reply::Closed { device, day } => append_closed(device, day, out),
+        Reply::Stated { device, day, count } => append_stated(*device, *day, *count, out),
+        Reply::Closed { device, day } => append_closed(*device, *day, out),
         Reply::Drawn { device, link } => {
-            append_numbers(b"drawn", u64::from(device.get()), b"link", link, out)
+            append_numbers(b"drawn", u64::from(device.get()), b"link", *link, out)
         }
         Reply::Stored { device, link } => {
-            append_numbers(b"stored", u64::from(device.get()), b"link", link, out)
+            append_numbers(b"stored", u64::from(device.get()), b"link", *link, out)
         }
-        Reply::Forwarded { lane } => append_number(b"forwarded lane", lane, out),
+        Reply::Forwarded { lane } => append_number(b"forwarded lane", *lane, out),
         Reply::Fetched { device, lane } => {
-            append_numbers(b"fetched", u64::from(device.get()), b"lane", lane, out)
+            append_numbers(b"fetched", u64::from(device.get()), b"lane", *lane, out)
         }
         Reply::Taken { device, lane } => {
-            append_numbers(b"taken", u64::from(device.get()), b"lane", lane, out)
+            append_numbers(b"taken", u64::from(device.get()), b"lane", *lane, out)
         }
-        Reply::Dropped(count) => append_number(b"acked", count, out),
-        Reply::Acknowledged(upto) => append_number(b"ack", upto, out),
+        Reply::Dropped(count) => append_number(b"acked", *count, out),
+        Reply::Acknowledged(upto) => append_number(b"ack", *upto, out),
         Reply::Answered {
             packet,
             device,
             upto,
-        } => append_answer(packet, u64::from(device.get()), upto, out),
-        Reply::Resumed(upto) => append_number(b"resumed", upto, out),
-        Reply::Upto(number) => append_number(b"upto", number, out),
-        Reply::Count(number) => append_number(b"count", number, out),
-        Reply::Pruned(rows) => append_number(b"pruned", rows, out),
+        } => append_answer(*packet, u64::from(device.get()), *upto, out),
+        Reply::Resumed(upto) => append_number(b"resumed", *upto, out),
+        Reply::Upto(number) => append_number(b"upto", *number, out),
+        Reply::Count(number) => append_number(b"count", *number, out),
+        Reply::Pruned(rows) => append_number(b"pruned", *rows, out),
+        Reply::Bill { owner, day, bill } => append_bill(*owner, *day, bill, out),
+        Reply::Settlement {
+            owner,
+            day,
+            settlement,
+        } => append_settlement(*owner, *day, settlement, out),
     }
 }

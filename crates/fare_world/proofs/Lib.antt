@@ -18,8 +18,14 @@ pub mod Known
 pub mod Keeping
 pub mod Stepping
 pub mod Closing
+pub mod OneOrder
 pub mod Items
 pub mod Showing
+pub mod Bills
+pub mod Opens
+pub mod Asks
+pub mod BillsShown
+pub mod Billed
 pub mod Stores
 pub mod OwnersSeen
 pub mod RoomLemmas

@@ -12,7 +12,13 @@ use Rattle.fare_world.specs.declared.world.World.{World}
 use Rattle.fare_world.specs.System.{LaneState, System, start, arrived_of}
 use Rattle.fare_world.specs.Steps.{step, after, replies, may_fail}
 use Rattle.fare_world.specs.Restarts.{Rose}
-use Rattle.fare_world.specs.Headline.{numbered, numbered_by, with_first, IsOrderly, EachAnswer, IsAnswered, TakesNoneAfterClose}
+use Rattle.std.specs.List.{flat_map}
+use Rattle.fare_scheme.specs.declared.entry.Placement.{Placement}
+use Rattle.fare_cap.specs.Fares.{week_start}
+use Rattle.fare_cap.specs.Bills.{bill_of}
+use Rattle.fare_settle.specs.Settling.{settlement_of}
+use Rattle.fare_world.specs.Billing.{BillsExactly}
+use Rattle.fare_world.specs.Headline.{of_days, numbered, numbered_by, with_first, IsOrderly, EachAnswer, IsAnswered, TakesNoneAfterClose}
 use Rattle.fare_world.specs.Shown.{entry, Shape, Shows, IsDeviceOf, IsOwnerOf}
 use Rattle.fare_store.specs.declared.fault.Fault.{Fault}
 use Rattle.fare_store.specs.declared.fault.Fault.TheVariants as fault
@@ -23,6 +29,7 @@ use Rattle.fare_world.specs.Whole.{owner_seen, seen, shape, SameCounts, CountsFa
 use Rattle.fare_world.proofs.Showing.{device_shown, owner_shown, waits_behind}
 use Rattle.fare_world.proofs.ShowForward.{took_arrived}
 use Rattle.fare_world.proofs.Closing.{none_after_close}
+use Rattle.fare_world.proofs.Billed.{bills_exactly}
 use Rattle.fare_world.proofs.Keeping.{lane_in_three, taken_of_arrived}
 use Rattle.fare_world.proofs.RowPlaces.{row_here}
 use Rattle.fare_world.proofs.Lists.{slice_get-drop}
@@ -169,6 +176,16 @@ module _ {O L : Type 0} (out : O → Standing OutboxValue) (led : L → Standing
       let all = subst (TakesNoneAfterClose sc (take (length rs) events)) (sym (h.answers (start sc) fresh live)) (none_after_close sc (take (length rs) events)) in
       let found = all o d day lane i j lt (answered-take events rs i first) (answered-take events rs j later) in
       (found.0, ap (λ l. slice_get (lane_of o d l) (lane - 1)) (sym (numbered-take sc events rs)) ∙ found.1, found.2)
+
+  -- and each bill is of what was numbered
+  pub billed_replies : (old new : World O L) (events : List Event) (rs : List Reply) → HasLeft old new events rs → StandsAt out led old (start old.scheme) → AreLive out led new → BillsExactly old.scheme events rs
+  billed_replies old new events rs h fresh live =
+      let sc = old.scheme in
+      let all = subst (BillsExactly sc (take (length rs) events)) (sym (h.answers (start sc) fresh live)) (bills_exactly sc (take (length rs) events)) in
+      record {
+        bills = λ o day i b at. all.bills o day i b (answered-take events rs i at) ∙ ap (λ l. bill_of sc (flat_map (λ (d : ℕ × Placement). of_days (week_start sc day) day (lane_of o d.0 l)) sc.devices) day) (numbered-take sc events rs);
+        settlements = λ o day i shares at. all.settlements o day i shares (answered-take events rs i at) ∙ ap (λ l. settlement_of sc (flat_map (λ (d : ℕ × Placement). of_days (week_start sc day) day (lane_of o d.0 l)) sc.devices) day) (numbered-take sc events rs);
+      }
 
   -- what a run from the start numbered, by the replies that it had
   same_numbered : (old new : World O L) (events : List Event) (rs : List Reply) → HasLeft old new events rs → StandsAt out led old (start old.scheme) → AreLive out led new

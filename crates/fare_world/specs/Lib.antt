@@ -7,6 +7,7 @@ pub mod Owning
 pub mod Restarting
 pub mod Steps
 pub mod Headline
+pub mod Billing
 pub mod Kept
 pub mod Packets
 pub mod ItemReplies

@@ -1,5 +1,5 @@
 -- What each event does to the system of numbers, and its reply.
-use Rattle.std.specs.Prelude.{ℕ, List, [], ◌∷◌, length, Bool, true, false, not, ◌&&◌, nat_lt, is_some, Option, Some, None, if◌then◌else◌}
+use Rattle.std.specs.Prelude.{ℕ, List, [], ◌∷◌, length, Bool, true, false, not, ◌&&◌, nat_lt, nat_le, is_some, Option, Some, None, if◌then◌else◌}
 use Rattle.fare_scheme.specs.Values.{SchemeValue}
 use Rattle.fare_scheme.specs.Words.{station_of}
 use Rattle.fare_world.specs.declared.event.Event.{Event}
@@ -13,6 +13,7 @@ use Rattle.fare_world.specs.Tapping.{is_waiting, tap, turn, send, rewind, state}
 use Rattle.fare_world.specs.Arriving.{is_full, packet_at, arrive}
 use Rattle.fare_world.specs.Storing.{draw, store, ack, day_ack, answer}
 use Rattle.fare_world.specs.Owning.{forward, fetch, take_event, close, prune}
+use Rattle.fare_world.specs.Billing.{bill, settle}
 use Rattle.fare_world.specs.Restarting.{resume, restart_device, restart_station, restart_writer, restart_owner, restart_hub}
 
 -- UPTO and COUNT
@@ -51,6 +52,8 @@ step sc s (event.RestartOwner owner) = restart_owner sc s owner
 step sc s event.RestartHub = restart_hub sc s
 step sc s (event.Upto device) = upto sc s device
 step sc s (event.Count owner device) = count sc s owner device
+step sc s (event.Bill owner day) = bill sc s owner day
+step sc s (event.Settle owner day) = settle sc s owner day
 
 -- the system after a list of events, and their replies
 abbrev pub after : SchemeValue → System → List Event → System
@@ -66,6 +69,10 @@ replies sc s (e ∷ es) = (step sc s e).1 ∷ replies sc (step sc s e).0 es
 abbrev pub has_line_room : SchemeValue → System → Option ℕ → Bool
 has_line_room sc s None = false
 has_line_room sc s (Some station) = not (is_full sc.inbox_capacity (s.lines station))
+
+-- a ledger is asked for a bill
+abbrev pub may_bill : SchemeValue → ℕ → ℕ → Bool
+may_bill sc owner day = knows_owner sc owner && nat_le sc.start day
 
 -- the event makes something grow, or it asks a store: a packet joins the air, a frame is read, the outbox or a ledger is called; only then may it fail
 abbrev pub may_fail : SchemeValue → System → Event → Bool
@@ -93,3 +100,5 @@ may_fail sc s (event.RestartOwner owner) = knows_owner sc owner
 may_fail sc s event.RestartHub = true
 may_fail sc s (event.Upto device) = knows_device sc device
 may_fail sc s (event.Count owner device) = knows_owner sc owner && knows_device sc device
+may_fail sc s (event.Bill owner day) = may_bill sc owner day
+may_fail sc s (event.Settle owner day) = may_bill sc owner day

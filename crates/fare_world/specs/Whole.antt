@@ -1,5 +1,5 @@
 -- What is seen of a world, and what its calls do.
-use Rattle.std.specs.Prelude.{◌≡◌, ◌+◌, ◌≤◌, ℕ, ◌⊎◌, true, nat_lt, List, [], ◌++◌, map, filter, take, length, Option, None, Some, option_map, Result, MatchResult, slice_get}
+use Rattle.std.specs.Prelude.{Bool, false, Ok, Err, ◌≡◌, ◌+◌, ◌≤◌, ℕ, ◌⊎◌, true, nat_lt, List, [], ◌++◌, map, filter, take, length, Option, None, Some, option_map, Result, MatchResult, slice_get}
 use Rattle.fare_record.specs.Values.{RecordValue}
 use Rattle.fare_record.specs.Lanes.{part, lane_of}
 use Rattle.fare_record.specs.declared.item.Item.{Item}
@@ -9,7 +9,9 @@ use Rattle.fare_collector.specs.Collecting.{next_in}
 use Rattle.fare_device.specs.DeviceWords.{DeviceValue}
 use Rattle.fare_store.specs.declared.fault.Fault.{Fault}
 use Rattle.fare_store.specs.declared.fault.Fault.TheVariants as fault
-use Rattle.fare_store.specs.Standing.{Standing}
+use Rattle.fare_store.specs.declared.fault.Refused.{Refused}
+use Rattle.fare_store.specs.declared.fault.Refused.TheVariants as refused
+use Rattle.fare_store.specs.Standing.{Standing, fault_in}
 use Rattle.fare_store.specs.OutboxWords.{OutboxValue}
 use Rattle.fare_store.specs.LedgerWords.{LedgerValue}
 use Rattle.fare_world.specs.declared.event.Event.{Event}
@@ -59,6 +61,18 @@ Holds {O} {L} w at i = (x : Owner L) → slice_get w.owners.items at ≡ Some x 
 module _ {L : Type 0} (ledger : L → Standing LedgerValue) where
   abbrev pub owner_seen : Owner L → OwnerShape
   owner_seen x = record { ledger = (ledger x.ledger).value; queue = x.queue.items; hand = x.hand; cursors = place_of_cursor x.forwarder }
+
+-- it is refused by name
+abbrev pub is_named : {V R : Type 0} → Result V (Refused R) → Bool
+is_named (Ok answer) = false
+is_named (Err (refused.Because why)) = true
+is_named (Err (refused.Failed f)) = false
+
+-- what an answer says, or a refusal by name; a fault says nothing
+abbrev pub Answered : {V R : Type 0} → (Result V R → Type 0) → Result V (Refused R) → Type 0
+Answered tells (Ok answer) = tells (Ok answer)
+Answered tells (Err (refused.Because why)) = tells (Err why)
+Answered tells (Err (refused.Failed f)) = Unit {0}
 
 module _ {O L : Type 0} (outbox : O → Standing OutboxValue) (ledger : L → Standing LedgerValue) where
   abbrev pub seen : World O L → Seen
@@ -128,6 +142,14 @@ module _ {O L : Type 0} (outbox : O → Standing OutboxValue) (ledger : L → St
 
   abbrev pub Applied : World O L → World O L → Event → Result Reply Fault → Type 0
   Applied old new e result = MatchResult result (IsStepped old new e) (IsUnchanged old new e)
+
+  -- a question: it is answered, or refused by name, as told at whatever system the world stood; an answer or a fault comes only where it may; and nothing that is seen of the world has changed, as far as its stores are live
+  pub record Asks {V R : Type 0} (old new : World O L) (tells : System → Result V R → Type 0) (may : Bool) (result : Result V (Refused R)) : Type 0 where
+    pub scheme : new.scheme ≡ old.scheme
+    pub answer : (s : System) → StandsAt old s → AreLive new → Answered (tells s) result
+    pub asked : is_named result ≡ false → may ≡ true
+    pub seen_is : AreLive new → AreLawful old → AreLawful new × (shape (seen new) ≡ shape (seen old))
+    pub stores : Follows old new (fault_in result)
 
   -- what a part of an event did, where the system meets a condition
   pub record Does (old new : World O L) (condition : System → Type 0) (change : System → System × Reply) (r : Reply) : Type 0 where

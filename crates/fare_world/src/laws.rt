@@ -5,6 +5,7 @@ ghost use Rattle.fare_world.specs.declared.event.Event.{Event};
 ghost use Rattle.fare_world.specs.System.{System, start, taken_by, stated_count};
 ghost use Rattle.fare_world.specs.Steps.{step, after, replies};
 ghost use Rattle.fare_world.specs.Headline.{Lane, IsLaneStep, IsLaneRun, lane_at, numbered, NumbersByReply, IsPrefixOf, IsOrderly, EachAnswer, IsWholeWhereClosed, IsWholeAfterClose, BillsNumberedTaps, TakesNoneAfterClose};
+ghost use Rattle.fare_world.specs.Billing.{basis, basis_told, BillsExactly};
 ghost use Rattle.fare_world.specs.Kept.{IsSystem, KeepsEachDay};
 
 /// Each event, at a system that events lead to, is a lane step or a rest on every lane, and leads to such a
@@ -29,6 +30,14 @@ pub fn closed_days_are_whole()
     ensures whole { (sc : SchemeValue) (es : List Event) (owner device : ℕ) → IsWholeWhereClosed sc.start (lane_at sc (after sc (start sc) es) owner device) }
     ensures bills { (sc : SchemeValue) (es : List Event) → BillsNumberedTaps sc (after sc (start sc) es) es (replies sc (start sc) es) }
     ensures answered { (sc : SchemeValue) (es : List Event) → IsWholeAfterClose sc (after sc (start sc) es) es (replies sc (start sc) es) }
+{}
+
+/// After any list of events from the start: each bill that a reply tells, and each settlement, is of exactly the
+/// taps of its week that the devices numbered for the owner, as the events and their replies tell, also after it;
+/// and so would be one asked for then.
+pub fn bills_are_of_what_was_numbered()
+    ensures told { (sc : SchemeValue) (es : List Event) → BillsExactly sc es (replies sc (start sc) es) }
+    ensures asked { (sc : SchemeValue) (es : List Event) (owner day : ℕ) → basis sc (after sc (start sc) es) owner day ≡ basis_told sc es (replies sc (start sc) es) owner day }
 {}
 
 /// A statement keeps its count: what a device numbered for an owner of a day that it has turned stays.

@@ -17,6 +17,7 @@ use thiserror::Error;
 
 mod acknowledging;
 mod asking;
+mod billing;
 mod collecting;
 mod forwarding;
 mod fresh;
@@ -83,6 +84,7 @@ pub struct Stopped<O, L> {
 
 impl<O: Outbox + Drop, L: Ledger + Drop> World<O, L> {
     ghost use Rattle.fare_world.specs.Headline.{IsOrderly, EachAnswer, TakesNoneAfterClose};
+    ghost use Rattle.fare_world.specs.Billing.{BillsExactly};
     ghost use Rattle.fare_world.specs.Whole.{AreLive, StandsAt, Applied, HasRun, WasStopped, TakenInOrder, KeepsEachTap};
 
     /// One event: what it changes, and its reply. `Memory` where there was none, which only an event can want
@@ -121,6 +123,8 @@ impl<O: Outbox + Drop, L: Ledger + Drop> World<O, L> {
             Event::RestartHub => self.restart_hub(),
             Event::Upto { device } => self.upto(device),
             Event::Count { owner, device } => self.count(owner, device),
+            Event::Bill { owner, day } => self.tell_bill(owner, day),
+            Event::Settle { owner, day } => self.tell_settlement(owner, day),
         }
     }
 
@@ -129,7 +133,8 @@ impl<O: Outbox + Drop, L: Ledger + Drop> World<O, L> {
     /// from each device is a prefix of what the device numbered for that owner, as the events and their
     /// replies tell; each tap so numbered is in the ledger, in the outbox behind what the ledger has, or in
     /// the device behind what the outbox has had, so none is lost; after an owner's reply that a device's day is
-    /// closed, no reply says that a tap of that day was taken; and no reply tells of a stranger, of another
+    /// closed, no reply says that a tap of that day was taken; each bill and settlement that a reply tells is of
+    /// exactly the taps of its week that the devices numbered for the owner; and no reply tells of a stranger, of another
     /// owner's item, of a conflict, of more taps than stated, or of a tap that is not the next to be taken.
     pub fn run(mut self, events: &[Event]) -> Result<(World<O, L>, Vec<Reply>), Stopped<O, L>>
         ensures ran { IfOk result (λ r. HasRun O.standing L.standing self r.0 events.now r.1.items) }
@@ -143,6 +148,8 @@ impl<O: Outbox + Drop, L: Ledger + Drop> World<O, L> {
         ensures orderly_before { IfErr result (λ stop. StandsAt O.standing L.standing self (start self.scheme) → AreLive O.standing L.standing stop.world → EachAnswer IsOrderly events.now stop.replies.items) }
         ensures unclosed { IfOk result (λ r. StandsAt O.standing L.standing self (start self.scheme) → AreLive O.standing L.standing r.0 → TakesNoneAfterClose self.scheme events.now r.1.items) }
         ensures unclosed_before { IfErr result (λ stop. StandsAt O.standing L.standing self (start self.scheme) → AreLive O.standing L.standing stop.world → TakesNoneAfterClose self.scheme events.now stop.replies.items) }
+        ensures billed { IfOk result (λ r. StandsAt O.standing L.standing self (start self.scheme) → AreLive O.standing L.standing r.0 → BillsExactly self.scheme events.now r.1.items) }
+        ensures billed_before { IfErr result (λ stop. StandsAt O.standing L.standing self (start self.scheme) → AreLive O.standing L.standing stop.world → BillsExactly self.scheme events.now stop.replies.items) }
     {
         let Ok(mut replies) = Vec::with_capacity(self.alloc, events.len()) else {
             return Err(Stopped {

@@ -14,7 +14,7 @@ loop-position-preserved c =
     let here = sym c.in-Some.ensures.value in
     let grown : take (place + 1) operators ≡ take place operators ++ operator ∷ [] =
     take_more operators place operator (slice_get_within operators place operator here) ∙ ap (λ (o : ℕ). take place operators ++ o ∷ []) (get_or_from_slice_get operators place operator operator here) in
-    let pushed : c.push.new.self.items ≡ c.loop-position.settlement.items ++ share_of charges operator ∷ [] =
-    c.in_ok-push.ensures.items ∙ ap (λ (s : Settled). c.loop-position.settlement.items ++ s ∷ []) (search rules) in
+    let pushed : c.push.new.self.items ≡ c.loop-position.shares.items ++ share_of charges operator ∷ [] =
+    c.in_ok-push.ensures.items ∙ ap (λ (s : Settled). c.loop-position.shares.items ++ s ∷ []) (search rules) in
     pushed ∙ ap (λ (l : List Settled). l ++ share_of charges operator ∷ []) c.loop-position.invariant
     ∙ sym (ap (map (share_of charges)) grown ∙ map-append (share_of charges) (take place operators) (operator ∷ []))

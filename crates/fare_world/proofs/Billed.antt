@@ -1,0 +1,145 @@
+-- Each bill of a run is of exactly the taps that the devices numbered, whatever comes after it.
+use Rattle.std.proofs.Common.{◌≡◌, ℕ, zero, suc, ◌<◌, List, [], ◌∷◌, ◌++◌, Some, None, Bool, true, false, refl, sym, ap, ◌∙◌, arith, inl, inr}
+use Rattle.std.specs.Prelude.{◌&&◌, Option, Result, Ok, Err, nat_le, nat_lt, slice_get, if◌then◌else◌}
+use Rattle.std.specs.List.{flat_map}
+use Rattle.std.proofs.lemmas.Bool.Decides.{nat_tests}
+use Rattle.std.proofs.lemmas.List.{append-nil}
+use Rattle.std.proofs.lemmas.List.Elements.{filter-append}
+use Rattle.fare_record.specs.Values.{RecordValue}
+use Rattle.fare_record.specs.Lanes.{part}
+use Rattle.fare_scheme.specs.declared.entry.Placement.{Placement}
+use Rattle.fare_scheme.specs.Values.{SchemeValue}
+use Rattle.fare_cap.specs.Fares.{week_start}
+use Rattle.fare_cap.specs.Bills.{BillValue, bill_of}
+use Rattle.fare_cap.proofs.Sorting.{filter_no}
+use Rattle.fare_settle.specs.declared.settled.Settled.{Settled}
+use Rattle.fare_settle.specs.Settling.{settlement_of}
+use Rattle.fare_world.specs.declared.bill_fault.BillFault.{BillFault}
+use Rattle.fare_world.specs.declared.bill_fault.BillFault.TheVariants as fault
+use Rattle.fare_world.specs.declared.event.Event.{Event}
+use Rattle.fare_world.specs.declared.event.Event.TheVariants as event
+use Rattle.fare_world.specs.declared.reply.Reply.{Reply}
+use Rattle.fare_world.specs.declared.reply.Reply.TheVariants as reply
+use Rattle.fare_world.specs.System.{System, start, numbered_for, is_closed}
+use Rattle.fare_world.specs.Knowing.{knows_owner}
+use Rattle.fare_world.specs.Steps.{step, after, replies}
+use Rattle.fare_world.specs.Headline.{Lane, lane_at, IsLaneStep, of_days, IsAnswered}
+use Rattle.fare_world.specs.Billing.{first_open_of, where_open, bill_judged, unless, told, bill_refusal, basis, basis_told, BillsExactly}
+use Rattle.fare_world.specs.Kept.{IsSystem}
+use Rattle.fare_world.proofs.Tables.{if_all}
+use Rattle.fare_world.proofs.Kept.{moves_step}
+use Rattle.fare_world.proofs.Showing.{stated_past}
+use Rattle.fare_world.proofs.Stepping.{start_is, taps_after}
+use Rattle.fare_world.proofs.Closing.{stays_closed}
+use Rattle.fare_world.proofs.OneOrder.{In}
+use Rattle.fare_world.proofs.Bills.{closed_all}
+use Rattle.fare_world.proofs.BillsShown.{none_is_open}
+
+-- A CLOSED DAY GAINS NO TAP
+other_days : (from to : ℕ) (r : RecordValue) (rs : List RecordValue) → to < r.tap.day → of_days from to (rs ++ r ∷ []) ≡ of_days from to rs
+other_days from to r rs later =
+    filter-append among rs (r ∷ []) ∙ ap (λ l. of_days from to rs ++ l) (filter_no among r [] out) ∙ append-nil (of_days from to rs)
+  where
+    among : RecordValue → Bool
+    among q = nat_le from q.tap.day && nat_le q.tap.day to
+
+    out : among r ≡ false
+    out = grind (arith, nat_tests)
+
+still_numbered : (first : ℕ) (old new : Lane) (from to : ℕ) → IsLaneStep first old new → to < old.day → of_days from to new.numbered ≡ of_days from to old.numbered
+still_numbered first old new from to is past =
+    elim is [
+      | inl n ↦ ap (λ (l : Lane). of_days from to l.numbered) n.is ∙ other_days from to n.tap old.numbered (omega (arith, n.of_day, past))
+      | inr a ↦ elim a [
+        | inl t ↦ ap (λ (l : Lane). of_days from to l.numbered) t
+        | inr b ↦ elim b [
+          | inl k ↦ ap (λ (l : Lane). of_days from to l.numbered) k.is
+          | inr c ↦ elim c [
+            | inl z ↦ ap (λ (l : Lane). of_days from to l.numbered) z.is
+            | inr same ↦ ap (λ (l : Lane). of_days from to l.numbered) same
+          ]
+        ]
+      ]
+    ]
+
+stays_numbered : (sc : SchemeValue) (s : System) (es : List Event) → IsSystem sc s → (o d from to : ℕ) → is_closed sc.start (s.lanes o d).closed to ≡ true → of_days from to (numbered_for (after sc s es) o d) ≡ of_days from to (numbered_for s o d)
+stays_numbered sc s [] h o d from to closed = refl
+stays_numbered sc s (e ∷ es) h o d from to closed =
+    let past = stated_past sc s h o d to ((h.lanes o d).closed to closed) in
+    stays_numbered sc (step sc s e).0 es (moves_step sc s e h).system o d from to (stays_closed sc s e h o d to closed)
+    ∙ still_numbered sc.start (lane_at sc s o d) (lane_at sc (step sc s e).0 o d) from to ((moves_step sc s e h).lane o d) past
+
+-- THE BASIS
+flat_same : {X Y : Type 0} (f g : X → List Y) (xs : List X) → ((x : X) → In x xs → f x ≡ g x) → flat_map f xs ≡ flat_map g xs
+flat_same f g [] same = refl
+flat_same f g (x ∷ xs) same = (λ i. same x (inl refl) i ++ flat_same f g xs (λ y there. same y (inr there)) i)
+
+-- where no day of it is open, the basis stays
+basis_stays : (sc : SchemeValue) (s : System) (es : List Event) → IsSystem sc s → (o day : ℕ) → first_open_of sc s o day ≡ None → basis sc s o day ≡ basis sc (after sc s es) o day
+basis_stays sc s es h o day none =
+    flat_same (λ (d : ℕ × Placement). of_days (week_start sc day) day (numbered_for s o d.0)) (λ (d : ℕ × Placement). of_days (week_start sc day) day (numbered_for (after sc s es) o d.0)) sc.devices
+    (λ d i. sym (stays_numbered sc s es h o d.0 (week_start sc day) day (closed_all sc s h o sc.start (λ e. (s.lanes o e).closed) day sc.devices none d i)))
+
+pub basis_after : (sc : SchemeValue) (es : List Event) (o day : ℕ) → basis sc (after sc (start sc) es) o day ≡ basis_told sc es (replies sc (start sc) es) o day
+basis_after sc es o day =
+    flat_same (λ (d : ℕ × Placement). of_days (week_start sc day) day (numbered_for (after sc (start sc) es) o d.0)) _ sc.devices
+    (λ d i. ap (λ l. of_days (week_start sc day) day (part o l)) (taps_after sc (start sc) es d.0 (start_is sc)))
+
+-- WHAT A REPLY TELLS
+judged_closed : (sc : SchemeValue) (s : System) (o day : ℕ) → bill_judged sc s o day ≡ Ok tt → first_open_of sc s o day ≡ None
+judged_closed sc s o day =
+    if_all (knows_owner sc o) (λ (r : Result Unit BillFault). r ≡ Ok tt → first_open_of sc s o day ≡ None) (if nat_lt day sc.start then Err fault.BeforeStart else where_open (first_open_of sc s o day)) (Err fault.UnknownOwner)
+    (λ _. if_all (nat_lt day sc.start) (λ (r : Result Unit BillFault). r ≡ Ok tt → first_open_of sc s o day ≡ None) (Err fault.BeforeStart) (where_open (first_open_of sc s o day))
+    (λ _ e. absurd (cc)) (λ _ e. none_is_open (first_open_of sc s o day) e))
+    (λ _ e. absurd (cc))
+
+-- a value is told only where it is judged so, and then it is this one
+tells : {V : Type 0} (tell : V → Reply) (untell : Reply → Option V) → ((v : V) → untell (tell v) ≡ Some v) → ((why : BillFault) → untell (reply.Refused (bill_refusal why)) ≡ None) → (judged : Result Unit BillFault) (v w : V) → told tell (unless judged v) ≡ tell w → (judged ≡ Ok tt) × (w ≡ v)
+tells tell untell known unknown (Ok u) v w e =
+    let same : Some v ≡ Some w = sym (known v) ∙ ap untell e ∙ known w in
+    let is : w ≡ v = cc in
+    (refl, is)
+tells tell untell known unknown (Err why) v w e =
+    let none : None ≡ Some w = sym (unknown why) ∙ ap untell e ∙ known w in
+    absurd (cc)
+
+abbrev bill_in : Reply → Option BillValue
+bill_in (reply.Bill o day b) = Some b
+bill_in r = None
+
+abbrev shares_in : Reply → Option (List Settled)
+shares_in (reply.Settlement o day shares) = Some shares
+shares_in r = None
+
+same_event : {X : Type 0} {x y : X} → Some x ≡ Some y → x ≡ y
+same_event e = cc
+
+bill_told : (sc : SchemeValue) (s : System) (es : List Event) → IsSystem sc s → (o day i : ℕ) (b : BillValue) → IsAnswered es (replies sc s es) i (event.Bill o day) (reply.Bill o day b) → b ≡ bill_of sc (basis sc (after sc s es) o day) day
+bill_told sc s [] h o day i b at = absurd (nothing i at.event)
+  where
+    nothing : (i : ℕ) → slice_get [] i ≡ Some (event.Bill o day) → ⊥
+    nothing i is = absurd (cc)
+bill_told sc s (f ∷ es) h o day zero b at =
+    let is : f ≡ event.Bill o day = same_event at.event in
+    let answer : (step sc s f).1 ≡ reply.Bill o day b = same_event at.reply in
+    let tell = tells (reply.Bill o day) bill_in (λ v. refl) (λ why. refl) (bill_judged sc s o day) (bill_of sc (basis sc s o day) day) b (ap (λ g. (step sc s g).1) (sym is) ∙ answer) in
+    tell.1 ∙ ap (λ rs. bill_of sc rs day) (basis_stays sc s (f ∷ es) h o day (judged_closed sc s o day tell.0))
+bill_told sc s (f ∷ es) h o day (suc i) b at = bill_told sc (step sc s f).0 es (moves_step sc s f h).system o day i b (record { event = at.event; reply = at.reply })
+
+shares_told : (sc : SchemeValue) (s : System) (es : List Event) → IsSystem sc s → (o day i : ℕ) (shares : List Settled) → IsAnswered es (replies sc s es) i (event.Settle o day) (reply.Settlement o day shares) → shares ≡ settlement_of sc (basis sc (after sc s es) o day) day
+shares_told sc s [] h o day i shares at = absurd (nothing i at.event)
+  where
+    nothing : (i : ℕ) → slice_get [] i ≡ Some (event.Settle o day) → ⊥
+    nothing i is = absurd (cc)
+shares_told sc s (f ∷ es) h o day zero shares at =
+    let is : f ≡ event.Settle o day = same_event at.event in
+    let answer : (step sc s f).1 ≡ reply.Settlement o day shares = same_event at.reply in
+    let tell = tells (reply.Settlement o day) shares_in (λ v. refl) (λ why. refl) (bill_judged sc s o day) (settlement_of sc (basis sc s o day) day) shares (ap (λ g. (step sc s g).1) (sym is) ∙ answer) in
+    tell.1 ∙ ap (λ rs. settlement_of sc rs day) (basis_stays sc s (f ∷ es) h o day (judged_closed sc s o day tell.0))
+shares_told sc s (f ∷ es) h o day (suc i) shares at = shares_told sc (step sc s f).0 es (moves_step sc s f h).system o day i shares (record { event = at.event; reply = at.reply })
+
+pub bills_exactly : (sc : SchemeValue) (es : List Event) → BillsExactly sc es (replies sc (start sc) es)
+bills_exactly sc es = record {
+  bills = λ o day i b at. bill_told sc (start sc) es (start_is sc) o day i b at ∙ ap (λ rs. bill_of sc rs day) (basis_after sc es o day);
+  settlements = λ o day i shares at. shares_told sc (start sc) es (start_is sc) o day i shares at ∙ ap (λ rs. settlement_of sc rs day) (basis_after sc es o day);
+}
