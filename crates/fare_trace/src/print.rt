@@ -140,24 +140,46 @@ fn append_answer(packet: u64, device: u64, upto: u64, out: &mut Vec<u8>) -> Resu
     append_line(b"packet", &[packet, b"ack", device, upto], out)
 }
 
-/// Appends a refusal, with the numbers that are shown with it.
-fn append_refusal(refusal: Refusal, out: &mut Vec<u8>) -> Result<(), AllocError>
-    ensures appended { OnOk result (out.new.items ≡ out.old.items ++ reply_text (Reply.Refused refusal)) }
+/// Appends a refusal that two counts are shown with.
+fn append_counts(
+    name: &[u8],
+    stated: u64,
+    taken: u64,
+    out: &mut Vec<u8>,
+) -> Result<(), AllocError>
+    ensures appended { OnOk result (out.new.items ≡ out.old.items ++ words_line (codes "refused" ∷ name.now ∷ decimal stated ∷ decimal taken ∷ [])) }
     ensures kept { OnErr result (out.new.items ≡ out.old.items) }
 {
-    let name = name_of(refusal);
     let mut one = Buffer::new();
     let mut two = Buffer::new();
+    let stated = one.format(stated).as_bytes();
+    let taken = two.format(taken).as_bytes();
+    append_line(b"refused", &[name, stated, taken], out)
+}
+
+/// Appends a refusal that a device is shown with.
+fn append_open(name: &[u8], device: DeviceId, out: &mut Vec<u8>) -> Result<(), AllocError>
+    ensures appended { OnOk result (out.new.items ≡ out.old.items ++ words_line (codes "refused" ∷ name.now ∷ decimal device ∷ [])) }
+    ensures kept { OnErr result (out.new.items ≡ out.old.items) }
+{
+    append_line(
+        b"refused",
+        &[name, Buffer::new().format(device.get()).as_bytes()],
+        out,
+    )
+}
+
+/// Appends a refusal, with the numbers that are shown with it.
+fn append_refusal(refusal: &Refusal, out: &mut Vec<u8>) -> Result<(), AllocError>
+    ensures appended { OnOk result (out.new.items ≡ out.old.items ++ reply_text (Reply.Refused refusal.now)) }
+    ensures kept { OnErr result (out.new.items ≡ out.old.items) }
+{
+    let name = name_of(*refusal);
     match refusal {
         Refusal::CountsShort { stated, taken } | Refusal::CountsOver { stated, taken } => {
-            let stated = one.format(stated).as_bytes();
-            let taken = two.format(taken).as_bytes();
-            append_line(b"refused", &[name, stated, taken], out)
+            append_counts(name, *stated, *taken, out)
         }
-        Refusal::NotClosed { device } => {
-            let device = one.format(device.get()).as_bytes();
-            append_line(b"refused", &[name, device], out)
-        }
+        Refusal::NotClosed { device } => append_open(name, *device, out),
         _ => append_line(b"refused", &[name], out),
     }
 }
@@ -244,7 +266,7 @@ pub fn print_reply(reply: &Reply, out: &mut Vec<u8>) -> Result<(), AllocError>
         Reply::Rewound => append_line(b"rewound", &[], out),
         Reply::Accepted => append_line(b"accepted", &[], out),
         Reply::Restarted => append_line(b"restarted", &[], out),
-        Reply::Refused(refusal) => append_refusal(*refusal, out),
+        Reply::Refused(refusal) => append_refusal(refusal, out),
         Reply::Opened(day) => append_number(b"open", u64::from(day.get()), out),
         Reply::Recorded { link, lane } => append_record(*link, *lane, out),
         Reply::Sent { packet, link } => append_numbers(b"packet", *packet, b"link", *link, out),
