@@ -3,6 +3,7 @@ use fare_day::Zone;
 use fare_record::{Day, DeviceId, LAST_NUMBER, Moment, OwnerId, ProductId, Record, Tap, Token};
 use fare_scheme::{DemoSize, Draft, Scheme};
 use std::alloc::Global;
+use std::process::Abort;
 
 /// A tap: its device, its product, its token and its day.
 pub(crate) type Tapped = (u64, u64, u64, u64);
@@ -86,50 +87,77 @@ fn only_account(bill: Option<Bill>) -> Option<(u64, u64, u128)> {
     Some((row.rides, row.amount.get(), bill.total()))
 }
 
+// By this scheme the one account of these taps is billed so, day by day.
+fn are_billed(
+    rt: &impl Abort,
+    alloc: Global,
+    scheme: &Scheme,
+    taps: &[Record],
+    days: &[(u64, Option<(u64, u64, u128)>)],
+) {
+    for (day, billed) in days {
+        let bill = bill(alloc, scheme, taps, *day);
+        assert_eq!(rt; only_account(bill), *billed, "on {day}");
+    }
+}
+
 #[test]
 fn caps_a_day_and_a_week(rt: HostRuntime) {
     let scheme = demo(rt.alloc()).expect(&rt, "scheme");
     let taps = week(rt.alloc(), 19_729).expect(&rt, "taps");
     let days = [
-        (19_723, 525),
-        (19_724, 525),
-        (19_725, 525),
-        (19_726, 525),
-        (19_727, 370),
-        (19_728, 0),
+        (19_723, Some((5, 525, 525))),
+        (19_724, Some((5, 525, 525))),
+        (19_725, Some((5, 525, 525))),
+        (19_726, Some((5, 525, 525))),
+        (19_727, Some((5, 370, 370))),
+        (19_728, Some((5, 0, 0))),
     ];
-    for (day, amount) in days {
-        let bill = bill(rt.alloc(), &scheme, &taps, day);
-        assert_eq!(rt; only_account(bill), Some((5, amount, amount as u128)));
-    }
+    are_billed(&rt, rt.alloc(), &scheme, &taps, &days);
+}
+
+// How many rows the bill of a day has, and its total.
+fn size(alloc: Global, scheme: &Scheme, taps: &[Record], day: u64) -> Option<(usize, u128)> {
+    let bill = bill(alloc, scheme, taps, day)?;
+    Some((bill.rows().len(), bill.total()))
 }
 
 #[test]
 fn a_day_without_taps_has_no_rows(rt: HostRuntime) {
     let scheme = demo(rt.alloc()).expect(&rt, "scheme");
     let taps = week(rt.alloc(), 19_729).expect(&rt, "taps");
-    for day in [0, 19_722, 19_729, 100_000] {
-        let bill = bill(rt.alloc(), &scheme, &taps, day).expect(&rt, "bill");
-        assert_eq!(rt; (bill.rows().len(), bill.total()), (0, 0));
-    }
+    let sizes = [
+        size(rt.alloc(), &scheme, &taps, 0),
+        size(rt.alloc(), &scheme, &taps, 19_722),
+        size(rt.alloc(), &scheme, &taps, 19_729),
+        size(rt.alloc(), &scheme, &taps, 100_000),
+    ];
+    assert_eq!(rt; sizes, [Some((0, 0)); 4]);
 }
 
-// A draft of two products, the second one registered first, at a fare of 100; product 1 costs 175, at most 525 a day
-// and 600 a week. The first day is a Wednesday.
+// Two products, the second one registered first, at a fare of 100; product 1 costs 175, at most 525 a day and 600 a
+// week.
+fn add_products(draft: &mut Draft) -> Option<()> {
+    draft.add_owner(1, 4).ok()?;
+    draft.add_product(2, 1, 100).ok()?;
+    draft.add_product(1, 1, 175).ok()?;
+    draft.set_caps(1, 525, 600).ok()
+}
+
+fn add_device(draft: &mut Draft) -> Option<()> {
+    draft.add_operator(1).ok()?;
+    draft.add_station(1, 1).ok()?;
+    draft.add_device(1, 1, 4).ok()
+}
+
+// A draft of these products and a device, whose first day is a Wednesday.
 fn from_wednesday(alloc: Global) -> Option<Scheme> {
+    let zone = Zone::read("GMT0BST,M3.5.0/1,M10.5.0").ok()?;
     let mut draft = Draft::new(alloc);
-    draft.set_zone(Zone::read("GMT0BST,M3.5.0/1,M10.5.0").ok()?);
-    let made = draft.add_owner(1, 4).is_ok()
-        && draft.add_operator(1).is_ok()
-        && draft.add_station(1, 1).is_ok()
-        && draft.add_product(2, 1, 100).is_ok()
-        && draft.add_product(1, 1, 175).is_ok()
-        && draft.set_caps(1, 525, 600).is_ok()
-        && draft.add_device(1, 1, 4).is_ok()
-        && draft.set_start(19_725).is_ok();
-    if !made {
-        return None;
-    }
+    draft.set_zone(zone);
+    add_products(&mut draft)?;
+    add_device(&mut draft)?;
+    draft.set_start(19_725).ok()?;
     draft.seal().ok()
 }
 
@@ -160,10 +188,7 @@ fn counts_registered_taps_from_the_first_day_on(rt: HostRuntime) {
         (19_725, Some((1, 175, 175))),
         (19_726, Some((3, 425, 425))),
     ];
-    for (day, billed) in days {
-        let bill = bill(rt.alloc(), &scheme, &taps, day);
-        assert_eq!(rt; only_account(bill), billed);
-    }
+    are_billed(&rt, rt.alloc(), &scheme, &taps, &days);
 }
 
 // Three accounts, of which two have the token 78.
@@ -176,18 +201,23 @@ const MIXED: [Tapped; 6] = [
     (1, 2, 78, 19_727),
 ];
 
+// The rows of the bill of the day of these three, and its total.
+fn mixed_bill(alloc: Global) -> Option<([Option<(u32, u64, u64, u64)>; 4], u128)> {
+    let scheme = from_wednesday(alloc)?;
+    let taps = records(alloc, &MIXED)?;
+    let bill = bill(alloc, &scheme, &taps, 19_726)?;
+    Some((rows(&bill), bill.total()))
+}
+
 #[test]
 fn accounts_stand_by_product_then_token(rt: HostRuntime) {
-    let scheme = from_wednesday(rt.alloc()).expect(&rt, "scheme");
-    let taps = records(rt.alloc(), &MIXED).expect(&rt, "taps");
-    let bill = bill(rt.alloc(), &scheme, &taps, 19_726).expect(&rt, "bill");
     let billed = [
         Some((1, 77, 1, 175)),
         Some((1, 78, 2, 350)),
         Some((2, 78, 2, 200)),
         None,
     ];
-    assert_eq!(rt; (rows(&bill), bill.total()), (billed, 725));
+    assert_eq!(rt; mixed_bill(rt.alloc()), Some((billed, 725)));
 }
 
 /// How many tokens a long list has.
@@ -263,12 +293,20 @@ fn is_plain(bill: &Bill, taps: &[Record], day: u64) -> bool {
     (bill.rows().len(), bill.total()) == (place, total)
 }
 
+// Whether a day is billed by the formula.
+fn is_billed_plainly(alloc: Global, scheme: &Scheme, taps: &[Record], day: u64) -> Option<bool> {
+    let bill = bill(alloc, scheme, taps, day)?;
+    Some(is_plain(&bill, taps, day))
+}
+
 #[test]
 fn a_long_list_is_billed_by_the_formula(rt: HostRuntime) {
     let scheme = demo(rt.alloc()).expect(&rt, "scheme");
     let taps = long_list(rt.alloc()).expect(&rt, "taps");
-    for day in [19_723, 19_727, 19_728] {
-        let bill = bill(rt.alloc(), &scheme, &taps, day).expect(&rt, "bill");
-        assert_eq!(rt; is_plain(&bill, &taps, day), true, "on {day}");
-    }
+    let plain = [
+        is_billed_plainly(rt.alloc(), &scheme, &taps, 19_723),
+        is_billed_plainly(rt.alloc(), &scheme, &taps, 19_727),
+        is_billed_plainly(rt.alloc(), &scheme, &taps, 19_728),
+    ];
+    assert_eq!(rt; plain, [Some(true); 3]);
 }

@@ -133,31 +133,45 @@ fn arrived(rt: &impl Abort, number: u64, link: u64) -> Arrived
     Arrived::Tap(station(rt, number), tapped(rt, device(rt, 7), link))
 }
 
+// Links 1 to 4 of device 7, in turn from the two passes.
+fn put_in_turn<R: Wait + Abort>(
+    rt: &R,
+    inbox: &Inbox,
+    first: &mut StationPass,
+    second: &mut StationPass,
+) -> [Result<(), Full<Arrived>>; 4]
+    requires queue { IsStationOf inbox.now first.old × IsStationOf inbox.now second.old }
+    ensures queue { IsStationOf inbox.now first.new × IsStationOf inbox.now second.new }
+    ensures stations { (station_of first.new ≡ station_of first.old) × (station_of second.new ≡ station_of second.old) }
+{
+    let seven = device(rt, 7);
+    [
+        put_link(rt, inbox, first, seven, 1),
+        put_link(rt, inbox, second, seven, 2),
+        put_link(rt, inbox, first, seven, 3),
+        put_link(rt, inbox, second, seven, 4),
+    ]
+}
+
+// How many items were taken and how many are left, and the next three of these.
+fn rest<R: Wait>(rt: &R, mut ended: InboxEnded) -> ((u64, u64), [Option<Arrived>; 3])
+    requires { IsInboxEnded ended }
+{
+    let counts = (ended.taken, ended.left);
+    (counts, [ended.next(rt), ended.next(rt), ended.next(rt)])
+}
+
 #[test]
 fn an_inbox_of_three_gives_them_in_order(rt: HostRuntime) {
     let (inbox, mut first, mut second, mut writer) = two_stations(&rt, rt.alloc(), 3);
-    let seven = device(&rt, 7);
-    let put = [
-        put_link(&rt, &inbox, &mut first, seven, 1),
-        put_link(&rt, &inbox, &mut second, seven, 2),
-        put_link(&rt, &inbox, &mut first, seven, 3),
-        put_link(&rt, &inbox, &mut second, seven, 4),
-    ];
-    assert_eq!(rt;
-        put,
-        [Ok(()), Ok(()), Ok(()), Err(Full(arrived(&rt, 2, 4)))]
-    );
+    let put = put_in_turn(&rt, &inbox, &mut first, &mut second);
     let taken = inbox.take(&rt, &mut writer);
-    let mut ended = finish(&rt, rt.alloc(), inbox, first, second, writer);
-    assert_eq!(rt; (ended.taken, ended.left), (1, 2));
-    let left = [taken, ended.next(&rt), ended.next(&rt), ended.next(&rt)];
-    let want = [
-        Some(arrived(&rt, 1, 1)),
-        Some(arrived(&rt, 2, 2)),
-        Some(arrived(&rt, 1, 3)),
-        None,
-    ];
-    assert_eq!(rt; left, want);
+    let ended = finish(&rt, rt.alloc(), inbox, first, second, writer);
+    let rest = rest(&rt, ended);
+    let full = Err(Full(arrived(&rt, 2, 4)));
+    assert_eq!(rt; put, [Ok(()), Ok(()), Ok(()), full]);
+    let left = [Some(arrived(&rt, 2, 2)), Some(arrived(&rt, 1, 3)), None];
+    assert_eq!(rt; (taken, rest), (Some(arrived(&rt, 1, 1)), ((1, 2), left)));
 }
 
 const LINKS: u64 = 100;
@@ -304,10 +318,13 @@ fn each_stations_links_come_in_its_order(rt: HostRuntime) {
         writer,
         kept,
     } = run(&rt, &inbox, first, second, writer, devices, kept);
-    let ordered = [1, 2].map(|number| in_order(&kept, station(&rt, number)));
-    assert_eq!(rt; (kept.len(), ordered), (ITEMS, [true, true]));
-    let mut ended = finish(&rt, rt.alloc(), inbox, first, second, writer);
-    assert_eq!(rt; (ended.taken, ended.left, ended.next(&rt)), (200, 0, None));
+    let ended = finish(&rt, rt.alloc(), inbox, first, second, writer);
+    assert_eq!(rt; rest(&rt, ended), ((200, 0), [None; 3]));
+    let ordered = (
+        in_order(&kept, station(&rt, 1)),
+        in_order(&kept, station(&rt, 2)),
+    );
+    assert_eq!(rt; (kept.len(), ordered), (ITEMS, (true, true)));
 }
 
 // Why no line is made, if none is.
@@ -369,11 +386,13 @@ fn ending<R: Wait>(
 fn a_line_of_one_holds_one(rt: HostRuntime) {
     let acked = two(&rt);
     let (line, mut ack, mut hear) = AckLine::new(rt.alloc(), 1).expect(&rt, "line");
-    assert_eq!(rt; put_two(&rt, &line, &mut ack, acked, 2), Ok(()));
+    let first = put_two(&rt, &line, &mut ack, acked, 2);
+    let second = put_two(&rt, &line, &mut ack, acked, 2);
+    let taken = take_twice(&rt, &line, &mut hear);
+    let third = put_two(&rt, &line, &mut ack, acked, 3);
+    let end = ending(&rt, line, ack, hear);
     let full = Err(Full(AckItem::Upto(acked)));
-    assert_eq!(rt; put_two(&rt, &line, &mut ack, acked, 2), full);
+    assert_eq!(rt; [first, second, third], [Ok(()), full, Ok(())]);
     let want = [Some(AckItem::Upto(acked)), None];
-    assert_eq!(rt; take_twice(&rt, &line, &mut hear), want);
-    assert_eq!(rt; put_two(&rt, &line, &mut ack, acked, 3), Ok(()));
-    assert_eq!(rt; ending(&rt, line, ack, hear), ((1, 1), want));
+    assert_eq!(rt; (taken, end), (want, ((1, 1), want)));
 }

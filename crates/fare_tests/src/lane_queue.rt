@@ -88,19 +88,32 @@ fn puts<R: Wait>(
     [first, second, third]
 }
 
+// How many items were taken and how many are left, the next two of these, and the same numbers then.
+fn ending<R: Wait>(
+    rt: &R,
+    queue: LaneQueue,
+    forward: ForwardPass,
+    owner: OwnerPass,
+) -> ((u64, u64), [Option<Item>; 2], (u64, u64))
+    requires { IsForwardOf queue forward × IsOwnerOf queue owner }
+{
+    let mut ended = queue.finish(rt, forward, owner);
+    let before = (ended.taken, ended.left);
+    let left = [ended.next(rt), ended.next(rt)];
+    (before, left, (ended.taken, ended.left))
+}
+
 #[test]
 fn what_is_taken_and_left_is_what_was_put(rt: HostRuntime) {
     let (queue, mut forward, mut owner) = behind_four(&rt, rt.alloc());
     let (tapped, stated) = (fifth(&rt), stated(&rt));
     let put = puts(&rt, &queue, &mut forward, tapped, stated);
-    assert_eq!(rt; put, [Ok(()), Ok(()), Err(Full(Item::Stated(stated)))]);
     let taken = queue.take(&rt, &mut owner);
-    let mut ended = queue.finish(&rt, forward, owner);
-    assert_eq!(rt; (ended.taken, ended.left), (1, 1));
-    let left = [taken, ended.next(&rt), ended.next(&rt)];
+    let ended = ending(&rt, queue, forward, owner);
+    assert_eq!(rt; put, [Ok(()), Ok(()), Err(Full(Item::Stated(stated)))]);
+    let left = [Some(Item::Stated(stated)), None];
     assert_eq!(rt;
-        left,
-        [Some(Item::Tap(tapped)), Some(Item::Stated(stated)), None]
+        (taken, ended),
+        (Some(Item::Tap(tapped)), ((1, 1), left, (1, 0)))
     );
-    assert_eq!(rt; (ended.taken, ended.left), (1, 0));
 }

@@ -13,13 +13,22 @@ fn station(rt: &impl Abort, number: u64) -> StationId {
     StationId::new(number).expect(rt, "station")
 }
 
-// The text has lines of these events.
-fn has_events(rt: &impl Abort, alloc: Global, text: &[u8], want: &[Event]) {
-    let lines = parse(alloc, text).expect(rt, "lines");
-    assert_eq!(rt; lines.len(), want.len());
-    for (line, event) in lines.iter().zip(want) {
-        assert!(rt; matches!(line, Line::Step(line) if line == event));
+// Whether these are lines of these events, in order.
+fn are_events(lines: &[Line], want: &[Event]) -> bool {
+    if lines.len() != want.len() {
+        return false;
     }
+    for (line, event) in lines.iter().zip(want) {
+        if !matches!(line, Line::Step(line) if line == event) {
+            return false;
+        }
+    }
+    true
+}
+
+// Whether the text has lines of these events.
+fn has_events(alloc: Global, text: &[u8], want: &[Event]) -> Result<bool, ParseFault> {
+    Ok(are_events(&parse(alloc, text)?, want))
 }
 
 // The text is refused at this line.
@@ -41,7 +50,8 @@ fn are_printed(rt: &impl Abort, alloc: Global, replies: &[Reply], want: &[u8]) {
 fn parses_event_lines(rt: HostRuntime) {
     let packet = 18446744073709551615;
     let want = [Event::Arrive { packet }, Event::Draw];
-    has_events(&rt, rt.alloc(), b"arrive 18446744073709551615\ndraw", &want);
+    let text = b"arrive 18446744073709551615\ndraw";
+    assert_eq!(rt; has_events(rt.alloc(), text, &want), Ok(true));
 }
 
 #[test]
@@ -55,7 +65,7 @@ fn parses_acknowledging_lines(rt: HostRuntime) {
         Event::Resume { device },
     ];
     let text = b"rewind 4294967295\nack 4294967295\nanswer 65535\nresume 4294967295\n";
-    has_events(&rt, rt.alloc(), text, &want);
+    assert_eq!(rt; has_events(rt.alloc(), text, &want), Ok(true));
 }
 
 #[test]
@@ -68,14 +78,30 @@ fn parses_restart_lines(rt: HostRuntime) {
         Event::RestartWriter,
     ];
     let text = b"restart device 7\nrestart station 9\nrestart writer\n";
-    has_events(&rt, rt.alloc(), text, &want);
+    assert_eq!(rt; has_events(rt.alloc(), text, &want), Ok(true));
+}
+
+// Whether these are lines of these registrations, in order.
+fn are_setups(lines: &[Line], want: &[SchemeLine]) -> bool {
+    if lines.len() != want.len() {
+        return false;
+    }
+    for (line, setup) in lines.iter().zip(want) {
+        if !matches!(line, Line::Setup(line) if line == setup) {
+            return false;
+        }
+    }
+    true
+}
+
+// Whether the text has lines of these registrations.
+fn has_setups(alloc: Global, text: &[u8], want: &[SchemeLine]) -> Result<bool, ParseFault> {
+    Ok(are_setups(&parse(alloc, text)?, want))
 }
 
 #[test]
 fn parses_scheme_lines(rt: HostRuntime) {
-    let lines = parse(
-        rt.alloc(),
-        b"owner 65535 4294967295
+    let text = b"owner 65535 4294967295
 operator 65534
 station 1 0
 product 4294967295 2 100001
@@ -85,9 +111,7 @@ inbox 0
 start 4294967295
 seal
 demo 1 0 4294967295 7
-demo 2 1 2 3",
-    )
-    .expect(&rt, "lines");
+demo 2 1 2 3";
     let want = [
         SchemeLine::Owner {
             owner: 65535,
@@ -129,10 +153,7 @@ demo 2 1 2 3",
             lane: 3,
         },
     ];
-    assert_eq!(rt; lines.len(), want.len());
-    for (line, setup) in lines.iter().zip(&want) {
-        assert!(rt; matches!(line, Line::Setup(line) if line == setup));
-    }
+    assert_eq!(rt; has_setups(rt.alloc(), text, &want), Ok(true));
 }
 
 // Whether it is a zone line with this rule.
@@ -140,15 +161,29 @@ fn has_rule(line: &Line, want: &str) -> bool {
     matches!(line, Line::Setup(SchemeLine::Zone { rule }) if rule.as_str() == want)
 }
 
+// Whether these are zone lines with these rules, in order.
+fn are_zones(lines: &[Line], wants: &[&str]) -> bool {
+    if lines.len() != wants.len() {
+        return false;
+    }
+    for (line, want) in lines.iter().zip(wants) {
+        if !has_rule(line, want) {
+            return false;
+        }
+    }
+    true
+}
+
+// Whether the text has zone lines with these rules.
+fn has_zones(alloc: Global, text: &[u8], wants: &[&str]) -> Result<bool, ParseFault> {
+    Ok(are_zones(&parse(alloc, text)?, wants))
+}
+
 #[test]
 fn parses_a_zone_line(rt: HostRuntime) {
     let text = b"zone GMT0BST,M3.5.0/1,M10.5.0\nzone !~\n";
-    let lines = parse(rt.alloc(), text).expect(&rt, "lines");
     let wants = ["GMT0BST,M3.5.0/1,M10.5.0", "!~"];
-    assert_eq!(rt; lines.len(), wants.len());
-    for (line, want) in lines.iter().zip(wants) {
-        assert!(rt; has_rule(line, want));
-    }
+    assert_eq!(rt; has_zones(rt.alloc(), text, &wants), Ok(true));
 }
 
 #[test]
@@ -167,50 +202,52 @@ count 65535 4294967295
     assert_eq!(rt; lines.len(), 9);
 }
 
+// Texts, and the bad line in each.
+const BAD_LINES: [(&[u8], u64); 39] = [
+    (b"\n", 1),
+    (b"draw\n\n", 2),
+    (b"draw ", 1),
+    (b" draw", 1),
+    (b"draw\r\n", 1),
+    (b"Draw", 1),
+    (b"draw 1", 1),
+    (b"tap 1", 1),
+    (b"send  1", 1),
+    (b"send 1 ", 1),
+    (b"send +1", 1),
+    (b"send 01", 1),
+    (b"send 0", 1),
+    (b"send 4294967296", 1),
+    (b"store\nforward 65536 1", 2),
+    (b"arrive 18446744073709551616", 1),
+    (b"tap 1 1 0 0", 1),
+    (b"tap 1 1 9223372036854775808 0", 1),
+    (b"tap 1 1 1 8640200001", 1),
+    (b"demo 0 1 1 1", 1),
+    (b"demo 3 1 1 1", 1),
+    (b"demo 1 4 4 4294967296", 1),
+    (b"owner 65536 4", 1),
+    (b"owner 1 4294967296", 1),
+    (b"owner 1", 1),
+    (b"operator 65536", 1),
+    (b"station 1 65536", 1),
+    (b"product 4294967296 1 1", 1),
+    (b"caps 1 1 4294967296", 1),
+    (b"device 1 65536 1", 1),
+    (b"inbox 4294967296", 1),
+    (b"start -1", 1),
+    (b"seal 1", 1),
+    (b"zone", 1),
+    (b"zone ", 1),
+    (b"zone a b", 1),
+    (b"zone a ", 1),
+    (b"zone \x7f", 1),
+    (b"zone\tGMT0", 1),
+];
+
 #[test]
 fn refuses_bad_lines(rt: HostRuntime) {
-    let cases: [(&[u8], u64); 39] = [
-        (b"\n", 1),
-        (b"draw\n\n", 2),
-        (b"draw ", 1),
-        (b" draw", 1),
-        (b"draw\r\n", 1),
-        (b"Draw", 1),
-        (b"draw 1", 1),
-        (b"tap 1", 1),
-        (b"send  1", 1),
-        (b"send 1 ", 1),
-        (b"send +1", 1),
-        (b"send 01", 1),
-        (b"send 0", 1),
-        (b"send 4294967296", 1),
-        (b"store\nforward 65536 1", 2),
-        (b"arrive 18446744073709551616", 1),
-        (b"tap 1 1 0 0", 1),
-        (b"tap 1 1 9223372036854775808 0", 1),
-        (b"tap 1 1 1 8640200001", 1),
-        (b"demo 0 1 1 1", 1),
-        (b"demo 3 1 1 1", 1),
-        (b"demo 1 4 4 4294967296", 1),
-        (b"owner 65536 4", 1),
-        (b"owner 1 4294967296", 1),
-        (b"owner 1", 1),
-        (b"operator 65536", 1),
-        (b"station 1 65536", 1),
-        (b"product 4294967296 1 1", 1),
-        (b"caps 1 1 4294967296", 1),
-        (b"device 1 65536 1", 1),
-        (b"inbox 4294967296", 1),
-        (b"start -1", 1),
-        (b"seal 1", 1),
-        (b"zone", 1),
-        (b"zone ", 1),
-        (b"zone a b", 1),
-        (b"zone a ", 1),
-        (b"zone \x7f", 1),
-        (b"zone\tGMT0", 1),
-    ];
-    for (text, number) in cases {
+    for (text, number) in BAD_LINES {
         is_refused(&rt, rt.alloc(), text, number);
     }
 }

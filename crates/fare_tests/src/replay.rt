@@ -3,6 +3,7 @@ use crate::traces::*;
 use crate::traces_of_days::*;
 use fare_trace::{ParseFault, ReplayFault, parse, replay};
 use std::alloc::{AllocError, Global};
+use std::process::Abort;
 
 // What a replay of a trace writes.
 fn answered(alloc: Global, trace: &[u8]) -> Result<Vec<u8>, ReplayFault> {
@@ -10,6 +11,11 @@ fn answered(alloc: Global, trace: &[u8]) -> Result<Vec<u8>, ReplayFault> {
     let mut output = Vec::new(alloc);
     replay(alloc, &mut reader, &mut output)?;
     Ok(output)
+}
+
+// Whether a replay of a trace writes this.
+fn is_answered(alloc: Global, trace: &[u8], want: &[u8]) -> Result<bool, ReplayFault> {
+    Ok(answered(alloc, trace)?.as_slice() == want)
 }
 
 // What a replay writes of a trace that comes byte by byte, after an interrupted read.
@@ -24,20 +30,43 @@ fn answered_bytewise(alloc: Global, bytes: &[u8]) -> Result<Vec<u8>, ReplayFault
     Ok(output)
 }
 
+// Whether it writes this.
+fn is_answered_bytewise(alloc: Global, trace: &[u8], want: &[u8]) -> Result<bool, ReplayFault> {
+    Ok(answered_bytewise(alloc, trace)?.as_slice() == want)
+}
+
+// These traces are answered so, whole and byte by byte.
+fn are_answered(rt: &impl Abort, alloc: Global, cases: &[(&[u8], &[u8])]) {
+    for (place, (trace, want)) in cases.iter().enumerate() {
+        let both = (
+            is_answered(alloc, trace, want),
+            is_answered_bytewise(alloc, trace, want),
+        );
+        assert_eq!(rt; both, (Ok(true), Ok(true)), "trace {place}");
+    }
+}
+
 #[test]
 fn replays_traces(rt: HostRuntime) {
-    let cases: [(&[u8], &[u8]); 28] = [
+    let cases: [(&[u8], &[u8]); 11] = [
         (b"", b""),
         (ONE_TAP, ONE_TAP_ANSWERED),
         (FULL_BUFFER, FULL_BUFFER_ANSWERED),
         (OUT_OF_ORDER_AND_REPEAT, OUT_OF_ORDER_AND_REPEAT_ANSWERED),
         (DAY_EDGES, DAY_EDGES_ANSWERED),
         (REFUSALS_AND_IDLES, REFUSALS_AND_IDLES_ANSWERED),
-        (REGISTRAR_REFUSALS, REGISTRAR_REFUSALS_ANSWERED),
-        (REGISTRAR_SEALS, REGISTRAR_SEALS_ANSWERED),
         (WRITER_RESTART, WRITER_RESTART_ANSWERED),
         (FULL_INBOX, FULL_INBOX_ANSWERED),
         (PRUNE_AND_OWNER_RESTART, PRUNE_AND_OWNER_RESTART_ANSWERED),
+        (SENT_AGAIN, SENT_AGAIN_ANSWERED),
+        (UNKNOWN_PARTS, UNKNOWN_PARTS_ANSWERED),
+    ];
+    are_answered(&rt, rt.alloc(), &cases);
+}
+
+#[test]
+fn replays_traces_of_days(rt: HostRuntime) {
+    let cases: [(&[u8], &[u8]); 9] = [
         (SHORT_COUNT_THEN_CLOSE, SHORT_COUNT_THEN_CLOSE_ANSWERED),
         (DAYS_IN_ORDER, DAYS_IN_ORDER_ANSWERED),
         (EIGHT_WAITING_DAYS, EIGHT_WAITING_DAYS_ANSWERED),
@@ -50,8 +79,15 @@ fn replays_traces(rt: HostRuntime) {
         ),
         (SMALL_ROOMS, SMALL_ROOMS_ANSWERED),
         (TWO_OWNERS_A_DAY, TWO_OWNERS_A_DAY_ANSWERED),
-        (SENT_AGAIN, SENT_AGAIN_ANSWERED),
-        (UNKNOWN_PARTS, UNKNOWN_PARTS_ANSWERED),
+    ];
+    are_answered(&rt, rt.alloc(), &cases);
+}
+
+#[test]
+fn replays_traces_of_schemes(rt: HostRuntime) {
+    let cases: [(&[u8], &[u8]); 8] = [
+        (REGISTRAR_REFUSALS, REGISTRAR_REFUSALS_ANSWERED),
+        (REGISTRAR_SEALS, REGISTRAR_SEALS_ANSWERED),
         (SETTINGS, SETTINGS_ANSWERED),
         (LAST_ZONE_COUNTS, LAST_ZONE_COUNTS_ANSWERED),
         (
@@ -68,12 +104,7 @@ fn replays_traces(rt: HostRuntime) {
         ),
         (b"send 1\ndraw", b"refused Unsealed\nrefused Unsealed\n"),
     ];
-    for (trace, want) in cases {
-        let output = answered(rt.alloc(), trace).expect(&rt, "replay");
-        assert_eq!(rt; output.as_slice(), want);
-        let output = answered_bytewise(rt.alloc(), trace).expect(&rt, "bytewise");
-        assert_eq!(rt; output.as_slice(), want);
-    }
+    are_answered(&rt, rt.alloc(), &cases);
 }
 
 // 454 taps, one after the other, each brought to its owner's ledger and acknowledged: 4,995 lines.
@@ -91,31 +122,42 @@ fn long_trace(alloc: Global) -> Result<Vec<u8>, AllocError> {
     Ok(text)
 }
 
+// The replies to what brings a tap in this packet to the outbox.
+fn stored(alloc: Global, tap: u64, packet: u64) -> Result<String, AllocError> {
+    Ok(format!(in alloc;
+        "record {tap} {tap}\npacket {packet} link {tap}\naccepted\ndrawn 1 link {tap}\nstored 1 link {tap}\nack {tap}\n"
+    )?)
+}
+
+// The replies to what acknowledges it in this packet and brings it to the ledger.
+fn taken(alloc: Global, tap: u64, packet: u64) -> Result<String, AllocError> {
+    Ok(format!(in alloc;
+        "packet {packet} ack 1 {tap}\nacked 1\nforwarded lane {tap}\nfetched 1 lane {tap}\ntaken 1 lane {tap}\n"
+    )?)
+}
+
 // The replies to it.
 fn long_answers(alloc: Global) -> Result<Vec<u8>, AllocError> {
     let mut text = Vec::new(alloc);
     text.extend_from_slice(b"ok\n")?;
     for tap in 1..455u64 {
-        let packet = 2 * tap - 1;
-        let answer = 2 * tap;
-        let lines = format!(in alloc;
-            "record {tap} {tap}\npacket {packet} link {tap}\naccepted\ndrawn 1 link {tap}\nstored 1 link {tap}\nack {tap}\npacket {answer} ack 1 {tap}\nacked 1\nforwarded lane {tap}\nfetched 1 lane {tap}\ntaken 1 lane {tap}\n"
-        )?;
-        text.extend_from_slice(lines.as_bytes())?;
+        text.extend_from_slice(stored(alloc, tap, 2 * tap - 1)?.as_bytes())?;
+        text.extend_from_slice(taken(alloc, tap, 2 * tap)?.as_bytes())?;
     }
     Ok(text)
+}
+
+// How many lines a trace has.
+fn lines_in(alloc: Global, trace: &[u8]) -> Result<usize, ParseFault> {
+    Ok(parse(alloc, trace)?.len())
 }
 
 #[test]
 fn a_long_trace_is_answered_whole(rt: HostRuntime) {
     let trace = long_trace(rt.alloc()).expect(&rt, "trace");
     let want = long_answers(rt.alloc()).expect(&rt, "answers");
-    let lines = parse(rt.alloc(), &trace).expect(&rt, "parse");
-    assert_eq!(rt; lines.len(), 4_995);
-    let output = answered(rt.alloc(), &trace).expect(&rt, "replay");
-    assert!(rt; output.as_slice() == want.as_slice());
-    let output = answered_bytewise(rt.alloc(), &trace).expect(&rt, "bytewise");
-    assert!(rt; output.as_slice() == want.as_slice());
+    assert_eq!(rt; lines_in(rt.alloc(), &trace), Ok(4_995));
+    are_answered(&rt, rt.alloc(), &[(&trace, &want)]);
 }
 
 // Why a replay of this many bytes, so many a read, after so many interrupted reads, writes nothing.
@@ -189,6 +231,17 @@ fn a_reader_and_a_writer_fail(rt: HostRuntime) {
     );
 }
 
+// Whether the fault's line is this.
+fn has_line(alloc: Global, fault: ReplayFault, line: &str) -> Option<bool> {
+    let text = format!(in alloc; "{fault}").ok()?;
+    Some(text.as_str() == line)
+}
+
+fn parse_has_line(alloc: Global, fault: ParseFault, line: &str) -> Option<bool> {
+    let text = format!(in alloc; "{fault}").ok()?;
+    Some(text.as_str() == line)
+}
+
 #[test]
 fn each_fault_has_its_line(rt: HostRuntime) {
     let cases = [
@@ -198,10 +251,8 @@ fn each_fault_has_its_line(rt: HostRuntime) {
         (ReplayFault::Write, "write failed"),
     ];
     for (fault, line) in cases {
-        let text = format!(in rt.alloc(); "{fault}").expect(&rt, "text");
-        assert_eq!(rt; text.as_str(), line);
+        assert_eq!(rt; has_line(rt.alloc(), fault, line), Some(true), "{line}");
     }
     let fault = ParseFault::BadLine { line: 3 };
-    let text = format!(in rt.alloc(); "{fault}").expect(&rt, "text");
-    assert_eq!(rt; text.as_str(), "bad line 3");
+    assert_eq!(rt; parse_has_line(rt.alloc(), fault, "bad line 3"), Some(true));
 }

@@ -6,6 +6,7 @@ use fare_record::{Day, Record};
 use fare_scheme::Scheme;
 use fare_settle::{Settled, Settlement, charges, settle};
 use std::alloc::Global;
+use std::process::Abort;
 
 // The settlement of a day, by its number.
 fn settlement(alloc: Global, scheme: &Scheme, taps: &[Record], day: u64) -> Option<Settlement> {
@@ -29,6 +30,17 @@ fn shares(settlement: &Settlement) -> [Option<(u16, u64, u128)>; 3] {
     [share(shares, 0), share(shares, 1), share(shares, 2)]
 }
 
+// The shares of a day.
+fn shared(
+    alloc: Global,
+    scheme: &Scheme,
+    taps: &[Record],
+    day: u64,
+) -> Option<[Option<(u16, u64, u128)>; 3]> {
+    let settlement = settlement(alloc, scheme, taps, day)?;
+    Some(shares(&settlement))
+}
+
 // The amount of the charge at a place, and its operator.
 fn charged(
     alloc: Global,
@@ -40,6 +52,20 @@ fn charged(
     let charges = charges(alloc, scheme, taps, Day::new(day)?).ok()?;
     let charge = charges.get(place)?;
     Some((charge.operator.get(), charge.amount.get()))
+}
+
+// The charges of a day are these, one after the other.
+fn are_charged(
+    rt: &impl Abort,
+    alloc: Global,
+    scheme: &Scheme,
+    taps: &[Record],
+    day: u64,
+    charges: &[Option<(u16, u64)>],
+) {
+    for (place, charge) in charges.iter().enumerate() {
+        assert_eq!(rt; charged(alloc, scheme, taps, day, place), *charge);
+    }
 }
 
 // Five taps a day from Monday to Thursday, and four on Friday, on the devices of two operators in turn.
@@ -57,12 +83,12 @@ fn capped_week(alloc: Global) -> Option<Vec<Record>> {
 fn operators_share_a_capped_day(rt: HostRuntime) {
     let scheme = demo(rt.alloc()).expect(&rt, "scheme");
     let taps = capped_week(rt.alloc()).expect(&rt, "taps");
-    let friday = settlement(rt.alloc(), &scheme, &taps, 19_727).expect(&rt, "settlement");
-    assert_eq!(rt;
-        shares(&friday),
-        [Some((1, 2, 195)), Some((2, 2, 175)), None]
+    let friday = (
+        shared(rt.alloc(), &scheme, &taps, 19_727),
+        billed(rt.alloc(), &scheme, &taps, 19_727),
     );
-    assert_eq!(rt; billed(rt.alloc(), &scheme, &taps, 19_727), Some(370));
+    let parts = [Some((1, 2, 195)), Some((2, 2, 175)), None];
+    assert_eq!(rt; friday, (Some(parts), Some(370)));
     let one_by_one = [
         Some((1, 175)),
         Some((2, 175)),
@@ -70,9 +96,7 @@ fn operators_share_a_capped_day(rt: HostRuntime) {
         Some((2, 0)),
         None,
     ];
-    for (place, charge) in one_by_one.into_iter().enumerate() {
-        assert_eq!(rt; charged(rt.alloc(), &scheme, &taps, 19_727, place), charge);
-    }
+    are_charged(&rt, rt.alloc(), &scheme, &taps, 19_727, &one_by_one);
 }
 
 // An unknown device, an unknown product and a day before the first one, and one tap that counts.
@@ -88,14 +112,13 @@ fn settles_registered_taps_alone(rt: HostRuntime) {
     let scheme = demo(rt.alloc()).expect(&rt, "scheme");
     let taps = records(rt.alloc(), &UNCOUNTED).expect(&rt, "taps");
     let days = [
-        (19_722, [Some((1, 0, 0)), Some((2, 0, 0)), None]),
-        (19_723, [Some((1, 0, 0)), Some((2, 1, 175)), None]),
-        (19_724, [Some((1, 0, 0)), Some((2, 0, 0)), None]),
+        shared(rt.alloc(), &scheme, &taps, 19_722),
+        shared(rt.alloc(), &scheme, &taps, 19_723),
+        shared(rt.alloc(), &scheme, &taps, 19_724),
     ];
-    for (day, settled) in days {
-        let settlement = settlement(rt.alloc(), &scheme, &taps, day).expect(&rt, "settlement");
-        assert_eq!(rt; shares(&settlement), settled);
-    }
+    let none = Some([Some((1, 0, 0)), Some((2, 0, 0)), None]);
+    let one = Some([Some((1, 0, 0)), Some((2, 1, 175)), None]);
+    assert_eq!(rt; days, [none, one, none]);
 }
 
 // Four taps of one account, of which the list has the latest first and two tie in moment: the order is that of
@@ -121,9 +144,7 @@ fn charges_by_moment_device_and_lane(rt: HostRuntime) {
         Some((2, 0)),
         None,
     ];
-    for (place, charge) in one_by_one.into_iter().enumerate() {
-        assert_eq!(rt; charged(rt.alloc(), &scheme, &taps, 19_723, place), charge);
-    }
+    are_charged(&rt, rt.alloc(), &scheme, &taps, 19_723, &one_by_one);
 }
 
 // The charge of the tap at a place of a list in order, as the formula has it.
@@ -153,13 +174,19 @@ fn plain_share(taps: &[Record], operator: u16, day: u64) -> Option<(u16, u64, u1
     Some((operator, count, amount))
 }
 
+// Whether a day is settled by the formula.
+fn is_settled_plainly(alloc: Global, scheme: &Scheme, taps: &[Record], day: u64) -> bool {
+    let plain = [plain_share(taps, 1, day), plain_share(taps, 2, day), None];
+    shared(alloc, scheme, taps, day) == Some(plain)
+}
+
 #[test]
 fn a_long_list_is_settled_by_the_formula(rt: HostRuntime) {
     let scheme = demo(rt.alloc()).expect(&rt, "scheme");
     let taps = long_list(rt.alloc()).expect(&rt, "taps");
-    for day in [19_723, 19_727] {
-        let settlement = settlement(rt.alloc(), &scheme, &taps, day).expect(&rt, "settlement");
-        let plain = [plain_share(&taps, 1, day), plain_share(&taps, 2, day), None];
-        assert_eq!(rt; shares(&settlement), plain, "on {day}");
-    }
+    let plain = [
+        is_settled_plainly(rt.alloc(), &scheme, &taps, 19_723),
+        is_settled_plainly(rt.alloc(), &scheme, &taps, 19_727),
+    ];
+    assert_eq!(rt; plain, [true; 2]);
 }

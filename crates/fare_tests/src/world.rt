@@ -74,17 +74,21 @@ fn run(world: PlainWorld, events: &[Event]) -> Option<Vec<Reply>> {
     Some(replies)
 }
 
+// Whether the world answers these events so, one after the other.
+fn answers_so(world: &mut PlainWorld, events: &[Event], answers: &[Reply]) -> bool {
+    for (event, answer) in events.iter().zip(answers) {
+        if world.apply(event) != Ok(*answer) {
+            return false;
+        }
+    }
+    true
+}
+
 // Whether a device's first tap comes to its owner's ledger.
 fn reaches_its_owner(world: &mut PlainWorld, device: u64, product: u64) -> Option<bool> {
     let answers = answers(device, device)?;
-    let mut place = 0;
-    for event in &journey(device, product, device)? {
-        if world.apply(event).ok()? != *answers.get(place)? {
-            return Some(false);
-        }
-        place += 1;
-    }
-    Some(true)
+    let events = journey(device, product, device)?;
+    Some(answers_so(world, &events, &answers))
 }
 
 // An owner with a product, and an operator with a station.
@@ -137,17 +141,16 @@ pub fn many_journeys(alloc: Global) -> Option<Vec<Event>> {
     Some(events)
 }
 
-// The last four replies.
-fn end_of(replies: &[Reply]) -> Option<&[Reply]> {
-    replies.get(replies.len().checked_sub(4)?..)
+// The replies of a run of the small world.
+fn replies_to(alloc: Global, events: &[Event]) -> Option<Vec<Reply>> {
+    run(small_world(alloc)?, events)
 }
 
 #[test]
 fn a_tap_reaches_the_ledger(rt: HostRuntime) {
-    let world = small_world(rt.alloc()).expect(&rt, "world");
     let events = journey(1, 1, 1).expect(&rt, "journey");
-    let replies = run(world, &events).expect(&rt, "run");
     let answers = answers(1, 1).expect(&rt, "answers");
+    let replies = replies_to(rt.alloc(), &events).expect(&rt, "run");
     assert_eq!(rt; replies.as_slice(), answers.as_slice());
 }
 
@@ -160,11 +163,15 @@ fn each_of_256_devices_reaches_its_owner(rt: HostRuntime) {
     }
 }
 
+// How many replies there are to these journeys, and whether these are the last ones.
+fn ends_with(alloc: Global, last: &[Reply]) -> Option<(usize, bool)> {
+    let events = many_journeys(alloc)?;
+    let replies = replies_to(alloc, &events)?;
+    Some((replies.len(), replies.ends_with(last)))
+}
+
 #[test]
 fn a_long_run_answers_each_event(rt: HostRuntime) {
-    let world = small_world(rt.alloc()).expect(&rt, "world");
-    let events = many_journeys(rt.alloc()).expect(&rt, "journeys");
-    let replies = run(world, &events).expect(&rt, "run");
     let device = DeviceId::new(1).expect(&rt, "device");
     let last = [
         Reply::Count(450),
@@ -176,31 +183,33 @@ fn a_long_run_answers_each_event(rt: HostRuntime) {
         },
         Reply::Dropped(1),
     ];
-    assert_eq!(rt; replies.len(), 5_850);
-    assert_eq!(rt; end_of(&replies), Some(last.as_slice()));
+    assert_eq!(rt; ends_with(rt.alloc(), &last), Some((5_850, true)));
 }
+
+// A world whose outbox fails once.
+type FailingWorld = World<FailingOutbox<PlainOutbox>, PlainLedger>;
 
 // A world of one device, whose outbox fails at its second call. Making the world asks it once, whether it is
 // empty.
-fn failing_world(alloc: Global) -> Option<World<FailingOutbox<PlainOutbox>, PlainLedger>> {
+fn failing_world(alloc: Global) -> Option<FailingWorld> {
     let scheme = Scheme::demo(alloc, DemoSize::OneDevice, 4, 4, 4).ok()?;
     let ledgers = ledgers_of(alloc, &scheme)?;
     let outbox = FailingOutbox::new(PlainOutbox::new(alloc), 2);
     World::new(alloc, scheme, outbox, ledgers).ok()
 }
 
-// What brings a tap to the writer's hand.
-fn to_the_hand() -> Option<[Event; 4]> {
-    let [tap, send, arrive, draw, ..] = journey(1, 1, 1)?;
-    Some([tap, send, arrive, draw])
+// Brings a tap to the writer's hand.
+fn to_the_hand(world: &mut FailingWorld) -> Option<()> {
+    for event in &journey(1, 1, 1)?[..4] {
+        world.apply(event).ok()?;
+    }
+    Some(())
 }
 
 // The answers to a store that the outbox fails, and to the same once more.
 fn stored_twice(alloc: Global) -> Option<[Result<Reply, Fault>; 2]> {
     let mut world = failing_world(alloc)?;
-    for event in &to_the_hand()? {
-        world.apply(event).ok()?;
-    }
+    to_the_hand(&mut world)?;
     Some([world.apply(&Event::Store), world.apply(&Event::Store)])
 }
 
@@ -223,16 +232,22 @@ fn first_row() -> Option<Record> {
     Some(Record::new(DeviceId::new(1)?, 1, OwnerId::new(1)?, 1, tap))
 }
 
-// Why there is no world of one owner over this many ledgers and an outbox with a row or none; None where
-// there is one.
-fn fault_over(alloc: Global, ledgers: usize, has_row: bool) -> Option<WorldFault> {
-    let scheme = Scheme::demo(alloc, DemoSize::OneDevice, 4, 4, 4).ok()?;
-    let mut owned = ledgers_of(alloc, &scheme)?;
-    owned.truncate(ledgers);
+// An outbox with a row or none.
+fn outbox_with(alloc: Global, has_row: bool) -> Option<PlainOutbox> {
     let mut outbox = PlainOutbox::new(alloc);
     if has_row {
         outbox.store(&first_row()?).ok()?;
     }
+    Some(outbox)
+}
+
+// Why there is no world of one owner over this many ledgers and an outbox with a row or none; None where
+// there is one.
+fn fault_over(alloc: Global, ledgers: usize, has_row: bool) -> Option<WorldFault> {
+    let outbox = outbox_with(alloc, has_row)?;
+    let scheme = Scheme::demo(alloc, DemoSize::OneDevice, 4, 4, 4).ok()?;
+    let mut owned = ledgers_of(alloc, &scheme)?;
+    owned.truncate(ledgers);
     let (_parts, fault) = World::new(alloc, scheme, outbox, owned).err()?;
     Some(fault)
 }

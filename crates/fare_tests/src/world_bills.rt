@@ -1,6 +1,6 @@
 use crate::world::{PlainWorld, many_journeys, small_world};
 use fare_cap::{Bill, Row};
-use fare_record::{Day, DeviceId, OwnerId, StationId};
+use fare_record::{Day, DeviceId, OwnerId};
 use fare_settle::Settlement;
 use fare_store::Refused;
 use fare_world::{BillFault, Event};
@@ -38,27 +38,25 @@ fn closed_world(alloc: Global) -> Option<PlainWorld> {
     Some(world)
 }
 
-// The answer to an owner's bill of a day.
+// An owner's bill of a day.
 fn bill(world: &mut PlainWorld, owner: u64, day: u64) -> Option<Result<Bill, Refused<BillFault>>> {
     Some(world.bill(OwnerId::new(owner)?, Day::new(day)?))
 }
 
-// The answer to a settlement.
-fn settlement(
-    world: &mut PlainWorld,
-    owner: u64,
-    day: u64,
-) -> Option<Result<Settlement, Refused<BillFault>>> {
-    Some(world.settlement(OwnerId::new(owner)?, Day::new(day)?))
-}
-
 // How many accounts a bill has, the rides and the amount of the first, and the total.
-fn read(bill: &Bill) -> Option<(usize, u64, u64, u128)> {
+type Read = (usize, u64, u64, u128);
+
+fn read(bill: &Bill) -> Option<Read> {
     let row: &Row = bill.rows().first()?;
-    Some((bill.rows().len(), row.rides, row.amount.get(), bill.total()))
+    Some((
+        bill.rows().len(),
+        row.rides,
+        row.amount.get(),
+        bill.total(),
+    ))
 }
 
-// Each share's operator, taps and amount, where there is one.
+// The one share of a settlement: operator, taps and amount.
 fn share(settlement: &Settlement) -> Option<(u16, u64, u128)> {
     let [share] = settlement.shares() else {
         return None;
@@ -66,36 +64,39 @@ fn share(settlement: &Settlement) -> Option<(u16, u64, u128)> {
     Some((share.operator.get(), share.taps, share.amount))
 }
 
-#[test]
-fn a_closed_day_has_a_bill(rt: HostRuntime) {
-    let mut world = closed_world(rt.alloc()).expect(&rt, "world");
-    let first = bill(&mut world, 1, 19_723).expect(&rt, "first");
-    let first = first.expect(&rt, "bill");
-    assert_eq!(rt; read(&first), Some((1, 450, 525, 525)));
-    let again = bill(&mut world, 1, 19_723).expect(&rt, "again");
-    assert_eq!(rt; again, Ok(first));
-    let shared = settlement(&mut world, 1, 19_723).expect(&rt, "shared");
-    let shared = shared.expect(&rt, "settlement");
-    assert_eq!(rt; share(&shared), Some((1, 450, 525)));
+// The bill of the closed day, asked twice, and its settlement.
+fn closed_day(alloc: Global) -> Option<(Read, Read, (u16, u64, u128))> {
+    let mut world = closed_world(alloc)?;
+    let first = read(&bill(&mut world, 1, 19_723)?.ok()?)?;
+    let again = read(&bill(&mut world, 1, 19_723)?.ok()?)?;
+    let settlement = world
+        .settlement(OwnerId::new(1)?, Day::new(19_723)?)
+        .ok()?;
+    Some((first, again, share(&settlement)?))
 }
 
-// Why an owner has no bill of a day, if it has none.
-fn refusal(world: &mut PlainWorld, owner: u64, day: u64) -> Option<Refused<BillFault>> {
-    bill(world, owner, day)?.err()
+#[test]
+fn a_closed_day_has_a_bill(rt: HostRuntime) {
+    let all = (1, 450, 525, 525);
+    assert_eq!(rt; closed_day(rt.alloc()), Some((all, all, (1, 450, 525))));
+}
+
+// Why there is no bill, of an unknown owner, of a day before the first one, and of two open days.
+fn refusals(alloc: Global) -> Option<[Refused<BillFault>; 4]> {
+    let mut world = busy_world(alloc)?;
+    Some([
+        bill(&mut world, 2, 19_722)?.err()?,
+        bill(&mut world, 1, 19_722)?.err()?,
+        bill(&mut world, 1, 19_723)?.err()?,
+        bill(&mut world, 1, 19_724)?.err()?,
+    ])
 }
 
 #[test]
 fn an_open_day_has_none(rt: HostRuntime) {
-    let mut world = busy_world(rt.alloc()).expect(&rt, "world");
     let device = DeviceId::new(1).expect(&rt, "device");
-    let refusals = [
-        refusal(&mut world, 2, 19_722),
-        refusal(&mut world, 1, 19_722),
-        refusal(&mut world, 1, 19_723),
-        refusal(&mut world, 1, 19_724),
-    ];
-    let open = Some(Refused::Because(BillFault::NotClosed { device }));
-    let unknown = Some(Refused::Because(BillFault::UnknownOwner));
-    let before = Some(Refused::Because(BillFault::BeforeStart));
-    assert_eq!(rt; refusals, [unknown, before, open, open]);
+    let unknown = Refused::Because(BillFault::UnknownOwner);
+    let before = Refused::Because(BillFault::BeforeStart);
+    let open = Refused::Because(BillFault::NotClosed { device });
+    assert_eq!(rt; refusals(rt.alloc()), Some([unknown, before, open, open]));
 }
