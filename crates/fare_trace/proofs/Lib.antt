@@ -7,6 +7,7 @@ pub mod Spelling
 pub mod Texts
 pub mod Printing
 pub mod Words
+pub mod RowLines
 pub mod Answering
 pub mod Clocks
 pub mod Stores

@@ -9,7 +9,7 @@ join_is_flat : {A : Type 0} (f : A → List ℕ) (word : List ℕ) (words : List
 join_is_flat f word [] = sym (append_nil word)
 join_is_flat f word (w ∷ ws) = ap (λ t. word ++ (32 ∷ t)) (join_is_flat f (f w) ws)
 
-take_whole : {A : Type 0} (k : ℕ) (xs : List A) → length xs ≤ k → take k xs ≡ xs
+pub take_whole : {A : Type 0} (k : ℕ) (xs : List A) → length xs ≤ k → take k xs ≡ xs
 take_whole k xs whole = grind (arith, common_steps)
 
 pub line_appended : {A : Type 0} (f : A → List ℕ) (old words new first : List ℕ) (rest : List A) (k : ℕ) → length rest ≤ k → words ≡ old ++ first ++ flat_map (λ w. 32 ∷ f w) (take k rest) → new ≡ words ++ (10 ∷ []) → new ≡ old ++ words_line (first ∷ map f rest)

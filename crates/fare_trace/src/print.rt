@@ -141,12 +141,7 @@ fn append_answer(packet: u64, device: u64, upto: u64, out: &mut Vec<u8>) -> Resu
 }
 
 /// Appends a refusal that two counts are shown with.
-fn append_counts(
-    name: &[u8],
-    stated: u64,
-    taken: u64,
-    out: &mut Vec<u8>,
-) -> Result<(), AllocError>
+fn append_counts(name: &[u8], stated: u64, taken: u64, out: &mut Vec<u8>) -> Result<(), AllocError>
     ensures appended { OnOk result (out.new.items ≡ out.old.items ++ words_line (codes "refused" ∷ name.now ∷ decimal stated ∷ decimal taken ∷ [])) }
     ensures kept { OnErr result (out.new.items ≡ out.old.items) }
 {

@@ -17,7 +17,8 @@ use Rattle.fare_scheme.specs.declared.entry.Placement.{Placement}
 use Rattle.fare_cap.specs.Fares.{week_start}
 use Rattle.fare_cap.specs.Bills.{bill_of}
 use Rattle.fare_settle.specs.Settling.{settlement_of}
-use Rattle.fare_world.specs.Billing.{BillsExactly}
+use Rattle.fare_world.specs.declared.reply.Reply.TheVariants as reply
+use Rattle.fare_world.specs.Billing.{IsMet, BillsExactly}
 use Rattle.fare_world.specs.Headline.{of_days, numbered, numbered_by, with_first, IsOrderly, EachAnswer, IsAnswered, TakesNoneAfterClose}
 use Rattle.fare_world.specs.Shown.{entry, Shape, Shows, IsDeviceOf, IsOwnerOf}
 use Rattle.fare_store.specs.declared.fault.Fault.{Fault}
@@ -183,8 +184,20 @@ module _ {O L : Type 0} (out : O → Standing OutboxValue) (led : L → Standing
       let sc = old.scheme in
       let all = subst (BillsExactly sc (take (length rs) events)) (sym (h.answers (start sc) fresh live)) (bills_exactly sc (take (length rs) events)) in
       record {
-        bills = λ o day i b at. all.bills o day i b (answered-take events rs i at) ∙ ap (λ l. bill_of sc (flat_map (λ (d : ℕ × Placement). of_days (week_start sc day) day (lane_of o d.0 l)) sc.devices) day) (numbered-take sc events rs);
-        settlements = λ o day i shares at. all.settlements o day i shares (answered-take events rs i at) ∙ ap (λ l. settlement_of sc (flat_map (λ (d : ℕ × Placement). of_days (week_start sc day) day (lane_of o d.0 l)) sc.devices) day) (numbered-take sc events rs);
+        bills = λ o day i b at. all.bills o day i b (answered-take events rs i at) ∙ ap (λ l. bill_of sc (among l o day) day) (numbered-take sc events rs);
+        settlements = λ o day i shares at. all.settlements o day i shares (answered-take events rs i at) ∙ ap (λ l. settlement_of sc (among l o day) day) (numbered-take sc events rs);
+        met = λ o day i r at met. all.met o day i r (answered-take events rs i at) (met_in o day i met) ∙ ap (λ l. reply.Bill o day (bill_of sc (among l o day) day)) (numbered-take sc events rs);
+        met_settlement = λ o day i r at met. all.met_settlement o day i r (answered-take events rs i at) (met_in o day i met) ∙ ap (λ l. reply.Settlement o day (settlement_of sc (among l o day) day)) (numbered-take sc events rs);
+      }
+    where
+      among : List RecordValue → ℕ → ℕ → List RecordValue
+      among l o day = flat_map (λ (d : ℕ × Placement). of_days (week_start old.scheme day) day (lane_of o d.0 l)) old.scheme.devices
+
+      met_in : (o day i : ℕ) → IsMet old.scheme events rs i o day → IsMet old.scheme (take (length rs) events) rs i o day
+      met_in o day i met = record {
+        known = met.known;
+        first = met.first;
+        closed = λ d there. let c = met.closed d there in (c.0, c.1, answered-take events rs c.0 c.2);
       }
 
   -- what a run from the start numbered, by the replies that it had

@@ -1,5 +1,5 @@
 -- Bills and settlements: of what the devices numbered, once an owner has closed the day of each of them.
-use Rattle.std.specs.Prelude.{◌≡◌, ℕ, Bool, false, nat_le, List, [], ◌∷◌, Option, Some, None, Result, Ok, Err, if◌then◌else◌, nat_lt}
+use Rattle.std.specs.Prelude.{◌≡◌, ℕ, ◌<◌, ◌≤◌, Bool, true, false, Contains, nat_le, List, [], ◌∷◌, Option, Some, None, Result, Ok, Err, if◌then◌else◌, nat_lt}
 use Rattle.std.specs.List.{flat_map}
 use Rattle.fare_record.specs.Values.{RecordValue}
 use Rattle.fare_record.specs.Lanes.{lane_of}
@@ -81,7 +81,19 @@ settle sc s owner day = (s, told (reply.Settlement owner day) (settled sc s owne
 abbrev pub basis_told : SchemeValue → List Event → List Reply → ℕ → ℕ → List RecordValue
 basis_told sc es rs owner day = flat_map (λ (d : ℕ × Placement). of_days (week_start sc day) day (lane_of owner d.0 (numbered sc es rs))) sc.devices
 
--- each bill that a reply tells is the capped fare of exactly these taps, and each settlement is of exactly these taps
+-- an owner's reply, before a place, that a device's day is closed
+abbrev pub ClosedBefore : List Event → List Reply → ℕ → ℕ → ℕ → ℕ → Type 0
+ClosedBefore es rs place owner device day = (earlier : ℕ) × (earlier < place) × IsAnswered es rs earlier (event.Close owner device day) (reply.Closed device day)
+
+-- before a place, a registered owner's replies say that the day is closed, for every device of the scheme
+pub record IsMet (sc : SchemeValue) (es : List Event) (rs : List Reply) (place owner day : ℕ) : Type 0 where
+  pub known : knows_owner sc owner ≡ true
+  pub first : sc.start ≤ day
+  pub closed : (d : ℕ × Placement) → Contains sc.devices d → ClosedBefore es rs place owner d.0 day
+
+-- each bill that a reply tells is the capped fare of exactly these taps, and each settlement is of exactly these taps; and where all counts are met, one is told
 pub record BillsExactly (sc : SchemeValue) (es : List Event) (rs : List Reply) : Type 0 where
   pub bills : (owner day place : ℕ) (b : BillValue) → IsAnswered es rs place (event.Bill owner day) (reply.Bill owner day b) → b ≡ bill_of sc (basis_told sc es rs owner day) day
   pub settlements : (owner day place : ℕ) (shares : List Settled) → IsAnswered es rs place (event.Settle owner day) (reply.Settlement owner day shares) → shares ≡ settlement_of sc (basis_told sc es rs owner day) day
+  pub met : (owner day place : ℕ) (r : Reply) → IsAnswered es rs place (event.Bill owner day) r → IsMet sc es rs place owner day → r ≡ reply.Bill owner day (bill_of sc (basis_told sc es rs owner day) day)
+  pub met_settlement : (owner day place : ℕ) (r : Reply) → IsAnswered es rs place (event.Settle owner day) r → IsMet sc es rs place owner day → r ≡ reply.Settlement owner day (settlement_of sc (basis_told sc es rs owner day) day)
