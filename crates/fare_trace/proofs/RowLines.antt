@@ -1,7 +1,8 @@
 -- Rows, appended one after the other.
-use Rattle.std.proofs.Common.{◌≡◌, ◌+◌, ◌<◌, ◌≤◌, ℕ, List, [], ◌∷◌, ◌++◌, length, take, get_or, ap, sym, ◌∙◌, append_assoc}
+use Rattle.std.proofs.Common.{◌≡◌, ◌+◌, ◌<◌, ◌≤◌, ℕ, List, [], ◌∷◌, ◌++◌, length, take, drop, get_or, ap, sym, ◌∙◌, append_assoc}
 use Rattle.std.specs.List.{flat_map}
-use Rattle.std.proofs.lemmas.List.{take_more}
+use Rattle.std.specs.Prelude.{Result, Ok, Err, OnErr}
+use Rattle.std.proofs.lemmas.List.{take_more, take-append-drop}
 use Rattle.std.proofs.Math.Seq.{take-append_seam}
 use Rattle.fare_trace.proofs.Cuts.{append_nil}
 use Rattle.fare_trace.proofs.Words.{take_whole}
@@ -24,3 +25,19 @@ module _ {X : Type 0} (text : X → List ℕ) where
 
 pub front_stays : (old rest out : List ℕ) → out ≡ old ++ rest → take (length old) out ≡ old
 front_stays old rest out is = ap (take (length old)) is ∙ take-append_seam old rest
+
+-- what was appended behind a line is cut off, and the line too
+pub cut_back : (old line mid out new : List ℕ) (n : ℕ) → n ≡ length old → mid ≡ old ++ line → take (length mid) out ≡ mid → new ≡ take n out → new ≡ old
+cut_back old line mid out new n at ended front cut =
+    let behind = drop (length mid) out in
+    cut ∙ (λ i. take (at i) (whole i))
+    ∙ ap (λ l. take (length old) (l ++ behind)) ended
+    ∙ ap (take (length old)) (append_assoc old line behind)
+    ∙ take-append_seam old (line ++ behind)
+  where
+    whole : out ≡ mid ++ drop (length mid) out
+    whole = sym (take-append-drop (length mid) out) ∙ ap (λ l. l ++ drop (length mid) out) front
+
+pub where_failed : {E : Type 0} {P : Type 0} (r : Result (Unit {0}) E) → P → OnErr r P
+where_failed (Ok u) p = tt
+where_failed (Err e) p = p

@@ -1,6 +1,6 @@
 ghost use Rattle.std.specs.Prelude.{◌≡◌, [], ◌++◌, OnOk, IfOk, IfErr, MatchResult};
 ghost use Rattle.fare_world.specs.System.{start};
-ghost use Rattle.fare_trace.specs.Answers.{Drafting, Running};
+ghost use Rattle.fare_trace.specs.Answers.{Answers, Drafting, Running};
 ghost use Rattle.fare_trace.specs.Faults.{Refuses};
 ghost use Rattle.fare_trace.specs.Progress.{AnswersText, GoesToEnd, Registers, StopsIn, WritesAnswer};
 ghost use Rattle.fare_trace.specs.Registration.{stage_of};
@@ -9,7 +9,7 @@ ghost use Rattle.fare_trace.specs.Stores.{AreEmptyLedgers, IsNew, Steps, WritesS
 use crate::line::Line;
 use crate::lines::Lines;
 use crate::print::print_reply;
-use crate::registering::{Registration, refuse, set_up};
+use crate::registering::{Answer, Registration, refuse, set_up};
 use crate::text::ParseFault;
 use fare_scheme::{Draft, Scheme};
 use fare_store::{Fault, LedgerFault, PlainLedger, PlainOutbox};
@@ -111,6 +111,16 @@ fn run_sealed(
     run_lines(alloc, &mut world, lines, out)
 }
 
+/// What a line before the seal is answered, and how far the registration is then. The error is want of memory.
+fn judge_line(alloc: Global, draft: Draft, used: bool, line: &Line) -> Answer
+    ensures { IfOk result (λ answer. Answers (Drafting draft used) line.now (stage_of answer.0, answer.1)) }
+{
+    match line {
+        Line::Setup(line) => set_up(alloc, draft, used, line),
+        Line::Step(_) => Ok(refuse(draft, used, Refusal::Unsealed)),
+    }
+}
+
 /// Answers a line before the seal, and how far the registration is then. The error is want of memory.
 fn answer_line(
     alloc: Global,
@@ -121,10 +131,7 @@ fn answer_line(
 ) -> Result<Registration, AllocError>
     ensures { IfOk result (λ next. WritesAnswer (Drafting draft used) line (stage_of next) out.old.items out.new.items) }
 {
-    let (registration, reply) = match &line {
-        Line::Setup(line) => set_up(alloc, draft, used, line)?,
-        Line::Step(_) => refuse(draft, used, Refusal::Unsealed),
-    };
+    let (registration, reply) = judge_line(alloc, draft, used, &line)?;
     print_reply(&reply, out)?;
     Ok(registration)
 }
