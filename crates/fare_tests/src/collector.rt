@@ -29,11 +29,16 @@ enum Call {
 }
 
 fn accept(device: u64, link: u64) -> Call {
+    accept_for(device, link, 1, 1)
+}
+
+// For a product and an owner.
+fn accept_for(device: u64, link: u64, product: u64, owner: u64) -> Call {
     Call::Accept {
         device,
         link,
-        product: 1,
-        owner: 1,
+        product,
+        owner,
     }
 }
 
@@ -114,19 +119,13 @@ fn accepts_the_next_link_alone(rt: HostRuntime) {
 
 #[test]
 fn refuses_strangers_and_other_owners(rt: HostRuntime) {
-    let wrong = |device, link, product, owner| Call::Accept {
-        device,
-        link,
-        product,
-        owner,
-    };
     let calls = [
         (accept(2, 1), Err(CollectRefusal::Stranger)),
         (accept(3, 1), Err(CollectRefusal::Stranger)),
-        (wrong(2, 1, 1, 2), Err(CollectRefusal::Stranger)),
-        (wrong(1, 1, 1, 2), Err(CollectRefusal::Misrouted)),
-        (wrong(1, 1, 2, 1), Err(CollectRefusal::Misrouted)),
-        (wrong(1, 2, 1, 2), Err(CollectRefusal::Misrouted)),
+        (accept_for(2, 1, 1, 2), Err(CollectRefusal::Stranger)),
+        (accept_for(1, 1, 1, 2), Err(CollectRefusal::Misrouted)),
+        (accept_for(1, 1, 2, 1), Err(CollectRefusal::Misrouted)),
+        (accept_for(1, 2, 1, 2), Err(CollectRefusal::Misrouted)),
         (accept(1, 1), Ok(())),
     ];
     answers(&rt, rt.alloc(), 1, &calls);

@@ -4,7 +4,7 @@ use std::process::Abort;
 
 fn day_of(zone: &Zone, seconds: u64) -> Option<Result<u32, BadMoment>> {
     let moment = Moment::new(seconds)?;
-    Some(traffic_day(zone, moment).map(|day| day.get()))
+    Some(traffic_day(zone, moment).map(Day::get))
 }
 
 // By the clock with this rule these moments have these traffic days.
@@ -55,7 +55,7 @@ fn refuses_what_is_no_rule(rt: HostRuntime) {
 // The Monday of a day's week, and whether the day is one.
 fn week_of(number: u64) -> Option<(Option<u32>, bool)> {
     let day = Day::new(number)?;
-    Some((monday_of(day).map(|monday| monday.get()), is_monday(day)))
+    Some((monday_of(day).map(Day::get), is_monday(day)))
 }
 
 #[test]

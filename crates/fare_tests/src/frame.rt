@@ -249,12 +249,12 @@ fn a_frame_tells_what_it_holds(rt: HostRuntime) {
 
 #[test]
 fn an_item_tells_what_it_holds(rt: HostRuntime) {
-    let record = tapped()
-        .and_then(|frame| frame.tapped())
-        .expect(&rt, "record");
-    let statement = stated()
-        .and_then(|frame| frame.stated())
-        .expect(&rt, "statement");
+    let (tapped, stated) = (
+        tapped().expect(&rt, "tap"),
+        stated().expect(&rt, "statement"),
+    );
+    let record = tapped.tapped().expect(&rt, "record");
+    let statement = stated.stated().expect(&rt, "statement");
     let (tap, stated) = (Item::Tap(record), Item::Stated(statement));
     assert_eq!(rt; (tap.tap(), tap.stated()), (Some(record), None));
     assert_eq!(rt; (stated.tap(), stated.stated()), (None, Some(statement)));

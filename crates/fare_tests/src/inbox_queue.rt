@@ -394,5 +394,6 @@ fn a_line_of_one_holds_one(rt: HostRuntime) {
     let full = Err(Full(AckItem::Upto(acked)));
     assert_eq!(rt; [first, second, third], [Ok(()), full, Ok(())]);
     let want = [Some(AckItem::Upto(acked)), None];
-    assert_eq!(rt; (taken, end), (want, ((1, 1), want)));
+    assert_eq!(rt; taken, want);
+    assert_eq!(rt; end, ((1, 1), want));
 }

@@ -3,7 +3,12 @@ use fare_link::{AckAhead, Receiver, Sender, Verdict};
 #[test]
 fn sends_up_to_the_last_number(rt: HostRuntime) {
     let mut sender = Sender::new();
-    let links = [0, 2, 2, 2].map(|last| sender.next_link(last));
+    let links = [
+        sender.next_link(0),
+        sender.next_link(2),
+        sender.next_link(2),
+        sender.next_link(2),
+    ];
     assert_eq!(rt; links, [None, Some(1), Some(2), None]);
     sender.rewind();
     let again = sender.next_link(2);

@@ -104,7 +104,7 @@ fn numbers_end_at_their_limits(rt: HostRuntime) {
     // An acknowledged link of 2^40 - 1, and of 2^40.
     let last = Ack::decode(&[0, 0, 0, 1, 0, 0, 0, 0xff, 0xff, 0xff, 0xff, 0xff]);
     let over = Ack::decode(&[0, 0, 0, 1, 0, 0, 1, 0, 0, 0, 0, 0]);
-    let links = [last.map(|ack| ack.upto()), over.map(|ack| ack.upto())];
+    let links = [last.map(Ack::upto), over.map(Ack::upto)];
     assert_eq!(rt; links, [Ok(LAST_NUMBER), Err(RecordFault::NumberRange)]);
     let nobody = Hello::decode(&[0, 0, 0, 0, 0, 1]);
     assert_eq!(rt; nobody.err(), Some(RecordFault::ZeroId));

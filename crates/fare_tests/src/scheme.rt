@@ -25,8 +25,17 @@ fn made(draft: &mut Draft, call: Call) -> Result<(), AddFault> {
         Call::Product(product, owner, fare) => draft.add_product(product, owner, fare),
         Call::Caps(product, daily, weekly) => capped(draft.set_caps(product, daily, weekly)),
         Call::Device(device, station, buffer) => draft.add_device(device, station, buffer),
-        Call::Inbox(capacity) => draft.set_inbox(capacity).map_err(|_| AddFault::Range),
-        Call::Start(day) => draft.set_start(day).map_err(|_| AddFault::Range),
+        Call::Inbox(capacity) => ranged(draft.set_inbox(capacity).is_ok()),
+        Call::Start(day) => ranged(draft.set_start(day).is_ok()),
+    }
+}
+
+// The answer of a call that is refused for its range alone.
+fn ranged(is_taken: bool) -> Result<(), AddFault> {
+    if is_taken {
+        Ok(())
+    } else {
+        Err(AddFault::Range)
     }
 }
 
@@ -252,8 +261,6 @@ fn positions_are_in_order_of_registration(rt: HostRuntime) {
     assert!(rt; stand_at(&scheme, 2, 1));
     assert_eq!(rt; scheme.product_at(0), ProductId::new(1));
     assert_eq!(rt; scheme.product_at(1), None);
-    assert_eq!(rt;
-        ProductId::new(2).and_then(|id| scheme.product_position(id)),
-        None
-    );
+    let other = ProductId::new(2).expect(&rt, "product");
+    assert_eq!(rt; scheme.product_position(other), None);
 }

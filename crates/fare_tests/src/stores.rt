@@ -83,14 +83,35 @@ fn store_all<O: Outbox>(outbox: &mut O, last: u64) -> Option<Said> {
     said
 }
 
+// The lane number of the next row.
+fn next_lane<O: Outbox>(
+    outbox: &mut O,
+    owner: OwnerId,
+    device: DeviceId,
+    after: u64,
+) -> Result<Option<u64>, Fault> {
+    Ok(outbox.next_row(owner, device, after)?.map(Record::lane))
+}
+
+// The count of the next statement.
+fn next_count<O: Outbox>(
+    outbox: &mut O,
+    owner: OwnerId,
+    device: DeviceId,
+    from: Day,
+) -> Result<Option<u64>, Fault> {
+    let statement = outbox.next_statement(owner, device, from)?;
+    Ok(statement.map(Statement::count))
+}
+
 fn next_row<O: Outbox>(outbox: &mut O, after: u64) -> Option<Said> {
-    let row = outbox.next_row(owner()?, device()?, after);
-    Some(Said::Found(row.map(|row| row.map(|row| row.lane()))))
+    let lane = next_lane(outbox, owner()?, device()?, after);
+    Some(Said::Found(lane))
 }
 
 fn next_statement<O: Outbox>(outbox: &mut O, from: u64) -> Option<Said> {
-    let stated = outbox.next_statement(owner()?, device()?, Day::new(from)?);
-    Some(Said::Found(stated.map(|stated| stated.map(|stated| stated.count()))))
+    let count = next_count(outbox, owner()?, device()?, Day::new(from)?);
+    Some(Said::Found(count))
 }
 
 pub(crate) fn ask<O: Outbox>(outbox: &mut O, asked: Asked) -> Option<Said> {
@@ -241,9 +262,14 @@ fn take_all<L: Ledger>(ledger: &mut L, last: u64) -> Option<Answer> {
     answer
 }
 
+// The number of the last closed day of a device.
+fn closed_day<L: Ledger>(ledger: &mut L, device: DeviceId) -> Result<Option<u64>, Fault> {
+    let day = ledger.closed_through(device)?.map(Day::get);
+    Ok(day.map(u64::from))
+}
+
 fn closed_through<L: Ledger>(ledger: &mut L) -> Option<Answer> {
-    let day = ledger.closed_through(device()?);
-    Some(Answer::Maybe(day.map(|day| day.map(|day| u64::from(day.get())))))
+    Some(Answer::Maybe(closed_day(ledger, device()?)))
 }
 
 // The first and the last lane number of the taps of some days, in their order, and how many these are.
@@ -252,11 +278,7 @@ fn between(alloc: Global, from: u64, to: u64) -> Option<(Option<u64>, Option<u64
     take_all(&mut ledger, 3)?;
     let taps = ledger.taps_between(Day::new(from)?, Day::new(to)?).ok()?;
     let (first, last) = (taps.first().copied(), taps.last().copied());
-    Some((
-        first.map(|tap| tap.lane()),
-        last.map(|tap| tap.lane()),
-        taps.len(),
-    ))
+    Some((first.map(Record::lane), last.map(Record::lane), taps.len()))
 }
 
 fn answer_to<L: Ledger>(ledger: &mut L, call: Call) -> Option<Answer> {
