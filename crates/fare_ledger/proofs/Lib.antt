@@ -12,3 +12,4 @@ pub mod Listed
 pub mod Between
 pub mod Known
 pub mod Opened
+pub mod Meta

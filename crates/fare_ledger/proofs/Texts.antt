@@ -12,7 +12,7 @@ use Rattle.sqlite_schema.specs.declared.command.Conflict.TheVariants.{Abort}
 use Rattle.fare_tables.specs.Asking.{Reads}
 use Rattle.fare_tables.specs.Making.{Defines, no_schema}
 use Rattle.fare_tables.specs.Queries.{count_query, meta_table}
-use Rattle.fare_ledger.specs.Tables.{one_table, two_tables, three_tables, ledger_schema, lane_table, tap_table, stated_table, lane_query, stated_query, day_terms, between_query, renew_query, begun_terms}
+use Rattle.fare_ledger.specs.Tables.{one_table, two_tables, three_tables, ledger_schema, lane_table, tap_table, stated_table, meta_query, lane_query, stated_query, day_terms, between_query, renew_query, begun_terms}
 
 -- TABLES
 abbrev pub make_meta_text : List ℕ
@@ -167,6 +167,14 @@ statements_unlisted = refl
 
 abbrev pub meta_text : List ℕ
 meta_text = codes "SELECT format, owner FROM meta"
+
+pub meta_asked : command_of (understood ledger_schema meta_text) ≡ Select (record { lets = []; body = meta_query }) (codes "format" ∷ codes "owner" ∷ [])
+unfolding understood everything ledger_schema
+meta_asked = refl
+
+pub meta_unlisted : reads_listing ledger_schema meta_text ≡ false
+unfolding understood everything ledger_schema
+meta_unlisted = refl
 
 pub meta_reads : Reads ledger_schema meta_text
 unfolding understood everything ledger_schema

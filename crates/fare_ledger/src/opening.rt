@@ -7,7 +7,7 @@ ghost use Rattle.fare_tables.specs.Asking.{IsLive, IsAtRest, SameRows};
 ghost use Rattle.fare_tables.specs.Making.{no_schema, Finds};
 ghost use Rattle.fare_tables.specs.Tabled.{IsFit};
 ghost use Rattle.fare_ledger.specs.Tables.{ledger_schema};
-ghost use Rattle.fare_ledger.specs.Opening.{IsMetaRow, AreMeta, HoldsMeta, Settles};
+ghost use Rattle.fare_ledger.specs.Opening.{IsMetaRow, AreMeta, IsOurs, IsBlankOrOurs, Settles};
 ghost use Rattle.fare_ledger.specs.Words.{IsLawful, value_at, stands};
 
 use crate::SqlLedger;
@@ -73,7 +73,7 @@ fn are_meta(rows: &[Row], owner: OwnerId) -> bool
 
 // Whether `meta` holds its one row.
 fn has_meta<S: Alter>(conn: &mut Connection<S>, owner: OwnerId) -> Result<bool, Fault>
-    ensures meta { HasCleanDisk (state S.Store conn.new) → IfOk result (λ ours. IsTrue ours → HoldsMeta owner (state S.Store conn.old) (state S.Store conn.new)) }
+    ensures meta { HasCleanDisk (state S.Store conn.new) → (state S.Store conn.old).now.schema ≡ ledger_schema → IfOk result (λ ours. IsTrue ours → IsOurs owner (state S.Store conn.old).now.trees) }
     ensures same { IsLive (state S.Store conn.new) → IsAtRest ledger_schema (state S.Store conn.old) → SameRows (state S.Store conn.old) (state S.Store conn.new) }
     ensures live { IsLive (state S.Store conn.new) → IsLive (state S.Store conn.old) }
     ensures stays { HasCleanDisk (state S.Store conn.new) → OnOk result (IsTrue (state S.Store conn.new).is_open) }
@@ -109,6 +109,7 @@ fn settle<S: Alter>(conn: &mut Connection<S>, found: Found, owner: OwnerId) -> R
     requires idle { conn.old.in_transaction ≡ false }
     requires found { Finds (state S.Store conn.old).now.schema ledger_schema found }
     ensures opens { IsLive (state S.Store conn.new) → IfOk result (λ ours. IsTrue ours → Settles owner (state S.Store conn.old) (state S.Store conn.new)) }
+    ensures ours { IsLive (state S.Store conn.new) → IfOk result (λ ours. IsTrue ours → IsBlankOrOurs owner (state S.Store conn.old)) }
     ensures refused { IsLive (state S.Store conn.new) → (state S.Store conn.old).now ≡ (state S.Store conn.old).committed → IfOk result (λ ours. ours ≡ false → SameRows (state S.Store conn.old) (state S.Store conn.new)) }
     ensures foreign { IfOk result (λ ours. ours ≡ false → (state S.Store conn.old).now.schema ≢ no_schema) }
     ensures failed { IsLive (state S.Store conn.new) → (state S.Store conn.old).now ≡ (state S.Store conn.old).committed → OnErr result (SameRows (state S.Store conn.old) (state S.Store conn.new)) }
@@ -142,6 +143,7 @@ impl<S: Alter> SqlLedger<S> {
         ensures scheme { IfOk result (λ l. IsOfScheme scheme.now (stands S.Store l).value) }
         ensures made { IfOk result (λ l. (stands S.Store l).live → (state S.Store conn).now.schema ≡ no_schema → (stands S.Store l).lawful × IsEmptyLedger (stands S.Store l).value) }
         ensures kept { IfOk result (λ l. (stands S.Store l).live → IsFit ledger_schema (IsLawful owner scheme.now.start) (state S.Store conn) → (stands S.Store l).lawful × ((stands S.Store l).value ≡ value_at owner scheme.now.start (stands S.Store l).value.knows (state S.Store conn).now.trees)) }
+        ensures ours { IfOk result (λ l. (stands S.Store l).live → IsBlankOrOurs owner (state S.Store conn)) }
         ensures failures { IfOk result (λ l. (stands S.Store l).failures ≡ 0) }
         ensures foreign { IfErr result (λ e. e.1 ≡ LedgerOpenFault.Foreign → (state S.Store conn).now.schema ≢ no_schema) }
         ensures refused { IfErr result (λ e. IsLive (state S.Store e.0) → (state S.Store conn).now ≡ (state S.Store conn).committed → SameRows (state S.Store conn) (state S.Store e.0)) }

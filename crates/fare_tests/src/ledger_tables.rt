@@ -57,16 +57,14 @@ fn refusal(
     Some((fault, rows))
 }
 
-// How many of these calls, from the first on, the ledger answers so.
-fn answered(ledger: &mut SqlLedger<MemStore>, calls: &[(Call, Answer)]) -> usize {
-    let mut count = 0;
+// Whether the ledger answers these calls so, one after the other.
+fn says(ledger: &mut SqlLedger<MemStore>, calls: &[(Call, Answer)]) -> bool {
     for (call, want) in calls {
         if answer_to(ledger, *call) != Some(*want) {
-            return count;
+            return false;
         }
-        count += 1;
     }
-    count
+    true
 }
 
 #[test]
@@ -81,7 +79,7 @@ fn a_ledger_in_tables_takes_each_next_tap(rt: HostRuntime) {
         (Call::Empty, Answer::Empty(Ok(false))),
     ];
     let mut ledger = ledger(rt.alloc(), ["", ""]).expect(&rt, "ledger");
-    assert_eq!(rt; answered(&mut ledger, &calls), calls.len());
+    assert_eq!(rt; says(&mut ledger, &calls), true);
     assert_eq!(rt; Some(ledger.owner()), OwnerId::new(1));
 }
 
@@ -110,7 +108,7 @@ fn a_ledger_in_tables_closes_a_day_where_the_counts_agree(rt: HostRuntime) {
         (Call::Count, Answer::Number(Ok(1))),
     ];
     let mut ledger = ledger(rt.alloc(), ["", ""]).expect(&rt, "ledger");
-    assert_eq!(rt; answered(&mut ledger, &calls), calls.len());
+    assert_eq!(rt; says(&mut ledger, &calls), true);
 }
 
 // The first and the last lane number of the taps of some days, in their order, and how many these are.
@@ -152,7 +150,7 @@ fn a_ledger_takes_its_own_tables(rt: HostRuntime) {
 INSERT INTO tap VALUES (1, 1, 1, 1, 77, 1704100000, 19723), (1, 2, 2, 1, 77, 1704186400, 19724);
 INSERT INTO stated VALUES (1, 19723, 1)";
     let mut ledger = ledger(rt.alloc(), [TABLES, rows]).expect(&rt, "ledger");
-    assert_eq!(rt; answered(&mut ledger, &calls), calls.len());
+    assert_eq!(rt; says(&mut ledger, &calls), true);
 }
 
 #[test]
@@ -169,7 +167,7 @@ fn a_row_past_its_limits_fails_a_ledger(rt: HostRuntime) {
     let rows = "INSERT INTO meta VALUES (1, 1); INSERT INTO lane VALUES (1, 1099511627776, 0);
 INSERT INTO stated VALUES (1, 19723, 1099511627776)";
     let mut ledger = ledger(rt.alloc(), [TABLES, rows]).expect(&rt, "ledger");
-    assert_eq!(rt; answered(&mut ledger, &calls), calls.len());
+    assert_eq!(rt; says(&mut ledger, &calls), true);
 }
 
 #[test]
@@ -221,7 +219,7 @@ fn a_ledger_in_tables_is_of_an_owner_of_the_scheme(rt: HostRuntime) {
 /// A ledger over two disks in memory that fail after some calls.
 type Burning = SqlLedger<FileStore<Fuse<Memory>>>;
 
-fn opened<S: Alter>(alloc: Global, conn: Connection<S>) -> Option<SqlLedger<S>> {
+fn opened<S: Alter + Drop>(alloc: Global, conn: Connection<S>) -> Option<SqlLedger<S>> {
     SqlLedger::open(alloc, &scheme(alloc)?, OwnerId::new(1)?, conn).ok()
 }
 
