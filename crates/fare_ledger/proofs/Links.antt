@@ -97,9 +97,6 @@ abbrev pub IsPut : Trees → Trees → ℕ → ℕ → ℕ → Type 0
 IsPut db next d k c =
     ((next 1 ≡ put_row (lane_row d k c) (db 1)) ⊎ (next 1 ≡ put_row (lane_row d k c) (without_rowid (pos d) (db 1)))) × (next 0 ≡ db 0) × (next 2 ≡ db 2) × (next 4 ≡ db 4)
 
-new_row : (d k c : ℕ) → cast_row (lane_table 1) (lane_row d k c) ≡ lane_row d k c
-new_row d k c = simp (cast_int, cast_null)
-
 module _ (limit : Option ℕ) (keys : Keys) (d k c : ℕ) where
   abbrev pub task : Task
   task = record { limit = limit; keys = keys; schema = ledger_schema; table = lane_table 1; params = int d ∷ int k ∷ int c ∷ [] }

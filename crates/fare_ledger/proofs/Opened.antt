@@ -1,16 +1,14 @@
 -- What an open finds, and what it makes.
 use Rattle.std.proofs.Common.{◌≡◌, ◌≢◌, ℕ, Bool, false, [], map, length, Result, Ok, Err, IfOk, IsTrue, sym, ap, subst, ◌∙◌, arith}
 use Rattle.sqlite.specs.Schema.{Schema}
-use Rattle.sqlite.specs.Effect.{Database}
 use Rattle.sqlite.specs.State.{State}
 use Rattle.fare_store.specs.LedgerWords.{IsEmptyLedger}
 use Rattle.fare_tables.specs.Asking.{IsAtRest, SameRows}
 use Rattle.fare_tables.specs.Cells.{AreRows, held}
 use Rattle.fare_tables.specs.Making.{no_schema}
 use Rattle.fare_tables.specs.Tabled.{IsFit}
-use Rattle.fare_tables.proofs.Steps.{same_fit}
 use Rattle.fare_ledger.specs.Tables.{ledger_schema}
-use Rattle.fare_ledger.specs.Held.{IsReady, IsLane, IsTap, IsStated, lane_of, tap_of, stated_of, stated_in, held_of}
+use Rattle.fare_ledger.specs.Held.{IsLane, IsTap, IsStated, lane_of, tap_of, stated_of, stated_in, held_of}
 use Rattle.fare_ledger.specs.Making.{IsNew}
 use Rattle.fare_ledger.specs.Opening.{Settles}
 use Rattle.fare_ledger.specs.Words.{taken_in, value_at, AreNext, AreApart, IsLawful}
@@ -48,12 +46,6 @@ new_fits o start known new it =
         closed = λ d. ap (λ l. l.closed) (none d);
       },
     )
-
-pub kept_ready : (o start : ℕ) (old : State) → IsFit ledger_schema (IsLawful o start) old → IsReady old
-kept_ready o start old fit = record { rest = fit.rest; fits = fit.fits.readable }
-
-pub kept_fits : (o start : ℕ) (known : ℕ → Bool) (old new : State) → IsFit ledger_schema (IsLawful o start) old → SameRows old new → IsFit ledger_schema (IsLawful o start) new × (value_at o start known new.now.trees ≡ value_at o start known old.now.trees)
-kept_fits o start known old new fit same = (same_fit ledger_schema (value_at o start known) (IsLawful o start) old new same fit, ap (λ (d : Database). value_at o start known d.trees) same.0)
 
 -- the tables are a ledger's already
 pub ours : {E : Type 0} (owner : ℕ) (old new : State) (r : Result Bool E) → old.now.schema ≡ ledger_schema → (IsAtRest ledger_schema old → SameRows old new) → IfOk r (λ found. IsTrue found → Settles owner old new)
