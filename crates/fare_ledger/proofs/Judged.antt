@@ -27,7 +27,21 @@ read_next a b c Q first second = says a c None _ _ (λ v. ⊥) (λ v. ⊥) (λ l
 pub read_more : (a b c : Standing LedgerValue) (P Q : LedgerValue → Type 0) → Calls a b None ((b.value ≡ a.value) × P a.value) (λ v. ⊥) → Calls b c None ((c.value ≡ b.value) × Q b.value) (λ v. ⊥) → Calls a c None ((c.value ≡ a.value) × (P a.value × Q a.value)) (λ v. ⊥)
 read_more a b c P Q first second = says a c None _ _ (λ v. ⊥) (λ v. ⊥) (λ lawful p. (p.0, (p.1.1, subst Q p.1.0 p.1.2))) (λ v none. none) (read_then a b c (P a.value) (Q b.value) None first second)
 
+-- a call that only looks at what never changes
+pub looks : (a : Standing LedgerValue) (P : Type 0) → P → Calls a a None ((a.value ≡ a.value) × P) (λ v. ⊥)
+looks a P is = record {
+  value = λ live lawful. (lawful, (refl, is));
+  stop = λ clean lawful v leaves. inl leaves;
+  clean = λ clean. clean;
+  live = λ live. live;
+  stays = λ e live clean. live;
+  cause = refl;
+}
+
 -- ---- a tap
+
+pub tap_of_another : (v : LedgerValue) (r : RecordValue) (mine : Bool) → mine ≡ is_mine v r.owner r.device → mine ≡ false → take_judged v r ≡ Err tap.NotMine
+tap_of_another v r mine is not = ap (λ b. tap_judged b (length (v.taken r.device)) (is_closed v r.device r.tap.day) r.lane) (sym is ∙ not)
 
 pub tap_answer : (v : LedgerValue) (r : RecordValue) (lane : Lane) (mine closed : Bool) → mine ≡ is_mine v r.owner r.device → closed ≡ (nat_le v.start r.tap.day && nat_lt r.tap.day (v.start + lane.closed)) → HasNumbers v r.device lane
     → tap_judged mine lane.taken closed r.lane ≡ take_judged v r
@@ -74,6 +88,9 @@ may_take v r closed judged =
     record { mine = owned v r.owner r.device it.mine_is; next = it.next; open_day = it.open_is; closed_is = judged.1 }
 
 -- ---- a statement
+
+pub statement_of_another : (v : LedgerValue) (s : StatementValue) (mine : Bool) → mine ≡ is_mine v s.owner s.device → mine ≡ false → ◌≡◌ {A = Result Unit StatementFault} (Err said.NotMine) (state_judged v s)
+statement_of_another v s mine is not = sym (ap (λ b. statement_judged b (v.stated s.device s.day) s.count) (sym is ∙ not))
 
 pub state_answer : (a d : Standing LedgerValue) (s : StatementValue) (mine : Bool) (held : Option ℕ) (answer : Result Unit StatementFault) → mine ≡ is_mine a.value s.owner s.device → answer ≡ statement_judged mine held s.count
     → Calls a d None ((d.value ≡ a.value) × (held ≡ a.value.stated s.device s.day)) (λ v. ⊥) → Calls a d None ((d.value ≡ a.value) × (answer ≡ state_judged a.value s)) (λ v. ⊥)

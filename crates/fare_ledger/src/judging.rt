@@ -18,10 +18,13 @@ impl<S: Alter> SqlLedger<S> {
     // What is answered to a tap before it is taken; if it may be, how many days of its device are closed.
     pub(crate) fn judge_take(&mut self, row: &Record) -> Result<Result<u64, TapFault>, Fault>
         ensures does { Reads (stands S.Store self.old) (stands S.Store self.new) (JudgesTap (stands S.Store self.old).value row.now) result }
-        ensures up { OnOk result (IsUp (state S.Store self.new.conn)) }
+        ensures up { IfOk result (λ judged. OnOk judged (IsUp (state S.Store self.new.conn))) }
         ensures low { IfOk result (λ judged. IfOk judged (λ closed. closed ≤ 100001)) }
     {
         let mine = self.is_mine(row.owner(), row.device());
+        if !mine {
+            return Ok(Err(TapFault::NotMine));
+        }
         let start = self.start;
         self.begin()?;
         let lane = self.numbers_of(row.device())?;
@@ -38,9 +41,12 @@ impl<S: Alter> SqlLedger<S> {
         statement: &Statement,
     ) -> Result<Result<(), StatementFault>, Fault>
         ensures does { Reads (stands S.Store self.old) (stands S.Store self.new) (λ judged. judged ≡ state_judged (stands S.Store self.old).value statement.now) result }
-        ensures up { OnOk result (IsUp (state S.Store self.new.conn)) }
+        ensures up { IfOk result (λ judged. OnOk judged (IsUp (state S.Store self.new.conn))) }
     {
         let mine = self.is_mine(statement.owner(), statement.device());
+        if !mine {
+            return Ok(Err(StatementFault::NotMine));
+        }
         self.begin()?;
         let held = self.stated_of(statement.device(), statement.day())?;
         Ok(judge_statement(mine, held, statement.count()))

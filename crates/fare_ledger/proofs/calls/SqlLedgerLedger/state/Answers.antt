@@ -1,4 +1,4 @@
-use Rattle.std.proofs.Common.{◌≡◌, Some, None, Ok, Result, sym, ap, subst, ◌∙◌}
+use Rattle.std.proofs.Common.{◌≡◌, Some, None, Ok, Err, Result, sym, ap, subst, ◌∙◌}
 use Rattle.fare_store.specs.Standing.{Calls}
 use Rattle.fare_tables.specs.Tabled.{given}
 use Rattle.fare_tables.proofs.Steps.{says, given_more, write_then}
@@ -38,3 +38,11 @@ returns-in-Err-put_statement g c =
     (write_then a b d P (d.value ≡ b.value) (Some c.in-Err-put_statement.fault) (λ v. v ≡ with_statement r b.value) (λ v. v ≡ with_statement r a.value)
     (λ p v is. is ∙ ap (with_statement r) p.0) first
     (given_more b d _ _ _ (Some _) _ (λ p. subst (λ (v : LedgerValue). v.stated r.device r.day ≡ None) (sym p.0) (may_state a.value r p.1)) second))
+
+pub returns-in-Ok-Err : goal.returns-in-Ok-Err
+returns-in-Ok-Err g c =
+    let a = stands g.S.Store c.args.self.now in
+    let b = stands g.S.Store c.judge_state.new.self in
+    let r = c.args.statement.now in
+    let first : Calls a b None ((b.value ≡ a.value) × (◌≡◌ {A = Result Unit StatementFault} (Err c.in-Ok-Err.why) (state_judged a.value r))) (λ v. ⊥) = rw c.in-Ok-Err.field-0-is at c.in-Ok-Err.ensures.does in
+    says a b None _ _ (λ v. ⊥) _ (λ lawful p. (sym p.1, p.0)) (λ v none. absurd none) first

@@ -1,8 +1,8 @@
-use Rattle.std.proofs.Common.{◌≡◌, Some, None, Ok, sym, ap, subst, ◌∙◌}
+use Rattle.std.proofs.Common.{◌≡◌, Some, None, Ok, Err, sym, ap, subst, ◌∙◌}
 use Rattle.fare_store.specs.Standing.{Calls}
 use Rattle.fare_tables.specs.Tabled.{given}
 use Rattle.fare_tables.proofs.Steps.{says, given_more, write_then}
-use Rattle.fare_store.specs.LedgerWords.{LedgerValue, took}
+use Rattle.fare_store.specs.LedgerWords.{LedgerValue, take_judged, took}
 use Rattle.fare_ledger.specs.Words.{stands, JudgesTap, MayTake}
 use Rattle.fare_ledger.proofs.Judged.{may_take}
 use Rattle.fare_ledger.proofs.calls.SqlLedgerLedger.take.Goals as goal
@@ -37,3 +37,11 @@ returns-in-Err-put_tap g c =
     (write_then a b d P (d.value ≡ b.value) (Some c.in-Err-put_tap.fault) (λ v. v ≡ took r b.value) (λ v. v ≡ took r a.value)
     (λ p v is. is ∙ ap (took r) p.0) first
     (given_more b d _ _ _ (Some _) _ (λ p. subst (λ (v : LedgerValue). MayTake v r c.in-Ok-Ok.closed) (sym p.0) (may_take a.value r c.in-Ok-Ok.closed p.1)) second))
+
+pub returns-in-Ok-Err : goal.returns-in-Ok-Err
+returns-in-Ok-Err g c =
+    let a = stands g.S.Store c.args.self.now in
+    let b = stands g.S.Store c.judge_take.new.self in
+    let r = c.args.row.now in
+    let first : Calls a b None ((b.value ≡ a.value) × (take_judged a.value r ≡ Err c.in-Ok-Err.why)) (λ v. ⊥) = rw c.in-Ok-Err.field-0-is at c.in-Ok-Err.ensures.does in
+    says a b None _ _ (λ v. ⊥) _ (λ lawful p. (p.1, p.0)) (λ v none. absurd none) first
