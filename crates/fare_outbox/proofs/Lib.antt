@@ -11,3 +11,4 @@ pub mod Stored
 pub mod Seen
 pub mod Judged
 pub mod Opened
+pub mod Meta

@@ -98,9 +98,6 @@ abbrev pub IsPut : Trees → Trees → ℕ → ℕ → Type 0
 IsPut db next d u =
     ((next 1 ≡ put_row (device_row d u) (db 1)) ⊎ (next 1 ≡ put_row (device_row d u) (without_rowid (pos d) (db 1)))) × (next 0 ≡ db 0) × (next 2 ≡ db 2) × (next 5 ≡ db 5)
 
-new_row : (d u : ℕ) → cast_row (device_table 1) (device_row d u) ≡ device_row d u
-new_row d u = simp (cast_int, cast_null)
-
 module _ (limit : Option ℕ) (keys : Keys) (d u : ℕ) where
   abbrev pub task : Task
   task = record { limit = limit; keys = keys; schema = outbox_schema; table = device_table 1; params = int d ∷ int u ∷ [] }

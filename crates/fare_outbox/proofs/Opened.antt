@@ -3,19 +3,17 @@ use Rattle.std.proofs.Common.{◌≡◌, ◌≢◌, ℕ, List, [], map, length, 
 use Rattle.std.specs.Prelude.{IfSome}
 use Rattle.std.specs.List.{AllByRecursion}
 use Rattle.sqlite.specs.Schema.{Schema}
-use Rattle.sqlite.specs.Effect.{Database}
 use Rattle.sqlite.specs.State.{State}
 use Rattle.fare_store.specs.OutboxWords.{IsEmptyOutbox}
 use Rattle.fare_tables.specs.Asking.{IsAtRest, SameRows}
 use Rattle.fare_tables.specs.Cells.{AreRows, held}
 use Rattle.fare_tables.specs.Making.{no_schema}
 use Rattle.fare_tables.specs.Tabled.{IsFit}
-use Rattle.fare_tables.proofs.Steps.{same_fit}
 use Rattle.fare_outbox.specs.Tables.{outbox_schema}
 use Rattle.fare_outbox.specs.Held.{IsReady, IsDevice, IsTap, IsStated, upto_of, tap_of, stated_of, held_of}
 use Rattle.fare_outbox.specs.Making.{IsNew}
 use Rattle.fare_outbox.specs.Opening.{IsCounted, Settles}
-use Rattle.fare_outbox.specs.Words.{tap_key, stated_key, first_at, itself, count_of, value_at, AreApart, IsKnown, IsLawful, IsWell}
+use Rattle.fare_outbox.specs.Words.{tap_key, stated_key, first_at, itself, count_of, value_at, AreApart, IsKnown, IsWell}
 
 -- no schema is both
 pub not_both : ¬ (no_schema ≡ outbox_schema)
@@ -60,15 +58,6 @@ new_fits new rows statements it =
         stated_count = ap length said;
       },
     )
-
-pub kept_ready : (old : State) → IsFit outbox_schema IsLawful old → IsReady old
-kept_ready old fit = record { rest = fit.rest; fits = fit.fits.readable }
-
-pub kept_fits : (old new : State) (rows statements : ℕ) → IsFit outbox_schema IsLawful old → SameRows old new × IsCounted old.now.trees rows statements → IsFit outbox_schema (IsWell rows statements) new × (value_at new.now.trees ≡ value_at old.now.trees)
-kept_fits old new rows statements fit it = (
-  same_fit outbox_schema value_at (IsWell rows statements) old new it.0 (record { rest = fit.rest; fits = record { lawful = fit.fits; rows_are = it.1.rows_are; statements_are = it.1.statements_are } }),
-  ap (λ (d : Database). value_at d.trees) it.0.0,
-)
 
 -- the tables are an outbox's already
 pub ours : (old new : State) {E : Type 0} (r : Result (Option (ℕ × ℕ)) E) → old.now.schema ≡ outbox_schema → (IsReady old → IfOk r (λ found. IfSome found (λ n. IsCounted old.now.trees n.0 n.1))) → (IsAtRest outbox_schema old → SameRows old new)

@@ -12,7 +12,7 @@ use Rattle.sqlite_schema.specs.declared.command.Conflict.TheVariants.{Abort}
 use Rattle.fare_tables.specs.Asking.{Reads}
 use Rattle.fare_tables.specs.Making.{Defines, no_schema}
 use Rattle.fare_tables.specs.Queries.{count_query, meta_table}
-use Rattle.fare_outbox.specs.Tables.{one_table, two_tables, three_tables, outbox_schema, device_table, tap_table, stated_table, link_query, row_query, day_query, cut_query, renew_query, seen_terms}
+use Rattle.fare_outbox.specs.Tables.{one_table, two_tables, three_tables, outbox_schema, device_table, tap_table, stated_table, meta_query, link_query, row_query, day_query, cut_query, renew_query, seen_terms}
 
 -- TABLES
 abbrev pub meta_text : List ℕ
@@ -152,6 +152,14 @@ seen_unlisted = refl
 
 abbrev pub meta_asked_text : List ℕ
 meta_asked_text = codes "SELECT format, owner FROM meta"
+
+pub meta_asked : command_of (understood outbox_schema meta_asked_text) ≡ Select (record { lets = []; body = meta_query }) (codes "format" ∷ codes "owner" ∷ [])
+unfolding understood everything outbox_schema
+meta_asked = refl
+
+pub meta_unlisted : reads_listing outbox_schema meta_asked_text ≡ false
+unfolding understood everything outbox_schema
+meta_unlisted = refl
 
 pub meta_reads : Reads outbox_schema meta_asked_text
 unfolding understood everything outbox_schema

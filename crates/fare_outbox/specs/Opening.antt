@@ -1,11 +1,12 @@
 -- What an open finds in a database, and what it makes of it.
-use Rattle.std.specs.Prelude.{◌≡◌, ℕ, pos, List, [], ◌∷◌, length, codes}
+use Rattle.std.specs.Prelude.{◌≡◌, ◌⊎◌, ℕ, pos, List, [], ◌∷◌, length}
 use Rattle.sqlite.specs.declared.types.Value.TheVariants.{Int}
 use Rattle.sqlite_value.specs.Order.{Row, column}
 use Rattle.sqlite.specs.Tree.{Trees}
-use Rattle.sqlite.specs.State.{State, Shown}
+use Rattle.sqlite.specs.State.{State}
 use Rattle.fare_tables.specs.Asking.{SameRows}
 use Rattle.fare_tables.specs.Making.{no_schema}
+use Rattle.fare_outbox.specs.Tables.{outbox_schema}
 use Rattle.fare_outbox.specs.Held.{IsReady, held_of}
 use Rattle.fare_outbox.specs.Making.{IsNew}
 
@@ -19,9 +20,16 @@ AreMeta [] = ⊥
 AreMeta (row ∷ []) = IsMetaRow row
 AreMeta (row ∷ more ∷ rest) = ⊥
 
--- meta shows it
-abbrev pub HoldsMeta : State → State → Type 0
-HoldsMeta old new = (rows : List Row) × Shown (codes "SELECT format, owner FROM meta") [] old new rows × AreMeta rows
+-- meta holds that row alone
+pub record IsOurs (trees : Trees) : Type 0 where
+  pub row : Row
+  pub only : trees 0 ≡ row ∷ []
+  pub format_is : column row 1 ≡ Int (pos 1)
+  pub owner_is : column row 2 ≡ Int (pos 0)
+
+-- a database has no table, or an outbox's tables with its row of meta
+abbrev pub IsBlankOrOurs : State → Type 0
+IsBlankOrOurs s = (s.now.schema ≡ no_schema) ⊎ ((s.now.schema ≡ outbox_schema) × IsOurs s.now.trees)
 
 pub record IsCounted (trees : Trees) (rows statements : ℕ) : Type 0 where
   pub rows_are : rows ≡ length (held_of trees).taps

@@ -8,7 +8,7 @@ ghost use Rattle.fare_outbox.specs.Tables.{outbox_schema};
 ghost use Rattle.fare_store.specs.OutboxWords.{IsEmptyOutbox};
 ghost use Rattle.fare_tables.specs.Tabled.{IsFit};
 ghost use Rattle.fare_outbox.specs.Held.{IsReady};
-ghost use Rattle.fare_outbox.specs.Opening.{IsMetaRow, AreMeta, HoldsMeta, IsCounted, Settles};
+ghost use Rattle.fare_outbox.specs.Opening.{IsMetaRow, AreMeta, IsOurs, IsBlankOrOurs, IsCounted, Settles};
 ghost use Rattle.fare_outbox.specs.Words.{IsLawful, value_at, stands};
 
 use crate::SqlOutbox;
@@ -58,7 +58,7 @@ fn are_meta(rows: &[Row]) -> bool
 
 // Whether `meta` holds its one row.
 fn has_meta<S: Alter>(conn: &mut Connection<S>) -> Result<bool, Fault>
-    ensures meta { HasCleanDisk (state S.Store conn.new) → IfOk result (λ ours. IsTrue ours → HoldsMeta (state S.Store conn.old) (state S.Store conn.new)) }
+    ensures meta { HasCleanDisk (state S.Store conn.new) → (state S.Store conn.old).now.schema ≡ outbox_schema → IfOk result (λ ours. IsTrue ours → IsOurs (state S.Store conn.old).now.trees) }
     ensures same { IsLive (state S.Store conn.new) → IsAtRest outbox_schema (state S.Store conn.old) → SameRows (state S.Store conn.old) (state S.Store conn.new) }
     ensures live { IsLive (state S.Store conn.new) → IsLive (state S.Store conn.old) }
     ensures stays { HasCleanDisk (state S.Store conn.new) → OnOk result (IsTrue (state S.Store conn.new).is_open) }
@@ -92,6 +92,7 @@ fn look<S: Alter>(conn: &Connection<S>, alloc: Global) -> Result<Found, Fault>
 // How many taps and how many statements the tables of an outbox hold, if its meta is right.
 fn counts<S: Alter>(conn: &mut Connection<S>) -> Result<Option<(u64, u64)>, Fault>
     ensures counted { IsLive (state S.Store conn.new) → IsReady (state S.Store conn.old) → IfOk result (λ found. IfSome found (λ n. IsCounted (state S.Store conn.old).now.trees n.0 n.1)) }
+    ensures ours { IsLive (state S.Store conn.new) → (state S.Store conn.old).now.schema ≡ outbox_schema → IfOk result (λ found. IfSome found (λ n. IsOurs (state S.Store conn.old).now.trees)) }
     ensures same { IsLive (state S.Store conn.new) → IsAtRest outbox_schema (state S.Store conn.old) → SameRows (state S.Store conn.old) (state S.Store conn.new) }
     ensures live { IsLive (state S.Store conn.new) → IsLive (state S.Store conn.old) }
     ensures mode { conn.old.in_transaction ≡ false → conn.new.in_transaction ≡ false }
@@ -109,6 +110,7 @@ fn settle<S: Alter>(conn: &mut Connection<S>, found: Found) -> Result<Option<(u6
     requires idle { conn.old.in_transaction ≡ false }
     requires found { Finds (state S.Store conn.old).now.schema outbox_schema found }
     ensures opens { IsLive (state S.Store conn.new) → IfOk result (λ found. IfSome found (λ n. Settles (state S.Store conn.old) (state S.Store conn.new) n.0 n.1)) }
+    ensures ours { IsLive (state S.Store conn.new) → IfOk result (λ found. IfSome found (λ n. IsBlankOrOurs (state S.Store conn.old))) }
     ensures refused { IsLive (state S.Store conn.new) → (state S.Store conn.old).now ≡ (state S.Store conn.old).committed → IfOk result (λ found. found ≡ None → SameRows (state S.Store conn.old) (state S.Store conn.new)) }
     ensures foreign { IfOk result (λ found. found ≡ None → (state S.Store conn.old).now.schema ≢ no_schema) }
     ensures failed { IsLive (state S.Store conn.new) → (state S.Store conn.old).now ≡ (state S.Store conn.old).committed → OnErr result (SameRows (state S.Store conn.old) (state S.Store conn.new)) }
@@ -134,6 +136,7 @@ impl<S: Alter> SqlOutbox<S> {
     ) -> Result<SqlOutbox<S>, (Connection<S>, OpenFault)>
         ensures made { IfOk result (λ o. (stands S.Store o).live → (state S.Store conn).now.schema ≡ no_schema → (stands S.Store o).lawful × IsEmptyOutbox (stands S.Store o).value) }
         ensures kept { IfOk result (λ o. (stands S.Store o).live → IsFit outbox_schema IsLawful (state S.Store conn) → (stands S.Store o).lawful × ((stands S.Store o).value ≡ value_at (state S.Store conn).now.trees)) }
+        ensures ours { IfOk result (λ o. (stands S.Store o).live → IsBlankOrOurs (state S.Store conn)) }
         ensures failures { IfOk result (λ o. (stands S.Store o).failures ≡ 0) }
         ensures foreign { IfErr result (λ e. e.1 ≡ OpenFault.Foreign → (state S.Store conn).now.schema ≢ no_schema) }
         ensures refused { IfErr result (λ e. IsLive (state S.Store e.0) → (state S.Store conn).now ≡ (state S.Store conn).committed → SameRows (state S.Store conn) (state S.Store e.0)) }

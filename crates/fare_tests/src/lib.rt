@@ -22,6 +22,8 @@ mod inbox_queue;
 #[cfg(test)]
 mod lane_queue;
 #[cfg(test)]
+mod ledger_tables;
+#[cfg(test)]
 mod lines;
 #[cfg(test)]
 mod link;

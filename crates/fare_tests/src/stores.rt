@@ -205,7 +205,7 @@ fn an_outbox_fails_at_one_call(rt: HostRuntime) {
 
 /// A call on a ledger, for device 1 and day 19723.
 #[derive(Clone, Copy)]
-enum Call {
+pub(crate) enum Call {
     /// Whether it is empty.
     Empty,
     /// How many taps it has taken.
@@ -228,7 +228,7 @@ enum Call {
 
 /// What it answers.
 #[derive(Clone, Copy, PartialEq, Eq, Debug)]
-enum Answer {
+pub(crate) enum Answer {
     Empty(Result<bool, Fault>),
     Number(Result<u64, Fault>),
     Maybe(Result<Option<u64>, Fault>),
@@ -281,7 +281,7 @@ fn between(alloc: Global, from: u64, to: u64) -> Option<(Option<u64>, Option<u64
     Some((first.map(Record::lane), last.map(Record::lane), taps.len()))
 }
 
-fn answer_to<L: Ledger>(ledger: &mut L, call: Call) -> Option<Answer> {
+pub(crate) fn answer_to<L: Ledger>(ledger: &mut L, call: Call) -> Option<Answer> {
     let (device, day) = (device()?, Day::new(19_723)?);
     match call {
         Call::Empty => Some(Answer::Empty(ledger.is_empty())),
@@ -304,11 +304,11 @@ fn answers(rt: &impl Abort, alloc: Global, calls: &[(Call, Answer)]) {
     }
 }
 
-fn untaken(why: TapFault) -> Answer {
+pub(crate) fn untaken(why: TapFault) -> Answer {
     Answer::Taken(Err(Refused::Because(why)))
 }
 
-fn unclosed(why: CloseFault) -> Answer {
+pub(crate) fn unclosed(why: CloseFault) -> Answer {
     Answer::Closed(Err(Refused::Because(why)))
 }
 

@@ -1,8 +1,9 @@
-use Rattle.std.proofs.Common.{refl, sym, ◌∙◌}
+use Rattle.std.proofs.Common.{inl, refl, sym, ◌∙◌}
 use Rattle.sqlite.specs.Held.{state}
 use Rattle.fare_tables.specs.Making.{Finds}
 use Rattle.fare_tables.specs.declared.opening.Found.TheVariants.{Blank, Ours}
 use Rattle.fare_outbox.specs.Tables.{outbox_schema}
+use Rattle.fare_outbox.proofs.Meta.{ours_too}
 use Rattle.fare_outbox.proofs.Opened.{not_both, not_blank, ours}
 use Rattle.fare_outbox.proofs.opening.settle.Goals as goal
 
@@ -23,3 +24,13 @@ pub returns-in-Ours-clause-foreign : goal.returns-in-Ours-clause-foreign
 returns-in-Ours-clause-foreign g c =
     let it : Finds (state g.S.Store c.args.conn.now).now.schema outbox_schema Ours = rw c.in-Ours.is at c.requires.found in
     not_blank (state g.S.Store c.args.conn.now) c.counts.result it
+
+pub returns-in_ok-make_outbox-in-Blank-clause-ours : goal.returns-in_ok-make_outbox-in-Blank-clause-ours
+returns-in_ok-make_outbox-in-Blank-clause-ours g c live =
+    let it : Finds (state g.S.Store c.args.conn.now).now.schema outbox_schema Blank = rw c.in-Blank.is at c.requires.found in
+    inl it
+
+pub returns-in-Ours-clause-ours : goal.returns-in-Ours-clause-ours
+returns-in-Ours-clause-ours g c live =
+    let it : Finds (state g.S.Store c.args.conn.now).now.schema outbox_schema Ours = rw c.in-Ours.is at c.requires.found in
+    ours_too (state g.S.Store c.args.conn.now) c.counts.result it (c.counts.ensures.ours live it)

@@ -1,0 +1,113 @@
+-- When a ledger is empty, by how many rows its tables have.
+use Rattle.std.proofs.Common.{◌≡◌, ◌⊎◌, inl, inr, ℕ, ◌==◌, ◌<◌, ◌||◌, nat_lt, Bool, true, false, List, [], ◌∷◌, filter, length, None, IsTrue, refl, sym, ap, ◌∙◌, arith}
+use Rattle.std.specs.Prelude.{◌↔◌}
+use Rattle.std.proofs.lemmas.Bool.{cases_Bool}
+use Rattle.std.proofs.lemmas.Bool.Decides.{nat_tests}
+use Rattle.sqlite_value.specs.Order.{Row, column}
+use Rattle.fare_tables.specs.Cells.{nat_in, id_of, AreAbove, AreRows, held, counted}
+use Rattle.fare_store.specs.LedgerWords.{LedgerValue, IsEmptyLedger}
+use Rattle.fare_ledger.specs.Held.{Held, TapRow, IsLane, lane_of, stated_in, is_begun, record_of}
+use Rattle.fare_ledger.specs.Words.{taken_in, value_in, FitTogether, AreUnbegun, AreUntaken, AreUnstated}
+use Rattle.fare_ledger.proofs.Days.{none_stated}
+
+-- no row above a rowid has it
+above_none : (rows : List Row) (n d : ℕ) → AreAbove n rows → (d < n) ⊎ (d ≡ n) → held rows d ≡ None
+above_none [] n d above low = refl
+above_none (r ∷ rows) n d above low =
+    let here = above.0 in
+    let other : (id_of r == d) ≡ false = elim low [
+      | inl less ↦ grind (arith, nat_tests)
+      | inr same ↦ grind (arith, nat_tests)
+    ] in
+    rw other (above_none rows n d above.1 low)
+
+-- both numbers are 0
+abbrev IsNothing : List Row → ℕ → Type 0
+IsNothing rows d = ((lane_of (held rows d)).taken ≡ 0) × ((lane_of (held rows d)).closed ≡ 0)
+
+not_begun : (k c : ℕ) → (nat_lt 0 k || nat_lt 0 c) ≡ false → (k ≡ 0) × (c ≡ 0)
+not_begun k c is = elim (cases_Bool (nat_lt 0 k)) [
+  | inl high ↦ absurd (let e : true ≡ false = rw high at is in cc)
+  | inr low ↦ elim (cases_Bool (nat_lt 0 c)) [
+    | inl high ↦ absurd (let e : true ≡ false = rw (low, high) at is in cc)
+    | inr too ↦ (grind (arith, nat_tests), grind (arith, nat_tests))
+  ]
+]
+
+zero_of_none : (rows : List Row) (d : ℕ) → filter is_begun rows ≡ [] → IsNothing rows d
+zero_of_none [] d none = (refl, refl)
+zero_of_none (r ∷ rows) d none = elim (cases_Bool (is_begun r)) [
+  | inl begun ↦ absurd (let e = rw begun at none in cc)
+  | inr not ↦ elim (cases_Bool (id_of r == d)) [
+    | inl here ↦ rw here (not_begun (nat_in (column r 2)) (nat_in (column r 3)) not)
+    | inr there ↦ rw there (zero_of_none rows d (rw not at none))
+  ]
+]
+
+none_of_zero : (rows : List Row) → AreRows IsLane rows → ((d : ℕ) → IsNothing rows d) → filter is_begun rows ≡ []
+none_of_zero [] ok zero = refl
+none_of_zero (r ∷ rows) ok zero =
+    let itself : (id_of r == id_of r) ≡ true = grind (arith, nat_tests) in
+    let mine : (nat_in (column r 2) ≡ 0) × (nat_in (column r 3) ≡ 0) = rw itself at (zero (id_of r)) in
+    let first : nat_lt 0 (nat_in (column r 2)) ≡ false = let e = mine.0 in grind (arith, nat_tests) in
+    let second : nat_lt 0 (nat_in (column r 3)) ≡ false = let e = mine.1 in grind (arith, nat_tests) in
+    rw (first, second) (none_of_zero rows ok.2 (λ d. elim (cases_Bool (id_of r == d)) [
+      | inl here ↦ (
+          let same : d ≡ id_of r = grind (arith, nat_tests) in
+          let gone = above_none rows (id_of r) d ok.1 (inr same) in
+          (ap (λ o. (lane_of o).taken) gone, ap (λ o. (lane_of o).closed) gone))
+      | inr there ↦ (let e : IsNothing rows d = rw there at (zero d) in e)
+    ]))
+
+length_none : {X : Type 0} (xs : List X) → length xs ≡ 0 → xs ≡ []
+length_none [] is = refl
+length_none (x ∷ xs) is = absurd (omega (arith, is))
+
+-- a count of 0 is exact
+zero_counted : (n size : ℕ) → n ≡ counted size → IsTrue (n == 0) ↔ (size ≡ 0)
+zero_counted n size is = (
+  λ none. (let n_is : n ≡ 0 = grind (arith, nat_tests) in grind (arith, nat_tests)),
+  λ zero. grind (arith, nat_tests),
+)
+
+pub unbegun : (o start : ℕ) (known : ℕ → Bool) (h : Held) (rows : List Row) (n : ℕ) → FitTogether o start h → h.lanes ≡ (λ d. lane_of (held rows d)) → AreRows IsLane rows → n ≡ counted (length (filter is_begun rows)) → IsTrue (n == 0) ↔ AreUnbegun (value_in o start known h)
+unbegun o start known h rows n fit lanes ok is =
+    let zero = zero_counted n (length (filter is_begun rows)) is in (
+      λ none. (
+          let nothing = λ (d : ℕ). zero_of_none rows d (length_none (filter is_begun rows) (zero.0 none)) in
+          record {
+            taken = λ d. length_none (taken_in o h.taps d) (sym (fit.counted d) ∙ ap (λ l. (l d).taken) lanes ∙ (nothing d).0);
+            closed = λ d. ap (λ l. (l d).closed) lanes ∙ (nothing d).1;
+          }),
+      λ empty. zero.1 (ap length (none_of_zero rows ok (λ d. (
+        ap (λ l. (l d).taken) (sym lanes) ∙ fit.counted d ∙ ap length (empty.taken d),
+        ap (λ l. (l d).closed) (sym lanes) ∙ empty.closed d,
+      )))),
+    )
+
+taps_none : (o : ℕ) (taps : List TapRow) → ((d : ℕ) → taken_in o taps d ≡ []) → taps ≡ []
+taps_none o [] none = refl
+taps_none o (t ∷ taps) none = absurd (
+    let own : (t.device == t.device) ≡ true = grind (arith, nat_tests) in
+    let e : record_of o t ∷ taken_in o taps t.device ≡ [] = rw own at (none t.device) in cc)
+
+pub untaken : (o start : ℕ) (known : ℕ → Bool) (h : Held) (n : ℕ) → n ≡ counted (length h.taps) → IsTrue (n == 0) ↔ AreUntaken (value_in o start known h)
+untaken o start known h n is =
+    let zero = zero_counted n (length h.taps) is in (
+      λ none d. ap (λ ts. taken_in o ts d) (length_none h.taps (zero.0 none)),
+      λ empty. zero.1 (ap length (taps_none o h.taps empty)),
+    )
+
+pub unstated : (o start : ℕ) (known : ℕ → Bool) (h : Held) (n : ℕ) → n ≡ counted (length h.statements) → IsTrue (n == 0) ↔ AreUnstated (value_in o start known h)
+unstated o start known h n is =
+    let zero = zero_counted n (length h.statements) is in (
+      λ none d y. ap (λ ss. stated_in ss d y) (length_none h.statements (zero.0 none)),
+      λ empty. zero.1 (ap length (none_stated h.statements empty)),
+    )
+
+-- a ledger is empty where all three tables are
+pub empty_is : (v : LedgerValue) (x y z empty : Bool) → (IsTrue x ↔ AreUnbegun v) → (IsTrue y ↔ AreUntaken v) → (IsTrue z ↔ AreUnstated v) → (IsTrue empty ↔ (IsTrue x × IsTrue y × IsTrue z)) → IsTrue empty ↔ IsEmptyLedger v
+empty_is v x y z empty begun taken stated told = (
+  λ all. (let it = told.0 all in let none = begun.0 it.0 in record { taken = none.taken; stated = stated.0 it.2; closed = none.closed }),
+  λ nothing. told.1 (begun.1 (record { taken = nothing.taken; closed = nothing.closed }), taken.1 nothing.taken, stated.1 nothing.stated),
+)

@@ -1,0 +1,234 @@
+-- What the questions of a ledger find.
+use Rattle.std.proofs.Common.{◌≡◌, ◌⊎◌, inl, inr, ℕ, suc, pos, ◌==◌, ◌<◌, ◌||◌, nat_lt, Bool, true, false, List, [], ◌∷◌, map, filter, length, Option, Some, None, Ok, Err, Result, IfOk, refl, sym, ap, subst, ◌∙◌, arith}
+use Rattle.std.specs.List.{AllByRecursion, flat_map}
+use Rattle.std.specs.List.Sorted.{IsPermutation}
+use Rattle.std.proofs.lemmas.Bool.{cases_Bool}
+use Rattle.std.proofs.lemmas.Bool.Decides.{nat_tests}
+use Rattle.std.proofs.lemmas.List.{length-map}
+use Rattle.sqlite.specs.declared.types.Value.TheVariants.{Null}
+use Rattle.sqlite_value.specs.Order.{Row, column}
+use Rattle.sqlite.specs.Tree.{Trees}
+use Rattle.sqlite.specs.Ops.{binary, is_true, from_truth}
+use Rattle.sqlite_sql.specs.declared.ops.BinaryOp.TheVariants as by
+use Rattle.sqlite_sql.specs.declared.ops.CompareOp.TheVariants as cmp
+use Rattle.sqlite.specs.Collation.TheVariants.{Binary}
+use Rattle.std.specs.Ordering.{is_gt, int_cmp}
+use Rattle.sqlite_value.proofs.OrderLemmas.{value_cmp-Int}
+use Rattle.sqlite.specs.Query.{IsAnswer, matches_as, end, output, page, Output}
+use Rattle.sqlite.specs.Program.{overlay}
+use Rattle.sqlite.specs.State.{State, QueriesRow, Shown}
+use Rattle.sqlite.proofs.Callers.{first_as, reads_as, one_permutation}
+use Rattle.fare_tables.specs.Cells.{nat_in, int, id_of, AreRows, held, counted}
+use Rattle.fare_tables.specs.Queries.{count_query}
+use Rattle.fare_tables.proofs.Lists.{empty_permutation, filter_of_map}
+use Rattle.fare_tables.proofs.Terms.{chosen, matched, eq_holds, one_term, two_terms}
+use Rattle.fare_tables.proofs.Rows.{all_of, held_one}
+use Rattle.fare_tables.proofs.Counting.{found, count_answer}
+use Rattle.fare_ledger.specs.declared.lane.Lane.{Lane}
+use Rattle.fare_ledger.specs.Tables.{ledger_schema, lane_query, stated_terms, stated_query, day_terms, begun_terms}
+use Rattle.fare_ledger.specs.Held.{TapRow, StatedRow, lane_row, IsLane, lane_of, tap_cells, tap_of, IsTap, stated_cells, stated_of, IsStated, is_of, stated_in, is_on, is_begun}
+use Rattle.fare_ledger.specs.Words.{AreApart}
+use Rattle.fare_ledger.proofs.Texts.{lane_text, lane_asked, lane_reads, lane_unlisted, stated_text, stated_asked, stated_reads, stated_unlisted, day_text, day_asked, day_reads, day_unlisted, begun_text, begun_asked, begun_reads, begun_unlisted, taps_text, taps_asked, taps_reads, taps_unlisted, statements_text, statements_asked, statements_reads, statements_unlisted}
+
+pub lane_ids : (r : Row) → IsLane r → column r 0 ≡ int (id_of r)
+lane_ids r ok = ap (λ x. column x 0) ok
+
+pub number_is : {E : Type 0} (r : Result ℕ E) (row : Row) (n : ℕ) → row ≡ int n ∷ [] → IfOk r (λ k. column row 0 ≡ int k) → IfOk r (λ k. k ≡ n)
+number_is (Ok k) row n is h = ap nat_in (sym h ∙ ap (λ r. column r 0) is)
+number_is (Err e) row n is h = tt
+
+-- a count below the greatest integer is exact
+pub exact_is : {E : Type 0} (r : Result ℕ E) (n : ℕ) (row : Row) (size : ℕ) → row ≡ int (counted size) ∷ [] → column row 0 ≡ int n → IfOk r (λ k. (k ≡ n) × (k < 9223372036854775807)) → IfOk r (λ k. k ≡ size)
+exact_is (Ok k) n row size is shown h =
+    let n_is : n ≡ counted size = ap nat_in (sym shown ∙ ap (λ r. column r 0) is) in
+    let low = h.1 in
+    let same = h.0 in
+    grind (arith, nat_tests)
+exact_is (Err e) n row size is shown h = tt
+
+-- ---- the numbers of a device
+
+lane_cell : (id k c d : ℕ) → matches_as Null (λ _. []) lane_query.filter end ((int d ∷ []) ∷ lane_row id k c ∷ []) ≡ chosen (id == d) ((int d ∷ []) ∷ lane_row id k c ∷ [])
+lane_cell id k c d = rw (eq_holds id d) (one_term (id == d) ((int d ∷ []) ∷ lane_row id k c ∷ []))
+
+lane_each : (d : ℕ) (r : Row) → IsLane r → matches_as Null (λ _. []) lane_query.filter end ((int d ∷ []) ∷ r ∷ []) ≡ chosen (id_of r == d) ((int d ∷ []) ∷ r ∷ [])
+lane_each d r ok = subst (λ x. matches_as Null (λ _. []) lane_query.filter end ((int d ∷ []) ∷ x ∷ []) ≡ chosen (id_of x == d) ((int d ∷ []) ∷ x ∷ [])) (sym ok) (lane_cell (id_of r) (nat_in (column r 2)) (nat_in (column r 3)) d)
+
+-- the two numbers in a row
+abbrev pub shown_lane : Lane → Row
+shown_lane lane = int lane.taken ∷ int lane.closed ∷ []
+
+lane_answer : (db : Trees) (d : ℕ) (rows : List Row) → AreRows IsLane (db 1) → IsAnswer lane_query (overlay db []) (int d ∷ []) rows
+    → ((rows ≡ []) × (held (db 1) d ≡ None)) ⊎ (rows ≡ shown_lane (lane_of (held (db 1) d)) ∷ [])
+lane_answer db d rows ok a =
+    let staged : a.staged ≡ map (λ r. (int d ∷ []) ∷ r ∷ []) (filter (λ r. id_of r == d) (db 1)) = a.grouped ∙ matched IsLane (λ r. id_of r == d) (int d ∷ []) lane_query.filter (lane_each d) (db 1) (all_of IsLane (db 1) ok) in
+    let shown : (os : List Output) → a.ordered ≡ os → rows ≡ page lane_query (int d ∷ []) (map (λ (p : Output). p.1) os) = λ os e. a.shown ∙ ap (λ xs. page lane_query (int d ∷ []) (map (λ (p : Output). p.1) xs)) e in
+    elim (held_one IsLane lane_ids (db 1) d ok) [
+      | inl none ↦ (
+          let kept : a.kept ≡ [] = a.distinct ∙ ap (map (output lane_query)) (staged ∙ ap (map (λ r. (int d ∷ []) ∷ r ∷ [])) none.0) in
+          inl (shown [] (empty_permutation a.ordered (subst (λ k. IsPermutation k a.ordered) kept a.same)), none.1))
+      | inr one ↦ (
+          let o : Output = ([], column one.0 2 ∷ column one.0 3 ∷ []) in
+          let kept : a.kept ≡ o ∷ [] = a.distinct ∙ ap (map (output lane_query)) (staged ∙ ap (map (λ r. (int d ∷ []) ∷ r ∷ [])) one.2) in
+          let taken : column one.0 2 ≡ int (lane_of (held (db 1) d)).taken = ap (λ r. column r 2) one.1 ∙ ap (λ h. int (lane_of h).taken) (sym one.3) in
+          let closed : column one.0 3 ≡ int (lane_of (held (db 1) d)).closed = ap (λ r. column r 3) one.1 ∙ ap (λ h. int (lane_of h).closed) (sym one.3) in
+          inr (shown (o ∷ []) (one_permutation o a.ordered (subst (λ k. IsPermutation k a.ordered) kept a.same)) ∙ (λ i. (taken i ∷ closed i ∷ []) ∷ [])))
+    ]
+
+pub lane_row_is : (old new : State) (d : ℕ) (row : Row) → old.now.schema ≡ ledger_schema → AreRows IsLane (old.now.trees 1) → QueriesRow lane_text (int d ∷ []) old new (Ok row) → row ≡ shown_lane (lane_of (held (old.now.trees 1) d))
+lane_row_is old new d row has ok h =
+    let got = (first_as lane_text (int d ∷ []) old new ledger_schema has _ lane_asked lane_reads.0 lane_unlisted row h).1 in
+    let a : IsAnswer lane_query (overlay old.now.trees []) (int d ∷ []) (row ∷ got.0) = got.1 Null in
+    elim (lane_answer old.now.trees d (row ∷ got.0) ok a) [
+      | inl none ↦ absurd (let e = none.0 in cc)
+      | inr one ↦ (let e = one in cc)
+    ]
+
+pub lane_none : (old new : State) (d : ℕ) → old.now.schema ≡ ledger_schema → AreRows IsLane (old.now.trees 1) → Shown lane_text (int d ∷ []) old new [] → held (old.now.trees 1) d ≡ None
+lane_none old new d has ok shown =
+    let read = reads_as lane_text (int d ∷ []) old new ledger_schema has _ lane_asked lane_reads.0 lane_unlisted [] shown in
+    elim (lane_answer old.now.trees d [] ok (read.answer Null)) [
+      | inl none ↦ none.1
+      | inr one ↦ absurd (let e = one in cc)
+    ]
+
+pub lane_read : {E : Type 0} (r : Result Lane E) (row : Row) (lane : Lane) → row ≡ shown_lane lane → IfOk r (λ l. column row 0 ≡ int l.taken) → IfOk r (λ l. column row 1 ≡ int l.closed) → IfOk r (λ l. l ≡ lane)
+lane_read (Ok l) row lane is taken closed =
+    let first : l.taken ≡ lane.taken = ap nat_in (sym taken ∙ ap (λ r. column r 0) is) in
+    let second : l.closed ≡ lane.closed = ap nat_in (sym closed ∙ ap (λ r. column r 1) is) in
+    λ i. record { taken = first i; closed = second i }
+lane_read (Err e) row lane is taken closed = tt
+
+-- ---- the stated count of a day
+
+abbrev pub asked : ℕ → ℕ → Row
+asked d y = int d ∷ int y ∷ []
+
+said_cell : (id : ℕ) (s : StatedRow) (d y : ℕ) → matches_as Null (λ _. []) stated_terms end (asked d y ∷ (int id ∷ stated_cells s) ∷ []) ≡ chosen (is_of d y s) (asked d y ∷ (int id ∷ stated_cells s) ∷ [])
+said_cell id s d y = rw (eq_holds s.device d, eq_holds s.day y) (two_terms (s.device == d) (s.day == y) (asked d y ∷ (int id ∷ stated_cells s) ∷ []))
+
+said_each : (d y : ℕ) (r : Row) → IsStated r → matches_as Null (λ _. []) stated_terms end (asked d y ∷ r ∷ []) ≡ chosen (is_of d y (stated_of r)) (asked d y ∷ r ∷ [])
+said_each d y r ok = subst (λ x. matches_as Null (λ _. []) stated_terms end (asked d y ∷ x ∷ []) ≡ chosen (is_of d y (stated_of x)) (asked d y ∷ x ∷ [])) (sym ok) (said_cell (id_of r) (stated_of r) d y)
+
+none_of : (rows : List Row) (d y : ℕ) (s : StatedRow) → AllByRecursion (λ x. is_of s.device s.day x ≡ false) (map stated_of rows) → is_of d y s ≡ true → filter (λ r. is_of d y (stated_of r)) rows ≡ []
+none_of [] d y s all is = refl
+none_of (r ∷ rows) d y s all is =
+    let here = all.0 in
+    let other : is_of d y (stated_of r) ≡ false = grind (arith, nat_tests) in
+    rw other (none_of rows d y s all.1 is)
+
+-- no statement is of the day, or one
+said_one : (rows : List Row) (d y : ℕ) → AreRows IsStated rows → AreApart (map stated_of rows)
+    → ((filter (λ r. is_of d y (stated_of r)) rows ≡ []) × (stated_in (map stated_of rows) d y ≡ None)) ⊎ ((r : Row) × IsStated r × (filter (λ r. is_of d y (stated_of r)) rows ≡ r ∷ []) × (stated_in (map stated_of rows) d y ≡ Some (stated_of r).count))
+said_one [] d y ok apart = inl (refl, refl)
+said_one (r ∷ rows) d y ok apart = elim (cases_Bool (is_of d y (stated_of r))) [
+  | inl here ↦ inr (r, ok.0, rw (here, none_of rows d y (stated_of r) apart.0 here) refl, rw here refl)
+  | inr there ↦ rw there (said_one rows d y ok.2 apart.1)
+]
+
+said_answer : (db : Trees) (d y : ℕ) (rows : List Row) → AreRows IsStated (db 4) → AreApart (map stated_of (db 4)) → IsAnswer stated_query (overlay db []) (asked d y) rows
+    → ((rows ≡ []) × (stated_in (map stated_of (db 4)) d y ≡ None)) ⊎ ((n : ℕ) × (rows ≡ (int n ∷ []) ∷ []) × (stated_in (map stated_of (db 4)) d y ≡ Some n))
+said_answer db d y rows ok apart a =
+    let staged : a.staged ≡ map (λ r. asked d y ∷ r ∷ []) (filter (λ r. is_of d y (stated_of r)) (db 4)) = a.grouped ∙ matched IsStated (λ r. is_of d y (stated_of r)) (asked d y) stated_terms (said_each d y) (db 4) (all_of IsStated (db 4) ok) in
+    let shown : (os : List Output) → a.ordered ≡ os → rows ≡ page stated_query (asked d y) (map (λ (p : Output). p.1) os) = λ os e. a.shown ∙ ap (λ xs. page stated_query (asked d y) (map (λ (p : Output). p.1) xs)) e in
+    elim (said_one (db 4) d y ok apart) [
+      | inl none ↦ (
+          let kept : a.kept ≡ [] = a.distinct ∙ ap (map (output stated_query)) (staged ∙ ap (map (λ r. asked d y ∷ r ∷ [])) none.0) in
+          inl (shown [] (empty_permutation a.ordered (subst (λ k. IsPermutation k a.ordered) kept a.same)), none.1))
+      | inr one ↦ (
+          let o : Output = ([], column one.0 3 ∷ []) in
+          let kept : a.kept ≡ o ∷ [] = a.distinct ∙ ap (map (output stated_query)) (staged ∙ ap (map (λ r. asked d y ∷ r ∷ [])) one.2) in
+          let count : column one.0 3 ≡ int (stated_of one.0).count = ap (λ r. column r 3) one.1 in
+          inr ((stated_of one.0).count, shown (o ∷ []) (one_permutation o a.ordered (subst (λ k. IsPermutation k a.ordered) kept a.same)) ∙ ap (λ v. (v ∷ []) ∷ []) count, one.3))
+    ]
+
+pub said_row : (old new : State) (d y n : ℕ) (row : Row) → old.now.schema ≡ ledger_schema → AreRows IsStated (old.now.trees 4) → AreApart (map stated_of (old.now.trees 4)) → QueriesRow stated_text (asked d y) old new (Ok row) → column row 0 ≡ int n
+    → Some n ≡ stated_in (map stated_of (old.now.trees 4)) d y
+said_row old new d y n row has ok apart h is =
+    let got = (first_as stated_text (asked d y) old new ledger_schema has _ stated_asked stated_reads.0 stated_unlisted row h).1 in
+    let a : IsAnswer stated_query (overlay old.now.trees []) (asked d y) (row ∷ got.0) = got.1 Null in
+    elim (said_answer old.now.trees d y (row ∷ got.0) ok apart a) [
+      | inl none ↦ absurd (let e = none.0 in cc)
+      | inr one ↦ (
+          let same : row ≡ int one.0 ∷ [] = let e = one.1 in cc in
+          let number : n ≡ one.0 = ap nat_in (sym is ∙ ap (λ r. column r 0) same) in
+          ap {B = Option ℕ} Some number ∙ sym one.2)
+    ]
+
+pub said_none : (old new : State) (d y : ℕ) → old.now.schema ≡ ledger_schema → AreRows IsStated (old.now.trees 4) → AreApart (map stated_of (old.now.trees 4)) → Shown stated_text (asked d y) old new []
+    → None ≡ stated_in (map stated_of (old.now.trees 4)) d y
+said_none old new d y has ok apart shown =
+    let read = reads_as stated_text (asked d y) old new ledger_schema has _ stated_asked stated_reads.0 stated_unlisted [] shown in
+    elim (said_answer old.now.trees d y [] ok apart (read.answer Null)) [
+      | inl none ↦ sym none.1
+      | inr one ↦ absurd (let e = one.1 in cc)
+    ]
+
+-- ---- how many
+
+day_cell : (id : ℕ) (t : TapRow) (d y : ℕ) → matches_as Null (λ _. []) day_terms end (asked d y ∷ (int id ∷ tap_cells t) ∷ []) ≡ chosen (is_on d y t) (asked d y ∷ (int id ∷ tap_cells t) ∷ [])
+day_cell id t d y = rw (eq_holds t.device d, eq_holds t.tap.day y) (two_terms (t.device == d) (t.tap.day == y) (asked d y ∷ (int id ∷ tap_cells t) ∷ []))
+
+day_each : (d y : ℕ) (r : Row) → IsTap r → matches_as Null (λ _. []) day_terms end (asked d y ∷ r ∷ []) ≡ chosen (is_on d y (tap_of r)) (asked d y ∷ r ∷ [])
+day_each d y r ok = subst (λ x. matches_as Null (λ _. []) day_terms end (asked d y ∷ x ∷ []) ≡ chosen (is_on d y (tap_of x)) (asked d y ∷ x ∷ [])) (sym ok) (day_cell (id_of r) (tap_of r) d y)
+
+pub day_counted : (old new : State) (d y : ℕ) (row : Row) → old.now.schema ≡ ledger_schema → AreRows IsTap (old.now.trees 2) → QueriesRow day_text (asked d y) old new (Ok row) → row ≡ int (counted (length (filter (is_on d y) (map tap_of (old.now.trees 2))))) ∷ []
+day_counted old new d y row has ok h =
+    let got = (first_as day_text (asked d y) old new ledger_schema has _ day_asked day_reads.0 day_unlisted row h).1 in
+    let a : IsAnswer (count_query 2 day_terms) (overlay old.now.trees []) (asked d y) (row ∷ got.0) = got.1 Null in
+    let rows = count_answer 2 day_terms (overlay old.now.trees []) (asked d y) (row ∷ got.0) a in
+    let first : row ≡ int (counted (length (found 2 day_terms (overlay old.now.trees []) (asked d y)))) ∷ [] = cc in
+    let all = matched IsTap (λ r. is_on d y (tap_of r)) (asked d y) day_terms (day_each d y) (old.now.trees 2) (all_of IsTap (old.now.trees 2) ok) in
+    let some = filter (λ r. is_on d y (tap_of r)) (old.now.trees 2) in
+    let size : length (found 2 day_terms (overlay old.now.trees []) (asked d y)) ≡ length (filter (is_on d y) (map tap_of (old.now.trees 2))) =
+    ap length all ∙ length-map some (λ r. asked d y ∷ r ∷ []) ∙ sym (length-map some tap_of) ∙ sym (ap length (filter_of_map tap_of (is_on d y) (old.now.trees 2))) in
+    first ∙ ap (λ n. int (counted n) ∷ []) size
+
+or_truth : (a b : Bool) → is_true (binary by.Or (from_truth (Some a)) (from_truth (Some b))) ≡ (a || b)
+unfolding binary
+or_truth true true = refl
+or_truth true false = refl
+or_truth false true = refl
+or_truth false false = refl
+
+gt_is : (a : ℕ) → is_gt (int_cmp (pos a) (pos 0)) ≡ nat_lt 0 a
+gt_is a = grind (arith, nat_tests)
+
+or_holds : (a b : ℕ) → is_true (binary by.Or (binary (by.Compare cmp.Gt Binary) (int a) (int 0)) (binary (by.Compare cmp.Gt Binary) (int b) (int 0))) ≡ (nat_lt 0 a || nat_lt 0 b)
+unfolding binary
+or_holds a b = rw (value_cmp-Int (pos a) (pos 0), value_cmp-Int (pos b) (pos 0)) (or_truth (is_gt (int_cmp (pos a) (pos 0))) (is_gt (int_cmp (pos b) (pos 0))) ∙ (λ i. gt_is a i || gt_is b i))
+
+begun_cell : (id k c : ℕ) → matches_as Null (λ _. []) begun_terms end ([] ∷ lane_row id k c ∷ []) ≡ chosen (nat_lt 0 k || nat_lt 0 c) ([] ∷ lane_row id k c ∷ [])
+begun_cell id k c = rw (or_holds k c) (one_term (nat_lt 0 k || nat_lt 0 c) ([] ∷ lane_row id k c ∷ []))
+
+begun_each : (r : Row) → IsLane r → matches_as Null (λ _. []) begun_terms end ([] ∷ r ∷ []) ≡ chosen (is_begun r) ([] ∷ r ∷ [])
+begun_each r ok = subst (λ x. matches_as Null (λ _. []) begun_terms end ([] ∷ x ∷ []) ≡ chosen (is_begun x) ([] ∷ x ∷ [])) (sym ok) (begun_cell (id_of r) (nat_in (column r 2)) (nat_in (column r 3)))
+
+pub begun_counted : (old new : State) (row : Row) → old.now.schema ≡ ledger_schema → AreRows IsLane (old.now.trees 1) → QueriesRow begun_text [] old new (Ok row) → row ≡ int (counted (length (filter is_begun (old.now.trees 1)))) ∷ []
+begun_counted old new row has ok h =
+    let got = (first_as begun_text [] old new ledger_schema has _ begun_asked begun_reads.0 begun_unlisted row h).1 in
+    let a : IsAnswer (count_query 1 begun_terms) (overlay old.now.trees []) [] (row ∷ got.0) = got.1 Null in
+    let rows = count_answer 1 begun_terms (overlay old.now.trees []) [] (row ∷ got.0) a in
+    let first : row ≡ int (counted (length (found 1 begun_terms (overlay old.now.trees []) []))) ∷ [] = cc in
+    let all = matched IsLane is_begun [] begun_terms begun_each (old.now.trees 1) (all_of IsLane (old.now.trees 1) ok) in
+    first ∙ ap (λ n. int (counted n) ∷ []) (ap length all ∙ length-map (filter is_begun (old.now.trees 1)) (λ r. [] ∷ r ∷ []))
+
+all_found : (rows : List Row) → length (flat_map (λ r. matches_as Null (λ _. []) [] end ([] ∷ r ∷ [])) rows) ≡ length rows
+all_found [] = refl
+all_found (r ∷ rows) = ap (λ n. suc n) (all_found rows)
+
+pub taps_counted : (old new : State) (row : Row) → old.now.schema ≡ ledger_schema → QueriesRow taps_text [] old new (Ok row) → row ≡ int (counted (length (map tap_of (old.now.trees 2)))) ∷ []
+taps_counted old new row has h =
+    let got = (first_as taps_text [] old new ledger_schema has _ taps_asked taps_reads.0 taps_unlisted row h).1 in
+    let a : IsAnswer (count_query 2 []) (overlay old.now.trees []) [] (row ∷ got.0) = got.1 Null in
+    let rows = count_answer 2 [] (overlay old.now.trees []) [] (row ∷ got.0) a in
+    let first : row ≡ int (counted (length (found 2 [] (overlay old.now.trees []) []))) ∷ [] = cc in
+    first ∙ ap (λ n. int (counted n) ∷ []) (all_found (old.now.trees 2) ∙ sym (length-map (old.now.trees 2) tap_of))
+
+pub statements_counted : (old new : State) (row : Row) → old.now.schema ≡ ledger_schema → QueriesRow statements_text [] old new (Ok row) → row ≡ int (counted (length (map stated_of (old.now.trees 4)))) ∷ []
+statements_counted old new row has h =
+    let got = (first_as statements_text [] old new ledger_schema has _ statements_asked statements_reads.0 statements_unlisted row h).1 in
+    let a : IsAnswer (count_query 4 []) (overlay old.now.trees []) [] (row ∷ got.0) = got.1 Null in
+    let rows = count_answer 4 [] (overlay old.now.trees []) [] (row ∷ got.0) a in
+    let first : row ≡ int (counted (length (found 4 [] (overlay old.now.trees []) []))) ∷ [] = cc in
+    first ∙ ap (λ n. int (counted n) ∷ []) (all_found (old.now.trees 4) ∙ sym (length-map (old.now.trees 4) stated_of))

@@ -1,0 +1,15 @@
+pub mod Texts
+pub mod Found
+pub mod Links
+pub mod Puts
+pub mod Makes
+pub mod Taken
+pub mod Days
+pub mod Stored
+pub mod Judged
+pub mod Empty
+pub mod Listed
+pub mod Between
+pub mod Known
+pub mod Opened
+pub mod Meta

@@ -1,0 +1,191 @@
+-- What the upsert of a device's numbers makes of the lanes.
+use Rattle.std.proofs.Common.{◌≡◌, ◌⊎◌, inl, inr, ℕ, ◌==◌, ◌&&◌, ◌||◌, ℤ, pos, List, [], ◌∷◌, map, filter, Bool, true, false, Option, Some, None, Ok, refl, sym, ap, subst, ◌∙◌, arith}
+use Rattle.std.specs.List.Sorted.{IsPermutation}
+use Rattle.std.proofs.lemmas.Bool.{cases_Bool}
+use Rattle.std.proofs.lemmas.Bool.Decides.{nat_tests}
+use Rattle.sqlite.specs.declared.types.Value.TheVariants.{Null}
+use Rattle.sqlite_value.specs.Order.{Row, column}
+use Rattle.sqlite.specs.Query.{IsAnswer, matches_as, end, output, page, Output}
+use Rattle.sqlite.specs.Program.{overlay}
+use Rattle.sqlite.specs.Tree.{Trees, put_row, rowid, without_rowid}
+use Rattle.sqlite_rules.specs.Lists.{Has}
+use Rattle.sqlite_rules.specs.Keys.{AreConflicts, conflicts}
+use Rattle.sqlite_rules.specs.declared.error.Refusal.{Refusal}
+use Rattle.sqlite.specs.Edit.{edit_of, edited}
+use Rattle.sqlite.specs.Rowids.TheVariants.{Given}
+use Rattle.sqlite_rules.specs.Edit.{with_rowid}
+use Rattle.sqlite.specs.Cast.{cast_row}
+use Rattle.sqlite.specs.Rows.{nothing, rowids_for, count_of, InsertsOr, Written, Task, Tries, TriesEach, Updates, Puts, Clears, Upserts, Judged, Meets}
+use Rattle.sqlite_schema.specs.declared.command.Conflict.TheVariants.{Abort}
+use Rattle.sqlite_schema.specs.declared.command.Upsert.{Upsert}
+use Rattle.sqlite_rules.specs.Calls.{ids_of}
+use Rattle.sqlite.specs.Source.TheVariants.{Values}
+use Rattle.sqlite.specs.Command.TheVariants.{InsertOr}
+use Rattle.sqlite.specs.Does.{Does}
+use Rattle.sqlite.specs.Listing.{understood}
+use Rattle.sqlite.specs.Effect.{Database}
+use Rattle.sqlite.specs.State.{State, mode_of, Executes}
+use Rattle.sqlite_schema.specs.declared.schema.Keys.TheVariants.{Enforced}
+use Rattle.sqlite_value.specs.Keys.{first_key}
+use Rattle.sqlite_schema.specs.declared.schema.Keys.{Keys}
+use Rattle.sqlite.proofs.Callers.{statement_of, runs_as, one_step, one_permutation}
+use Rattle.fare_tables.specs.Cells.{nat_in, int, id_of, AreRows}
+use Rattle.fare_tables.proofs.Lists.{member, of_filter}
+use Rattle.fare_tables.proofs.Rows.{all_of, held_one}
+use Rattle.fare_tables.proofs.Statements.{made, cast_int, cast_null, went, same_value}
+use Rattle.fare_tables.proofs.Terms.{chosen, matched, eq_holds, one_term}
+use Rattle.fare_ledger.specs.Tables.{ledger_schema, lane_table, renew_query}
+use Rattle.fare_ledger.specs.Held.{PutsLane, lane_row, IsLane}
+use Rattle.fare_ledger.proofs.Texts.{lane_terms, put_lane_text, put_lane_is, put_lane_plain}
+use Rattle.fare_ledger.proofs.Found.{lane_ids}
+
+-- ---- the row that the update reads
+
+-- what it is given: the parameters, the rowid that is taken, and the row that couldn't go in
+abbrev pub given : ℕ → ℕ → ℕ → Row
+given d k c = int d ∷ int k ∷ int c ∷ int d ∷ int d ∷ int d ∷ int k ∷ int c ∷ []
+
+renew_cell : (a v w d k c : ℕ) → matches_as Null (λ _. []) renew_query.filter end (given d k c ∷ lane_row a v w ∷ []) ≡ chosen (a == d) (given d k c ∷ lane_row a v w ∷ [])
+renew_cell a v w d k c = rw (eq_holds a d) (one_term (a == d) (given d k c ∷ lane_row a v w ∷ []))
+
+renew_each : (d k c : ℕ) (r : Row) → IsLane r → matches_as Null (λ _. []) renew_query.filter end (given d k c ∷ r ∷ []) ≡ chosen (id_of r == d) (given d k c ∷ r ∷ [])
+renew_each d k c r ok = subst (λ x. matches_as Null (λ _. []) renew_query.filter end (given d k c ∷ x ∷ []) ≡ chosen (id_of x == d) (given d k c ∷ x ∷ [])) (sym ok) (renew_cell (id_of r) (nat_in (column r 2)) (nat_in (column r 3)) d k c)
+
+has_none : (rows : List Row) (x : Row) (d : ℕ) → Has rows x → id_of x ≡ d → filter (λ r. id_of r == d) rows ≡ [] → ⊥
+has_none [] x d has is none = absurd has
+has_none (r ∷ rows) x d (inl here) is none = let same : (id_of r == d) ≡ true = let e = ap id_of (sym here) ∙ is in grind (arith, nat_tests) in absurd (let e = rw same at none in cc)
+has_none (r ∷ rows) x d (inr there) is none = elim (cases_Bool (id_of r == d)) [
+  | inl same ↦ absurd (let e = rw same at none in cc)
+  | inr other ↦ has_none rows x d there is (rw other at none)
+]
+
+-- the one row that takes the place of the device's own, with its old rowid first
+renews : (db : Trees) (d k c : ℕ) (x : Row) (rows : List Row) → AreRows IsLane (db 1) → Has (db 1) x → id_of x ≡ d → IsAnswer renew_query (overlay db []) (given d k c) rows → rows ≡ (int d ∷ int d ∷ Null ∷ int k ∷ int c ∷ []) ∷ []
+renews db d k c x rows ok has is a =
+    let staged : a.staged ≡ map (λ r. given d k c ∷ r ∷ []) (filter (λ r. id_of r == d) (db 1)) = a.grouped ∙ matched IsLane (λ r. id_of r == d) (given d k c) renew_query.filter (renew_each d k c) (db 1) (all_of IsLane (db 1) ok) in
+    elim (held_one IsLane lane_ids (db 1) d ok) [
+      | inl none ↦ absurd (has_none (db 1) x d has is none.0)
+      | inr one ↦ (
+          let o : Output = ([], column one.0 0 ∷ column one.0 0 ∷ Null ∷ int k ∷ int c ∷ []) in
+          let kept : a.kept ≡ o ∷ [] = a.distinct ∙ ap (map (output renew_query)) (staged ∙ ap (map (λ r. given d k c ∷ r ∷ [])) one.2) in
+          let ordered : a.ordered ≡ o ∷ [] = one_permutation o a.ordered (subst (λ k. IsPermutation k a.ordered) kept a.same) in
+          let id : column one.0 0 ≡ int d = lane_ids one.0 one.1 ∙ ap int (one_id (db 1) one.0 d one.2) in
+          a.shown ∙ ap (λ xs. page renew_query (given d k c) (map (λ (p : Output). p.1) xs)) ordered ∙ ap (λ v. (v ∷ v ∷ Null ∷ int k ∷ int c ∷ []) ∷ []) id)
+    ]
+  where
+    one_id : (rows : List Row) (r : Row) (d : ℕ) → filter (λ y. id_of y == d) rows ≡ r ∷ [] → id_of r ≡ d
+    one_id rows r d is = let it = (of_filter (λ y. id_of y == d) rows r (subst (λ ys. Has ys r) (sym is) (inl refl))).1 in grind (arith, nat_tests)
+
+-- ---- the conflict
+
+conflict_of : (a v w d k c : ℕ) → conflicts (Some (0 ∷ [])) ledger_schema.indexes (lane_table 1) (lane_row d k c) (lane_row a v w) ≡ (a == d)
+unfolding ledger_schema first_key
+conflict_of a v w d k c = rw (eq_holds a d) (go (a == d))
+  where
+    go : (b : Bool) → ((b && true) || false) ≡ b
+    go true = refl
+    go false = refl
+
+conflict_id : (r : Row) (d k c : ℕ) → IsLane r → conflicts (Some (0 ∷ [])) ledger_schema.indexes (lane_table 1) (lane_row d k c) r ≡ true → id_of r ≡ d
+conflict_id r d k c ok is =
+    let same : (id_of r == d) ≡ true = sym (conflict_of (id_of r) (nat_in (column r 2)) (nat_in (column r 3)) d k c) ∙ subst (λ x. conflicts (Some (0 ∷ [])) ledger_schema.indexes (lane_table 1) (lane_row d k c) x ≡ true) ok is in
+    grind (arith, nat_tests)
+
+-- ---- the ways to put the row in
+
+abbrev pub IsPut : Trees → Trees → ℕ → ℕ → ℕ → Type 0
+IsPut db next d k c =
+    ((next 1 ≡ put_row (lane_row d k c) (db 1)) ⊎ (next 1 ≡ put_row (lane_row d k c) (without_rowid (pos d) (db 1)))) × (next 0 ≡ db 0) × (next 2 ≡ db 2) × (next 4 ≡ db 4)
+
+module _ (limit : Option ℕ) (keys : Keys) (d k c : ℕ) where
+  abbrev pub task : Task
+  task = record { limit = limit; keys = keys; schema = ledger_schema; table = lane_table 1; params = int d ∷ int k ∷ int c ∷ [] }
+
+  puts : (db : Trees) (w : Written) → Puts task (lane_row d k c) db (Ok w) → IsPut db w.trees d k c
+  unfolding ledger_schema
+  puts db w h =
+      let it = went h in
+      let edit = edit_of db (lane_table 1) [] Given 0 (lane_row d k c ∷ []) in
+      let next : w.trees ≡ it.0 = ap (λ (x : Written). x.trees) (same_value it.2) in
+      let step = one_step ledger_schema keys db it.0 edit refl it.1 in
+      let is : edited db edit ≡ put_row (lane_row d k c) (db 1) = simp (cast_int, cast_null) in (
+        inl (ap (λ (t : Trees). t 1) next ∙ step.rows ∙ is),
+        ap (λ (t : Trees). t 0) next ∙ step.tables.0 (λ e. let e = e in omega arith),
+        ap (λ (t : Trees). t 2) next ∙ step.tables.1.1.0 (λ e. let e = e in omega arith),
+        ap (λ (t : Trees). t 4) next ∙ step.tables.1.1.1.0 (λ e. let e = e in omega arith),
+      )
+
+  clears : (db : Trees) (w : Written) (found : List Row) → Clears task Abort (lane_row d k c) db found (Ok w) → IsPut db w.trees d k c
+  clears db w [] h = puts db w h
+  clears db w (x ∷ more) h = puts db w h
+
+  updates : (db : Trees) (w : Written) (x : Row) → AreRows IsLane (db 1) → Has (db 1) x → id_of x ≡ d → Updates task (record { lets = []; body = renew_query }) (given d k c) db (Ok w) → IsPut db w.trees d k c
+  unfolding ledger_schema
+  updates db w x ok has is h =
+      let it = went h in
+      let rows : it.0 ≡ (int d ∷ int d ∷ Null ∷ int k ∷ int c ∷ []) ∷ [] = renews db d k c x it.0 ok has is (it.1.answer Null) in
+      let edit = edit_of db (lane_table 1) (ids_of it.0) Given 1 it.0 in
+      let done = went it.2 in
+      let next : w.trees ≡ done.0 = ap (λ (x : Written). x.trees) (same_value done.2) in
+      let step = one_step ledger_schema keys db done.0 edit refl done.1 in
+      let is : edited db edit ≡ put_row (lane_row d k c) (without_rowid (pos d) (db 1)) = ap (λ all. edited db (edit_of db (lane_table 1) (ids_of all) Given 1 all)) rows ∙ simp (cast_int, cast_null) in (
+        inr (ap (λ (t : Trees). t 1) next ∙ step.rows ∙ is),
+        ap (λ (t : Trees). t 0) next ∙ step.tables.0 (λ e. let e = e in omega arith),
+        ap (λ (t : Trees). t 2) next ∙ step.tables.1.1.0 (λ e. let e = e in omega arith),
+        ap (λ (t : Trees). t 4) next ∙ step.tables.1.1.1.0 (λ e. let e = e in omega arith),
+      )
+
+  abbrev clause : Upsert
+  clause = record { target = Some (0 ∷ []); update = Some (record { lets = []; body = renew_query }) }
+
+  meets : (db : Trees) (w : Written) (found : List Row) → AreRows IsLane (db 1) → AreConflicts (Some (0 ∷ [])) ledger_schema.indexes (lane_table 1) (db 1) (lane_row d k c) found
+      → Meets task (Upserts task Abort (lane_row d k c) db []) (lane_row d k c) db clause found (Ok w) → IsPut db w.trees d k c
+  meets db w [] ok all h = clears db w h.0 h.2
+  meets db w (there ∷ more) ok all h =
+      let it = all.sound there (inl refl) in
+      let id : id_of it.0 ≡ d = conflict_id it.0 d k c (member IsLane (db 1) it.0 (all_of IsLane (db 1) ok) it.1) it.2 in
+      let at : rowid there ≡ int d = ap rowid it.3 ∙ ap rowid (member IsLane (db 1) it.0 (all_of IsLane (db 1) ok) it.1) ∙ ap int id in
+      updates db w it.0 ok it.1 id (subst (λ v. Updates task (record { lets = []; body = renew_query }) (int d ∷ int k ∷ int c ∷ v ∷ int d ∷ int d ∷ int k ∷ int c ∷ []) db (Ok w)) at h)
+
+  upserts : (db : Trees) (w : Written) → AreRows IsLane (db 1) → Upserts task Abort (lane_row d k c) db (clause ∷ []) (Ok w) → IsPut db w.trees d k c
+  upserts db w ok h = meets db w h.0 ok h.1 h.2
+
+  judged : (db : Trees) (w : Written) (verdict : Option Refusal) → AreRows IsLane (db 1) → Judged task Abort (clause ∷ []) (lane_row d k c) db verdict (Ok w) → IsPut db w.trees d k c
+  judged db w None ok h = upserts db w ok h
+  judged db w (Some why) ok h = absurd (let e = h in cc)
+
+  tries : (db : Trees) (w : Written) → AreRows IsLane (db 1) → Tries task Abort (clause ∷ []) (lane_row d k c) db (Ok w) → IsPut db w.trees d k c
+  tries db w ok (inl h) = absurd (let e = h.1 in cc)
+  tries db w ok (inr h) = judged db w h.0 ok h.2
+
+  new_given : (rows : List Row) (top : ℤ) → with_rowid (rowids_for (lane_table 1) top) rows (cast_row (lane_table 1) (lane_row d k c)) ≡ lane_row d k c
+  new_given rows top = simp (cast_int, cast_null)
+
+  tries_each : (db : Trees) (done : Written × ℤ) (top : ℤ) → AreRows IsLane (db 1) → TriesEach task Abort (clause ∷ []) (lane_row d k c ∷ []) top (nothing db) (Ok done) → IsPut db done.0.trees d k c
+  tries_each db done top ok h =
+      let it = went h in
+      let end : done.0.trees ≡ it.0.trees = ap (λ (x : Written × ℤ). x.0.trees) (same_value it.2) in
+      let went_in = tries db it.0 ok (subst (λ new. Tries task Abort (clause ∷ []) new db (Ok it.0)) (new_given (db 1) top) it.1) in
+      subst (λ t. IsPut db t d k c) (sym end) went_in
+
+  pub inserts_or : (db : Trees) (w : Written) → AreRows IsLane (db 1) → InsertsOr task Abort (clause ∷ []) (Values lane_terms 4) db (Ok w) → IsPut db w.trees d k c
+  inserts_or db w ok h =
+      let rows = went h in
+      let counter = went rows.2 in
+      let tried = went counter.2 in
+      let counted = went tried.2 in
+      let put = tries_each db tried.0 _ ok (subst (λ all. TriesEach task Abort (clause ∷ []) all (count_of counter.0) (nothing db) (Ok tried.0)) rows.1.1 tried.1) in
+      let end : w.trees ≡ tried.0.0.trees = ap (λ (x : Written). x.trees) (same_value counted.2) ∙ same_value counted.1 in
+      subst (λ t. IsPut db t d k c) (sym end) put
+
+pub puts_lane : (old new : State) (d k c : ℕ) (count : ℕ) → old.now.schema ≡ ledger_schema → AreRows IsLane (old.now.trees 1) → Executes put_lane_text (int d ∷ int k ∷ int c ∷ []) old new (Ok count) → PutsLane old.now new.now d k c
+unfolding ledger_schema
+puts_lane old new d k c count has ok h =
+    let params = int d ∷ int k ∷ int c ∷ [] in
+    let command = InsertOr 1 Abort (Values lane_terms 4) (clause old.step_limit Enforced d k c ∷ []) in
+    let w = runs_as put_lane_text params old new ledger_schema has command put_lane_is put_lane_plain count h in
+    let text = statement_of put_lane_text (understood ledger_schema put_lane_text) in
+    let done = made (task old.step_limit Enforced d k c) (mode_of old) command old.now.trees w.tally new.now (subst (λ s. Does old.step_limit (mode_of old) params (record old.now { schema = s }) text None command (Ok (w.tally, new.now))) has w.changed) in
+    let put = inserts_or old.step_limit Enforced d k c old.now.trees done.written ok done.wrote in
+    let trees = subst (λ t. IsPut old.now.trees t d k c) (sym (ap (λ (d : Database). d.trees) done.after_is)) put in
+    record { schema = ap (λ (d : Database). d.schema) done.after_is; lanes = trees.0; taps = trees.2; statements = trees.3 }

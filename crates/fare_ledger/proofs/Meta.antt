@@ -1,0 +1,55 @@
+-- What the question for the row of meta finds.
+use Rattle.std.proofs.Common.{◌≡◌, inr, ℕ, List, [], ◌∷◌, map, filter, Bool, true, Result, Ok, Err, IfOk, IsTrue, refl, sym, ap, subst, ◌∙◌}
+use Rattle.std.specs.List.{AllByRecursion}
+use Rattle.std.specs.List.Sorted.{IsPermutation}
+use Rattle.std.proofs.lemmas.List.Sorted.{IsPermutation-sym}
+use Rattle.sqlite_value.specs.Order.{Row, column}
+use Rattle.sqlite.specs.declared.types.Value.TheVariants.{Null}
+use Rattle.sqlite.specs.Query.{IsAnswer, output, Output}
+use Rattle.sqlite.specs.Program.{overlay}
+use Rattle.sqlite.specs.State.{State, Shown}
+use Rattle.sqlite.proofs.Callers.{reads_as, one_permutation}
+use Rattle.fare_tables.proofs.Terms.{matched}
+use Rattle.fare_ledger.specs.Tables.{ledger_schema, meta_query}
+use Rattle.fare_ledger.specs.Opening.{AreMeta, IsOurs, IsBlankOrOurs}
+use Rattle.fare_ledger.proofs.Texts.{meta_text, meta_asked, meta_reads, meta_unlisted}
+
+all_rows : (rows : List Row) → AllByRecursion (λ r. Unit {0}) rows
+all_rows [] = tt
+all_rows (r ∷ rows) = (tt, all_rows rows)
+
+filter_all : (rows : List Row) → filter (λ r. true) rows ≡ rows
+filter_all [] = refl
+filter_all (r ∷ rows) = ap (λ more. r ∷ more) (filter_all rows)
+
+abbrev shown : Row → Output
+shown r = ([], column r 1 ∷ column r 2 ∷ [])
+
+shown_all : (rows : List Row) → map (output meta_query) (map (λ r. [] ∷ r ∷ []) rows) ≡ map shown rows
+shown_all [] = refl
+shown_all (r ∷ rows) = ap (λ more. shown r ∷ more) (shown_all rows)
+
+-- one output is of one row
+one_row : (owner : ℕ) (stored : List Row) (ordered : List Output) → IsPermutation (map shown stored) ordered → AreMeta owner (map (λ (p : Output). p.1) ordered) → (r : Row) × (stored ≡ r ∷ []) × AreMeta owner ((column r 1 ∷ column r 2 ∷ []) ∷ [])
+one_row owner stored [] same are = absurd are
+one_row owner stored (o ∷ x ∷ more) same are = absurd are
+one_row owner stored (o ∷ []) same are = by stored (one_permutation o (map shown stored) (IsPermutation-sym (map shown stored) (o ∷ []) same))
+  where
+    by : (rows : List Row) → map shown rows ≡ o ∷ [] → (r : Row) × (rows ≡ r ∷ []) × AreMeta owner ((column r 1 ∷ column r 2 ∷ []) ∷ [])
+    by [] is = absurd cc
+    by (r ∷ []) is = let one : shown r ≡ o = cc in (r, refl, subst (λ (y : Output). AreMeta owner (y.1 ∷ [])) (sym one) are)
+    by (r ∷ s ∷ rows) is = absurd cc
+
+pub meta_is : (owner : ℕ) (old new : State) (rows : List Row) → old.now.schema ≡ ledger_schema → Shown meta_text [] old new rows → AreMeta owner rows → IsOurs owner old.now.trees
+meta_is owner old new rows has shows are =
+    let read = reads_as meta_text [] old new ledger_schema has _ meta_asked meta_reads.0 meta_unlisted rows shows in
+    let a : IsAnswer meta_query (overlay old.now.trees []) [] rows = read.answer Null in
+    let stored = old.now.trees 0 in
+    let staged : a.staged ≡ map (λ r. [] ∷ r ∷ []) stored = a.grouped ∙ matched (λ r. Unit {0}) (λ r. true) [] [] (λ r ok. refl) stored (all_rows stored) ∙ ap (map (λ r. [] ∷ r ∷ [])) (filter_all stored) in
+    let kept : a.kept ≡ map shown stored = a.distinct ∙ ap (map (output meta_query)) staged ∙ shown_all stored in
+    let it = one_row owner stored a.ordered (subst (λ k. IsPermutation k a.ordered) kept a.same) (subst (AreMeta owner) a.shown are) in
+    record { row = it.0; only = it.1; format_is = it.2.0; owner_is = it.2.1 }
+
+pub ours_too : {E : Type 0} (owner : ℕ) (old : State) (r : Result Bool E) → old.now.schema ≡ ledger_schema → IfOk r (λ found. IsTrue found → IsOurs owner old.now.trees) → IfOk r (λ found. IsTrue found → IsBlankOrOurs owner old)
+ours_too owner old (Ok found) has are = λ is. inr (has, are is)
+ours_too owner old (Err e) has are = tt

@@ -1,0 +1,165 @@
+-- What a transaction makes of a ledger whose rows fit together.
+use Rattle.std.proofs.Common.{◌≡◌, inl, inr, ℕ, ◌+◌, ◌<◌, ◌≤◌, ◌==◌, ◌&&◌, nat_le, nat_lt, if◌then◌else◌, Bool, true, false, List, [], ◌∷◌, ◌++◌, length, Option, Some, None, refl, sym, ap, subst, ◌∙◌, arith}
+use Rattle.std.proofs.lemmas.Bool.{cases_Bool}
+use Rattle.std.proofs.lemmas.Bool.Decides.{nat_tests}
+use Rattle.std.proofs.lemmas.List.{length_push}
+use Rattle.sqlite.specs.State.{State}
+use Rattle.fare_record.specs.Values.{RecordValue, StatementValue}
+use Rattle.fare_record.specs.Lanes.{day_count}
+use Rattle.fare_store.specs.Tables.{put}
+use Rattle.fare_store.specs.LedgerWords.{took, with_statement, with_close}
+use Rattle.fare_store.proofs.Taps.{count_last}
+use Rattle.fare_tables.specs.Tabled.{IsFit}
+use Rattle.fare_ledger.specs.declared.lane.Lane.{Lane}
+use Rattle.fare_ledger.specs.Tables.{ledger_schema}
+use Rattle.fare_ledger.specs.Held.{Held, TapRow, Becomes, IsReady, row_of, record_of, row_stated, stated_in, with_lane, with_tap, with_stated, with_numbers}
+use Rattle.fare_ledger.specs.Words.{taken_in, value_in, AreCounted, FitTogether, IsLawful, MayTake, MayClose}
+use Rattle.fare_ledger.proofs.Taken.{taken_pushed, next_pushed}
+use Rattle.fare_ledger.proofs.Days.{stated_put, apart_pushed, stays_stated}
+
+pub ready : (o start : ℕ) (s : State) → IsFit ledger_schema (IsLawful o start) s → IsReady s
+ready o start s fit = record { rest = fit.rest; fits = fit.fits.readable }
+
+pub becomes_lawful : (o start : ℕ) (new : State) (h : Held) → Becomes new.now h × (new.now ≡ new.committed) → FitTogether o start h → IsFit ledger_schema (IsLawful o start) new
+becomes_lawful o start new h wrote fit = record {
+  rest = record { settled = wrote.1; schema_is = wrote.0.schema };
+  fits = record { readable = wrote.0.readable; together = subst (FitTogether o start) (sym wrote.0.value) fit };
+}
+
+turned : (a b : ℕ) → (a == b) ≡ (b == a)
+turned a b = grind (arith, nat_tests)
+
+equal : (a b : ℕ) → (a == b) ≡ true → a ≡ b
+equal a b is = grind (arith, nat_tests)
+
+-- ---- a tap more
+
+own : (o : ℕ) (r : RecordValue) → r.owner ≡ o → record_of o (row_of r) ≡ r
+own o r mine = λ i. record { device = r.device; link = r.link; owner = sym mine i; lane = r.lane; tap = r.tap }
+
+taken_put : (o : ℕ) (taps : List TapRow) (r : RecordValue) (d : ℕ) → r.owner ≡ o → taken_in o (taps ++ row_of r ∷ []) d ≡ put (taken_in o taps) r.device (taken_in o taps r.device ++ r ∷ []) d
+taken_put o taps r d mine = taken_pushed o taps (row_of r) d ∙ rw (turned r.device d) (elim (cases_Bool (d == r.device)) [
+  | inl here ↦ rw here (let same = equal d r.device here in λ i. taken_in o taps (same i) ++ own o r mine i ∷ [])
+  | inr there ↦ rw there refl
+])
+
+closed_stays : (lanes : ℕ → Lane) (d k c x : ℕ) → c ≡ (lanes d).closed → (with_lane d k c lanes x).closed ≡ (lanes x).closed
+closed_stays lanes d k c x is = elim (cases_Bool (d == x)) [
+  | inl here ↦ rw here (is ∙ ap (λ y. (lanes y).closed) (equal d x here))
+  | inr there ↦ rw there refl
+]
+
+pub take_value : (o start : ℕ) (known : ℕ → Bool) (h : Held) (r : RecordValue) (c : ℕ) → MayTake (value_in o start known h) r c → value_in o start known (with_tap (row_of r) c h) ≡ took r (value_in o start known h)
+take_value o start known h r c may = λ i. record {
+  owner = o;
+  start = start;
+  knows = known;
+  taken = λ d. taken_put o h.taps r d may.mine i;
+  stated = stated_in h.statements;
+  closed = λ d. closed_stays h.lanes r.device r.lane c d may.closed_is i;
+}
+
+-- the closed days are others
+day_apart : (start closed day other : ℕ) → (nat_le start other && nat_lt other (start + closed)) ≡ false → start ≤ day → day < start + closed → (other == day) ≡ false
+day_apart start closed day other away low high = grind (arith, nat_tests)
+
+same_count : (o : ℕ) (taps : List TapRow) (r : RecordValue) (d y : ℕ) → r.owner ≡ o → (d ≡ r.device → (r.tap.day == y) ≡ false) → day_count (taken_in o (taps ++ row_of r ∷ []) d) y ≡ day_count (taken_in o taps d) y
+same_count o taps r d y mine away = ap (λ rows. day_count rows y) (taken_put o taps r d mine) ∙ elim (cases_Bool (d == r.device)) [
+  | inr there ↦ rw there refl
+  | inl here ↦ (
+      let same = equal d r.device here in
+      let not = away same in
+      let last : day_count (taken_in o taps r.device ++ r ∷ []) y ≡ day_count (taken_in o taps r.device) y + (if r.tap.day == y then 1 else 0) = count_last (taken_in o taps r.device) r y in
+      let none : day_count (taken_in o taps r.device ++ r ∷ []) y ≡ day_count (taken_in o taps r.device) y + 0 = rw not at last in
+      rw here (none ∙ zero (day_count (taken_in o taps r.device) y) ∙ ap (λ e. day_count (taken_in o taps e) y) (sym same)))
+]
+  where
+    zero : (n : ℕ) → n + 0 ≡ n
+    zero n = omega arith
+
+take_count : (o : ℕ) (h : Held) (r : RecordValue) (c d : ℕ) → r.owner ≡ o → r.lane ≡ length (taken_in o h.taps r.device) + 1 → (h.lanes d).taken ≡ length (taken_in o h.taps d) → (with_lane r.device r.lane c h.lanes d).taken ≡ length (taken_in o (h.taps ++ row_of r ∷ []) d)
+take_count o h r c d mine next is = elim (cases_Bool (r.device == d)) [
+  | inl here ↦ (
+      let longer : length (taken_in o (h.taps ++ row_of r ∷ []) d) ≡ length (taken_in o h.taps d ++ record_of o (row_of r) ∷ []) = ap length (rw here at (taken_pushed o h.taps (row_of r) d)) in
+      rw here (next ∙ ap (λ e. length (taken_in o h.taps e) + 1) (equal r.device d here) ∙ sym (length_push (taken_in o h.taps d) (record_of o (row_of r))) ∙ sym longer))
+  | inr there ↦ (
+      let same : length (taken_in o (h.taps ++ row_of r ∷ []) d) ≡ length (taken_in o h.taps d) = ap length (rw there at (taken_pushed o h.taps (row_of r) d)) in
+      rw there (is ∙ sym same))
+]
+
+pub take_fits : (o start : ℕ) (known : ℕ → Bool) (h : Held) (r : RecordValue) (c : ℕ) → MayTake (value_in o start known h) r c → FitTogether o start h → FitTogether o start (with_tap (row_of r) c h)
+take_fits o start known h r c may fit = record {
+  counted = λ d. take_count o h r c d may.mine may.next (fit.counted d);
+  numbered = next_pushed o (λ d. 0) h.taps (row_of r) fit.numbered (let next = may.next in omega (arith, next));
+  single = fit.single;
+  days = λ d y low high.
+      let before : y < start + (h.lanes d).closed = subst (λ n. y < start + n) (closed_stays h.lanes r.device r.lane c d may.closed_is) high in
+      fit.days d y low before
+      ∙ ap {B = Option ℕ} Some (sym (same_count o h.taps r d y may.mine (λ same. day_apart start (h.lanes r.device).closed y r.tap.day may.open_day low (subst (λ e. y < start + (h.lanes e).closed) same before))));
+}
+
+-- ---- a statement more
+
+pub state_value : (o start : ℕ) (known : ℕ → Bool) (h : Held) (s : StatementValue) → stated_in h.statements s.device s.day ≡ None → value_in o start known (with_stated (row_stated s) h) ≡ with_statement s (value_in o start known h)
+state_value o start known h s none = λ i. record {
+  owner = o;
+  start = start;
+  knows = known;
+  taken = taken_in o h.taps;
+  stated = λ d y. stated_put h.statements (row_stated s) d y none i;
+  closed = λ d. (h.lanes d).closed;
+}
+
+pub state_fits : (o start : ℕ) (h : Held) (s : StatementValue) → stated_in h.statements s.device s.day ≡ None → FitTogether o start h → FitTogether o start (with_stated (row_stated s) h)
+state_fits o start h s none fit = record {
+  counted = fit.counted;
+  numbered = fit.numbered;
+  single = apart_pushed h.statements (row_stated s) fit.single none;
+  days = λ d y low high. stays_stated h.statements (row_stated s) d y _ none (fit.days d y low high);
+}
+
+-- ---- a day closed
+
+closed_put : (lanes : ℕ → Lane) (d k c x : ℕ) → c ≡ (lanes d).closed + 1 → (with_lane d k c lanes x).closed ≡ put (λ y. (lanes y).closed) d ((lanes d).closed + 1) x
+closed_put lanes d k c x is = elim (cases_Bool (d == x)) [
+  | inl here ↦ (let too : (x == d) ≡ true = turned x d ∙ here in rw (here, too) is)
+  | inr there ↦ (let too : (x == d) ≡ false = turned x d ∙ there in rw (there, too) refl)
+]
+
+pub close_value : (o start : ℕ) (known : ℕ → Bool) (h : Held) (d : ℕ) (lane : Lane) → MayClose (value_in o start known h) d lane → value_in o start known (with_numbers d lane.taken (lane.closed + 1) h) ≡ with_close d (value_in o start known h)
+close_value o start known h d lane may = λ i. record {
+  owner = o;
+  start = start;
+  knows = known;
+  taken = taken_in o h.taps;
+  stated = stated_in h.statements;
+  closed = λ x. closed_put h.lanes d lane.taken (lane.closed + 1) x (ap (λ n. n + 1) may.numbers.closed) i;
+}
+
+taken_stays : (o : ℕ) (h : Held) (d k c x : ℕ) → k ≡ length (taken_in o h.taps d) → (h.lanes x).taken ≡ length (taken_in o h.taps x) → (with_lane d k c h.lanes x).taken ≡ length (taken_in o h.taps x)
+taken_stays o h d k c x given is = elim (cases_Bool (d == x)) [
+  | inl here ↦ rw here (given ∙ ap (λ e. length (taken_in o h.taps e)) (equal d x here))
+  | inr there ↦ rw there is
+]
+
+close_days : (o start : ℕ) (h : Held) (d k c : ℕ) → c ≡ (h.lanes d).closed + 1 → stated_in h.statements d (start + (h.lanes d).closed) ≡ Some (day_count (taken_in o h.taps d) (start + (h.lanes d).closed)) → AreCounted o start h → AreCounted o start (with_numbers d k c h)
+close_days o start h d k c is stated days x y low high = elim (cases_Bool (d == x)) [
+  | inr there ↦ days x y low (let e : y < start + (h.lanes x).closed = rw there at high in e)
+  | inl here ↦ (
+      let same = equal d x here in
+      let below : y < start + c = rw here at high in
+      elim (cases_Bool (nat_lt y (start + (h.lanes d).closed))) [
+        | inl earlier ↦ days x y low (let less : y < start + (h.lanes d).closed = grind (arith, nat_tests) in subst (λ e. y < start + (h.lanes e).closed) same less)
+        | inr last ↦ (
+            let at : y ≡ start + (h.lanes d).closed = grind (arith, nat_tests) in
+            (λ i. stated_in h.statements (sym same i) (at i)) ∙ stated ∙ (λ i. Some (day_count (taken_in o h.taps (same i)) (sym at i))))
+      ])
+]
+
+pub close_fits : (o start : ℕ) (known : ℕ → Bool) (h : Held) (d : ℕ) (lane : Lane) → MayClose (value_in o start known h) d lane → FitTogether o start h → FitTogether o start (with_numbers d lane.taken (lane.closed + 1) h)
+close_fits o start known h d lane may fit = record {
+  counted = λ x. taken_stays o h d lane.taken (lane.closed + 1) x may.numbers.taken (fit.counted x);
+  numbered = fit.numbered;
+  single = fit.single;
+  days = close_days o start h d lane.taken (lane.closed + 1) (ap (λ n. n + 1) may.numbers.closed) may.stated fit.days;
+}

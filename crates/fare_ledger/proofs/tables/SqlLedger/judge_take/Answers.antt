@@ -1,0 +1,45 @@
+use Rattle.std.proofs.Common.{◌≡◌, ◌+◌, ◌&&◌, nat_le, nat_lt, Some, None, ap, ◌∙◌}
+use Rattle.fare_owner.specs.TapJudged.{tap_judged}
+use Rattle.fare_store.specs.Standing.{Calls}
+use Rattle.fare_store.specs.LedgerWords.{LedgerValue, is_mine}
+use Rattle.fare_record.specs.Values.{TapValue}
+use Rattle.fare_tables.proofs.Steps.{read_then, read_failed}
+use Rattle.fare_ledger.specs.Words.{stands, HasNumbers}
+use Rattle.fare_ledger.proofs.Judged.{read_next, tap_answer, judged_ok, judged_err}
+use Rattle.fare_ledger.proofs.tables.SqlLedger.judge_take.Goals as goal
+
+pub returns-in_err-lane-clause-does : goal.returns-in_err-lane-clause-does
+returns-in_err-lane-clause-does g c =
+    let a = stands g.S.Store c.args.self.now in
+    let b = stands g.S.Store c.begin.new.self in
+    let d = stands g.S.Store c.numbers_of.new.self in
+    let first : Calls a b None ((b.value ≡ a.value) × Unit {0}) (λ v. ⊥) = c.in_ok-begin.ensures.does in
+    read_failed a d _ _ c.from_residual-in_err-lane.result _ c.from_residual-in_err-lane.ensures.1 (read_then a b d (Unit {0}) (Unit {0}) (Some _) first c.in_err-lane.ensures.does)
+
+pub returns-in-Ok-clause-does : goal.returns-in-Ok-clause-does
+returns-in-Ok-clause-does g c =
+    let a = stands g.S.Store c.args.self.now in
+    let b = stands g.S.Store c.begin.new.self in
+    let d = stands g.S.Store c.numbers_of.new.self in
+    let r = c.args.row.now in
+    let lane = c.in_ok-lane.lane in
+    let first : Calls a b None ((b.value ≡ a.value) × Unit {0}) (λ v. ⊥) = c.in_ok-begin.ensures.does in
+    let second : Calls b d None ((d.value ≡ b.value) × HasNumbers b.value r.device lane) (λ v. ⊥) = rw c.device-2.ensures at c.in_ok-lane.ensures.does in
+    let mine : c.is_mine-mine.result ≡ is_mine a.value r.owner r.device = rw (c.owner.ensures, c.device.ensures) at c.is_mine-mine.ensures in
+    let closed : c.is_closed-closed.result ≡ (nat_le a.value.start r.tap.day && nat_lt r.tap.day (a.value.start + lane.closed)) = c.is_closed-closed.ensures ∙ ap (λ y. nat_le a.value.start y && nat_lt y (a.value.start + lane.closed)) (c.day.ensures ∙ ap (λ (t : TapValue). t.day) c.tap.ensures) in
+    judged_ok a d r lane (λ has. c.in-Ok.ensures.judged ∙ ap (tap_judged c.is_mine-mine.result lane.taken c.is_closed-closed.result) c.lane.ensures.value ∙ tap_answer a.value r lane c.is_mine-mine.result c.is_closed-closed.result mine closed has)
+    (read_next a b d (λ (v : LedgerValue). HasNumbers v r.device lane) first second)
+
+pub returns-in-Err-clause-does : goal.returns-in-Err-clause-does
+returns-in-Err-clause-does g c =
+    let a = stands g.S.Store c.args.self.now in
+    let b = stands g.S.Store c.begin.new.self in
+    let d = stands g.S.Store c.numbers_of.new.self in
+    let r = c.args.row.now in
+    let lane = c.in_ok-lane.lane in
+    let first : Calls a b None ((b.value ≡ a.value) × Unit {0}) (λ v. ⊥) = c.in_ok-begin.ensures.does in
+    let second : Calls b d None ((d.value ≡ b.value) × HasNumbers b.value r.device lane) (λ v. ⊥) = rw c.device-2.ensures at c.in_ok-lane.ensures.does in
+    let mine : c.is_mine-mine.result ≡ is_mine a.value r.owner r.device = rw (c.owner.ensures, c.device.ensures) at c.is_mine-mine.ensures in
+    let closed : c.is_closed-closed.result ≡ (nat_le a.value.start r.tap.day && nat_lt r.tap.day (a.value.start + lane.closed)) = c.is_closed-closed.ensures ∙ ap (λ y. nat_le a.value.start y && nat_lt y (a.value.start + lane.closed)) (c.day.ensures ∙ ap (λ (t : TapValue). t.day) c.tap.ensures) in
+    judged_err a d r lane c.in-Err.why (λ has. c.in-Err.ensures.judged ∙ ap (tap_judged c.is_mine-mine.result lane.taken c.is_closed-closed.result) c.lane.ensures.value ∙ tap_answer a.value r lane c.is_mine-mine.result c.is_closed-closed.result mine closed has)
+    (read_next a b d (λ (v : LedgerValue). HasNumbers v r.device lane) first second)

@@ -1,0 +1,23 @@
+use Rattle.std.proofs.Common.{None, refl}
+use Rattle.sqlite.specs.Held.{state}
+use Rattle.fare_tables.proofs.Steps.{read_step}
+use Rattle.fare_ledger.specs.Tables.{ledger_schema}
+use Rattle.fare_ledger.specs.Held.{held_of}
+use Rattle.fare_ledger.specs.Known.{knows}
+use Rattle.fare_ledger.proofs.Stored.{ready}
+use Rattle.std.specs.Prelude.{IsTrue, ◌↔◌, ◌==◌}
+use Rattle.fare_ledger.specs.Words.{value_at, IsLawful, AreUnstated}
+use Rattle.fare_ledger.proofs.Empty.{unstated}
+use Rattle.fare_ledger.proofs.tables.SqlLedger.no_statements.Goals as goal
+
+pub returns-in-Ok-clause-does : goal.returns-in-Ok-clause-does
+returns-in-Ok-clause-does g c =
+    let old = state g.S.Store c.args.self.now.conn in
+    let new = state g.S.Store c.count_statements.new.conn in
+    let self = c.args.self.now in
+    let known = knows self.devices in
+    let v = value_at self.owner self.start known old.now.trees in
+    let h = held_of old.now.trees in
+    read_step ledger_schema (value_at self.owner self.start known) (IsLawful self.owner self.start) old new self.failures self.failures None (IsTrue (c.in-Ok.statements == 0) ↔ AreUnstated v) c.requires
+    (λ live fit. unstated self.owner self.start known h c.in-Ok.statements (c.in-Ok.ensures.value live (ready self.owner self.start old fit)))
+    c.count_statements.ensures.same c.count_statements.ensures.crash c.count_statements.ensures.live (λ e. c.in-Ok.ensures.stays) refl

@@ -1,0 +1,176 @@
+-- What the tables of a ledger hold, as lists in the order of storing.
+use Rattle.std.specs.Prelude.{◌≡◌, ℕ, ◌≤◌, nat_lt, nat_le, ◌==◌, ◌&&◌, ◌||◌, ◌⊎◌, pos, Bool, if◌then◌else◌, List, [], ◌∷◌, ◌++◌, map, filter, Option, Some, None, IsPermutation, IsSorted}
+use Rattle.std.specs.declared.cmp.Ordering.{Ordering}
+use Rattle.std.specs.Ordering.{ordering_then, nat_cmp}
+use Rattle.sqlite.specs.declared.types.Value.TheVariants.{Null, Int}
+use Rattle.sqlite_value.specs.Order.{Row, column}
+use Rattle.sqlite.specs.Tree.{Trees, put_row, without_rowid}
+use Rattle.sqlite_rules.specs.Edit.{next_rowid}
+use Rattle.sqlite.specs.Effect.{Database}
+use Rattle.sqlite.specs.State.{State}
+use Rattle.fare_record.specs.Limits.{IsCount}
+use Rattle.fare_record.specs.Values.{TapValue, RecordValue, StatementValue}
+use Rattle.fare_ledger.specs.declared.lane.Lane.{Lane}
+use Rattle.fare_tables.specs.Cells.{nat_in, int, id_of, AreRows, held}
+use Rattle.fare_tables.specs.Tabled.{IsFit}
+use Rattle.fare_ledger.specs.Tables.{ledger_schema}
+
+-- ROWS
+-- a device's row has the device for its rowid
+abbrev pub lane_row : ℕ → ℕ → ℕ → Row
+lane_row device taken closed = int device ∷ Null ∷ int taken ∷ int closed ∷ []
+
+abbrev pub IsLane : Row → Type 0
+IsLane r = r ≡ lane_row (id_of r) (nat_in (column r 2)) (nat_in (column r 3))
+
+abbrev pub lane_of : Option Row → Lane
+lane_of None = record { taken = 0; closed = 0 }
+lane_of (Some r) = record { taken = nat_in (column r 2); closed = nat_in (column r 3) }
+
+-- what a row of a lane may hold
+pub record IsWithin (lane : Lane) : Type 0 where
+  pub taken : IsCount lane.taken
+  pub closed : lane.closed ≤ 100001
+
+-- a tap of a ledger: its owner is the ledger's, and stands in no row
+pub record TapRow : Type 0 where
+  pub device : ℕ
+  pub lane : ℕ
+  pub link : ℕ
+  pub tap : TapValue
+
+abbrev pub row_of : RecordValue → TapRow
+row_of t = record { device = t.device; lane = t.lane; link = t.link; tap = t.tap }
+
+-- as an owner's
+abbrev pub record_of : ℕ → TapRow → RecordValue
+record_of owner t = record { device = t.device; link = t.link; owner = owner; lane = t.lane; tap = t.tap }
+
+abbrev pub tap_cells : TapRow → Row
+tap_cells t = int t.device ∷ int t.lane ∷ int t.link ∷ int t.tap.product ∷ int t.tap.token ∷ int t.tap.moment ∷ int t.tap.day ∷ []
+
+abbrev pub tap_of : Row → TapRow
+tap_of r = record {
+  device = nat_in (column r 1);
+  lane = nat_in (column r 2);
+  link = nat_in (column r 3);
+  tap = record { product = nat_in (column r 4); token = nat_in (column r 5); moment = nat_in (column r 6); day = nat_in (column r 7) };
+}
+
+abbrev pub IsTap : Row → Type 0
+IsTap r = r ≡ int (id_of r) ∷ tap_cells (tap_of r)
+
+-- a statement of a ledger, likewise
+pub record StatedRow : Type 0 where
+  pub device : ℕ
+  pub day : ℕ
+  pub count : ℕ
+
+abbrev pub row_stated : StatementValue → StatedRow
+row_stated s = record { device = s.device; day = s.day; count = s.count }
+
+abbrev pub stated_cells : StatedRow → Row
+stated_cells s = int s.device ∷ int s.day ∷ int s.count ∷ []
+
+abbrev pub stated_of : Row → StatedRow
+stated_of r = record { device = nat_in (column r 1); day = nat_in (column r 2); count = nat_in (column r 3) }
+
+abbrev pub IsStated : Row → Type 0
+IsStated r = r ≡ int (id_of r) ∷ stated_cells (stated_of r)
+
+-- LISTS
+pub record Held : Type 0 where
+  -- how many taps of each device are taken, and how many of its days closed
+  pub lanes : ℕ → Lane
+  pub taps : List TapRow
+  pub statements : List StatedRow
+
+-- the rows of all tables can be read
+pub record AreReadable (trees : Trees) : Type 0 where
+  pub lanes : AreRows IsLane (trees 1)
+  pub taps : AreRows IsTap (trees 2)
+  pub statements : AreRows IsStated (trees 4)
+
+abbrev pub held_of : Trees → Held
+held_of trees = record { lanes = λ device. lane_of (held (trees 1) device); taps = map tap_of (trees 2); statements = map stated_of (trees 4) }
+
+-- between calls, over the tables of a ledger with rows that can be read
+abbrev pub IsReady : State → Type 0
+IsReady = IsFit ledger_schema AreReadable
+
+-- READS
+-- a statement of a device's day
+abbrev pub is_of : ℕ → ℕ → StatedRow → Bool
+is_of device day s = (s.device == device) && (s.day == day)
+
+-- the stated count of a day
+abbrev pub stated_in : List StatedRow → ℕ → ℕ → Option ℕ
+stated_in [] device day = None
+stated_in (s ∷ more) device day = if is_of device day s then Some s.count else stated_in more device day
+
+-- a tap of a device on a day
+abbrev pub is_on : ℕ → ℕ → TapRow → Bool
+is_on device day t = (t.device == device) && (t.tap.day == day)
+
+-- a device of which a tap is taken or a day closed
+abbrev pub is_begun : Row → Bool
+is_begun r = nat_lt 0 (nat_in (column r 2)) || nat_lt 0 (nat_in (column r 3))
+
+-- a tap of the days from one to another
+abbrev pub is_between : ℕ → ℕ → TapRow → Bool
+is_between from to t = nat_le from t.tap.day && nat_le t.tap.day to
+
+-- by day, moment, device and lane number
+abbrev pub tap_order : TapRow → TapRow → Ordering
+tap_order a b =
+    ordering_then (nat_cmp a.tap.day b.tap.day) (ordering_then (nat_cmp a.tap.moment b.tap.moment) (ordering_then (nat_cmp a.device b.device) (nat_cmp a.lane b.lane)))
+
+-- the taps of those days, in that order
+pub record AreListed (taps : List TapRow) (from to : ℕ) (out : List TapRow) : Type 0 where
+  pub same : IsPermutation (filter (is_between from to) taps) out
+  pub sorted : IsSorted tap_order out
+
+-- the same as an owner's records
+pub record IsListedOf (owner : ℕ) (taps : List TapRow) (from to : ℕ) (out : List RecordValue) : Type 0 where
+  pub rows : List TapRow
+  pub listed : AreListed taps from to rows
+  pub is : out ≡ map (record_of owner) rows
+
+-- WRITES
+abbrev pub with_lane : ℕ → ℕ → ℕ → (ℕ → Lane) → ℕ → Lane
+with_lane device taken closed lanes x = if device == x then record { taken = taken; closed = closed } else lanes x
+
+-- a tap more, and its device's numbers
+abbrev pub with_tap : TapRow → ℕ → Held → Held
+with_tap t closed h = record { lanes = with_lane t.device t.lane closed h.lanes; taps = h.taps ++ t ∷ []; statements = h.statements }
+
+abbrev pub with_stated : StatedRow → Held → Held
+with_stated s h = record { lanes = h.lanes; taps = h.taps; statements = h.statements ++ s ∷ [] }
+
+abbrev pub with_numbers : ℕ → ℕ → ℕ → Held → Held
+with_numbers device taken closed h = record { lanes = with_lane device taken closed h.lanes; taps = h.taps; statements = h.statements }
+
+-- the database holds this, in rows that can be read
+pub record Becomes (db : Database) (h : Held) : Type 0 where
+  pub schema : db.schema ≡ ledger_schema
+  pub readable : AreReadable db.trees
+  pub value : held_of db.trees ≡ h
+
+-- what one statement writes
+pub record PutsTap (old new : Database) (t : TapRow) : Type 0 where
+  pub schema : new.schema ≡ ledger_schema
+  pub lanes : new.trees 1 ≡ old.trees 1
+  pub taps : new.trees 2 ≡ put_row (Int (next_rowid (old.trees 2)) ∷ tap_cells t) (old.trees 2)
+  pub statements : new.trees 4 ≡ old.trees 4
+
+pub record PutsStated (old new : Database) (s : StatedRow) : Type 0 where
+  pub schema : new.schema ≡ ledger_schema
+  pub lanes : new.trees 1 ≡ old.trees 1
+  pub taps : new.trees 2 ≡ old.trees 2
+  pub statements : new.trees 4 ≡ put_row (Int (next_rowid (old.trees 4)) ∷ stated_cells s) (old.trees 4)
+
+pub record PutsLane (old new : Database) (device taken closed : ℕ) : Type 0 where
+  pub schema : new.schema ≡ ledger_schema
+  pub lanes : (new.trees 1 ≡ put_row (lane_row device taken closed) (old.trees 1)) ⊎ (new.trees 1 ≡ put_row (lane_row device taken closed) (without_rowid (pos device) (old.trees 1)))
+  pub taps : new.trees 2 ≡ old.trees 2
+  pub statements : new.trees 4 ≡ old.trees 4

@@ -1,0 +1,7 @@
+pub mod Tables
+pub mod Held
+pub mod Making
+pub mod Opening
+pub mod Known
+pub mod Words
+pub mod Shown

@@ -1,0 +1,86 @@
+-- The tables of a ledger, and the queries that its texts are.
+use Rattle.std.specs.Prelude.{[], ◌∷◌, Some, None, codes, List, ℕ}
+use Rattle.sqlite.specs.declared.types.Value.TheVariants.{Null}
+use Rattle.sqlite.specs.Collation.TheVariants.{Binary}
+use Rattle.sqlite.specs.Table.{Table}
+use Rattle.sqlite.specs.Schema.{Schema}
+use Rattle.sqlite.specs.Term.{Term, lit, col, op2}
+use Rattle.sqlite.specs.Query.{Query}
+use Rattle.sqlite_sql.specs.declared.ops.BinaryOp.TheVariants as by
+use Rattle.sqlite_value.specs.Keys.{plain, ascending}
+use Rattle.sqlite_catalog.specs.Change.{automatics, created}
+use Rattle.fare_tables.specs.Queries.{number, rowid_column, table, meta_table, not_below_0, is_given, is_from, is_upto, is_positive, query}
+
+abbrev pub lane_table : ℕ → Table
+lane_table tree =
+    table (codes "lane") tree
+    (rowid_column (codes "device") ∷ number (codes "taken") ∷ number (codes "closed") ∷ [])
+    (Some 0) (0 ∷ []) [] [] (not_below_0 2 ∷ not_below_0 3 ∷ [])
+
+abbrev pub tap_table : ℕ → Table
+tap_table tree =
+    table (codes "tap") tree
+    (number (codes "device") ∷ number (codes "lane") ∷ number (codes "link") ∷ number (codes "product") ∷ number (codes "token") ∷ number (codes "moment") ∷ number (codes "day") ∷ [])
+    None (1 ∷ 2 ∷ []) ((1 ∷ 2 ∷ []) ∷ []) (plain ∷ []) []
+
+abbrev pub stated_table : ℕ → Table
+stated_table tree =
+    table (codes "stated") tree
+    (number (codes "device") ∷ number (codes "day") ∷ number (codes "total") ∷ [])
+    None (1 ∷ 2 ∷ []) ((1 ∷ 2 ∷ []) ∷ []) (plain ∷ []) []
+
+-- after one, two, three and all four CREATE TABLE: tree 3 is the index of the taps, and tree 5 that of the statements
+abbrev pub one_table : Schema
+one_table = record { tables = meta_table 0 ∷ []; indexes = []; views = [] }
+
+abbrev pub two_tables : Schema
+two_tables = record { tables = meta_table 0 ∷ lane_table 1 ∷ []; indexes = []; views = [] }
+
+abbrev pub three_tables : Schema
+three_tables = record { tables = meta_table 0 ∷ lane_table 1 ∷ tap_table 2 ∷ []; indexes = automatics (tap_table 2) 0 3 ((1 ∷ 2 ∷ []) ∷ []); views = [] }
+
+unfoldable pub ledger_schema : Schema
+ledger_schema = record {
+  tables = meta_table 0 ∷ lane_table 1 ∷ tap_table 2 ∷ stated_table 4 ∷ [];
+  indexes = (created three_tables (stated_table 4)).indexes;
+  views = [];
+}
+
+-- the row of meta
+abbrev pub meta_query : Query
+meta_query = query 0 [] (col 1 1 ∷ col 1 2 ∷ []) []
+
+-- how many taps of a device are taken, and how many of its days closed
+abbrev pub lane_query : Query
+lane_query = query 1 (is_given 0 0 ∷ []) (col 1 2 ∷ col 1 3 ∷ []) []
+
+-- the stated count of a day
+abbrev pub stated_terms : List Term
+stated_terms = is_given 1 0 ∷ is_given 2 1 ∷ []
+
+abbrev pub stated_query : Query
+stated_query = query 4 stated_terms (col 1 3 ∷ []) []
+
+-- the taps of a device on a day
+abbrev pub day_terms : List Term
+day_terms = is_given 1 0 ∷ is_given 7 1 ∷ []
+
+-- the taps of the days from one to another, by day, moment, device and lane number
+abbrev pub between_terms : List Term
+between_terms = is_from 7 0 ∷ is_upto 7 1 ∷ []
+
+abbrev pub tap_columns : List Term
+tap_columns = col 1 1 ∷ col 1 2 ∷ col 1 3 ∷ col 1 4 ∷ col 1 5 ∷ col 1 6 ∷ col 1 7 ∷ []
+
+abbrev pub between_query : Query
+between_query =
+    query 2 between_terms tap_columns
+    ((col 1 7, ascending Binary) ∷ (col 1 6, ascending Binary) ∷ (col 1 1, ascending Binary) ∷ (col 1 2, ascending Binary) ∷ [])
+
+-- the device's row that is written anew: the parameters are the three given, the rowid that is taken, and the row that couldn't go in
+abbrev pub renew_query : Query
+renew_query = query 1 (is_given 0 3 ∷ []) (col 1 0 ∷ col 1 0 ∷ lit Null ∷ col 0 6 ∷ col 0 7 ∷ []) []
+
+-- the devices of which a tap is taken or a day closed
+abbrev pub begun_terms : List Term
+begun_terms = op2 by.Or (is_positive 2) (is_positive 3) ∷ []

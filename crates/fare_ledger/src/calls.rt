@@ -1,0 +1,88 @@
+ghost use Rattle.std.proofs.Common.{sym, ap, ◌∙◌};
+ghost use Rattle.sqlite.specs.Effect.{Database};
+ghost use Rattle.fare_ledger.specs.Known.{knows};
+ghost use Rattle.fare_ledger.specs.Words.{value_at, stands};
+
+use crate::SqlLedger;
+use crate::finding::are_nothing;
+use fare_owner::{CloseFault, StatementFault, TapFault};
+use fare_record::{Day, DeviceId, OwnerId, Record, Statement};
+use fare_store::{Fault, Ledger, Refused};
+use sqlite::Alter;
+
+impl<S: Alter> Ledger for SqlLedger<S> {
+    ghost standing = { λ l. stands S.Store l };
+
+    ghost sound = { λ l. record { clean = λ live. live.0; settled = λ live lawful v leaves. sym leaves.2 ∙ ap (value_at l.owner l.start (knows l.devices)) (S.Store.settled l.conn.store leaves.0 live.1 leaves.1 ∙ sym (ap (λ (d : Database). d.trees) lawful.rest.settled)) } };
+
+    fn owner(&self) -> OwnerId {
+        self.owner
+    }
+
+    fn is_empty(&mut self) -> Result<bool, Fault> {
+        self.begin()?;
+        let unbegun = self.none_begun()?;
+        let untaken = self.no_taps()?;
+        let unstated = self.no_statements()?;
+        Ok(are_nothing(unbegun, untaken, unstated))
+    }
+
+    fn count(&mut self, device: DeviceId) -> Result<u64, Fault> {
+        self.begin()?;
+        let lane = self.numbers_of(device)?;
+        Ok(lane.taken)
+    }
+
+    fn day_count(&mut self, device: DeviceId, day: Day) -> Result<u64, Fault> {
+        self.begin()?;
+        self.count_of_day(device, day)
+    }
+
+    fn closed_through(&mut self, device: DeviceId) -> Result<Option<Day>, Fault> {
+        self.begin()?;
+        self.last_closed(device)
+    }
+
+    fn stated(&mut self, device: DeviceId, day: Day) -> Result<Option<u64>, Fault> {
+        self.begin()?;
+        self.stated_of(device, day)
+    }
+
+    fn take(&mut self, row: &Record) -> Result<(), Refused<TapFault>> {
+        match self.judge_take(row) {
+            Err(fault) => Err(Refused::Failed(fault)),
+            Ok(Err(why)) => Err(Refused::Because(why)),
+            Ok(Ok(closed)) => match self.put_tap(row, closed) {
+                Ok(()) => Ok(()),
+                Err(fault) => Err(Refused::Failed(fault)),
+            },
+        }
+    }
+
+    fn state(&mut self, statement: &Statement) -> Result<(), Refused<StatementFault>> {
+        match self.judge_state(statement) {
+            Err(fault) => Err(Refused::Failed(fault)),
+            Ok(Err(why)) => Err(Refused::Because(why)),
+            Ok(Ok(())) => match self.put_statement(statement) {
+                Ok(()) => Ok(()),
+                Err(fault) => Err(Refused::Failed(fault)),
+            },
+        }
+    }
+
+    fn close(&mut self, device: DeviceId, day: Day) -> Result<(), Refused<CloseFault>> {
+        match self.judge_day(device, day) {
+            Err(fault) => Err(Refused::Failed(fault)),
+            Ok(Err(why)) => Err(Refused::Because(why)),
+            Ok(Ok(lane)) => match self.put_close(device, &lane) {
+                Ok(()) => Ok(()),
+                Err(fault) => Err(Refused::Failed(fault)),
+            },
+        }
+    }
+
+    fn taps_between(&mut self, from: Day, to: Day) -> Result<Vec<Record>, Fault> {
+        self.begin()?;
+        self.listed(from, to)
+    }
+}

@@ -1,0 +1,160 @@
+ghost use Rattle.std.specs.Prelude.{◌≡◌, ◌+◌, ◌≤◌, ◌==◌, ◌&&◌, ◌↔◌, nat_le, nat_lt, IsTrue, IfOk, OnOk};
+ghost use Rattle.sqlite.specs.Held.{state};
+ghost use Rattle.fare_record.specs.Lanes.{day_count};
+ghost use Rattle.fare_store.specs.Standing.{Reads};
+ghost use Rattle.fare_store.specs.LedgerWords.{is_mine, closed_through, AreTapsBetween};
+ghost use Rattle.fare_tables.specs.Asking.{IsUp};
+ghost use Rattle.fare_ledger.specs.Held.{IsWithin};
+ghost use Rattle.fare_ledger.specs.Words.{stands, HasNumbers, AreUnbegun, AreUntaken, AreUnstated};
+
+use crate::SqlLedger;
+use crate::lane::Lane;
+use crate::listing::read_between;
+use crate::reading::{
+    count_begun, count_day, count_statements, count_taps, read_lane, read_last, read_stated,
+};
+use fare_record::{Day, DeviceId, OwnerId, Record};
+use fare_store::Fault;
+use fare_tables::{note, touch};
+use sqlite::Alter;
+
+// Whether a day is one of the closed days, which are the first ones from a day on.
+pub(crate) fn is_closed(start: Day, closed: u64, day: Day) -> bool
+    requires { closed ≤ 100001 }
+    ensures { result ≡ (nat_le start day && nat_lt day (start + closed)) }
+{
+    start.get() <= day.get() && u64::from(day.get()) < u64::from(start.get()) + closed
+}
+
+// Whether a day is the first that isn't closed.
+pub(crate) fn is_next(start: Day, closed: u64, day: Day) -> bool
+    requires { closed ≤ 100001 }
+    ensures { result ≡ (day == start + closed) }
+{
+    u64::from(day.get()) == u64::from(start.get()) + closed
+}
+
+// Whether all three are nothing.
+pub(crate) fn are_nothing(unbegun: bool, untaken: bool, unstated: bool) -> bool
+    ensures { IsTrue result ↔ (IsTrue unbegun × IsTrue untaken × IsTrue unstated) }
+{
+    unbegun && untaken && unstated
+}
+
+// Each step but the first asks that the connection is open if its disk is clean, as the one before left it.
+impl<S: Alter> SqlLedger<S> {
+    // Whether something of an owner and a device is this owner's, and of a device of the scheme.
+    pub(crate) fn is_mine(&self, owner: OwnerId, device: DeviceId) -> bool
+        ensures { result ≡ is_mine (stands S.Store self.now).value owner device }
+    {
+        owner == self.owner && self.devices.contains(&device)
+    }
+
+    // The first step of each call: the connection is open.
+    pub(crate) fn begin(&mut self) -> Result<(), Fault>
+        ensures does { Reads (stands S.Store self.old) (stands S.Store self.new) (λ _. Unit {0}) result }
+        ensures up { OnOk result (IsUp (state S.Store self.new.conn)) }
+    {
+        match touch(&mut self.conn) {
+            Ok(()) => Ok(()),
+            Err(fault) => Err(note(&mut self.failures, fault)),
+        }
+    }
+
+    // How many taps of a device are taken, and how many of its days closed.
+    pub(crate) fn numbers_of(&mut self, device: DeviceId) -> Result<Lane, Fault>
+        requires { IsUp (state S.Store self.old.conn) }
+        ensures does { Reads (stands S.Store self.old) (stands S.Store self.new) (HasNumbers (stands S.Store self.old).value device) result }
+        ensures within { IfOk result IsWithin }
+        ensures up { OnOk result (IsUp (state S.Store self.new.conn)) }
+    {
+        match read_lane(&mut self.conn, device) {
+            Ok(lane) => Ok(lane),
+            Err(fault) => Err(note(&mut self.failures, fault)),
+        }
+    }
+
+    // The stated count of a day.
+    pub(crate) fn stated_of(&mut self, device: DeviceId, day: Day) -> Result<Option<u64>, Fault>
+        requires { IsUp (state S.Store self.old.conn) }
+        ensures does { Reads (stands S.Store self.old) (stands S.Store self.new) (λ held. held ≡ (stands S.Store self.old).value.stated device day) result }
+        ensures up { OnOk result (IsUp (state S.Store self.new.conn)) }
+    {
+        match read_stated(&mut self.conn, device, day) {
+            Ok(held) => Ok(held),
+            Err(fault) => Err(note(&mut self.failures, fault)),
+        }
+    }
+
+    // How many taps of a device are of a day.
+    pub(crate) fn count_of_day(&mut self, device: DeviceId, day: Day) -> Result<u64, Fault>
+        requires { IsUp (state S.Store self.old.conn) }
+        ensures does { Reads (stands S.Store self.old) (stands S.Store self.new) (λ count. count ≡ day_count ((stands S.Store self.old).value.taken device) day) result }
+        ensures up { OnOk result (IsUp (state S.Store self.new.conn)) }
+    {
+        match count_day(&mut self.conn, device, day) {
+            Ok(count) => Ok(count),
+            Err(fault) => Err(note(&mut self.failures, fault)),
+        }
+    }
+
+    // The last closed day of a device. A day past the last one there is answers Store.
+    pub(crate) fn last_closed(&mut self, device: DeviceId) -> Result<Option<Day>, Fault>
+        requires { IsUp (state S.Store self.old.conn) }
+        ensures does { Reads (stands S.Store self.old) (stands S.Store self.new) (λ day. day ≡ closed_through (stands S.Store self.old).value device) result }
+        ensures up { OnOk result (IsUp (state S.Store self.new.conn)) }
+    {
+        match read_last(&mut self.conn, device, self.start) {
+            Ok(day) => Ok(day),
+            Err(fault) => Err(note(&mut self.failures, fault)),
+        }
+    }
+
+    // Whether no tap of any device is taken and no day closed.
+    pub(crate) fn none_begun(&mut self) -> Result<bool, Fault>
+        requires { IsUp (state S.Store self.old.conn) }
+        ensures does { Reads (stands S.Store self.old) (stands S.Store self.new) (λ none. IsTrue none ↔ AreUnbegun (stands S.Store self.old).value) result }
+        ensures up { OnOk result (IsUp (state S.Store self.new.conn)) }
+    {
+        match count_begun(&mut self.conn) {
+            Ok(begun) => Ok(begun == 0),
+            Err(fault) => Err(note(&mut self.failures, fault)),
+        }
+    }
+
+    // Whether there is no tap.
+    pub(crate) fn no_taps(&mut self) -> Result<bool, Fault>
+        requires { IsUp (state S.Store self.old.conn) }
+        ensures does { Reads (stands S.Store self.old) (stands S.Store self.new) (λ none. IsTrue none ↔ AreUntaken (stands S.Store self.old).value) result }
+        ensures up { OnOk result (IsUp (state S.Store self.new.conn)) }
+    {
+        match count_taps(&mut self.conn) {
+            Ok(taps) => Ok(taps == 0),
+            Err(fault) => Err(note(&mut self.failures, fault)),
+        }
+    }
+
+    // Whether there is no statement.
+    pub(crate) fn no_statements(&mut self) -> Result<bool, Fault>
+        requires { IsUp (state S.Store self.old.conn) }
+        ensures does { Reads (stands S.Store self.old) (stands S.Store self.new) (λ none. IsTrue none ↔ AreUnstated (stands S.Store self.old).value) result }
+        ensures up { OnOk result (IsUp (state S.Store self.new.conn)) }
+    {
+        match count_statements(&mut self.conn) {
+            Ok(statements) => Ok(statements == 0),
+            Err(fault) => Err(note(&mut self.failures, fault)),
+        }
+    }
+
+    // The taps of the days from one to another, in their order.
+    pub(crate) fn listed(&mut self, from: Day, to: Day) -> Result<Vec<Record>, Fault>
+        requires { IsUp (state S.Store self.old.conn) }
+        ensures does { Reads (stands S.Store self.old) (stands S.Store self.new) (λ taps. AreTapsBetween (stands S.Store self.old).value from to taps.items) result }
+        ensures up { OnOk result (IsUp (state S.Store self.new.conn)) }
+    {
+        match read_between(self.alloc, &mut self.conn, self.owner, from, to) {
+            Ok(taps) => Ok(taps),
+            Err(fault) => Err(note(&mut self.failures, fault)),
+        }
+    }
+}

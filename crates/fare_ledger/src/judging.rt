@@ -1,0 +1,77 @@
+ghost use Rattle.std.specs.Prelude.{◌≡◌, ◌≤◌, IfOk, OnOk};
+ghost use Rattle.sqlite.specs.Held.{state};
+ghost use Rattle.fare_store.specs.Standing.{Reads};
+ghost use Rattle.fare_store.specs.LedgerWords.{state_judged};
+ghost use Rattle.fare_tables.specs.Asking.{IsUp};
+ghost use Rattle.fare_ledger.specs.Held.{IsWithin};
+ghost use Rattle.fare_ledger.specs.Words.{stands, JudgesTap, JudgesDay};
+
+use crate::SqlLedger;
+use crate::finding::{is_closed, is_next};
+use crate::lane::Lane;
+use fare_owner::{CloseFault, StatementFault, TapFault, judge_close, judge_statement, judge_tap};
+use fare_record::{Day, DeviceId, Record, Statement};
+use fare_store::Fault;
+use sqlite::Alter;
+
+impl<S: Alter> SqlLedger<S> {
+    // What is answered to a tap before it is taken; if it may be, how many days of its device are closed.
+    pub(crate) fn judge_take(&mut self, row: &Record) -> Result<Result<u64, TapFault>, Fault>
+        ensures does { Reads (stands S.Store self.old) (stands S.Store self.new) (JudgesTap (stands S.Store self.old).value row.now) result }
+        ensures up { IfOk result (λ judged. OnOk judged (IsUp (state S.Store self.new.conn))) }
+        ensures low { IfOk result (λ judged. IfOk judged (λ closed. closed ≤ 100001)) }
+    {
+        let mine = self.is_mine(row.owner(), row.device());
+        if !mine {
+            return Ok(Err(TapFault::NotMine));
+        }
+        let start = self.start;
+        self.begin()?;
+        let lane = self.numbers_of(row.device())?;
+        let closed = is_closed(start, lane.closed, row.tap().day());
+        match judge_tap(mine, lane.taken, closed, row.lane()) {
+            Ok(()) => Ok(Ok(lane.closed)),
+            Err(why) => Ok(Err(why)),
+        }
+    }
+
+    // What is answered to a statement before it is taken.
+    pub(crate) fn judge_state(
+        &mut self,
+        statement: &Statement,
+    ) -> Result<Result<(), StatementFault>, Fault>
+        ensures does { Reads (stands S.Store self.old) (stands S.Store self.new) (λ judged. judged ≡ state_judged (stands S.Store self.old).value statement.now) result }
+        ensures up { IfOk result (λ judged. OnOk judged (IsUp (state S.Store self.new.conn))) }
+    {
+        let mine = self.is_mine(statement.owner(), statement.device());
+        if !mine {
+            return Ok(Err(StatementFault::NotMine));
+        }
+        self.begin()?;
+        let held = self.stated_of(statement.device(), statement.day())?;
+        Ok(judge_statement(mine, held, statement.count()))
+    }
+
+    // What is answered to a day before it is closed; if it may be, the numbers of its device.
+    pub(crate) fn judge_day(
+        &mut self,
+        device: DeviceId,
+        day: Day,
+    ) -> Result<Result<Lane, CloseFault>, Fault>
+        ensures does { Reads (stands S.Store self.old) (stands S.Store self.new) (JudgesDay (stands S.Store self.old).value device day) result }
+        ensures up { OnOk result (IsUp (state S.Store self.new.conn)) }
+        ensures within { IfOk result (λ judged. IfOk judged IsWithin) }
+    {
+        let start = self.start;
+        self.begin()?;
+        let stated = self.stated_of(device, day)?;
+        let lane = self.numbers_of(device)?;
+        let taken = self.count_of_day(device, day)?;
+        let closed = is_closed(start, lane.closed, day);
+        let next = is_next(start, lane.closed, day);
+        match judge_close(stated, closed, next, taken) {
+            Ok(()) => Ok(Ok(lane)),
+            Err(why) => Ok(Err(why)),
+        }
+    }
+}

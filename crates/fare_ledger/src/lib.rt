@@ -1,0 +1,22 @@
+//! The ledger of an owner in tables of SQLite: what the owner has taken outlives the program. It meets the contract
+//! of a ledger as the plain one does, for as long as the disk has kept what was committed and no failure has shut
+//! the connection. Each write is one transaction, a tap with its device's numbers. The value alone holds its
+//! connection.
+#![tactic(auto)]
+
+mod asking;
+mod calls;
+mod devices;
+mod finding;
+mod judging;
+mod lane;
+mod listing;
+mod making;
+mod opening;
+mod reading;
+mod storing;
+mod tables;
+mod writing;
+
+pub use opening::LedgerOpenFault;
+pub use tables::SqlLedger;

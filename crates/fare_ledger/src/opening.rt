@@ -1,0 +1,188 @@
+ghost use Rattle.std.specs.Prelude.{◌≡◌, ◌≢◌, ◌↔◌, false, IsTrue, IsNone, IsSome, IfOk, IfErr, OnOk, OnErr};
+ghost use Rattle.sqlite.specs.State.{HasCleanDisk};
+ghost use Rattle.sqlite.specs.Held.{state};
+ghost use Rattle.fare_scheme.specs.Words.{position_of_owner};
+ghost use Rattle.fare_store.specs.LedgerWords.{IsEmptyLedger, IsOfScheme};
+ghost use Rattle.fare_tables.specs.Asking.{IsLive, IsAtRest, SameRows};
+ghost use Rattle.fare_tables.specs.Making.{no_schema, Finds};
+ghost use Rattle.fare_tables.specs.Tabled.{IsFit};
+ghost use Rattle.fare_ledger.specs.Tables.{ledger_schema};
+ghost use Rattle.fare_ledger.specs.Opening.{IsMetaRow, AreMeta, IsOurs, IsBlankOrOurs, Settles};
+ghost use Rattle.fare_ledger.specs.Words.{IsLawful, value_at, stands};
+
+use crate::SqlLedger;
+use crate::asking::ask_rows;
+use crate::devices::devices_of;
+use crate::making::make_ledger;
+use fare_record::OwnerId;
+use fare_scheme::Scheme;
+use fare_store::Fault;
+use fare_tables::{Found, find};
+use sqlite::{Alter, Connection, MemStore, Row};
+use std::alloc::Global;
+use thiserror::Error;
+
+/// Why a database isn't opened as an owner's ledger, in the order in which this is tested.
+#[derive(Clone, Copy, PartialEq, Eq, Debug, Error)]
+pub enum LedgerOpenFault {
+    /// The owner isn't registered.
+    #[error("the owner isn't registered")]
+    UnknownOwner,
+    /// It holds something else: other tables, a table of the ledger's with another shape or format, or the
+    /// ledger of another owner.
+    #[error("the database holds something else")]
+    Foreign,
+    /// No memory is left for it.
+    #[error("out of memory")]
+    Memory,
+    /// The database failed or refused.
+    #[error("the store failed")]
+    Store,
+}
+
+// The fault of an open in which a call failed.
+fn open_fault(fault: Fault) -> LedgerOpenFault
+    ensures unknown { result ≢ LedgerOpenFault.UnknownOwner }
+    ensures foreign { result ≢ LedgerOpenFault.Foreign }
+{
+    match fault {
+        Fault::Memory => LedgerOpenFault::Memory,
+        Fault::Store => LedgerOpenFault::Store,
+    }
+}
+
+// Whether the row is that of format 1 and the owner.
+fn is_meta(row: &Row, owner: OwnerId) -> bool
+    ensures { IsTrue result → IsMetaRow owner row.now }
+{
+    match (row.get::<i64>(0), row.get::<i64>(1)) {
+        (Ok(format), Ok(id)) => format == 1 && id == i64::from(owner.get()),
+        _ => false,
+    }
+}
+
+// Whether the rows are that one.
+fn are_meta(rows: &[Row], owner: OwnerId) -> bool
+    ensures { IsTrue result → AreMeta owner rows.now }
+{
+    match rows {
+        [first, rest @ ..] => rest.is_empty() && is_meta(first, owner),
+        [] => false,
+    }
+}
+
+// Whether `meta` holds its one row.
+fn has_meta<S: Alter>(conn: &mut Connection<S>, owner: OwnerId) -> Result<bool, Fault>
+    ensures meta { HasCleanDisk (state S.Store conn.new) → (state S.Store conn.old).now.schema ≡ ledger_schema → IfOk result (λ ours. IsTrue ours → IsOurs owner (state S.Store conn.old).now.trees) }
+    ensures same { IsLive (state S.Store conn.new) → IsAtRest ledger_schema (state S.Store conn.old) → SameRows (state S.Store conn.old) (state S.Store conn.new) }
+    ensures live { IsLive (state S.Store conn.new) → IsLive (state S.Store conn.old) }
+    ensures stays { HasCleanDisk (state S.Store conn.new) → OnOk result (IsTrue (state S.Store conn.new).is_open) }
+    ensures mode { conn.old.in_transaction ≡ false → conn.new.in_transaction ≡ false }
+{
+    let rows = ask_rows(conn, "SELECT format, owner FROM meta", &[])?;
+    Ok(are_meta(rows.as_slice(), owner))
+}
+
+// An empty ledger in memory, whose schema is the wanted one.
+fn wanted(alloc: Global, owner: OwnerId) -> Result<Connection<MemStore>, Fault>
+    ensures { IfOk result (λ c. c.schema ≡ ledger_schema) }
+{
+    match Connection::open_in_memory(alloc) {
+        Ok(mut conn) => {
+            make_ledger(&mut conn, owner)?;
+            Ok(conn)
+        }
+        Err(_) => Err(Fault::Memory),
+    }
+}
+
+// What the database holds.
+fn look<S: Alter>(conn: &Connection<S>, alloc: Global, owner: OwnerId) -> Result<Found, Fault>
+    ensures { IfOk result (Finds (state S.Store conn.now).now.schema ledger_schema) }
+{
+    let wanted = wanted(alloc, owner)?;
+    Ok(find(conn.schema(), wanted.schema()))
+}
+
+// Makes the tables where there are none, and looks whose ledger it is where it is one: whether it is the owner's.
+fn settle<S: Alter>(conn: &mut Connection<S>, found: Found, owner: OwnerId) -> Result<bool, Fault>
+    requires idle { conn.old.in_transaction ≡ false }
+    requires found { Finds (state S.Store conn.old).now.schema ledger_schema found }
+    ensures opens { IsLive (state S.Store conn.new) → IfOk result (λ ours. IsTrue ours → Settles owner (state S.Store conn.old) (state S.Store conn.new)) }
+    ensures ours { IsLive (state S.Store conn.new) → IfOk result (λ ours. IsTrue ours → IsBlankOrOurs owner (state S.Store conn.old)) }
+    ensures refused { IsLive (state S.Store conn.new) → (state S.Store conn.old).now ≡ (state S.Store conn.old).committed → IfOk result (λ ours. ours ≡ false → SameRows (state S.Store conn.old) (state S.Store conn.new)) }
+    ensures foreign { IfOk result (λ ours. ours ≡ false → (state S.Store conn.old).now.schema ≢ no_schema) }
+    ensures failed { IsLive (state S.Store conn.new) → (state S.Store conn.old).now ≡ (state S.Store conn.old).committed → OnErr result (SameRows (state S.Store conn.old) (state S.Store conn.new)) }
+    ensures idle { conn.new.in_transaction ≡ false }
+{
+    match found {
+        Found::Blank => {
+            make_ledger(conn, owner)?;
+            Ok(true)
+        }
+        Found::Ours => has_meta(conn, owner),
+        Found::Other => Ok(false),
+    }
+}
+
+impl<S: Alter> SqlLedger<S> {
+    /// Takes a database for the ledger of an owner of a scheme: one that holds this owner's ledger as it is, and
+    /// one with no table after it made the ledger's tables there. Where it can't, the connection comes back, with
+    /// its rows as before. A connection that is inside a transaction answers Store.
+    ///
+    /// Refused by the first case of `LedgerOpenFault` that applies.
+    pub fn open(
+        alloc: Global,
+        scheme: &Scheme,
+        owner: OwnerId,
+        conn: Connection<S>,
+    ) -> Result<SqlLedger<S>, (Connection<S>, LedgerOpenFault)>
+        ensures known { OnOk result (IsSome (position_of_owner scheme.now owner)) }
+        ensures unknown { IfErr result (λ e. (e.1 ≡ LedgerOpenFault.UnknownOwner) ↔ IsNone (position_of_owner scheme.now owner)) }
+        ensures owner { IfOk result (λ l. (stands S.Store l).value.owner ≡ owner) }
+        ensures scheme { IfOk result (λ l. IsOfScheme scheme.now (stands S.Store l).value) }
+        ensures made { IfOk result (λ l. (stands S.Store l).live → (state S.Store conn).now.schema ≡ no_schema → (stands S.Store l).lawful × IsEmptyLedger (stands S.Store l).value) }
+        ensures kept { IfOk result (λ l. (stands S.Store l).live → IsFit ledger_schema (IsLawful owner scheme.now.start) (state S.Store conn) → (stands S.Store l).lawful × ((stands S.Store l).value ≡ value_at owner scheme.now.start (stands S.Store l).value.knows (state S.Store conn).now.trees)) }
+        ensures ours { IfOk result (λ l. (stands S.Store l).live → IsBlankOrOurs owner (state S.Store conn)) }
+        ensures failures { IfOk result (λ l. (stands S.Store l).failures ≡ 0) }
+        ensures foreign { IfErr result (λ e. e.1 ≡ LedgerOpenFault.Foreign → (state S.Store conn).now.schema ≢ no_schema) }
+        ensures refused { IfErr result (λ e. IsLive (state S.Store e.0) → (state S.Store conn).now ≡ (state S.Store conn).committed → SameRows (state S.Store conn) (state S.Store e.0)) }
+    {
+        let mut conn = conn;
+        if scheme.owner_position(owner).is_none() {
+            return Err((conn, LedgerOpenFault::UnknownOwner));
+        }
+        if !conn.is_autocommit() {
+            return Err((conn, LedgerOpenFault::Store));
+        }
+        let found = match look(&conn, alloc, owner) {
+            Ok(found) => found,
+            Err(fault) => return Err((conn, open_fault(fault))),
+        };
+        let Ok(devices) = devices_of(alloc, scheme) else {
+            return Err((conn, LedgerOpenFault::Memory));
+        };
+        match settle(&mut conn, found, owner) {
+            Ok(true) => Ok(SqlLedger {
+                alloc,
+                conn,
+                owner,
+                start: scheme.start(),
+                devices,
+                failures: 0,
+            }),
+            Ok(false) => Err((conn, LedgerOpenFault::Foreign)),
+            Err(fault) => Err((conn, open_fault(fault))),
+        }
+    }
+
+    /// Gives the connection back, with the rows as they are.
+    pub fn into_connection(self) -> Connection<S>
+        ensures idle { result.in_transaction ≡ false }
+        ensures live { (stands S.Store self).live → IsLive (state S.Store result) }
+        ensures kept { (stands S.Store self).lawful → IsFit ledger_schema (IsLawful (stands S.Store self).value.owner (stands S.Store self).value.start) (state S.Store result)
+            × (value_at (stands S.Store self).value.owner (stands S.Store self).value.start (stands S.Store self).value.knows (state S.Store result).now.trees ≡ (stands S.Store self).value) }
+    {
+        self.into_parts()
+    }
+}

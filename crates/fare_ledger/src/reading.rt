@@ -1,0 +1,195 @@
+ghost use Rattle.std.specs.Prelude.{◌≡◌, ◌+◌, ◌-◌, ◌==◌, ◌<◌, ◌≤◌, false, None, Some, if◌then◌else◌, length, filter, IsTrue, IfOk, OnOk};
+ghost use Rattle.sqlite.specs.State.{HasCleanDisk, Survives};
+ghost use Rattle.sqlite.specs.Held.{state};
+ghost use Rattle.fare_tables.specs.Asking.{IsLive, IsAtRest, SameRows};
+ghost use Rattle.sqlite_value.specs.Order.{column};
+ghost use Rattle.fare_tables.specs.Cells.{int, counted};
+ghost use Rattle.fare_ledger.specs.Tables.{ledger_schema};
+ghost use Rattle.fare_ledger.specs.Held.{held_of, IsReady, stated_in, is_on, is_begun, IsWithin};
+ghost use Rattle.fare_ledger.specs.Words.{AreApart};
+
+use crate::asking::ask;
+use crate::lane::Lane;
+use fare_record::{Day, DeviceId};
+use fare_store::Fault;
+use fare_tables::{cell, count, number};
+use sqlite::{Alter, Connection, Row};
+
+// As many days as there are may be closed.
+const MOST_DAYS: u64 = 100_001;
+
+// The numbers that a row shows. Numbers past their limits answer Store.
+fn lane_in(row: &Row) -> Result<Lane, Fault>
+    ensures taken { IfOk result (λ lane. column row.now 0 ≡ int lane.taken) }
+    ensures closed { IfOk result (λ lane. column row.now 1 ≡ int lane.closed) }
+    ensures within { IfOk result IsWithin }
+{
+    let taken = count(row, 0)?;
+    let closed = number(row, 1)?;
+    if closed > MOST_DAYS {
+        return Err(Fault::Store);
+    }
+    Ok(Lane { taken, closed })
+}
+
+// How many taps of a device are taken, and how many of its days closed: none where it has no row.
+pub(crate) fn read_lane<S: Alter>(conn: &mut Connection<S>, device: DeviceId) -> Result<Lane, Fault>
+    ensures value { IsLive (state S.Store conn.new) → IsReady (state S.Store conn.old) → IfOk result (λ lane. lane ≡ (held_of (state S.Store conn.old).now.trees).lanes device) }
+    ensures within { IfOk result IsWithin }
+    ensures same { IsLive (state S.Store conn.new) → IsAtRest ledger_schema (state S.Store conn.old) → SameRows (state S.Store conn.old) (state S.Store conn.new) }
+    ensures crash { Survives (state S.Store conn.old) (state S.Store conn.new) (λ _. ¬ IsAtRest ledger_schema (state S.Store conn.old)) }
+    ensures live { IsLive (state S.Store conn.new) → IsLive (state S.Store conn.old) }
+    ensures stays { HasCleanDisk (state S.Store conn.new) → OnOk result (IsTrue (state S.Store conn.new).is_open) }
+    ensures mode { conn.old.in_transaction ≡ false → conn.new.in_transaction ≡ false }
+{
+    match ask(
+        conn,
+        "SELECT taken, closed FROM lane WHERE device = ?1",
+        &[cell(u64::from(device.get()))],
+    )? {
+        Some(row) => lane_in(&row),
+        None => Ok(Lane {
+            taken: 0,
+            closed: 0,
+        }),
+    }
+}
+
+// The last of the closed days, which are so many from a day on. A day past the last one there is answers Store.
+fn last_day(start: Day, closed: u64) -> Result<Option<Day>, Fault>
+    requires { closed ≤ 100001 }
+    ensures { IfOk result (λ day. day ≡ (if closed == 0 then None else Some (start + closed - 1))) }
+{
+    if closed == 0 {
+        return Ok(None);
+    }
+    match Day::new(u64::from(start.get()) + closed - 1) {
+        Some(day) => Ok(Some(day)),
+        None => Err(Fault::Store),
+    }
+}
+
+// The last closed day of a device, where the days are closed from this one on.
+pub(crate) fn read_last<S: Alter>(
+    conn: &mut Connection<S>,
+    device: DeviceId,
+    start: Day,
+) -> Result<Option<Day>, Fault>
+    ensures value { IsLive (state S.Store conn.new) → IsReady (state S.Store conn.old) → IfOk result (λ day. day ≡ (if ((held_of (state S.Store conn.old).now.trees).lanes device).closed == 0 then None else Some (start + ((held_of (state S.Store conn.old).now.trees).lanes device).closed - 1))) }
+    ensures same { IsLive (state S.Store conn.new) → IsAtRest ledger_schema (state S.Store conn.old) → SameRows (state S.Store conn.old) (state S.Store conn.new) }
+    ensures crash { Survives (state S.Store conn.old) (state S.Store conn.new) (λ _. ¬ IsAtRest ledger_schema (state S.Store conn.old)) }
+    ensures live { IsLive (state S.Store conn.new) → IsLive (state S.Store conn.old) }
+    ensures stays { HasCleanDisk (state S.Store conn.new) → OnOk result (IsTrue (state S.Store conn.new).is_open) }
+    ensures mode { conn.old.in_transaction ≡ false → conn.new.in_transaction ≡ false }
+{
+    let lane = read_lane(conn, device)?;
+    last_day(start, lane.closed)
+}
+
+// The stated count of a day.
+pub(crate) fn read_stated<S: Alter>(
+    conn: &mut Connection<S>,
+    device: DeviceId,
+    day: Day,
+) -> Result<Option<u64>, Fault>
+    ensures value { IsLive (state S.Store conn.new) → IsReady (state S.Store conn.old) → AreApart (held_of (state S.Store conn.old).now.trees).statements → IfOk result (λ held. held ≡ stated_in (held_of (state S.Store conn.old).now.trees).statements device day) }
+    ensures same { IsLive (state S.Store conn.new) → IsAtRest ledger_schema (state S.Store conn.old) → SameRows (state S.Store conn.old) (state S.Store conn.new) }
+    ensures crash { Survives (state S.Store conn.old) (state S.Store conn.new) (λ _. ¬ IsAtRest ledger_schema (state S.Store conn.old)) }
+    ensures live { IsLive (state S.Store conn.new) → IsLive (state S.Store conn.old) }
+    ensures stays { HasCleanDisk (state S.Store conn.new) → OnOk result (IsTrue (state S.Store conn.new).is_open) }
+    ensures mode { conn.old.in_transaction ≡ false → conn.new.in_transaction ≡ false }
+{
+    let asked = [cell(u64::from(device.get())), cell(u64::from(day.get()))];
+    match ask(
+        conn,
+        "SELECT total FROM stated WHERE device = ?1 AND day = ?2",
+        &asked,
+    )? {
+        Some(row) => Ok(Some(count(&row, 0)?)),
+        None => Ok(None),
+    }
+}
+
+// A count that SQLite didn't end at its greatest integer.
+fn exact(n: u64) -> Result<u64, Fault>
+    ensures { IfOk result (λ k. (k ≡ n) × (k < 9223372036854775807)) }
+{
+    if n < 9_223_372_036_854_775_807 {
+        Ok(n)
+    } else {
+        Err(Fault::Store)
+    }
+}
+
+// How many taps of a device are of a day.
+pub(crate) fn count_day<S: Alter>(
+    conn: &mut Connection<S>,
+    device: DeviceId,
+    day: Day,
+) -> Result<u64, Fault>
+    ensures value { IsLive (state S.Store conn.new) → IsReady (state S.Store conn.old) → IfOk result (λ n. n ≡ length (filter (is_on device day) (held_of (state S.Store conn.old).now.trees).taps)) }
+    ensures same { IsLive (state S.Store conn.new) → IsAtRest ledger_schema (state S.Store conn.old) → SameRows (state S.Store conn.old) (state S.Store conn.new) }
+    ensures crash { Survives (state S.Store conn.old) (state S.Store conn.new) (λ _. ¬ IsAtRest ledger_schema (state S.Store conn.old)) }
+    ensures live { IsLive (state S.Store conn.new) → IsLive (state S.Store conn.old) }
+    ensures stays { HasCleanDisk (state S.Store conn.new) → OnOk result (IsTrue (state S.Store conn.new).is_open) }
+    ensures mode { conn.old.in_transaction ≡ false → conn.new.in_transaction ≡ false }
+{
+    let asked = [cell(u64::from(device.get())), cell(u64::from(day.get()))];
+    match ask(
+        conn,
+        "SELECT count(*) FROM tap WHERE device = ?1 AND day = ?2",
+        &asked,
+    )? {
+        Some(row) => exact(number(&row, 0)?),
+        None => Err(Fault::Store),
+    }
+}
+
+// How many devices have a tap taken or a day closed.
+pub(crate) fn count_begun<S: Alter>(conn: &mut Connection<S>) -> Result<u64, Fault>
+    ensures value { IsLive (state S.Store conn.new) → IsReady (state S.Store conn.old) → IfOk result (λ n. n ≡ counted (length (filter is_begun ((state S.Store conn.old).now.trees 1)))) }
+    ensures same { IsLive (state S.Store conn.new) → IsAtRest ledger_schema (state S.Store conn.old) → SameRows (state S.Store conn.old) (state S.Store conn.new) }
+    ensures crash { Survives (state S.Store conn.old) (state S.Store conn.new) (λ _. ¬ IsAtRest ledger_schema (state S.Store conn.old)) }
+    ensures live { IsLive (state S.Store conn.new) → IsLive (state S.Store conn.old) }
+    ensures stays { HasCleanDisk (state S.Store conn.new) → OnOk result (IsTrue (state S.Store conn.new).is_open) }
+    ensures mode { conn.old.in_transaction ≡ false → conn.new.in_transaction ≡ false }
+{
+    match ask(
+        conn,
+        "SELECT count(*) FROM lane WHERE taken > 0 OR closed > 0",
+        &[],
+    )? {
+        Some(row) => number(&row, 0),
+        None => Err(Fault::Store),
+    }
+}
+
+// How many taps there are.
+pub(crate) fn count_taps<S: Alter>(conn: &mut Connection<S>) -> Result<u64, Fault>
+    ensures value { IsLive (state S.Store conn.new) → IsReady (state S.Store conn.old) → IfOk result (λ n. n ≡ counted (length (held_of (state S.Store conn.old).now.trees).taps)) }
+    ensures same { IsLive (state S.Store conn.new) → IsAtRest ledger_schema (state S.Store conn.old) → SameRows (state S.Store conn.old) (state S.Store conn.new) }
+    ensures crash { Survives (state S.Store conn.old) (state S.Store conn.new) (λ _. ¬ IsAtRest ledger_schema (state S.Store conn.old)) }
+    ensures live { IsLive (state S.Store conn.new) → IsLive (state S.Store conn.old) }
+    ensures stays { HasCleanDisk (state S.Store conn.new) → OnOk result (IsTrue (state S.Store conn.new).is_open) }
+    ensures mode { conn.old.in_transaction ≡ false → conn.new.in_transaction ≡ false }
+{
+    match ask(conn, "SELECT count(*) FROM tap", &[])? {
+        Some(row) => number(&row, 0),
+        None => Err(Fault::Store),
+    }
+}
+
+// How many statements there are.
+pub(crate) fn count_statements<S: Alter>(conn: &mut Connection<S>) -> Result<u64, Fault>
+    ensures value { IsLive (state S.Store conn.new) → IsReady (state S.Store conn.old) → IfOk result (λ n. n ≡ counted (length (held_of (state S.Store conn.old).now.trees).statements)) }
+    ensures same { IsLive (state S.Store conn.new) → IsAtRest ledger_schema (state S.Store conn.old) → SameRows (state S.Store conn.old) (state S.Store conn.new) }
+    ensures crash { Survives (state S.Store conn.old) (state S.Store conn.new) (λ _. ¬ IsAtRest ledger_schema (state S.Store conn.old)) }
+    ensures live { IsLive (state S.Store conn.new) → IsLive (state S.Store conn.old) }
+    ensures stays { HasCleanDisk (state S.Store conn.new) → OnOk result (IsTrue (state S.Store conn.new).is_open) }
+    ensures mode { conn.old.in_transaction ≡ false → conn.new.in_transaction ≡ false }
+{
+    match ask(conn, "SELECT count(*) FROM stated", &[])? {
+        Some(row) => number(&row, 0),
+        None => Err(Fault::Store),
+    }
+}

@@ -1,0 +1,56 @@
+ghost use Rattle.std.specs.Prelude.{◌≡◌, ◌≤◌, None};
+ghost use Rattle.sqlite.specs.Held.{state};
+ghost use Rattle.fare_store.specs.Standing.{Calls, fault_of};
+ghost use Rattle.fare_store.specs.LedgerWords.{took, with_statement, with_close};
+ghost use Rattle.fare_tables.specs.Asking.{IsUp};
+ghost use Rattle.fare_tables.specs.Tabled.{given, Makes};
+ghost use Rattle.fare_ledger.specs.Held.{IsWithin};
+ghost use Rattle.fare_ledger.specs.Words.{stands, MayTake, MayClose};
+
+use crate::SqlLedger;
+use crate::lane::Lane;
+use crate::writing::{write_numbers, write_statement, write_tap};
+use fare_record::{DeviceId, Record, Statement};
+use fare_store::Fault;
+use fare_tables::note;
+use sqlite::Alter;
+
+impl<S: Alter> SqlLedger<S> {
+    // Takes a tap that may be taken, where so many days of its device are closed.
+    pub(crate) fn put_tap(&mut self, row: &Record, closed: u64) -> Result<(), Fault>
+        requires up { IsUp (state S.Store self.old.conn) }
+        requires low { closed ≤ 100001 }
+        ensures { Calls (given (MayTake (stands S.Store self.old).value row.now closed) (stands S.Store self.old)) (stands S.Store self.new) (fault_of result)
+            (Makes (stands S.Store self.old).value (stands S.Store self.new).value (took row.now (stands S.Store self.old).value) result) (λ v. v ≡ took row.now (stands S.Store self.old).value) }
+    {
+        match write_tap(&mut self.conn, row, closed) {
+            Ok(()) => Ok(()),
+            Err(fault) => Err(note(&mut self.failures, fault)),
+        }
+    }
+
+    // Takes a statement that may be taken.
+    pub(crate) fn put_statement(&mut self, statement: &Statement) -> Result<(), Fault>
+        requires up { IsUp (state S.Store self.old.conn) }
+        ensures { Calls (given ((stands S.Store self.old).value.stated statement.now.device statement.now.day ≡ None) (stands S.Store self.old)) (stands S.Store self.new) (fault_of result)
+            (Makes (stands S.Store self.old).value (stands S.Store self.new).value (with_statement statement.now (stands S.Store self.old).value) result) (λ v. v ≡ with_statement statement.now (stands S.Store self.old).value) }
+    {
+        match write_statement(&mut self.conn, statement) {
+            Ok(()) => Ok(()),
+            Err(fault) => Err(note(&mut self.failures, fault)),
+        }
+    }
+
+    // Closes a device's first day that isn't closed, where it may be and these are the device's numbers.
+    pub(crate) fn put_close(&mut self, device: DeviceId, lane: &Lane) -> Result<(), Fault>
+        requires up { IsUp (state S.Store self.old.conn) }
+        requires within { IsWithin lane.now }
+        ensures { Calls (given (MayClose (stands S.Store self.old).value device lane.now) (stands S.Store self.old)) (stands S.Store self.new) (fault_of result)
+            (Makes (stands S.Store self.old).value (stands S.Store self.new).value (with_close device (stands S.Store self.old).value) result) (λ v. v ≡ with_close device (stands S.Store self.old).value) }
+    {
+        match write_numbers(&mut self.conn, device, lane.taken, lane.closed + 1) {
+            Ok(()) => Ok(()),
+            Err(fault) => Err(note(&mut self.failures, fault)),
+        }
+    }
+}

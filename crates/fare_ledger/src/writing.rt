@@ -1,0 +1,200 @@
+ghost use Rattle.std.specs.Prelude.{◌≡◌, ◌<◌, ◌^◌, false, IsTrue, OnOk, OnErr};
+ghost use Rattle.sqlite.specs.State.{HasCleanDisk, Survives};
+ghost use Rattle.sqlite.specs.Held.{state};
+ghost use Rattle.sqlite.specs.Values.{bound};
+ghost use Rattle.fare_tables.specs.Asking.{IsLive, SameRows, Inside};
+ghost use Rattle.fare_tables.specs.Cells.{AreRows};
+ghost use Rattle.fare_ledger.specs.Tables.{ledger_schema};
+ghost use Rattle.fare_ledger.specs.Held.{held_of, AreReadable, IsReady, IsLane, Becomes, PutsTap, PutsStated, PutsLane, tap_cells, stated_cells, row_of, row_stated, with_tap, with_stated, with_numbers};
+
+use fare_record::{DeviceId, Record, Statement};
+use fare_store::Fault;
+use fare_tables::{cell, change, fault_of};
+use sqlite::types::ValueRef;
+use sqlite::{Alter, Connection, Transaction};
+
+fn cells_of(row: &Record) -> [ValueRef<'static>; 7]
+    ensures { bound result ≡ tap_cells (row_of row.now) }
+{
+    let tap = row.tap();
+    [
+        cell(u64::from(row.device().get())),
+        cell(row.lane()),
+        cell(row.link()),
+        cell(u64::from(tap.product().get())),
+        cell(tap.token().get()),
+        cell(tap.moment().get()),
+        cell(u64::from(tap.day().get())),
+    ]
+}
+
+fn put_tap<S: Alter>(tx: &mut Transaction<'_, S>, row: &Record) -> Result<(), Fault>
+    ensures same_reference { tx.new.conn.ghost_name ≡ tx.old.conn.ghost_name }
+    ensures puts { HasCleanDisk (state S.Store tx.new.conn.now) → IsTrue (state S.Store tx.old.conn.now).in_transaction → (state S.Store tx.old.conn.now).now.schema ≡ ledger_schema
+        → OnOk result (PutsTap (state S.Store tx.old.conn.now).now (state S.Store tx.new.conn.now).now (row_of row.now) × IsTrue (state S.Store tx.new.conn.now).in_transaction) }
+    ensures inside { HasCleanDisk (state S.Store tx.new.conn.now) → Inside (state S.Store tx.old.conn.now) (state S.Store tx.new.conn.now) }
+    ensures survives { Survives (state S.Store tx.old.conn.now) (state S.Store tx.new.conn.now) (λ _. ⊥) }
+{
+    let cells = cells_of(row);
+    match change(
+        tx,
+        "INSERT INTO tap (device, lane, link, product, token, moment, day) VALUES (?1, ?2, ?3, ?4, ?5, ?6, ?7)",
+        &cells,
+    ) {
+        Ok(_) => Ok(()),
+        Err(fault) => Err(fault),
+    }
+}
+
+fn put_lane<S: Alter>(
+    tx: &mut Transaction<'_, S>,
+    device: DeviceId,
+    taken: u64,
+    closed: u64,
+) -> Result<(), Fault>
+    requires taken { taken < 2 ^ 63 }
+    requires closed { closed < 2 ^ 63 }
+    ensures same_reference { tx.new.conn.ghost_name ≡ tx.old.conn.ghost_name }
+    ensures puts { HasCleanDisk (state S.Store tx.new.conn.now) → IsTrue (state S.Store tx.old.conn.now).in_transaction → (state S.Store tx.old.conn.now).now.schema ≡ ledger_schema → AreRows IsLane ((state S.Store tx.old.conn.now).now.trees 1)
+        → OnOk result (PutsLane (state S.Store tx.old.conn.now).now (state S.Store tx.new.conn.now).now device taken closed × IsTrue (state S.Store tx.new.conn.now).in_transaction) }
+    ensures inside { HasCleanDisk (state S.Store tx.new.conn.now) → Inside (state S.Store tx.old.conn.now) (state S.Store tx.new.conn.now) }
+    ensures survives { Survives (state S.Store tx.old.conn.now) (state S.Store tx.new.conn.now) (λ _. ⊥) }
+{
+    let cells = [cell(u64::from(device.get())), cell(taken), cell(closed)];
+    match change(
+        tx,
+        "INSERT INTO lane (device, taken, closed) VALUES (?1, ?2, ?3) ON CONFLICT (device) DO UPDATE SET taken = excluded.taken, closed = excluded.closed",
+        &cells,
+    ) {
+        Ok(_) => Ok(()),
+        Err(fault) => Err(fault),
+    }
+}
+
+// The tap and its device's numbers.
+fn put_row<S: Alter>(tx: &mut Transaction<'_, S>, row: &Record, closed: u64) -> Result<(), Fault>
+    requires { closed < 2 ^ 63 }
+    ensures same_reference { tx.new.conn.ghost_name ≡ tx.old.conn.ghost_name }
+    ensures puts { HasCleanDisk (state S.Store tx.new.conn.now) → IsTrue (state S.Store tx.old.conn.now).in_transaction → (state S.Store tx.old.conn.now).now.schema ≡ ledger_schema → AreReadable (state S.Store tx.old.conn.now).now.trees
+        → OnOk result (Becomes (state S.Store tx.new.conn.now).now (with_tap (row_of row.now) closed (held_of (state S.Store tx.old.conn.now).now.trees)) × IsTrue (state S.Store tx.new.conn.now).in_transaction) }
+    ensures inside { HasCleanDisk (state S.Store tx.new.conn.now) → Inside (state S.Store tx.old.conn.now) (state S.Store tx.new.conn.now) }
+    ensures survives { Survives (state S.Store tx.old.conn.now) (state S.Store tx.new.conn.now) (λ _. ⊥) }
+{
+    put_tap(tx, row)?;
+    put_lane(tx, row.device(), row.lane(), closed)
+}
+
+// The tap and its device's numbers, of which the number of closed days is as before, in one transaction.
+pub(crate) fn write_tap<S: Alter>(
+    conn: &mut Connection<S>,
+    row: &Record,
+    closed: u64,
+) -> Result<(), Fault>
+    requires low { closed < 2 ^ 63 }
+    requires idle { conn.old.in_transaction ≡ false }
+    ensures value { IsLive (state S.Store conn.new) → IsReady (state S.Store conn.old) → OnOk result (Becomes (state S.Store conn.new).now (with_tap (row_of row.now) closed (held_of (state S.Store conn.old).now.trees)) × ((state S.Store conn.new).now ≡ (state S.Store conn.new).committed)) }
+    ensures same { IsLive (state S.Store conn.new) → IsReady (state S.Store conn.old) → OnErr result (SameRows (state S.Store conn.old) (state S.Store conn.new)) }
+    ensures crash { Survives (state S.Store conn.old) (state S.Store conn.new) (λ trees. IsReady (state S.Store conn.old) → held_of trees ≡ with_tap (row_of row.now) closed (held_of (state S.Store conn.old).now.trees)) }
+    ensures live { IsLive (state S.Store conn.new) → IsLive (state S.Store conn.old) }
+    ensures stays { HasCleanDisk (state S.Store conn.new) → OnOk result (IsTrue (state S.Store conn.new).is_open) }
+    ensures idle { conn.new.in_transaction ≡ false }
+{
+    let mut tx = conn.transaction();
+    put_row(&mut tx, row, closed)?;
+    match tx.commit() {
+        Ok(()) => Ok(()),
+        Err(error) => Err(fault_of(error)),
+    }
+}
+
+fn cells_stated(statement: &Statement) -> [ValueRef<'static>; 3]
+    ensures { bound result ≡ stated_cells (row_stated statement.now) }
+{
+    [
+        cell(u64::from(statement.device().get())),
+        cell(u64::from(statement.day().get())),
+        cell(statement.count()),
+    ]
+}
+
+fn put_statement<S: Alter>(tx: &mut Transaction<'_, S>, statement: &Statement) -> Result<(), Fault>
+    ensures same_reference { tx.new.conn.ghost_name ≡ tx.old.conn.ghost_name }
+    ensures puts { HasCleanDisk (state S.Store tx.new.conn.now) → IsTrue (state S.Store tx.old.conn.now).in_transaction → (state S.Store tx.old.conn.now).now.schema ≡ ledger_schema → AreReadable (state S.Store tx.old.conn.now).now.trees
+        → OnOk result (Becomes (state S.Store tx.new.conn.now).now (with_stated (row_stated statement.now) (held_of (state S.Store tx.old.conn.now).now.trees)) × IsTrue (state S.Store tx.new.conn.now).in_transaction) }
+    ensures inside { HasCleanDisk (state S.Store tx.new.conn.now) → Inside (state S.Store tx.old.conn.now) (state S.Store tx.new.conn.now) }
+    ensures survives { Survives (state S.Store tx.old.conn.now) (state S.Store tx.new.conn.now) (λ _. ⊥) }
+{
+    let cells = cells_stated(statement);
+    match change(
+        tx,
+        "INSERT INTO stated (device, day, total) VALUES (?1, ?2, ?3)",
+        &cells,
+    ) {
+        Ok(_) => Ok(()),
+        Err(fault) => Err(fault),
+    }
+}
+
+// The statement, in one transaction.
+pub(crate) fn write_statement<S: Alter>(
+    conn: &mut Connection<S>,
+    statement: &Statement,
+) -> Result<(), Fault>
+    requires { conn.old.in_transaction ≡ false }
+    ensures value { IsLive (state S.Store conn.new) → IsReady (state S.Store conn.old) → OnOk result (Becomes (state S.Store conn.new).now (with_stated (row_stated statement.now) (held_of (state S.Store conn.old).now.trees)) × ((state S.Store conn.new).now ≡ (state S.Store conn.new).committed)) }
+    ensures same { IsLive (state S.Store conn.new) → IsReady (state S.Store conn.old) → OnErr result (SameRows (state S.Store conn.old) (state S.Store conn.new)) }
+    ensures crash { Survives (state S.Store conn.old) (state S.Store conn.new) (λ trees. IsReady (state S.Store conn.old) → held_of trees ≡ with_stated (row_stated statement.now) (held_of (state S.Store conn.old).now.trees)) }
+    ensures live { IsLive (state S.Store conn.new) → IsLive (state S.Store conn.old) }
+    ensures stays { HasCleanDisk (state S.Store conn.new) → OnOk result (IsTrue (state S.Store conn.new).is_open) }
+    ensures idle { conn.new.in_transaction ≡ false }
+{
+    let mut tx = conn.transaction();
+    put_statement(&mut tx, statement)?;
+    match tx.commit() {
+        Ok(()) => Ok(()),
+        Err(error) => Err(fault_of(error)),
+    }
+}
+
+// A device's numbers.
+fn put_numbers<S: Alter>(
+    tx: &mut Transaction<'_, S>,
+    device: DeviceId,
+    taken: u64,
+    closed: u64,
+) -> Result<(), Fault>
+    requires taken { taken < 2 ^ 63 }
+    requires closed { closed < 2 ^ 63 }
+    ensures same_reference { tx.new.conn.ghost_name ≡ tx.old.conn.ghost_name }
+    ensures puts { HasCleanDisk (state S.Store tx.new.conn.now) → IsTrue (state S.Store tx.old.conn.now).in_transaction → (state S.Store tx.old.conn.now).now.schema ≡ ledger_schema → AreReadable (state S.Store tx.old.conn.now).now.trees
+        → OnOk result (Becomes (state S.Store tx.new.conn.now).now (with_numbers device taken closed (held_of (state S.Store tx.old.conn.now).now.trees)) × IsTrue (state S.Store tx.new.conn.now).in_transaction) }
+    ensures inside { HasCleanDisk (state S.Store tx.new.conn.now) → Inside (state S.Store tx.old.conn.now) (state S.Store tx.new.conn.now) }
+    ensures survives { Survives (state S.Store tx.old.conn.now) (state S.Store tx.new.conn.now) (λ _. ⊥) }
+{
+    put_lane(tx, device, taken, closed)
+}
+
+// A device's numbers, in one transaction.
+pub(crate) fn write_numbers<S: Alter>(
+    conn: &mut Connection<S>,
+    device: DeviceId,
+    taken: u64,
+    closed: u64,
+) -> Result<(), Fault>
+    requires taken { taken < 2 ^ 63 }
+    requires closed { closed < 2 ^ 63 }
+    requires idle { conn.old.in_transaction ≡ false }
+    ensures value { IsLive (state S.Store conn.new) → IsReady (state S.Store conn.old) → OnOk result (Becomes (state S.Store conn.new).now (with_numbers device taken closed (held_of (state S.Store conn.old).now.trees)) × ((state S.Store conn.new).now ≡ (state S.Store conn.new).committed)) }
+    ensures same { IsLive (state S.Store conn.new) → IsReady (state S.Store conn.old) → OnErr result (SameRows (state S.Store conn.old) (state S.Store conn.new)) }
+    ensures crash { Survives (state S.Store conn.old) (state S.Store conn.new) (λ trees. IsReady (state S.Store conn.old) → held_of trees ≡ with_numbers device taken closed (held_of (state S.Store conn.old).now.trees)) }
+    ensures live { IsLive (state S.Store conn.new) → IsLive (state S.Store conn.old) }
+    ensures stays { HasCleanDisk (state S.Store conn.new) → OnOk result (IsTrue (state S.Store conn.new).is_open) }
+    ensures idle { conn.new.in_transaction ≡ false }
+{
+    let mut tx = conn.transaction();
+    put_numbers(&mut tx, device, taken, closed)?;
+    match tx.commit() {
+        Ok(()) => Ok(()),
+        Err(error) => Err(fault_of(error)),
+    }
+}

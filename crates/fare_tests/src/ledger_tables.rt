@@ -1,0 +1,319 @@
+use crate::stores::{Answer, Call, answer_to, unclosed, untaken};
+use fare_ledger::{LedgerOpenFault, SqlLedger};
+use fare_owner::{CloseFault, StatementFault, TapFault};
+use fare_record::{Day, OwnerId};
+use fare_scheme::{DemoSize, Scheme};
+use fare_store::{Fault, Ledger, Refused};
+use sqlite::{Alter, Connection, FileStore, Files, MemStore, Options};
+use sqlite_disk::{Fuse, Memory};
+use sqlite_trees::store::Reopen;
+use std::alloc::Global;
+
+// The tables of a ledger.
+const TABLES: &str = "CREATE TABLE meta (format INTEGER NOT NULL, owner INTEGER NOT NULL) STRICT;
+CREATE TABLE lane (device INTEGER PRIMARY KEY, taken INTEGER NOT NULL CHECK (taken >= 0),
+  closed INTEGER NOT NULL CHECK (closed >= 0)) STRICT;
+CREATE TABLE tap (device INTEGER NOT NULL, lane INTEGER NOT NULL, link INTEGER NOT NULL,
+  product INTEGER NOT NULL, token INTEGER NOT NULL, moment INTEGER NOT NULL,
+  day INTEGER NOT NULL, PRIMARY KEY (device, lane)) STRICT;
+CREATE TABLE stated (device INTEGER NOT NULL, day INTEGER NOT NULL, total INTEGER NOT NULL,
+  PRIMARY KEY (device, day)) STRICT;";
+
+// The demonstration scheme, with one device and owner 1.
+fn scheme(alloc: Global) -> Option<Scheme> {
+    Scheme::demo(alloc, DemoSize::OneDevice, 4, 4, 4).ok()
+}
+
+// A database in memory in which these statements were run.
+fn database(alloc: Global, sql: [&str; 2]) -> Option<Connection<MemStore>> {
+    let mut conn = Connection::open_in_memory(alloc).ok()?;
+    for text in sql {
+        conn.execute_batch(text).ok()?;
+    }
+    Some(conn)
+}
+
+fn ledger(alloc: Global, sql: [&str; 2]) -> Option<SqlLedger<MemStore>> {
+    SqlLedger::open(
+        alloc,
+        &scheme(alloc)?,
+        OwnerId::new(1)?,
+        database(alloc, sql)?,
+    )
+    .ok()
+}
+
+// Why the database isn't opened for an owner, and what this question then answers.
+fn refusal(
+    alloc: Global,
+    owner: u64,
+    sql: [&str; 2],
+    question: &str,
+) -> Option<(LedgerOpenFault, i64)> {
+    let conn = database(alloc, sql)?;
+    let opened = SqlLedger::open(alloc, &scheme(alloc)?, OwnerId::new(owner)?, conn);
+    let (mut conn, fault) = opened.err()?;
+    let rows = conn.query_row(question, &[]).ok()?.get(0).ok()?;
+    Some((fault, rows))
+}
+
+// Whether the ledger answers these calls so, one after the other.
+fn says(ledger: &mut SqlLedger<MemStore>, calls: &[(Call, Answer)]) -> bool {
+    for (call, want) in calls {
+        if answer_to(ledger, *call) != Some(*want) {
+            return false;
+        }
+    }
+    true
+}
+
+#[test]
+fn a_ledger_in_tables_takes_each_next_tap(rt: HostRuntime) {
+    let calls = [
+        (Call::Empty, Answer::Empty(Ok(true))),
+        (Call::Take(2), untaken(TapFault::Gap)),
+        (Call::TakeAll(300), Answer::Taken(Ok(()))),
+        (Call::Take(300), untaken(TapFault::Duplicate)),
+        (Call::Count, Answer::Number(Ok(300))),
+        (Call::DayCount, Answer::Number(Ok(300))),
+        (Call::Empty, Answer::Empty(Ok(false))),
+    ];
+    let mut ledger = ledger(rt.alloc(), ["", ""]).expect(&rt, "ledger");
+    assert_eq!(rt; says(&mut ledger, &calls), true);
+    assert_eq!(rt; Some(ledger.owner()), OwnerId::new(1));
+}
+
+#[test]
+fn a_ledger_in_tables_closes_a_day_where_the_counts_agree(rt: HostRuntime) {
+    let short = CloseFault::CountsShort {
+        stated: 1,
+        taken: 0,
+    };
+    let repeated = Answer::Stated(Err(Refused::Because(StatementFault::Repeated)));
+    let conflict = Answer::Stated(Err(Refused::Because(StatementFault::Conflict)));
+    let calls = [
+        (Call::Close, unclosed(CloseFault::Unstated)),
+        (Call::State(1), Answer::Stated(Ok(()))),
+        (Call::Stated, Answer::Maybe(Ok(Some(1)))),
+        (Call::State(1), repeated),
+        (Call::State(2), conflict),
+        (Call::Empty, Answer::Empty(Ok(false))),
+        (Call::Close, unclosed(short)),
+        (Call::ClosedThrough, Answer::Maybe(Ok(None))),
+        (Call::Take(1), Answer::Taken(Ok(()))),
+        (Call::Close, Answer::Closed(Ok(()))),
+        (Call::ClosedThrough, Answer::Maybe(Ok(Some(19_723)))),
+        (Call::Take(2), untaken(TapFault::AfterClose)),
+        (Call::Close, unclosed(CloseFault::AlreadyClosed)),
+        (Call::Count, Answer::Number(Ok(1))),
+    ];
+    let mut ledger = ledger(rt.alloc(), ["", ""]).expect(&rt, "ledger");
+    assert_eq!(rt; says(&mut ledger, &calls), true);
+}
+
+// The first and the last lane number of the taps of some days, in their order, and how many these are.
+fn between(alloc: Global, from: u64, to: u64) -> Option<(Option<u64>, Option<u64>, usize)> {
+    let mut ledger = ledger(alloc, ["", ""])?;
+    answer_to(&mut ledger, Call::TakeAll(3))?;
+    let taps = ledger.taps_between(Day::new(from)?, Day::new(to)?).ok()?;
+    let (first, last) = (taps.first().copied(), taps.last().copied());
+    Some((
+        first.map(|tap| tap.lane()),
+        last.map(|tap| tap.lane()),
+        taps.len(),
+    ))
+}
+
+#[test]
+fn a_ledger_in_tables_orders_the_taps_of_some_days(rt: HostRuntime) {
+    let cases = [
+        ((19_723, 19_723), (Some(3), Some(1), 3)),
+        ((19_724, 19_730), (None, None, 0)),
+        ((19_724, 19_723), (None, None, 0)),
+    ];
+    for ((from, to), want) in cases {
+        assert_eq!(rt; between(rt.alloc(), from, to), Some(want));
+    }
+}
+
+#[test]
+fn a_ledger_takes_its_own_tables(rt: HostRuntime) {
+    let calls = [
+        (Call::Count, Answer::Number(Ok(2))),
+        (Call::DayCount, Answer::Number(Ok(1))),
+        (Call::ClosedThrough, Answer::Maybe(Ok(Some(19_723)))),
+        (Call::Stated, Answer::Maybe(Ok(Some(1)))),
+        (Call::Close, unclosed(CloseFault::AlreadyClosed)),
+        (Call::Take(3), untaken(TapFault::AfterClose)),
+    ];
+    let rows = "INSERT INTO meta VALUES (1, 1); INSERT INTO lane VALUES (1, 2, 1);
+INSERT INTO tap VALUES (1, 1, 1, 1, 77, 1704100000, 19723), (1, 2, 2, 1, 77, 1704186400, 19724);
+INSERT INTO stated VALUES (1, 19723, 1)";
+    let mut ledger = ledger(rt.alloc(), [TABLES, rows]).expect(&rt, "ledger");
+    assert_eq!(rt; says(&mut ledger, &calls), true);
+}
+
+#[test]
+fn a_row_past_its_limits_fails_a_ledger(rt: HostRuntime) {
+    let calls = [
+        (Call::Count, Answer::Number(Err(Fault::Store))),
+        (Call::ClosedThrough, Answer::Maybe(Err(Fault::Store))),
+        (Call::Stated, Answer::Maybe(Err(Fault::Store))),
+        (
+            Call::Take(1),
+            Answer::Taken(Err(Refused::Failed(Fault::Store))),
+        ),
+    ];
+    let rows = "INSERT INTO meta VALUES (1, 1); INSERT INTO lane VALUES (1, 1099511627776, 0);
+INSERT INTO stated VALUES (1, 19723, 1099511627776)";
+    let mut ledger = ledger(rt.alloc(), [TABLES, rows]).expect(&rt, "ledger");
+    assert_eq!(rt; says(&mut ledger, &calls), true);
+}
+
+#[test]
+fn another_database_is_foreign_to_a_ledger_and_stays(rt: HostRuntime) {
+    let other = "CREATE TABLE tap (a INTEGER NOT NULL) STRICT; INSERT INTO tap VALUES (5)";
+    let whole = "CREATE TABLE meta (format INTEGER NOT NULL, owner INTEGER NOT NULL) STRICT";
+    let taps = "SELECT count(*) FROM tap";
+    let metas = "SELECT count(*) + 10 * coalesce(sum(format), 0) FROM meta";
+    let cases = [
+        ([TABLES, "INSERT INTO meta VALUES (9, 1)"], metas, 91),
+        ([TABLES, "INSERT INTO meta VALUES (1, 0)"], metas, 11),
+        ([TABLES, "INSERT INTO meta VALUES (1, 2)"], metas, 11),
+        (
+            [TABLES, "INSERT INTO meta VALUES (1, 1), (1, 1)"],
+            metas,
+            22,
+        ),
+        ([TABLES, ""], metas, 0),
+        (
+            [TABLES, "INSERT INTO meta VALUES (1, 1); DROP TABLE stated"],
+            metas,
+            11,
+        ),
+        ([other, ""], taps, 1),
+        ([whole, other], taps, 1),
+    ];
+    for (sql, question, rows) in cases {
+        assert_eq!(rt;
+            refusal(rt.alloc(), 1, sql, question),
+            Some((LedgerOpenFault::Foreign, rows))
+        );
+    }
+}
+
+#[test]
+fn a_ledger_in_tables_is_of_an_owner_of_the_scheme(rt: HostRuntime) {
+    let tables = "SELECT count(*) FROM sqlite_schema";
+    assert_eq!(rt;
+        refusal(rt.alloc(), 9, ["", ""], tables),
+        Some((LedgerOpenFault::UnknownOwner, 0))
+    );
+    let ours = "INSERT INTO meta VALUES (1, 1)";
+    assert_eq!(rt;
+        refusal(rt.alloc(), 9, [TABLES, ours], "SELECT owner FROM meta"),
+        Some((LedgerOpenFault::UnknownOwner, 1))
+    );
+}
+
+/// A ledger over two disks in memory that fail after some calls.
+type Burning = SqlLedger<FileStore<Fuse<Memory>>>;
+
+fn opened<S: Alter + Drop>(alloc: Global, conn: Connection<S>) -> Option<SqlLedger<S>> {
+    SqlLedger::open(alloc, &scheme(alloc)?, OwnerId::new(1)?, conn).ok()
+}
+
+fn burning(alloc: Global, calls: u64) -> Option<Burning> {
+    let files = Files {
+        log: Fuse::new(Memory::new(alloc), calls),
+        db: Fuse::new(Memory::new(alloc), calls),
+    };
+    opened(
+        alloc,
+        Connection::open_files(alloc, files, Options::new(1)).ok()?,
+    )
+}
+
+// The ledger after the machine stopped and came back.
+fn reopened<S: Alter + Reopen + Drop>(alloc: Global, ledger: SqlLedger<S>) -> Option<SqlLedger<S>> {
+    let mut store = ledger.into_connection().into_store();
+    store.crash_and_reopen().ok()?;
+    opened(alloc, Connection::over(alloc, store).ok()?)
+}
+
+// How many taps were taken before a disk that fails after some calls failed; how many an open then finds by the
+// device's number; and how many rows of taps there are.
+fn stopped(alloc: Global, calls: u64) -> Option<(u64, u64, usize)> {
+    let mut ledger = burning(alloc, calls)?;
+    let mut taken = 0u64;
+    for lane in 1..=5 {
+        match answer_to(&mut ledger, Call::Take(lane))? {
+            Answer::Taken(Ok(())) => taken = lane,
+            Answer::Taken(Err(Refused::Failed(Fault::Store))) => break,
+            _ => return None,
+        }
+    }
+    let mut ledger = reopened(alloc, ledger)?;
+    let Answer::Number(Ok(count)) = answer_to(&mut ledger, Call::Count)? else {
+        return None;
+    };
+    let day = Day::new(19_723)?;
+    let taps = ledger.taps_between(day, day).ok()?;
+    Some((taken, count, taps.len()))
+}
+
+#[test]
+fn a_stop_leaves_a_tap_and_its_number_or_neither(rt: HostRuntime) {
+    let mut early = 0u64;
+    let mut full = 0u64;
+    for calls in [16, 24, 32, 40, 48, 56, 64, 72, 80, 1_000] {
+        let Some((taken, count, rows)) = stopped(rt.alloc(), calls) else {
+            continue;
+        };
+        assert_eq!(rt;
+            (
+                rows as u64 == count,
+                count == taken || count == taken.saturating_add(1)
+            ),
+            (true, true)
+        );
+        if taken == 5 {
+            full = full.saturating_add(1);
+        } else {
+            early = early.saturating_add(1);
+        }
+    }
+    assert_eq!(rt; (early > 0, full > 0), (true, true));
+}
+
+// What a ledger answers to a count, the day's count, the day's statement and the last closed day.
+fn summary(ledger: &mut Burning) -> Option<[Answer; 4]> {
+    Some([
+        answer_to(ledger, Call::Count)?,
+        answer_to(ledger, Call::DayCount)?,
+        answer_to(ledger, Call::Stated)?,
+        answer_to(ledger, Call::ClosedThrough)?,
+    ])
+}
+
+// What a ledger of three taps and a closed day answers, before it is opened again and after.
+fn kept(alloc: Global) -> Option<([Answer; 4], [Answer; 4])> {
+    let mut ledger = burning(alloc, 1_000_000)?;
+    for call in [Call::TakeAll(3), Call::State(3), Call::Close] {
+        answer_to(&mut ledger, call)?;
+    }
+    let before = summary(&mut ledger)?;
+    let mut ledger = reopened(alloc, ledger)?;
+    Some((before, summary(&mut ledger)?))
+}
+
+#[test]
+fn a_ledger_opened_again_holds_its_rows(rt: HostRuntime) {
+    let want = [
+        Answer::Number(Ok(3)),
+        Answer::Number(Ok(3)),
+        Answer::Maybe(Ok(Some(3))),
+        Answer::Maybe(Ok(Some(19_723))),
+    ];
+    assert_eq!(rt; kept(rt.alloc()), Some((want, want)));
+}
