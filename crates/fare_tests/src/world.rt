@@ -77,7 +77,7 @@ fn run(world: PlainWorld, events: &[Event]) -> Option<Vec<Reply>> {
 // Whether the world answers these events so, one after the other.
 fn answers_so(world: &mut PlainWorld, events: &[Event], answers: &[Reply]) -> bool {
     for (event, answer) in events.iter().zip(answers) {
-        if world.apply(event) != Ok(*answer) {
+        if !world.apply(event).is_ok_and(|reply| reply == *answer) {
             return false;
         }
     }
