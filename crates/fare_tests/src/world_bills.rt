@@ -6,17 +6,15 @@ use fare_store::Refused;
 use fare_world::{BillFault, Event};
 use std::alloc::Global;
 
-// What states the first day of device 1 to owner 1, and closes it, where the air has this many packets.
-fn closing(packets: u64) -> Option<[Event; 9]> {
+// What states the first day of device 1 to owner 1, and closes it, behind these journeys.
+fn closing() -> Option<[Event; 9]> {
     let device = DeviceId::new(1)?;
     let owner = OwnerId::new(1)?;
     let day = Day::new(19_723)?;
     Some([
         Event::Turn { device },
         Event::State { device, day, owner },
-        Event::Arrive {
-            packet: packets + 1,
-        },
+        Event::Arrive { packet: 901 },
         Event::Draw,
         Event::Store,
         Event::Forward { owner, device },
@@ -34,7 +32,7 @@ fn busy_world(alloc: Global) -> Option<PlainWorld> {
 
 // The same, and the day is closed.
 fn closed_world(alloc: Global) -> Option<PlainWorld> {
-    let (world, _replies) = busy_world(alloc)?.run(&closing(900)?).ok()?;
+    let (world, _replies) = busy_world(alloc)?.run(&closing()?).ok()?;
     Some(world)
 }
 
@@ -48,12 +46,7 @@ type Read = (usize, u64, u64, u128);
 
 fn read(bill: &Bill) -> Option<Read> {
     let row: &Row = bill.rows().first()?;
-    Some((
-        bill.rows().len(),
-        row.rides,
-        row.amount.get(),
-        bill.total(),
-    ))
+    Some((bill.rows().len(), row.rides, row.amount.get(), bill.total()))
 }
 
 // The one share of a settlement: operator, taps and amount.
@@ -69,9 +62,7 @@ fn closed_day(alloc: Global) -> Option<(Read, Read, (u16, u64, u128))> {
     let mut world = closed_world(alloc)?;
     let first = read(&bill(&mut world, 1, 19_723)?.ok()?)?;
     let again = read(&bill(&mut world, 1, 19_723)?.ok()?)?;
-    let settlement = world
-        .settlement(OwnerId::new(1)?, Day::new(19_723)?)
-        .ok()?;
+    let settlement = world.settlement(OwnerId::new(1)?, Day::new(19_723)?).ok()?;
     Some((first, again, share(&settlement)?))
 }
 
@@ -81,22 +72,24 @@ fn a_closed_day_has_a_bill(rt: HostRuntime) {
     assert_eq!(rt; closed_day(rt.alloc()), Some((all, all, (1, 450, 525))));
 }
 
-// Why there is no bill, of an unknown owner, of a day before the first one, and of two open days.
-fn refusals(alloc: Global) -> Option<[Refused<BillFault>; 4]> {
+// Whether an owner's bill of a day is refused for this reason.
+fn is_refused(world: &mut PlainWorld, owner: u64, day: u64, why: BillFault) -> Option<bool> {
+    Some(bill(world, owner, day)?.err()? == Refused::Because(why))
+}
+
+// Whether there is no bill of an unknown owner, of a day before the first one, and of two open days, and why.
+fn refusals(alloc: Global) -> Option<[bool; 4]> {
     let mut world = busy_world(alloc)?;
+    let device = DeviceId::new(1)?;
     Some([
-        bill(&mut world, 2, 19_722)?.err()?,
-        bill(&mut world, 1, 19_722)?.err()?,
-        bill(&mut world, 1, 19_723)?.err()?,
-        bill(&mut world, 1, 19_724)?.err()?,
+        is_refused(&mut world, 2, 19_722, BillFault::UnknownOwner)?,
+        is_refused(&mut world, 1, 19_722, BillFault::BeforeStart)?,
+        is_refused(&mut world, 1, 19_723, BillFault::NotClosed { device })?,
+        is_refused(&mut world, 1, 19_724, BillFault::NotClosed { device })?,
     ])
 }
 
 #[test]
 fn an_open_day_has_none(rt: HostRuntime) {
-    let device = DeviceId::new(1).expect(&rt, "device");
-    let unknown = Refused::Because(BillFault::UnknownOwner);
-    let before = Refused::Because(BillFault::BeforeStart);
-    let open = Refused::Because(BillFault::NotClosed { device });
-    assert_eq!(rt; refusals(rt.alloc()), Some([unknown, before, open, open]));
+    assert_eq!(rt; refusals(rt.alloc()), Some([true; 4]));
 }
