@@ -71,25 +71,3 @@ fn a_closed_day_has_a_bill(rt: HostRuntime) {
     let all = (1, 450, 525, 525);
     assert_eq!(rt; closed_day(rt.alloc()), Some((all, all, (1, 450, 525))));
 }
-
-// Whether an owner's bill of a day is refused for this reason.
-fn is_refused(world: &mut PlainWorld, owner: u64, day: u64, why: BillFault) -> Option<bool> {
-    Some(bill(world, owner, day)?.err()? == Refused::Because(why))
-}
-
-// Whether there is no bill of an unknown owner, of a day before the first one, and of two open days, and why.
-fn refusals(alloc: Global) -> Option<[bool; 4]> {
-    let mut world = busy_world(alloc)?;
-    let device = DeviceId::new(1)?;
-    Some([
-        is_refused(&mut world, 2, 19_722, BillFault::UnknownOwner)?,
-        is_refused(&mut world, 1, 19_722, BillFault::BeforeStart)?,
-        is_refused(&mut world, 1, 19_723, BillFault::NotClosed { device })?,
-        is_refused(&mut world, 1, 19_724, BillFault::NotClosed { device })?,
-    ])
-}
-
-#[test]
-fn an_open_day_has_none(rt: HostRuntime) {
-    assert_eq!(rt; refusals(rt.alloc()), Some([true; 4]));
-}
