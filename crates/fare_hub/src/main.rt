@@ -1,6 +1,6 @@
 //! The program of the fare hub. `replay` reads a trace from standard input and writes the replies to its lines
-//! to standard output. What it promises is the contract of `fare_trace::replay`, and of `read_words` for the
-//! words of the command line.
+//! to standard output. What it promises is the contract of `fare_trace::replay`, and of `fare_command::read_words`
+//! for the words of the command line.
 //!
 //! Its status is 0 where the job was done or help was asked for, 1 with one line on standard error where the
 //! job failed, and 2 with a text on standard error where the words were refused.
@@ -8,18 +8,16 @@
 
 ghost use Rattle.std.specs.Prelude.{◌≡◌};
 
-mod command;
 mod ending;
-mod words;
 
 use ending::Ending;
+use fare_command::{Job, WordsFault, read_words};
 use fare_trace::replay;
 use std::alloc::Global;
 use std::fmt::Display;
 use std::io::{Read, Write};
 use std::process::ExitCode;
 use std::{env, io};
-use words::{Job, WordsFault, read_words};
 
 /// One line on standard error.
 fn fail<R: Eprint, D: Display + Drop>(rt: &R, line: D) -> Ending

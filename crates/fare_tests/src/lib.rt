@@ -10,6 +10,8 @@ mod buffer;
 #[cfg(test)]
 mod collector;
 #[cfg(test)]
+mod command_line;
+#[cfg(test)]
 mod day;
 #[cfg(test)]
 mod days;

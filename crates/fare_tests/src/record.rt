@@ -1,6 +1,8 @@
 ghost use Rattle.std.specs.Prelude.{◌<◌};
 
-use fare_record::{Ack, DayAck, Hello, LAST_NUMBER, Pence, Record, RecordFault, Statement};
+use fare_record::{
+    Ack, Day, DayAck, DeviceId, Hello, LAST_NUMBER, Pence, Record, RecordFault, Statement,
+};
 use std::test::Fail;
 
 const RECORD: [u8; 46] = [
@@ -25,6 +27,11 @@ fn a_record_is_spelled_and_read(rt: HostRuntime) -> Result<(), Fail> {
         (1_704_100_000, 19_723)
     );
     assert_eq!(rt; record.encode(), RECORD);
+    // Its link is not its lane number.
+    let second = record_with(11, 2);
+    let record = Record::decode(&second)?;
+    assert_eq!(rt; (record.link(), record.lane()), (2, 1));
+    assert_eq!(rt; record.encode(), second);
     Ok(())
 }
 
@@ -108,6 +115,9 @@ fn numbers_end_at_their_limits(rt: HostRuntime) {
     assert_eq!(rt; links, [Ok(LAST_NUMBER), Err(RecordFault::NumberRange)]);
     let nobody = Hello::decode(&[0, 0, 0, 0, 0, 1]);
     assert_eq!(rt; nobody.err(), Some(RecordFault::ZeroId));
+    let days = [Day::new(100_000).is_some(), Day::new(100_001).is_some()];
+    let devices = [DeviceId::new(0).is_some(), DeviceId::new(1).is_some()];
+    assert_eq!(rt; (days, devices), ([true, false], [false, true]));
 }
 
 #[test]

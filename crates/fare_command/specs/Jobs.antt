@@ -2,11 +2,11 @@
 use Rattle.std.specs.Prelude.{◌≡◌, ℕ, ◌≤◌, List, Option, Some, None, true, false, codes, Bool, ◌⊎◌, Ok}
 use Rattle.std.specs.Str.Parse.{ParsesUnsigned}
 use Rattle.clap.specs.Words.{Row, Text, first_of, subcommand_of, takes}
-use Rattle.fare_hub.specs.CommandLine.{hub_app}
-use Rattle.fare_hub.specs.declared.words.Job.{Job}
-use Rattle.fare_hub.specs.declared.words.Job.TheVariants.{Replay, Serve}
-use Rattle.fare_hub.specs.declared.words.WordsFault.{WordsFault}
-use Rattle.fare_hub.specs.declared.words.WordsFault.TheVariants.{Asked, Refused, Memory}
+use Rattle.fare_command.specs.CommandLine.{hub_app}
+use Rattle.fare_command.specs.declared.words.Job.{Job}
+use Rattle.fare_command.specs.declared.words.Job.TheVariants.{Replay, Serve}
+use Rattle.fare_command.specs.declared.words.WordsFault.{WordsFault}
+use Rattle.fare_command.specs.declared.words.WordsFault.TheVariants.{Asked, Refused, Memory}
 
 -- the store is `sql` or not; `plain` where none is given
 abbrev pub IsStore : Option Text → Bool → Type 0

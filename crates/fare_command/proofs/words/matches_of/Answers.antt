@@ -1,7 +1,7 @@
 use Rattle.std.proofs.Common.{◌≡◌, ◌∙◌, ap, map, sym}
 use Rattle.clap.specs.Words.{App, takes}
 use Rattle.clap.specs.declared.error.kind.ErrorKind.TheVariants.{DisplayHelp, DisplayVersion, OutOfMemory}
-use Rattle.fare_hub.proofs.words.matches_of.Goals as goal
+use Rattle.fare_command.proofs.words.matches_of.Goals as goal
 
 pub returns-in-DisplayHelp-clause-err : goal.returns-in-DisplayHelp-clause-err
 returns-in-DisplayHelp-clause-err c = λ taken.

@@ -1,7 +1,7 @@
 ghost use Rattle.std.specs.Prelude.{◌≡◌, IfOk, false};
 ghost use Rattle.clap.specs.Words.{app_of, rule_of};
 ghost use Rattle.clap.specs.declared.builder.command.Command.TheViews.{out-Command};
-ghost use Rattle.fare_hub.specs.CommandLine.{base_app, hub_app, replay_app, serve_app, store_rule, port_rule, turns_rule, outbox_rule};
+ghost use Rattle.fare_command.specs.CommandLine.{base_app, hub_app, replay_app, serve_app, store_rule, port_rule, turns_rule, outbox_rule};
 
 use clap::{Arg, ArgAction, Command};
 use std::alloc::{AllocError, Global};

@@ -1,4 +1,4 @@
-use super::{Job, WordsFault, read_words};
+use fare_command::{Job, WordsFault, read_words};
 use std::test::Fail;
 
 #[test]

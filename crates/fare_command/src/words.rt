@@ -1,8 +1,8 @@
 ghost use Rattle.std.specs.Prelude.{◌≡◌, ℕ, Bool, None, IfOk, IfErr, map, option_map, codes};
 ghost use Rattle.clap.specs.Words.{rows_of, found_of, first_of, subcommand_of, subcommand_rows_of};
-ghost use Rattle.fare_hub.specs.CommandLine.{hub_app};
-ghost use Rattle.fare_hub.specs.Jobs.{IsStore, IsNumber, IsTurns, JobIn, JobOf, RefusedFor, FailsOn};
-ghost use Rattle.fare_hub.specs.declared.words.WordsFault.TheVariants.{Memory};
+ghost use Rattle.fare_command.specs.CommandLine.{hub_app};
+ghost use Rattle.fare_command.specs.Jobs.{IsStore, IsNumber, IsTurns, JobIn, JobOf, RefusedFor, FailsOn};
+ghost use Rattle.fare_command.specs.declared.words.WordsFault.TheVariants.{Memory};
 
 use crate::command::hub_command;
 use clap::ArgMatches;
@@ -170,6 +170,3 @@ pub fn read_words<'a>(alloc: Global, words: &'a [&'a str]) -> Result<Job<'a>, Wo
         }
     }
 }
-
-#[cfg(test)]
-mod tests;
