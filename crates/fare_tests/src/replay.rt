@@ -1,7 +1,8 @@
 use crate::readers::{Bytewise, Closed, Lossy, Zeros};
 use crate::traces::*;
 use crate::traces_of_days::*;
-use fare_trace::{ParseFault, ReplayFault, parse, replay};
+use fare_lines::{ParseFault, parse};
+use fare_trace::{ReplayFault, replay};
 use std::alloc::{AllocError, Global};
 use std::process::Abort;
 

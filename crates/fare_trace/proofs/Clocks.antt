@@ -24,13 +24,13 @@ use Rattle.fare_world.specs.System.{System}
 use Rattle.fare_world.specs.Knowing.{knows_device}
 use Rattle.fare_world.specs.Steps.{step}
 use Rattle.fare_world.specs.Tapping.{tap_on, tap}
-use Rattle.fare_trace.specs.declared.line.Line.{Line}
-use Rattle.fare_trace.specs.declared.line.Line.TheVariants.{Setup, Step}
-use Rattle.fare_trace.specs.declared.line.SchemeLine.{SchemeLine}
-use Rattle.fare_trace.specs.declared.line.SchemeLine.TheVariants as scheme
-use Rattle.fare_trace.specs.Replies.{replies_text}
+use Rattle.fare_lines.specs.declared.line.Line.{Line}
+use Rattle.fare_lines.specs.declared.line.Line.TheVariants.{Setup, Step}
+use Rattle.fare_lines.specs.declared.line.SchemeLine.{SchemeLine}
+use Rattle.fare_lines.specs.declared.line.SchemeLine.TheVariants as scheme
+use Rattle.fare_lines.specs.Replies.{replies_text}
 use Rattle.fare_trace.specs.Replay.{IsOutput, Replays}
-use Rattle.fare_trace.proofs.Printing.{one_reading}
+use Rattle.fare_lines.proofs.Printing.{one_reading}
 use Rattle.fare_trace.specs.Answers.{Answers, AnswersAll, Demonstrates, Drafting, Running, Seals, Sets, SetsUp, SetsZone, Stage, accepted, begun, entered, first_stage, refused}
 
 -- EVENTS

@@ -22,10 +22,10 @@ use Rattle.fare_world.specs.declared.reply.Refusal.{Refusal}
 use Rattle.fare_world.specs.declared.reply.Refusal.TheVariants.{Unsealed, Sealed, Range, ZeroId, Taken, UnknownParent, TooMany, NothingRegistered, NoStart, NoZone, BadZone}
 use Rattle.fare_world.specs.System.{System, start}
 use Rattle.fare_world.specs.Steps.{step}
-use Rattle.fare_trace.specs.declared.line.Line.{Line}
-use Rattle.fare_trace.specs.declared.line.Line.TheVariants.{Setup, Step}
-use Rattle.fare_trace.specs.declared.line.SchemeLine.{SchemeLine}
-use Rattle.fare_trace.specs.declared.line.SchemeLine.TheVariants as scheme
+use Rattle.fare_lines.specs.declared.line.Line.{Line}
+use Rattle.fare_lines.specs.declared.line.Line.TheVariants.{Setup, Step}
+use Rattle.fare_lines.specs.declared.line.SchemeLine.{SchemeLine}
+use Rattle.fare_lines.specs.declared.line.SchemeLine.TheVariants as scheme
 
 -- how far a trace is: a draft, with whether a scheme line was accepted, or the parts of the sealed scheme at a system
 pub data Stage : Type 0 where

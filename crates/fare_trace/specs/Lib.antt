@@ -1,9 +1,3 @@
-pub mod ZoneWord
-pub mod Grammar
-pub mod Lines
-pub mod Faults
-pub mod Reading
-pub mod Replies
 pub mod Answers
 pub mod Registration
 pub mod Stores

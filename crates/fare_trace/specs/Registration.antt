@@ -5,8 +5,8 @@ use Rattle.fare_scheme.specs.Values.{DraftValue}
 use Rattle.fare_world.specs.declared.reply.Refusal.{Refusal}
 use Rattle.fare_world.specs.declared.reply.Reply.{Reply}
 use Rattle.fare_world.specs.System.{start}
-use Rattle.fare_trace.specs.declared.line.SchemeLine.{SchemeLine}
-use Rattle.fare_trace.specs.declared.line.SchemeLine.TheVariants as scheme
+use Rattle.fare_lines.specs.declared.line.SchemeLine.{SchemeLine}
+use Rattle.fare_lines.specs.declared.line.SchemeLine.TheVariants as scheme
 use Rattle.fare_trace.specs.declared.registering.Registration.{Registration}
 use Rattle.fare_trace.specs.declared.registering.Registration.TheVariants.{Open, Sealed}
 use Rattle.fare_trace.specs.Answers.{Drafting, Running, Stage, accepted, add_refusal, refused}

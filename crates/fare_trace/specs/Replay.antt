@@ -3,11 +3,11 @@ use Rattle.std.specs.Prelude.{ℕ, ◌≤◌, List, Option, Result, Ok, Err, IfS
 use Rattle.std.specs.Global.{Global}
 use Rattle.std.specs.Io.KnownBytes.{Appends, Keeps}
 use Rattle.fare_world.specs.declared.reply.Reply.{Reply}
-use Rattle.fare_trace.specs.declared.line.Line.{Line}
+use Rattle.fare_lines.specs.declared.line.Line.{Line}
 use Rattle.fare_trace.specs.declared.stream.ReplayFault.{ReplayFault}
 use Rattle.fare_trace.specs.declared.stream.ReplayFault.TheVariants.{Read, BadLine, Memory, Write}
-use Rattle.fare_trace.specs.Lines.{Spells, FirstBadLine}
-use Rattle.fare_trace.specs.Replies.{replies_text}
+use Rattle.fare_lines.specs.Lines.{Spells, FirstBadLine}
+use Rattle.fare_lines.specs.Replies.{replies_text}
 use Rattle.fare_trace.specs.Answers.{AnswersAll, first_stage}
 
 -- the bytes of the replies to lines

@@ -16,9 +16,9 @@ use Rattle.fare_world.specs.declared.reply.Reply.TheVariants.{Refused}
 use Rattle.fare_world.specs.declared.reply.Refusal.TheVariants.{Sealed}
 use Rattle.fare_world.specs.System.{System, start}
 use Rattle.fare_world.specs.Whole.{IsStepped, StandsAt}
-use Rattle.fare_trace.specs.declared.line.Line.{Line}
-use Rattle.fare_trace.specs.declared.line.Line.TheVariants.{Setup, Step}
-use Rattle.fare_trace.specs.Replies.{reply_text}
+use Rattle.fare_lines.specs.declared.line.Line.{Line}
+use Rattle.fare_lines.specs.declared.line.Line.TheVariants.{Setup, Step}
+use Rattle.fare_lines.specs.Replies.{reply_text}
 
 -- an empty ledger of a scheme's owner at a place
 pub record IsEmptyLedgerAt (sc : SchemeValue) (place : ℕ) (x : PlainLedger) : Type 0 where

@@ -1,16 +1,14 @@
 ghost use Rattle.std.specs.Prelude.{◌≡◌, [], ◌++◌, OnOk, IfOk, IfErr, MatchResult};
 ghost use Rattle.fare_world.specs.System.{start};
 ghost use Rattle.fare_trace.specs.Answers.{Answers, Drafting, Running};
-ghost use Rattle.fare_trace.specs.Faults.{Refuses};
-ghost use Rattle.fare_trace.specs.Progress.{AnswersText, GoesToEnd, Registers, StopsIn, WritesAnswer};
+ghost use Rattle.fare_lines.specs.Faults.{Refuses};
+ghost use Rattle.fare_lines.specs.Unread.{StopsIn};
+ghost use Rattle.fare_trace.specs.Progress.{AnswersText, GoesToEnd, Registers, WritesAnswer};
 ghost use Rattle.fare_trace.specs.Registration.{stage_of};
 ghost use Rattle.fare_trace.specs.Stores.{AreEmptyLedgers, IsNew, Steps, WritesStep};
 
-use crate::line::Line;
-use crate::lines::Lines;
-use crate::print::print_reply;
 use crate::registering::{Answer, Registration, refuse, set_up};
-use crate::text::ParseFault;
+use fare_lines::{Line, Lines, ParseFault, print_reply};
 use fare_scheme::{Draft, Scheme};
 use fare_store::{Fault, LedgerFault, PlainLedger, PlainOutbox};
 use fare_world::{Event, Refusal, Reply, World, WorldFault};

@@ -4,9 +4,8 @@ ghost use Rattle.fare_scheme.specs.Demo.{demo_refusal, demo_scheme};
 ghost use Rattle.fare_trace.specs.Answers.{Demonstrates, Seals, SetsUp, SetsZone, accepted as accepted_draft, add_refusal, refused as refused_draft, seal_name};
 ghost use Rattle.fare_trace.specs.Registration.{AddsNothing, AfterAdding, answer_of};
 
-use crate::line::SchemeLine;
-use crate::zone_text::ZoneText;
 use fare_day::Zone;
+use fare_lines::{SchemeLine, ZoneText};
 use fare_scheme::{AddFault, CapsFault, DemoFault, DemoSize, Draft, Scheme, SealFault};
 use fare_world::{Refusal, Reply};
 use std::alloc::{AllocError, Global};

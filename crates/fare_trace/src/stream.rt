@@ -2,7 +2,7 @@ ghost use Rattle.std.specs.Prelude.{OnOk, IfErr, IfSome};
 ghost use Rattle.fare_trace.specs.Replay.{ReadsAll, ReplayFails, Replays};
 
 use crate::answers::answer_text;
-use crate::text::ParseFault;
+use fare_lines::ParseFault;
 use std::alloc::Global;
 use std::io::{ErrorKind, Read, Write};
 use thiserror::Error;

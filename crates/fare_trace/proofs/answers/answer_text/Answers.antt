@@ -2,7 +2,7 @@ use Rattle.std.proofs.Common.{Some, None, rules, sym, subst, Vec, ℕ}
 use Rattle.std.specs.Global.{Global}
 use Rattle.fare_world.specs.System.{start}
 use Rattle.fare_trace.specs.Answers.{Running, first_stage}
-use Rattle.fare_trace.specs.Faults.{Refuses}
+use Rattle.fare_lines.specs.Faults.{Refuses}
 use Rattle.fare_trace.specs.Progress.{AnswersText, Registers}
 use Rattle.fare_trace.proofs.Progress.{goes_on, text_answered, text_stops}
 use Rattle.fare_trace.proofs.answers.answer_text.Goals as goal

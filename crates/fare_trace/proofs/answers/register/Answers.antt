@@ -2,7 +2,8 @@ use Rattle.std.proofs.Common.{Some, None, rules, subst}
 use Rattle.fare_world.specs.System.{start}
 use Rattle.fare_trace.specs.declared.registering.Registration.{Registration}
 use Rattle.fare_trace.specs.Answers.{Drafting, Running, first_stage}
-use Rattle.fare_trace.specs.Progress.{IsNext, StopsIn, WritesAnswer}
+use Rattle.fare_lines.specs.Unread.{IsNext, StopsIn}
+use Rattle.fare_trace.specs.Progress.{WritesAnswer}
 use Rattle.fare_trace.specs.Registration.{stage_of}
 use Rattle.fare_trace.proofs.Progress.{goes_end, goes_line, goes_nothing, goes_stops}
 use Rattle.fare_trace.proofs.answers.register.Goals as goal

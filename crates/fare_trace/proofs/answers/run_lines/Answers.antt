@@ -1,7 +1,7 @@
 use Rattle.std.proofs.Common.{Some, None, rules}
 use Rattle.fare_world.specs.System.{start}
 use Rattle.fare_trace.specs.Answers.{Running}
-use Rattle.fare_trace.specs.Progress.{IsNext, StopsIn}
+use Rattle.fare_lines.specs.Unread.{IsNext, StopsIn}
 use Rattle.fare_trace.proofs.Progress.{goes_end, goes_stops, runs_line, runs_nothing}
 use Rattle.fare_trace.proofs.answers.run_lines.Goals as goal
 

@@ -1,0 +1,11 @@
+pub mod Cuts
+pub mod Rows
+pub mod Numbers
+pub mod Utf8
+pub mod Keywords
+pub mod Spelling
+pub mod Texts
+pub mod Printing
+pub mod Words
+pub mod RowLines
+pub mod Unread

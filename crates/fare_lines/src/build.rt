@@ -1,0 +1,263 @@
+ghost use Rattle.std.specs.Prelude.{◌≡◌, ◌≤◌, [], ◌∷◌, ◌++◌, ℕ, List, codes, IfOk, IfSome, IfNone};
+ghost use Rattle.fare_record.specs.Limits.{IsDeviceId};
+ghost use Rattle.fare_lines.specs.declared.keyword.Keyword.TheVariants.{OfScheme, OfEvent};
+ghost use Rattle.fare_lines.specs.declared.keyword.SchemeKeyword.TheVariants.{Demo};
+ghost use Rattle.fare_lines.specs.declared.line.Line.TheVariants.{Setup, Step};
+ghost use Rattle.fare_lines.specs.Grammar.{ADevice, AreOf, event_keyword_kinds, scheme_keyword_kinds, size_number};
+ghost use Rattle.fare_lines.specs.Reading.{Builds, IsBuilt, ReadsLine, ReadsNumbered};
+
+use crate::cut::cut_at_digit;
+use crate::keyword::{EventKeyword, Keyword, SchemeKeyword};
+use crate::line::{Line, SchemeLine};
+use crate::number::read_numbers;
+use crate::zone_text::ZoneText;
+use fare_record::{Day, DeviceId, Moment, OwnerId, ProductId, StationId, Token};
+use fare_scheme::DemoSize;
+use fare_world::Event;
+use std::alloc::{AllocError, Global};
+
+/// The demonstration scheme of this many devices.
+fn demo_size(devices: u64) -> Option<DemoSize>
+    ensures some { IfSome result (λ size. size_number size ≡ devices) }
+    ensures within { IfSome result (λ size. (1 ≤ devices) × (devices ≤ 2)) }
+    ensures none { IfNone result (1 ≤ devices → devices ≤ 2 → ⊥) }
+{
+    match devices {
+        1 => Some(DemoSize::OneDevice),
+        2 => Some(DemoSize::TwoDevices),
+        _ => None,
+    }
+}
+
+/// The line of a demonstration scheme with these numbers, if there is one.
+fn build_demo(devices: u64, buffer: u64, inbox: u64, lane: u64) -> Option<SchemeLine>
+    ensures some { IfSome result (λ line. IsBuilt (OfScheme Demo) (devices ∷ buffer ∷ inbox ∷ lane ∷ []) (Setup line)) }
+    ensures none { IfNone result (AreOf (scheme_keyword_kinds Demo) (devices ∷ buffer ∷ inbox ∷ lane ∷ []) → ⊥) }
+{
+    Some(SchemeLine::Demo {
+        size: demo_size(devices)?,
+        buffer: u32::try_from(buffer).ok()?,
+        inbox: u32::try_from(inbox).ok()?,
+        lane: u32::try_from(lane).ok()?,
+    })
+}
+
+/// The scheme line of a keyword that this number alone follows, if there is one.
+fn build_single_setup(keyword: SchemeKeyword, number: u64) -> Option<SchemeLine>
+    ensures some { IfSome result (λ line. IsBuilt (OfScheme keyword) (number ∷ []) (Setup line)) }
+    ensures none { IfNone result (AreOf (scheme_keyword_kinds keyword) (number ∷ []) → ⊥) }
+{
+    match keyword {
+        SchemeKeyword::Operator => Some(SchemeLine::Operator {
+            operator: u16::try_from(number).ok()?,
+        }),
+        SchemeKeyword::Inbox => Some(SchemeLine::Inbox {
+            capacity: u32::try_from(number).ok()?,
+        }),
+        SchemeKeyword::Start => Some(SchemeLine::Start {
+            day: u32::try_from(number).ok()?,
+        }),
+        _ => None,
+    }
+}
+
+/// The scheme line of a keyword and its numbers, if there is one.
+fn build_setup(keyword: SchemeKeyword, numbers: &[u64]) -> Option<SchemeLine>
+    ensures some { IfSome result (λ line. IsBuilt (OfScheme keyword) numbers.now (Setup line)) }
+    ensures none { IfNone result (AreOf (scheme_keyword_kinds keyword) numbers.now → ⊥) }
+{
+    match (keyword, numbers) {
+        (_, [number]) => build_single_setup(keyword, *number),
+        (SchemeKeyword::Owner, [owner, lane]) => Some(SchemeLine::Owner {
+            owner: u16::try_from(*owner).ok()?,
+            lane: u32::try_from(*lane).ok()?,
+        }),
+        (SchemeKeyword::Station, [station, operator]) => Some(SchemeLine::Station {
+            station: u16::try_from(*station).ok()?,
+            operator: u16::try_from(*operator).ok()?,
+        }),
+        (SchemeKeyword::Product, [product, owner, fare]) => Some(SchemeLine::Product {
+            product: u32::try_from(*product).ok()?,
+            owner: u16::try_from(*owner).ok()?,
+            fare: u32::try_from(*fare).ok()?,
+        }),
+        (SchemeKeyword::Caps, [product, daily, weekly]) => Some(SchemeLine::Caps {
+            product: u32::try_from(*product).ok()?,
+            daily: u32::try_from(*daily).ok()?,
+            weekly: u32::try_from(*weekly).ok()?,
+        }),
+        (SchemeKeyword::Device, [device, station, buffer]) => Some(SchemeLine::Device {
+            device: u32::try_from(*device).ok()?,
+            station: u16::try_from(*station).ok()?,
+            buffer: u32::try_from(*buffer).ok()?,
+        }),
+        (SchemeKeyword::Seal, []) => Some(SchemeLine::Seal),
+        (SchemeKeyword::Demo, [devices, buffer, inbox, lane]) => {
+            build_demo(*devices, *buffer, *inbox, *lane)
+        }
+        _ => None,
+    }
+}
+
+/// The event of a keyword that no number follows, if it is one.
+fn build_bare_event(keyword: EventKeyword) -> Option<Event>
+    ensures some { IfSome result (λ event. IsBuilt (OfEvent keyword) [] (Step event)) }
+    ensures none { IfNone result (AreOf (event_keyword_kinds keyword) [] → ⊥) }
+{
+    match keyword {
+        EventKeyword::Draw => Some(Event::Draw),
+        EventKeyword::Store => Some(Event::Store),
+        EventKeyword::RestartWriter => Some(Event::RestartWriter),
+        EventKeyword::RestartHub => Some(Event::RestartHub),
+        _ => None,
+    }
+}
+
+/// The event of a keyword that the number of a device alone follows, if it is one.
+fn build_device_event(keyword: EventKeyword, number: u64) -> Option<Event>
+    ensures some { IfSome result (λ event. IsBuilt (OfEvent keyword) (number ∷ []) (Step event)) }
+    ensures none { IfNone result (event_keyword_kinds keyword ≡ ADevice ∷ [] → IsDeviceId number → ⊥) }
+{
+    let device = DeviceId::new(number)?;
+    match keyword {
+        EventKeyword::Turn => Some(Event::Turn { device }),
+        EventKeyword::Send => Some(Event::Send { device }),
+        EventKeyword::Rewind => Some(Event::Rewind { device }),
+        EventKeyword::Ack => Some(Event::Ack { device }),
+        EventKeyword::Resume => Some(Event::Resume { device }),
+        EventKeyword::RestartDevice => Some(Event::RestartDevice { device }),
+        EventKeyword::Upto => Some(Event::Upto { device }),
+        _ => None,
+    }
+}
+
+/// The event of a keyword that this number alone follows, if there is one.
+fn build_single_event(keyword: EventKeyword, number: u64) -> Option<Event>
+    ensures some { IfSome result (λ event. IsBuilt (OfEvent keyword) (number ∷ []) (Step event)) }
+    ensures none { IfNone result (AreOf (event_keyword_kinds keyword) (number ∷ []) → ⊥) }
+{
+    match keyword {
+        EventKeyword::Arrive => Some(Event::Arrive { packet: number }),
+        EventKeyword::Answer => Some(Event::Answer {
+            station: StationId::new(number)?,
+        }),
+        EventKeyword::RestartStation => Some(Event::RestartStation {
+            station: StationId::new(number)?,
+        }),
+        EventKeyword::RestartOwner => Some(Event::RestartOwner {
+            owner: OwnerId::new(number)?,
+        }),
+        EventKeyword::Fetch => Some(Event::Fetch {
+            owner: OwnerId::new(number)?,
+        }),
+        EventKeyword::Take => Some(Event::Take {
+            owner: OwnerId::new(number)?,
+        }),
+        _ => build_device_event(keyword, number),
+    }
+}
+
+/// The event line of a keyword and its numbers, if there is one.
+fn build_event(keyword: EventKeyword, numbers: &[u64]) -> Option<Event>
+    ensures some { IfSome result (λ event. IsBuilt (OfEvent keyword) numbers.now (Step event)) }
+    ensures none { IfNone result (AreOf (event_keyword_kinds keyword) numbers.now → ⊥) }
+{
+    match (keyword, numbers) {
+        (_, []) => build_bare_event(keyword),
+        (_, [number]) => build_single_event(keyword, *number),
+        (EventKeyword::Forward, [owner, device]) => Some(Event::Forward {
+            owner: OwnerId::new(*owner)?,
+            device: DeviceId::new(*device)?,
+        }),
+        (EventKeyword::Prune, [owner, device]) => Some(Event::Prune {
+            owner: OwnerId::new(*owner)?,
+            device: DeviceId::new(*device)?,
+        }),
+        (EventKeyword::Count, [owner, device]) => Some(Event::Count {
+            owner: OwnerId::new(*owner)?,
+            device: DeviceId::new(*device)?,
+        }),
+        (EventKeyword::Bill, [owner, day]) => Some(Event::Bill {
+            owner: OwnerId::new(*owner)?,
+            day: Day::new(*day)?,
+        }),
+        (EventKeyword::Settle, [owner, day]) => Some(Event::Settle {
+            owner: OwnerId::new(*owner)?,
+            day: Day::new(*day)?,
+        }),
+        (EventKeyword::DayAck, [device, day]) => Some(Event::DayAck {
+            device: DeviceId::new(*device)?,
+            day: Day::new(*day)?,
+        }),
+        (EventKeyword::State, [device, day, owner]) => Some(Event::State {
+            device: DeviceId::new(*device)?,
+            day: Day::new(*day)?,
+            owner: OwnerId::new(*owner)?,
+        }),
+        (EventKeyword::Close, [owner, device, day]) => Some(Event::Close {
+            owner: OwnerId::new(*owner)?,
+            device: DeviceId::new(*device)?,
+            day: Day::new(*day)?,
+        }),
+        (EventKeyword::Tap, [device, product, token, moment]) => Some(Event::Tap {
+            device: DeviceId::new(*device)?,
+            product: ProductId::new(*product)?,
+            token: Token::new(*token)?,
+            moment: Moment::new(*moment)?,
+        }),
+        _ => None,
+    }
+}
+
+/// The line of a keyword and its numbers, if they are as many as it has and each is of its kind.
+fn build(keyword: Keyword, numbers: &[u64]) -> Option<Line>
+    ensures { Builds keyword numbers.now result }
+{
+    match keyword {
+        Keyword::OfScheme(keyword) => Some(Line::Setup(build_setup(keyword, numbers)?)),
+        Keyword::OfEvent(keyword) => Some(Line::Step(build_event(keyword, numbers)?)),
+    }
+}
+
+/// The line that a text spells by a keyword and numbers.
+fn read_numbered(text: &[u8], numbers: &mut Vec<u64>) -> Result<Option<Line>, AllocError>
+    ensures { IfOk result (λ found. ReadsNumbered text.now found) }
+{
+    let (word, rest) = cut_at_digit(text);
+    let Some(keyword) = Keyword::read(word) else {
+        return Ok(None);
+    };
+    let found = read_numbers(rest, numbers)?;
+    if !found {
+        return Ok(None);
+    }
+    Ok(build(keyword, numbers))
+}
+
+/// What stands behind `zone` and a space.
+fn after_zone(text: &[u8]) -> Option<&[u8]>
+    ensures some { IfSome result (λ rest. text.now ≡ codes "zone " ++ rest.now) }
+    ensures none { IfNone result ((rest : List ℕ) → text.now ≡ codes "zone " ++ rest → ⊥) }
+{
+    match text {
+        [b'z', b'o', b'n', b'e', b' ', rest @ ..] => Some(rest),
+        _ => None,
+    }
+}
+
+/// The line that a text without a line feed spells. What `numbers` holds is lost.
+pub fn read_line(
+    alloc: Global,
+    text: &[u8],
+    numbers: &mut Vec<u64>,
+) -> Result<Option<Line>, AllocError>
+    ensures { IfOk result (λ found. ReadsLine text.now found) }
+{
+    let Some(rest) = after_zone(text) else {
+        return read_numbered(text, numbers);
+    };
+    let Some(rule) = ZoneText::read(alloc, rest)? else {
+        return Ok(None);
+    };
+    Ok(Some(Line::Setup(SchemeLine::Zone { rule })))
+}

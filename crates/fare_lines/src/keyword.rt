@@ -1,0 +1,185 @@
+ghost use Rattle.std.specs.Prelude.{◌≡◌, ◌<◌, ℕ, IfSome, IfNone, length, slice_index_or};
+ghost use Rattle.fare_lines.specs.Grammar.{event_keyword_text, keyword_text, scheme_keyword_text};
+ghost use Rattle.fare_lines.specs.Reading.{any_keyword};
+
+/// What a scheme line begins with, but for that of a zone.
+#[derive(Clone, Copy, PartialEq, Eq, Debug)]
+pub enum SchemeKeyword {
+    Owner,
+    Operator,
+    Station,
+    Product,
+    Caps,
+    Device,
+    Inbox,
+    Start,
+    Seal,
+    Demo,
+}
+
+/// What an event line begins with.
+#[derive(Clone, Copy, PartialEq, Eq, Debug)]
+pub enum EventKeyword {
+    Tap,
+    Turn,
+    Send,
+    Rewind,
+    State,
+    Arrive,
+    Draw,
+    Store,
+    Ack,
+    DayAck,
+    Answer,
+    Forward,
+    Fetch,
+    Take,
+    Close,
+    Prune,
+    Resume,
+    RestartDevice,
+    RestartStation,
+    RestartWriter,
+    RestartOwner,
+    RestartHub,
+    Upto,
+    Count,
+    Bill,
+    Settle,
+}
+
+/// What a line begins with, but for that of a zone.
+#[derive(Clone, Copy, PartialEq, Eq, Debug)]
+pub enum Keyword {
+    OfScheme(SchemeKeyword),
+    OfEvent(EventKeyword),
+}
+
+impl SchemeKeyword {
+    /// Its text, with the space that parts it from the first number where numbers follow.
+    fn text(self) -> &'static [u8]
+        ensures { result.now ≡ scheme_keyword_text self }
+    {
+        match self {
+            SchemeKeyword::Owner => b"owner ",
+            SchemeKeyword::Operator => b"operator ",
+            SchemeKeyword::Station => b"station ",
+            SchemeKeyword::Product => b"product ",
+            SchemeKeyword::Caps => b"caps ",
+            SchemeKeyword::Device => b"device ",
+            SchemeKeyword::Inbox => b"inbox ",
+            SchemeKeyword::Start => b"start ",
+            SchemeKeyword::Seal => b"seal",
+            SchemeKeyword::Demo => b"demo ",
+        }
+    }
+}
+
+impl EventKeyword {
+    /// Its text, with the space that parts it from the first number where numbers follow.
+    fn text(self) -> &'static [u8]
+        ensures { result.now ≡ event_keyword_text self }
+    {
+        match self {
+            EventKeyword::Tap => b"tap ",
+            EventKeyword::Turn => b"turn ",
+            EventKeyword::Send => b"send ",
+            EventKeyword::Rewind => b"rewind ",
+            EventKeyword::State => b"state ",
+            EventKeyword::Arrive => b"arrive ",
+            EventKeyword::Draw => b"draw",
+            EventKeyword::Store => b"store",
+            EventKeyword::Ack => b"ack ",
+            EventKeyword::DayAck => b"dayack ",
+            EventKeyword::Answer => b"answer ",
+            EventKeyword::Forward => b"forward ",
+            EventKeyword::Fetch => b"fetch ",
+            EventKeyword::Take => b"take ",
+            EventKeyword::Close => b"close ",
+            EventKeyword::Prune => b"prune ",
+            EventKeyword::Resume => b"resume ",
+            EventKeyword::RestartDevice => b"restart device ",
+            EventKeyword::RestartStation => b"restart station ",
+            EventKeyword::RestartWriter => b"restart writer",
+            EventKeyword::RestartOwner => b"restart owner ",
+            EventKeyword::RestartHub => b"restart hub",
+            EventKeyword::Upto => b"upto ",
+            EventKeyword::Count => b"count ",
+            EventKeyword::Bill => b"bill ",
+            EventKeyword::Settle => b"settle ",
+        }
+    }
+}
+
+impl Keyword {
+    /// Each keyword once, those of events first, which most lines have.
+    const ALL: [Keyword; 36] = [
+        Keyword::OfEvent(EventKeyword::Tap),
+        Keyword::OfEvent(EventKeyword::Turn),
+        Keyword::OfEvent(EventKeyword::Send),
+        Keyword::OfEvent(EventKeyword::Rewind),
+        Keyword::OfEvent(EventKeyword::State),
+        Keyword::OfEvent(EventKeyword::Arrive),
+        Keyword::OfEvent(EventKeyword::Draw),
+        Keyword::OfEvent(EventKeyword::Store),
+        Keyword::OfEvent(EventKeyword::Ack),
+        Keyword::OfEvent(EventKeyword::DayAck),
+        Keyword::OfEvent(EventKeyword::Answer),
+        Keyword::OfEvent(EventKeyword::Forward),
+        Keyword::OfEvent(EventKeyword::Fetch),
+        Keyword::OfEvent(EventKeyword::Take),
+        Keyword::OfEvent(EventKeyword::Close),
+        Keyword::OfEvent(EventKeyword::Prune),
+        Keyword::OfEvent(EventKeyword::Resume),
+        Keyword::OfEvent(EventKeyword::RestartDevice),
+        Keyword::OfEvent(EventKeyword::RestartStation),
+        Keyword::OfEvent(EventKeyword::RestartWriter),
+        Keyword::OfEvent(EventKeyword::RestartOwner),
+        Keyword::OfEvent(EventKeyword::RestartHub),
+        Keyword::OfEvent(EventKeyword::Upto),
+        Keyword::OfEvent(EventKeyword::Count),
+        Keyword::OfEvent(EventKeyword::Bill),
+        Keyword::OfEvent(EventKeyword::Settle),
+        Keyword::OfScheme(SchemeKeyword::Owner),
+        Keyword::OfScheme(SchemeKeyword::Operator),
+        Keyword::OfScheme(SchemeKeyword::Station),
+        Keyword::OfScheme(SchemeKeyword::Product),
+        Keyword::OfScheme(SchemeKeyword::Caps),
+        Keyword::OfScheme(SchemeKeyword::Device),
+        Keyword::OfScheme(SchemeKeyword::Inbox),
+        Keyword::OfScheme(SchemeKeyword::Start),
+        Keyword::OfScheme(SchemeKeyword::Seal),
+        Keyword::OfScheme(SchemeKeyword::Demo),
+    ];
+
+    /// Its text, with the space that parts it from the first number where numbers follow.
+    fn text(self) -> &'static [u8]
+        ensures { result.now ≡ keyword_text self }
+    {
+        match self {
+            Keyword::OfScheme(keyword) => keyword.text(),
+            Keyword::OfEvent(keyword) => keyword.text(),
+        }
+    }
+
+    /// The keyword of this text, if there is one.
+    pub fn read(text: &[u8]) -> Option<Keyword>
+        ensures found { IfSome result (λ k. text.now ≡ keyword_text k) }
+        ensures none { IfNone result ((k : Keyword) → text.now ≡ keyword_text k → ⊥) }
+    {
+        find_keyword(&Keyword::ALL, text)
+    }
+}
+
+/// The first of the keywords that has this text.
+fn find_keyword(keywords: &[Keyword], text: &[u8]) -> Option<Keyword>
+    ensures found { IfSome result (λ k. text.now ≡ keyword_text k) }
+    ensures none { IfNone result ((i : ℕ) → i < length keywords.now → text.now ≡ keyword_text (slice_index_or keywords.now i any_keyword) → ⊥) }
+{
+    for keyword in keywords {
+        if keyword.text() == text {
+            return Some(*keyword);
+        }
+    }
+    None
+}

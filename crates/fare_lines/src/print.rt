@@ -1,0 +1,327 @@
+ghost use Rattle.std.specs.Prelude.{◌≡◌, [], ◌∷◌, ◌++◌, OnOk, OnErr, codes, length, map, take};
+ghost use Rattle.std.specs.Fmt.{decimal};
+ghost use Rattle.fare_lines.specs.Replies.{refusal_name, reply_text, words_line};
+
+use crate::print_rows::{append_bill, append_settlement};
+use fare_record::{Day, DeviceId, OwnerId};
+use fare_world::{Refusal, Reply};
+use itoa::Buffer;
+use std::alloc::AllocError;
+
+/// The name of a refusal.
+fn name_of(refusal: Refusal) -> &'static [u8]
+    ensures { result.now ≡ refusal_name refusal }
+{
+    match refusal {
+        Refusal::Unsealed => b"Unsealed",
+        Refusal::Sealed => b"Sealed",
+        Refusal::Range => b"Range",
+        Refusal::ZeroId => b"ZeroId",
+        Refusal::Taken => b"Taken",
+        Refusal::UnknownParent => b"UnknownParent",
+        Refusal::TooMany => b"TooMany",
+        Refusal::NothingRegistered => b"NothingRegistered",
+        Refusal::NoStart => b"NoStart",
+        Refusal::NoZone => b"NoZone",
+        Refusal::BadZone => b"BadZone",
+        Refusal::UnknownDevice => b"UnknownDevice",
+        Refusal::UnknownOwner => b"UnknownOwner",
+        Refusal::UnknownStation => b"UnknownStation",
+        Refusal::BadMoment => b"BadMoment",
+        Refusal::UnknownProduct => b"UnknownProduct",
+        Refusal::DayClosed => b"DayClosed",
+        Refusal::DayAhead => b"DayAhead",
+        Refusal::NumbersSpent => b"NumbersSpent",
+        Refusal::BufferFull => b"BufferFull",
+        Refusal::NoPacket => b"NoPacket",
+        Refusal::Stranger => b"Stranger",
+        Refusal::Misrouted => b"Misrouted",
+        Refusal::Old => b"Old",
+        Refusal::Ahead => b"Ahead",
+        Refusal::AckAhead => b"AckAhead",
+        Refusal::LastDay => b"LastDay",
+        Refusal::StatementsFull => b"StatementsFull",
+        Refusal::NotWaiting => b"NotWaiting",
+        Refusal::Busy => b"Busy",
+        Refusal::HandFull => b"HandFull",
+        Refusal::Duplicate => b"Duplicate",
+        Refusal::Gap => b"Gap",
+        Refusal::Conflict => b"Conflict",
+        Refusal::OutboxFull => b"OutboxFull",
+        Refusal::NotMine => b"NotMine",
+        Refusal::AfterClose => b"AfterClose",
+        Refusal::Unstated => b"Unstated",
+        Refusal::Repeated => b"Repeated",
+        Refusal::AlreadyClosed => b"AlreadyClosed",
+        Refusal::OutOfOrder => b"OutOfOrder",
+        Refusal::CountsShort { .. } => b"CountsShort",
+        Refusal::CountsOver { .. } => b"CountsOver",
+        Refusal::BeforeStart => b"BeforeStart",
+        Refusal::NotClosed { .. } => b"NotClosed",
+    }
+}
+
+/// Appends words with one space between each two, and a line feed. After an error some of it may stand there.
+fn append_words(first: &[u8], rest: &[&[u8]], out: &mut Vec<u8>) -> Result<(), AllocError>
+    ensures appended { OnOk result (out.new.items ≡ out.old.items ++ words_line (first.now ∷ map (λ word. word.now) rest.now)) }
+    ensures front { take (length out.old.items) out.new.items ≡ out.old.items }
+{
+    out.extend_from_slice(first)?;
+    for word in rest {
+        out.push(b' ')?;
+        out.extend_from_slice(word)?;
+    }
+    out.push(b'\n')?;
+    Ok(())
+}
+
+/// Appends words with one space between each two, and a line feed. After an error `out` is as before.
+pub(crate) fn append_line(first: &[u8], rest: &[&[u8]], out: &mut Vec<u8>) -> Result<(), AllocError>
+    ensures appended { OnOk result (out.new.items ≡ out.old.items ++ words_line (first.now ∷ map (λ word. word.now) rest.now)) }
+    ensures kept { OnErr result (out.new.items ≡ out.old.items) }
+{
+    let length = out.len();
+    let appended = append_words(first, rest, out);
+    if appended.is_err() {
+        out.truncate(length);
+    }
+    appended
+}
+
+/// Appends a name and a number.
+fn append_number(name: &[u8], number: u64, out: &mut Vec<u8>) -> Result<(), AllocError>
+    ensures appended { OnOk result (out.new.items ≡ out.old.items ++ words_line (name.now ∷ decimal number ∷ [])) }
+    ensures kept { OnErr result (out.new.items ≡ out.old.items) }
+{
+    append_line(name, &[Buffer::new().format(number).as_bytes()], out)
+}
+
+/// Appends a name, a number, a word and a number.
+fn append_numbers(
+    name: &[u8],
+    first: u64,
+    word: &[u8],
+    second: u64,
+    out: &mut Vec<u8>,
+) -> Result<(), AllocError>
+    ensures appended { OnOk result (out.new.items ≡ out.old.items ++ words_line (name.now ∷ decimal first ∷ word.now ∷ decimal second ∷ [])) }
+    ensures kept { OnErr result (out.new.items ≡ out.old.items) }
+{
+    let mut one = Buffer::new();
+    let mut two = Buffer::new();
+    let first = one.format(first).as_bytes();
+    let second = two.format(second).as_bytes();
+    append_line(name, &[first, word, second], out)
+}
+
+/// Appends the two numbers of a record.
+fn append_record(link: u64, lane: u64, out: &mut Vec<u8>) -> Result<(), AllocError>
+    ensures appended { OnOk result (out.new.items ≡ out.old.items ++ reply_text (Reply.Recorded link lane)) }
+    ensures kept { OnErr result (out.new.items ≡ out.old.items) }
+{
+    let mut one = Buffer::new();
+    let mut two = Buffer::new();
+    let link = one.format(link).as_bytes();
+    let lane = two.format(lane).as_bytes();
+    append_line(b"record", &[link, lane], out)
+}
+
+/// Appends the packet of an acknowledgement, with its device and its last link.
+fn append_answer(packet: u64, device: u64, upto: u64, out: &mut Vec<u8>) -> Result<(), AllocError>
+    ensures appended { OnOk result (out.new.items ≡ out.old.items ++ reply_text (Reply.Answered packet device upto)) }
+    ensures kept { OnErr result (out.new.items ≡ out.old.items) }
+{
+    let mut one = Buffer::new();
+    let mut two = Buffer::new();
+    let mut three = Buffer::new();
+    let packet = one.format(packet).as_bytes();
+    let device = two.format(device).as_bytes();
+    let upto = three.format(upto).as_bytes();
+    append_line(b"packet", &[packet, b"ack", device, upto], out)
+}
+
+/// Appends a refusal that two counts are shown with.
+fn append_counts(name: &[u8], stated: u64, taken: u64, out: &mut Vec<u8>) -> Result<(), AllocError>
+    ensures appended { OnOk result (out.new.items ≡ out.old.items ++ words_line (codes "refused" ∷ name.now ∷ decimal stated ∷ decimal taken ∷ [])) }
+    ensures kept { OnErr result (out.new.items ≡ out.old.items) }
+{
+    let mut one = Buffer::new();
+    let mut two = Buffer::new();
+    let stated = one.format(stated).as_bytes();
+    let taken = two.format(taken).as_bytes();
+    append_line(b"refused", &[name, stated, taken], out)
+}
+
+/// Appends a refusal that a device is shown with.
+fn append_open(name: &[u8], device: DeviceId, out: &mut Vec<u8>) -> Result<(), AllocError>
+    ensures appended { OnOk result (out.new.items ≡ out.old.items ++ words_line (codes "refused" ∷ name.now ∷ decimal device ∷ [])) }
+    ensures kept { OnErr result (out.new.items ≡ out.old.items) }
+{
+    append_line(
+        b"refused",
+        &[name, Buffer::new().format(device.get()).as_bytes()],
+        out,
+    )
+}
+
+/// Appends a refusal, with the numbers that are shown with it.
+fn append_refusal(refusal: &Refusal, out: &mut Vec<u8>) -> Result<(), AllocError>
+    ensures appended { OnOk result (out.new.items ≡ out.old.items ++ reply_text (Reply.Refused refusal.now)) }
+    ensures kept { OnErr result (out.new.items ≡ out.old.items) }
+{
+    let name = name_of(*refusal);
+    match refusal {
+        Refusal::CountsShort { stated, taken } | Refusal::CountsOver { stated, taken } => {
+            append_counts(name, *stated, *taken, out)
+        }
+        Refusal::NotClosed { device } => append_open(name, *device, out),
+        _ => append_line(b"refused", &[name], out),
+    }
+}
+
+/// Appends a name, a number and a word, a day and an owner.
+fn append_statement(
+    name: &[u8],
+    first: u64,
+    day: Day,
+    owner: OwnerId,
+    out: &mut Vec<u8>,
+) -> Result<(), AllocError>
+    ensures appended { OnOk result (out.new.items ≡ out.old.items ++ words_line (name.now ∷ decimal first ∷ codes "day" ∷ decimal day ∷ codes "owner" ∷ decimal owner ∷ [])) }
+    ensures kept { OnErr result (out.new.items ≡ out.old.items) }
+{
+    let mut one = Buffer::new();
+    let mut two = Buffer::new();
+    let mut three = Buffer::new();
+    let first = one.format(first).as_bytes();
+    let day = two.format(day.get()).as_bytes();
+    let owner = three.format(owner.get()).as_bytes();
+    append_line(name, &[first, b"day", day, b"owner", owner], out)
+}
+
+/// Appends the packet of a day's acknowledgement, with its device.
+fn append_day_answer(
+    packet: u64,
+    device: DeviceId,
+    day: Day,
+    out: &mut Vec<u8>,
+) -> Result<(), AllocError>
+    ensures appended { OnOk result (out.new.items ≡ out.old.items ++ reply_text (Reply.AnsweredDay packet device day)) }
+    ensures kept { OnErr result (out.new.items ≡ out.old.items) }
+{
+    let mut one = Buffer::new();
+    let mut two = Buffer::new();
+    let mut three = Buffer::new();
+    let packet = one.format(packet).as_bytes();
+    let device = two.format(device.get()).as_bytes();
+    let day = three.format(day.get()).as_bytes();
+    append_line(b"packet", &[packet, b"dayack", device, day], out)
+}
+
+/// Appends a taken statement, with its count.
+fn append_stated(
+    device: DeviceId,
+    day: Day,
+    count: u64,
+    out: &mut Vec<u8>,
+) -> Result<(), AllocError>
+    ensures appended { OnOk result (out.new.items ≡ out.old.items ++ reply_text (Reply.Stated device day count)) }
+    ensures kept { OnErr result (out.new.items ≡ out.old.items) }
+{
+    let mut one = Buffer::new();
+    let mut two = Buffer::new();
+    let mut three = Buffer::new();
+    let device = one.format(device.get()).as_bytes();
+    let day = two.format(day.get()).as_bytes();
+    let count = three.format(count).as_bytes();
+    append_line(b"stated", &[device, b"day", day, b"count", count], out)
+}
+
+/// Appends a closed day.
+fn append_closed(device: DeviceId, day: Day, out: &mut Vec<u8>) -> Result<(), AllocError>
+    ensures appended { OnOk result (out.new.items ≡ out.old.items ++ reply_text (Reply.Closed device day)) }
+    ensures kept { OnErr result (out.new.items ≡ out.old.items) }
+{
+    let mut one = Buffer::new();
+    let mut two = Buffer::new();
+    let device = one.format(device.get()).as_bytes();
+    let day = two.format(day.get()).as_bytes();
+    append_line(b"closed", &[device, day], out)
+}
+
+/// Appends a reply's line, ended by a line feed. The error is want of memory, and after it `out` is as before.
+pub fn print_reply(reply: &Reply, out: &mut Vec<u8>) -> Result<(), AllocError>
+    ensures appended { OnOk result (out.new.items ≡ out.old.items ++ reply_text reply.now) }
+    ensures kept { OnErr result (out.new.items ≡ out.old.items) }
+{
+    match reply {
+        Reply::Done => append_line(b"ok", &[], out),
+        Reply::Idle => append_line(b"idle", &[], out),
+        Reply::Empty => append_line(b"empty", &[], out),
+        Reply::Rewound => append_line(b"rewound", &[], out),
+        Reply::Accepted => append_line(b"accepted", &[], out),
+        Reply::Restarted => append_line(b"restarted", &[], out),
+        Reply::Refused(refusal) => append_refusal(refusal, out),
+        Reply::Opened(day) => append_number(b"open", u64::from(day.get()), out),
+        Reply::Recorded { link, lane } => append_record(*link, *lane, out),
+        Reply::Sent { packet, link } => append_numbers(b"packet", *packet, b"link", *link, out),
+        Reply::SentDay { packet, day, owner } => {
+            append_statement(b"packet", *packet, *day, *owner, out)
+        }
+        Reply::DroppedDay(day) => append_number(b"acked day", u64::from(day.get()), out),
+        Reply::DrawnDay { device, day, owner } => {
+            append_statement(b"drawn", u64::from(device.get()), *day, *owner, out)
+        }
+        Reply::StoredDay { device, day, owner } => {
+            append_statement(b"stored", u64::from(device.get()), *day, *owner, out)
+        }
+        Reply::AcknowledgedDay(day) => append_number(b"dayack", u64::from(day.get()), out),
+        Reply::AnsweredDay {
+            packet,
+            device,
+            day,
+        } => append_day_answer(*packet, *device, *day, out),
+        Reply::ForwardedDay { day } => {
+            append_number(b"forwarded day", u64::from(day.get()), out)
+        }
+        Reply::FetchedDay { device, day } => append_numbers(
+            b"fetched",
+            u64::from(device.get()),
+            b"day",
+            u64::from(day.get()),
+            out,
+        ),
+        Reply::Stated { device, day, count } => append_stated(*device, *day, *count, out),
+        Reply::Closed { device, day } => append_closed(*device, *day, out),
+        Reply::Drawn { device, link } => {
+            append_numbers(b"drawn", u64::from(device.get()), b"link", *link, out)
+        }
+        Reply::Stored { device, link } => {
+            append_numbers(b"stored", u64::from(device.get()), b"link", *link, out)
+        }
+        Reply::Forwarded { lane } => append_number(b"forwarded lane", *lane, out),
+        Reply::Fetched { device, lane } => {
+            append_numbers(b"fetched", u64::from(device.get()), b"lane", *lane, out)
+        }
+        Reply::Taken { device, lane } => {
+            append_numbers(b"taken", u64::from(device.get()), b"lane", *lane, out)
+        }
+        Reply::Dropped(count) => append_number(b"acked", *count, out),
+        Reply::Acknowledged(upto) => append_number(b"ack", *upto, out),
+        Reply::Answered {
+            packet,
+            device,
+            upto,
+        } => append_answer(*packet, u64::from(device.get()), *upto, out),
+        Reply::Resumed(upto) => append_number(b"resumed", *upto, out),
+        Reply::Upto(number) => append_number(b"upto", *number, out),
+        Reply::Count(number) => append_number(b"count", *number, out),
+        Reply::Pruned(rows) => append_number(b"pruned", *rows, out),
+        Reply::Bill { owner, day, bill } => append_bill(*owner, *day, bill, out),
+        Reply::Settlement {
+            owner,
+            day,
+            settlement,
+        } => append_settlement(*owner, *day, settlement, out),
+    }
+}

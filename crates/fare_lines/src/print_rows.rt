@@ -1,0 +1,140 @@
+ghost use Rattle.std.specs.Prelude.{◌≡◌, ◌++◌, OnOk, OnErr, length, take};
+ghost use Rattle.fare_world.specs.declared.reply.Reply.TheVariants as reply;
+ghost use Rattle.fare_lines.specs.Replies.{account_words, operator_words, reply_text, reply_words, rows_text, words_line};
+
+use crate::print::append_line;
+use fare_cap::{Bill, Row};
+use fare_record::{Day, OwnerId};
+use fare_settle::{Settled, Settlement};
+use itoa::Buffer;
+use std::alloc::AllocError;
+
+/// Appends an account's row of a bill.
+fn append_account(row: &Row, out: &mut Vec<u8>) -> Result<(), AllocError>
+    ensures appended { OnOk result (out.new.items ≡ out.old.items ++ words_line (account_words row.now)) }
+    ensures kept { OnErr result (out.new.items ≡ out.old.items) }
+{
+    let mut one = Buffer::new();
+    let mut two = Buffer::new();
+    let mut three = Buffer::new();
+    let mut four = Buffer::new();
+    let product = one.format(row.account.product().get()).as_bytes();
+    let token = two.format(row.account.token().get()).as_bytes();
+    let rides = three.format(row.rides).as_bytes();
+    let amount = four.format(row.amount.get()).as_bytes();
+    append_line(b"account", &[product, token, rides, amount], out)
+}
+
+/// Appends an operator's row of a settlement.
+fn append_operator(share: &Settled, out: &mut Vec<u8>) -> Result<(), AllocError>
+    ensures appended { OnOk result (out.new.items ≡ out.old.items ++ words_line (operator_words share.now)) }
+    ensures kept { OnErr result (out.new.items ≡ out.old.items) }
+{
+    let mut one = Buffer::new();
+    let mut two = Buffer::new();
+    let mut three = Buffer::new();
+    let operator = one.format(share.operator.get()).as_bytes();
+    let taps = two.format(share.taps).as_bytes();
+    let amount = three.format(share.amount).as_bytes();
+    append_line(b"operator", &[operator, taps, amount], out)
+}
+
+/// Appends the accounts' rows. After an error some of them may stand there.
+fn append_accounts(rows: &[Row], out: &mut Vec<u8>) -> Result<(), AllocError>
+    ensures appended { OnOk result (out.new.items ≡ out.old.items ++ rows_text account_words rows.now) }
+    ensures front { take (length out.old.items) out.new.items ≡ out.old.items }
+{
+    for row in rows {
+        append_account(row, out)?;
+    }
+    Ok(())
+}
+
+/// Appends the operators' rows. After an error some of them may stand there.
+fn append_operators(shares: &[Settled], out: &mut Vec<u8>) -> Result<(), AllocError>
+    ensures appended { OnOk result (out.new.items ≡ out.old.items ++ rows_text operator_words shares.now) }
+    ensures front { take (length out.old.items) out.new.items ≡ out.old.items }
+{
+    for share in shares {
+        append_operator(share, out)?;
+    }
+    Ok(())
+}
+
+/// Appends the first line of a bill.
+fn append_bill_line(
+    owner: OwnerId,
+    day: Day,
+    bill: &Bill,
+    out: &mut Vec<u8>,
+) -> Result<(), AllocError>
+    ensures appended { OnOk result (out.new.items ≡ out.old.items ++ words_line (reply_words (reply.Bill owner day bill.now))) }
+    ensures kept { OnErr result (out.new.items ≡ out.old.items) }
+{
+    let mut one = Buffer::new();
+    let mut two = Buffer::new();
+    let mut three = Buffer::new();
+    let mut four = Buffer::new();
+    let owner = one.format(owner.get()).as_bytes();
+    let day = two.format(day.get()).as_bytes();
+    let rows = three.format(bill.rows().len()).as_bytes();
+    let total = four.format(bill.total()).as_bytes();
+    append_line(b"bill", &[owner, day, rows, total], out)
+}
+
+/// Appends the first line of a settlement.
+fn append_settlement_line(
+    owner: OwnerId,
+    day: Day,
+    settlement: &Settlement,
+    out: &mut Vec<u8>,
+) -> Result<(), AllocError>
+    ensures appended { OnOk result (out.new.items ≡ out.old.items ++ words_line (reply_words (reply.Settlement owner day settlement.now))) }
+    ensures kept { OnErr result (out.new.items ≡ out.old.items) }
+{
+    let mut one = Buffer::new();
+    let mut two = Buffer::new();
+    let mut three = Buffer::new();
+    let owner = one.format(owner.get()).as_bytes();
+    let day = two.format(day.get()).as_bytes();
+    let operators = three.format(settlement.shares().len()).as_bytes();
+    append_line(b"settlement", &[owner, day, operators], out)
+}
+
+/// Appends a bill: a line, and a line for each account. After an error `out` is as before.
+pub fn append_bill(
+    owner: OwnerId,
+    day: Day,
+    bill: &Bill,
+    out: &mut Vec<u8>,
+) -> Result<(), AllocError>
+    ensures appended { OnOk result (out.new.items ≡ out.old.items ++ reply_text (reply.Bill owner day bill.now)) }
+    ensures kept { OnErr result (out.new.items ≡ out.old.items) }
+{
+    let length = out.len();
+    append_bill_line(owner, day, bill, out)?;
+    let appended = append_accounts(bill.rows(), out);
+    if appended.is_err() {
+        out.truncate(length);
+    }
+    appended
+}
+
+/// Appends a settlement: a line, and a line for each operator. After an error `out` is as before.
+pub fn append_settlement(
+    owner: OwnerId,
+    day: Day,
+    settlement: &Settlement,
+    out: &mut Vec<u8>,
+) -> Result<(), AllocError>
+    ensures appended { OnOk result (out.new.items ≡ out.old.items ++ reply_text (reply.Settlement owner day settlement.now)) }
+    ensures kept { OnErr result (out.new.items ≡ out.old.items) }
+{
+    let length = out.len();
+    append_settlement_line(owner, day, settlement, out)?;
+    let appended = append_operators(settlement.shares(), out);
+    if appended.is_err() {
+        out.truncate(length);
+    }
+    appended
+}
