@@ -1,6 +1,7 @@
+use crate::samples::{self, FIRST, Numbers};
 use fare_cap::{Bill, day_bill};
 use fare_day::Zone;
-use fare_record::{Day, DeviceId, LAST_NUMBER, Moment, OwnerId, ProductId, Record, Tap, Token};
+use fare_record::{Day, Record};
 use fare_scheme::{DemoSize, Draft, Scheme};
 use std::alloc::Global;
 use std::process::Abort;
@@ -10,24 +11,18 @@ pub(crate) type Tapped = (u64, u64, u64, u64);
 
 /// The record of a tap with this link and lane number, so many seconds after noon of its day.
 pub(crate) fn record(tapped: Tapped, number: u64, seconds: u64) -> Option<Record> {
-    if number == 0 || number > LAST_NUMBER {
-        return None;
-    }
     let (device, product, token, day) = tapped;
     let noon = day.saturating_mul(86_400).saturating_add(43_200);
-    let tap = Tap::new(
-        ProductId::new(product)?,
-        Token::new(token)?,
-        Moment::new(noon.saturating_add(seconds))?,
-        Day::new(day)?,
-    );
-    Some(Record::new(
-        DeviceId::new(device)?,
-        number,
-        OwnerId::new(1)?,
-        number,
-        tap,
-    ))
+    samples::record(Numbers {
+        device,
+        link: number,
+        lane: number,
+        product,
+        token,
+        moment: noon.saturating_add(seconds),
+        day,
+        ..FIRST
+    })
 }
 
 /// The records of these taps, one second after the other.
@@ -41,13 +36,19 @@ pub(crate) fn records(alloc: Global, taps: &[Tapped]) -> Option<Vec<Record>> {
     Some(records)
 }
 
+// Five taps of one account on a day.
+fn push_day(records: &mut Vec<Record>, day: u64) -> Option<()> {
+    for number in 1..=5 {
+        records.push(record((1, 1, 77, day), number, number)?).ok()?;
+    }
+    Some(())
+}
+
 /// Five taps of one account on each day from Monday, 19723, to before a day.
 pub(crate) fn week(alloc: Global, end: u64) -> Option<Vec<Record>> {
     let mut records = Vec::new(alloc);
     for day in 19_723..end {
-        for number in 1..=5 {
-            records.push(record((1, 1, 77, day), number, number)?).ok()?;
-        }
+        push_day(&mut records, day)?;
     }
     Some(records)
 }
@@ -126,13 +127,9 @@ fn size(alloc: Global, scheme: &Scheme, taps: &[Record], day: u64) -> Option<(us
 fn a_day_without_taps_has_no_rows(rt: HostRuntime) {
     let scheme = demo(rt.alloc()).expect(&rt, "scheme");
     let taps = week(rt.alloc(), 19_729).expect(&rt, "taps");
-    let sizes = [
-        size(rt.alloc(), &scheme, &taps, 0),
-        size(rt.alloc(), &scheme, &taps, 19_722),
-        size(rt.alloc(), &scheme, &taps, 19_729),
-        size(rt.alloc(), &scheme, &taps, 100_000),
-    ];
-    assert_eq!(rt; sizes, [Some((0, 0)); 4]);
+    for day in [0, 19_722, 19_729, 100_000] {
+        assert_eq!(rt; size(rt.alloc(), &scheme, &taps, day), Some((0, 0)));
+    }
 }
 
 // Two products, the second one registered first, at a fare of 100; product 1 costs 175, at most 525 a day and 600 a

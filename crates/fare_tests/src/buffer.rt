@@ -1,25 +1,6 @@
+use crate::samples::{FIRST, Numbers, record};
 use fare_buffer::{Full, Waiting, WaitingFault};
-use fare_record::{Day, DeviceId, Moment, OwnerId, ProductId, Record, Tap, Token};
 use std::alloc::Global;
-use std::process::Abort;
-
-// The first tap of device 1, or its second.
-fn numbered(rt: &impl Abort, is_first: bool) -> Record {
-    let device = DeviceId::new(1).expect(rt, "device");
-    let owner = OwnerId::new(1).expect(rt, "owner");
-    let product = ProductId::new(1).expect(rt, "product");
-    let token = Token::new(77).expect(rt, "token");
-    let moment = Moment::new(1_704_100_000).expect(rt, "moment");
-    let day = Day::new(19_723).expect(rt, "day");
-    let link = if is_first { 1 } else { 2 };
-    Record::new(
-        device,
-        link,
-        owner,
-        link,
-        Tap::new(product, token, moment, day),
-    )
-}
 
 // Why there is no room for so many, if there is none.
 fn fault(alloc: Global, capacity: u32) -> Option<WaitingFault> {
@@ -38,7 +19,13 @@ fn takes_the_room_that_was_asked_for(rt: HostRuntime) {
 
 #[test]
 fn hands_back_what_finds_no_room(rt: HostRuntime) {
-    let (first, second) = (numbered(&rt, true), numbered(&rt, false));
+    let first = record(FIRST).expect(&rt, "first");
+    let second = record(Numbers {
+        link: 2,
+        lane: 2,
+        ..FIRST
+    })
+    .expect(&rt, "second");
     let mut waiting = Waiting::new(rt.alloc(), 2).expect(&rt, "waiting");
     let one = (waiting.push(first), waiting.is_full());
     let two = (waiting.push(second), waiting.is_full());

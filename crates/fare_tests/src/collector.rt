@@ -1,8 +1,6 @@
+use crate::samples::{FIRST, Numbers, record, statement};
 use fare_collector::{CollectRefusal, Collector, CollectorFault, StatementRefusal};
-use fare_record::{
-    Day, DeviceId, LAST_NUMBER, Moment, OwnerId, ProductId, Record, Statement, StationId, Tap,
-    Token,
-};
+use fare_record::{DeviceId, LAST_NUMBER, StationId};
 use fare_scheme::{DemoSize, Scheme};
 use std::alloc::Global;
 use std::process::Abort;
@@ -42,22 +40,6 @@ fn accept_for(device: u64, link: u64, product: u64, owner: u64) -> Call {
     }
 }
 
-fn record(device: u64, link: u64, product: u64, owner: u64) -> Option<Record> {
-    if link == 0 || link > LAST_NUMBER {
-        return None;
-    }
-    let moment = Moment::new(1_704_100_000)?;
-    let product = ProductId::new(product)?;
-    let tap = Tap::new(product, Token::new(77)?, moment, Day::new(19_723)?);
-    Some(Record::new(
-        DeviceId::new(device)?,
-        link,
-        OwnerId::new(owner)?,
-        link,
-        tap,
-    ))
-}
-
 fn answer(
     collector: &mut Collector,
     scheme: &Scheme,
@@ -70,7 +52,14 @@ fn answer(
             product,
             owner,
         } => {
-            let record = record(device, link, product, owner)?;
+            let record = record(Numbers {
+                device,
+                link,
+                owner,
+                lane: link,
+                product,
+                ..FIRST
+            })?;
             return Some(collector.accept(scheme, &record));
         }
         Call::GoBack { device } => collector.unaccept(DeviceId::new(device)?),
@@ -163,8 +152,7 @@ fn stated(
     device: u64,
     owner: u64,
 ) -> Option<Result<(), StatementRefusal>> {
-    let (device, owner) = (DeviceId::new(device)?, OwnerId::new(owner)?);
-    let statement = Statement::new(device, Day::new(19_723)?, owner, 3);
+    let statement = statement(device, 19_723, owner, 3)?;
     Some(collector.accept_statement(scheme, &statement))
 }
 

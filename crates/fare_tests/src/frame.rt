@@ -1,10 +1,8 @@
 ghost use Rattle.std.specs.Prelude.{◌<◌};
 
+use crate::samples::{FIRST, record, statement};
 use fare_frame::{Frame, ReadFault, Reader};
-use fare_record::{
-    Ack, Day, DayAck, DeviceId, Hello, Item, Moment, OwnerId, ProductId, Record, Statement, Tap,
-    Token,
-};
+use fare_record::{Ack, Day, DayAck, DeviceId, Hello, Item};
 use std::alloc::Global;
 use std::process::Abort;
 
@@ -24,20 +22,11 @@ const DAY_ACKED: [u8; 11] = [0x00, 0x09, 0x04, 0, 0, 0, 1, 0, 0, 0x4d, 0x0b];
 const GREETED: [u8; 9] = [0x00, 0x07, 0x05, 0, 0, 0, 1, 0, 1];
 
 fn tapped() -> Option<Frame> {
-    let moment = Moment::new(1_704_100_000)?;
-    let tap = Tap::new(
-        ProductId::new(1)?,
-        Token::new(77)?,
-        moment,
-        Day::new(19_723)?,
-    );
-    let record = Record::new(DeviceId::new(1)?, 1, OwnerId::new(1)?, 1, tap);
-    Some(Frame::Tapped(record))
+    Some(Frame::Tapped(record(FIRST)?))
 }
 
 fn stated() -> Option<Frame> {
-    let day = Day::new(19_723)?;
-    Some(Frame::Stated(Statement::new(DeviceId::new(1)?, day, OwnerId::new(1)?, 3)))
+    Some(Frame::Stated(statement(1, 19_723, 1, 3)?))
 }
 
 fn acked() -> Option<Frame> {

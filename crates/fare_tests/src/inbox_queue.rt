@@ -3,11 +3,12 @@ ghost use Rattle.fare_record.specs.Limits.{IsNumber};
 ghost use Rattle.fare_inbox_queue.specs.InboxPasses.{station_of, stations_of, IsStationOf, IsWriterOf, IsInboxEnded};
 ghost use Rattle.fare_inbox_queue.specs.LinePasses.{IsAckOf, IsHearOf};
 
+use crate::samples::{FIRST, Numbers, record};
 use fare_inbox_queue::{
     AckItem, AckLine, AckPass, Arrived, Full, HearPass, Inbox, InboxEnded, QueueFault, StationPass,
     WriterPass,
 };
-use fare_record::{Ack, Day, DeviceId, Moment, OwnerId, ProductId, Record, StationId, Tap, Token};
+use fare_record::{Ack, DeviceId, Record, StationId};
 use std::alloc::Global;
 use std::process::Abort;
 use std::sync::Wait;
@@ -50,21 +51,14 @@ fn an_inbox_has_room_for_1_to_1024_items_of_1_to_16_stations(rt: HostRuntime) {
 }
 
 // A tap of a device.
-fn tapped(rt: &impl Abort, device: DeviceId, link: u64) -> Record
-    requires { IsNumber link }
-{
-    let owner = OwnerId::new(1).expect(rt, "owner");
-    let product = ProductId::new(1).expect(rt, "product");
-    let token = Token::new(77).expect(rt, "token");
-    let moment = Moment::new(1_704_100_000).expect(rt, "moment");
-    let day = Day::new(19_723).expect(rt, "day");
-    Record::new(
-        device,
+fn tapped(rt: &impl Abort, device: DeviceId, link: u64) -> Record {
+    let tapped = record(Numbers {
+        device: u64::from(device.get()),
         link,
-        owner,
-        link,
-        Tap::new(product, token, moment, day),
-    )
+        lane: link,
+        ..FIRST
+    });
+    tapped.expect(rt, "record")
 }
 
 // The last of the passes.

@@ -1,8 +1,9 @@
 ghost use Rattle.std.specs.Prelude.{◌≡◌, ◌∷◌, []};
 ghost use Rattle.fare_lane_queue.specs.Passes.{sent_list, forward_bases, IsForwardOf, IsOwnerOf};
 
+use crate::samples::{FIRST, Numbers, record, statement};
 use fare_lane_queue::{ForwardPass, Full, LaneQueue, LaneQueueFault, OwnerPass};
-use fare_record::{Day, DeviceId, Item, Moment, OwnerId, ProductId, Record, Statement, Tap, Token};
+use fare_record::{DeviceId, Item, Record, Statement};
 use std::alloc::Global;
 use std::process::Abort;
 use std::sync::Wait;
@@ -37,27 +38,21 @@ fn a_lane_queue_has_room_for_1_to_1024_items(rt: HostRuntime) {
     }
 }
 
-fn owner(rt: &impl Abort) -> OwnerId {
-    OwnerId::new(1).expect(rt, "owner")
-}
-
-fn day(rt: &impl Abort) -> Day {
-    Day::new(19_723).expect(rt, "day")
-}
-
 // The first tap of device 7 behind four that its owner has.
 fn fifth(rt: &impl Abort) -> Record
     ensures { (result.device ≡ 7) × (result.lane ≡ 5) }
 {
-    let product = ProductId::new(1).expect(rt, "product");
-    let token = Token::new(77).expect(rt, "token");
-    let moment = Moment::new(1_704_100_000).expect(rt, "moment");
-    let tap = Tap::new(product, token, moment, day(rt));
-    Record::new(device(rt, 7), 9, owner(rt), 5, tap)
+    let fifth = record(Numbers {
+        device: 7,
+        link: 9,
+        lane: 5,
+        ..FIRST
+    });
+    fifth.expect(rt, "record")
 }
 
 fn stated(rt: &impl Abort) -> Statement {
-    Statement::new(device(rt, 7), day(rt), owner(rt), 5)
+    statement(7, 19_723, 1, 5).expect(rt, "statement")
 }
 
 // A queue of two behind four taps of device 7.

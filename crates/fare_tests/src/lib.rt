@@ -14,8 +14,6 @@ mod command_line;
 #[cfg(test)]
 mod day;
 #[cfg(test)]
-mod days;
-#[cfg(test)]
 mod device;
 #[cfg(test)]
 mod frame;
@@ -41,6 +39,8 @@ mod record;
 mod replay;
 #[cfg(test)]
 mod route;
+#[cfg(test)]
+mod samples;
 #[cfg(test)]
 mod scheme;
 #[cfg(test)]

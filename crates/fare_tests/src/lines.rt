@@ -1,6 +1,6 @@
+use fare_lines::{Line, ParseFault, SchemeLine, parse, print_reply};
 use fare_record::{DeviceId, StationId};
 use fare_scheme::DemoSize;
-use fare_lines::{Line, ParseFault, SchemeLine, parse, print_reply};
 use fare_world::{Event, Refusal, Reply};
 use std::alloc::Global;
 use std::process::Abort;

@@ -15,49 +15,49 @@ const STATEMENT: [u8; 18] = [0, 0, 0, 1, 0, 0, 0x4d, 0x0b, 0, 1, 0, 0, 0, 0, 0, 
 #[test]
 fn a_record_is_spelled_and_read(rt: HostRuntime) -> Result<(), Fail> {
     let record = Record::decode(&RECORD)?;
-    assert_eq!(rt; record.device().get(), 1);
-    assert_eq!(rt;
-        (record.link(), record.owner().get(), record.lane()),
-        (1, 1, 1)
-    );
     let tap = record.tap();
-    assert_eq!(rt; (tap.product().get(), tap.token().get()), (1, 77));
-    assert_eq!(rt;
-        (tap.moment().get(), tap.day().get()),
-        (1_704_100_000, 19_723)
-    );
-    assert_eq!(rt; record.encode(), RECORD);
+    let ids = (record.device().get(), record.owner().get());
+    let numbers = (record.link(), record.lane());
+    assert_eq!(rt; (ids, numbers, record.encode()), ((1, 1), (1, 1), RECORD));
+    let account = (tap.product().get(), tap.token().get());
+    let time = (tap.moment().get(), tap.day().get());
+    assert_eq!(rt; (account, time), ((1, 77), (1_704_100_000, 19_723)));
     // Its link is not its lane number.
     let second = record_with(11, 2);
     let record = Record::decode(&second)?;
-    assert_eq!(rt; (record.link(), record.lane()), (2, 1));
-    assert_eq!(rt; record.encode(), second);
+    let numbers = (record.link(), record.lane());
+    assert_eq!(rt; (numbers, record.encode()), ((2, 1), second));
     Ok(())
 }
 
 #[test]
 fn a_statement_is_spelled_and_read(rt: HostRuntime) -> Result<(), Fail> {
     let statement = Statement::decode(&STATEMENT)?;
+    let ids = (statement.device().get(), statement.owner().get());
+    let numbers = (statement.day().get(), statement.count());
     assert_eq!(rt;
-        (statement.device().get(), statement.day().get()),
-        (1, 19_723)
+        (ids, numbers, statement.encode()),
+        ((1, 1), (19_723, 3), STATEMENT)
     );
-    assert_eq!(rt; (statement.owner().get(), statement.count()), (1, 3));
-    assert_eq!(rt; statement.encode(), STATEMENT);
     Ok(())
 }
 
+const ACK: [u8; 12] = [0, 0, 0, 1, 0, 0, 0, 0, 0, 0, 0, 1];
+
+const DAY_ACK: [u8; 8] = [0, 0, 0, 1, 0, 0, 0x4d, 0x0b];
+
+const HELLO: [u8; 6] = [0, 0, 0, 1, 0, 1];
+
 #[test]
 fn acknowledgements_and_greetings_are_spelled_and_read(rt: HostRuntime) -> Result<(), Fail> {
-    let ack = Ack::decode(&[0, 0, 0, 1, 0, 0, 0, 0, 0, 0, 0, 1])?;
-    assert_eq!(rt; (ack.device().get(), ack.upto()), (1, 1));
-    assert_eq!(rt; ack.encode(), [0, 0, 0, 1, 0, 0, 0, 0, 0, 0, 0, 1]);
-    let day_ack = DayAck::decode(&[0, 0, 0, 1, 0, 0, 0x4d, 0x0b])?;
-    assert_eq!(rt; (day_ack.device().get(), day_ack.day().get()), (1, 19_723));
-    assert_eq!(rt; day_ack.encode(), [0, 0, 0, 1, 0, 0, 0x4d, 0x0b]);
-    let hello = Hello::decode(&[0, 0, 0, 1, 0, 1])?;
-    assert_eq!(rt; (hello.device().get(), hello.version()), (1, 1));
-    assert_eq!(rt; hello.encode(), [0, 0, 0, 1, 0, 1]);
+    let ack = Ack::decode(&ACK)?;
+    assert_eq!(rt; (ack.device().get(), ack.upto(), ack.encode()), (1, 1, ACK));
+    let day_ack = DayAck::decode(&DAY_ACK)?;
+    let day = (day_ack.device().get(), day_ack.day().get());
+    assert_eq!(rt; (day, day_ack.encode()), ((1, 19_723), DAY_ACK));
+    let hello = Hello::decode(&HELLO)?;
+    let version = (hello.device().get(), hello.version());
+    assert_eq!(rt; (version, hello.encode()), ((1, 1), HELLO));
     Ok(())
 }
 

@@ -1,6 +1,5 @@
-use fare_record::{
-    Day, DeviceId, Item, LAST_NUMBER, Moment, OwnerId, ProductId, Record, Statement, Tap, Token,
-};
+use crate::samples::{FIRST, Numbers, record, statement};
+use fare_record::{Day, DeviceId, Item, OwnerId, Record};
 use fare_route::{Forwarder, StartFault, UnknownDevice};
 use fare_scheme::{DemoSize, Scheme};
 use fare_store::{FailingOutbox, Fault, Outbox, PlainOutbox, Refused};
@@ -18,23 +17,11 @@ fn started(
 }
 
 fn tapped(number: u64) -> Option<Record> {
-    if number == 0 || number > LAST_NUMBER {
-        return None;
-    }
-    let (device, owner) = (DeviceId::new(1)?, OwnerId::new(1)?);
-    let moment = Moment::new(1_704_100_000)?;
-    let tap = Tap::new(
-        ProductId::new(1)?,
-        Token::new(77)?,
-        moment,
-        Day::new(19_723)?,
-    );
-    Some(Record::new(device, number, owner, number, tap))
-}
-
-fn stating(day: u64) -> Option<Statement> {
-    let (device, owner) = (DeviceId::new(1)?, OwnerId::new(1)?);
-    Some(Statement::new(device, Day::new(day)?, owner, 0))
+    record(Numbers {
+        link: number,
+        lane: number,
+        ..FIRST
+    })
 }
 
 fn store<O: Outbox>(outbox: &mut O, number: u64) -> Option<bool> {
@@ -42,7 +29,7 @@ fn store<O: Outbox>(outbox: &mut O, number: u64) -> Option<bool> {
 }
 
 fn state<O: Outbox>(outbox: &mut O, day: u64) -> Option<bool> {
-    Some(outbox.store_statement(&stating(day)?).is_ok())
+    Some(outbox.store_statement(&statement(1, day, 1, 0)?).is_ok())
 }
 
 /// A call on a forwarder or its outbox.
@@ -98,7 +85,7 @@ fn does<O: Outbox>(forwarder: &mut Forwarder, outbox: &mut O, call: Call) -> Opt
         Call::Store(number) => store(outbox, number),
         Call::State(day) => state(outbox, day),
         Call::HandsTap(number) => hands(forwarder, outbox, Item::Tap(tapped(number)?)),
-        Call::HandsDay(day) => hands(forwarder, outbox, Item::Stated(stating(day)?)),
+        Call::HandsDay(day) => hands(forwarder, outbox, Item::Stated(statement(1, day, 1, 0)?)),
         Call::HandsNothing(device) => hands_nothing(forwarder, outbox, device),
         Call::Refuses(device) => {
             stops(forwarder, outbox, device, Refused::Because(UnknownDevice))

@@ -1,7 +1,6 @@
+use crate::samples::{FIRST, Numbers, record, statement};
 use fare_owner::{CloseFault, StatementFault, TapFault};
-use fare_record::{
-    Day, DeviceId, LAST_NUMBER, Moment, OwnerId, ProductId, Record, Statement, Tap, Token,
-};
+use fare_record::{Day, DeviceId, OwnerId, Record, Statement};
 use fare_scheme::{DemoSize, Scheme};
 use fare_store::{
     FailingOutbox, Fault, Ledger, LedgerFault, Outbox, PlainLedger, PlainOutbox, Refused,
@@ -16,28 +15,6 @@ fn device() -> Option<DeviceId> {
 
 fn owner() -> Option<OwnerId> {
     OwnerId::new(1)
-}
-
-// A tap of device 1 at this second of its day, for owner 1.
-fn tapped(link: u64, lane: u64, moment: u64) -> Option<Record> {
-    if link == 0 || link > LAST_NUMBER || lane == 0 || lane > LAST_NUMBER {
-        return None;
-    }
-    let moment = Moment::new(moment)?;
-    let tap = Tap::new(
-        ProductId::new(1)?,
-        Token::new(77)?,
-        moment,
-        Day::new(19_723)?,
-    );
-    Some(Record::new(device()?, link, owner()?, lane, tap))
-}
-
-fn stating(count: u64) -> Option<Statement> {
-    if count > LAST_NUMBER {
-        return None;
-    }
-    Some(Statement::new(device()?, Day::new(19_723)?, owner()?, count))
 }
 
 /// A call on an outbox, for device 1 and owner 1.
@@ -72,7 +49,12 @@ pub(crate) enum Said {
 }
 
 fn store<O: Outbox>(outbox: &mut O, link: u64, lane: u64) -> Option<Said> {
-    Some(Said::Stored(outbox.store(&tapped(link, lane, 1_704_100_000)?)))
+    let row = record(Numbers {
+        link,
+        lane,
+        ..FIRST
+    })?;
+    Some(Said::Stored(outbox.store(&row)))
 }
 
 fn store_all<O: Outbox>(outbox: &mut O, last: u64) -> Option<Said> {
@@ -81,6 +63,11 @@ fn store_all<O: Outbox>(outbox: &mut O, last: u64) -> Option<Said> {
         said = store(outbox, link, link);
     }
     said
+}
+
+fn state<O: Outbox>(outbox: &mut O, count: u64) -> Option<Said> {
+    let statement = statement(1, 19_723, 1, count)?;
+    Some(Said::Stated(outbox.store_statement(&statement)))
 }
 
 // The lane number of the next row.
@@ -120,7 +107,7 @@ pub(crate) fn ask<O: Outbox>(outbox: &mut O, asked: Asked) -> Option<Said> {
         Asked::Upto => Some(Said::Number(outbox.upto(device()?))),
         Asked::Store(link, lane) => store(outbox, link, lane),
         Asked::StoreAll(last) => store_all(outbox, last),
-        Asked::State(count) => Some(Said::Stated(outbox.store_statement(&stating(count)?))),
+        Asked::State(count) => state(outbox, count),
         Asked::NextRow(after) => next_row(outbox, after),
         Asked::NextStatement(from) => next_statement(outbox, from),
         Asked::Prune(upto) => Some(Said::Number(outbox.prune(owner()?, device()?, upto))),
@@ -250,8 +237,13 @@ fn fault_of(alloc: Global, owner: u64) -> Option<LedgerFault> {
 }
 
 fn take<L: Ledger>(ledger: &mut L, lane: u64) -> Option<Answer> {
-    let later = 1_704_100_000_u64.saturating_sub(lane);
-    Some(Answer::Taken(ledger.take(&tapped(lane, lane, later)?)))
+    let row = record(Numbers {
+        link: lane,
+        lane,
+        moment: FIRST.moment.saturating_sub(lane),
+        ..FIRST
+    })?;
+    Some(Answer::Taken(ledger.take(&row)))
 }
 
 fn take_all<L: Ledger>(ledger: &mut L, last: u64) -> Option<Answer> {
@@ -291,7 +283,10 @@ pub(crate) fn answer_to<L: Ledger>(ledger: &mut L, call: Call) -> Option<Answer>
         Call::Stated => Some(Answer::Maybe(ledger.stated(device, day))),
         Call::Take(lane) => take(ledger, lane),
         Call::TakeAll(last) => take_all(ledger, last),
-        Call::State(count) => Some(Answer::Stated(ledger.state(&stating(count)?))),
+        Call::State(count) => {
+            let statement = statement(1, 19_723, 1, count)?;
+            Some(Answer::Stated(ledger.state(&statement)))
+        }
         Call::Close => Some(Answer::Closed(ledger.close(device, day))),
     }
 }

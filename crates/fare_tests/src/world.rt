@@ -1,5 +1,6 @@
+use crate::samples::{FIRST, record};
 use fare_day::Zone;
-use fare_record::{Day, DeviceId, Moment, OwnerId, ProductId, Record, StationId, Tap, Token};
+use fare_record::{DeviceId, Moment, OwnerId, ProductId, StationId, Token};
 use fare_scheme::{DemoSize, Draft, Scheme};
 use fare_store::{FailingOutbox, Fault, Outbox, PlainLedger, PlainOutbox};
 use fare_world::{Event, Reply, World, WorldFault};
@@ -221,22 +222,11 @@ fn a_failing_store_leaves_the_hand(rt: HostRuntime) {
     assert_eq!(rt; answers, [Err(Fault::Store), Ok(stored)]);
 }
 
-// The first tap of device 1, for owner 1.
-fn first_row() -> Option<Record> {
-    let tap = Tap::new(
-        ProductId::new(1)?,
-        Token::new(77)?,
-        Moment::new(1_704_100_000)?,
-        Day::new(19_723)?,
-    );
-    Some(Record::new(DeviceId::new(1)?, 1, OwnerId::new(1)?, 1, tap))
-}
-
 // An outbox with a row or none.
 fn outbox_with(alloc: Global, has_row: bool) -> Option<PlainOutbox> {
     let mut outbox = PlainOutbox::new(alloc);
     if has_row {
-        outbox.store(&first_row()?).ok()?;
+        outbox.store(&record(FIRST)?).ok()?;
     }
     Some(outbox)
 }

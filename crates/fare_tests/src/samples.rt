@@ -1,0 +1,56 @@
+//! Records and statements of small numbers, for the tests.
+ghost use Rattle.std.specs.Prelude.{◌≡◌, IfSome};
+
+use fare_record::{
+    Day, DeviceId, LAST_NUMBER, Moment, OwnerId, ProductId, Record, Statement, Tap, Token,
+};
+
+/// The numbers of a record.
+#[derive(Clone, Copy)]
+pub(crate) struct Numbers {
+    pub device: u64,
+    pub link: u64,
+    pub owner: u64,
+    pub lane: u64,
+    pub product: u64,
+    pub token: u64,
+    pub moment: u64,
+    pub day: u64,
+}
+
+/// Those of the first tap of device 1, on product 1 of owner 1.
+pub(crate) const FIRST: Numbers = Numbers {
+    device: 1,
+    link: 1,
+    owner: 1,
+    lane: 1,
+    product: 1,
+    token: 77,
+    moment: 1_704_100_000,
+    day: 19_723,
+};
+
+fn tap(of: Numbers) -> Option<Tap> {
+    let (product, token) = (ProductId::new(of.product)?, Token::new(of.token)?);
+    Some(Tap::new(product, token, Moment::new(of.moment)?, Day::new(of.day)?))
+}
+
+/// The record of these numbers.
+pub(crate) fn record(of: Numbers) -> Option<Record>
+    ensures { IfSome result (λ r. (r.device ≡ of.device) × (r.lane ≡ of.lane)) }
+{
+    if of.link == 0 || of.link > LAST_NUMBER || of.lane == 0 || of.lane > LAST_NUMBER {
+        return None;
+    }
+    let (device, owner) = (DeviceId::new(of.device)?, OwnerId::new(of.owner)?);
+    Some(Record::new(device, of.link, owner, of.lane, tap(of)?))
+}
+
+/// A statement of a device's day to an owner.
+pub(crate) fn statement(device: u64, day: u64, owner: u64, count: u64) -> Option<Statement> {
+    if count > LAST_NUMBER {
+        return None;
+    }
+    let (device, owner) = (DeviceId::new(device)?, OwnerId::new(owner)?);
+    Some(Statement::new(device, Day::new(day)?, owner, count))
+}
