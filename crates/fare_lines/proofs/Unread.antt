@@ -21,11 +21,11 @@ reads_line old mid new lines line read next = record {
   number = omega (arith, read.number, next.2, length-append lines (line ∷ []));
 }
 
-all_both : {X : Type 0} (P : X → Type 0) (xs ys : List X) → AllByRecursion P xs → AllByRecursion P ys → AllByRecursion P (xs ++ ys)
+pub all_both : {X : Type 0} (P : X → Type 0) (xs ys : List X) → AllByRecursion P xs → AllByRecursion P ys → AllByRecursion P (xs ++ ys)
 all_both P [] ys left right = right
 all_both P (x ∷ xs) ys left right = (left.0, all_both P xs ys left.1 right)
 
-map_both : {X : Type 0} (f : X → List ℕ) (xs ys : List X) (rest : List (List ℕ)) → map f xs ++ (map f ys ++ rest) ≡ map f (xs ++ ys) ++ rest
+pub map_both : {X : Type 0} (f : X → List ℕ) (xs ys : List X) (rest : List (List ℕ)) → map f xs ++ (map f ys ++ rest) ≡ map f (xs ++ ys) ++ rest
 map_both f [] ys rest = refl
 map_both f (x ∷ xs) ys rest = ap (λ t. f x ∷ t) (map_both f xs ys rest)
 
