@@ -1,27 +1,37 @@
 -- Going on through a text and answering it, line by line.
-use Rattle.std.proofs.Common.{◌≡◌, ◌+◌, ◌∙◌, ℕ, List, [], ◌∷◌, ◌++◌, Some, None, length, map, ap, sym, subst, refl, arith, append_assoc, length-append}
+use Rattle.std.proofs.Common.{◌≡◌, ◌+◌, ◌∙◌, ℕ, List, [], ◌∷◌, ◌++◌, Option, Some, None, length, map, ap, sym, subst, refl, arith, append_assoc, length-append}
 use Rattle.std.specs.List.{AllByRecursion}
+use Rattle.fare_store.specs.declared.fault.Fault.{Fault}
+use Rattle.fare_store.specs.declared.fault.Fault.TheVariants as fault
+use Rattle.fare_store.specs.LedgerWords.{LedgerValue}
+use Rattle.fare_store.specs.OutboxWords.{OutboxValue}
+use Rattle.fare_store.specs.Standing.{Standing}
+use Rattle.fare_world.specs.declared.world.World.{World}
 use Rattle.fare_world.specs.declared.reply.Reply.{Reply}
 use Rattle.fare_world.specs.declared.reply.Reply.TheVariants.{Refused}
 use Rattle.fare_world.specs.declared.reply.Refusal.TheVariants.{Sealed}
 use Rattle.fare_world.specs.System.{System, start}
 use Rattle.fare_world.specs.Steps.{step}
+use Rattle.fare_world.specs.Whole.{AreLive, CountsFailure, Follows, StandsAt}
 use Rattle.fare_lines.specs.declared.line.Line.{Line}
 use Rattle.fare_lines.specs.declared.line.Line.TheVariants.{Setup, Step}
 use Rattle.fare_lines.specs.declared.text.ParseFault.{ParseFault}
 use Rattle.fare_lines.specs.declared.text.ParseFault.TheVariants.{BadLine, Memory}
 use Rattle.fare_lines.specs.Grammar.{Fits, line_text}
+use Rattle.fare_trace.specs.declared.running.RunFault.{RunFault}
+use Rattle.fare_trace.specs.declared.running.RunFault.TheVariants.{Text, Store}
 use Rattle.fare_lines.specs.Faults.{Refuses}
+use Rattle.fare_trace.specs.Faults.{RefusesRun, run_fault}
 use Rattle.fare_lines.specs.Lines.{FirstBadLine, Spells, lines_of}
 use Rattle.fare_lines.specs.Replies.{reply_text, replies_text}
 use Rattle.fare_trace.specs.Answers.{AnswersAll, Running, Stage, first_stage}
-use Rattle.fare_lines.specs.Unread.{IsNext, StopsIn, Unread, whole}
-use Rattle.fare_lines.proofs.Unread.{reads_all, reads_both, reads_line, reads_nothing, reads_stops, stops_text}
-use Rattle.fare_trace.specs.Progress.{AnswersText, Goes, GoesToEnd, WritesAnswer}
-use Rattle.fare_trace.specs.Stores.{IsNew, PlainWorld, Stands, WritesStep}
+use Rattle.fare_lines.specs.Unread.{IsNext, ReadsOff, StopsIn, Unread, whole}
+use Rattle.fare_trace.specs.Progress.{AnswersText, Breaks, Ends, Goes, GoesToEnd, IsRest, WritesAnswer}
+use Rattle.fare_trace.specs.Stores.{IsNew, WritesStep}
 use Rattle.fare_lines.proofs.Cuts.{append_nil}
 use Rattle.fare_lines.proofs.Rows.{all_push, row_next}
-use Rattle.fare_trace.proofs.Stores.{live}
+use Rattle.fare_trace.proofs.Stores.{fails_then, follows_none, follows_then}
+use Rattle.fare_lines.proofs.Unread.{all_both, map_both, reads_all, reads_both, reads_line, reads_nothing, reads_stops, stops_text}
 
 -- ANSWERING
 replies_both : (rs ss : List Reply) → replies_text rs ++ replies_text ss ≡ replies_text (rs ++ ss)
@@ -111,36 +121,89 @@ pub text_answered : (text : List ℕ) (old new : Unread) (before after : List �
 text_answered text old new before after is none end =
     goes_all text new after (subst (λ u. GoesToEnd first_stage u new [] after) is (subst (λ b. GoesToEnd first_stage old new b after) none end))
 
+-- READING ALONE
+pub rest_of : (old new : Unread) (lines : List Line) → ReadsOff old new lines → lines_of new.rest ≡ [] → IsRest old
+rest_of old new lines read none = (lines, record { fits = read.fits; is = read.is ∙ ap (λ t. map line_text lines ++ t) none ∙ append_nil (map line_text lines) })
+
+-- one line more, or none
+pub reads_more : (old mid new : Unread) (lines : List Line) (found : Option Line) → ReadsOff old mid lines → IsNext mid new found → (more : List Line) × ReadsOff old new more
+reads_more old mid new lines None read next = (lines, subst (λ u. ReadsOff old u lines) (sym next.0) read)
+reads_more old mid new lines (Some line) read next = (lines ++ line ∷ [], reads_line old mid new lines line read next)
+
+-- what is still to be read, behind lines that were
+pub rest_behind : (old mid : Unread) (lines : List Line) → ReadsOff old mid lines → IsRest mid → IsRest old
+rest_behind old mid lines read rest =
+    let more = rest.0 in (
+      lines ++ more,
+      record {
+        fits = all_both Fits lines more read.fits rest.1.fits;
+        is = read.is ∙ ap (λ t. map line_text lines ++ t) (rest.1.is ∙ sym (append_nil (map line_text more))) ∙ map_both line_text lines more [] ∙ append_nil (map line_text (lines ++ more));
+      },
+    )
+
+-- a run that ended before the end of its text
+pub text_refused : (text : List ℕ) (first stage : Stage) (old mid : Unread) (before between : List ℕ) (f : RunFault) → old ≡ whole text → Goes first stage old mid before between → Ends mid f → RefusesRun text f
+text_refused text first stage old mid before between (Text f) is goes ends = text_stops text first stage old mid before between f is goes ends
+text_refused text first stage old mid before between Store is goes ends = subst IsRest is (rest_behind old mid goes.lines goes.read ends)
+
 -- RUNNING
--- the world stands where the lines so far led
-pub record IsRunning (was now : PlainWorld) (old mid : Unread) (before between : List ℕ) : Type 0 where
-  pub scheme : now.scheme ≡ was.scheme
-  pub system : System
-  pub stands : Stands now system
-  pub goes : Goes (Running was.scheme (start was.scheme)) (Running was.scheme system) old mid before between
+module _ {O L : Type 0} (out : O → Standing OutboxValue) (led : L → Standing LedgerValue) where
+  -- the world stands where the lines so far led, and if its stores are live, what was written answers these lines
+  pub record IsRunning (was now : World O L) (old mid : Unread) (before between : List ℕ) : Type 0 where
+    pub scheme : now.scheme ≡ was.scheme
+    pub system : System
+    pub stands : StandsAt out led now system
+    pub lines : List Line
+    pub read : ReadsOff old mid lines
+    pub goes : AreLive out led now → Goes (Running was.scheme (start was.scheme)) (Running was.scheme system) old mid before between
+    pub stores : Follows out led was now None
 
-pub runs_nothing : (w : PlainWorld) (at : Unread) (out : List ℕ) → IsNew w → IsRunning w w at at out out
-runs_nothing w at out new = record { scheme = refl; system = start w.scheme; stands = new; goes = goes_nothing (Running w.scheme (start w.scheme)) at out }
+  pub runs_nothing : (w : World O L) (at : Unread) (text : List ℕ) → IsNew out led w → IsRunning w w at at text text
+  runs_nothing w at text new = record {
+    scheme = refl;
+    system = start w.scheme;
+    stands = new;
+    lines = [];
+    read = reads_nothing at;
+    goes = λ live. goes_nothing (Running w.scheme (start w.scheme)) at text;
+    stores = follows_none out led w;
+  }
 
-pub runs_line : (was now then : PlainWorld) (old mid new : Unread) (before between after : List ℕ) (line : Line) → IsRunning was now old mid before between → IsNext mid new (Some line) → WritesStep now then line between after → IsRunning was then old new before after
-runs_line was now then old mid new before between after (Setup line) runs is writes =
-    let first = Running was.scheme (start was.scheme) in
-    let stage = Running was.scheme runs.system in
-    record {
-      scheme = ap (λ w. w.scheme) writes.0 ∙ runs.scheme;
-      system = runs.system;
-      stands = subst (λ w. Stands w runs.system) (sym writes.0) runs.stands;
-      goes = goes_line first stage stage old mid new before between after (Setup line) runs.goes is (Refused Sealed, refl, writes.1);
-    }
-runs_line was now then old mid new before between after (Step event) runs is writes =
-    let first = Running was.scheme (start was.scheme) in
-    let stage = Running was.scheme runs.system in
-    let stepped = writes.1 in
-    let answer : writes.0 ≡ (step was.scheme runs.system event).1 = stepped.reply runs.system runs.stands (live then) ∙ ap (λ sc. (step sc runs.system event).1) runs.scheme in
-    let next = Running was.scheme (step was.scheme runs.system event).0 in
-    record {
-      scheme = stepped.scheme ∙ runs.scheme;
-      system = (step was.scheme runs.system event).0;
-      stands = subst (λ sc. Stands then (step sc runs.system event).0) runs.scheme (stepped.stands runs.system runs.stands);
-      goes = goes_line first stage next old mid new before between after (Step event) runs.goes is (writes.0, ap (λ r. (next, r)) answer, writes.2);
-    }
+  pub runs_line : (was now next : World O L) (old mid new : Unread) (before between after : List ℕ) (line : Line) → IsRunning was now old mid before between → IsNext mid new (Some line) → WritesStep out led now next line between after → IsRunning was next old new before after
+  runs_line was now next old mid new before between after (Setup line) runs is writes =
+      let first = Running was.scheme (start was.scheme) in
+      let stage = Running was.scheme runs.system in
+      record {
+        scheme = ap (λ w. w.scheme) writes.0 ∙ runs.scheme;
+        system = runs.system;
+        stands = subst (λ w. StandsAt out led w runs.system) (sym writes.0) runs.stands;
+        lines = runs.lines ++ Setup line ∷ [];
+        read = reads_line old mid new runs.lines (Setup line) runs.read is;
+        goes = λ live. goes_line first stage stage old mid new before between after (Setup line) (runs.goes (subst (AreLive out led) writes.0 live)) is (Refused Sealed, refl, writes.1);
+        stores = subst (λ w. Follows out led was w None) (sym writes.0) runs.stores;
+      }
+  runs_line was now next old mid new before between after (Step event) runs is writes =
+      let first = Running was.scheme (start was.scheme) in
+      let stage = Running was.scheme runs.system in
+      let stepped = writes.1 in
+      let then_stage = Running was.scheme (step was.scheme runs.system event).0 in
+      record {
+        scheme = stepped.scheme ∙ runs.scheme;
+        system = (step was.scheme runs.system event).0;
+        stands = subst (λ sc. StandsAt out led next (step sc runs.system event).0) runs.scheme (stepped.stands runs.system runs.stands);
+        lines = runs.lines ++ Step event ∷ [];
+        read = reads_line old mid new runs.lines (Step event) runs.read is;
+        goes = λ live.
+            let answer : writes.0 ≡ (step was.scheme runs.system event).1 = stepped.reply runs.system runs.stands live ∙ ap (λ sc. (step sc runs.system event).1) runs.scheme in
+            goes_line first stage then_stage old mid new before between after (Step event) (runs.goes (stepped.stores.live live)) is (writes.0, ap (λ r. (then_stage, r)) answer, writes.2);
+        stores = follows_then out led was now next runs.stores stepped.stores;
+      }
+
+  -- a line at which there was no memory or a store failed
+  pub breaks_at : (was now : World O L) (old mid new : Unread) (before between : List ℕ) (line : Line) (f : Fault) → IsRunning was now old mid before between → IsNext mid new (Some line) → Breaks old new (run_fault f)
+  breaks_at was now old mid new before between line fault.Memory runs is = tt
+  breaks_at was now old mid new before between line fault.Store runs is = (runs.lines ++ line ∷ [], reads_line old mid new runs.lines line runs.read is)
+
+  pub breaks_cause : (was now next : World O L) (old mid : Unread) (before between : List ℕ) (f : Fault) → IsRunning was now old mid before between → (f ≡ fault.Store → CountsFailure out led now next) → run_fault f ≡ Store → CountsFailure out led was next
+  breaks_cause was now next old mid before between fault.Memory runs cause is = absurd (cc)
+  breaks_cause was now next old mid before between fault.Store runs cause is = fails_then out led was now next runs.stores (cause refl)

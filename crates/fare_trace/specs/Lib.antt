@@ -1,3 +1,4 @@
+pub mod Faults
 pub mod Answers
 pub mod Registration
 pub mod Stores

@@ -7,12 +7,28 @@ use Rattle.fare_world.specs.System.{start}
 use Rattle.fare_lines.specs.declared.line.Line.{Line}
 use Rattle.fare_lines.specs.declared.text.ParseFault.{ParseFault}
 use Rattle.fare_lines.specs.declared.text.ParseFault.TheVariants.{BadLine, Memory}
+use Rattle.fare_trace.specs.declared.running.RunFault.{RunFault}
+use Rattle.fare_trace.specs.declared.running.RunFault.TheVariants.{Text, Store}
 use Rattle.fare_lines.specs.Grammar.{Fits, line_text}
 use Rattle.fare_lines.specs.Lines.{FirstBadLine, Spells, lines_of}
 use Rattle.fare_lines.specs.Replies.{reply_text, replies_text}
 use Rattle.fare_trace.specs.Replay.{IsOutput}
-use Rattle.fare_lines.specs.Unread.{ReadsOff, Unread}
+use Rattle.fare_lines.specs.Unread.{ReadsOff, StopsIn, Unread, whole}
 use Rattle.fare_trace.specs.Answers.{Answers, AnswersAll, Running, Stage, first_stage}
+
+-- what is still to be read spells lines
+abbrev pub IsRest : Unread → Type 0
+IsRest unread = (lines : List Line) × Spells lines unread.rest
+
+-- why a run broke off: a fault of the text, or a store failed at a line, up to which lines were read
+abbrev pub Breaks : Unread → Unread → RunFault → Type 0
+Breaks old new (Text fault) = StopsIn old fault
+Breaks old new Store = (lines : List Line) × ReadsOff old new lines
+
+-- the same, where all that was still to be read spells lines if a store failed
+abbrev pub Ends : Unread → RunFault → Type 0
+Ends unread (Text fault) = StopsIn unread fault
+Ends unread Store = IsRest unread
 
 -- lines were read off the front, and what was written answers them, from one stage to another
 pub record Goes (first last : Stage) (old new : Unread) (before after : List ℕ) : Type 0 where

@@ -5,7 +5,10 @@ use Rattle.std.specs.Io.KnownBytes.{Appends, Keeps}
 use Rattle.fare_world.specs.declared.reply.Reply.{Reply}
 use Rattle.fare_lines.specs.declared.line.Line.{Line}
 use Rattle.fare_trace.specs.declared.stream.ReplayFault.{ReplayFault}
-use Rattle.fare_trace.specs.declared.stream.ReplayFault.TheVariants.{Read, BadLine, Memory, Write}
+use Rattle.fare_trace.specs.declared.stream.ReplayFault.TheVariants.{Read, BadLine, Memory, Store, Write}
+use Rattle.fare_lines.specs.declared.text.ParseFault.TheVariants as parse
+use Rattle.fare_trace.specs.declared.running.RunFault.{RunFault}
+use Rattle.fare_trace.specs.declared.running.RunFault.TheVariants as run
 use Rattle.fare_lines.specs.Lines.{Spells, FirstBadLine}
 use Rattle.fare_lines.specs.Replies.{replies_text}
 use Rattle.fare_trace.specs.Answers.{AnswersAll, first_stage}
@@ -34,9 +37,16 @@ pub record Replays (old new : Option (List ℕ)) (input : List ℕ) : Type 0 whe
   pub output : IsOutput lines text
   pub written : Appends old new text
 
--- what each fault says; only after Write may something have been written
+-- the fault of a replay whose run was not answered
+abbrev pub fault_of_run : RunFault → ReplayFault
+fault_of_run (run.Text (parse.BadLine line)) = BadLine line
+fault_of_run (run.Text parse.Memory) = Memory
+fault_of_run run.Store = Store
+
+-- what each fault says: a store fails and a writer does only where all lines are good; only after Write may something have been written
 abbrev pub ReplayFails : Option (List ℕ) → Option (List ℕ) → Option (List ℕ) → ReplayFault → Type 0
 ReplayFails known old new Read = Keeps old new
 ReplayFails known old new (BadLine number) = Keeps old new × IfSome known (λ input. IsShort input × FirstBadLine input number)
 ReplayFails known old new Memory = Keeps old new
+ReplayFails known old new Store = Keeps old new × IfSome known (λ input. IsShort input × ((lines : List Line) × Spells lines input))
 ReplayFails known old new Write = IfSome known (λ input. IsShort input × ((lines : List Line) × Spells lines input))

@@ -1,112 +1,27 @@
-ghost use Rattle.std.specs.Prelude.{◌≡◌, [], ◌++◌, OnOk, IfOk, IfErr, MatchResult};
+ghost use Rattle.std.specs.Prelude.{◌≡◌, ◌≢◌, Err, OnOk, IfOk, IfErr};
 ghost use Rattle.fare_world.specs.System.{start};
 ghost use Rattle.fare_trace.specs.Answers.{Answers, Drafting, Running};
-ghost use Rattle.fare_lines.specs.Faults.{Refuses};
 ghost use Rattle.fare_lines.specs.Unread.{StopsIn};
-ghost use Rattle.fare_trace.specs.Progress.{AnswersText, GoesToEnd, Registers, WritesAnswer};
+ghost use Rattle.fare_trace.specs.Progress.{AnswersText, Ends, GoesToEnd, Registers, WritesAnswer};
 ghost use Rattle.fare_trace.specs.Registration.{stage_of};
-ghost use Rattle.fare_trace.specs.Stores.{AreEmptyLedgers, IsNew, Steps, WritesStep};
+ghost use Rattle.fare_trace.specs.Faults.{RefusesRun};
 
+use crate::plain_run::run_plain;
 use crate::registering::{Answer, Registration, refuse, set_up};
+use crate::running::RunFault;
+use crate::sql_run::run_sql;
 use fare_lines::{Line, Lines, ParseFault, print_reply};
 use fare_scheme::{Draft, Scheme};
-use fare_store::{Fault, LedgerFault, PlainLedger, PlainOutbox};
-use fare_world::{Event, Refusal, Reply, World, WorldFault};
+use fare_world::Refusal;
 use std::alloc::{AllocError, Global};
 
-/// An empty ledger for each owner of a scheme, in order of registration.
-fn empty_ledgers(alloc: Global, scheme: &Scheme) -> Result<Vec<PlainLedger>, AllocError>
-    ensures { IfOk result (λ ledgers. AreEmptyLedgers scheme.now ledgers.items) }
-{
-    let mut ledgers = Vec::new(alloc);
-    for place in 0..scheme.owner_count() {
-        let Some(owner) = scheme.owner_at(place) else {
-            unreachable!()
-        };
-        match PlainLedger::new(alloc, scheme, owner) {
-            Ok(ledger) => ledgers.push(ledger)?,
-            Err(LedgerFault::Memory) => return Err(AllocError),
-            Err(LedgerFault::UnknownOwner) => unreachable!(),
-        }
-    }
-    Ok(ledgers)
-}
-
-/// A new world over a scheme. The error is want of memory.
-fn new_world(alloc: Global, scheme: Scheme) -> Result<World<PlainOutbox, PlainLedger>, AllocError>
-    ensures scheme { IfOk result (λ world. world.scheme ≡ scheme) }
-    ensures new { IfOk result IsNew }
-{
-    let ledgers = empty_ledgers(alloc, &scheme)?;
-    match World::new(alloc, scheme, PlainOutbox::new(alloc), ledgers) {
-        Ok(world) => Ok(world),
-        Err((_parts, fault)) => {
-            if fault != WorldFault::Memory {
-                unreachable!()
-            }
-            Err(AllocError)
-        }
-    }
-}
-
-/// What an event is answered. The error is want of memory.
-fn answer_event(
-    world: &mut World<PlainOutbox, PlainLedger>,
-    event: &Event,
-) -> Result<Reply, AllocError>
-    ensures { IfOk result (Steps world.old world.new event.now) }
-{
-    match world.apply(event) {
-        Ok(reply) => Ok(reply),
-        Err(Fault::Memory) => Err(AllocError),
-        Err(Fault::Store) => unreachable!(),
-    }
-}
-
-/// Answers a line that follows the seal. The error is want of memory.
-fn answer_sealed(
-    world: &mut World<PlainOutbox, PlainLedger>,
-    line: Line,
-    out: &mut Vec<u8>,
-) -> Result<(), AllocError>
-    ensures { OnOk result (WritesStep world.old world.new line out.old.items out.new.items) }
-{
-    let reply = match &line {
-        Line::Setup(_) => Reply::Refused(Refusal::Sealed),
-        Line::Step(event) => answer_event(world, event)?,
-    };
-    print_reply(&reply, out)
-}
-
-/// Answers the lines that follow the seal, in a new world.
-fn run_lines(
-    alloc: Global,
-    world: &mut World<PlainOutbox, PlainLedger>,
-    lines: &mut Lines,
-    out: &mut Vec<u8>,
-) -> Result<(), ParseFault>
-    requires { IsNew world.old }
-    ensures ok { OnOk result (GoesToEnd (Running world.old.scheme (start world.old.scheme)) lines.old lines.new out.old.items out.new.items) }
-    ensures fault { IfErr result (StopsIn lines.old) }
-{
-    while let Some(line) = lines.next(alloc)? {
-        answer_sealed(world, line, out)?;
-    }
-    Ok(())
-}
-
-/// Answers the lines that follow the seal of a scheme.
-fn run_sealed(
-    alloc: Global,
-    scheme: Scheme,
-    lines: &mut Lines,
-    out: &mut Vec<u8>,
-) -> Result<(), ParseFault>
-    ensures ok { OnOk result (GoesToEnd (Running scheme (start scheme)) lines.old lines.new out.old.items out.new.items) }
-    ensures fault { IfErr result (StopsIn lines.old) }
-{
-    let mut world = new_world(alloc, scheme)?;
-    run_lines(alloc, &mut world, lines, out)
+/// Where a run keeps what is stored.
+#[derive(Clone, Copy, PartialEq, Eq, Debug)]
+pub enum Stores {
+    /// In lists in memory.
+    Plain,
+    /// In databases in memory.
+    Sql,
 }
 
 /// What a line before the seal is answered, and how far the registration is then. The error is want of memory.
@@ -160,15 +75,35 @@ fn register(
     Ok(None)
 }
 
+/// Answers the lines that follow the seal of a scheme.
+fn run_sealed(
+    alloc: Global,
+    stores: Stores,
+    scheme: Scheme,
+    lines: &mut Lines,
+    out: &mut Vec<u8>,
+) -> Result<(), RunFault>
+    ensures ok { OnOk result (GoesToEnd (Running scheme (start scheme)) lines.old lines.new out.old.items out.new.items) }
+    ensures fault { IfErr result (Ends lines.old) }
+    ensures plain { stores ≡ Stores.Plain → result ≢ Err RunFault.Store }
+{
+    match stores {
+        Stores::Plain => Ok(run_plain(alloc, scheme, lines, out)?),
+        Stores::Sql => run_sql(alloc, scheme, lines, out),
+    }
+}
+
 /// The bytes that answer the lines that a text spells. `BadLine` with the first line that is none; `Memory`
-/// where there was none.
-pub fn answer_text(alloc: Global, text: &[u8]) -> Result<Vec<u8>, ParseFault>
-    ensures { MatchResult result (λ out. AnswersText text.now out.items) (Refuses text.now) }
+/// where there was none; `Store` where a store failed, which lists never do, and no line is bad.
+pub fn answer_text(alloc: Global, stores: Stores, text: &[u8]) -> Result<Vec<u8>, RunFault>
+    ensures answered { IfOk result (λ out. AnswersText text.now out.items) }
+    ensures refused { IfErr result (RefusesRun text.now) }
+    ensures plain { stores ≡ Stores.Plain → result ≢ Err RunFault.Store }
 {
     let mut out = Vec::new(alloc);
     let mut lines = Lines::new(alloc, text);
     if let Some(scheme) = register(alloc, &mut lines, &mut out)? {
-        run_sealed(alloc, scheme, &mut lines, &mut out)?;
+        run_sealed(alloc, stores, scheme, &mut lines, &mut out)?;
     }
     Ok(out)
 }

@@ -1,10 +1,14 @@
 //! Traces, replayed: the lines of a text set a scheme up and let events happen, and each is answered. It promises
-//! that `replay` writes the replies to the lines of its input and nothing else.
+//! that `replay` and `replay_sql`, which keep what is stored in lists and in tables, write the replies to the lines
+//! of their input and nothing else.
 #![tactic(auto)]
 
 mod answers;
 pub mod laws;
+mod plain_run;
 mod registering;
+mod running;
+mod sql_run;
 mod stream;
 
-pub use stream::{ReplayFault, replay};
+pub use stream::{ReplayFault, replay, replay_sql};

@@ -1,7 +1,8 @@
-ghost use Rattle.std.specs.Prelude.{OnOk, IfErr, IfSome};
-ghost use Rattle.fare_trace.specs.Replay.{ReadsAll, ReplayFails, Replays};
+ghost use Rattle.std.specs.Prelude.{◌≡◌, ◌≢◌, Err, OnOk, IfErr, IfSome};
+ghost use Rattle.fare_trace.specs.Replay.{ReadsAll, ReplayFails, Replays, fault_of_run};
 
-use crate::answers::answer_text;
+use crate::answers::{Stores, answer_text};
+use crate::running::RunFault;
 use fare_lines::ParseFault;
 use std::alloc::Global;
 use std::io::{ErrorKind, Read, Write};
@@ -25,9 +26,23 @@ pub enum ReplayFault {
     /// There was no memory.
     #[error("no memory")]
     Memory,
+    /// A store failed.
+    #[error("store failed")]
+    Store,
     /// The writer failed. How much it took is not said.
     #[error("write failed")]
     Write,
+}
+
+/// The fault of a replay whose run was not answered.
+fn replay_fault(fault: RunFault) -> ReplayFault
+    ensures { result ≡ fault_of_run fault }
+{
+    match fault {
+        RunFault::Text(ParseFault::BadLine { line }) => ReplayFault::BadLine { line },
+        RunFault::Text(ParseFault::Memory) => ReplayFault::Memory,
+        RunFault::Store => ReplayFault::Store,
+    }
 }
 
 /// All bytes of a reader. An interrupted read is tried again.
@@ -57,23 +72,21 @@ fn read_all<R: Read>(alloc: Global, reader: &mut R) -> Result<Vec<u8>, ReplayFau
     Err(ReplayFault::Read)
 }
 
-/// Reads a trace to its end, runs it, and then writes the replies to its lines. `Read` where the reader fails
-/// or has no end within 16,777,216 bytes and 16,777,217 reads; `BadLine` with the first line that is none;
-/// `Memory` where there was none; `Write` where the writer fails. But for `Write`, a fault leaves the writer
-/// as it was.
-pub fn replay<R: Read, W: Write>(
+/// Reads a trace to its end, runs it over stores of a kind, and then writes the replies to its lines.
+fn replay_over<R: Read, W: Write>(
     alloc: Global,
+    stores: Stores,
     reader: &mut R,
     writer: &mut W,
 ) -> Result<(), ReplayFault>
     ensures replays { OnOk result (IfSome (R.remaining reader.old) (Replays (W.contents writer.old) (W.contents writer.new))) }
     ensures fails { IfErr result (ReplayFails (R.remaining reader.old) (W.contents writer.old) (W.contents writer.new)) }
+    ensures plain { stores ≡ Stores.Plain → result ≢ Err ReplayFault.Store }
 {
     let bytes = read_all(alloc, reader)?;
-    let text = match answer_text(alloc, &bytes) {
+    let text = match answer_text(alloc, stores, &bytes) {
         Ok(text) => text,
-        Err(ParseFault::BadLine { line }) => return Err(ReplayFault::BadLine { line }),
-        Err(ParseFault::Memory) => return Err(ReplayFault::Memory),
+        Err(fault) => return Err(replay_fault(fault)),
     };
     if writer.write_all(&text).is_err() {
         return Err(ReplayFault::Write);
@@ -82,4 +95,35 @@ pub fn replay<R: Read, W: Write>(
         Ok(()) => Ok(()),
         Err(_) => Err(ReplayFault::Write),
     }
+}
+
+/// Reads a trace to its end, runs it over stores in lists, and then writes the replies to its lines. `Read` where
+/// the reader fails or has no end within 16,777,216 bytes and 16,777,217 reads; `BadLine` with the first line that
+/// is none; `Memory` where there was none; `Write` where the writer fails; never `Store`. But for `Write`, a fault
+/// leaves the writer as it was.
+pub fn replay<R: Read, W: Write>(
+    alloc: Global,
+    reader: &mut R,
+    writer: &mut W,
+) -> Result<(), ReplayFault>
+    ensures replays { OnOk result (IfSome (R.remaining reader.old) (Replays (W.contents writer.old) (W.contents writer.new))) }
+    ensures fails { IfErr result (ReplayFails (R.remaining reader.old) (W.contents writer.old) (W.contents writer.new)) }
+    ensures stores { result ≢ Err ReplayFault.Store }
+{
+    replay_over(alloc, Stores::Plain, reader, writer)
+}
+
+/// The same over an outbox and a ledger for each owner in databases in memory. `Read` where the reader fails or
+/// has no end within 16,777,216 bytes and 16,777,217 reads; `BadLine` with the first line that is none; `Memory`
+/// where there was none; `Store` where a database failed, and no line is bad; `Write` where the writer fails. But
+/// for `Write`, a fault leaves the writer as it was.
+pub fn replay_sql<R: Read, W: Write>(
+    alloc: Global,
+    reader: &mut R,
+    writer: &mut W,
+) -> Result<(), ReplayFault>
+    ensures replays { OnOk result (IfSome (R.remaining reader.old) (Replays (W.contents writer.old) (W.contents writer.new))) }
+    ensures fails { IfErr result (ReplayFails (R.remaining reader.old) (W.contents writer.old) (W.contents writer.new)) }
+{
+    replay_over(alloc, Stores::Sql, reader, writer)
 }

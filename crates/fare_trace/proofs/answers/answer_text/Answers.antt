@@ -2,23 +2,23 @@ use Rattle.std.proofs.Common.{Some, None, rules, sym, subst, Vec, ℕ}
 use Rattle.std.specs.Global.{Global}
 use Rattle.fare_world.specs.System.{start}
 use Rattle.fare_trace.specs.Answers.{Running, first_stage}
-use Rattle.fare_lines.specs.Faults.{Refuses}
+use Rattle.fare_trace.specs.Faults.{RefusesRun}
 use Rattle.fare_trace.specs.Progress.{AnswersText, Registers}
-use Rattle.fare_trace.proofs.Progress.{goes_on, text_answered, text_stops}
+use Rattle.fare_trace.proofs.Progress.{goes_on, text_answered, text_refused}
 use Rattle.fare_trace.proofs.answers.answer_text.Goals as goal
 use Rattle.fare_trace.proofs.answers.answer_text.Goals.{in-Some+in_ok-run_sealed, in_default}
 
-pub returns-in_err-run_sealed : goal.returns-in_err-run_sealed
-returns-in_err-run_sealed c =
+pub returns-in_err-run_sealed-clause-refused : goal.returns-in_err-run_sealed-clause-refused
+returns-in_err-run_sealed-clause-refused c =
     let text = c.args.text.now in
     let sc = c.in-Some.scheme in
     let fault = c.in_err-run_sealed.field-0.0 in
     let registers : Registers c.new-lines.result c.register.new.lines c.new-out.result.items c.register.new.out.items (Some sc) = rw c.in-Some.is at c.in_ok-scheme.ensures.ok in
-    let refused : Refuses text fault = text_stops text first_stage (Running sc (start sc)) c.new-lines.result c.register.new.lines c.new-out.result.items c.register.new.out.items fault c.new-lines.ensures registers c.in_err-run_sealed.ensures.fault in
+    let refused : RefusesRun text fault = text_refused text first_stage (Running sc (start sc)) c.new-lines.result c.register.new.lines c.new-out.result.items c.register.new.out.items fault c.new-lines.ensures registers c.in_err-run_sealed.ensures.fault in
     search (rules, refused)
 
-pub returns : goal.returns
-returns c =
+pub returns-clause-answered : goal.returns-clause-answered
+returns-clause-answered c =
     let text = c.args.text.now in
     elim c.match-branch-2.branch [
       | in-Some+in_ok-run_sealed w ↦

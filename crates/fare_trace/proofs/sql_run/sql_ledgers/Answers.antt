@@ -2,21 +2,24 @@ use Rattle.std.proofs.Common.{◌≡◌, ◌+◌, ◌++◌, ◌∷◌, [], Some,
 use Rattle.std.specs.Prelude.{slice_get}
 use Rattle.std.proofs.lemmas.List.{length_push}
 use Rattle.fare_scheme.specs.Words.{id_at}
-use Rattle.fare_trace.specs.Stores.{IsEmptyLedgerAt}
+use Rattle.fare_trace.specs.Stores.{IsNewLedgerAt, sql_ledger_is}
 use Rattle.fare_trace.proofs.Stores.{one_more}
-use Rattle.fare_trace.proofs.answers.empty_ledgers.Goals as goal
+use Rattle.fare_trace.proofs.sql_run.sql_ledgers.Goals as goal
 
 pub loop-place-preserved : goal.loop-place-preserved
 loop-place-preserved c =
     let sc = c.args.scheme.now in
     let xs = c.loop-place.ledgers.items in
     let i = c.loop-place.invariant in
-    let ledger = c.in-Ok.ledger in
-    let is : IsEmptyLedgerAt sc (length xs) ledger = record { owner = ap (id_at sc.owners) i.count ∙ sym c.in-Some.ensures.value ∙ ap Some (sym c.in-Ok.ensures.owner); empty = c.in-Ok.ensures.empty; made = c.in-Ok.ensures.scheme } in
-    let pushed : c.push.new.self.items ≡ xs ++ ledger ∷ [] = c.in_ok-push-in-Ok.ensures.items in
+    let ledger = c.in_ok-sql_ledger.field-0 in
+    let is : IsNewLedgerAt sql_ledger_is sc (length xs) ledger = record {
+      owner = ap (id_at sc.owners) i.count ∙ sym c.in-Some.ensures.value ∙ ap Some (sym c.in_ok-sql_ledger.ensures.owner);
+      new = c.in_ok-sql_ledger.ensures.new;
+    } in
+    let pushed : c.push.new.self.items ≡ xs ++ ledger ∷ [] = c.in_ok-push.ensures.items in
     record {
       count = ap length pushed ∙ length_push xs ledger ∙ ap (λ n. n + 1) i.count;
-      each = λ k x e. one_more (IsEmptyLedgerAt sc) xs ledger i.each is k x (ap (λ l. slice_get l k) (sym pushed) ∙ e);
+      each = λ k x e. one_more (IsNewLedgerAt sql_ledger_is sc) xs ledger i.each is k x (ap (λ l. slice_get l k) (sym pushed) ∙ e);
     }
 
 pub returns : goal.returns

@@ -1,0 +1,28 @@
+use Rattle.std.proofs.Common.{◌≡◌, ◌+◌, ◌++◌, ◌∷◌, [], Some, length, sym, ap, ◌∙◌, arith}
+use Rattle.std.specs.Prelude.{slice_get}
+use Rattle.std.proofs.lemmas.List.{length_push}
+use Rattle.fare_scheme.specs.Words.{id_at}
+use Rattle.fare_trace.specs.Stores.{IsNewLedgerAt, ledger_is}
+use Rattle.fare_trace.proofs.Stores.{one_more}
+use Rattle.fare_trace.proofs.plain_run.plain_ledgers.Goals as goal
+
+pub loop-place-preserved : goal.loop-place-preserved
+loop-place-preserved c =
+    let sc = c.args.scheme.now in
+    let xs = c.loop-place.ledgers.items in
+    let i = c.loop-place.invariant in
+    let ledger = c.in-Ok.ledger in
+    let is : IsNewLedgerAt ledger_is sc (length xs) ledger = record {
+      owner = ap (id_at sc.owners) i.count ∙ sym c.in-Some.ensures.value ∙ ap Some (sym c.in-Ok.ensures.owner);
+      new = record { empty = c.in-Ok.ensures.empty; made = c.in-Ok.ensures.scheme; lawful = tt };
+    } in
+    let pushed : c.push.new.self.items ≡ xs ++ ledger ∷ [] = c.in_ok-push-in-Ok.ensures.items in
+    record {
+      count = ap length pushed ∙ length_push xs ledger ∙ ap (λ n. n + 1) i.count;
+      each = λ k x e. one_more (IsNewLedgerAt ledger_is sc) xs ledger i.each is k x (ap (λ l. slice_get l k) (sym pushed) ∙ e);
+    }
+
+pub returns : goal.returns
+returns c =
+    let all : c.loop-place.place ≡ length c.args.scheme.now.owners = omega (arith, c.owner_count-place-end.ensures.value) in
+    record { count = c.loop-place.invariant.count ∙ all; each = c.loop-place.invariant.each }
