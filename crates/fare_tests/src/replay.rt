@@ -86,7 +86,7 @@ fn replays_traces_of_days(rt: HostRuntime) {
 
 #[test]
 fn replays_traces_of_schemes(rt: HostRuntime) {
-    let cases: [(&[u8], &[u8]); 8] = [
+    let cases: [(&[u8], &[u8]); 9] = [
         (REGISTRAR_REFUSALS, REGISTRAR_REFUSALS_ANSWERED),
         (REGISTRAR_SEALS, REGISTRAR_SEALS_ANSWERED),
         (SETTINGS, SETTINGS_ANSWERED),
@@ -104,6 +104,7 @@ fn replays_traces_of_schemes(rt: HostRuntime) {
             b"refused Unsealed\nrefused Range\nrefused Range\nrefused Unsealed\n",
         ),
         (b"send 1\ndraw", b"refused Unsealed\nrefused Unsealed\n"),
+        (SEALED_LATER, SEALED_LATER_ANSWERED),
     ];
     are_answered(&rt, rt.alloc(), &cases);
 }

@@ -453,3 +453,38 @@ taken 1 lane 2
 count 2
 idle
 ";
+
+// A seal that is refused changes nothing: the inbox has room for 1,024 items.
+pub const SEALED_LATER: &[u8] = b"owner 1 4
+seal
+operator 1
+station 1 1
+product 1 1 175
+device 1 1 4
+start 19723
+zone GMT0BST,M3.5.0/1,M10.5.0
+seal
+tap 1 1 77 1704100000
+tap 1 1 77 1704100000
+send 1
+send 1
+arrive 1
+arrive 2
+";
+
+pub const SEALED_LATER_ANSWERED: &[u8] = b"ok
+refused NothingRegistered
+ok
+ok
+ok
+ok
+ok
+ok
+ok
+record 1 1
+record 2 2
+packet 1 link 1
+packet 2 link 2
+accepted
+accepted
+";
