@@ -1,6 +1,6 @@
 //! The program of the fare hub. `replay` reads a trace from standard input and writes the replies to its lines
-//! to standard output. What it promises is the contract of `fare_trace::replay`, and of `fare_command::read_words`
-//! for the words of the command line.
+//! to standard output. What it promises is the contract of `fare_trace::replay`, or of `replay_sql` where tables
+//! are asked for, and of `fare_command::read_words` for the words of the command line.
 //!
 //! Its status is 0 where the job was done or help was asked for, 1 with one line on standard error where the
 //! job failed, and 2 with a text on standard error where the words were refused.
@@ -12,7 +12,7 @@ mod ending;
 
 use ending::Ending;
 use fare_command::{Job, WordsFault, read_words};
-use fare_trace::replay;
+use fare_trace::{replay, replay_sql};
 use std::alloc::Global;
 use std::fmt::Display;
 use std::io::{Read, Write};
@@ -35,14 +35,20 @@ fn refuse<R: Eprint, D: Display + Drop>(rt: &R, text: D) -> Ending
     Ending::Refused
 }
 
-/// Replays what a reader gives to a writer.
+/// Replays what a reader gives to a writer, over tables or over lists.
 fn replay_to<R: Eprint, I: Read, O: Write>(
     rt: &R,
     alloc: Global,
+    sql: bool,
     input: &mut I,
     output: &mut O,
 ) -> Ending {
-    match replay(alloc, input, output) {
+    let replayed = if sql {
+        replay_sql(alloc, input, output)
+    } else {
+        replay(alloc, input, output)
+    };
+    match replayed {
         Ok(()) => Ending::Done,
         Err(fault) => fail(rt, fault),
     }
@@ -51,10 +57,13 @@ fn replay_to<R: Eprint, I: Read, O: Write>(
 /// Does what the words after the program's name ask for.
 fn run(rt: &HostRuntime, words: &[&str]) -> Ending {
     match read_words(rt.alloc(), words) {
-        Ok(Job::Replay { sql: false }) => {
-            replay_to(rt, rt.alloc(), &mut rt.reader(), &mut io::writer(rt))
-        }
-        Ok(Job::Replay { sql: true }) => fail(rt, "this build has no sql store"),
+        Ok(Job::Replay { sql }) => replay_to(
+            rt,
+            rt.alloc(),
+            sql,
+            &mut rt.reader(),
+            &mut io::writer(rt),
+        ),
         Ok(Job::Serve { .. }) => fail(rt, "this build has no server"),
         Err(WordsFault::Asked(text)) => match print!(rt; "{text}") {
             Ok(()) => Ending::Done,

@@ -9,10 +9,9 @@ fn each_ending_has_its_status(rt: HostRuntime) {
 
 #[test]
 fn words_decide_the_ending(rt: HostRuntime) {
-    let cases: [(&[&str], Ending); 6] = [
+    let cases: [(&[&str], Ending); 5] = [
         (&["--version"], Ending::Done),
         (&["replay", "--help"], Ending::Done),
-        (&["replay", "--store", "sql"], Ending::Failed),
         (
             &["serve", "--port", "0", "--turns", "1", "--outbox", "x"],
             Ending::Failed,
@@ -33,8 +32,13 @@ fn a_trace_decides_the_ending(rt: HostRuntime) {
         (b"tap 1", Ending::Failed),
     ];
     for (trace, ending) in cases {
-        let mut input = trace;
-        let mut output = Vec::new(rt.alloc());
-        assert_eq!(rt; replay_to(&rt, rt.alloc(), &mut input, &mut output), ending);
+        for sql in [false, true] {
+            let mut input = trace;
+            let mut output = Vec::new(rt.alloc());
+            assert_eq!(rt;
+                replay_to(&rt, rt.alloc(), sql, &mut input, &mut output),
+                ending
+            );
+        }
     }
 }

@@ -38,6 +38,8 @@ mod record;
 #[cfg(test)]
 mod replay;
 #[cfg(test)]
+mod replay_sql;
+#[cfg(test)]
 mod route;
 #[cfg(test)]
 mod samples;
