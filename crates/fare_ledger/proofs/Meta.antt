@@ -1,5 +1,5 @@
 -- What the question for the row of meta finds.
-use Rattle.std.proofs.Common.{◌≡◌, inr, ℕ, List, [], ◌∷◌, map, filter, Bool, true, Result, Ok, Err, IfOk, IsTrue, refl, sym, ap, subst, ◌∙◌}
+use Rattle.std.proofs.Common.{◌≡◌, ◌↔◌, inr, ℕ, List, [], ◌∷◌, map, filter, Bool, true, Result, Ok, Err, IfOk, IsTrue, refl, sym, ap, subst, ◌∙◌}
 use Rattle.std.specs.List.{AllByRecursion}
 use Rattle.std.specs.List.Sorted.{IsPermutation}
 use Rattle.std.proofs.lemmas.List.Sorted.{IsPermutation-sym}
@@ -50,6 +50,17 @@ meta_is owner old new rows has shows are =
     let it = one_row owner stored a.ordered (subst (λ k. IsPermutation k a.ordered) kept a.same) (subst (AreMeta owner) a.shown are) in
     record { row = it.0; only = it.1; format_is = it.2.0; owner_is = it.2.1 }
 
-pub ours_too : {E : Type 0} (owner : ℕ) (old : State) (r : Result Bool E) → old.now.schema ≡ ledger_schema → IfOk r (λ found. IsTrue found → IsOurs owner old.now.trees) → IfOk r (λ found. IsTrue found → IsBlankOrOurs owner old)
-ours_too owner old (Ok found) has are = λ is. inr (has, are is)
+-- and where meta holds the row, the answer is that row
+pub meta_found : (owner : ℕ) (old new : State) (rows : List Row) → old.now.schema ≡ ledger_schema → Shown meta_text [] old new rows → IsOurs owner old.now.trees → AreMeta owner rows
+meta_found owner old new rows has shows it =
+    let read = reads_as meta_text [] old new ledger_schema has _ meta_asked meta_reads.0 meta_unlisted rows shows in
+    let a : IsAnswer meta_query (overlay old.now.trees []) [] rows = read.answer Null in
+    let stored = old.now.trees 0 in
+    let staged : a.staged ≡ map (λ r. [] ∷ r ∷ []) stored = a.grouped ∙ matched (λ r. Unit {0}) (λ r. true) [] [] (λ r ok. refl) stored (all_rows stored) ∙ ap (map (λ r. [] ∷ r ∷ [])) (filter_all stored) in
+    let kept : a.kept ≡ shown it.row ∷ [] = a.distinct ∙ ap (map (output meta_query)) staged ∙ shown_all stored ∙ ap (map shown) it.only in
+    let one : a.ordered ≡ shown it.row ∷ [] = one_permutation (shown it.row) a.ordered (subst (λ k. IsPermutation k a.ordered) kept a.same) in
+    subst (AreMeta owner) (sym (a.shown ∙ ap (map (λ (p : Output). p.1)) one)) (it.format_is, it.owner_is)
+
+pub ours_too : {E : Type 0} (owner : ℕ) (old : State) (r : Result Bool E) → old.now.schema ≡ ledger_schema → IfOk r (λ found. IsTrue found ↔ IsOurs owner old.now.trees) → IfOk r (λ found. IsTrue found → IsBlankOrOurs owner old)
+ours_too owner old (Ok found) has are = λ is. inr (has, are.0 is)
 ours_too owner old (Err e) has are = tt

@@ -1,16 +1,17 @@
 -- What an open finds, and what it makes.
-use Rattle.std.proofs.Common.{◌≡◌, ◌≢◌, ℕ, Bool, false, [], map, length, Result, Ok, Err, IfOk, IsTrue, sym, ap, subst, ◌∙◌, arith}
+use Rattle.std.proofs.Common.{◌≡◌, ◌≢◌, ◌↔◌, inl, inr, refl, ℕ, Bool, true, false, [], map, length, Result, Ok, Err, IfOk, IsTrue, sym, ap, subst, ◌∙◌, arith}
 use Rattle.sqlite.specs.Schema.{Schema}
 use Rattle.sqlite.specs.State.{State}
 use Rattle.fare_store.specs.LedgerWords.{IsEmptyLedger}
 use Rattle.fare_tables.specs.Asking.{IsAtRest, SameRows}
 use Rattle.fare_tables.specs.Cells.{AreRows, held}
 use Rattle.fare_tables.specs.Making.{no_schema}
+use Rattle.fare_tables.specs.Schemas.{IsSimpleSchema}
 use Rattle.fare_tables.specs.Tabled.{IsFit}
 use Rattle.fare_ledger.specs.Tables.{ledger_schema}
 use Rattle.fare_ledger.specs.Held.{IsLane, IsTap, IsStated, lane_of, tap_of, stated_of, stated_in, held_of}
 use Rattle.fare_ledger.specs.Making.{IsNew}
-use Rattle.fare_ledger.specs.Opening.{Settles}
+use Rattle.fare_ledger.specs.Opening.{IsOurs, IsBlankOrOurs, Settles}
 use Rattle.fare_ledger.specs.Words.{taken_in, value_at, AreNext, AreApart, IsLawful}
 
 -- no schema is both
@@ -56,3 +57,27 @@ ours owner old new (Err e) has same = tt
 pub not_blank : {E : Type 0} (old : State) (r : Result Bool E) → old.now.schema ≡ ledger_schema → IfOk r (λ found. found ≡ false → old.now.schema ≢ no_schema)
 not_blank old (Ok found) has = λ none blank. not_both (sym blank ∙ has)
 not_blank old (Err e) has = tt
+
+-- the tables refer to no other, and have no default
+pub simple : IsSimpleSchema ledger_schema
+unfolding ledger_schema
+simple = record {
+  tables = (record { columns = (tt, (tt, tt)); checks = tt; references = refl; stamps = tt; formats = refl }, (record { columns = (tt, (tt, (tt, tt))); checks = ((tt, tt), ((tt, tt), tt)); references = refl; stamps = tt; formats = refl }, (record { columns = (tt, (tt, (tt, (tt, (tt, (tt, (tt, tt))))))); checks = tt; references = refl; stamps = tt; formats = refl }, (record { columns = (tt, (tt, (tt, tt))); checks = tt; references = refl; stamps = tt; formats = refl }, tt))));
+  views = refl;
+}
+
+-- what is neither without tables nor the store's own
+pub neither : (owner : ℕ) (old : State) → old.now.schema ≢ no_schema → (old.now.schema ≡ ledger_schema → ¬ IsOurs owner old.now.trees) → ¬ IsBlankOrOurs owner old
+neither owner old some other (inl blank) = some blank
+neither owner old some other (inr are) = other are.0 are.1
+
+pub none_lacks : {E : Type 0} (owner : ℕ) (old : State) (r : Result Bool E) → old.now.schema ≡ ledger_schema → IfOk r (λ ours. IsTrue ours ↔ IsOurs owner old.now.trees) → IfOk r (λ ours. ours ≡ false → ¬ IsBlankOrOurs owner old)
+none_lacks owner old (Ok true) has both = λ none. absurd (apart none)
+  where
+    apart : true ≡ false → ⊥
+    apart same = cc
+none_lacks owner old (Ok false) has both = λ none. neither owner old (λ blank. not_both (sym blank ∙ has)) (λ _ are. absurd (other (both.1 are)))
+  where
+    other : false ≡ true → ⊥
+    other same = cc
+none_lacks owner old (Err e) has both = tt

@@ -9,7 +9,7 @@ use Rattle.fare_tables.specs.Cells.{int}
 use Rattle.fare_tables.specs.Making.{no_schema}
 use Rattle.fare_ledger.specs.Tables.{ledger_schema}
 use Rattle.fare_ledger.specs.Held.{IsReady}
-use Rattle.fare_ledger.specs.Making.{IsNew}
+use Rattle.fare_ledger.specs.Making.{IsNew, IsMade}
 
 -- format 1, and the owner
 abbrev pub IsMetaRow : ℕ → Row → Type 0
@@ -36,3 +36,7 @@ IsBlankOrOurs owner s = (s.now.schema ≡ no_schema) ⊎ ((s.now.schema ≡ ledg
 pub record Settles (owner : ℕ) (old new : State) : Type 0 where
   pub made : old.now.schema ≡ no_schema → IsNew owner new.now × (new.now ≡ new.committed)
   pub kept : IsReady old → SameRows old new
+
+-- what an open may commit: the empty ledger, where there is no table
+abbrev pub MayMake : ℕ → State → Trees → Type 0
+MayMake owner old trees = (old.now.schema ≡ no_schema) × IsMade owner trees

@@ -4,6 +4,7 @@ use Rattle.std.specs.List.{AllByRecursion}
 use Rattle.sqlite_trees.specs.Tree.{Trees}
 use Rattle.sqlite_trees.specs.declared.store.Store.{Ghosts}
 use Rattle.sqlite.specs.Held.{state}
+use Rattle.sqlite.specs.State.{State}
 use Rattle.fare_record.specs.Values.{RecordValue}
 use Rattle.fare_record.specs.Lanes.{day_count}
 use Rattle.fare_owner.specs.declared.tap.TapFault.{TapFault}
@@ -55,6 +56,10 @@ pub record FitTogether (owner start : ℕ) (h : Held) : Type 0 where
 pub record IsLawful (owner start : ℕ) (trees : Trees) : Type 0 where
   pub readable : AreReadable trees
   pub together : FitTogether owner start (held_of trees)
+
+-- its connection
+abbrev pub connected : {S : Type 0} → (g : Ghosts S) → SqlLedger S g → State
+connected g l = state g l.conn
 
 abbrev pub stands : {S : Type 0} → (g : Ghosts S) → SqlLedger S g → Standing LedgerValue
 stands g l = tabled ledger_schema (value_at l.owner l.start (knows l.devices)) (IsLawful l.owner l.start) (state g l.conn) l.failures

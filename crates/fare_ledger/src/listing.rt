@@ -11,7 +11,7 @@ ghost use Rattle.fare_ledger.specs.Shown.{ShowsRow, ShowRows};
 use crate::asking::ask_rows;
 use fare_record::{Day, DeviceId, OwnerId, Record};
 use fare_store::Fault;
-use fare_tables::{cell, number, numbered, tap};
+use fare_tables::{cell_number, cell_tap_number, parameter, tap_in_cells};
 use sqlite::{Alter, Connection, Row};
 use std::alloc::Global;
 
@@ -19,7 +19,7 @@ use std::alloc::Global;
 fn device_in(row: &Row, at: usize) -> Result<DeviceId, Fault>
     ensures { IfOk result (λ device. column row.now at ≡ int device) }
 {
-    match DeviceId::new(number(row, at)?) {
+    match DeviceId::new(cell_number(row, at)?) {
         Some(device) => Ok(device),
         None => Err(Fault::Store),
     }
@@ -30,9 +30,9 @@ fn record_in(row: &Row, owner: OwnerId) -> Result<Record, Fault>
     ensures { IfOk result (ShowsRow row.now owner) }
 {
     let device = device_in(row, 0)?;
-    let lane = numbered(row, 1)?;
-    let link = numbered(row, 2)?;
-    let tap = tap(row, 3)?;
+    let lane = cell_tap_number(row, 1)?;
+    let link = cell_tap_number(row, 2)?;
+    let tap = tap_in_cells(row, 3)?;
     Ok(Record::new(device, link, owner, lane, tap))
 }
 
@@ -63,7 +63,10 @@ pub(crate) fn read_between<S: Alter>(
     ensures stays { HasCleanDisk (state S.Store conn.new) → OnOk result (IsTrue (state S.Store conn.new).is_open) }
     ensures mode { conn.old.in_transaction ≡ false → conn.new.in_transaction ≡ false }
 {
-    let asked = [cell(u64::from(from.get())), cell(u64::from(to.get()))];
+    let asked = [
+        parameter(u64::from(from.get())),
+        parameter(u64::from(to.get())),
+    ];
     let rows = ask_rows(
         conn,
         "SELECT device, lane, link, product, token, moment, day FROM tap WHERE day >= ?1 AND day <= ?2 ORDER BY day, moment, device, lane",

@@ -7,7 +7,7 @@ ghost use Rattle.fare_ledger.specs.Making.{IsBlank, IsNew, IsMade};
 
 use fare_record::OwnerId;
 use fare_store::Fault;
-use fare_tables::{cell, change, fault_of, make_table};
+use fare_tables::{change, fault_of, make_table, parameter};
 use sqlite::{Alter, Connection, Transaction};
 
 fn make_tables<S: Alter>(tx: &mut Transaction<'_, S>) -> Result<(), Fault>
@@ -46,7 +46,7 @@ fn put_meta<S: Alter>(tx: &mut Transaction<'_, S>, owner: OwnerId) -> Result<(),
     match change(
         tx,
         "INSERT INTO meta (format, owner) VALUES (1, ?1)",
-        &[cell(u64::from(owner.get()))],
+        &[parameter(u64::from(owner.get()))],
     ) {
         Ok(_) => Ok(()),
         Err(fault) => Err(fault),

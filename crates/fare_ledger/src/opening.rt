@@ -1,5 +1,5 @@
-ghost use Rattle.std.specs.Prelude.{◌≡◌, ◌≢◌, ◌↔◌, false, IsTrue, IsNone, IsSome, IfOk, IfErr, OnOk, OnErr};
-ghost use Rattle.sqlite.specs.State.{HasCleanDisk};
+ghost use Rattle.std.specs.Prelude.{◌≡◌, ◌≢◌, ◌↔◌, false, true, Err, IsTrue, IsNone, IsSome, IfOk, IfErr, OnOk, OnErr};
+ghost use Rattle.sqlite.specs.State.{HasCleanDisk, Survives};
 ghost use Rattle.sqlite.specs.Held.{state};
 ghost use Rattle.fare_scheme.specs.Words.{position_of_owner};
 ghost use Rattle.fare_store.specs.LedgerWords.{IsEmptyLedger, IsOfScheme};
@@ -7,8 +7,8 @@ ghost use Rattle.fare_tables.specs.Asking.{IsLive, IsAtRest, SameRows};
 ghost use Rattle.fare_tables.specs.Making.{no_schema, Finds};
 ghost use Rattle.fare_tables.specs.Tabled.{IsFit};
 ghost use Rattle.fare_ledger.specs.Tables.{ledger_schema};
-ghost use Rattle.fare_ledger.specs.Opening.{IsMetaRow, AreMeta, IsOurs, IsBlankOrOurs, Settles};
-ghost use Rattle.fare_ledger.specs.Words.{IsLawful, value_at, stands};
+ghost use Rattle.fare_ledger.specs.Opening.{IsMetaRow, AreMeta, IsOurs, IsBlankOrOurs, Settles, MayMake};
+ghost use Rattle.fare_ledger.specs.Words.{IsLawful, value_at, connected, stands};
 
 use crate::SqlLedger;
 use crate::asking::ask_rows;
@@ -18,6 +18,7 @@ use fare_record::OwnerId;
 use fare_scheme::Scheme;
 use fare_store::Fault;
 use fare_tables::{Found, find};
+use sqlite::types::ValueRef;
 use sqlite::{Alter, Connection, MemStore, Row};
 use std::alloc::Global;
 use thiserror::Error;
@@ -53,17 +54,19 @@ fn open_fault(fault: Fault) -> LedgerOpenFault
 
 // Whether the row is that of format 1 and the owner.
 fn is_meta(row: &Row, owner: OwnerId) -> bool
-    ensures { IsTrue result → IsMetaRow owner row.now }
+    ensures { IsTrue result ↔ IsMetaRow owner row.now }
 {
-    match (row.get::<i64>(0), row.get::<i64>(1)) {
-        (Ok(format), Ok(id)) => format == 1 && id == i64::from(owner.get()),
+    match (row.get_ref(0), row.get_ref(1)) {
+        (Ok(ValueRef::Int(format)), Ok(ValueRef::Int(id))) => {
+            format == 1 && id == i64::from(owner.get())
+        }
         _ => false,
     }
 }
 
 // Whether the rows are that one.
 fn are_meta(rows: &[Row], owner: OwnerId) -> bool
-    ensures { IsTrue result → AreMeta owner rows.now }
+    ensures { IsTrue result ↔ AreMeta owner rows.now }
 {
     match rows {
         [first, rest @ ..] => rest.is_empty() && is_meta(first, owner),
@@ -73,8 +76,9 @@ fn are_meta(rows: &[Row], owner: OwnerId) -> bool
 
 // Whether `meta` holds its one row.
 fn has_meta<S: Alter>(conn: &mut Connection<S>, owner: OwnerId) -> Result<bool, Fault>
-    ensures meta { HasCleanDisk (state S.Store conn.new) → (state S.Store conn.old).now.schema ≡ ledger_schema → IfOk result (λ ours. IsTrue ours → IsOurs owner (state S.Store conn.old).now.trees) }
+    ensures meta { HasCleanDisk (state S.Store conn.new) → (state S.Store conn.old).now.schema ≡ ledger_schema → IfOk result (λ ours. IsTrue ours ↔ IsOurs owner (state S.Store conn.old).now.trees) }
     ensures same { IsLive (state S.Store conn.new) → IsAtRest ledger_schema (state S.Store conn.old) → SameRows (state S.Store conn.old) (state S.Store conn.new) }
+    ensures crash { Survives (state S.Store conn.old) (state S.Store conn.new) (λ _. ¬ ((state S.Store conn.old).now.schema ≡ ledger_schema)) }
     ensures live { IsLive (state S.Store conn.new) → IsLive (state S.Store conn.old) }
     ensures stays { HasCleanDisk (state S.Store conn.new) → OnOk result (IsTrue (state S.Store conn.new).is_open) }
     ensures mode { conn.old.in_transaction ≡ false → conn.new.in_transaction ≡ false }
@@ -112,6 +116,8 @@ fn settle<S: Alter>(conn: &mut Connection<S>, found: Found, owner: OwnerId) -> R
     ensures ours { IsLive (state S.Store conn.new) → IfOk result (λ ours. IsTrue ours → IsBlankOrOurs owner (state S.Store conn.old)) }
     ensures refused { IsLive (state S.Store conn.new) → (state S.Store conn.old).now ≡ (state S.Store conn.old).committed → IfOk result (λ ours. ours ≡ false → SameRows (state S.Store conn.old) (state S.Store conn.new)) }
     ensures foreign { IfOk result (λ ours. ours ≡ false → (state S.Store conn.old).now.schema ≢ no_schema) }
+    ensures lacks { IsLive (state S.Store conn.new) → IfOk result (λ ours. ours ≡ false → ¬ IsBlankOrOurs owner (state S.Store conn.old)) }
+    ensures crash { Survives (state S.Store conn.old) (state S.Store conn.new) (MayMake owner (state S.Store conn.old)) }
     ensures failed { IsLive (state S.Store conn.new) → (state S.Store conn.old).now ≡ (state S.Store conn.old).committed → OnErr result (SameRows (state S.Store conn.old) (state S.Store conn.new)) }
     ensures idle { conn.new.in_transaction ≡ false }
 {
@@ -145,7 +151,11 @@ impl<S: Alter> SqlLedger<S> {
         ensures kept { IfOk result (λ l. (stands S.Store l).live → IsFit ledger_schema (IsLawful owner scheme.now.start) (state S.Store conn) → (stands S.Store l).lawful × ((stands S.Store l).value ≡ value_at owner scheme.now.start (stands S.Store l).value.knows (state S.Store conn).now.trees)) }
         ensures ours { IfOk result (λ l. (stands S.Store l).live → IsBlankOrOurs owner (state S.Store conn)) }
         ensures failures { IfOk result (λ l. (stands S.Store l).failures ≡ 0) }
+        ensures inside { conn.in_transaction ≡ true → IsSome (position_of_owner scheme.now owner) → result ≡ Err (conn, LedgerOpenFault.Store) }
         ensures foreign { IfErr result (λ e. e.1 ≡ LedgerOpenFault.Foreign → (state S.Store conn).now.schema ≢ no_schema) }
+        ensures lacks { IfErr result (λ e. e.1 ≡ LedgerOpenFault.Foreign → IsLive (state S.Store e.0) → ¬ IsBlankOrOurs owner (state S.Store conn)) }
+        ensures crash { IfOk result (λ l. Survives (state S.Store conn) (connected S.Store l) (MayMake owner (state S.Store conn))) }
+        ensures crash_refused { IfErr result (λ e. Survives (state S.Store conn) (state S.Store e.0) (MayMake owner (state S.Store conn))) }
         ensures refused { IfErr result (λ e. IsLive (state S.Store e.0) → (state S.Store conn).now ≡ (state S.Store conn).committed → SameRows (state S.Store conn) (state S.Store e.0)) }
     {
         let mut conn = conn;
@@ -178,6 +188,7 @@ impl<S: Alter> SqlLedger<S> {
 
     /// Gives the connection back, with the rows as they are.
     pub fn into_connection(self) -> Connection<S>
+        ensures crash { Survives (connected S.Store self) (state S.Store result) (λ _. ⊥) }
         ensures idle { result.in_transaction ≡ false }
         ensures live { (stands S.Store self).live → IsLive (state S.Store result) }
         ensures kept { (stands S.Store self).lawful → IsFit ledger_schema (IsLawful (stands S.Store self).value.owner (stands S.Store self).value.start) (state S.Store result)

@@ -12,7 +12,7 @@ use crate::asking::ask;
 use crate::lane::Lane;
 use fare_record::{Day, DeviceId};
 use fare_store::Fault;
-use fare_tables::{cell, count, number};
+use fare_tables::{cell_count, cell_number, cell_total, parameter};
 use sqlite::{Alter, Connection, Row};
 
 // As many days as there are may be closed.
@@ -24,8 +24,8 @@ fn lane_in(row: &Row) -> Result<Lane, Fault>
     ensures closed { IfOk result (λ lane. column row.now 1 ≡ int lane.closed) }
     ensures within { IfOk result IsWithin }
 {
-    let taken = count(row, 0)?;
-    let closed = number(row, 1)?;
+    let taken = cell_count(row, 0)?;
+    let closed = cell_number(row, 1)?;
     if closed > MOST_DAYS {
         return Err(Fault::Store);
     }
@@ -45,7 +45,7 @@ pub(crate) fn read_lane<S: Alter>(conn: &mut Connection<S>, device: DeviceId) ->
     match ask(
         conn,
         "SELECT taken, closed FROM lane WHERE device = ?1",
-        &[cell(u64::from(device.get()))],
+        &[parameter(u64::from(device.get()))],
     )? {
         Some(row) => lane_in(&row),
         None => Ok(Lane {
@@ -99,25 +99,17 @@ pub(crate) fn read_stated<S: Alter>(
     ensures stays { HasCleanDisk (state S.Store conn.new) → OnOk result (IsTrue (state S.Store conn.new).is_open) }
     ensures mode { conn.old.in_transaction ≡ false → conn.new.in_transaction ≡ false }
 {
-    let asked = [cell(u64::from(device.get())), cell(u64::from(day.get()))];
+    let asked = [
+        parameter(u64::from(device.get())),
+        parameter(u64::from(day.get())),
+    ];
     match ask(
         conn,
         "SELECT total FROM stated WHERE device = ?1 AND day = ?2",
         &asked,
     )? {
-        Some(row) => Ok(Some(count(&row, 0)?)),
+        Some(row) => Ok(Some(cell_count(&row, 0)?)),
         None => Ok(None),
-    }
-}
-
-// A count that SQLite didn't end at its greatest integer.
-fn exact(n: u64) -> Result<u64, Fault>
-    ensures { IfOk result (λ k. (k ≡ n) × (k < 9223372036854775807)) }
-{
-    if n < 9_223_372_036_854_775_807 {
-        Ok(n)
-    } else {
-        Err(Fault::Store)
     }
 }
 
@@ -134,13 +126,16 @@ pub(crate) fn count_day<S: Alter>(
     ensures stays { HasCleanDisk (state S.Store conn.new) → OnOk result (IsTrue (state S.Store conn.new).is_open) }
     ensures mode { conn.old.in_transaction ≡ false → conn.new.in_transaction ≡ false }
 {
-    let asked = [cell(u64::from(device.get())), cell(u64::from(day.get()))];
+    let asked = [
+        parameter(u64::from(device.get())),
+        parameter(u64::from(day.get())),
+    ];
     match ask(
         conn,
         "SELECT count(*) FROM tap WHERE device = ?1 AND day = ?2",
         &asked,
     )? {
-        Some(row) => exact(number(&row, 0)?),
+        Some(row) => cell_total(&row, 0),
         None => Err(Fault::Store),
     }
 }
@@ -159,7 +154,7 @@ pub(crate) fn count_begun<S: Alter>(conn: &mut Connection<S>) -> Result<u64, Fau
         "SELECT count(*) FROM lane WHERE taken > 0 OR closed > 0",
         &[],
     )? {
-        Some(row) => number(&row, 0),
+        Some(row) => cell_number(&row, 0),
         None => Err(Fault::Store),
     }
 }
@@ -174,7 +169,7 @@ pub(crate) fn count_taps<S: Alter>(conn: &mut Connection<S>) -> Result<u64, Faul
     ensures mode { conn.old.in_transaction ≡ false → conn.new.in_transaction ≡ false }
 {
     match ask(conn, "SELECT count(*) FROM tap", &[])? {
-        Some(row) => number(&row, 0),
+        Some(row) => cell_number(&row, 0),
         None => Err(Fault::Store),
     }
 }
@@ -189,7 +184,7 @@ pub(crate) fn count_statements<S: Alter>(conn: &mut Connection<S>) -> Result<u64
     ensures mode { conn.old.in_transaction ≡ false → conn.new.in_transaction ≡ false }
 {
     match ask(conn, "SELECT count(*) FROM stated", &[])? {
-        Some(row) => number(&row, 0),
+        Some(row) => cell_number(&row, 0),
         None => Err(Fault::Store),
     }
 }

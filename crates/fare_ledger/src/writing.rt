@@ -9,7 +9,7 @@ ghost use Rattle.fare_ledger.specs.Held.{held_of, AreReadable, IsReady, IsLane, 
 
 use fare_record::{DeviceId, Record, Statement};
 use fare_store::Fault;
-use fare_tables::{cell, change, fault_of};
+use fare_tables::{change, fault_of, parameter};
 use sqlite::types::ValueRef;
 use sqlite::{Alter, Connection, Transaction};
 
@@ -18,13 +18,13 @@ fn cells_of(row: &Record) -> [ValueRef<'static>; 7]
 {
     let tap = row.tap();
     [
-        cell(u64::from(row.device().get())),
-        cell(row.lane()),
-        cell(row.link()),
-        cell(u64::from(tap.product().get())),
-        cell(tap.token().get()),
-        cell(tap.moment().get()),
-        cell(u64::from(tap.day().get())),
+        parameter(u64::from(row.device().get())),
+        parameter(row.lane()),
+        parameter(row.link()),
+        parameter(u64::from(tap.product().get())),
+        parameter(tap.token().get()),
+        parameter(tap.moment().get()),
+        parameter(u64::from(tap.day().get())),
     ]
 }
 
@@ -60,7 +60,11 @@ fn put_lane<S: Alter>(
     ensures inside { HasCleanDisk (state S.Store tx.new.conn.now) → Inside (state S.Store tx.old.conn.now) (state S.Store tx.new.conn.now) }
     ensures survives { Survives (state S.Store tx.old.conn.now) (state S.Store tx.new.conn.now) (λ _. ⊥) }
 {
-    let cells = [cell(u64::from(device.get())), cell(taken), cell(closed)];
+    let cells = [
+        parameter(u64::from(device.get())),
+        parameter(taken),
+        parameter(closed),
+    ];
     match change(
         tx,
         "INSERT INTO lane (device, taken, closed) VALUES (?1, ?2, ?3) ON CONFLICT (device) DO UPDATE SET taken = excluded.taken, closed = excluded.closed",
@@ -111,9 +115,9 @@ fn cells_stated(statement: &Statement) -> [ValueRef<'static>; 3]
     ensures { bound result ≡ stated_cells (row_stated statement.now) }
 {
     [
-        cell(u64::from(statement.device().get())),
-        cell(u64::from(statement.day().get())),
-        cell(statement.count()),
+        parameter(u64::from(statement.device().get())),
+        parameter(u64::from(statement.day().get())),
+        parameter(statement.count()),
     ]
 }
 

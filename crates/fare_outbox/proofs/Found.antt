@@ -32,13 +32,11 @@ number_is (Ok k) row n is h = ap nat_in (sym h ∙ ap (λ r. column r 0) is)
 number_is (Err e) row n is h = tt
 
 -- a count below the greatest integer is exact
-pub exact_is : {E : Type 0} (r : Result ℕ E) (n : ℕ) (row : Row) (size : ℕ) → row ≡ int (counted size) ∷ [] → column row 0 ≡ int n → IfOk r (λ k. (k ≡ n) × (k < 9223372036854775807)) → IfOk r (λ k. k ≡ size)
-exact_is (Ok k) n row size is shown h =
-    let n_is : n ≡ counted size = ap nat_in (sym shown ∙ ap (λ r. column r 0) is) in
-    let low = h.1 in
-    let same = h.0 in
+pub total_is : {E : Type 0} (r : Result ℕ E) (row : Row) (size : ℕ) → row ≡ int (counted size) ∷ [] → IfOk r (λ k. column row 0 ≡ int k) → IfOk r (λ k. k < 9223372036854775807) → IfOk r (λ k. k ≡ size)
+total_is (Ok k) row size is shown low =
+    let k_is : k ≡ counted size = ap nat_in (sym shown ∙ ap (λ r. column r 0) is) in
     grind (arith, nat_tests)
-exact_is (Err e) n row size is shown h = tt
+total_is (Err e) row size is shown low = tt
 
 -- ---- the greatest link of a device
 

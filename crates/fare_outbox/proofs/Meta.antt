@@ -51,6 +51,17 @@ meta_is old new rows has shows are =
     let it = one_row stored a.ordered (subst (λ k. IsPermutation k a.ordered) kept a.same) (subst (AreMeta) a.shown are) in
     record { row = it.0; only = it.1; format_is = it.2.0; owner_is = it.2.1 }
 
+-- and where meta holds the row, the answer is that row
+pub meta_found : (old new : State) (rows : List Row) → old.now.schema ≡ outbox_schema → Shown meta_asked_text [] old new rows → IsOurs old.now.trees → AreMeta rows
+meta_found old new rows has shows it =
+    let read = reads_as meta_asked_text [] old new outbox_schema has _ meta_asked meta_reads.0 meta_unlisted rows shows in
+    let a : IsAnswer meta_query (overlay old.now.trees []) [] rows = read.answer Null in
+    let stored = old.now.trees 0 in
+    let staged : a.staged ≡ map (λ r. [] ∷ r ∷ []) stored = a.grouped ∙ matched (λ r. Unit {0}) (λ r. true) [] [] (λ r ok. refl) stored (all_rows stored) ∙ ap (map (λ r. [] ∷ r ∷ [])) (filter_all stored) in
+    let kept : a.kept ≡ shown it.row ∷ [] = a.distinct ∙ ap (map (output meta_query)) staged ∙ shown_all stored ∙ ap (map shown) it.only in
+    let one : a.ordered ≡ shown it.row ∷ [] = one_permutation (shown it.row) a.ordered (subst (λ k. IsPermutation k a.ordered) kept a.same) in
+    subst (AreMeta) (sym (a.shown ∙ ap (map (λ (p : Output). p.1)) one)) (it.format_is, it.owner_is)
+
 pub ours_too : {E : Type 0} (old : State) (r : Result (Option (ℕ × ℕ)) E) → old.now.schema ≡ outbox_schema → IfOk r (λ found. IfSome found (λ n. IsOurs old.now.trees)) → IfOk r (λ found. IfSome found (λ n. IsBlankOrOurs old))
 ours_too old (Ok (Some n)) has are = inr (has, are)
 ours_too old (Ok None) has are = tt

@@ -1,5 +1,5 @@
 -- What an open finds, and what it makes.
-use Rattle.std.proofs.Common.{◌≡◌, ◌≢◌, ℕ, List, [], map, length, Option, Some, None, Result, Ok, Err, IfOk, sym, ap, subst, ◌∙◌, arith}
+use Rattle.std.proofs.Common.{◌≡◌, ◌≢◌, inl, inr, refl, ℕ, List, [], map, length, Option, Some, None, Result, Ok, Err, IfOk, sym, ap, subst, ◌∙◌, arith}
 use Rattle.std.specs.Prelude.{IfSome}
 use Rattle.std.specs.List.{AllByRecursion}
 use Rattle.sqlite.specs.Schema.{Schema}
@@ -8,11 +8,12 @@ use Rattle.fare_store.specs.OutboxWords.{IsEmptyOutbox}
 use Rattle.fare_tables.specs.Asking.{IsAtRest, SameRows}
 use Rattle.fare_tables.specs.Cells.{AreRows, held}
 use Rattle.fare_tables.specs.Making.{no_schema}
+use Rattle.fare_tables.specs.Schemas.{IsSimpleSchema}
 use Rattle.fare_tables.specs.Tabled.{IsFit}
 use Rattle.fare_outbox.specs.Tables.{outbox_schema}
 use Rattle.fare_outbox.specs.Held.{IsReady, IsDevice, IsTap, IsStated, upto_of, tap_of, stated_of, held_of}
 use Rattle.fare_outbox.specs.Making.{IsNew}
-use Rattle.fare_outbox.specs.Opening.{IsCounted, Settles}
+use Rattle.fare_outbox.specs.Opening.{IsOurs, IsBlankOrOurs, IsCounted, Settles}
 use Rattle.fare_outbox.specs.Words.{tap_key, stated_key, first_at, itself, count_of, value_at, AreApart, IsKnown, IsWell}
 
 -- no schema is both
@@ -70,3 +71,20 @@ ours old new (Err e) has counted same = tt
 pub not_blank : {E : Type 0} (old : State) (r : Result (Option (ℕ × ℕ)) E) → old.now.schema ≡ outbox_schema → IfOk r (λ found. found ≡ None → old.now.schema ≢ no_schema)
 not_blank old (Ok found) has = λ none blank. not_both (sym blank ∙ has)
 not_blank old (Err e) has = tt
+
+-- the tables refer to no other, and have no default
+pub simple : IsSimpleSchema outbox_schema
+unfolding outbox_schema
+simple = record {
+  tables = (record { columns = (tt, (tt, tt)); checks = tt; references = refl; stamps = tt; formats = refl }, (record { columns = (tt, (tt, tt)); checks = ((tt, tt), tt); references = refl; stamps = tt; formats = refl }, (record { columns = (tt, (tt, (tt, (tt, (tt, (tt, (tt, (tt, tt)))))))); checks = tt; references = refl; stamps = tt; formats = refl }, (record { columns = (tt, (tt, (tt, (tt, tt)))); checks = tt; references = refl; stamps = tt; formats = refl }, tt))));
+  views = refl;
+}
+
+-- what is neither without tables nor the store's own
+pub neither : (old : State) → old.now.schema ≢ no_schema → (old.now.schema ≡ outbox_schema → ¬ IsOurs old.now.trees) → ¬ IsBlankOrOurs old
+neither old some other (inl blank) = some blank
+neither old some other (inr are) = other are.0 are.1
+
+pub none_lacks : {E : Type 0} (old : State) (r : Result (Option (ℕ × ℕ)) E) → old.now.schema ≡ outbox_schema → IfOk r (λ found. found ≡ None → ¬ IsOurs old.now.trees) → IfOk r (λ found. found ≡ None → ¬ IsBlankOrOurs old)
+none_lacks old (Ok found) has lacks = λ none. neither old (λ blank. not_both (sym blank ∙ has)) (λ _. lacks none)
+none_lacks old (Err e) has lacks = tt

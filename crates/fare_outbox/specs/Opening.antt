@@ -8,7 +8,7 @@ use Rattle.fare_tables.specs.Asking.{SameRows}
 use Rattle.fare_tables.specs.Making.{no_schema}
 use Rattle.fare_outbox.specs.Tables.{outbox_schema}
 use Rattle.fare_outbox.specs.Held.{IsReady, held_of}
-use Rattle.fare_outbox.specs.Making.{IsNew}
+use Rattle.fare_outbox.specs.Making.{IsNew, IsMade}
 
 -- format 1, owner 0
 abbrev pub IsMetaRow : Row → Type 0
@@ -39,3 +39,7 @@ pub record IsCounted (trees : Trees) (rows statements : ℕ) : Type 0 where
 pub record Settles (old new : State) (rows statements : ℕ) : Type 0 where
   pub made : old.now.schema ≡ no_schema → IsNew new.now × (new.now ≡ new.committed) × (rows ≡ 0) × (statements ≡ 0)
   pub kept : IsReady old → SameRows old new × IsCounted old.now.trees rows statements
+
+-- what an open may commit: the empty outbox, where there is no table
+abbrev pub MayMake : State → Trees → Type 0
+MayMake old trees = (old.now.schema ≡ no_schema) × IsMade trees

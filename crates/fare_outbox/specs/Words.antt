@@ -4,6 +4,7 @@ use Rattle.std.specs.List.{AllByRecursion}
 use Rattle.sqlite_trees.specs.Tree.{Trees}
 use Rattle.sqlite_trees.specs.declared.store.Store.{Ghosts}
 use Rattle.sqlite.specs.Held.{state}
+use Rattle.sqlite.specs.State.{State}
 use Rattle.fare_record.specs.Values.{RecordValue, StatementValue}
 use Rattle.fare_store.specs.Standing.{Standing}
 use Rattle.fare_store.specs.OutboxWords.{OutboxValue}
@@ -68,6 +69,10 @@ pub record IsWell (rows statements : ℕ) (trees : Trees) : Type 0 where
   pub lawful : IsLawful trees
   pub rows_are : rows ≡ length (held_of trees).taps
   pub statements_are : statements ≡ length (held_of trees).statements
+
+-- its connection
+abbrev pub connected : {S : Type 0} → (g : Ghosts S) → SqlOutbox S g → State
+connected g o = state g o.conn
 
 abbrev pub stands : {S : Type 0} → (g : Ghosts S) → SqlOutbox S g → Standing OutboxValue
 stands g o = tabled outbox_schema value_at (IsWell o.rows o.statements) (state g o.conn) o.failures

@@ -1,5 +1,5 @@
-ghost use Rattle.std.specs.Prelude.{◌≡◌, ◌≢◌, false, None, IsTrue, IfOk, IfErr, IfSome, OnOk, OnErr};
-ghost use Rattle.sqlite.specs.State.{HasCleanDisk, Shown};
+ghost use Rattle.std.specs.Prelude.{◌≡◌, ◌≢◌, ◌↔◌, false, true, None, Err, IsTrue, IfOk, IfErr, IfSome, OnOk, OnErr};
+ghost use Rattle.sqlite.specs.State.{HasCleanDisk, Survives, Shown};
 ghost use Rattle.sqlite.specs.Held.{state};
 ghost use Rattle.sqlite.specs.Values.{bound};
 ghost use Rattle.fare_tables.specs.Asking.{IsLive, IsAtRest, SameRows, Reads};
@@ -8,8 +8,8 @@ ghost use Rattle.fare_outbox.specs.Tables.{outbox_schema};
 ghost use Rattle.fare_store.specs.OutboxWords.{IsEmptyOutbox};
 ghost use Rattle.fare_tables.specs.Tabled.{IsFit};
 ghost use Rattle.fare_outbox.specs.Held.{IsReady};
-ghost use Rattle.fare_outbox.specs.Opening.{IsMetaRow, AreMeta, IsOurs, IsBlankOrOurs, IsCounted, Settles};
-ghost use Rattle.fare_outbox.specs.Words.{IsLawful, value_at, stands};
+ghost use Rattle.fare_outbox.specs.Opening.{IsMetaRow, AreMeta, IsOurs, IsBlankOrOurs, IsCounted, Settles, MayMake};
+ghost use Rattle.fare_outbox.specs.Words.{IsLawful, value_at, connected, stands};
 
 use crate::SqlOutbox;
 use crate::making::make_outbox;
@@ -29,6 +29,7 @@ fn ask_rows<S: Alter>(
     requires { Reads outbox_schema sql.now }
     ensures rows { HasCleanDisk (state S.Store conn.new) → IfOk result (λ rows. Shown sql.now (bound params.now) (state S.Store conn.old) (state S.Store conn.new) rows.items) }
     ensures same { IsLive (state S.Store conn.new) → IsAtRest outbox_schema (state S.Store conn.old) → SameRows (state S.Store conn.old) (state S.Store conn.new) }
+    ensures crash { Survives (state S.Store conn.old) (state S.Store conn.new) (λ _. ¬ ((state S.Store conn.old).now.schema ≡ outbox_schema)) }
     ensures live { IsLive (state S.Store conn.new) → IsLive (state S.Store conn.old) }
     ensures stays { HasCleanDisk (state S.Store conn.new) → OnOk result (IsTrue (state S.Store conn.new).is_open) }
     ensures mode { conn.old.in_transaction ≡ false → conn.new.in_transaction ≡ false }
@@ -38,17 +39,17 @@ fn ask_rows<S: Alter>(
 
 // Whether the row is that of format 1 and owner 0.
 fn is_meta(row: &Row) -> bool
-    ensures { IsTrue result → IsMetaRow row.now }
+    ensures { IsTrue result ↔ IsMetaRow row.now }
 {
-    match (row.get::<i64>(0), row.get::<i64>(1)) {
-        (Ok(format), Ok(owner)) => format == 1 && owner == 0,
+    match (row.get_ref(0), row.get_ref(1)) {
+        (Ok(ValueRef::Int(format)), Ok(ValueRef::Int(owner))) => format == 1 && owner == 0,
         _ => false,
     }
 }
 
 // Whether the rows are that one.
 fn are_meta(rows: &[Row]) -> bool
-    ensures { IsTrue result → AreMeta rows.now }
+    ensures { IsTrue result ↔ AreMeta rows.now }
 {
     match rows {
         [first, rest @ ..] => rest.is_empty() && is_meta(first),
@@ -58,8 +59,9 @@ fn are_meta(rows: &[Row]) -> bool
 
 // Whether `meta` holds its one row.
 fn has_meta<S: Alter>(conn: &mut Connection<S>) -> Result<bool, Fault>
-    ensures meta { HasCleanDisk (state S.Store conn.new) → (state S.Store conn.old).now.schema ≡ outbox_schema → IfOk result (λ ours. IsTrue ours → IsOurs (state S.Store conn.old).now.trees) }
+    ensures meta { HasCleanDisk (state S.Store conn.new) → (state S.Store conn.old).now.schema ≡ outbox_schema → IfOk result (λ ours. IsTrue ours ↔ IsOurs (state S.Store conn.old).now.trees) }
     ensures same { IsLive (state S.Store conn.new) → IsAtRest outbox_schema (state S.Store conn.old) → SameRows (state S.Store conn.old) (state S.Store conn.new) }
+    ensures crash { Survives (state S.Store conn.old) (state S.Store conn.new) (λ _. ¬ ((state S.Store conn.old).now.schema ≡ outbox_schema)) }
     ensures live { IsLive (state S.Store conn.new) → IsLive (state S.Store conn.old) }
     ensures stays { HasCleanDisk (state S.Store conn.new) → OnOk result (IsTrue (state S.Store conn.new).is_open) }
     ensures mode { conn.old.in_transaction ≡ false → conn.new.in_transaction ≡ false }
@@ -91,9 +93,12 @@ fn look<S: Alter>(conn: &Connection<S>, alloc: Global) -> Result<Found, Fault>
 
 // How many taps and how many statements the tables of an outbox hold, if its meta is right.
 fn counts<S: Alter>(conn: &mut Connection<S>) -> Result<Option<(u64, u64)>, Fault>
+    requires settled { IsTrue (state S.Store conn.old).is_open → (state S.Store conn.old).now ≡ (state S.Store conn.old).committed }
     ensures counted { IsLive (state S.Store conn.new) → IsReady (state S.Store conn.old) → IfOk result (λ found. IfSome found (λ n. IsCounted (state S.Store conn.old).now.trees n.0 n.1)) }
     ensures ours { IsLive (state S.Store conn.new) → (state S.Store conn.old).now.schema ≡ outbox_schema → IfOk result (λ found. IfSome found (λ n. IsOurs (state S.Store conn.old).now.trees)) }
+    ensures lacks { IsLive (state S.Store conn.new) → (state S.Store conn.old).now.schema ≡ outbox_schema → IfOk result (λ found. found ≡ None → ¬ IsOurs (state S.Store conn.old).now.trees) }
     ensures same { IsLive (state S.Store conn.new) → IsAtRest outbox_schema (state S.Store conn.old) → SameRows (state S.Store conn.old) (state S.Store conn.new) }
+    ensures crash { Survives (state S.Store conn.old) (state S.Store conn.new) (λ _. ¬ ((state S.Store conn.old).now.schema ≡ outbox_schema)) }
     ensures live { IsLive (state S.Store conn.new) → IsLive (state S.Store conn.old) }
     ensures mode { conn.old.in_transaction ≡ false → conn.new.in_transaction ≡ false }
 {
@@ -108,11 +113,14 @@ fn counts<S: Alter>(conn: &mut Connection<S>) -> Result<Option<(u64, u64)>, Faul
 // Makes the tables where there are none, and counts the rows of an outbox; none if it is neither.
 fn settle<S: Alter>(conn: &mut Connection<S>, found: Found) -> Result<Option<(u64, u64)>, Fault>
     requires idle { conn.old.in_transaction ≡ false }
+    requires settled { IsTrue (state S.Store conn.old).is_open → (state S.Store conn.old).now ≡ (state S.Store conn.old).committed }
     requires found { Finds (state S.Store conn.old).now.schema outbox_schema found }
     ensures opens { IsLive (state S.Store conn.new) → IfOk result (λ found. IfSome found (λ n. Settles (state S.Store conn.old) (state S.Store conn.new) n.0 n.1)) }
     ensures ours { IsLive (state S.Store conn.new) → IfOk result (λ found. IfSome found (λ n. IsBlankOrOurs (state S.Store conn.old))) }
     ensures refused { IsLive (state S.Store conn.new) → (state S.Store conn.old).now ≡ (state S.Store conn.old).committed → IfOk result (λ found. found ≡ None → SameRows (state S.Store conn.old) (state S.Store conn.new)) }
     ensures foreign { IfOk result (λ found. found ≡ None → (state S.Store conn.old).now.schema ≢ no_schema) }
+    ensures lacks { IsLive (state S.Store conn.new) → IfOk result (λ found. found ≡ None → ¬ IsBlankOrOurs (state S.Store conn.old)) }
+    ensures crash { Survives (state S.Store conn.old) (state S.Store conn.new) (MayMake (state S.Store conn.old)) }
     ensures failed { IsLive (state S.Store conn.new) → (state S.Store conn.old).now ≡ (state S.Store conn.old).committed → OnErr result (SameRows (state S.Store conn.old) (state S.Store conn.new)) }
     ensures idle { conn.new.in_transaction ≡ false }
 {
@@ -138,7 +146,11 @@ impl<S: Alter> SqlOutbox<S> {
         ensures kept { IfOk result (λ o. (stands S.Store o).live → IsFit outbox_schema IsLawful (state S.Store conn) → (stands S.Store o).lawful × ((stands S.Store o).value ≡ value_at (state S.Store conn).now.trees)) }
         ensures ours { IfOk result (λ o. (stands S.Store o).live → IsBlankOrOurs (state S.Store conn)) }
         ensures failures { IfOk result (λ o. (stands S.Store o).failures ≡ 0) }
+        ensures inside { conn.in_transaction ≡ true → result ≡ Err (conn, OpenFault.Store) }
         ensures foreign { IfErr result (λ e. e.1 ≡ OpenFault.Foreign → (state S.Store conn).now.schema ≢ no_schema) }
+        ensures lacks { IfErr result (λ e. e.1 ≡ OpenFault.Foreign → IsLive (state S.Store e.0) → ¬ IsBlankOrOurs (state S.Store conn)) }
+        ensures crash { IfOk result (λ o. Survives (state S.Store conn) (connected S.Store o) (MayMake (state S.Store conn))) }
+        ensures crash_refused { IfErr result (λ e. Survives (state S.Store conn) (state S.Store e.0) (MayMake (state S.Store conn))) }
         ensures refused { IfErr result (λ e. IsLive (state S.Store e.0) → (state S.Store conn).now ≡ (state S.Store conn).committed → SameRows (state S.Store conn) (state S.Store e.0)) }
     {
         let mut conn = conn;
@@ -163,6 +175,7 @@ impl<S: Alter> SqlOutbox<S> {
 
     /// Gives the connection back, with the rows as they are.
     pub fn into_connection(self) -> Connection<S>
+        ensures crash { Survives (connected S.Store self) (state S.Store result) (λ _. ⊥) }
         ensures idle { result.in_transaction ≡ false }
         ensures live { (stands S.Store self).live → IsLive (state S.Store result) }
         ensures kept { (stands S.Store self).lawful → IsFit outbox_schema IsLawful (state S.Store result) × (value_at (state S.Store result).now.trees ≡ (stands S.Store self).value) }

@@ -10,7 +10,9 @@ ghost use Rattle.fare_outbox.specs.Shown.{ShowsRow, ShowsStatement};
 use crate::asking::ask;
 use fare_record::{DeviceId, OwnerId, Record, Statement};
 use fare_store::Fault;
-use fare_tables::{cell, count, day, number, numbered, tap};
+use fare_tables::{
+    cell_count, cell_day, cell_number, cell_tap_number, cell_total, parameter, tap_in_cells,
+};
 use sqlite::{Alter, Connection, Row};
 
 // The greatest link of a device, 0 where it has no row.
@@ -25,9 +27,9 @@ pub(crate) fn read_link<S: Alter>(conn: &mut Connection<S>, device: DeviceId) ->
     match ask(
         conn,
         "SELECT upto FROM device WHERE id = ?1",
-        &[cell(u64::from(device.get()))],
+        &[parameter(u64::from(device.get()))],
     )? {
-        Some(row) => number(&row, 0),
+        Some(row) => cell_number(&row, 0),
         None => Ok(0),
     }
 }
@@ -36,9 +38,9 @@ pub(crate) fn read_link<S: Alter>(conn: &mut Connection<S>, device: DeviceId) ->
 fn row_in(row: &Row, owner: OwnerId, device: DeviceId) -> Result<Record, Fault>
     ensures { IfOk result (ShowsRow row.now owner device) }
 {
-    let lane = numbered(row, 0)?;
-    let link = numbered(row, 1)?;
-    let tap = tap(row, 2)?;
+    let lane = cell_tap_number(row, 0)?;
+    let link = cell_tap_number(row, 1)?;
+    let tap = tap_in_cells(row, 2)?;
     Ok(Record::new(device, link, owner, lane, tap))
 }
 
@@ -58,9 +60,9 @@ pub(crate) fn read_next<S: Alter>(
     ensures mode { conn.old.in_transaction ≡ false → conn.new.in_transaction ≡ false }
 {
     let asked = [
-        cell(u64::from(owner.get())),
-        cell(u64::from(device.get())),
-        cell(after),
+        parameter(u64::from(owner.get())),
+        parameter(u64::from(device.get())),
+        parameter(after),
     ];
     match ask(
         conn,
@@ -76,8 +78,8 @@ pub(crate) fn read_next<S: Alter>(
 fn statement_in(row: &Row, owner: OwnerId, device: DeviceId) -> Result<Statement, Fault>
     ensures { IfOk result (ShowsStatement row.now owner device) }
 {
-    let day = day(row, 0)?;
-    let total = count(row, 1)?;
+    let day = cell_day(row, 0)?;
+    let total = cell_count(row, 1)?;
     Ok(Statement::new(device, day, owner, total))
 }
 
@@ -97,9 +99,9 @@ pub(crate) fn read_statement<S: Alter>(
     ensures mode { conn.old.in_transaction ≡ false → conn.new.in_transaction ≡ false }
 {
     let asked = [
-        cell(u64::from(owner.get())),
-        cell(u64::from(device.get())),
-        cell(from),
+        parameter(u64::from(owner.get())),
+        parameter(u64::from(device.get())),
+        parameter(from),
     ];
     match ask(
         conn,
@@ -108,17 +110,6 @@ pub(crate) fn read_statement<S: Alter>(
     )? {
         Some(row) => Ok(Some(statement_in(&row, owner, device)?)),
         None => Ok(None),
-    }
-}
-
-// A count that SQLite didn't end at its greatest integer.
-fn exact(n: u64) -> Result<u64, Fault>
-    ensures { IfOk result (λ k. (k ≡ n) × (k < 9223372036854775807)) }
-{
-    if n < 9_223_372_036_854_775_807 {
-        Ok(n)
-    } else {
-        Err(Fault::Store)
     }
 }
 
@@ -132,7 +123,7 @@ pub(crate) fn count_rows<S: Alter>(conn: &mut Connection<S>) -> Result<u64, Faul
     ensures mode { conn.old.in_transaction ≡ false → conn.new.in_transaction ≡ false }
 {
     match ask(conn, "SELECT count(*) FROM tap", &[])? {
-        Some(row) => exact(number(&row, 0)?),
+        Some(row) => cell_total(&row, 0),
         None => Err(Fault::Store),
     }
 }
@@ -147,7 +138,7 @@ pub(crate) fn count_statements<S: Alter>(conn: &mut Connection<S>) -> Result<u64
     ensures mode { conn.old.in_transaction ≡ false → conn.new.in_transaction ≡ false }
 {
     match ask(conn, "SELECT count(*) FROM stated", &[])? {
-        Some(row) => exact(number(&row, 0)?),
+        Some(row) => cell_total(&row, 0),
         None => Err(Fault::Store),
     }
 }
@@ -162,7 +153,7 @@ pub(crate) fn count_seen<S: Alter>(conn: &mut Connection<S>) -> Result<u64, Faul
     ensures mode { conn.old.in_transaction ≡ false → conn.new.in_transaction ≡ false }
 {
     match ask(conn, "SELECT count(*) FROM device WHERE upto > 0", &[])? {
-        Some(row) => number(&row, 0),
+        Some(row) => cell_number(&row, 0),
         None => Err(Fault::Store),
     }
 }

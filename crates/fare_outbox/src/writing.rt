@@ -9,7 +9,7 @@ ghost use Rattle.fare_outbox.specs.Held.{held_of, AreReadable, IsReady, IsDevice
 
 use fare_record::{DeviceId, OwnerId, Record, Statement};
 use fare_store::Fault;
-use fare_tables::{cell, change, fault_of};
+use fare_tables::{change, fault_of, parameter};
 use sqlite::types::ValueRef;
 use sqlite::{Alter, Connection, Transaction};
 
@@ -18,14 +18,14 @@ fn cells_of(row: &Record) -> [ValueRef<'static>; 8]
 {
     let tap = row.tap();
     [
-        cell(u64::from(row.owner().get())),
-        cell(u64::from(row.device().get())),
-        cell(row.lane()),
-        cell(row.link()),
-        cell(u64::from(tap.product().get())),
-        cell(tap.token().get()),
-        cell(tap.moment().get()),
-        cell(u64::from(tap.day().get())),
+        parameter(u64::from(row.owner().get())),
+        parameter(u64::from(row.device().get())),
+        parameter(row.lane()),
+        parameter(row.link()),
+        parameter(u64::from(tap.product().get())),
+        parameter(tap.token().get()),
+        parameter(tap.moment().get()),
+        parameter(u64::from(tap.day().get())),
     ]
 }
 
@@ -55,7 +55,7 @@ fn put_link<S: Alter>(tx: &mut Transaction<'_, S>, device: DeviceId, upto: u64) 
     ensures inside { HasCleanDisk (state S.Store tx.new.conn.now) → Inside (state S.Store tx.old.conn.now) (state S.Store tx.new.conn.now) }
     ensures survives { Survives (state S.Store tx.old.conn.now) (state S.Store tx.new.conn.now) (λ _. ⊥) }
 {
-    let cells = [cell(u64::from(device.get())), cell(upto)];
+    let cells = [parameter(u64::from(device.get())), parameter(upto)];
     match change(
         tx,
         "INSERT INTO device (id, upto) VALUES (?1, ?2) ON CONFLICT (id) DO UPDATE SET upto = excluded.upto",
@@ -100,10 +100,10 @@ fn cells_stated(statement: &Statement) -> [ValueRef<'static>; 4]
     ensures { bound result ≡ stated_cells statement.now }
 {
     [
-        cell(u64::from(statement.owner().get())),
-        cell(u64::from(statement.device().get())),
-        cell(u64::from(statement.day().get())),
-        cell(statement.count()),
+        parameter(u64::from(statement.owner().get())),
+        parameter(u64::from(statement.device().get())),
+        parameter(u64::from(statement.day().get())),
+        parameter(statement.count()),
     ]
 }
 
@@ -163,9 +163,9 @@ fn cut_rows<S: Alter>(
         → IfOk result (λ n. n ≡ length (filter (is_cut owner device upto) (held_of (state S.Store tx.old.conn.now).now.trees).taps)) }
 {
     let asked = [
-        cell(u64::from(owner.get())),
-        cell(u64::from(device.get())),
-        cell(upto),
+        parameter(u64::from(owner.get())),
+        parameter(u64::from(device.get())),
+        parameter(upto),
     ];
     match change(
         tx,

@@ -8,3 +8,4 @@ pub mod Counting
 pub mod Least
 pub mod Steps
 pub mod Removing
+mod Nodes

@@ -14,7 +14,7 @@ use Rattle.sqlite_schema.specs.declared.command.Command.TheVariants.{Select}
 use Rattle.sqlite_trees.specs.declared.error.StoreError.{StoreError}
 use Rattle.sqlite_trees.specs.declared.error.StoreError.TheVariants.{OutOfMemory, Io, Corrupt, Full, Broken, Unstorable}
 use Rattle.sqlite.specs.State.{State, HasCleanDisk, ShowsRows, store_error, IsNoStatement, QueriesRow, Shown, Survives, CommitsShowing, IsNotRun, IsUnchanged, Fails, FailsToQuery, FailsToShow}
-use Rattle.sqlite.proofs.StateLemmas.{survives_weaker}
+use Rattle.sqlite.proofs.StateLemmas.{survives_weaker, survives_then}
 use Rattle.sqlite.proofs.Callers.{IsPlain, never_commits}
 use Rattle.sqlite.specs.Schema.{Schema}
 use Rattle.fare_tables.specs.Asking.{IsLive, IsAtRest, SameRows, Reads, is_select}
@@ -186,3 +186,27 @@ reads_at schema sql s rest reads = subst (λ x. Reads x sql) (sym rest.schema_is
 
 pub rest_survives : (schema : Schema) (sql : List ℕ) (old new : State) → Reads schema sql → Survives old new (λ _. ¬ Reads old.now.schema sql) → Survives old new (λ _. ¬ IsAtRest schema old)
 rest_survives schema sql old new reads = survives_weaker old new _ _ (λ _ db commits rest. commits (reads_at schema sql old rest reads))
+
+-- the same, whether or not something is uncommitted
+pub schema_survives : (schema : Schema) (sql : List ℕ) (old new : State) → Reads schema sql → Survives old new (λ _. ¬ Reads old.now.schema sql) → Survives old new (λ _. ¬ (old.now.schema ≡ schema))
+schema_survives schema sql old new reads = survives_weaker old new _ _ (λ _ db commits has. commits (subst (λ x. Reads x sql) (sym has) reads))
+
+rest_after : (schema : Schema) (a b : State) → IsAtRest schema a → SameRows a b → IsAtRest schema b
+rest_after schema a b rest same = record { settled = same.0 ∙ rest.settled ∙ sym same.1; schema_is = ap (λ (d : Database). d.schema) same.0 ∙ rest.schema_is }
+
+-- two questions, one after the other
+pub rests_then : (schema : Schema) (a b c : State) → IsAtRest schema a → (IsAtRest schema a → SameRows a b) → (IsAtRest schema b → SameRows b c) → SameRows a c
+rests_then schema a b c rest one two =
+    let first = one rest in
+    let second = two (rest_after schema a b rest first) in (second.0 ∙ first.0, second.1 ∙ first.1)
+
+-- a question on a connection that a question before it found open, where what is committed is what is seen
+pub asks_on : (schema : Schema) (a b c : State) → (IsTrue a.is_open → a.now ≡ a.committed) → (IsLive b → IsLive a) → (HasCleanDisk b → IsTrue b.is_open) → (IsLive b → IsAtRest schema a → SameRows a b)
+    → Survives a b (λ _. ¬ (a.now.schema ≡ schema)) → Survives b c (λ _. ¬ IsAtRest schema b) → Survives a c (λ _. ¬ (a.now.schema ≡ schema))
+asks_on schema a b c settled was is_up same one two =
+    survives_then a b c _ _ _ (λ _ db not_ours. not_ours) (λ clean db not_rest has.
+    let late : HasCleanDisk c = clean in
+    let early : HasCleanDisk b = omega (arith, late, two.clean) in
+    let live : IsLive b = (early, is_up early) in
+    let rest : IsAtRest schema a = record { settled = settled (was live).1; schema_is = has } in
+    not_rest (rest_after schema a b rest (same live rest))) one two

@@ -5,3 +5,4 @@ pub mod Making
 pub mod Tabled
 pub mod Opened
 pub mod Records
+pub mod Schemas

@@ -12,6 +12,7 @@ use Rattle.sqlite.specs.State.{text_of}
 use Rattle.sqlite.specs.Table.{Table}
 use Rattle.sqlite_resolve.specs.declared.compiled.Compiled.{Compiled}
 use Rattle.sqlite_resolve.specs.declared.error.CompileError.{CompileError}
+use Rattle.fare_tables.specs.Schemas.{IsSimpleSchema}
 use Rattle.fare_tables.specs.declared.opening.Found.{Found}
 use Rattle.fare_tables.specs.declared.opening.Found.TheVariants as found
 
@@ -40,4 +41,4 @@ pub record Made (old new : Database) (table : Table) : Type 0 where
 abbrev pub Finds : Schema → Schema → Found → Type 0
 Finds schema wanted found.Blank = schema ≡ no_schema
 Finds schema wanted found.Ours = schema ≡ wanted
-Finds schema wanted found.Other = schema ≢ no_schema
+Finds schema wanted found.Other = (schema ≢ no_schema) × (IsSimpleSchema wanted → schema ≢ wanted)

@@ -13,9 +13,9 @@ mod records;
 mod schemas;
 
 pub use asking::{ask, ask_all, touch};
-pub use cells::{cell, number, small};
+pub use cells::{cell_number, cell_total, parameter};
 pub use changing::change;
 pub use faults::{fault_of, note};
 pub use opening::{Found, OpenFault, find, make_table, open_fault};
-pub use records::{count, day, numbered, tap};
+pub use records::{cell_count, cell_day, cell_tap_number, tap_in_cells};
 pub use schemas::{is_blank, same_schema};

@@ -1,9 +1,15 @@
-ghost use Rattle.std.specs.Prelude.{◌≡◌, ◌↔◌, IsTrue};
+ghost use Rattle.std.specs.Prelude.{◌≡◌, ◌↔◌, [], map, IsTrue};
+ghost use Rattle.std.specs.List.{AllByRecursion};
+ghost use Rattle.sqlite_schema.specs.Code.{term_to, term_in};
+ghost use Rattle.sqlite_sql.specs.Term.{lit};
+ghost use Rattle.sqlite_value.specs.declared.value.Value.TheVariants as value;
 ghost use Rattle.fare_tables.specs.Making.{no_schema};
+ghost use Rattle.fare_tables.specs.Schemas.{IsSimple, IsSimpleTerm, AreSimple, AreSimpleColumns, IsSimpleTable, IsSimpleSchema};
 
 use sqlite_items::Items;
 use sqlite_schema::code::{Op, Terms};
 use sqlite_schema::schema::{Column, Index, Schema, Table};
+use sqlite_sql::ops::{BinaryOp, UnaryOp};
 use sqlite_value::keys::Order;
 use sqlite_value::value::{Bytes, Value};
 
@@ -14,10 +20,11 @@ pub fn is_blank(schema: &Schema) -> bool
     schema.tables.is_empty() && schema.indexes.is_empty() && schema.views.is_empty()
 }
 
-/// Whether two schemas are the same, by every part that the tables of a store have. A schema with a view, a
-/// reference to another table or a default that is no number is the same as none.
+/// Whether a schema is the very one that is wanted. The wanted one has no view, no reference to another table, and
+/// no default or literal but NULL and integers, as a store's own has none; of another one it may say no.
 pub fn same_schema(a: &Schema, b: &Schema) -> bool
-    ensures { IsTrue result → a.now ≡ b.now }
+    ensures same { IsTrue result → a.now ≡ b.now }
+    ensures found { IsSimpleSchema b.now → a.now ≡ b.now → IsTrue result }
 {
     same_tables(a.tables.as_slice(), b.tables.as_slice())
         && same_indexes(a.indexes.as_slice(), b.indexes.as_slice())
@@ -26,14 +33,15 @@ pub fn same_schema(a: &Schema, b: &Schema) -> bool
 }
 
 fn same_bytes(a: &Bytes, b: &Bytes) -> bool
-    ensures { IsTrue result → a.now ≡ b.now }
+    ensures { IsTrue result ↔ (a.now ≡ b.now) }
 {
     a.as_slice() == b.as_slice()
 }
 
-// No default of a store's tables is another value than NULL, and no literal another than a number.
+// No default of a store's tables is another value than NULL, and no literal another than an integer.
 fn same_value(a: &Value, b: &Value) -> bool
-    ensures { IsTrue result → a.now ≡ b.now }
+    ensures same { IsTrue result → a.now ≡ b.now }
+    ensures found { IsSimple b.now → a.now ≡ b.now → IsTrue result }
 {
     match (a, b) {
         (Value::Null, Value::Null) => true,
@@ -43,7 +51,8 @@ fn same_value(a: &Value, b: &Value) -> bool
 }
 
 fn same_column(a: &Column, b: &Column) -> bool
-    ensures { IsTrue result → a.now ≡ b.now }
+    ensures same { IsTrue result → a.now ≡ b.now }
+    ensures found { IsSimple b.now.default → a.now ≡ b.now → IsTrue result }
 {
     same_bytes(&a.name, &b.name)
         && a.kind == b.kind
@@ -54,7 +63,8 @@ fn same_column(a: &Column, b: &Column) -> bool
 }
 
 fn same_columns(a: &[Column], b: &[Column]) -> bool
-    ensures { IsTrue result → a.now ≡ b.now }
+    ensures same { IsTrue result → a.now ≡ b.now }
+    ensures found { AreSimpleColumns b.now → a.now ≡ b.now → IsTrue result }
 {
     match (a, b) {
         ([], []) => true,
@@ -64,13 +74,13 @@ fn same_columns(a: &[Column], b: &[Column]) -> bool
 }
 
 fn same_places(a: &Items<usize>, b: &Items<usize>) -> bool
-    ensures { IsTrue result → a.now ≡ b.now }
+    ensures { IsTrue result ↔ (a.now ≡ b.now) }
 {
     a.as_slice() == b.as_slice()
 }
 
 fn same_keys(a: &[Items<usize>], b: &[Items<usize>]) -> bool
-    ensures { IsTrue result → a.now ≡ b.now }
+    ensures { IsTrue result ↔ (a.now ≡ b.now) }
 {
     match (a, b) {
         ([], []) => true,
@@ -80,7 +90,7 @@ fn same_keys(a: &[Items<usize>], b: &[Items<usize>]) -> bool
 }
 
 fn same_orders(a: &[Order], b: &[Order]) -> bool
-    ensures { IsTrue result → a.now ≡ b.now }
+    ensures { IsTrue result ↔ (a.now ≡ b.now) }
 {
     match (a, b) {
         ([], []) => true,
@@ -89,36 +99,91 @@ fn same_orders(a: &[Order], b: &[Order]) -> bool
     }
 }
 
-fn same_op(a: &Op, b: &Op) -> bool
-    ensures { IsTrue result → a.now ≡ b.now }
+// Whether the term at a place, read to a depth, is NULL.
+fn is_null(ops: &[Op], depth: usize, at: usize) -> bool
+    ensures { IsTrue result ↔ (term_to ops.now depth at ≡ lit value.Null) }
 {
-    match (a, b) {
-        (Op::Literal(x), Op::Literal(y)) => same_value(x, y),
-        (Op::Column(s, x), Op::Column(t, y)) => *s == *t && *x == *y,
-        (Op::Unary(o, x), Op::Unary(p, y)) => *o == *p && *x == *y,
-        (Op::Binary(o, x, z), Op::Binary(p, y, w)) => *o == *p && *x == *y && *z == *w,
-        _ => false,
+    if depth == 0 {
+        return true;
+    }
+    match ops.get(at) {
+        Some(Op::Literal(Value::Null)) => true,
+        Some(_) => false,
+        None => true,
     }
 }
 
-fn same_ops(a: &[Op], b: &[Op]) -> bool
-    ensures { IsTrue result → a.now ≡ b.now }
+fn same_unary(a: UnaryOp, b: UnaryOp) -> bool
+    ensures { IsTrue result ↔ (a ≡ b) }
 {
-    match (a, b) {
+    a == b
+}
+
+fn same_binary(a: BinaryOp, b: BinaryOp) -> bool
+    ensures { IsTrue result ↔ (a ≡ b) }
+{
+    a == b
+}
+
+// Whether the terms at two places, each read to a depth, are the same. The work is bounded by the second one.
+fn same_term(a: &[Op], depth: usize, at: usize, b: &[Op], limit: usize, place: usize) -> bool
+    ensures same { IsTrue result → term_to a.now depth at ≡ term_to b.now limit place }
+    ensures found { IsSimpleTerm (term_to b.now limit place) → term_to a.now depth at ≡ term_to b.now limit place → IsTrue result }
+{
+    if depth == 0 || limit == 0 {
+        return is_null(a, depth, at) && is_null(b, limit, place);
+    }
+    let (down, low) = (depth - 1, limit - 1);
+    match (a.get(at), b.get(place)) {
+        (Some(Op::Literal(v)), Some(Op::Literal(w))) => same_value(v, w),
+        (Some(Op::Column(s, x)), Some(Op::Column(t, y))) => *s == *t && *x == *y,
+        (Some(Op::Unary(o, x)), Some(Op::Unary(p, y))) => {
+            same_term(a, down, *x, b, low, *y) && same_unary(*o, *p)
+        }
+        (Some(Op::Binary(o, x, z)), Some(Op::Binary(p, y, w))) => {
+            same_term(a, down, *x, b, low, *y)
+                && same_term(a, down, *z, b, low, *w)
+                && same_binary(*o, *p)
+        }
+        (Some(Op::Case(s, x, z)), Some(Op::Case(t, y, w))) => {
+            same_term(a, down, *s, b, low, *t)
+                && same_term(a, down, *x, b, low, *y)
+                && same_term(a, down, *z, b, low, *w)
+        }
+        (Some(_), Some(_)) => false,
+        _ => is_null(a, depth, at) && is_null(b, limit, place),
+    }
+}
+
+// Whether the terms at these roots are the same.
+fn same_roots(a: &[Op], roots: &[usize], b: &[Op], places: &[usize]) -> bool
+    ensures same { IsTrue result → map (term_in a.now) roots.now ≡ map (term_in b.now) places.now }
+    ensures found { AreSimple (map (term_in b.now) places.now) → map (term_in a.now) roots.now ≡ map (term_in b.now) places.now → IsTrue result }
+{
+    match (roots, places) {
         ([], []) => true,
-        ([x, xs @ ..], [y, ys @ ..]) => same_op(x, y) && same_ops(xs, ys),
+        ([x, xs @ ..], [y, ys @ ..]) => {
+            same_term(a, a.len(), *x, b, b.len(), *y) && same_roots(a, xs, b, ys)
+        }
         _ => false,
     }
 }
 
 fn same_terms(a: &Terms, b: &Terms) -> bool
-    ensures { IsTrue result → a.now ≡ b.now }
+    ensures same { IsTrue result → a.now ≡ b.now }
+    ensures found { AreSimple b.now → a.now ≡ b.now → IsTrue result }
 {
-    same_ops(a.nodes.as_slice(), b.nodes.as_slice()) && a.roots.as_slice() == b.roots.as_slice()
+    same_roots(
+        a.nodes.as_slice(),
+        a.roots.as_slice(),
+        b.nodes.as_slice(),
+        b.roots.as_slice(),
+    )
 }
 
 fn same_table(a: &Table, b: &Table) -> bool
-    ensures { IsTrue result → a.now ≡ b.now }
+    ensures same { IsTrue result → a.now ≡ b.now }
+    ensures found { IsSimpleTable b.now → a.now ≡ b.now → IsTrue result }
 {
     same_bytes(&a.name, &b.name)
         && a.tree == b.tree
@@ -137,6 +202,7 @@ fn same_rest(a: &Table, b: &Table) -> bool
     ensures computed { IsTrue result → (a.now.computed ≡ b.now.computed) }
     ensures stamps { IsTrue result → (a.now.stamps ≡ b.now.stamps) }
     ensures counted { IsTrue result → (a.now.is_counted ≡ b.now.is_counted) }
+    ensures found { IsSimpleTable b.now → a.now ≡ b.now → IsTrue result }
 {
     a.references.is_empty()
         && b.references.is_empty()
@@ -149,7 +215,8 @@ fn same_rest(a: &Table, b: &Table) -> bool
 }
 
 fn same_tables(a: &[Table], b: &[Table]) -> bool
-    ensures { IsTrue result → a.now ≡ b.now }
+    ensures same { IsTrue result → a.now ≡ b.now }
+    ensures found { AllByRecursion IsSimpleTable b.now → a.now ≡ b.now → IsTrue result }
 {
     match (a, b) {
         ([], []) => true,
@@ -159,7 +226,7 @@ fn same_tables(a: &[Table], b: &[Table]) -> bool
 }
 
 fn same_index(a: &Index, b: &Index) -> bool
-    ensures { IsTrue result → a.now ≡ b.now }
+    ensures { IsTrue result ↔ (a.now ≡ b.now) }
 {
     same_bytes(&a.name, &b.name)
         && a.tree == b.tree
@@ -170,7 +237,7 @@ fn same_index(a: &Index, b: &Index) -> bool
 }
 
 fn same_indexes(a: &[Index], b: &[Index]) -> bool
-    ensures { IsTrue result → a.now ≡ b.now }
+    ensures { IsTrue result ↔ (a.now ≡ b.now) }
 {
     match (a, b) {
         ([], []) => true,

@@ -1,5 +1,5 @@
 use Rattle.sqlite.specs.Held.{state}
-use Rattle.fare_tables.proofs.Questions.{reads_at, rest_survives}
+use Rattle.fare_tables.proofs.Questions.{reads_at, schema_survives}
 use Rattle.fare_ledger.specs.Tables.{ledger_schema}
 use Rattle.fare_ledger.proofs.asking.ask_rows.Goals as goal
 
@@ -7,7 +7,7 @@ pub returns : goal.returns
 returns g c = record {
   rows = c.ask_all.ensures.rows;
   same = λ live rest. c.ask_all.ensures.same live (reads_at ledger_schema c.args.sql.now (state g.S.Store c.args.conn.now) rest c.requires) rest.settled;
-  crash = rest_survives ledger_schema c.args.sql.now (state g.S.Store c.args.conn.now) (state g.S.Store c.ask_all.new.conn) c.requires c.ask_all.ensures.crash;
+  crash = schema_survives ledger_schema c.args.sql.now (state g.S.Store c.args.conn.now) (state g.S.Store c.ask_all.new.conn) c.requires c.ask_all.ensures.crash;
   live = c.ask_all.ensures.live;
   stays = c.ask_all.ensures.stays;
   mode = c.ask_all.ensures.mode;

@@ -11,5 +11,5 @@ returns-in-Ok-clause-made g c clean inside blank =
     let old = state g.S.Store c.args.tx.now.conn.now in
     let new = state g.S.Store c.change.new.tx.conn.now in
     let ran = c.in-Ok.ensures.ran clean inside in
-    let h : Executes put_meta_text (int c.args.owner ∷ []) old new (Ok c.in-Ok.field-0) = rw (c.cell.ensures, c.from.ensures, c.get.ensures.value) at ran.0 in
+    let h : Executes put_meta_text (int c.args.owner ∷ []) old new (Ok c.in-Ok.field-0) = rw (c.parameter.ensures, c.from.ensures, c.get.ensures.value) at ran.0 in
     (puts_meta c.args.owner old new c.in-Ok.field-0 blank h, ran.1)

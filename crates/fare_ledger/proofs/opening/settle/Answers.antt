@@ -1,10 +1,10 @@
 use Rattle.std.proofs.Common.{inl, sym, ◌∙◌}
 use Rattle.sqlite.specs.Held.{state}
 use Rattle.fare_tables.specs.Making.{Finds}
-use Rattle.fare_tables.specs.declared.opening.Found.TheVariants.{Blank, Ours}
+use Rattle.fare_tables.specs.declared.opening.Found.TheVariants.{Blank, Ours, Other}
 use Rattle.fare_ledger.specs.Tables.{ledger_schema}
 use Rattle.fare_ledger.proofs.Meta.{ours_too}
-use Rattle.fare_ledger.proofs.Opened.{not_both, not_blank, ours}
+use Rattle.fare_ledger.proofs.Opened.{not_both, not_blank, ours, simple, neither, none_lacks}
 use Rattle.fare_ledger.proofs.opening.settle.Goals as goal
 
 pub returns-in_ok-make_ledger-in-Blank-clause-opens : goal.returns-in_ok-make_ledger-in-Blank-clause-opens
@@ -34,3 +34,13 @@ pub returns-in-Ours-clause-ours : goal.returns-in-Ours-clause-ours
 returns-in-Ours-clause-ours g c live =
     let it : Finds (state g.S.Store c.args.conn.now).now.schema ledger_schema Ours = rw c.in-Ours.is at c.requires.found in
     ours_too c.args.owner (state g.S.Store c.args.conn.now) c.has_meta.result it (c.has_meta.ensures.meta live.0 it)
+
+pub returns-in-Ours-clause-lacks : goal.returns-in-Ours-clause-lacks
+returns-in-Ours-clause-lacks g c live =
+    let it : Finds (state g.S.Store c.args.conn.now).now.schema ledger_schema Ours = rw c.in-Ours.is at c.requires.found in
+    none_lacks c.args.owner (state g.S.Store c.args.conn.now) c.has_meta.result it (c.has_meta.ensures.meta live.0 it)
+
+pub returns-in-Other-clause-lacks : goal.returns-in-Other-clause-lacks
+returns-in-Other-clause-lacks g c live none =
+    let it : Finds (state g.S.Store c.args.conn.now).now.schema ledger_schema Other = rw c.in-Other.is at c.requires.found in
+    neither c.args.owner (state g.S.Store c.args.conn.now) it.0 (λ has. absurd (it.1 simple has))

@@ -13,4 +13,4 @@ returns-in-Some-clause-value g c live ready =
     let old = state g.S.Store c.args.conn.now in
     let new = state g.S.Store c.ask.new.conn in
     let h : QueriesRow statements_text [] old new (Ok c.in-Some.row) = rw c.in-Some.is at (c.in_ok-row.ensures.row live.0 ready.rest) in
-    number_is c.number.result c.in-Some.row _ (statements_counted old new c.in-Some.row ready.rest.schema_is h) c.number.ensures
+    number_is c.cell_number.result c.in-Some.row _ (statements_counted old new c.in-Some.row ready.rest.schema_is h) c.cell_number.ensures.read

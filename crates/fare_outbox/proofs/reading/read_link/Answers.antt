@@ -13,12 +13,12 @@ pub returns-in-Some-clause-value : goal.returns-in-Some-clause-value
 returns-in-Some-clause-value g c live ready =
     let old = state g.S.Store c.args.conn.now in
     let new = state g.S.Store c.ask.new.conn in
-    let h : QueriesRow link_text (int c.args.device ∷ []) old new (Ok c.in-Some.row) = rw (c.cell.ensures, c.from.ensures, c.get.ensures.value, c.in-Some.is) at (c.in_ok-row.ensures.row live.0 ready.rest) in
-    number_is c.number.result c.in-Some.row _ (link_row old new c.args.device c.in-Some.row ready.rest.schema_is ready.fits.devices h) c.number.ensures
+    let h : QueriesRow link_text (int c.args.device ∷ []) old new (Ok c.in-Some.row) = rw (c.parameter.ensures, c.from.ensures, c.get.ensures.value, c.in-Some.is) at (c.in_ok-row.ensures.row live.0 ready.rest) in
+    number_is c.cell_number.result c.in-Some.row _ (link_row old new c.args.device c.in-Some.row ready.rest.schema_is ready.fits.devices h) c.cell_number.ensures.read
 
 pub returns-in-None-clause-value : goal.returns-in-None-clause-value
 returns-in-None-clause-value g c live ready =
     let old = state g.S.Store c.args.conn.now in
     let new = state g.S.Store c.ask.new.conn in
-    let h : Shown link_text (int c.args.device ∷ []) old new [] = rw (c.cell.ensures, c.from.ensures, c.get.ensures.value, c.in-None.is) at (c.in_ok-row.ensures.row live.0 ready.rest) in
+    let h : Shown link_text (int c.args.device ∷ []) old new [] = rw (c.parameter.ensures, c.from.ensures, c.get.ensures.value, c.in-None.is) at (c.in_ok-row.ensures.row live.0 ready.rest) in
     sym (link_none old new c.args.device ready.rest.schema_is ready.fits.devices h)

@@ -13,7 +13,7 @@ returns-in_ok-statement_in-in-Some-clause-value g c live ready =
     let old = state g.S.Store c.args.conn.now in
     let new = state g.S.Store c.ask.new.conn in
     let h : QueriesRow next_day_text (asked c.args.owner c.args.device c.args.from) old new (Ok c.in-Some.row) =
-    rw (c.cell.ensures, c.cell-2.ensures, c.cell-3.ensures, c.from.ensures, c.from-2.ensures, c.get.ensures.value, c.get-2.ensures.value, c.in-Some.is) at (c.in_ok-row.ensures.row live.0 ready.rest) in
+    rw (c.parameter.ensures, c.parameter-2.ensures, c.parameter-3.ensures, c.from.ensures, c.from-2.ensures, c.get.ensures.value, c.get-2.ensures.value, c.in-Some.is) at (c.in_ok-row.ensures.row live.0 ready.rest) in
     next_day_row old new c.args.owner c.args.device c.args.from c.in_ok-statement_in-in-Some.field-0 c.in-Some.row c.in_ok-statement_in-in-Some.ensures ready.rest.schema_is ready.fits.statements h
 
 pub returns-in-None-clause-value : goal.returns-in-None-clause-value
@@ -21,5 +21,5 @@ returns-in-None-clause-value g c live ready =
     let old = state g.S.Store c.args.conn.now in
     let new = state g.S.Store c.ask.new.conn in
     let h : Shown next_day_text (asked c.args.owner c.args.device c.args.from) old new [] =
-    rw (c.cell.ensures, c.cell-2.ensures, c.cell-3.ensures, c.from.ensures, c.from-2.ensures, c.get.ensures.value, c.get-2.ensures.value, c.in-None.is) at (c.in_ok-row.ensures.row live.0 ready.rest) in
+    rw (c.parameter.ensures, c.parameter-2.ensures, c.parameter-3.ensures, c.from.ensures, c.from-2.ensures, c.get.ensures.value, c.get-2.ensures.value, c.in-None.is) at (c.in_ok-row.ensures.row live.0 ready.rest) in
     next_day_none old new c.args.owner c.args.device c.args.from ready.rest.schema_is ready.fits.statements h
