@@ -1,5 +1,5 @@
 -- What the questions of a ledger find.
-use Rattle.std.proofs.Common.{◌≡◌, ◌⊎◌, inl, inr, ℕ, suc, pos, ◌==◌, ◌<◌, ◌||◌, nat_lt, Bool, true, false, List, [], ◌∷◌, map, filter, length, Option, Some, None, Ok, Err, Result, IfOk, refl, sym, ap, subst, ◌∙◌, arith}
+use Rattle.std.proofs.Common.{◌≡◌, ◌⊎◌, inl, inr, ℕ, suc, pos, ◌==◌, ◌<◌, ◌^◌, ◌||◌, nat_lt, nat_le, Bool, true, false, List, [], ◌∷◌, map, filter, length, Option, Some, None, Ok, Err, Result, IfOk, refl, sym, ap, subst, ◌∙◌, arith}
 use Rattle.std.specs.List.{AllByRecursion, flat_map}
 use Rattle.std.specs.List.Sorted.{IsPermutation}
 use Rattle.std.proofs.lemmas.Bool.{cases_Bool}
@@ -14,7 +14,8 @@ use Rattle.sqlite_sql.specs.declared.ops.CompareOp.TheVariants as cmp
 use Rattle.sqlite.specs.Collation.TheVariants.{Binary}
 use Rattle.std.specs.Ordering.{is_gt, int_cmp}
 use Rattle.sqlite_value.proofs.OrderLemmas.{value_cmp-Int}
-use Rattle.sqlite.specs.Query.{IsAnswer, matches_as, end, output, page, Output}
+use Rattle.sqlite.specs.Query.{IsAnswer, Query, matches_as, inner, end, output, page, Output}
+use Rattle.sqlite_sql.specs.Group.{IsGrouped}
 use Rattle.sqlite.specs.Program.{overlay}
 use Rattle.sqlite.specs.State.{State, QueriesRow, Shown}
 use Rattle.sqlite.proofs.Callers.{first_as, reads_as, one_permutation}
@@ -25,10 +26,14 @@ use Rattle.fare_tables.proofs.Terms.{chosen, matched, eq_holds, one_term, two_te
 use Rattle.fare_tables.proofs.Rows.{all_of, held_one}
 use Rattle.fare_tables.proofs.Counting.{found, count_answer}
 use Rattle.fare_ledger.specs.declared.lane.Lane.{Lane}
-use Rattle.fare_ledger.specs.Tables.{ledger_schema, lane_query, stated_terms, stated_query, day_terms, begun_terms}
+use Rattle.fare_ledger.specs.declared.order.Kind.TheVariants as kind
+use Rattle.fare_ledger.specs.declared.order.Order.{Order}
+use Rattle.fare_ledger.specs.Orders.{schema_in, tree_in, ours, at_tree}
+use Rattle.fare_ledger.proofs.Ordered.{each_low}
+use Rattle.fare_ledger.specs.Tables.{lane_query, stated_terms, stated_query, day_terms, begun_terms}
 use Rattle.fare_ledger.specs.Held.{TapRow, StatedRow, lane_row, IsLane, lane_of, tap_cells, tap_of, IsTap, stated_cells, stated_of, IsStated, is_of, stated_in, is_on, is_begun}
 use Rattle.fare_ledger.specs.Words.{AreApart}
-use Rattle.fare_ledger.proofs.Texts.{lane_text, lane_asked, lane_reads, lane_unlisted, stated_text, stated_asked, stated_reads, stated_unlisted, day_text, day_asked, day_reads, day_unlisted, begun_text, begun_asked, begun_reads, begun_unlisted, taps_text, taps_asked, taps_reads, taps_unlisted, statements_text, statements_asked, statements_reads, statements_unlisted}
+use Rattle.fare_ledger.proofs.Texts.{lane_text, lane_meant, stated_text, stated_meant, day_text, day_meant, begun_text, begun_meant, taps_text, taps_meant, statements_text, statements_meant}
 
 pub lane_ids : (r : Row) → IsLane r → column r 0 ≡ int (id_of r)
 lane_ids r ok = ap (λ x. column x 0) ok
@@ -43,6 +48,41 @@ total_is (Ok k) row size is shown low =
     let k_is : k ≡ counted size = ap nat_in (sym shown ∙ ap (λ r. column r 0) is) in
     grind (arith, nat_tests)
 total_is (Err e) row size is shown low = tt
+
+-- ---- a table, wherever its tree is
+
+-- the rows of a query over one table are read of that table alone
+pub moved : (q : Query) (tree number : ℕ) (db other : Trees) (params : Row) (rows : List Row) → overlay db [] tree ≡ other number → IsAnswer (at_tree tree q) (overlay db []) params rows → IsAnswer (at_tree number q) other params rows
+moved q tree number db other params rows same a = record {
+  staged = a.staged;
+  grouped = subst (λ (table : List Row). IsGrouped q.group params (matches_as Null (λ _. table) q.filter (inner 0 end) (params ∷ [])) a.staged) same a.grouped;
+  kept = a.kept;
+  distinct = a.distinct;
+  ordered = a.ordered;
+  same = a.same;
+  sorted = a.sorted;
+  shown = a.shown;
+}
+
+-- no tree is one of the tables that a statement computes
+over : (db : Trees) (tree : ℕ) → nat_le (2 ^ 31) tree ≡ false → overlay db [] tree ≡ db tree
+over db tree low = rw low refl
+
+pub at_meta : (w : Order) (q : Query) (db : Trees) (params : Row) (rows : List Row) → IsAnswer (at_tree (tree_in w kind.Meta) q) (overlay db []) params rows → IsAnswer (at_tree 0 q) (overlay (ours w db) []) params rows
+unfolding ours
+at_meta w q db params rows = moved q (tree_in w kind.Meta) 0 db (overlay (ours w db) []) params rows (over db (tree_in w kind.Meta) (each_low w).meta)
+
+pub at_lane : (w : Order) (q : Query) (db : Trees) (params : Row) (rows : List Row) → IsAnswer (at_tree (tree_in w kind.Lane) q) (overlay db []) params rows → IsAnswer (at_tree 1 q) (overlay (ours w db) []) params rows
+unfolding ours
+at_lane w q db params rows = moved q (tree_in w kind.Lane) 1 db (overlay (ours w db) []) params rows (over db (tree_in w kind.Lane) (each_low w).lane)
+
+pub at_tap : (w : Order) (q : Query) (db : Trees) (params : Row) (rows : List Row) → IsAnswer (at_tree (tree_in w kind.Tap) q) (overlay db []) params rows → IsAnswer (at_tree 2 q) (overlay (ours w db) []) params rows
+unfolding ours
+at_tap w q db params rows = moved q (tree_in w kind.Tap) 2 db (overlay (ours w db) []) params rows (over db (tree_in w kind.Tap) (each_low w).tap)
+
+pub at_stated : (w : Order) (q : Query) (db : Trees) (params : Row) (rows : List Row) → IsAnswer (at_tree (tree_in w kind.Stated) q) (overlay db []) params rows → IsAnswer (at_tree 4 q) (overlay (ours w db) []) params rows
+unfolding ours
+at_stated w q db params rows = moved q (tree_in w kind.Stated) 4 db (overlay (ours w db) []) params rows (over db (tree_in w kind.Stated) (each_low w).stated)
 
 -- ---- the numbers of a device
 
@@ -73,19 +113,19 @@ lane_answer db d rows ok a =
           inr (shown (o ∷ []) (one_permutation o a.ordered (subst (λ k. IsPermutation k a.ordered) kept a.same)) ∙ (λ i. (taken i ∷ closed i ∷ []) ∷ [])))
     ]
 
-pub lane_row_is : (old new : State) (d : ℕ) (row : Row) → old.now.schema ≡ ledger_schema → AreRows IsLane (old.now.trees 1) → QueriesRow lane_text (int d ∷ []) old new (Ok row) → row ≡ shown_lane (lane_of (held (old.now.trees 1) d))
-lane_row_is old new d row has ok h =
-    let got = (first_as lane_text (int d ∷ []) old new ledger_schema has _ lane_asked lane_reads.0 lane_unlisted row h).1 in
-    let a : IsAnswer lane_query (overlay old.now.trees []) (int d ∷ []) (row ∷ got.0) = got.1 Null in
-    elim (lane_answer old.now.trees d (row ∷ got.0) ok a) [
+pub lane_row_is : (w : Order) (old new : State) (d : ℕ) (row : Row) → old.now.schema ≡ schema_in w → AreRows IsLane (ours w old.now.trees 1) → QueriesRow lane_text (int d ∷ []) old new (Ok row) → row ≡ shown_lane (lane_of (held (ours w old.now.trees 1) d))
+lane_row_is w old new d row has ok h =
+    let got = (first_as lane_text (int d ∷ []) old new (schema_in w) has _ (lane_meant w).command_is (lane_meant w).plain (lane_meant w).unlisted row h).1 in
+    let a : IsAnswer lane_query (overlay (ours w old.now.trees) []) (int d ∷ []) (row ∷ got.0) = at_lane w lane_query old.now.trees (int d ∷ []) (row ∷ got.0) (got.1 Null) in
+    elim (lane_answer (ours w old.now.trees) d (row ∷ got.0) ok a) [
       | inl none ↦ absurd (let e = none.0 in cc)
       | inr one ↦ (let e = one in cc)
     ]
 
-pub lane_none : (old new : State) (d : ℕ) → old.now.schema ≡ ledger_schema → AreRows IsLane (old.now.trees 1) → Shown lane_text (int d ∷ []) old new [] → held (old.now.trees 1) d ≡ None
-lane_none old new d has ok shown =
-    let read = reads_as lane_text (int d ∷ []) old new ledger_schema has _ lane_asked lane_reads.0 lane_unlisted [] shown in
-    elim (lane_answer old.now.trees d [] ok (read.answer Null)) [
+pub lane_none : (w : Order) (old new : State) (d : ℕ) → old.now.schema ≡ schema_in w → AreRows IsLane (ours w old.now.trees 1) → Shown lane_text (int d ∷ []) old new [] → held (ours w old.now.trees 1) d ≡ None
+lane_none w old new d has ok shown =
+    let read = reads_as lane_text (int d ∷ []) old new (schema_in w) has _ (lane_meant w).command_is (lane_meant w).plain (lane_meant w).unlisted [] shown in
+    elim (lane_answer (ours w old.now.trees) d [] ok (at_lane w lane_query old.now.trees (int d ∷ []) [] (read.answer Null))) [
       | inl none ↦ none.1
       | inr one ↦ absurd (let e = one in cc)
     ]
@@ -140,12 +180,12 @@ said_answer db d y rows ok apart a =
           inr ((stated_of one.0).count, shown (o ∷ []) (one_permutation o a.ordered (subst (λ k. IsPermutation k a.ordered) kept a.same)) ∙ ap (λ v. (v ∷ []) ∷ []) count, one.3))
     ]
 
-pub said_row : (old new : State) (d y n : ℕ) (row : Row) → old.now.schema ≡ ledger_schema → AreRows IsStated (old.now.trees 4) → AreApart (map stated_of (old.now.trees 4)) → QueriesRow stated_text (asked d y) old new (Ok row) → column row 0 ≡ int n
-    → Some n ≡ stated_in (map stated_of (old.now.trees 4)) d y
-said_row old new d y n row has ok apart h is =
-    let got = (first_as stated_text (asked d y) old new ledger_schema has _ stated_asked stated_reads.0 stated_unlisted row h).1 in
-    let a : IsAnswer stated_query (overlay old.now.trees []) (asked d y) (row ∷ got.0) = got.1 Null in
-    elim (said_answer old.now.trees d y (row ∷ got.0) ok apart a) [
+pub said_row : (w : Order) (old new : State) (d y n : ℕ) (row : Row) → old.now.schema ≡ schema_in w → AreRows IsStated (ours w old.now.trees 4) → AreApart (map stated_of (ours w old.now.trees 4)) → QueriesRow stated_text (asked d y) old new (Ok row) → column row 0 ≡ int n
+    → Some n ≡ stated_in (map stated_of (ours w old.now.trees 4)) d y
+said_row w old new d y n row has ok apart h is =
+    let got = (first_as stated_text (asked d y) old new (schema_in w) has _ (stated_meant w).command_is (stated_meant w).plain (stated_meant w).unlisted row h).1 in
+    let a : IsAnswer stated_query (overlay (ours w old.now.trees) []) (asked d y) (row ∷ got.0) = at_stated w stated_query old.now.trees (asked d y) (row ∷ got.0) (got.1 Null) in
+    elim (said_answer (ours w old.now.trees) d y (row ∷ got.0) ok apart a) [
       | inl none ↦ absurd (let e = none.0 in cc)
       | inr one ↦ (
           let same : row ≡ int one.0 ∷ [] = let e = one.1 in cc in
@@ -153,11 +193,11 @@ said_row old new d y n row has ok apart h is =
           ap {B = Option ℕ} Some number ∙ sym one.2)
     ]
 
-pub said_none : (old new : State) (d y : ℕ) → old.now.schema ≡ ledger_schema → AreRows IsStated (old.now.trees 4) → AreApart (map stated_of (old.now.trees 4)) → Shown stated_text (asked d y) old new []
-    → None ≡ stated_in (map stated_of (old.now.trees 4)) d y
-said_none old new d y has ok apart shown =
-    let read = reads_as stated_text (asked d y) old new ledger_schema has _ stated_asked stated_reads.0 stated_unlisted [] shown in
-    elim (said_answer old.now.trees d y [] ok apart (read.answer Null)) [
+pub said_none : (w : Order) (old new : State) (d y : ℕ) → old.now.schema ≡ schema_in w → AreRows IsStated (ours w old.now.trees 4) → AreApart (map stated_of (ours w old.now.trees 4)) → Shown stated_text (asked d y) old new []
+    → None ≡ stated_in (map stated_of (ours w old.now.trees 4)) d y
+said_none w old new d y has ok apart shown =
+    let read = reads_as stated_text (asked d y) old new (schema_in w) has _ (stated_meant w).command_is (stated_meant w).plain (stated_meant w).unlisted [] shown in
+    elim (said_answer (ours w old.now.trees) d y [] ok apart (at_stated w stated_query old.now.trees (asked d y) [] (read.answer Null))) [
       | inl none ↦ sym none.1
       | inr one ↦ absurd (let e = one.1 in cc)
     ]
@@ -170,16 +210,16 @@ day_cell id t d y = rw (eq_holds t.device d, eq_holds t.tap.day y) (two_terms (t
 day_each : (d y : ℕ) (r : Row) → IsTap r → matches_as Null (λ _. []) day_terms end (asked d y ∷ r ∷ []) ≡ chosen (is_on d y (tap_of r)) (asked d y ∷ r ∷ [])
 day_each d y r ok = subst (λ x. matches_as Null (λ _. []) day_terms end (asked d y ∷ x ∷ []) ≡ chosen (is_on d y (tap_of x)) (asked d y ∷ x ∷ [])) (sym ok) (day_cell (id_of r) (tap_of r) d y)
 
-pub day_counted : (old new : State) (d y : ℕ) (row : Row) → old.now.schema ≡ ledger_schema → AreRows IsTap (old.now.trees 2) → QueriesRow day_text (asked d y) old new (Ok row) → row ≡ int (counted (length (filter (is_on d y) (map tap_of (old.now.trees 2))))) ∷ []
-day_counted old new d y row has ok h =
-    let got = (first_as day_text (asked d y) old new ledger_schema has _ day_asked day_reads.0 day_unlisted row h).1 in
-    let a : IsAnswer (count_query 2 day_terms) (overlay old.now.trees []) (asked d y) (row ∷ got.0) = got.1 Null in
-    let rows = count_answer 2 day_terms (overlay old.now.trees []) (asked d y) (row ∷ got.0) a in
-    let first : row ≡ int (counted (length (found 2 day_terms (overlay old.now.trees []) (asked d y)))) ∷ [] = cc in
-    let all = matched IsTap (λ r. is_on d y (tap_of r)) (asked d y) day_terms (day_each d y) (old.now.trees 2) (all_of IsTap (old.now.trees 2) ok) in
-    let some = filter (λ r. is_on d y (tap_of r)) (old.now.trees 2) in
-    let size : length (found 2 day_terms (overlay old.now.trees []) (asked d y)) ≡ length (filter (is_on d y) (map tap_of (old.now.trees 2))) =
-    ap length all ∙ length-map some (λ r. asked d y ∷ r ∷ []) ∙ sym (length-map some tap_of) ∙ sym (ap length (filter_of_map tap_of (is_on d y) (old.now.trees 2))) in
+pub day_counted : (w : Order) (old new : State) (d y : ℕ) (row : Row) → old.now.schema ≡ schema_in w → AreRows IsTap (ours w old.now.trees 2) → QueriesRow day_text (asked d y) old new (Ok row) → row ≡ int (counted (length (filter (is_on d y) (map tap_of (ours w old.now.trees 2))))) ∷ []
+day_counted w old new d y row has ok h =
+    let got = (first_as day_text (asked d y) old new (schema_in w) has _ (day_meant w).command_is (day_meant w).plain (day_meant w).unlisted row h).1 in
+    let a : IsAnswer (count_query 2 day_terms) (overlay (ours w old.now.trees) []) (asked d y) (row ∷ got.0) = at_tap w (count_query 2 day_terms) old.now.trees (asked d y) (row ∷ got.0) (got.1 Null) in
+    let rows = count_answer 2 day_terms (overlay (ours w old.now.trees) []) (asked d y) (row ∷ got.0) a in
+    let first : row ≡ int (counted (length (found 2 day_terms (overlay (ours w old.now.trees) []) (asked d y)))) ∷ [] = cc in
+    let all = matched IsTap (λ r. is_on d y (tap_of r)) (asked d y) day_terms (day_each d y) (ours w old.now.trees 2) (all_of IsTap (ours w old.now.trees 2) ok) in
+    let some = filter (λ r. is_on d y (tap_of r)) (ours w old.now.trees 2) in
+    let size : length (found 2 day_terms (overlay (ours w old.now.trees) []) (asked d y)) ≡ length (filter (is_on d y) (map tap_of (ours w old.now.trees 2))) =
+    ap length all ∙ length-map some (λ r. asked d y ∷ r ∷ []) ∙ sym (length-map some tap_of) ∙ sym (ap length (filter_of_map tap_of (is_on d y) (ours w old.now.trees 2))) in
     first ∙ ap (λ n. int (counted n) ∷ []) size
 
 or_truth : (a b : Bool) → is_true (binary by.Or (from_truth (Some a)) (from_truth (Some b))) ≡ (a || b)
@@ -202,31 +242,31 @@ begun_cell id k c = rw (or_holds k c) (one_term (nat_lt 0 k || nat_lt 0 c) ([] �
 begun_each : (r : Row) → IsLane r → matches_as Null (λ _. []) begun_terms end ([] ∷ r ∷ []) ≡ chosen (is_begun r) ([] ∷ r ∷ [])
 begun_each r ok = subst (λ x. matches_as Null (λ _. []) begun_terms end ([] ∷ x ∷ []) ≡ chosen (is_begun x) ([] ∷ x ∷ [])) (sym ok) (begun_cell (id_of r) (nat_in (column r 2)) (nat_in (column r 3)))
 
-pub begun_counted : (old new : State) (row : Row) → old.now.schema ≡ ledger_schema → AreRows IsLane (old.now.trees 1) → QueriesRow begun_text [] old new (Ok row) → row ≡ int (counted (length (filter is_begun (old.now.trees 1)))) ∷ []
-begun_counted old new row has ok h =
-    let got = (first_as begun_text [] old new ledger_schema has _ begun_asked begun_reads.0 begun_unlisted row h).1 in
-    let a : IsAnswer (count_query 1 begun_terms) (overlay old.now.trees []) [] (row ∷ got.0) = got.1 Null in
-    let rows = count_answer 1 begun_terms (overlay old.now.trees []) [] (row ∷ got.0) a in
-    let first : row ≡ int (counted (length (found 1 begun_terms (overlay old.now.trees []) []))) ∷ [] = cc in
-    let all = matched IsLane is_begun [] begun_terms begun_each (old.now.trees 1) (all_of IsLane (old.now.trees 1) ok) in
-    first ∙ ap (λ n. int (counted n) ∷ []) (ap length all ∙ length-map (filter is_begun (old.now.trees 1)) (λ r. [] ∷ r ∷ []))
+pub begun_counted : (w : Order) (old new : State) (row : Row) → old.now.schema ≡ schema_in w → AreRows IsLane (ours w old.now.trees 1) → QueriesRow begun_text [] old new (Ok row) → row ≡ int (counted (length (filter is_begun (ours w old.now.trees 1)))) ∷ []
+begun_counted w old new row has ok h =
+    let got = (first_as begun_text [] old new (schema_in w) has _ (begun_meant w).command_is (begun_meant w).plain (begun_meant w).unlisted row h).1 in
+    let a : IsAnswer (count_query 1 begun_terms) (overlay (ours w old.now.trees) []) [] (row ∷ got.0) = at_lane w (count_query 1 begun_terms) old.now.trees [] (row ∷ got.0) (got.1 Null) in
+    let rows = count_answer 1 begun_terms (overlay (ours w old.now.trees) []) [] (row ∷ got.0) a in
+    let first : row ≡ int (counted (length (found 1 begun_terms (overlay (ours w old.now.trees) []) []))) ∷ [] = cc in
+    let all = matched IsLane is_begun [] begun_terms begun_each (ours w old.now.trees 1) (all_of IsLane (ours w old.now.trees 1) ok) in
+    first ∙ ap (λ n. int (counted n) ∷ []) (ap length all ∙ length-map (filter is_begun (ours w old.now.trees 1)) (λ r. [] ∷ r ∷ []))
 
 all_found : (rows : List Row) → length (flat_map (λ r. matches_as Null (λ _. []) [] end ([] ∷ r ∷ [])) rows) ≡ length rows
 all_found [] = refl
 all_found (r ∷ rows) = ap (λ n. suc n) (all_found rows)
 
-pub taps_counted : (old new : State) (row : Row) → old.now.schema ≡ ledger_schema → QueriesRow taps_text [] old new (Ok row) → row ≡ int (counted (length (map tap_of (old.now.trees 2)))) ∷ []
-taps_counted old new row has h =
-    let got = (first_as taps_text [] old new ledger_schema has _ taps_asked taps_reads.0 taps_unlisted row h).1 in
-    let a : IsAnswer (count_query 2 []) (overlay old.now.trees []) [] (row ∷ got.0) = got.1 Null in
-    let rows = count_answer 2 [] (overlay old.now.trees []) [] (row ∷ got.0) a in
-    let first : row ≡ int (counted (length (found 2 [] (overlay old.now.trees []) []))) ∷ [] = cc in
-    first ∙ ap (λ n. int (counted n) ∷ []) (all_found (old.now.trees 2) ∙ sym (length-map (old.now.trees 2) tap_of))
+pub taps_counted : (w : Order) (old new : State) (row : Row) → old.now.schema ≡ schema_in w → QueriesRow taps_text [] old new (Ok row) → row ≡ int (counted (length (map tap_of (ours w old.now.trees 2)))) ∷ []
+taps_counted w old new row has h =
+    let got = (first_as taps_text [] old new (schema_in w) has _ (taps_meant w).command_is (taps_meant w).plain (taps_meant w).unlisted row h).1 in
+    let a : IsAnswer (count_query 2 []) (overlay (ours w old.now.trees) []) [] (row ∷ got.0) = at_tap w (count_query 2 []) old.now.trees [] (row ∷ got.0) (got.1 Null) in
+    let rows = count_answer 2 [] (overlay (ours w old.now.trees) []) [] (row ∷ got.0) a in
+    let first : row ≡ int (counted (length (found 2 [] (overlay (ours w old.now.trees) []) []))) ∷ [] = cc in
+    first ∙ ap (λ n. int (counted n) ∷ []) (all_found (ours w old.now.trees 2) ∙ sym (length-map (ours w old.now.trees 2) tap_of))
 
-pub statements_counted : (old new : State) (row : Row) → old.now.schema ≡ ledger_schema → QueriesRow statements_text [] old new (Ok row) → row ≡ int (counted (length (map stated_of (old.now.trees 4)))) ∷ []
-statements_counted old new row has h =
-    let got = (first_as statements_text [] old new ledger_schema has _ statements_asked statements_reads.0 statements_unlisted row h).1 in
-    let a : IsAnswer (count_query 4 []) (overlay old.now.trees []) [] (row ∷ got.0) = got.1 Null in
-    let rows = count_answer 4 [] (overlay old.now.trees []) [] (row ∷ got.0) a in
-    let first : row ≡ int (counted (length (found 4 [] (overlay old.now.trees []) []))) ∷ [] = cc in
-    first ∙ ap (λ n. int (counted n) ∷ []) (all_found (old.now.trees 4) ∙ sym (length-map (old.now.trees 4) stated_of))
+pub statements_counted : (w : Order) (old new : State) (row : Row) → old.now.schema ≡ schema_in w → QueriesRow statements_text [] old new (Ok row) → row ≡ int (counted (length (map stated_of (ours w old.now.trees 4)))) ∷ []
+statements_counted w old new row has h =
+    let got = (first_as statements_text [] old new (schema_in w) has _ (statements_meant w).command_is (statements_meant w).plain (statements_meant w).unlisted row h).1 in
+    let a : IsAnswer (count_query 4 []) (overlay (ours w old.now.trees) []) [] (row ∷ got.0) = at_stated w (count_query 4 []) old.now.trees [] (row ∷ got.0) (got.1 Null) in
+    let rows = count_answer 4 [] (overlay (ours w old.now.trees) []) [] (row ∷ got.0) a in
+    let first : row ≡ int (counted (length (found 4 [] (overlay (ours w old.now.trees) []) []))) ∷ [] = cc in
+    first ∙ ap (λ n. int (counted n) ∷ []) (all_found (ours w old.now.trees 4) ∙ sym (length-map (ours w old.now.trees 4) stated_of))

@@ -1,4 +1,6 @@
 pub mod Texts
+pub mod Ordered
+pub mod Made
 pub mod Found
 pub mod Links
 pub mod Puts

@@ -1,5 +1,5 @@
 -- What the upsert of a device's numbers makes of the lanes.
-use Rattle.std.proofs.Common.{◌≡◌, ◌⊎◌, inl, inr, ℕ, ◌==◌, ◌&&◌, ◌||◌, ℤ, pos, List, [], ◌∷◌, map, filter, Bool, true, false, Option, Some, None, Ok, refl, sym, ap, subst, ◌∙◌, arith}
+use Rattle.std.proofs.Common.{◌≡◌, ◌≢◌, ◌⊎◌, inl, inr, ℕ, ◌==◌, ◌&&◌, ◌||◌, ℤ, pos, List, [], ◌∷◌, map, filter, Bool, true, false, Option, Some, None, Ok, refl, sym, ap, subst, ◌∙◌, arith}
 use Rattle.std.specs.List.Sorted.{IsPermutation}
 use Rattle.std.proofs.lemmas.Bool.{cases_Bool}
 use Rattle.std.proofs.lemmas.Bool.Decides.{nat_tests}
@@ -20,7 +20,6 @@ use Rattle.sqlite_schema.specs.declared.command.Conflict.TheVariants.{Abort}
 use Rattle.sqlite_schema.specs.declared.command.Upsert.{Upsert}
 use Rattle.sqlite_rules.specs.Calls.{ids_of}
 use Rattle.sqlite.specs.Source.TheVariants.{Values}
-use Rattle.sqlite.specs.Command.TheVariants.{InsertOr}
 use Rattle.sqlite.specs.Does.{Does}
 use Rattle.sqlite.specs.Listing.{understood}
 use Rattle.sqlite.specs.Effect.{Database}
@@ -34,10 +33,14 @@ use Rattle.fare_tables.proofs.Lists.{member, of_filter}
 use Rattle.fare_tables.proofs.Rows.{all_of, held_one}
 use Rattle.fare_tables.proofs.Statements.{made, cast_int, cast_null, went, same_value}
 use Rattle.fare_tables.proofs.Terms.{chosen, matched, eq_holds, one_term}
-use Rattle.fare_ledger.specs.Tables.{ledger_schema, lane_table, renew_query}
+use Rattle.fare_ledger.specs.declared.order.Kind.TheVariants.{Lane}
+use Rattle.fare_ledger.specs.declared.order.Order.{Order}
+use Rattle.fare_ledger.specs.Orders.{schema_in, tree_in, ours, at_tree}
+use Rattle.fare_ledger.specs.Tables.{lane_table, renew_query}
 use Rattle.fare_ledger.specs.Held.{PutsLane, lane_row, IsLane}
-use Rattle.fare_ledger.proofs.Texts.{lane_terms, put_lane_text, put_lane_is, put_lane_plain}
-use Rattle.fare_ledger.proofs.Found.{lane_ids}
+use Rattle.fare_ledger.proofs.Texts.{lane_terms, put_lane_text, put_lane_command, put_lane_meant}
+use Rattle.fare_ledger.proofs.Ordered.{no_works, no_shares, lane_placed, each, at_found, tap_is_not_lane, stated_is_not_lane, meta_is_not_lane}
+use Rattle.fare_ledger.proofs.Found.{lane_ids, at_lane}
 
 -- ---- the row that the update reads
 
@@ -78,97 +81,102 @@ renews db d k c x rows ok has is a =
 
 -- ---- the conflict
 
-conflict_of : (a v w d k c : ℕ) → conflicts (Some (0 ∷ [])) ledger_schema.indexes (lane_table 1) (lane_row d k c) (lane_row a v w) ≡ (a == d)
-unfolding ledger_schema first_key
-conflict_of a v w d k c = rw (eq_holds a d) (go (a == d))
+conflict_of : (way : Order) (a v w d k c : ℕ) → conflicts (Some (0 ∷ [])) (schema_in way).indexes (lane_table (tree_in way Lane)) (lane_row d k c) (lane_row a v w) ≡ (a == d)
+unfolding first_key
+conflict_of way a v w d k c = rw (no_shares way (lane_row d k c) (lane_row a v w), eq_holds a d) (go (a == d))
   where
     go : (b : Bool) → ((b && true) || false) ≡ b
     go true = refl
     go false = refl
 
-conflict_id : (r : Row) (d k c : ℕ) → IsLane r → conflicts (Some (0 ∷ [])) ledger_schema.indexes (lane_table 1) (lane_row d k c) r ≡ true → id_of r ≡ d
-conflict_id r d k c ok is =
-    let same : (id_of r == d) ≡ true = sym (conflict_of (id_of r) (nat_in (column r 2)) (nat_in (column r 3)) d k c) ∙ subst (λ x. conflicts (Some (0 ∷ [])) ledger_schema.indexes (lane_table 1) (lane_row d k c) x ≡ true) ok is in
+conflict_id : (way : Order) (r : Row) (d k c : ℕ) → IsLane r → conflicts (Some (0 ∷ [])) (schema_in way).indexes (lane_table (tree_in way Lane)) (lane_row d k c) r ≡ true → id_of r ≡ d
+conflict_id way r d k c ok is =
+    let same : (id_of r == d) ≡ true = sym (conflict_of way (id_of r) (nat_in (column r 2)) (nat_in (column r 3)) d k c) ∙ subst (λ x. conflicts (Some (0 ∷ [])) (schema_in way).indexes (lane_table (tree_in way Lane)) (lane_row d k c) x ≡ true) ok is in
     grind (arith, nat_tests)
 
 -- ---- the ways to put the row in
 
-abbrev pub IsPut : Trees → Trees → ℕ → ℕ → ℕ → Type 0
-IsPut db next d k c =
-    ((next 1 ≡ put_row (lane_row d k c) (db 1)) ⊎ (next 1 ≡ put_row (lane_row d k c) (without_rowid (pos d) (db 1)))) × (next 0 ≡ db 0) × (next 2 ≡ db 2) × (next 4 ≡ db 4)
+abbrev pub IsPut : Order → Trees → Trees → ℕ → ℕ → ℕ → Type 0
+IsPut way db next d k c =
+    ((ours way next 1 ≡ put_row (lane_row d k c) (ours way db 1)) ⊎ (ours way next 1 ≡ put_row (lane_row d k c) (without_rowid (pos d) (ours way db 1)))) × (ours way next 0 ≡ ours way db 0) × (ours way next 2 ≡ ours way db 2) × (ours way next 4 ≡ ours way db 4)
 
-module _ (limit : Option ℕ) (keys : Keys) (d k c : ℕ) where
+module _ (way : Order) (limit : Option ℕ) (keys : Keys) (d k c : ℕ) where
   abbrev pub task : Task
-  task = record { limit = limit; keys = keys; schema = ledger_schema; table = lane_table 1; params = int d ∷ int k ∷ int c ∷ [] }
+  task = record { limit = limit; keys = keys; schema = schema_in way; table = lane_table (tree_in way Lane); params = int d ∷ int k ∷ int c ∷ [] }
 
-  puts : (db : Trees) (w : Written) → Puts task (lane_row d k c) db (Ok w) → IsPut db w.trees d k c
-  unfolding ledger_schema
+  puts : (db : Trees) (w : Written) → Puts task (lane_row d k c) db (Ok w) → IsPut way db w.trees d k c
+  unfolding ours
   puts db w h =
       let it = went h in
-      let edit = edit_of db (lane_table 1) [] Given 0 (lane_row d k c ∷ []) in
+      let edit = edit_of db (lane_table (tree_in way Lane)) [] Given 0 (lane_row d k c ∷ []) in
       let next : w.trees ≡ it.0 = ap (λ (x : Written). x.trees) (same_value it.2) in
-      let step = one_step ledger_schema keys db it.0 edit refl it.1 in
-      let is : edited db edit ≡ put_row (lane_row d k c) (db 1) = simp (cast_int, cast_null) in (
-        inl (ap (λ (t : Trees). t 1) next ∙ step.rows ∙ is),
-        ap (λ (t : Trees). t 0) next ∙ step.tables.0 (λ e. let e = e in omega arith),
-        ap (λ (t : Trees). t 2) next ∙ step.tables.1.1.0 (λ e. let e = e in omega arith),
-        ap (λ (t : Trees). t 4) next ∙ step.tables.1.1.1.0 (λ e. let e = e in omega arith),
+      let step = one_step (schema_in way) keys db it.0 edit (no_works way keys db edit) it.1 in
+      let kept = each (λ tree. tree ≢ tree_in way Lane → it.0 tree ≡ db tree) way step.tables in
+      let is : edited db edit ≡ put_row (lane_row d k c) (ours way db 1) = simp (cast_int, cast_null) in (
+        inl (ap (λ (t : Trees). ours way t 1) next ∙ step.rows ∙ is),
+        ap (λ (t : Trees). ours way t 0) next ∙ kept.meta (meta_is_not_lane way),
+        ap (λ (t : Trees). ours way t 2) next ∙ kept.tap (tap_is_not_lane way),
+        ap (λ (t : Trees). ours way t 4) next ∙ kept.stated (stated_is_not_lane way),
       )
 
-  clears : (db : Trees) (w : Written) (found : List Row) → Clears task Abort (lane_row d k c) db found (Ok w) → IsPut db w.trees d k c
+  clears : (db : Trees) (w : Written) (found : List Row) → Clears task Abort (lane_row d k c) db found (Ok w) → IsPut way db w.trees d k c
   clears db w [] h = puts db w h
   clears db w (x ∷ more) h = puts db w h
 
-  updates : (db : Trees) (w : Written) (x : Row) → AreRows IsLane (db 1) → Has (db 1) x → id_of x ≡ d → Updates task (record { lets = []; body = renew_query }) (given d k c) db (Ok w) → IsPut db w.trees d k c
-  unfolding ledger_schema
+  updates : (db : Trees) (w : Written) (x : Row) → AreRows IsLane (ours way db 1) → Has (ours way db 1) x → id_of x ≡ d → Updates task (record { lets = []; body = at_tree (tree_in way Lane) renew_query }) (given d k c) db (Ok w) → IsPut way db w.trees d k c
+  unfolding ours
   updates db w x ok has is h =
       let it = went h in
-      let rows : it.0 ≡ (int d ∷ int d ∷ Null ∷ int k ∷ int c ∷ []) ∷ [] = renews db d k c x it.0 ok has is (it.1.answer Null) in
-      let edit = edit_of db (lane_table 1) (ids_of it.0) Given 1 it.0 in
+      let rows : it.0 ≡ (int d ∷ int d ∷ Null ∷ int k ∷ int c ∷ []) ∷ [] = renews (ours way db) d k c x it.0 ok has is (at_lane way renew_query db (given d k c) it.0 (it.1.answer Null)) in
+      let edit = edit_of db (lane_table (tree_in way Lane)) (ids_of it.0) Given 1 it.0 in
       let done = went it.2 in
       let next : w.trees ≡ done.0 = ap (λ (x : Written). x.trees) (same_value done.2) in
-      let step = one_step ledger_schema keys db done.0 edit refl done.1 in
-      let is : edited db edit ≡ put_row (lane_row d k c) (without_rowid (pos d) (db 1)) = ap (λ all. edited db (edit_of db (lane_table 1) (ids_of all) Given 1 all)) rows ∙ simp (cast_int, cast_null) in (
-        inr (ap (λ (t : Trees). t 1) next ∙ step.rows ∙ is),
-        ap (λ (t : Trees). t 0) next ∙ step.tables.0 (λ e. let e = e in omega arith),
-        ap (λ (t : Trees). t 2) next ∙ step.tables.1.1.0 (λ e. let e = e in omega arith),
-        ap (λ (t : Trees). t 4) next ∙ step.tables.1.1.1.0 (λ e. let e = e in omega arith),
+      let step = one_step (schema_in way) keys db done.0 edit (no_works way keys db edit) done.1 in
+      let kept = each (λ tree. tree ≢ tree_in way Lane → done.0 tree ≡ db tree) way step.tables in
+      let is : edited db edit ≡ put_row (lane_row d k c) (without_rowid (pos d) (ours way db 1)) = ap (λ all. edited db (edit_of db (lane_table (tree_in way Lane)) (ids_of all) Given 1 all)) rows ∙ simp (cast_int, cast_null) in (
+        inr (ap (λ (t : Trees). ours way t 1) next ∙ step.rows ∙ is),
+        ap (λ (t : Trees). ours way t 0) next ∙ kept.meta (meta_is_not_lane way),
+        ap (λ (t : Trees). ours way t 2) next ∙ kept.tap (tap_is_not_lane way),
+        ap (λ (t : Trees). ours way t 4) next ∙ kept.stated (stated_is_not_lane way),
       )
 
   abbrev clause : Upsert
-  clause = record { target = Some (0 ∷ []); update = Some (record { lets = []; body = renew_query }) }
+  clause = record { target = Some (0 ∷ []); update = Some (record { lets = []; body = at_tree (tree_in way Lane) renew_query }) }
 
-  meets : (db : Trees) (w : Written) (found : List Row) → AreRows IsLane (db 1) → AreConflicts (Some (0 ∷ [])) ledger_schema.indexes (lane_table 1) (db 1) (lane_row d k c) found
-      → Meets task (Upserts task Abort (lane_row d k c) db []) (lane_row d k c) db clause found (Ok w) → IsPut db w.trees d k c
+  meets : (db : Trees) (w : Written) (found : List Row) → AreRows IsLane (ours way db 1) → AreConflicts (Some (0 ∷ [])) (schema_in way).indexes (lane_table (tree_in way Lane)) (ours way db 1) (lane_row d k c) found
+      → Meets task (Upserts task Abort (lane_row d k c) db []) (lane_row d k c) db clause found (Ok w) → IsPut way db w.trees d k c
+  unfolding ours
   meets db w [] ok all h = clears db w h.0 h.2
   meets db w (there ∷ more) ok all h =
       let it = all.sound there (inl refl) in
-      let id : id_of it.0 ≡ d = conflict_id it.0 d k c (member IsLane (db 1) it.0 (all_of IsLane (db 1) ok) it.1) it.2 in
-      let at : rowid there ≡ int d = ap rowid it.3 ∙ ap rowid (member IsLane (db 1) it.0 (all_of IsLane (db 1) ok) it.1) ∙ ap int id in
-      updates db w it.0 ok it.1 id (subst (λ v. Updates task (record { lets = []; body = renew_query }) (int d ∷ int k ∷ int c ∷ v ∷ int d ∷ int d ∷ int k ∷ int c ∷ []) db (Ok w)) at h)
+      let id : id_of it.0 ≡ d = conflict_id way it.0 d k c (member IsLane (ours way db 1) it.0 (all_of IsLane (ours way db 1) ok) it.1) it.2 in
+      let at : rowid there ≡ int d = ap rowid it.3 ∙ ap rowid (member IsLane (ours way db 1) it.0 (all_of IsLane (ours way db 1) ok) it.1) ∙ ap int id in
+      updates db w it.0 ok it.1 id (subst (λ v. Updates task (record { lets = []; body = at_tree (tree_in way Lane) renew_query }) (int d ∷ int k ∷ int c ∷ v ∷ int d ∷ int d ∷ int k ∷ int c ∷ []) db (Ok w)) at h)
 
-  upserts : (db : Trees) (w : Written) → AreRows IsLane (db 1) → Upserts task Abort (lane_row d k c) db (clause ∷ []) (Ok w) → IsPut db w.trees d k c
+  upserts : (db : Trees) (w : Written) → AreRows IsLane (ours way db 1) → Upserts task Abort (lane_row d k c) db (clause ∷ []) (Ok w) → IsPut way db w.trees d k c
+  unfolding ours
   upserts db w ok h = meets db w h.0 ok h.1 h.2
 
-  judged : (db : Trees) (w : Written) (verdict : Option Refusal) → AreRows IsLane (db 1) → Judged task Abort (clause ∷ []) (lane_row d k c) db verdict (Ok w) → IsPut db w.trees d k c
+  judged : (db : Trees) (w : Written) (verdict : Option Refusal) → AreRows IsLane (ours way db 1) → Judged task Abort (clause ∷ []) (lane_row d k c) db verdict (Ok w) → IsPut way db w.trees d k c
   judged db w None ok h = upserts db w ok h
   judged db w (Some why) ok h = absurd (let e = h in cc)
 
-  tries : (db : Trees) (w : Written) → AreRows IsLane (db 1) → Tries task Abort (clause ∷ []) (lane_row d k c) db (Ok w) → IsPut db w.trees d k c
+  tries : (db : Trees) (w : Written) → AreRows IsLane (ours way db 1) → Tries task Abort (clause ∷ []) (lane_row d k c) db (Ok w) → IsPut way db w.trees d k c
   tries db w ok (inl h) = absurd (let e = h.1 in cc)
   tries db w ok (inr h) = judged db w h.0 ok h.2
 
-  new_given : (rows : List Row) (top : ℤ) → with_rowid (rowids_for (lane_table 1) top) rows (cast_row (lane_table 1) (lane_row d k c)) ≡ lane_row d k c
+  new_given : (rows : List Row) (top : ℤ) → with_rowid (rowids_for (lane_table (tree_in way Lane)) top) rows (cast_row (lane_table (tree_in way Lane)) (lane_row d k c)) ≡ lane_row d k c
   new_given rows top = simp (cast_int, cast_null)
 
-  tries_each : (db : Trees) (done : Written × ℤ) (top : ℤ) → AreRows IsLane (db 1) → TriesEach task Abort (clause ∷ []) (lane_row d k c ∷ []) top (nothing db) (Ok done) → IsPut db done.0.trees d k c
+  tries_each : (db : Trees) (done : Written × ℤ) (top : ℤ) → AreRows IsLane (ours way db 1) → TriesEach task Abort (clause ∷ []) (lane_row d k c ∷ []) top (nothing db) (Ok done) → IsPut way db done.0.trees d k c
+  unfolding ours
   tries_each db done top ok h =
       let it = went h in
       let end : done.0.trees ≡ it.0.trees = ap (λ (x : Written × ℤ). x.0.trees) (same_value it.2) in
-      let went_in = tries db it.0 ok (subst (λ new. Tries task Abort (clause ∷ []) new db (Ok it.0)) (new_given (db 1) top) it.1) in
-      subst (λ t. IsPut db t d k c) (sym end) went_in
+      let went_in = tries db it.0 ok (subst (λ new. Tries task Abort (clause ∷ []) new db (Ok it.0)) (new_given (ours way db 1) top) it.1) in
+      subst (λ t. IsPut way db t d k c) (sym end) went_in
 
-  pub inserts_or : (db : Trees) (w : Written) → AreRows IsLane (db 1) → InsertsOr task Abort (clause ∷ []) (Values lane_terms 4) db (Ok w) → IsPut db w.trees d k c
+  pub inserts_or : (db : Trees) (w : Written) → AreRows IsLane (ours way db 1) → InsertsOr task Abort (clause ∷ []) (Values lane_terms 4) db (Ok w) → IsPut way db w.trees d k c
   inserts_or db w ok h =
       let rows = went h in
       let counter = went rows.2 in
@@ -176,16 +184,16 @@ module _ (limit : Option ℕ) (keys : Keys) (d k c : ℕ) where
       let counted = went tried.2 in
       let put = tries_each db tried.0 _ ok (subst (λ all. TriesEach task Abort (clause ∷ []) all (count_of counter.0) (nothing db) (Ok tried.0)) rows.1.1 tried.1) in
       let end : w.trees ≡ tried.0.0.trees = ap (λ (x : Written). x.trees) (same_value counted.2) ∙ same_value counted.1 in
-      subst (λ t. IsPut db t d k c) (sym end) put
+      subst (λ t. IsPut way db t d k c) (sym end) put
 
-pub puts_lane : (old new : State) (d k c : ℕ) (count : ℕ) → old.now.schema ≡ ledger_schema → AreRows IsLane (old.now.trees 1) → Executes put_lane_text (int d ∷ int k ∷ int c ∷ []) old new (Ok count) → PutsLane old.now new.now d k c
-unfolding ledger_schema
-puts_lane old new d k c count has ok h =
+pub puts_lane : (way : Order) (old new : State) (d k c : ℕ) (count : ℕ) → old.now.schema ≡ schema_in way → AreRows IsLane (ours way old.now.trees 1) → Executes put_lane_text (int d ∷ int k ∷ int c ∷ []) old new (Ok count) → PutsLane way old.now new.now d k c
+puts_lane way old new d k c count has ok h =
     let params = int d ∷ int k ∷ int c ∷ [] in
-    let command = InsertOr 1 Abort (Values lane_terms 4) (clause old.step_limit Enforced d k c ∷ []) in
-    let w = runs_as put_lane_text params old new ledger_schema has command put_lane_is put_lane_plain count h in
-    let text = statement_of put_lane_text (understood ledger_schema put_lane_text) in
-    let done = made (task old.step_limit Enforced d k c) (mode_of old) command old.now.trees w.tally new.now (subst (λ s. Does old.step_limit (mode_of old) params (record old.now { schema = s }) text None command (Ok (w.tally, new.now))) has w.changed) in
-    let put = inserts_or old.step_limit Enforced d k c old.now.trees done.written ok done.wrote in
-    let trees = subst (λ t. IsPut old.now.trees t d k c) (sym (ap (λ (d : Database). d.trees) done.after_is)) put in
+    let command = put_lane_command way in
+    let means = put_lane_meant way in
+    let run = runs_as put_lane_text params old new (schema_in way) has command means.command_is means.plain count h in
+    let text = statement_of put_lane_text (understood (schema_in way) put_lane_text) in
+    let done = made (task way old.step_limit Enforced d k c) (mode_of old) command old.now.trees run.tally new.now (at_found (task way old.step_limit Enforced d k c) (mode_of old) command old.now.trees _ (run.tally, new.now) (lane_placed way) (subst (λ s. Does old.step_limit (mode_of old) params (record old.now { schema = s }) text None command (Ok (run.tally, new.now))) has run.changed)) in
+    let put = inserts_or way old.step_limit Enforced d k c old.now.trees done.written ok done.wrote in
+    let trees = subst (λ t. IsPut way old.now.trees t d k c) (sym (ap (λ (d : Database). d.trees) done.after_is)) put in
     record { schema = ap (λ (d : Database). d.schema) done.after_is; lanes = trees.0; taps = trees.2; statements = trees.3 }

@@ -22,11 +22,13 @@ use Rattle.fare_record.specs.Values.{RecordValue}
 use Rattle.fare_tables.specs.Cells.{nat_in, int, id_of, AreRows}
 use Rattle.fare_tables.proofs.Terms.{chosen, matched, shown_as, ge_holds, le_holds, two_terms}
 use Rattle.fare_tables.proofs.Rows.{all_of}
-use Rattle.fare_ledger.specs.Tables.{ledger_schema, between_terms, between_query}
+use Rattle.fare_ledger.specs.declared.order.Order.{Order}
+use Rattle.fare_ledger.specs.Orders.{schema_in, ours}
+use Rattle.fare_ledger.specs.Tables.{between_terms, between_query}
 use Rattle.fare_ledger.specs.Held.{TapRow, tap_cells, tap_of, IsTap, is_between, tap_order, AreListed, IsListedOf, record_of}
 use Rattle.fare_ledger.specs.Shown.{ShowsRow, ShowRows}
-use Rattle.fare_ledger.proofs.Texts.{between_text, between_asked, between_reads, between_unlisted}
-use Rattle.fare_ledger.proofs.Found.{asked}
+use Rattle.fare_ledger.proofs.Texts.{between_text, between_meant}
+use Rattle.fare_ledger.proofs.Found.{asked, at_tap}
 
 between_cell : (id : ℕ) (t : TapRow) (from to : ℕ) → matches_as Null (λ _. []) between_terms end (asked from to ∷ (int id ∷ tap_cells t) ∷ []) ≡ chosen (is_between from to t) (asked from to ∷ (int id ∷ tap_cells t) ∷ [])
 between_cell id t from to = rw (ge_holds t.tap.day from, le_holds t.tap.day to) (two_terms (nat_le from t.tap.day) (nat_le t.tap.day to) (asked from to ∷ (int id ∷ tap_cells t) ∷ []))
@@ -121,12 +123,12 @@ shown_records owner [] (t ∷ taps) shows = absurd shows
 shown_records owner (r ∷ rows) [] shows = absurd shows
 shown_records owner (r ∷ rows) (t ∷ taps) shows = λ i. shown_record r owner t shows.0 i ∷ shown_records owner rows taps shows.1 i
 
-pub between_rows : {E : Type 0} (V : Type 0) (items : V → List RecordValue) (result : Result V E) (old new : State) (owner from to : ℕ) (rows : List Row) → old.now.schema ≡ ledger_schema → AreRows IsTap (old.now.trees 2) → Shown between_text (asked from to) old new rows
-    → IfOk result (λ v. ShowRows owner rows (items v)) → IfOk result (λ v. IsListedOf owner (map tap_of (old.now.trees 2)) from to (items v))
-between_rows V items (Ok v) old new owner from to rows has ok shown shows =
-    let read = reads_as between_text (asked from to) old new ledger_schema has _ between_asked between_reads.0 between_unlisted rows shown in
-    record { rows = map tap_in rows; listed = between_answer old.now.trees from to rows ok (read.answer Null); is = shown_records owner rows (items v) shows }
-between_rows V items (Err e) old new owner from to rows has ok shown shows = tt
+pub between_rows : {E : Type 0} (w : Order) (V : Type 0) (items : V → List RecordValue) (result : Result V E) (old new : State) (owner from to : ℕ) (rows : List Row) → old.now.schema ≡ schema_in w → AreRows IsTap (ours w old.now.trees 2) → Shown between_text (asked from to) old new rows
+    → IfOk result (λ v. ShowRows owner rows (items v)) → IfOk result (λ v. IsListedOf owner (map tap_of (ours w old.now.trees 2)) from to (items v))
+between_rows w V items (Ok v) old new owner from to rows has ok shown shows =
+    let read = reads_as between_text (asked from to) old new (schema_in w) has _ (between_meant w).command_is (between_meant w).plain (between_meant w).unlisted rows shown in
+    record { rows = map tap_in rows; listed = between_answer (ours w old.now.trees) from to rows ok (at_tap w between_query old.now.trees (asked from to) rows (read.answer Null)); is = shown_records owner rows (items v) shows }
+between_rows w V items (Err e) old new owner from to rows has ok shown shows = tt
 
 pub shows_pushed : (owner : ℕ) (rows : List Row) (taps : List RecordValue) (r : Row) (t : RecordValue) → ShowRows owner rows taps → ShowsRow r owner t → ShowRows owner (rows ++ r ∷ []) (taps ++ t ∷ [])
 shows_pushed owner [] [] r t shows one = (one, tt)

@@ -1,5 +1,5 @@
 -- What the question for the row of meta finds.
-use Rattle.std.proofs.Common.{◌≡◌, ◌↔◌, inr, ℕ, List, [], ◌∷◌, map, filter, Bool, true, Result, Ok, Err, IfOk, IsTrue, refl, sym, ap, subst, ◌∙◌}
+use Rattle.std.proofs.Common.{◌≡◌, ℕ, List, [], ◌∷◌, map, filter, true, refl, sym, ap, subst, ◌∙◌}
 use Rattle.std.specs.List.{AllByRecursion}
 use Rattle.std.specs.List.Sorted.{IsPermutation}
 use Rattle.std.proofs.lemmas.List.Sorted.{IsPermutation-sym}
@@ -10,9 +10,12 @@ use Rattle.sqlite.specs.Program.{overlay}
 use Rattle.sqlite.specs.State.{State, Shown}
 use Rattle.sqlite.proofs.Callers.{reads_as, one_permutation}
 use Rattle.fare_tables.proofs.Terms.{matched}
-use Rattle.fare_ledger.specs.Tables.{ledger_schema, meta_query}
-use Rattle.fare_ledger.specs.Opening.{AreMeta, IsOurs, IsBlankOrOurs}
-use Rattle.fare_ledger.proofs.Texts.{meta_text, meta_asked, meta_reads, meta_unlisted}
+use Rattle.fare_ledger.specs.declared.order.Order.{Order}
+use Rattle.fare_ledger.specs.Orders.{schema_in, ours}
+use Rattle.fare_ledger.specs.Tables.{meta_query}
+use Rattle.fare_ledger.specs.Opening.{AreMeta, IsOurs}
+use Rattle.fare_ledger.proofs.Texts.{meta_text, meta_meant}
+use Rattle.fare_ledger.proofs.Found.{at_meta}
 
 all_rows : (rows : List Row) → AllByRecursion (λ r. Unit {0}) rows
 all_rows [] = tt
@@ -40,27 +43,23 @@ one_row owner stored (o ∷ []) same are = by stored (one_permutation o (map sho
     by (r ∷ []) is = let one : shown r ≡ o = cc in (r, refl, subst (λ (y : Output). AreMeta owner (y.1 ∷ [])) (sym one) are)
     by (r ∷ s ∷ rows) is = absurd cc
 
-pub meta_is : (owner : ℕ) (old new : State) (rows : List Row) → old.now.schema ≡ ledger_schema → Shown meta_text [] old new rows → AreMeta owner rows → IsOurs owner old.now.trees
-meta_is owner old new rows has shows are =
-    let read = reads_as meta_text [] old new ledger_schema has _ meta_asked meta_reads.0 meta_unlisted rows shows in
-    let a : IsAnswer meta_query (overlay old.now.trees []) [] rows = read.answer Null in
-    let stored = old.now.trees 0 in
+pub meta_is : (w : Order) (owner : ℕ) (old new : State) (rows : List Row) → old.now.schema ≡ schema_in w → Shown meta_text [] old new rows → AreMeta owner rows → IsOurs owner (ours w old.now.trees)
+meta_is w owner old new rows has shows are =
+    let read = reads_as meta_text [] old new (schema_in w) has _ (meta_meant w).command_is (meta_meant w).plain (meta_meant w).unlisted rows shows in
+    let a : IsAnswer meta_query (overlay (ours w old.now.trees) []) [] rows = at_meta w meta_query old.now.trees [] rows (read.answer Null) in
+    let stored = ours w old.now.trees 0 in
     let staged : a.staged ≡ map (λ r. [] ∷ r ∷ []) stored = a.grouped ∙ matched (λ r. Unit {0}) (λ r. true) [] [] (λ r ok. refl) stored (all_rows stored) ∙ ap (map (λ r. [] ∷ r ∷ [])) (filter_all stored) in
     let kept : a.kept ≡ map shown stored = a.distinct ∙ ap (map (output meta_query)) staged ∙ shown_all stored in
     let it = one_row owner stored a.ordered (subst (λ k. IsPermutation k a.ordered) kept a.same) (subst (AreMeta owner) a.shown are) in
     record { row = it.0; only = it.1; format_is = it.2.0; owner_is = it.2.1 }
 
 -- and where meta holds the row, the answer is that row
-pub meta_found : (owner : ℕ) (old new : State) (rows : List Row) → old.now.schema ≡ ledger_schema → Shown meta_text [] old new rows → IsOurs owner old.now.trees → AreMeta owner rows
-meta_found owner old new rows has shows it =
-    let read = reads_as meta_text [] old new ledger_schema has _ meta_asked meta_reads.0 meta_unlisted rows shows in
-    let a : IsAnswer meta_query (overlay old.now.trees []) [] rows = read.answer Null in
-    let stored = old.now.trees 0 in
+pub meta_found : (w : Order) (owner : ℕ) (old new : State) (rows : List Row) → old.now.schema ≡ schema_in w → Shown meta_text [] old new rows → IsOurs owner (ours w old.now.trees) → AreMeta owner rows
+meta_found w owner old new rows has shows it =
+    let read = reads_as meta_text [] old new (schema_in w) has _ (meta_meant w).command_is (meta_meant w).plain (meta_meant w).unlisted rows shows in
+    let a : IsAnswer meta_query (overlay (ours w old.now.trees) []) [] rows = at_meta w meta_query old.now.trees [] rows (read.answer Null) in
+    let stored = ours w old.now.trees 0 in
     let staged : a.staged ≡ map (λ r. [] ∷ r ∷ []) stored = a.grouped ∙ matched (λ r. Unit {0}) (λ r. true) [] [] (λ r ok. refl) stored (all_rows stored) ∙ ap (map (λ r. [] ∷ r ∷ [])) (filter_all stored) in
     let kept : a.kept ≡ shown it.row ∷ [] = a.distinct ∙ ap (map (output meta_query)) staged ∙ shown_all stored ∙ ap (map shown) it.only in
     let one : a.ordered ≡ shown it.row ∷ [] = one_permutation (shown it.row) a.ordered (subst (λ k. IsPermutation k a.ordered) kept a.same) in
     subst (AreMeta owner) (sym (a.shown ∙ ap (map (λ (p : Output). p.1)) one)) (it.format_is, it.owner_is)
-
-pub ours_too : {E : Type 0} (owner : ℕ) (old : State) (r : Result Bool E) → old.now.schema ≡ ledger_schema → IfOk r (λ found. IsTrue found ↔ IsOurs owner old.now.trees) → IfOk r (λ found. IsTrue found → IsBlankOrOurs owner old)
-ours_too owner old (Ok found) has are = λ is. inr (has, are.0 is)
-ours_too owner old (Err e) has are = tt

@@ -1,12 +1,10 @@
 -- What one INSERT writes, and what the tables then hold.
-use Rattle.std.proofs.Common.{◌≡◌, ◌⊎◌, inl, inr, ℕ, ◌==◌, pos, List, [], ◌∷◌, map, if◌then◌else◌, Bool, true, false, Option, Some, None, Ok, refl, sym, ap, subst, ◌∙◌, arith}
+use Rattle.std.proofs.Common.{◌≡◌, ◌≢◌, ◌⊎◌, inl, inr, ℕ, ◌==◌, pos, List, [], ◌∷◌, map, if◌then◌else◌, Bool, true, false, Option, Some, None, Ok, refl, sym, ap, subst, ◌∙◌}
 use Rattle.std.proofs.lemmas.List.{map-append}
 use Rattle.sqlite.specs.declared.types.Value.TheVariants.{Null, Int}
 use Rattle.sqlite_value.specs.Order.{Row, column}
 use Rattle.sqlite.specs.Tree.{Trees, put_row, without_rowid}
 use Rattle.sqlite_rules.specs.Edit.{next_rowid}
-use Rattle.sqlite.specs.Source.TheVariants.{Values}
-use Rattle.sqlite.specs.Command.TheVariants.{Insert}
 use Rattle.sqlite.specs.Edit.{edit_of, edited}
 use Rattle.sqlite.specs.Rowids.TheVariants.{Chosen}
 use Rattle.sqlite.specs.Does.{Does}
@@ -19,9 +17,13 @@ use Rattle.sqlite.proofs.Callers.{statement_of, runs_as, one_step}
 use Rattle.fare_tables.specs.Cells.{int, id_of, AreRows, held}
 use Rattle.fare_tables.proofs.Rows.{appended, rows_put, rows_without, held_put, held_replaced}
 use Rattle.fare_tables.proofs.Statements.{made, cast_int, cast_null, went, same_value}
-use Rattle.fare_ledger.specs.Tables.{ledger_schema, tap_table, stated_table}
+use Rattle.fare_ledger.specs.declared.order.Kind.TheVariants.{Lane, Tap, Stated}
+use Rattle.fare_ledger.specs.declared.order.Order.{Order}
+use Rattle.fare_ledger.specs.Orders.{schema_in, tree_in, ours}
+use Rattle.fare_ledger.specs.Tables.{tap_table, stated_table}
 use Rattle.fare_ledger.specs.Held.{TapRow, StatedRow, PutsTap, PutsLane, PutsStated, Becomes, AreReadable, IsLane, IsTap, IsStated, lane_row, lane_of, tap_cells, tap_of, stated_cells, stated_of, held_of, with_lane, with_tap, with_stated, with_numbers}
-use Rattle.fare_ledger.proofs.Texts.{put_tap_text, put_tap_is, put_tap_plain, tap_terms, put_stated_text, put_stated_is, put_stated_plain, stated_cells_terms}
+use Rattle.fare_ledger.proofs.Texts.{put_tap_text, put_tap_command, put_tap_meant, put_stated_text, put_stated_command, put_stated_meant}
+use Rattle.fare_ledger.proofs.Ordered.{no_works, tap_placed, stated_placed, each, at_found, lane_is_not_tap, stated_is_not_tap, lane_is_not_stated, tap_is_not_stated}
 use Rattle.fare_ledger.proofs.Found.{lane_ids}
 
 pub tap_ids : (r : Row) → IsTap r → column r 0 ≡ int (id_of r)
@@ -30,52 +32,58 @@ tap_ids r ok = ap (λ x. column x 0) ok
 stated_ids : (r : Row) → IsStated r → column r 0 ≡ int (id_of r)
 stated_ids r ok = ap (λ x. column x 0) ok
 
-pub puts_tap : (old new : State) (t : TapRow) (count : ℕ) → old.now.schema ≡ ledger_schema → Executes put_tap_text (tap_cells t) old new (Ok count) → PutsTap old.now new.now t
-unfolding ledger_schema
-puts_tap old new t count has h =
+pub puts_tap : (w : Order) (old new : State) (t : TapRow) (count : ℕ) → old.now.schema ≡ schema_in w → Executes put_tap_text (tap_cells t) old new (Ok count) → PutsTap w old.now new.now t
+unfolding ours
+puts_tap w old new t count has h =
     let params = tap_cells t in
     let db = old.now.trees in
-    let command = Insert 2 (Values tap_terms 8) in
-    let w = runs_as put_tap_text params old new ledger_schema has command put_tap_is put_tap_plain count h in
-    let text = statement_of put_tap_text (understood ledger_schema put_tap_text) in
-    let task : Task = record { limit = old.step_limit; keys = Enforced; schema = ledger_schema; table = tap_table 2; params = params } in
-    let done = made task (mode_of old) command db w.tally new.now (subst (λ s. Does old.step_limit (mode_of old) params (record old.now { schema = s }) text None command (Ok (w.tally, new.now))) has w.changed) in
+    let table = tap_table (tree_in w Tap) in
+    let command = put_tap_command w in
+    let means = put_tap_meant w in
+    let run = runs_as put_tap_text params old new (schema_in w) has command means.command_is means.plain count h in
+    let text = statement_of put_tap_text (understood (schema_in w) put_tap_text) in
+    let task : Task = record { limit = old.step_limit; keys = Enforced; schema = schema_in w; table = table; params = params } in
+    let done = made task (mode_of old) command db run.tally new.now (at_found task (mode_of old) command db _ (run.tally, new.now) (tap_placed w) (subst (λ s. Does old.step_limit (mode_of old) params (record old.now { schema = s }) text None command (Ok (run.tally, new.now))) has run.changed)) in
     let given = went done.wrote in
     let written = went (went given.2).2 in
     let counted = went written.2 in
     let trees : new.now.trees ≡ written.0 = ap (λ (d : Database). d.trees) done.after_is ∙ ap (λ (it : Written). it.trees) (same_value counted.2) ∙ same_value counted.1 in
-    let step = one_step ledger_schema Enforced db written.0 (edit_of db (tap_table 2) [] Chosen 0 given.0) refl written.1 in
-    let edit : edited db (edit_of db (tap_table 2) [] Chosen 0 given.0) ≡ put_row (Int (next_rowid (db 2)) ∷ tap_cells t) (db 2) = ap (λ all. edited db (edit_of db (tap_table 2) [] Chosen 0 all)) given.1.1 ∙ simp (cast_int, cast_null) in
+    let step = one_step (schema_in w) Enforced db written.0 (edit_of db table [] Chosen 0 given.0) (no_works w Enforced db (edit_of db table [] Chosen 0 given.0)) written.1 in
+    let kept = each (λ tree. tree ≢ tree_in w Tap → written.0 tree ≡ db tree) w step.tables in
+    let edit : edited db (edit_of db table [] Chosen 0 given.0) ≡ put_row (Int (next_rowid (db (tree_in w Tap))) ∷ tap_cells t) (db (tree_in w Tap)) = ap (λ all. edited db (edit_of db table [] Chosen 0 all)) given.1.1 ∙ simp (cast_int, cast_null) in
     let at : (k : ℕ) → new.now.trees k ≡ written.0 k = λ k. ap (λ (t : Trees). t k) trees in
     record {
       schema = ap (λ (d : Database). d.schema) done.after_is;
-      lanes = at 1 ∙ step.tables.1.0 (λ e. let e = e in omega arith);
-      taps = at 2 ∙ step.rows ∙ edit;
-      statements = at 4 ∙ step.tables.1.1.1.0 (λ e. let e = e in omega arith);
+      lanes = at (tree_in w Lane) ∙ kept.lane (lane_is_not_tap w);
+      taps = at (tree_in w Tap) ∙ step.rows ∙ edit;
+      statements = at (tree_in w Stated) ∙ kept.stated (stated_is_not_tap w);
     }
 
-pub puts_stated : (old new : State) (s : StatedRow) (count : ℕ) → old.now.schema ≡ ledger_schema → Executes put_stated_text (stated_cells s) old new (Ok count) → PutsStated old.now new.now s
-unfolding ledger_schema
-puts_stated old new s count has h =
+pub puts_stated : (w : Order) (old new : State) (s : StatedRow) (count : ℕ) → old.now.schema ≡ schema_in w → Executes put_stated_text (stated_cells s) old new (Ok count) → PutsStated w old.now new.now s
+unfolding ours
+puts_stated w old new s count has h =
     let params = stated_cells s in
     let db = old.now.trees in
-    let command = Insert 3 (Values stated_cells_terms 4) in
-    let w = runs_as put_stated_text params old new ledger_schema has command put_stated_is put_stated_plain count h in
-    let text = statement_of put_stated_text (understood ledger_schema put_stated_text) in
-    let task : Task = record { limit = old.step_limit; keys = Enforced; schema = ledger_schema; table = stated_table 4; params = params } in
-    let done = made task (mode_of old) command db w.tally new.now (subst (λ s. Does old.step_limit (mode_of old) params (record old.now { schema = s }) text None command (Ok (w.tally, new.now))) has w.changed) in
+    let table = stated_table (tree_in w Stated) in
+    let command = put_stated_command w in
+    let means = put_stated_meant w in
+    let run = runs_as put_stated_text params old new (schema_in w) has command means.command_is means.plain count h in
+    let text = statement_of put_stated_text (understood (schema_in w) put_stated_text) in
+    let task : Task = record { limit = old.step_limit; keys = Enforced; schema = schema_in w; table = table; params = params } in
+    let done = made task (mode_of old) command db run.tally new.now (at_found task (mode_of old) command db _ (run.tally, new.now) (stated_placed w) (subst (λ s. Does old.step_limit (mode_of old) params (record old.now { schema = s }) text None command (Ok (run.tally, new.now))) has run.changed)) in
     let given = went done.wrote in
     let written = went (went given.2).2 in
     let counted = went written.2 in
     let trees : new.now.trees ≡ written.0 = ap (λ (d : Database). d.trees) done.after_is ∙ ap (λ (it : Written). it.trees) (same_value counted.2) ∙ same_value counted.1 in
-    let step = one_step ledger_schema Enforced db written.0 (edit_of db (stated_table 4) [] Chosen 0 given.0) refl written.1 in
-    let edit : edited db (edit_of db (stated_table 4) [] Chosen 0 given.0) ≡ put_row (Int (next_rowid (db 4)) ∷ stated_cells s) (db 4) = ap (λ all. edited db (edit_of db (stated_table 4) [] Chosen 0 all)) given.1.1 ∙ simp (cast_int, cast_null) in
+    let step = one_step (schema_in w) Enforced db written.0 (edit_of db table [] Chosen 0 given.0) (no_works w Enforced db (edit_of db table [] Chosen 0 given.0)) written.1 in
+    let kept = each (λ tree. tree ≢ tree_in w Stated → written.0 tree ≡ db tree) w step.tables in
+    let edit : edited db (edit_of db table [] Chosen 0 given.0) ≡ put_row (Int (next_rowid (db (tree_in w Stated))) ∷ stated_cells s) (db (tree_in w Stated)) = ap (λ all. edited db (edit_of db table [] Chosen 0 all)) given.1.1 ∙ simp (cast_int, cast_null) in
     let at : (k : ℕ) → new.now.trees k ≡ written.0 k = λ k. ap (λ (t : Trees). t k) trees in
     record {
       schema = ap (λ (d : Database). d.schema) done.after_is;
-      lanes = at 1 ∙ step.tables.1.0 (λ e. let e = e in omega arith);
-      taps = at 2 ∙ step.tables.1.1.0 (λ e. let e = e in omega arith);
-      statements = at 4 ∙ step.rows ∙ edit;
+      lanes = at (tree_in w Lane) ∙ kept.lane (lane_is_not_stated w);
+      taps = at (tree_in w Tap) ∙ kept.tap (tap_is_not_stated w);
+      statements = at (tree_in w Stated) ∙ step.rows ∙ edit;
     }
 
 -- ---- what is held then
@@ -95,37 +103,37 @@ lanes_after rows now d k c ok (inr is) = (
   λ x. ap (λ all. lane_of (held all x)) is ∙ ap lane_of (held_replaced IsLane lane_ids rows d (Null ∷ int k ∷ int c ∷ []) x ok) ∙ lane_if (d == x) (lane_row d k c) (held rows x),
 )
 
-pub both : (old mid new : Database) (t : TapRow) (c : ℕ) → AreReadable old.trees → PutsTap old mid t → PutsLane mid new t.device t.lane c → Becomes new (with_tap t c (held_of old.trees))
-both old mid new t c ok first second =
-    let taps = appended IsTap tap_ids (old.trees 2) (new.trees 2) (tap_cells t) ok.taps (λ n. refl) (second.taps ∙ first.taps) in
-    let lanes = lanes_after (mid.trees 1) (new.trees 1) t.device t.lane c (subst (AreRows IsLane) (sym first.lanes) ok.lanes) second.lanes in
+pub both : (w : Order) (old mid new : Database) (t : TapRow) (c : ℕ) → AreReadable (ours w old.trees) → PutsTap w old mid t → PutsLane w mid new t.device t.lane c → Becomes w new (with_tap t c (held_of (ours w old.trees)))
+both w old mid new t c ok first second =
+    let taps = appended IsTap tap_ids (ours w old.trees 2) (ours w new.trees 2) (tap_cells t) ok.taps (λ n. refl) (second.taps ∙ first.taps) in
+    let lanes = lanes_after (ours w mid.trees 1) (ours w new.trees 1) t.device t.lane c (subst (AreRows IsLane) (sym first.lanes) ok.lanes) second.lanes in
     let statements = second.statements ∙ first.statements in
     record {
       schema = second.schema;
       readable = record { lanes = lanes.0; taps = taps.0; statements = subst (AreRows IsStated) (sym statements) ok.statements };
       value = λ i. record {
         lanes = λ x. (lanes.1 x ∙ ap (λ all. with_lane t.device t.lane c (λ y. lane_of (held all y)) x) first.lanes) i;
-        taps = (ap (map tap_of) taps.1 ∙ map-append tap_of (old.trees 2) _) i;
+        taps = (ap (map tap_of) taps.1 ∙ map-append tap_of (ours w old.trees 2) _) i;
         statements = ap (map stated_of) statements i;
       };
     }
 
-pub one_more : (old new : Database) (s : StatedRow) → AreReadable old.trees → PutsStated old new s → Becomes new (with_stated s (held_of old.trees))
-one_more old new s ok puts =
-    let statements = appended IsStated stated_ids (old.trees 4) (new.trees 4) (stated_cells s) ok.statements (λ n. refl) puts.statements in
+pub one_more : (w : Order) (old new : Database) (s : StatedRow) → AreReadable (ours w old.trees) → PutsStated w old new s → Becomes w new (with_stated s (held_of (ours w old.trees)))
+one_more w old new s ok puts =
+    let statements = appended IsStated stated_ids (ours w old.trees 4) (ours w new.trees 4) (stated_cells s) ok.statements (λ n. refl) puts.statements in
     record {
       schema = puts.schema;
       readable = record { lanes = subst (AreRows IsLane) (sym puts.lanes) ok.lanes; taps = subst (AreRows IsTap) (sym puts.taps) ok.taps; statements = statements.0 };
       value = λ i. record {
         lanes = λ x. lane_of (held (puts.lanes i) x);
         taps = map tap_of (puts.taps i);
-        statements = (ap (map stated_of) statements.1 ∙ map-append stated_of (old.trees 4) _) i;
+        statements = (ap (map stated_of) statements.1 ∙ map-append stated_of (ours w old.trees 4) _) i;
       };
     }
 
-pub other_numbers : (old new : Database) (d k c : ℕ) → AreReadable old.trees → PutsLane old new d k c → Becomes new (with_numbers d k c (held_of old.trees))
-other_numbers old new d k c ok puts =
-    let lanes = lanes_after (old.trees 1) (new.trees 1) d k c ok.lanes puts.lanes in
+pub other_numbers : (w : Order) (old new : Database) (d k c : ℕ) → AreReadable (ours w old.trees) → PutsLane w old new d k c → Becomes w new (with_numbers d k c (held_of (ours w old.trees)))
+other_numbers w old new d k c ok puts =
+    let lanes = lanes_after (ours w old.trees 1) (ours w new.trees 1) d k c ok.lanes puts.lanes in
     record {
       schema = puts.schema;
       readable = record { lanes = lanes.0; taps = subst (AreRows IsTap) (sym puts.taps) ok.taps; statements = subst (AreRows IsStated) (sym puts.statements) ok.statements };

@@ -1,4 +1,5 @@
 pub mod Tables
+pub mod Orders
 pub mod Held
 pub mod Making
 pub mod Opening

@@ -13,10 +13,12 @@ mod lane;
 mod listing;
 mod making;
 mod opening;
+mod order;
 mod reading;
 mod storing;
 mod tables;
 mod writing;
 
 pub use opening::LedgerOpenFault;
+pub use order::{Kind, Order};
 pub use tables::SqlLedger;

@@ -1,25 +1,28 @@
-ghost use Rattle.std.specs.Prelude.{◌≡◌, ◌≢◌, ◌↔◌, false, true, Err, IsTrue, IsNone, IsSome, IfOk, IfErr, OnOk, OnErr};
+ghost use Rattle.std.specs.Prelude.{◌≡◌, ◌≢◌, ◌↔◌, false, true, None, Err, IsTrue, IsNone, IsSome, IfOk, IfErr, IfSome, MatchOption, OnOk, OnErr};
+ghost use Rattle.std.specs.List.{AllByRecursion};
 ghost use Rattle.sqlite.specs.State.{HasCleanDisk, Survives};
 ghost use Rattle.sqlite.specs.Held.{state};
 ghost use Rattle.fare_scheme.specs.Words.{position_of_owner};
 ghost use Rattle.fare_store.specs.LedgerWords.{IsEmptyLedger, IsOfScheme};
 ghost use Rattle.fare_tables.specs.Asking.{IsLive, IsAtRest, SameRows};
-ghost use Rattle.fare_tables.specs.Making.{no_schema, Finds};
+ghost use Rattle.fare_tables.specs.Making.{no_schema};
 ghost use Rattle.fare_tables.specs.Tabled.{IsFit};
-ghost use Rattle.fare_ledger.specs.Tables.{ledger_schema};
-ghost use Rattle.fare_ledger.specs.Opening.{IsMetaRow, AreMeta, IsOurs, IsBlankOrOurs, Settles, MayMake};
+ghost use Rattle.fare_ledger.specs.Orders.{schema_in, ours};
+ghost use Rattle.fare_ledger.specs.Opening.{IsMetaRow, AreMeta, IsOurs, IsBlankOrOurs, IsOpened, Sees, Settles, MayMake};
 ghost use Rattle.fare_ledger.specs.Words.{IsLawful, value_at, connected, stands};
 
-use crate::SqlLedger;
 use crate::asking::ask_rows;
 use crate::devices::devices_of;
-use crate::making::make_ledger;
+use crate::making::{make_in, make_ledger};
+use crate::order::{ORDERS, Seen};
+use crate::{Order, SqlLedger};
 use fare_record::OwnerId;
 use fare_scheme::Scheme;
 use fare_store::Fault;
-use fare_tables::{Found, find};
+use fare_tables::{is_blank, same_schema};
 use sqlite::types::ValueRef;
 use sqlite::{Alter, Connection, MemStore, Row};
+use sqlite_schema::schema::Schema;
 use std::alloc::Global;
 use thiserror::Error;
 
@@ -75,59 +78,104 @@ fn are_meta(rows: &[Row], owner: OwnerId) -> bool
 }
 
 // Whether `meta` holds its one row.
-fn has_meta<S: Alter>(conn: &mut Connection<S>, owner: OwnerId) -> Result<bool, Fault>
-    ensures meta { HasCleanDisk (state S.Store conn.new) → (state S.Store conn.old).now.schema ≡ ledger_schema → IfOk result (λ ours. IsTrue ours ↔ IsOurs owner (state S.Store conn.old).now.trees) }
-    ensures same { IsLive (state S.Store conn.new) → IsAtRest ledger_schema (state S.Store conn.old) → SameRows (state S.Store conn.old) (state S.Store conn.new) }
-    ensures crash { Survives (state S.Store conn.old) (state S.Store conn.new) (λ _. ¬ ((state S.Store conn.old).now.schema ≡ ledger_schema)) }
+fn has_meta<S: Alter>(conn: &mut Connection<S>, order: Order, owner: OwnerId) -> Result<bool, Fault>
+    ensures meta { HasCleanDisk (state S.Store conn.new) → (state S.Store conn.old).now.schema ≡ schema_in order → IfOk result (λ right. IsTrue right ↔ IsOurs owner (ours order (state S.Store conn.old).now.trees)) }
+    ensures same { IsLive (state S.Store conn.new) → IsAtRest (schema_in order) (state S.Store conn.old) → SameRows (state S.Store conn.old) (state S.Store conn.new) }
+    ensures crash { Survives (state S.Store conn.old) (state S.Store conn.new) (λ _. ¬ ((state S.Store conn.old).now.schema ≡ schema_in order)) }
     ensures live { IsLive (state S.Store conn.new) → IsLive (state S.Store conn.old) }
     ensures stays { HasCleanDisk (state S.Store conn.new) → OnOk result (IsTrue (state S.Store conn.new).is_open) }
     ensures mode { conn.old.in_transaction ≡ false → conn.new.in_transaction ≡ false }
 {
-    let rows = ask_rows(conn, "SELECT format, owner FROM meta", &[])?;
+    let rows = ask_rows(conn, order, "SELECT format, owner FROM meta", &[])?;
     Ok(are_meta(rows.as_slice(), owner))
 }
 
-// An empty ledger in memory, whose schema is the wanted one.
-fn wanted(alloc: Global, owner: OwnerId) -> Result<Connection<MemStore>, Fault>
-    ensures { IfOk result (λ c. c.schema ≡ ledger_schema) }
+// The tables of a ledger in memory, made in this order.
+fn wanted(alloc: Global, order: Order) -> Result<Connection<MemStore>, Fault>
+    ensures { IfOk result (λ c. c.schema ≡ schema_in order) }
 {
     match Connection::open_in_memory(alloc) {
         Ok(mut conn) => {
-            make_ledger(&mut conn, owner)?;
+            make_in(&mut conn, order)?;
             Ok(conn)
         }
         Err(_) => Err(Fault::Memory),
     }
 }
 
-// What the database holds.
-fn look<S: Alter>(conn: &Connection<S>, alloc: Global, owner: OwnerId) -> Result<Found, Fault>
-    ensures { IfOk result (Finds (state S.Store conn.now).now.schema ledger_schema) }
+// Which order a schema's tables were made in, of these.
+fn find_order(schema: &Schema, alloc: Global, orders: &[Order]) -> Result<Option<Order>, Fault>
+    ensures { IfOk result (λ found. MatchOption found (AllByRecursion (λ o. schema.now ≢ schema_in o) orders.now) (λ o. schema.now ≡ schema_in o)) }
 {
-    let wanted = wanted(alloc, owner)?;
-    Ok(find(conn.schema(), wanted.schema()))
+    match orders {
+        [] => Ok(None),
+        [first, rest @ ..] => {
+            let wanted = wanted(alloc, *first)?;
+            if same_schema(schema, wanted.schema()) {
+                return Ok(Some(*first));
+            }
+            find_order(schema, alloc, rest)
+        }
+    }
 }
 
-// Makes the tables where there are none, and looks whose ledger it is where it is one: whether it is the owner's.
-fn settle<S: Alter>(conn: &mut Connection<S>, found: Found, owner: OwnerId) -> Result<bool, Fault>
+// What the database holds.
+fn look<S: Alter>(conn: &Connection<S>, alloc: Global) -> Result<Seen, Fault>
+    ensures { IfOk result (Sees (state S.Store conn.now).now.schema) }
+{
+    if is_blank(conn.schema()) {
+        return Ok(Seen::Blank);
+    }
+    match find_order(conn.schema(), alloc, &ORDERS)? {
+        Some(order) => Ok(Seen::Ours(order)),
+        None => Ok(Seen::Other),
+    }
+}
+
+// The order, if the ledger whose tables were made in it is the owner's.
+fn if_mine<S: Alter>(
+    conn: &mut Connection<S>,
+    order: Order,
+    owner: OwnerId,
+) -> Result<Option<Order>, Fault>
+    ensures of_order { IfOk result (λ found. IfSome found (λ o. o ≡ order)) }
+    ensures ours { IsLive (state S.Store conn.new) → (state S.Store conn.old).now.schema ≡ schema_in order → IfOk result (λ found. IfSome found (λ o. IsOurs owner (ours order (state S.Store conn.old).now.trees))) }
+    ensures lacks { IsLive (state S.Store conn.new) → (state S.Store conn.old).now.schema ≡ schema_in order → IfOk result (λ found. found ≡ None → ¬ IsOurs owner (ours order (state S.Store conn.old).now.trees)) }
+    ensures same { IsLive (state S.Store conn.new) → IsAtRest (schema_in order) (state S.Store conn.old) → SameRows (state S.Store conn.old) (state S.Store conn.new) }
+    ensures crash { Survives (state S.Store conn.old) (state S.Store conn.new) (λ _. ¬ ((state S.Store conn.old).now.schema ≡ schema_in order)) }
+    ensures live { IsLive (state S.Store conn.new) → IsLive (state S.Store conn.old) }
+    ensures mode { conn.old.in_transaction ≡ false → conn.new.in_transaction ≡ false }
+{
+    if has_meta(conn, order, owner)? {
+        return Ok(Some(order));
+    }
+    Ok(None)
+}
+
+// Makes the tables where there are none, and looks whose ledger it is where it is one; none if it isn't the owner's.
+fn settle<S: Alter>(
+    conn: &mut Connection<S>,
+    found: Seen,
+    owner: OwnerId,
+) -> Result<Option<Order>, Fault>
     requires idle { conn.old.in_transaction ≡ false }
-    requires found { Finds (state S.Store conn.old).now.schema ledger_schema found }
-    ensures opens { IsLive (state S.Store conn.new) → IfOk result (λ ours. IsTrue ours → Settles owner (state S.Store conn.old) (state S.Store conn.new)) }
-    ensures ours { IsLive (state S.Store conn.new) → IfOk result (λ ours. IsTrue ours → IsBlankOrOurs owner (state S.Store conn.old)) }
-    ensures refused { IsLive (state S.Store conn.new) → (state S.Store conn.old).now ≡ (state S.Store conn.old).committed → IfOk result (λ ours. ours ≡ false → SameRows (state S.Store conn.old) (state S.Store conn.new)) }
-    ensures foreign { IfOk result (λ ours. ours ≡ false → (state S.Store conn.old).now.schema ≢ no_schema) }
-    ensures lacks { IsLive (state S.Store conn.new) → IfOk result (λ ours. ours ≡ false → ¬ IsBlankOrOurs owner (state S.Store conn.old)) }
+    requires found { Sees (state S.Store conn.old).now.schema found }
+    ensures opens { IsLive (state S.Store conn.new) → IfOk result (λ found. IfSome found (Settles owner (state S.Store conn.old) (state S.Store conn.new))) }
+    ensures ours { IsLive (state S.Store conn.new) → IfOk result (λ found. IfSome found (IsOpened owner (state S.Store conn.old))) }
+    ensures refused { IsLive (state S.Store conn.new) → (state S.Store conn.old).now ≡ (state S.Store conn.old).committed → IfOk result (λ found. found ≡ None → SameRows (state S.Store conn.old) (state S.Store conn.new)) }
+    ensures foreign { IfOk result (λ found. found ≡ None → (state S.Store conn.old).now.schema ≢ no_schema) }
+    ensures lacks { IsLive (state S.Store conn.new) → IfOk result (λ found. found ≡ None → ¬ IsBlankOrOurs owner (state S.Store conn.old)) }
     ensures crash { Survives (state S.Store conn.old) (state S.Store conn.new) (MayMake owner (state S.Store conn.old)) }
     ensures failed { IsLive (state S.Store conn.new) → (state S.Store conn.old).now ≡ (state S.Store conn.old).committed → OnErr result (SameRows (state S.Store conn.old) (state S.Store conn.new)) }
     ensures idle { conn.new.in_transaction ≡ false }
 {
     match found {
-        Found::Blank => {
+        Seen::Blank => {
             make_ledger(conn, owner)?;
-            Ok(true)
+            Ok(Some(Order::MetaLaneTapStated))
         }
-        Found::Ours => has_meta(conn, owner),
-        Found::Other => Ok(false),
+        Seen::Ours(order) => if_mine(conn, order, owner),
+        Seen::Other => Ok(None),
     }
 }
 
@@ -148,7 +196,7 @@ impl<S: Alter> SqlLedger<S> {
         ensures owner { IfOk result (λ l. (stands S.Store l).value.owner ≡ owner) }
         ensures scheme { IfOk result (λ l. IsOfScheme scheme.now (stands S.Store l).value) }
         ensures made { IfOk result (λ l. (stands S.Store l).live → (state S.Store conn).now.schema ≡ no_schema → (stands S.Store l).lawful × IsEmptyLedger (stands S.Store l).value) }
-        ensures kept { IfOk result (λ l. (stands S.Store l).live → IsFit ledger_schema (IsLawful owner scheme.now.start) (state S.Store conn) → (stands S.Store l).lawful × ((stands S.Store l).value ≡ value_at owner scheme.now.start (stands S.Store l).value.knows (state S.Store conn).now.trees)) }
+        ensures kept { IfOk result (λ l. (stands S.Store l).live → (order : Order) → IsFit (schema_in order) (IsLawful order owner scheme.now.start) (state S.Store conn) → (stands S.Store l).lawful × ((stands S.Store l).value ≡ value_at order owner scheme.now.start (stands S.Store l).value.knows (state S.Store conn).now.trees)) }
         ensures ours { IfOk result (λ l. (stands S.Store l).live → IsBlankOrOurs owner (state S.Store conn)) }
         ensures failures { IfOk result (λ l. (stands S.Store l).failures ≡ 0) }
         ensures inside { conn.in_transaction ≡ true → IsSome (position_of_owner scheme.now owner) → result ≡ Err (conn, LedgerOpenFault.Store) }
@@ -165,7 +213,7 @@ impl<S: Alter> SqlLedger<S> {
         if !conn.is_autocommit() {
             return Err((conn, LedgerOpenFault::Store));
         }
-        let found = match look(&conn, alloc, owner) {
+        let found = match look(&conn, alloc) {
             Ok(found) => found,
             Err(fault) => return Err((conn, open_fault(fault))),
         };
@@ -173,15 +221,16 @@ impl<S: Alter> SqlLedger<S> {
             return Err((conn, LedgerOpenFault::Memory));
         };
         match settle(&mut conn, found, owner) {
-            Ok(true) => Ok(SqlLedger {
+            Ok(Some(order)) => Ok(SqlLedger {
                 alloc,
                 conn,
+                order,
                 owner,
                 start: scheme.start(),
                 devices,
                 failures: 0,
             }),
-            Ok(false) => Err((conn, LedgerOpenFault::Foreign)),
+            Ok(None) => Err((conn, LedgerOpenFault::Foreign)),
             Err(fault) => Err((conn, open_fault(fault))),
         }
     }
@@ -191,8 +240,8 @@ impl<S: Alter> SqlLedger<S> {
         ensures crash { Survives (connected S.Store self) (state S.Store result) (λ _. ⊥) }
         ensures idle { result.in_transaction ≡ false }
         ensures live { (stands S.Store self).live → IsLive (state S.Store result) }
-        ensures kept { (stands S.Store self).lawful → IsFit ledger_schema (IsLawful (stands S.Store self).value.owner (stands S.Store self).value.start) (state S.Store result)
-            × (value_at (stands S.Store self).value.owner (stands S.Store self).value.start (stands S.Store self).value.knows (state S.Store result).now.trees ≡ (stands S.Store self).value) }
+        ensures kept { (stands S.Store self).lawful → IsFit (schema_in self.order) (IsLawful self.order (stands S.Store self).value.owner (stands S.Store self).value.start) (state S.Store result)
+            × (value_at self.order (stands S.Store self).value.owner (stands S.Store self).value.start (stands S.Store self).value.knows (state S.Store result).now.trees ≡ (stands S.Store self).value) }
     {
         self.into_parts()
     }

@@ -4,10 +4,11 @@ ghost use Rattle.sqlite.specs.Held.{state};
 ghost use Rattle.fare_tables.specs.Asking.{IsLive, IsAtRest, SameRows};
 ghost use Rattle.sqlite_value.specs.Order.{column};
 ghost use Rattle.fare_tables.specs.Cells.{int, counted};
-ghost use Rattle.fare_ledger.specs.Tables.{ledger_schema};
+ghost use Rattle.fare_ledger.specs.Orders.{schema_in, ours};
 ghost use Rattle.fare_ledger.specs.Held.{held_of, IsReady, stated_in, is_on, is_begun, IsWithin};
 ghost use Rattle.fare_ledger.specs.Words.{AreApart};
 
+use crate::Order;
 use crate::asking::ask;
 use crate::lane::Lane;
 use fare_record::{Day, DeviceId};
@@ -33,17 +34,22 @@ fn lane_in(row: &Row) -> Result<Lane, Fault>
 }
 
 // How many taps of a device are taken, and how many of its days closed: none where it has no row.
-pub(crate) fn read_lane<S: Alter>(conn: &mut Connection<S>, device: DeviceId) -> Result<Lane, Fault>
-    ensures value { IsLive (state S.Store conn.new) → IsReady (state S.Store conn.old) → IfOk result (λ lane. lane ≡ (held_of (state S.Store conn.old).now.trees).lanes device) }
+pub(crate) fn read_lane<S: Alter>(
+    conn: &mut Connection<S>,
+    order: Order,
+    device: DeviceId,
+) -> Result<Lane, Fault>
+    ensures value { IsLive (state S.Store conn.new) → IsReady order (state S.Store conn.old) → IfOk result (λ lane. lane ≡ (held_of (ours order (state S.Store conn.old).now.trees)).lanes device) }
     ensures within { IfOk result IsWithin }
-    ensures same { IsLive (state S.Store conn.new) → IsAtRest ledger_schema (state S.Store conn.old) → SameRows (state S.Store conn.old) (state S.Store conn.new) }
-    ensures crash { Survives (state S.Store conn.old) (state S.Store conn.new) (λ _. ¬ IsAtRest ledger_schema (state S.Store conn.old)) }
+    ensures same { IsLive (state S.Store conn.new) → IsAtRest (schema_in order) (state S.Store conn.old) → SameRows (state S.Store conn.old) (state S.Store conn.new) }
+    ensures crash { Survives (state S.Store conn.old) (state S.Store conn.new) (λ _. ¬ IsAtRest (schema_in order) (state S.Store conn.old)) }
     ensures live { IsLive (state S.Store conn.new) → IsLive (state S.Store conn.old) }
     ensures stays { HasCleanDisk (state S.Store conn.new) → OnOk result (IsTrue (state S.Store conn.new).is_open) }
     ensures mode { conn.old.in_transaction ≡ false → conn.new.in_transaction ≡ false }
 {
     match ask(
         conn,
+        order,
         "SELECT taken, closed FROM lane WHERE device = ?1",
         &[parameter(u64::from(device.get()))],
     )? {
@@ -72,29 +78,31 @@ fn last_day(start: Day, closed: u64) -> Result<Option<Day>, Fault>
 // The last closed day of a device, where the days are closed from this one on.
 pub(crate) fn read_last<S: Alter>(
     conn: &mut Connection<S>,
+    order: Order,
     device: DeviceId,
     start: Day,
 ) -> Result<Option<Day>, Fault>
-    ensures value { IsLive (state S.Store conn.new) → IsReady (state S.Store conn.old) → IfOk result (λ day. day ≡ (if ((held_of (state S.Store conn.old).now.trees).lanes device).closed == 0 then None else Some (start + ((held_of (state S.Store conn.old).now.trees).lanes device).closed - 1))) }
-    ensures same { IsLive (state S.Store conn.new) → IsAtRest ledger_schema (state S.Store conn.old) → SameRows (state S.Store conn.old) (state S.Store conn.new) }
-    ensures crash { Survives (state S.Store conn.old) (state S.Store conn.new) (λ _. ¬ IsAtRest ledger_schema (state S.Store conn.old)) }
+    ensures value { IsLive (state S.Store conn.new) → IsReady order (state S.Store conn.old) → IfOk result (λ day. day ≡ (if ((held_of (ours order (state S.Store conn.old).now.trees)).lanes device).closed == 0 then None else Some (start + ((held_of (ours order (state S.Store conn.old).now.trees)).lanes device).closed - 1))) }
+    ensures same { IsLive (state S.Store conn.new) → IsAtRest (schema_in order) (state S.Store conn.old) → SameRows (state S.Store conn.old) (state S.Store conn.new) }
+    ensures crash { Survives (state S.Store conn.old) (state S.Store conn.new) (λ _. ¬ IsAtRest (schema_in order) (state S.Store conn.old)) }
     ensures live { IsLive (state S.Store conn.new) → IsLive (state S.Store conn.old) }
     ensures stays { HasCleanDisk (state S.Store conn.new) → OnOk result (IsTrue (state S.Store conn.new).is_open) }
     ensures mode { conn.old.in_transaction ≡ false → conn.new.in_transaction ≡ false }
 {
-    let lane = read_lane(conn, device)?;
+    let lane = read_lane(conn, order, device)?;
     last_day(start, lane.closed)
 }
 
 // The stated count of a day.
 pub(crate) fn read_stated<S: Alter>(
     conn: &mut Connection<S>,
+    order: Order,
     device: DeviceId,
     day: Day,
 ) -> Result<Option<u64>, Fault>
-    ensures value { IsLive (state S.Store conn.new) → IsReady (state S.Store conn.old) → AreApart (held_of (state S.Store conn.old).now.trees).statements → IfOk result (λ held. held ≡ stated_in (held_of (state S.Store conn.old).now.trees).statements device day) }
-    ensures same { IsLive (state S.Store conn.new) → IsAtRest ledger_schema (state S.Store conn.old) → SameRows (state S.Store conn.old) (state S.Store conn.new) }
-    ensures crash { Survives (state S.Store conn.old) (state S.Store conn.new) (λ _. ¬ IsAtRest ledger_schema (state S.Store conn.old)) }
+    ensures value { IsLive (state S.Store conn.new) → IsReady order (state S.Store conn.old) → AreApart (held_of (ours order (state S.Store conn.old).now.trees)).statements → IfOk result (λ held. held ≡ stated_in (held_of (ours order (state S.Store conn.old).now.trees)).statements device day) }
+    ensures same { IsLive (state S.Store conn.new) → IsAtRest (schema_in order) (state S.Store conn.old) → SameRows (state S.Store conn.old) (state S.Store conn.new) }
+    ensures crash { Survives (state S.Store conn.old) (state S.Store conn.new) (λ _. ¬ IsAtRest (schema_in order) (state S.Store conn.old)) }
     ensures live { IsLive (state S.Store conn.new) → IsLive (state S.Store conn.old) }
     ensures stays { HasCleanDisk (state S.Store conn.new) → OnOk result (IsTrue (state S.Store conn.new).is_open) }
     ensures mode { conn.old.in_transaction ≡ false → conn.new.in_transaction ≡ false }
@@ -105,6 +113,7 @@ pub(crate) fn read_stated<S: Alter>(
     ];
     match ask(
         conn,
+        order,
         "SELECT total FROM stated WHERE device = ?1 AND day = ?2",
         &asked,
     )? {
@@ -116,12 +125,13 @@ pub(crate) fn read_stated<S: Alter>(
 // How many taps of a device are of a day.
 pub(crate) fn count_day<S: Alter>(
     conn: &mut Connection<S>,
+    order: Order,
     device: DeviceId,
     day: Day,
 ) -> Result<u64, Fault>
-    ensures value { IsLive (state S.Store conn.new) → IsReady (state S.Store conn.old) → IfOk result (λ n. n ≡ length (filter (is_on device day) (held_of (state S.Store conn.old).now.trees).taps)) }
-    ensures same { IsLive (state S.Store conn.new) → IsAtRest ledger_schema (state S.Store conn.old) → SameRows (state S.Store conn.old) (state S.Store conn.new) }
-    ensures crash { Survives (state S.Store conn.old) (state S.Store conn.new) (λ _. ¬ IsAtRest ledger_schema (state S.Store conn.old)) }
+    ensures value { IsLive (state S.Store conn.new) → IsReady order (state S.Store conn.old) → IfOk result (λ n. n ≡ length (filter (is_on device day) (held_of (ours order (state S.Store conn.old).now.trees)).taps)) }
+    ensures same { IsLive (state S.Store conn.new) → IsAtRest (schema_in order) (state S.Store conn.old) → SameRows (state S.Store conn.old) (state S.Store conn.new) }
+    ensures crash { Survives (state S.Store conn.old) (state S.Store conn.new) (λ _. ¬ IsAtRest (schema_in order) (state S.Store conn.old)) }
     ensures live { IsLive (state S.Store conn.new) → IsLive (state S.Store conn.old) }
     ensures stays { HasCleanDisk (state S.Store conn.new) → OnOk result (IsTrue (state S.Store conn.new).is_open) }
     ensures mode { conn.old.in_transaction ≡ false → conn.new.in_transaction ≡ false }
@@ -132,6 +142,7 @@ pub(crate) fn count_day<S: Alter>(
     ];
     match ask(
         conn,
+        order,
         "SELECT count(*) FROM tap WHERE device = ?1 AND day = ?2",
         &asked,
     )? {
@@ -141,16 +152,17 @@ pub(crate) fn count_day<S: Alter>(
 }
 
 // How many devices have a tap taken or a day closed.
-pub(crate) fn count_begun<S: Alter>(conn: &mut Connection<S>) -> Result<u64, Fault>
-    ensures value { IsLive (state S.Store conn.new) → IsReady (state S.Store conn.old) → IfOk result (λ n. n ≡ counted (length (filter is_begun ((state S.Store conn.old).now.trees 1)))) }
-    ensures same { IsLive (state S.Store conn.new) → IsAtRest ledger_schema (state S.Store conn.old) → SameRows (state S.Store conn.old) (state S.Store conn.new) }
-    ensures crash { Survives (state S.Store conn.old) (state S.Store conn.new) (λ _. ¬ IsAtRest ledger_schema (state S.Store conn.old)) }
+pub(crate) fn count_begun<S: Alter>(conn: &mut Connection<S>, order: Order) -> Result<u64, Fault>
+    ensures value { IsLive (state S.Store conn.new) → IsReady order (state S.Store conn.old) → IfOk result (λ n. n ≡ counted (length (filter is_begun (ours order (state S.Store conn.old).now.trees 1)))) }
+    ensures same { IsLive (state S.Store conn.new) → IsAtRest (schema_in order) (state S.Store conn.old) → SameRows (state S.Store conn.old) (state S.Store conn.new) }
+    ensures crash { Survives (state S.Store conn.old) (state S.Store conn.new) (λ _. ¬ IsAtRest (schema_in order) (state S.Store conn.old)) }
     ensures live { IsLive (state S.Store conn.new) → IsLive (state S.Store conn.old) }
     ensures stays { HasCleanDisk (state S.Store conn.new) → OnOk result (IsTrue (state S.Store conn.new).is_open) }
     ensures mode { conn.old.in_transaction ≡ false → conn.new.in_transaction ≡ false }
 {
     match ask(
         conn,
+        order,
         "SELECT count(*) FROM lane WHERE taken > 0 OR closed > 0",
         &[],
     )? {
@@ -160,30 +172,33 @@ pub(crate) fn count_begun<S: Alter>(conn: &mut Connection<S>) -> Result<u64, Fau
 }
 
 // How many taps there are.
-pub(crate) fn count_taps<S: Alter>(conn: &mut Connection<S>) -> Result<u64, Fault>
-    ensures value { IsLive (state S.Store conn.new) → IsReady (state S.Store conn.old) → IfOk result (λ n. n ≡ counted (length (held_of (state S.Store conn.old).now.trees).taps)) }
-    ensures same { IsLive (state S.Store conn.new) → IsAtRest ledger_schema (state S.Store conn.old) → SameRows (state S.Store conn.old) (state S.Store conn.new) }
-    ensures crash { Survives (state S.Store conn.old) (state S.Store conn.new) (λ _. ¬ IsAtRest ledger_schema (state S.Store conn.old)) }
+pub(crate) fn count_taps<S: Alter>(conn: &mut Connection<S>, order: Order) -> Result<u64, Fault>
+    ensures value { IsLive (state S.Store conn.new) → IsReady order (state S.Store conn.old) → IfOk result (λ n. n ≡ counted (length (held_of (ours order (state S.Store conn.old).now.trees)).taps)) }
+    ensures same { IsLive (state S.Store conn.new) → IsAtRest (schema_in order) (state S.Store conn.old) → SameRows (state S.Store conn.old) (state S.Store conn.new) }
+    ensures crash { Survives (state S.Store conn.old) (state S.Store conn.new) (λ _. ¬ IsAtRest (schema_in order) (state S.Store conn.old)) }
     ensures live { IsLive (state S.Store conn.new) → IsLive (state S.Store conn.old) }
     ensures stays { HasCleanDisk (state S.Store conn.new) → OnOk result (IsTrue (state S.Store conn.new).is_open) }
     ensures mode { conn.old.in_transaction ≡ false → conn.new.in_transaction ≡ false }
 {
-    match ask(conn, "SELECT count(*) FROM tap", &[])? {
+    match ask(conn, order, "SELECT count(*) FROM tap", &[])? {
         Some(row) => cell_number(&row, 0),
         None => Err(Fault::Store),
     }
 }
 
 // How many statements there are.
-pub(crate) fn count_statements<S: Alter>(conn: &mut Connection<S>) -> Result<u64, Fault>
-    ensures value { IsLive (state S.Store conn.new) → IsReady (state S.Store conn.old) → IfOk result (λ n. n ≡ counted (length (held_of (state S.Store conn.old).now.trees).statements)) }
-    ensures same { IsLive (state S.Store conn.new) → IsAtRest ledger_schema (state S.Store conn.old) → SameRows (state S.Store conn.old) (state S.Store conn.new) }
-    ensures crash { Survives (state S.Store conn.old) (state S.Store conn.new) (λ _. ¬ IsAtRest ledger_schema (state S.Store conn.old)) }
+pub(crate) fn count_statements<S: Alter>(
+    conn: &mut Connection<S>,
+    order: Order,
+) -> Result<u64, Fault>
+    ensures value { IsLive (state S.Store conn.new) → IsReady order (state S.Store conn.old) → IfOk result (λ n. n ≡ counted (length (held_of (ours order (state S.Store conn.old).now.trees)).statements)) }
+    ensures same { IsLive (state S.Store conn.new) → IsAtRest (schema_in order) (state S.Store conn.old) → SameRows (state S.Store conn.old) (state S.Store conn.new) }
+    ensures crash { Survives (state S.Store conn.old) (state S.Store conn.new) (λ _. ¬ IsAtRest (schema_in order) (state S.Store conn.old)) }
     ensures live { IsLive (state S.Store conn.new) → IsLive (state S.Store conn.old) }
     ensures stays { HasCleanDisk (state S.Store conn.new) → OnOk result (IsTrue (state S.Store conn.new).is_open) }
     ensures mode { conn.old.in_transaction ≡ false → conn.new.in_transaction ≡ false }
 {
-    match ask(conn, "SELECT count(*) FROM stated", &[])? {
+    match ask(conn, order, "SELECT count(*) FROM stated", &[])? {
         Some(row) => cell_number(&row, 0),
         None => Err(Fault::Store),
     }

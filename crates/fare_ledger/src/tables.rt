@@ -1,5 +1,6 @@
 ghost use Rattle.std.specs.Prelude.{◌≡◌, false};
 
+use crate::Order;
 use fare_record::{Day, DeviceId, OwnerId};
 use sqlite::{Alter, Connection};
 use std::alloc::Global;
@@ -9,6 +10,8 @@ use std::collections::HashSet;
 pub struct SqlLedger<S: Alter> {
     pub(crate) alloc: Global,
     pub(crate) conn: Connection<S>,
+    // In which order its tables were made.
+    pub(crate) order: Order,
     pub(crate) owner: OwnerId,
     // The scheme's first day, and its devices.
     pub(crate) start: Day,
@@ -26,6 +29,7 @@ impl<S: Alter> SqlLedger<S> {
         let SqlLedger {
             alloc: _,
             conn,
+            order: _,
             owner: _,
             start: _,
             devices,
@@ -42,6 +46,7 @@ impl<S: Alter + Drop> Drop for SqlLedger<S> {
         let SqlLedger {
             alloc: _,
             conn: _,
+            order: _,
             owner: _,
             start: _,
             devices: _,

@@ -1,5 +1,5 @@
 -- What the removal of a lane's rows leaves.
-use Rattle.std.proofs.Common.{◌≡◌, ℕ, ◌==◌, nat_le, not, List, [], ◌∷◌, map, filter, length, Bool, None, Ok, refl, sym, ap, subst, ◌∙◌, arith}
+use Rattle.std.proofs.Common.{◌≡◌, ◌≢◌, ℕ, ◌==◌, nat_le, not, List, [], ◌∷◌, map, filter, length, Bool, None, Ok, refl, sym, ap, subst, ◌∙◌}
 use Rattle.std.specs.Prelude.{unwrap_or}
 use Rattle.std.specs.List.Sorted.{IsPermutation}
 use Rattle.std.proofs.lemmas.List.{length-map}
@@ -11,7 +11,6 @@ use Rattle.sqlite_rules.specs.Edit.{without_all}
 use Rattle.sqlite_rules.specs.Calls.{ids_of}
 use Rattle.sqlite.specs.Query.{IsAnswer, matches_as, end, output, Output}
 use Rattle.sqlite.specs.Program.{overlay}
-use Rattle.sqlite.specs.Command.TheVariants.{Delete}
 use Rattle.sqlite.specs.Edit.{edit_of}
 use Rattle.sqlite.specs.Rowids.TheVariants.{Given}
 use Rattle.sqlite.specs.Does.{Does}
@@ -28,10 +27,14 @@ use Rattle.fare_tables.proofs.Rows.{all_of, rows_filter}
 use Rattle.fare_tables.proofs.Removing.{id_shown, left_over}
 use Rattle.fare_tables.proofs.Statements.{made, went, same_value}
 use Rattle.fare_tables.proofs.Terms.{chosen, matched, eq_holds, le_holds, three_terms}
-use Rattle.fare_outbox.specs.Tables.{outbox_schema, tap_table, cut_terms, cut_query}
+use Rattle.fare_outbox.specs.declared.order.Kind.TheVariants.{Device, Tap, Stated}
+use Rattle.fare_outbox.specs.declared.order.Order.{Order}
+use Rattle.fare_outbox.specs.Orders.{schema_in, tree_in, ours}
+use Rattle.fare_outbox.specs.Tables.{tap_table, cut_terms, cut_query}
 use Rattle.fare_outbox.specs.Held.{AreReadable, Becomes, IsDevice, IsTap, IsStated, upto_of, tap_cells, tap_of, stated_of, held_of, is_cut, without_lane}
-use Rattle.fare_outbox.proofs.Texts.{cut_text, cut_is, cut_plain}
-use Rattle.fare_outbox.proofs.Found.{asked}
+use Rattle.fare_outbox.proofs.Texts.{cut_text, cut_command, cut_meant}
+use Rattle.fare_outbox.proofs.Ordered.{no_works, tap_placed, each, at_found, device_is_not_tap, stated_is_not_tap}
+use Rattle.fare_outbox.proofs.Found.{asked, at_tap}
 use Rattle.fare_outbox.proofs.Puts.{tap_ids}
 
 abbrev goes : ℕ → ℕ → ℕ → Row → Bool
@@ -61,43 +64,47 @@ answer_length db o d l out ok a =
     let rows : length out ≡ length a.ordered = ap length a.shown ∙ length-map a.ordered (λ (p : Output). p.1) in
     rows ∙ same ∙ length-map (filter (goes o d l) (db 2)) id_shown ∙ sym (ap length (filter_of_map tap_of (is_cut o d l) (db 2)) ∙ length-map (filter (goes o d l) (db 2)) tap_of)
 
-pub record IsCut (old new : Database) (o d l count : ℕ) : Type 0 where
-  pub becomes : Becomes new (without_lane o d l (held_of old.trees))
-  pub counted : count ≡ length (filter (is_cut o d l) (held_of old.trees).taps)
+pub record IsCut (w : Order) (old new : Database) (o d l count : ℕ) : Type 0 where
+  pub becomes : Becomes w new (without_lane o d l (held_of (ours w old.trees)))
+  pub counted : count ≡ length (filter (is_cut o d l) (held_of (ours w old.trees)).taps)
 
-pub cuts : (old new : State) (o d l count : ℕ) → old.now.schema ≡ outbox_schema → AreReadable old.now.trees → Executes cut_text (asked o d l) old new (Ok count) → IsCut old.now new.now o d l count
-unfolding outbox_schema
-cuts old new o d l count has ok h =
+pub cuts : (w : Order) (old new : State) (o d l count : ℕ) → old.now.schema ≡ schema_in w → AreReadable (ours w old.now.trees) → Executes cut_text (asked o d l) old new (Ok count) → IsCut w old.now new.now o d l count
+unfolding ours
+cuts w old new o d l count has ok h =
     let db = old.now.trees in
+    let all = ours w db in
     let params = asked o d l in
-    let command = Delete 2 (record { lets = []; body = cut_query }) in
-    let w = runs_as cut_text params old new outbox_schema has command cut_is cut_plain count h in
-    let text = statement_of cut_text (understood outbox_schema cut_text) in
-    let task : Task = record { limit = old.step_limit; keys = Enforced; schema = outbox_schema; table = tap_table 2; params = params } in
-    let done = made task (mode_of old) command db w.tally new.now (subst (λ s. Does old.step_limit (mode_of old) params (record old.now { schema = s }) text None command (Ok (w.tally, new.now))) has w.changed) in
+    let table = tap_table (tree_in w Tap) in
+    let command = cut_command w in
+    let means = cut_meant w in
+    let run = runs_as cut_text params old new (schema_in w) has command means.command_is means.plain count h in
+    let text = statement_of cut_text (understood (schema_in w) cut_text) in
+    let task : Task = record { limit = old.step_limit; keys = Enforced; schema = schema_in w; table = table; params = params } in
+    let done = made task (mode_of old) command db run.tally new.now (at_found task (mode_of old) command db _ (run.tally, new.now) (tap_placed w) (subst (λ s. Does old.step_limit (mode_of old) params (record old.now { schema = s }) text None command (Ok (run.tally, new.now))) has run.changed)) in
     let it = went done.wrote in
     let step = went it.2 in
     let trees : new.now.trees ≡ step.0 = ap (λ (d : Database). d.trees) done.after_is ∙ ap (λ (x : Written). x.trees) (same_value step.2) in
-    let one = one_step outbox_schema Enforced db step.0 (edit_of db (tap_table 2) (ids_of it.0) Given 0 []) refl step.1 in
+    let one = one_step (schema_in w) Enforced db step.0 (edit_of db table (ids_of it.0) Given 0 []) (no_works w Enforced db (edit_of db table (ids_of it.0) Given 0 [])) step.1 in
+    let kept = each (λ tree. tree ≢ tree_in w Tap → step.0 tree ≡ db tree) w one.tables in
     let at : (k : ℕ) → new.now.trees k ≡ step.0 k = λ k. ap (λ (t : Trees). t k) trees in
-    let answer = it.1.answer Null in
-    let taps : new.now.trees 2 ≡ filter (λ r. not (goes o d l r)) (db 2) = at 2 ∙ one.rows ∙ left db o d l it.0 ok.taps answer in
-    let devices : new.now.trees 1 ≡ db 1 = at 1 ∙ one.tables.1.0 (λ e. let e = e in omega arith) in
-    let statements : new.now.trees 5 ≡ db 5 = at 5 ∙ one.tables.1.1.1.0 (λ e. let e = e in omega arith) in
+    let answer : IsAnswer cut_query (overlay all []) params it.0 = at_tap w cut_query db params it.0 (it.1.answer Null) in
+    let taps : ours w new.now.trees 2 ≡ filter (λ r. not (goes o d l r)) (all 2) = at (tree_in w Tap) ∙ one.rows ∙ left all o d l it.0 ok.taps answer in
+    let devices : ours w new.now.trees 1 ≡ all 1 = at (tree_in w Device) ∙ kept.device (device_is_not_tap w) in
+    let statements : ours w new.now.trees 5 ≡ all 5 = at (tree_in w Stated) ∙ kept.stated (stated_is_not_tap w) in
     let gone : length done.written.rows ≡ length it.0 = ap (λ (x : Written). length x.rows) (same_value step.2) ∙ length-map (ids_of it.0) _ ∙ length-map it.0 _ in
     record {
       becomes = record {
         schema = ap (λ (d : Database). d.schema) done.after_is;
         readable = record {
           devices = subst (AreRows IsDevice) (sym devices) ok.devices;
-          taps = subst (AreRows IsTap) (sym taps) (rows_filter IsTap tap_ids _ (db 2) ok.taps);
+          taps = subst (AreRows IsTap) (sym taps) (rows_filter IsTap tap_ids _ (all 2) ok.taps);
           statements = subst (AreRows IsStated) (sym statements) ok.statements;
         };
         value = λ i. record {
           upto = λ x. upto_of (held (devices i) x);
-          taps = (ap (map tap_of) taps ∙ sym (filter_of_map tap_of (λ t. not (is_cut o d l t)) (db 2))) i;
+          taps = (ap (map tap_of) taps ∙ sym (filter_of_map tap_of (λ t. not (is_cut o d l t)) (all 2))) i;
           statements = map stated_of (statements i);
         };
       };
-      counted = w.counted ∙ ap (λ n. unwrap_or n 0) done.told ∙ gone ∙ answer_length db o d l it.0 ok.taps answer;
+      counted = run.counted ∙ ap (λ n. unwrap_or n 0) done.told ∙ gone ∙ answer_length all o d l it.0 ok.taps answer;
     }

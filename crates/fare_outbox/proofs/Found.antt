@@ -1,5 +1,5 @@
 -- What the questions of the outbox find.
-use Rattle.std.proofs.Common.{◌≡◌, ◌⊎◌, inl, inr, ℕ, suc, ◌==◌, ◌<◌, nat_lt, nat_le, List, [], ◌∷◌, map, filter, length, true, Some, None, Ok, Err, Result, IfOk, refl, sym, ap, subst, ◌∙◌, arith}
+use Rattle.std.proofs.Common.{◌≡◌, ◌⊎◌, inl, inr, ℕ, suc, ◌==◌, ◌<◌, ◌^◌, false, nat_lt, nat_le, List, [], ◌∷◌, map, filter, length, true, Some, None, Ok, Err, Result, IfOk, refl, sym, ap, subst, ◌∙◌, arith}
 use Rattle.std.specs.List.{flat_map}
 use Rattle.std.specs.List.Sorted.{IsPermutation}
 use Rattle.std.proofs.lemmas.Bool.Decides.{nat_tests}
@@ -7,7 +7,8 @@ use Rattle.std.proofs.lemmas.List.{length-map}
 use Rattle.sqlite.specs.declared.types.Value.TheVariants.{Null}
 use Rattle.sqlite_value.specs.Order.{Row, column}
 use Rattle.sqlite.specs.Tree.{Trees}
-use Rattle.sqlite.specs.Query.{IsAnswer, matches_as, end, output, page, Output}
+use Rattle.sqlite.specs.Query.{IsAnswer, Query, matches_as, inner, end, output, page, Output}
+use Rattle.sqlite_sql.specs.Group.{IsGrouped}
 use Rattle.sqlite.specs.Program.{overlay}
 use Rattle.sqlite.specs.State.{State, QueriesRow, Shown}
 use Rattle.sqlite.proofs.Callers.{first_as, reads_as, one_permutation}
@@ -19,10 +20,14 @@ use Rattle.fare_tables.proofs.Terms.{chosen, matched, eq_holds, gt_holds, ge_hol
 use Rattle.fare_tables.proofs.Rows.{all_of, held_one}
 use Rattle.fare_tables.proofs.Counting.{found, count_answer}
 use Rattle.fare_tables.proofs.Least.{IsLeastOf, least_answer}
-use Rattle.fare_outbox.specs.Tables.{outbox_schema, link_query, row_terms, row_columns, row_query, day_terms, day_columns, day_query, seen_terms}
+use Rattle.fare_outbox.specs.declared.order.Kind.TheVariants.{Meta, Device, Tap, Stated}
+use Rattle.fare_outbox.specs.declared.order.Order.{Order}
+use Rattle.fare_outbox.specs.Orders.{schema_in, tree_in, ours, at_tree}
+use Rattle.fare_outbox.proofs.Ordered.{each_low}
+use Rattle.fare_outbox.specs.Tables.{link_query, row_terms, row_columns, row_query, day_terms, day_columns, day_query, seen_terms}
 use Rattle.fare_outbox.specs.Held.{device_row, IsDevice, upto_of, tap_cells, tap_of, IsTap, stated_cells, stated_of, IsStated, is_past, IsNext, is_from, IsNextStated, is_seen}
 use Rattle.fare_outbox.specs.Shown.{ShowsRow, ShowsStatement}
-use Rattle.fare_outbox.proofs.Texts.{link_text, link_asked, link_reads, link_unlisted, next_text, next_asked, next_reads, next_unlisted, next_day_text, next_day_asked, next_day_reads, next_day_unlisted, rows_text, rows_asked, rows_reads, rows_unlisted, statements_text, statements_asked, statements_reads, statements_unlisted, seen_text, seen_asked, seen_reads, seen_unlisted}
+use Rattle.fare_outbox.proofs.Texts.{link_text, link_meant, next_text, next_meant, next_day_text, next_day_meant, rows_text, rows_meant, statements_text, statements_meant, seen_text, seen_meant}
 
 pub device_ids : (r : Row) → IsDevice r → column r 0 ≡ int (id_of r)
 device_ids r ok = ap (λ x. column x 0) ok
@@ -37,6 +42,41 @@ total_is (Ok k) row size is shown low =
     let k_is : k ≡ counted size = ap nat_in (sym shown ∙ ap (λ r. column r 0) is) in
     grind (arith, nat_tests)
 total_is (Err e) row size is shown low = tt
+
+-- ---- a table, wherever its tree is
+
+-- the rows of a query over one table are read of that table alone
+pub moved : (q : Query) (tree number : ℕ) (db other : Trees) (params : Row) (rows : List Row) → overlay db [] tree ≡ other number → IsAnswer (at_tree tree q) (overlay db []) params rows → IsAnswer (at_tree number q) other params rows
+moved q tree number db other params rows same a = record {
+  staged = a.staged;
+  grouped = subst (λ (table : List Row). IsGrouped q.group params (matches_as Null (λ _. table) q.filter (inner 0 end) (params ∷ [])) a.staged) same a.grouped;
+  kept = a.kept;
+  distinct = a.distinct;
+  ordered = a.ordered;
+  same = a.same;
+  sorted = a.sorted;
+  shown = a.shown;
+}
+
+-- no tree is one of the tables that a statement computes
+over : (db : Trees) (tree : ℕ) → nat_le (2 ^ 31) tree ≡ false → overlay db [] tree ≡ db tree
+over db tree low = rw low refl
+
+pub at_meta : (w : Order) (q : Query) (db : Trees) (params : Row) (rows : List Row) → IsAnswer (at_tree (tree_in w Meta) q) (overlay db []) params rows → IsAnswer (at_tree 0 q) (overlay (ours w db) []) params rows
+unfolding ours
+at_meta w q db params rows = moved q (tree_in w Meta) 0 db (overlay (ours w db) []) params rows (over db (tree_in w Meta) (each_low w).meta)
+
+pub at_device : (w : Order) (q : Query) (db : Trees) (params : Row) (rows : List Row) → IsAnswer (at_tree (tree_in w Device) q) (overlay db []) params rows → IsAnswer (at_tree 1 q) (overlay (ours w db) []) params rows
+unfolding ours
+at_device w q db params rows = moved q (tree_in w Device) 1 db (overlay (ours w db) []) params rows (over db (tree_in w Device) (each_low w).device)
+
+pub at_tap : (w : Order) (q : Query) (db : Trees) (params : Row) (rows : List Row) → IsAnswer (at_tree (tree_in w Tap) q) (overlay db []) params rows → IsAnswer (at_tree 2 q) (overlay (ours w db) []) params rows
+unfolding ours
+at_tap w q db params rows = moved q (tree_in w Tap) 2 db (overlay (ours w db) []) params rows (over db (tree_in w Tap) (each_low w).tap)
+
+pub at_stated : (w : Order) (q : Query) (db : Trees) (params : Row) (rows : List Row) → IsAnswer (at_tree (tree_in w Stated) q) (overlay db []) params rows → IsAnswer (at_tree 5 q) (overlay (ours w db) []) params rows
+unfolding ours
+at_stated w q db params rows = moved q (tree_in w Stated) 5 db (overlay (ours w db) []) params rows (over db (tree_in w Stated) (each_low w).stated)
 
 -- ---- the greatest link of a device
 
@@ -62,19 +102,19 @@ link_answer db d rows ok a =
           inr (shown (o ∷ []) (one_permutation o a.ordered (subst (λ k. IsPermutation k a.ordered) kept a.same)) ∙ ap (λ v. (v ∷ []) ∷ []) value))
     ]
 
-pub link_row : (old new : State) (d : ℕ) (row : Row) → old.now.schema ≡ outbox_schema → AreRows IsDevice (old.now.trees 1) → QueriesRow link_text (int d ∷ []) old new (Ok row) → row ≡ int (upto_of (held (old.now.trees 1) d)) ∷ []
-link_row old new d row has ok h =
-    let got = (first_as link_text (int d ∷ []) old new outbox_schema has _ link_asked link_reads.0 link_unlisted row h).1 in
-    let a : IsAnswer link_query (overlay old.now.trees []) (int d ∷ []) (row ∷ got.0) = got.1 Null in
-    elim (link_answer old.now.trees d (row ∷ got.0) ok a) [
+pub link_row : (w : Order) (old new : State) (d : ℕ) (row : Row) → old.now.schema ≡ schema_in w → AreRows IsDevice (ours w old.now.trees 1) → QueriesRow link_text (int d ∷ []) old new (Ok row) → row ≡ int (upto_of (held (ours w old.now.trees 1) d)) ∷ []
+link_row w old new d row has ok h =
+    let got = (first_as link_text (int d ∷ []) old new (schema_in w) has _ (link_meant w).command_is (link_meant w).plain (link_meant w).unlisted row h).1 in
+    let a : IsAnswer link_query (overlay (ours w old.now.trees) []) (int d ∷ []) (row ∷ got.0) = at_device w link_query old.now.trees (int d ∷ []) (row ∷ got.0) (got.1 Null) in
+    elim (link_answer (ours w old.now.trees) d (row ∷ got.0) ok a) [
       | inl none ↦ absurd (let e = none.0 in cc)
       | inr one ↦ (let e = one in cc)
     ]
 
-pub link_none : (old new : State) (d : ℕ) → old.now.schema ≡ outbox_schema → AreRows IsDevice (old.now.trees 1) → Shown link_text (int d ∷ []) old new [] → upto_of (held (old.now.trees 1) d) ≡ 0
-link_none old new d has ok shown =
-    let read = reads_as link_text (int d ∷ []) old new outbox_schema has _ link_asked link_reads.0 link_unlisted [] shown in
-    elim (link_answer old.now.trees d [] ok (read.answer Null)) [
+pub link_none : (w : Order) (old new : State) (d : ℕ) → old.now.schema ≡ schema_in w → AreRows IsDevice (ours w old.now.trees 1) → Shown link_text (int d ∷ []) old new [] → upto_of (held (ours w old.now.trees 1) d) ≡ 0
+link_none w old new d has ok shown =
+    let read = reads_as link_text (int d ∷ []) old new (schema_in w) has _ (link_meant w).command_is (link_meant w).plain (link_meant w).unlisted [] shown in
+    elim (link_answer (ours w old.now.trees) d [] ok (at_device w link_query old.now.trees (int d ∷ []) [] (read.answer Null))) [
       | inl none ↦ none.1
       | inr one ↦ absurd (let e = one in cc)
     ]
@@ -127,23 +167,23 @@ same_tap o d n t u row shows past is =
       };
     }
 
-pub next_row : (old new : State) (o d n : ℕ) (t : RecordValue) (row : Row) → ShowsRow row o d t → old.now.schema ≡ outbox_schema → AreRows IsTap (old.now.trees 2)
-    → QueriesRow next_text (asked o d n) old new (Ok row) → IsNext (map tap_of (old.now.trees 2)) o d n (Some t)
-next_row old new o d n t row shows has ok h =
-    let got = (first_as next_text (asked o d n) old new outbox_schema has _ next_asked next_reads.0 next_unlisted row h).1 in
-    let a : IsAnswer row_query (overlay old.now.trees []) (asked o d n) (row ∷ got.0) = got.1 Null in
-    elim (row_answer old.now.trees o d n (row ∷ got.0) ok a) [
+pub next_row : (w : Order) (old new : State) (o d n : ℕ) (t : RecordValue) (row : Row) → ShowsRow row o d t → old.now.schema ≡ schema_in w → AreRows IsTap (ours w old.now.trees 2)
+    → QueriesRow next_text (asked o d n) old new (Ok row) → IsNext (map tap_of (ours w old.now.trees 2)) o d n (Some t)
+next_row w old new o d n t row shows has ok h =
+    let got = (first_as next_text (asked o d n) old new (schema_in w) has _ (next_meant w).command_is (next_meant w).plain (next_meant w).unlisted row h).1 in
+    let a : IsAnswer row_query (overlay (ours w old.now.trees) []) (asked o d n) (row ∷ got.0) = at_tap w row_query old.now.trees (asked o d n) (row ∷ got.0) (got.1 Null) in
+    elim (row_answer (ours w old.now.trees) o d n (row ∷ got.0) ok a) [
       | inl none ↦ absurd (let e = none.0 in cc)
       | inr it ↦ (
           let first : row ≡ row_shown it.one = let e = it.is in cc in
-          let past = (of_filter (is_past o d n) (map tap_of (old.now.trees 2)) it.one it.has).1 in
-          subst (λ u. IsNext (map tap_of (old.now.trees 2)) o d n (Some u)) (same_tap o d n it.one t row shows past first) (it.has, it.least))
+          let past = (of_filter (is_past o d n) (map tap_of (ours w old.now.trees 2)) it.one it.has).1 in
+          subst (λ u. IsNext (map tap_of (ours w old.now.trees 2)) o d n (Some u)) (same_tap o d n it.one t row shows past first) (it.has, it.least))
     ]
 
-pub next_none : (old new : State) (o d n : ℕ) → old.now.schema ≡ outbox_schema → AreRows IsTap (old.now.trees 2) → Shown next_text (asked o d n) old new [] → IsNext (map tap_of (old.now.trees 2)) o d n None
-next_none old new o d n has ok shown =
-    let read = reads_as next_text (asked o d n) old new outbox_schema has _ next_asked next_reads.0 next_unlisted [] shown in
-    elim (row_answer old.now.trees o d n [] ok (read.answer Null)) [
+pub next_none : (w : Order) (old new : State) (o d n : ℕ) → old.now.schema ≡ schema_in w → AreRows IsTap (ours w old.now.trees 2) → Shown next_text (asked o d n) old new [] → IsNext (map tap_of (ours w old.now.trees 2)) o d n None
+next_none w old new o d n has ok shown =
+    let read = reads_as next_text (asked o d n) old new (schema_in w) has _ (next_meant w).command_is (next_meant w).plain (next_meant w).unlisted [] shown in
+    elim (row_answer (ours w old.now.trees) o d n [] ok (at_tap w row_query old.now.trees (asked o d n) [] (read.answer Null))) [
       | inl none ↦ none.1
       | inr it ↦ absurd (let e = it.is in cc)
     ]
@@ -186,23 +226,23 @@ same_statement o d n s u row shows from is =
       count = ap nat_in (at 1 ∙ shows.count) i;
     }
 
-pub next_day_row : (old new : State) (o d n : ℕ) (s : StatementValue) (row : Row) → ShowsStatement row o d s → old.now.schema ≡ outbox_schema → AreRows IsStated (old.now.trees 5)
-    → QueriesRow next_day_text (asked o d n) old new (Ok row) → IsNextStated (map stated_of (old.now.trees 5)) o d n (Some s)
-next_day_row old new o d n s row shows has ok h =
-    let got = (first_as next_day_text (asked o d n) old new outbox_schema has _ next_day_asked next_day_reads.0 next_day_unlisted row h).1 in
-    let a : IsAnswer day_query (overlay old.now.trees []) (asked o d n) (row ∷ got.0) = got.1 Null in
-    elim (day_answer old.now.trees o d n (row ∷ got.0) ok a) [
+pub next_day_row : (w : Order) (old new : State) (o d n : ℕ) (s : StatementValue) (row : Row) → ShowsStatement row o d s → old.now.schema ≡ schema_in w → AreRows IsStated (ours w old.now.trees 5)
+    → QueriesRow next_day_text (asked o d n) old new (Ok row) → IsNextStated (map stated_of (ours w old.now.trees 5)) o d n (Some s)
+next_day_row w old new o d n s row shows has ok h =
+    let got = (first_as next_day_text (asked o d n) old new (schema_in w) has _ (next_day_meant w).command_is (next_day_meant w).plain (next_day_meant w).unlisted row h).1 in
+    let a : IsAnswer day_query (overlay (ours w old.now.trees) []) (asked o d n) (row ∷ got.0) = at_stated w day_query old.now.trees (asked o d n) (row ∷ got.0) (got.1 Null) in
+    elim (day_answer (ours w old.now.trees) o d n (row ∷ got.0) ok a) [
       | inl none ↦ absurd (let e = none.0 in cc)
       | inr it ↦ (
           let first : row ≡ day_shown it.one = let e = it.is in cc in
-          let from = (of_filter (is_from o d n) (map stated_of (old.now.trees 5)) it.one it.has).1 in
-          subst (λ u. IsNextStated (map stated_of (old.now.trees 5)) o d n (Some u)) (same_statement o d n it.one s row shows from first) (it.has, it.least))
+          let from = (of_filter (is_from o d n) (map stated_of (ours w old.now.trees 5)) it.one it.has).1 in
+          subst (λ u. IsNextStated (map stated_of (ours w old.now.trees 5)) o d n (Some u)) (same_statement o d n it.one s row shows from first) (it.has, it.least))
     ]
 
-pub next_day_none : (old new : State) (o d n : ℕ) → old.now.schema ≡ outbox_schema → AreRows IsStated (old.now.trees 5) → Shown next_day_text (asked o d n) old new [] → IsNextStated (map stated_of (old.now.trees 5)) o d n None
-next_day_none old new o d n has ok shown =
-    let read = reads_as next_day_text (asked o d n) old new outbox_schema has _ next_day_asked next_day_reads.0 next_day_unlisted [] shown in
-    elim (day_answer old.now.trees o d n [] ok (read.answer Null)) [
+pub next_day_none : (w : Order) (old new : State) (o d n : ℕ) → old.now.schema ≡ schema_in w → AreRows IsStated (ours w old.now.trees 5) → Shown next_day_text (asked o d n) old new [] → IsNextStated (map stated_of (ours w old.now.trees 5)) o d n None
+next_day_none w old new o d n has ok shown =
+    let read = reads_as next_day_text (asked o d n) old new (schema_in w) has _ (next_day_meant w).command_is (next_day_meant w).plain (next_day_meant w).unlisted [] shown in
+    elim (day_answer (ours w old.now.trees) o d n [] ok (at_stated w day_query old.now.trees (asked o d n) [] (read.answer Null))) [
       | inl none ↦ none.1
       | inr it ↦ absurd (let e = it.is in cc)
     ]
@@ -214,21 +254,21 @@ all_found : (rows : List Row) → length (flat_map (λ r. matches_as Null (λ _.
 all_found [] = refl
 all_found (r ∷ rows) = ap (λ n. suc n) (all_found rows)
 
-pub rows_counted : (old new : State) (row : Row) → old.now.schema ≡ outbox_schema → QueriesRow rows_text [] old new (Ok row) → row ≡ int (counted (length (map tap_of (old.now.trees 2)))) ∷ []
-rows_counted old new row has h =
-    let got = (first_as rows_text [] old new outbox_schema has _ rows_asked rows_reads.0 rows_unlisted row h).1 in
-    let a : IsAnswer (count_query 2 []) (overlay old.now.trees []) [] (row ∷ got.0) = got.1 Null in
-    let rows = count_answer 2 [] (overlay old.now.trees []) [] (row ∷ got.0) a in
-    let first : row ≡ int (counted (length (found 2 [] (overlay old.now.trees []) []))) ∷ [] = cc in
-    first ∙ ap (λ n. int (counted n) ∷ []) (all_found (old.now.trees 2) ∙ sym (length-map (old.now.trees 2) tap_of))
+pub rows_counted : (w : Order) (old new : State) (row : Row) → old.now.schema ≡ schema_in w → QueriesRow rows_text [] old new (Ok row) → row ≡ int (counted (length (map tap_of (ours w old.now.trees 2)))) ∷ []
+rows_counted w old new row has h =
+    let got = (first_as rows_text [] old new (schema_in w) has _ (rows_meant w).command_is (rows_meant w).plain (rows_meant w).unlisted row h).1 in
+    let a : IsAnswer (count_query 2 []) (overlay (ours w old.now.trees) []) [] (row ∷ got.0) = at_tap w (count_query 2 []) old.now.trees [] (row ∷ got.0) (got.1 Null) in
+    let rows = count_answer 2 [] (overlay (ours w old.now.trees) []) [] (row ∷ got.0) a in
+    let first : row ≡ int (counted (length (found 2 [] (overlay (ours w old.now.trees) []) []))) ∷ [] = cc in
+    first ∙ ap (λ n. int (counted n) ∷ []) (all_found (ours w old.now.trees 2) ∙ sym (length-map (ours w old.now.trees 2) tap_of))
 
-pub statements_counted : (old new : State) (row : Row) → old.now.schema ≡ outbox_schema → QueriesRow statements_text [] old new (Ok row) → row ≡ int (counted (length (map stated_of (old.now.trees 5)))) ∷ []
-statements_counted old new row has h =
-    let got = (first_as statements_text [] old new outbox_schema has _ statements_asked statements_reads.0 statements_unlisted row h).1 in
-    let a : IsAnswer (count_query 5 []) (overlay old.now.trees []) [] (row ∷ got.0) = got.1 Null in
-    let rows = count_answer 5 [] (overlay old.now.trees []) [] (row ∷ got.0) a in
-    let first : row ≡ int (counted (length (found 5 [] (overlay old.now.trees []) []))) ∷ [] = cc in
-    first ∙ ap (λ n. int (counted n) ∷ []) (all_found (old.now.trees 5) ∙ sym (length-map (old.now.trees 5) stated_of))
+pub statements_counted : (w : Order) (old new : State) (row : Row) → old.now.schema ≡ schema_in w → QueriesRow statements_text [] old new (Ok row) → row ≡ int (counted (length (map stated_of (ours w old.now.trees 5)))) ∷ []
+statements_counted w old new row has h =
+    let got = (first_as statements_text [] old new (schema_in w) has _ (statements_meant w).command_is (statements_meant w).plain (statements_meant w).unlisted row h).1 in
+    let a : IsAnswer (count_query 5 []) (overlay (ours w old.now.trees) []) [] (row ∷ got.0) = at_stated w (count_query 5 []) old.now.trees [] (row ∷ got.0) (got.1 Null) in
+    let rows = count_answer 5 [] (overlay (ours w old.now.trees) []) [] (row ∷ got.0) a in
+    let first : row ≡ int (counted (length (found 5 [] (overlay (ours w old.now.trees) []) []))) ∷ [] = cc in
+    first ∙ ap (λ n. int (counted n) ∷ []) (all_found (ours w old.now.trees 5) ∙ sym (length-map (ours w old.now.trees 5) stated_of))
 
 seen_cell : (id upto : ℕ) → matches_as Null (λ _. []) seen_terms end ([] ∷ device_row id upto ∷ []) ≡ chosen (nat_lt 0 upto) ([] ∷ device_row id upto ∷ [])
 seen_cell id upto = rw (gt_holds upto 0) (one_term (nat_lt 0 upto) ([] ∷ device_row id upto ∷ []))
@@ -236,11 +276,11 @@ seen_cell id upto = rw (gt_holds upto 0) (one_term (nat_lt 0 upto) ([] ∷ devic
 seen_each : (r : Row) → IsDevice r → matches_as Null (λ _. []) seen_terms end ([] ∷ r ∷ []) ≡ chosen (is_seen r) ([] ∷ r ∷ [])
 seen_each r ok = subst (λ x. matches_as Null (λ _. []) seen_terms end ([] ∷ x ∷ []) ≡ chosen (is_seen x) ([] ∷ x ∷ [])) (sym ok) (seen_cell (id_of r) (nat_in (column r 2)))
 
-pub seen_counted : (old new : State) (row : Row) → old.now.schema ≡ outbox_schema → AreRows IsDevice (old.now.trees 1) → QueriesRow seen_text [] old new (Ok row) → row ≡ int (counted (length (filter is_seen (old.now.trees 1)))) ∷ []
-seen_counted old new row has ok h =
-    let got = (first_as seen_text [] old new outbox_schema has _ seen_asked seen_reads.0 seen_unlisted row h).1 in
-    let a : IsAnswer (count_query 1 seen_terms) (overlay old.now.trees []) [] (row ∷ got.0) = got.1 Null in
-    let rows = count_answer 1 seen_terms (overlay old.now.trees []) [] (row ∷ got.0) a in
-    let first : row ≡ int (counted (length (found 1 seen_terms (overlay old.now.trees []) []))) ∷ [] = cc in
-    let all = matched IsDevice is_seen [] seen_terms seen_each (old.now.trees 1) (all_of IsDevice (old.now.trees 1) ok) in
-    first ∙ ap (λ n. int (counted n) ∷ []) (ap length all ∙ length-map (filter is_seen (old.now.trees 1)) (λ r. [] ∷ r ∷ []))
+pub seen_counted : (w : Order) (old new : State) (row : Row) → old.now.schema ≡ schema_in w → AreRows IsDevice (ours w old.now.trees 1) → QueriesRow seen_text [] old new (Ok row) → row ≡ int (counted (length (filter is_seen (ours w old.now.trees 1)))) ∷ []
+seen_counted w old new row has ok h =
+    let got = (first_as seen_text [] old new (schema_in w) has _ (seen_meant w).command_is (seen_meant w).plain (seen_meant w).unlisted row h).1 in
+    let a : IsAnswer (count_query 1 seen_terms) (overlay (ours w old.now.trees) []) [] (row ∷ got.0) = at_device w (count_query 1 seen_terms) old.now.trees [] (row ∷ got.0) (got.1 Null) in
+    let rows = count_answer 1 seen_terms (overlay (ours w old.now.trees) []) [] (row ∷ got.0) a in
+    let first : row ≡ int (counted (length (found 1 seen_terms (overlay (ours w old.now.trees) []) []))) ∷ [] = cc in
+    let all = matched IsDevice is_seen [] seen_terms seen_each (ours w old.now.trees 1) (all_of IsDevice (ours w old.now.trees 1) ok) in
+    first ∙ ap (λ n. int (counted n) ∷ []) (ap length all ∙ length-map (filter is_seen (ours w old.now.trees 1)) (λ r. [] ∷ r ∷ []))

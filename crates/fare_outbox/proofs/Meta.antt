@@ -1,6 +1,5 @@
 -- What the question for the row of meta finds.
-use Rattle.std.proofs.Common.{◌≡◌, inr, ℕ, List, [], ◌∷◌, map, filter, true, Option, Some, None, Result, Ok, Err, IfOk, refl, sym, ap, subst, ◌∙◌}
-use Rattle.std.specs.Prelude.{IfSome}
+use Rattle.std.proofs.Common.{◌≡◌, List, [], ◌∷◌, map, filter, true, refl, sym, ap, subst, ◌∙◌}
 use Rattle.std.specs.List.{AllByRecursion}
 use Rattle.std.specs.List.Sorted.{IsPermutation}
 use Rattle.std.proofs.lemmas.List.Sorted.{IsPermutation-sym}
@@ -11,9 +10,12 @@ use Rattle.sqlite.specs.Program.{overlay}
 use Rattle.sqlite.specs.State.{State, Shown}
 use Rattle.sqlite.proofs.Callers.{reads_as, one_permutation}
 use Rattle.fare_tables.proofs.Terms.{matched}
-use Rattle.fare_outbox.specs.Tables.{outbox_schema, meta_query}
-use Rattle.fare_outbox.specs.Opening.{AreMeta, IsOurs, IsBlankOrOurs}
-use Rattle.fare_outbox.proofs.Texts.{meta_asked_text, meta_asked, meta_reads, meta_unlisted}
+use Rattle.fare_outbox.specs.declared.order.Order.{Order}
+use Rattle.fare_outbox.specs.Orders.{schema_in, ours}
+use Rattle.fare_outbox.specs.Tables.{meta_query}
+use Rattle.fare_outbox.specs.Opening.{AreMeta, IsOurs}
+use Rattle.fare_outbox.proofs.Texts.{meta_asked_text, meta_meant}
+use Rattle.fare_outbox.proofs.Found.{at_meta}
 
 all_rows : (rows : List Row) → AllByRecursion (λ r. Unit {0}) rows
 all_rows [] = tt
@@ -41,28 +43,23 @@ one_row stored (o ∷ []) same are = by stored (one_permutation o (map shown sto
     by (r ∷ []) is = let one : shown r ≡ o = cc in (r, refl, subst (λ (y : Output). AreMeta (y.1 ∷ [])) (sym one) are)
     by (r ∷ s ∷ rows) is = absurd cc
 
-pub meta_is : (old new : State) (rows : List Row) → old.now.schema ≡ outbox_schema → Shown meta_asked_text [] old new rows → AreMeta rows → IsOurs old.now.trees
-meta_is old new rows has shows are =
-    let read = reads_as meta_asked_text [] old new outbox_schema has _ meta_asked meta_reads.0 meta_unlisted rows shows in
-    let a : IsAnswer meta_query (overlay old.now.trees []) [] rows = read.answer Null in
-    let stored = old.now.trees 0 in
+pub meta_is : (w : Order) (old new : State) (rows : List Row) → old.now.schema ≡ schema_in w → Shown meta_asked_text [] old new rows → AreMeta rows → IsOurs (ours w old.now.trees)
+meta_is w old new rows has shows are =
+    let read = reads_as meta_asked_text [] old new (schema_in w) has _ (meta_meant w).command_is (meta_meant w).plain (meta_meant w).unlisted rows shows in
+    let a : IsAnswer meta_query (overlay (ours w old.now.trees) []) [] rows = at_meta w meta_query old.now.trees [] rows (read.answer Null) in
+    let stored = ours w old.now.trees 0 in
     let staged : a.staged ≡ map (λ r. [] ∷ r ∷ []) stored = a.grouped ∙ matched (λ r. Unit {0}) (λ r. true) [] [] (λ r ok. refl) stored (all_rows stored) ∙ ap (map (λ r. [] ∷ r ∷ [])) (filter_all stored) in
     let kept : a.kept ≡ map shown stored = a.distinct ∙ ap (map (output meta_query)) staged ∙ shown_all stored in
     let it = one_row stored a.ordered (subst (λ k. IsPermutation k a.ordered) kept a.same) (subst (AreMeta) a.shown are) in
     record { row = it.0; only = it.1; format_is = it.2.0; owner_is = it.2.1 }
 
 -- and where meta holds the row, the answer is that row
-pub meta_found : (old new : State) (rows : List Row) → old.now.schema ≡ outbox_schema → Shown meta_asked_text [] old new rows → IsOurs old.now.trees → AreMeta rows
-meta_found old new rows has shows it =
-    let read = reads_as meta_asked_text [] old new outbox_schema has _ meta_asked meta_reads.0 meta_unlisted rows shows in
-    let a : IsAnswer meta_query (overlay old.now.trees []) [] rows = read.answer Null in
-    let stored = old.now.trees 0 in
+pub meta_found : (w : Order) (old new : State) (rows : List Row) → old.now.schema ≡ schema_in w → Shown meta_asked_text [] old new rows → IsOurs (ours w old.now.trees) → AreMeta rows
+meta_found w old new rows has shows it =
+    let read = reads_as meta_asked_text [] old new (schema_in w) has _ (meta_meant w).command_is (meta_meant w).plain (meta_meant w).unlisted rows shows in
+    let a : IsAnswer meta_query (overlay (ours w old.now.trees) []) [] rows = at_meta w meta_query old.now.trees [] rows (read.answer Null) in
+    let stored = ours w old.now.trees 0 in
     let staged : a.staged ≡ map (λ r. [] ∷ r ∷ []) stored = a.grouped ∙ matched (λ r. Unit {0}) (λ r. true) [] [] (λ r ok. refl) stored (all_rows stored) ∙ ap (map (λ r. [] ∷ r ∷ [])) (filter_all stored) in
     let kept : a.kept ≡ shown it.row ∷ [] = a.distinct ∙ ap (map (output meta_query)) staged ∙ shown_all stored ∙ ap (map shown) it.only in
     let one : a.ordered ≡ shown it.row ∷ [] = one_permutation (shown it.row) a.ordered (subst (λ k. IsPermutation k a.ordered) kept a.same) in
     subst (AreMeta) (sym (a.shown ∙ ap (map (λ (p : Output). p.1)) one)) (it.format_is, it.owner_is)
-
-pub ours_too : {E : Type 0} (old : State) (r : Result (Option (ℕ × ℕ)) E) → old.now.schema ≡ outbox_schema → IfOk r (λ found. IfSome found (λ n. IsOurs old.now.trees)) → IfOk r (λ found. IfSome found (λ n. IsBlankOrOurs old))
-ours_too old (Ok (Some n)) has are = inr (has, are)
-ours_too old (Ok None) has are = tt
-ours_too old (Err e) has are = tt

@@ -7,9 +7,11 @@ mod asking;
 mod calls;
 mod making;
 mod opening;
+mod order;
 mod reading;
 mod storing;
 mod tables;
 mod writing;
 
+pub use order::{Kind, Order};
 pub use tables::SqlOutbox;

@@ -1,35 +1,39 @@
-ghost use Rattle.std.specs.Prelude.{◌≡◌, ◌≢◌, ◌↔◌, false, true, None, Err, IsTrue, IfOk, IfErr, IfSome, OnOk, OnErr};
+ghost use Rattle.std.specs.Prelude.{◌≡◌, ◌≢◌, ◌↔◌, false, true, None, Err, IsTrue, IfOk, IfErr, IfSome, MatchOption, OnOk, OnErr};
+ghost use Rattle.std.specs.List.{AllByRecursion};
 ghost use Rattle.sqlite.specs.State.{HasCleanDisk, Survives, Shown};
 ghost use Rattle.sqlite.specs.Held.{state};
 ghost use Rattle.sqlite.specs.Values.{bound};
 ghost use Rattle.fare_tables.specs.Asking.{IsLive, IsAtRest, SameRows, Reads};
 ghost use Rattle.fare_tables.specs.Making.{no_schema, Finds};
-ghost use Rattle.fare_outbox.specs.Tables.{outbox_schema};
+ghost use Rattle.fare_outbox.specs.Orders.{schema_in, ours};
 ghost use Rattle.fare_store.specs.OutboxWords.{IsEmptyOutbox};
 ghost use Rattle.fare_tables.specs.Tabled.{IsFit};
 ghost use Rattle.fare_outbox.specs.Held.{IsReady};
-ghost use Rattle.fare_outbox.specs.Opening.{IsMetaRow, AreMeta, IsOurs, IsBlankOrOurs, IsCounted, Settles, MayMake};
+ghost use Rattle.fare_outbox.specs.Opening.{IsMetaRow, AreMeta, IsOurs, IsBlankOrOurs, IsCounted, IsOpened, Sees, Settles, MayMake};
 ghost use Rattle.fare_outbox.specs.Words.{IsLawful, value_at, connected, stands};
 
-use crate::SqlOutbox;
-use crate::making::make_outbox;
+use crate::making::{make_in, make_outbox};
+use crate::order::{ORDERS, Seen};
 use crate::reading::{count_rows, count_statements};
+use crate::{Order, SqlOutbox};
 use fare_store::Fault;
-use fare_tables::{Found, OpenFault, ask_all, find, open_fault};
+use fare_tables::{OpenFault, ask_all, is_blank, open_fault, same_schema};
 use sqlite::types::ValueRef;
 use sqlite::{Alter, Connection, MemStore, Row};
+use sqlite_schema::schema::Schema;
 use std::alloc::Global;
 
 // All rows of the answer to one of the outbox's texts.
 fn ask_rows<S: Alter>(
     conn: &mut Connection<S>,
+    order: Order,
     sql: &str,
     params: &[ValueRef<'_>],
 ) -> Result<Vec<Row>, Fault>
-    requires { Reads outbox_schema sql.now }
+    requires { Reads (schema_in order) sql.now }
     ensures rows { HasCleanDisk (state S.Store conn.new) → IfOk result (λ rows. Shown sql.now (bound params.now) (state S.Store conn.old) (state S.Store conn.new) rows.items) }
-    ensures same { IsLive (state S.Store conn.new) → IsAtRest outbox_schema (state S.Store conn.old) → SameRows (state S.Store conn.old) (state S.Store conn.new) }
-    ensures crash { Survives (state S.Store conn.old) (state S.Store conn.new) (λ _. ¬ ((state S.Store conn.old).now.schema ≡ outbox_schema)) }
+    ensures same { IsLive (state S.Store conn.new) → IsAtRest (schema_in order) (state S.Store conn.old) → SameRows (state S.Store conn.old) (state S.Store conn.new) }
+    ensures crash { Survives (state S.Store conn.old) (state S.Store conn.new) (λ _. ¬ ((state S.Store conn.old).now.schema ≡ schema_in order)) }
     ensures live { IsLive (state S.Store conn.new) → IsLive (state S.Store conn.old) }
     ensures stays { HasCleanDisk (state S.Store conn.new) → OnOk result (IsTrue (state S.Store conn.new).is_open) }
     ensures mode { conn.old.in_transaction ≡ false → conn.new.in_transaction ≡ false }
@@ -58,65 +62,93 @@ fn are_meta(rows: &[Row]) -> bool
 }
 
 // Whether `meta` holds its one row.
-fn has_meta<S: Alter>(conn: &mut Connection<S>) -> Result<bool, Fault>
-    ensures meta { HasCleanDisk (state S.Store conn.new) → (state S.Store conn.old).now.schema ≡ outbox_schema → IfOk result (λ ours. IsTrue ours ↔ IsOurs (state S.Store conn.old).now.trees) }
-    ensures same { IsLive (state S.Store conn.new) → IsAtRest outbox_schema (state S.Store conn.old) → SameRows (state S.Store conn.old) (state S.Store conn.new) }
-    ensures crash { Survives (state S.Store conn.old) (state S.Store conn.new) (λ _. ¬ ((state S.Store conn.old).now.schema ≡ outbox_schema)) }
+fn has_meta<S: Alter>(conn: &mut Connection<S>, order: Order) -> Result<bool, Fault>
+    ensures meta { HasCleanDisk (state S.Store conn.new) → (state S.Store conn.old).now.schema ≡ schema_in order → IfOk result (λ right. IsTrue right ↔ IsOurs (ours order (state S.Store conn.old).now.trees)) }
+    ensures same { IsLive (state S.Store conn.new) → IsAtRest (schema_in order) (state S.Store conn.old) → SameRows (state S.Store conn.old) (state S.Store conn.new) }
+    ensures crash { Survives (state S.Store conn.old) (state S.Store conn.new) (λ _. ¬ ((state S.Store conn.old).now.schema ≡ schema_in order)) }
     ensures live { IsLive (state S.Store conn.new) → IsLive (state S.Store conn.old) }
     ensures stays { HasCleanDisk (state S.Store conn.new) → OnOk result (IsTrue (state S.Store conn.new).is_open) }
     ensures mode { conn.old.in_transaction ≡ false → conn.new.in_transaction ≡ false }
 {
-    let rows = ask_rows(conn, "SELECT format, owner FROM meta", &[])?;
+    let rows = ask_rows(conn, order, "SELECT format, owner FROM meta", &[])?;
     Ok(are_meta(rows.as_slice()))
 }
 
-// An empty outbox in memory, whose schema is the wanted one.
-fn wanted(alloc: Global) -> Result<Connection<MemStore>, Fault>
-    ensures { IfOk result (λ c. c.schema ≡ outbox_schema) }
+// The tables of an outbox in memory, made in this order.
+fn wanted(alloc: Global, order: Order) -> Result<Connection<MemStore>, Fault>
+    ensures { IfOk result (λ c. c.schema ≡ schema_in order) }
 {
     match Connection::open_in_memory(alloc) {
         Ok(mut conn) => {
-            make_outbox(&mut conn)?;
+            make_in(&mut conn, order)?;
             Ok(conn)
         }
         Err(_) => Err(Fault::Memory),
     }
 }
 
-// What the database holds.
-fn look<S: Alter>(conn: &Connection<S>, alloc: Global) -> Result<Found, Fault>
-    ensures { IfOk result (Finds (state S.Store conn.now).now.schema outbox_schema) }
+// Which order a schema's tables were made in, of these.
+fn find_order(schema: &Schema, alloc: Global, orders: &[Order]) -> Result<Option<Order>, Fault>
+    ensures { IfOk result (λ found. MatchOption found (AllByRecursion (λ o. schema.now ≢ schema_in o) orders.now) (λ o. schema.now ≡ schema_in o)) }
 {
-    let wanted = wanted(alloc)?;
-    Ok(find(conn.schema(), wanted.schema()))
+    match orders {
+        [] => Ok(None),
+        [first, rest @ ..] => {
+            let wanted = wanted(alloc, *first)?;
+            if same_schema(schema, wanted.schema()) {
+                return Ok(Some(*first));
+            }
+            find_order(schema, alloc, rest)
+        }
+    }
+}
+
+// What the database holds.
+fn look<S: Alter>(conn: &Connection<S>, alloc: Global) -> Result<Seen, Fault>
+    ensures { IfOk result (Sees (state S.Store conn.now).now.schema) }
+{
+    if is_blank(conn.schema()) {
+        return Ok(Seen::Blank);
+    }
+    match find_order(conn.schema(), alloc, &ORDERS)? {
+        Some(order) => Ok(Seen::Ours(order)),
+        None => Ok(Seen::Other),
+    }
 }
 
 // How many taps and how many statements the tables of an outbox hold, if its meta is right.
-fn counts<S: Alter>(conn: &mut Connection<S>) -> Result<Option<(u64, u64)>, Fault>
+fn counts<S: Alter>(
+    conn: &mut Connection<S>,
+    order: Order,
+) -> Result<Option<(Order, u64, u64)>, Fault>
     requires settled { IsTrue (state S.Store conn.old).is_open → (state S.Store conn.old).now ≡ (state S.Store conn.old).committed }
-    ensures counted { IsLive (state S.Store conn.new) → IsReady (state S.Store conn.old) → IfOk result (λ found. IfSome found (λ n. IsCounted (state S.Store conn.old).now.trees n.0 n.1)) }
-    ensures ours { IsLive (state S.Store conn.new) → (state S.Store conn.old).now.schema ≡ outbox_schema → IfOk result (λ found. IfSome found (λ n. IsOurs (state S.Store conn.old).now.trees)) }
-    ensures lacks { IsLive (state S.Store conn.new) → (state S.Store conn.old).now.schema ≡ outbox_schema → IfOk result (λ found. found ≡ None → ¬ IsOurs (state S.Store conn.old).now.trees) }
-    ensures same { IsLive (state S.Store conn.new) → IsAtRest outbox_schema (state S.Store conn.old) → SameRows (state S.Store conn.old) (state S.Store conn.new) }
-    ensures crash { Survives (state S.Store conn.old) (state S.Store conn.new) (λ _. ¬ ((state S.Store conn.old).now.schema ≡ outbox_schema)) }
+    ensures of_order { IfOk result (λ found. IfSome found (λ n. n.0 ≡ order)) }
+    ensures counted { IsLive (state S.Store conn.new) → IsReady order (state S.Store conn.old) → IfOk result (λ found. IfSome found (λ n. IsCounted order (state S.Store conn.old).now.trees n.1 n.2)) }
+    ensures ours { IsLive (state S.Store conn.new) → (state S.Store conn.old).now.schema ≡ schema_in order → IfOk result (λ found. IfSome found (λ n. IsOurs (ours order (state S.Store conn.old).now.trees))) }
+    ensures lacks { IsLive (state S.Store conn.new) → (state S.Store conn.old).now.schema ≡ schema_in order → IfOk result (λ found. found ≡ None → ¬ IsOurs (ours order (state S.Store conn.old).now.trees)) }
+    ensures same { IsLive (state S.Store conn.new) → IsAtRest (schema_in order) (state S.Store conn.old) → SameRows (state S.Store conn.old) (state S.Store conn.new) }
+    ensures crash { Survives (state S.Store conn.old) (state S.Store conn.new) (λ _. ¬ ((state S.Store conn.old).now.schema ≡ schema_in order)) }
     ensures live { IsLive (state S.Store conn.new) → IsLive (state S.Store conn.old) }
     ensures mode { conn.old.in_transaction ≡ false → conn.new.in_transaction ≡ false }
 {
-    if !has_meta(conn)? {
+    if !has_meta(conn, order)? {
         return Ok(None);
     }
-    let rows = count_rows(conn)?;
-    let statements = count_statements(conn)?;
-    Ok(Some((rows, statements)))
+    let rows = count_rows(conn, order)?;
+    let statements = count_statements(conn, order)?;
+    Ok(Some((order, rows, statements)))
 }
 
 // Makes the tables where there are none, and counts the rows of an outbox; none if it is neither.
-fn settle<S: Alter>(conn: &mut Connection<S>, found: Found) -> Result<Option<(u64, u64)>, Fault>
+fn settle<S: Alter>(
+    conn: &mut Connection<S>,
+    found: Seen,
+) -> Result<Option<(Order, u64, u64)>, Fault>
     requires idle { conn.old.in_transaction ≡ false }
     requires settled { IsTrue (state S.Store conn.old).is_open → (state S.Store conn.old).now ≡ (state S.Store conn.old).committed }
-    requires found { Finds (state S.Store conn.old).now.schema outbox_schema found }
-    ensures opens { IsLive (state S.Store conn.new) → IfOk result (λ found. IfSome found (λ n. Settles (state S.Store conn.old) (state S.Store conn.new) n.0 n.1)) }
-    ensures ours { IsLive (state S.Store conn.new) → IfOk result (λ found. IfSome found (λ n. IsBlankOrOurs (state S.Store conn.old))) }
+    requires found { Sees (state S.Store conn.old).now.schema found }
+    ensures opens { IsLive (state S.Store conn.new) → IfOk result (λ found. IfSome found (λ n. Settles (state S.Store conn.old) (state S.Store conn.new) n.0 n.1 n.2)) }
+    ensures ours { IsLive (state S.Store conn.new) → IfOk result (λ found. IfSome found (λ n. IsOpened (state S.Store conn.old) n.0)) }
     ensures refused { IsLive (state S.Store conn.new) → (state S.Store conn.old).now ≡ (state S.Store conn.old).committed → IfOk result (λ found. found ≡ None → SameRows (state S.Store conn.old) (state S.Store conn.new)) }
     ensures foreign { IfOk result (λ found. found ≡ None → (state S.Store conn.old).now.schema ≢ no_schema) }
     ensures lacks { IsLive (state S.Store conn.new) → IfOk result (λ found. found ≡ None → ¬ IsBlankOrOurs (state S.Store conn.old)) }
@@ -125,12 +157,12 @@ fn settle<S: Alter>(conn: &mut Connection<S>, found: Found) -> Result<Option<(u6
     ensures idle { conn.new.in_transaction ≡ false }
 {
     match found {
-        Found::Blank => {
+        Seen::Blank => {
             make_outbox(conn)?;
-            Ok(Some((0, 0)))
+            Ok(Some((Order::MetaDeviceTapStated, 0, 0)))
         }
-        Found::Ours => counts(conn),
-        Found::Other => Ok(None),
+        Seen::Ours(order) => counts(conn, order),
+        Seen::Other => Ok(None),
     }
 }
 
@@ -143,7 +175,7 @@ impl<S: Alter> SqlOutbox<S> {
         conn: Connection<S>,
     ) -> Result<SqlOutbox<S>, (Connection<S>, OpenFault)>
         ensures made { IfOk result (λ o. (stands S.Store o).live → (state S.Store conn).now.schema ≡ no_schema → (stands S.Store o).lawful × IsEmptyOutbox (stands S.Store o).value) }
-        ensures kept { IfOk result (λ o. (stands S.Store o).live → IsFit outbox_schema IsLawful (state S.Store conn) → (stands S.Store o).lawful × ((stands S.Store o).value ≡ value_at (state S.Store conn).now.trees)) }
+        ensures kept { IfOk result (λ o. (stands S.Store o).live → (order : Order) → IsFit (schema_in order) (IsLawful order) (state S.Store conn) → (stands S.Store o).lawful × ((stands S.Store o).value ≡ value_at order (state S.Store conn).now.trees)) }
         ensures ours { IfOk result (λ o. (stands S.Store o).live → IsBlankOrOurs (state S.Store conn)) }
         ensures failures { IfOk result (λ o. (stands S.Store o).failures ≡ 0) }
         ensures inside { conn.in_transaction ≡ true → result ≡ Err (conn, OpenFault.Store) }
@@ -162,8 +194,9 @@ impl<S: Alter> SqlOutbox<S> {
             Err(fault) => return Err((conn, open_fault(fault))),
         };
         match settle(&mut conn, found) {
-            Ok(Some((rows, statements))) => Ok(SqlOutbox {
+            Ok(Some((order, rows, statements))) => Ok(SqlOutbox {
                 conn,
+                order,
                 rows,
                 statements,
                 failures: 0,
@@ -178,7 +211,7 @@ impl<S: Alter> SqlOutbox<S> {
         ensures crash { Survives (connected S.Store self) (state S.Store result) (λ _. ⊥) }
         ensures idle { result.in_transaction ≡ false }
         ensures live { (stands S.Store self).live → IsLive (state S.Store result) }
-        ensures kept { (stands S.Store self).lawful → IsFit outbox_schema IsLawful (state S.Store result) × (value_at (state S.Store result).now.trees ≡ (stands S.Store self).value) }
+        ensures kept { (stands S.Store self).lawful → IsFit (schema_in self.order) (IsLawful self.order) (state S.Store result) × (value_at self.order (state S.Store result).now.trees ≡ (stands S.Store self).value) }
     {
         self.into_parts()
     }

@@ -1,10 +1,13 @@
 ghost use Rattle.std.specs.Prelude.{◌≡◌, false};
 
+use crate::Order;
 use sqlite::{Alter, Connection};
 
 /// An outbox in tables, over the connection that it was opened with.
 pub struct SqlOutbox<S: Alter> {
     pub(crate) conn: Connection<S>,
+    // In which order its tables were made.
+    pub(crate) order: Order,
     // How many taps and how many statements it holds.
     pub(crate) rows: u64,
     pub(crate) statements: u64,
@@ -20,6 +23,7 @@ impl<S: Alter> SqlOutbox<S> {
     {
         let SqlOutbox {
             conn,
+            order: _,
             rows: _,
             statements: _,
             failures: _,
@@ -33,6 +37,7 @@ impl<S: Alter + Drop> Drop for SqlOutbox<S> {
     fn drop(self) {
         let SqlOutbox {
             conn: _,
+            order: _,
             rows: _,
             statements: _,
             failures: _,

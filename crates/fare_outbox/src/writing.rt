@@ -4,9 +4,10 @@ ghost use Rattle.sqlite.specs.Held.{state};
 ghost use Rattle.sqlite.specs.Values.{bound};
 ghost use Rattle.fare_tables.specs.Asking.{IsLive, SameRows, Inside};
 ghost use Rattle.fare_tables.specs.Cells.{AreRows};
-ghost use Rattle.fare_outbox.specs.Tables.{outbox_schema};
+ghost use Rattle.fare_outbox.specs.Orders.{schema_in, ours};
 ghost use Rattle.fare_outbox.specs.Held.{held_of, AreReadable, IsReady, IsDevice, Becomes, PutsTap, PutsLink, PutsStated, tap_cells, stated_cells, with_tap, with_statement, without_lane, is_cut};
 
+use crate::Order;
 use fare_record::{DeviceId, OwnerId, Record, Statement};
 use fare_store::Fault;
 use fare_tables::{change, fault_of, parameter};
@@ -29,10 +30,10 @@ fn cells_of(row: &Record) -> [ValueRef<'static>; 8]
     ]
 }
 
-fn put_tap<S: Alter>(tx: &mut Transaction<'_, S>, row: &Record) -> Result<(), Fault>
+fn put_tap<S: Alter>(tx: &mut Transaction<'_, S>, order: Order, row: &Record) -> Result<(), Fault>
     ensures same_reference { tx.new.conn.ghost_name ≡ tx.old.conn.ghost_name }
-    ensures puts { HasCleanDisk (state S.Store tx.new.conn.now) → IsTrue (state S.Store tx.old.conn.now).in_transaction → (state S.Store tx.old.conn.now).now.schema ≡ outbox_schema
-        → OnOk result (PutsTap (state S.Store tx.old.conn.now).now (state S.Store tx.new.conn.now).now row.now × IsTrue (state S.Store tx.new.conn.now).in_transaction) }
+    ensures puts { HasCleanDisk (state S.Store tx.new.conn.now) → IsTrue (state S.Store tx.old.conn.now).in_transaction → (state S.Store tx.old.conn.now).now.schema ≡ schema_in order
+        → OnOk result (PutsTap order (state S.Store tx.old.conn.now).now (state S.Store tx.new.conn.now).now row.now × IsTrue (state S.Store tx.new.conn.now).in_transaction) }
     ensures inside { HasCleanDisk (state S.Store tx.new.conn.now) → Inside (state S.Store tx.old.conn.now) (state S.Store tx.new.conn.now) }
     ensures survives { Survives (state S.Store tx.old.conn.now) (state S.Store tx.new.conn.now) (λ _. ⊥) }
 {
@@ -47,11 +48,16 @@ fn put_tap<S: Alter>(tx: &mut Transaction<'_, S>, row: &Record) -> Result<(), Fa
     }
 }
 
-fn put_link<S: Alter>(tx: &mut Transaction<'_, S>, device: DeviceId, upto: u64) -> Result<(), Fault>
+fn put_link<S: Alter>(
+    tx: &mut Transaction<'_, S>,
+    order: Order,
+    device: DeviceId,
+    upto: u64,
+) -> Result<(), Fault>
     requires { upto < 2 ^ 63 }
     ensures same_reference { tx.new.conn.ghost_name ≡ tx.old.conn.ghost_name }
-    ensures puts { HasCleanDisk (state S.Store tx.new.conn.now) → IsTrue (state S.Store tx.old.conn.now).in_transaction → (state S.Store tx.old.conn.now).now.schema ≡ outbox_schema → AreRows IsDevice ((state S.Store tx.old.conn.now).now.trees 1)
-        → OnOk result (PutsLink (state S.Store tx.old.conn.now).now (state S.Store tx.new.conn.now).now device upto × IsTrue (state S.Store tx.new.conn.now).in_transaction) }
+    ensures puts { HasCleanDisk (state S.Store tx.new.conn.now) → IsTrue (state S.Store tx.old.conn.now).in_transaction → (state S.Store tx.old.conn.now).now.schema ≡ schema_in order → AreRows IsDevice (ours order (state S.Store tx.old.conn.now).now.trees 1)
+        → OnOk result (PutsLink order (state S.Store tx.old.conn.now).now (state S.Store tx.new.conn.now).now device upto × IsTrue (state S.Store tx.new.conn.now).in_transaction) }
     ensures inside { HasCleanDisk (state S.Store tx.new.conn.now) → Inside (state S.Store tx.old.conn.now) (state S.Store tx.new.conn.now) }
     ensures survives { Survives (state S.Store tx.old.conn.now) (state S.Store tx.new.conn.now) (λ _. ⊥) }
 {
@@ -67,29 +73,33 @@ fn put_link<S: Alter>(tx: &mut Transaction<'_, S>, device: DeviceId, upto: u64) 
 }
 
 // The row and the greatest link of its device.
-fn put_row<S: Alter>(tx: &mut Transaction<'_, S>, row: &Record) -> Result<(), Fault>
+fn put_row<S: Alter>(tx: &mut Transaction<'_, S>, order: Order, row: &Record) -> Result<(), Fault>
     ensures same_reference { tx.new.conn.ghost_name ≡ tx.old.conn.ghost_name }
-    ensures puts { HasCleanDisk (state S.Store tx.new.conn.now) → IsTrue (state S.Store tx.old.conn.now).in_transaction → (state S.Store tx.old.conn.now).now.schema ≡ outbox_schema → AreReadable (state S.Store tx.old.conn.now).now.trees
-        → OnOk result (Becomes (state S.Store tx.new.conn.now).now (with_tap row.now (held_of (state S.Store tx.old.conn.now).now.trees)) × IsTrue (state S.Store tx.new.conn.now).in_transaction) }
+    ensures puts { HasCleanDisk (state S.Store tx.new.conn.now) → IsTrue (state S.Store tx.old.conn.now).in_transaction → (state S.Store tx.old.conn.now).now.schema ≡ schema_in order → AreReadable (ours order (state S.Store tx.old.conn.now).now.trees)
+        → OnOk result (Becomes order (state S.Store tx.new.conn.now).now (with_tap row.now (held_of (ours order (state S.Store tx.old.conn.now).now.trees))) × IsTrue (state S.Store tx.new.conn.now).in_transaction) }
     ensures inside { HasCleanDisk (state S.Store tx.new.conn.now) → Inside (state S.Store tx.old.conn.now) (state S.Store tx.new.conn.now) }
     ensures survives { Survives (state S.Store tx.old.conn.now) (state S.Store tx.new.conn.now) (λ _. ⊥) }
 {
-    put_tap(tx, row)?;
-    put_link(tx, row.device(), row.link())
+    put_tap(tx, order, row)?;
+    put_link(tx, order, row.device(), row.link())
 }
 
 // The row and the greatest link of its device, in one transaction.
-pub(crate) fn write_row<S: Alter>(conn: &mut Connection<S>, row: &Record) -> Result<(), Fault>
+pub(crate) fn write_row<S: Alter>(
+    conn: &mut Connection<S>,
+    order: Order,
+    row: &Record,
+) -> Result<(), Fault>
     requires { conn.old.in_transaction ≡ false }
-    ensures value { IsLive (state S.Store conn.new) → IsReady (state S.Store conn.old) → OnOk result (Becomes (state S.Store conn.new).now (with_tap row.now (held_of (state S.Store conn.old).now.trees)) × ((state S.Store conn.new).now ≡ (state S.Store conn.new).committed)) }
-    ensures same { IsLive (state S.Store conn.new) → IsReady (state S.Store conn.old) → OnErr result (SameRows (state S.Store conn.old) (state S.Store conn.new)) }
-    ensures crash { Survives (state S.Store conn.old) (state S.Store conn.new) (λ trees. IsReady (state S.Store conn.old) → held_of trees ≡ with_tap row.now (held_of (state S.Store conn.old).now.trees)) }
+    ensures value { IsLive (state S.Store conn.new) → IsReady order (state S.Store conn.old) → OnOk result (Becomes order (state S.Store conn.new).now (with_tap row.now (held_of (ours order (state S.Store conn.old).now.trees))) × ((state S.Store conn.new).now ≡ (state S.Store conn.new).committed)) }
+    ensures same { IsLive (state S.Store conn.new) → IsReady order (state S.Store conn.old) → OnErr result (SameRows (state S.Store conn.old) (state S.Store conn.new)) }
+    ensures crash { Survives (state S.Store conn.old) (state S.Store conn.new) (λ trees. IsReady order (state S.Store conn.old) → held_of (ours order trees) ≡ with_tap row.now (held_of (ours order (state S.Store conn.old).now.trees))) }
     ensures live { IsLive (state S.Store conn.new) → IsLive (state S.Store conn.old) }
     ensures stays { HasCleanDisk (state S.Store conn.new) → OnOk result (IsTrue (state S.Store conn.new).is_open) }
     ensures idle { conn.new.in_transaction ≡ false }
 {
     let mut tx = conn.transaction();
-    put_row(&mut tx, row)?;
+    put_row(&mut tx, order, row)?;
     match tx.commit() {
         Ok(()) => Ok(()),
         Err(error) => Err(fault_of(error)),
@@ -107,10 +117,14 @@ fn cells_stated(statement: &Statement) -> [ValueRef<'static>; 4]
     ]
 }
 
-fn put_statement<S: Alter>(tx: &mut Transaction<'_, S>, statement: &Statement) -> Result<(), Fault>
+fn put_statement<S: Alter>(
+    tx: &mut Transaction<'_, S>,
+    order: Order,
+    statement: &Statement,
+) -> Result<(), Fault>
     ensures same_reference { tx.new.conn.ghost_name ≡ tx.old.conn.ghost_name }
-    ensures puts { HasCleanDisk (state S.Store tx.new.conn.now) → IsTrue (state S.Store tx.old.conn.now).in_transaction → (state S.Store tx.old.conn.now).now.schema ≡ outbox_schema → AreReadable (state S.Store tx.old.conn.now).now.trees
-        → OnOk result (Becomes (state S.Store tx.new.conn.now).now (with_statement statement.now (held_of (state S.Store tx.old.conn.now).now.trees)) × IsTrue (state S.Store tx.new.conn.now).in_transaction) }
+    ensures puts { HasCleanDisk (state S.Store tx.new.conn.now) → IsTrue (state S.Store tx.old.conn.now).in_transaction → (state S.Store tx.old.conn.now).now.schema ≡ schema_in order → AreReadable (ours order (state S.Store tx.old.conn.now).now.trees)
+        → OnOk result (Becomes order (state S.Store tx.new.conn.now).now (with_statement statement.now (held_of (ours order (state S.Store tx.old.conn.now).now.trees))) × IsTrue (state S.Store tx.new.conn.now).in_transaction) }
     ensures inside { HasCleanDisk (state S.Store tx.new.conn.now) → Inside (state S.Store tx.old.conn.now) (state S.Store tx.new.conn.now) }
     ensures survives { Survives (state S.Store tx.old.conn.now) (state S.Store tx.new.conn.now) (λ _. ⊥) }
 {
@@ -128,18 +142,19 @@ fn put_statement<S: Alter>(tx: &mut Transaction<'_, S>, statement: &Statement) -
 // The statement, in one transaction.
 pub(crate) fn write_statement<S: Alter>(
     conn: &mut Connection<S>,
+    order: Order,
     statement: &Statement,
 ) -> Result<(), Fault>
     requires { conn.old.in_transaction ≡ false }
-    ensures value { IsLive (state S.Store conn.new) → IsReady (state S.Store conn.old) → OnOk result (Becomes (state S.Store conn.new).now (with_statement statement.now (held_of (state S.Store conn.old).now.trees)) × ((state S.Store conn.new).now ≡ (state S.Store conn.new).committed)) }
-    ensures same { IsLive (state S.Store conn.new) → IsReady (state S.Store conn.old) → OnErr result (SameRows (state S.Store conn.old) (state S.Store conn.new)) }
-    ensures crash { Survives (state S.Store conn.old) (state S.Store conn.new) (λ trees. IsReady (state S.Store conn.old) → held_of trees ≡ with_statement statement.now (held_of (state S.Store conn.old).now.trees)) }
+    ensures value { IsLive (state S.Store conn.new) → IsReady order (state S.Store conn.old) → OnOk result (Becomes order (state S.Store conn.new).now (with_statement statement.now (held_of (ours order (state S.Store conn.old).now.trees))) × ((state S.Store conn.new).now ≡ (state S.Store conn.new).committed)) }
+    ensures same { IsLive (state S.Store conn.new) → IsReady order (state S.Store conn.old) → OnErr result (SameRows (state S.Store conn.old) (state S.Store conn.new)) }
+    ensures crash { Survives (state S.Store conn.old) (state S.Store conn.new) (λ trees. IsReady order (state S.Store conn.old) → held_of (ours order trees) ≡ with_statement statement.now (held_of (ours order (state S.Store conn.old).now.trees))) }
     ensures live { IsLive (state S.Store conn.new) → IsLive (state S.Store conn.old) }
     ensures stays { HasCleanDisk (state S.Store conn.new) → OnOk result (IsTrue (state S.Store conn.new).is_open) }
     ensures idle { conn.new.in_transaction ≡ false }
 {
     let mut tx = conn.transaction();
-    put_statement(&mut tx, statement)?;
+    put_statement(&mut tx, order, statement)?;
     match tx.commit() {
         Ok(()) => Ok(()),
         Err(error) => Err(fault_of(error)),
@@ -149,18 +164,19 @@ pub(crate) fn write_statement<S: Alter>(
 // Removes the rows of a lane up to a lane number.
 fn cut_rows<S: Alter>(
     tx: &mut Transaction<'_, S>,
+    order: Order,
     owner: OwnerId,
     device: DeviceId,
     upto: u64,
 ) -> Result<usize, Fault>
     requires { upto < 2 ^ 63 }
     ensures same_reference { tx.new.conn.ghost_name ≡ tx.old.conn.ghost_name }
-    ensures puts { HasCleanDisk (state S.Store tx.new.conn.now) → IsTrue (state S.Store tx.old.conn.now).in_transaction → (state S.Store tx.old.conn.now).now.schema ≡ outbox_schema → AreReadable (state S.Store tx.old.conn.now).now.trees
-        → OnOk result (Becomes (state S.Store tx.new.conn.now).now (without_lane owner device upto (held_of (state S.Store tx.old.conn.now).now.trees)) × IsTrue (state S.Store tx.new.conn.now).in_transaction) }
+    ensures puts { HasCleanDisk (state S.Store tx.new.conn.now) → IsTrue (state S.Store tx.old.conn.now).in_transaction → (state S.Store tx.old.conn.now).now.schema ≡ schema_in order → AreReadable (ours order (state S.Store tx.old.conn.now).now.trees)
+        → OnOk result (Becomes order (state S.Store tx.new.conn.now).now (without_lane owner device upto (held_of (ours order (state S.Store tx.old.conn.now).now.trees))) × IsTrue (state S.Store tx.new.conn.now).in_transaction) }
     ensures inside { HasCleanDisk (state S.Store tx.new.conn.now) → Inside (state S.Store tx.old.conn.now) (state S.Store tx.new.conn.now) }
     ensures survives { Survives (state S.Store tx.old.conn.now) (state S.Store tx.new.conn.now) (λ _. ⊥) }
-    ensures count { HasCleanDisk (state S.Store tx.new.conn.now) → IsTrue (state S.Store tx.old.conn.now).in_transaction → (state S.Store tx.old.conn.now).now.schema ≡ outbox_schema → AreReadable (state S.Store tx.old.conn.now).now.trees
-        → IfOk result (λ n. n ≡ length (filter (is_cut owner device upto) (held_of (state S.Store tx.old.conn.now).now.trees).taps)) }
+    ensures count { HasCleanDisk (state S.Store tx.new.conn.now) → IsTrue (state S.Store tx.old.conn.now).in_transaction → (state S.Store tx.old.conn.now).now.schema ≡ schema_in order → AreReadable (ours order (state S.Store tx.old.conn.now).now.trees)
+        → IfOk result (λ n. n ≡ length (filter (is_cut owner device upto) (held_of (ours order (state S.Store tx.old.conn.now).now.trees)).taps)) }
 {
     let asked = [
         parameter(u64::from(owner.get())),
@@ -180,22 +196,23 @@ fn cut_rows<S: Alter>(
 // Removes the rows of a lane up to a lane number, in one transaction, and answers how many.
 pub(crate) fn write_cut<S: Alter>(
     conn: &mut Connection<S>,
+    order: Order,
     owner: OwnerId,
     device: DeviceId,
     upto: u64,
 ) -> Result<usize, Fault>
     requires low { upto < 2 ^ 63 }
     requires idle { conn.old.in_transaction ≡ false }
-    ensures value { IsLive (state S.Store conn.new) → IsReady (state S.Store conn.old) → OnOk result (Becomes (state S.Store conn.new).now (without_lane owner device upto (held_of (state S.Store conn.old).now.trees)) × ((state S.Store conn.new).now ≡ (state S.Store conn.new).committed)) }
-    ensures same { IsLive (state S.Store conn.new) → IsReady (state S.Store conn.old) → OnErr result (SameRows (state S.Store conn.old) (state S.Store conn.new)) }
-    ensures crash { Survives (state S.Store conn.old) (state S.Store conn.new) (λ trees. IsReady (state S.Store conn.old) → held_of trees ≡ without_lane owner device upto (held_of (state S.Store conn.old).now.trees)) }
+    ensures value { IsLive (state S.Store conn.new) → IsReady order (state S.Store conn.old) → OnOk result (Becomes order (state S.Store conn.new).now (without_lane owner device upto (held_of (ours order (state S.Store conn.old).now.trees))) × ((state S.Store conn.new).now ≡ (state S.Store conn.new).committed)) }
+    ensures same { IsLive (state S.Store conn.new) → IsReady order (state S.Store conn.old) → OnErr result (SameRows (state S.Store conn.old) (state S.Store conn.new)) }
+    ensures crash { Survives (state S.Store conn.old) (state S.Store conn.new) (λ trees. IsReady order (state S.Store conn.old) → held_of (ours order trees) ≡ without_lane owner device upto (held_of (ours order (state S.Store conn.old).now.trees))) }
     ensures live { IsLive (state S.Store conn.new) → IsLive (state S.Store conn.old) }
     ensures stays { HasCleanDisk (state S.Store conn.new) → OnOk result (IsTrue (state S.Store conn.new).is_open) }
     ensures idle { conn.new.in_transaction ≡ false }
-    ensures count { IsLive (state S.Store conn.new) → IsReady (state S.Store conn.old) → IfOk result (λ n. n ≡ length (filter (is_cut owner device upto) (held_of (state S.Store conn.old).now.trees).taps)) }
+    ensures count { IsLive (state S.Store conn.new) → IsReady order (state S.Store conn.old) → IfOk result (λ n. n ≡ length (filter (is_cut owner device upto) (held_of (ours order (state S.Store conn.old).now.trees)).taps)) }
 {
     let mut tx = conn.transaction();
-    let count = cut_rows(&mut tx, owner, device, upto)?;
+    let count = cut_rows(&mut tx, order, owner, device, upto)?;
     match tx.commit() {
         Ok(()) => Ok(count),
         Err(error) => Err(fault_of(error)),

@@ -1,46 +1,45 @@
 use Rattle.std.proofs.Common.{inl, refl, sym, ◌∙◌}
 use Rattle.sqlite.specs.Held.{state}
-use Rattle.fare_tables.specs.Making.{Finds}
-use Rattle.fare_tables.specs.declared.opening.Found.TheVariants.{Blank, Ours, Other}
-use Rattle.fare_outbox.specs.Tables.{outbox_schema}
-use Rattle.fare_outbox.proofs.Meta.{ours_too}
-use Rattle.fare_outbox.proofs.Opened.{not_both, not_blank, ours, simple, neither, none_lacks}
+use Rattle.fare_outbox.specs.declared.order.Seen.TheVariants.{Blank, Ours, Other}
+use Rattle.fare_outbox.specs.declared.order.Order.TheVariants.{MetaDeviceTapStated}
+use Rattle.fare_outbox.specs.Opening.{Sees}
+use Rattle.fare_outbox.proofs.Opened.{not_both, not_blank, taken_over, ours_too, neither, none_lacks}
 use Rattle.fare_outbox.proofs.opening.settle.Goals as goal
 
 pub returns-in_ok-make_outbox-in-Blank-clause-opens : goal.returns-in_ok-make_outbox-in-Blank-clause-opens
 returns-in_ok-make_outbox-in-Blank-clause-opens g c live =
-    let it : Finds (state g.S.Store c.args.conn.now).now.schema outbox_schema Blank = rw c.in-Blank.is at c.requires.found in
+    let it : Sees (state g.S.Store c.args.conn.now).now.schema Blank = rw c.in-Blank.is at c.requires.found in
     record {
-      made = λ has. (let made = c.in_ok-make_outbox-in-Blank.ensures.made live has in (made.0, made.1, refl, refl));
-      kept = λ ready. absurd (not_both (sym it ∙ ready.rest.schema_is));
+      made = λ has. (let made = c.in_ok-make_outbox-in-Blank.ensures.made live has in (made.0, made.1, refl, refl, refl));
+      kept = λ ready. absurd (not_both MetaDeviceTapStated (sym it ∙ ready.rest.schema_is));
     }
 
 pub returns-in-Ours-clause-opens : goal.returns-in-Ours-clause-opens
 returns-in-Ours-clause-opens g c live =
-    let it : Finds (state g.S.Store c.args.conn.now).now.schema outbox_schema Ours = rw c.in-Ours.is at c.requires.found in
-    ours (state g.S.Store c.args.conn.now) (state g.S.Store c.counts.new.conn) c.counts.result it (c.counts.ensures.counted live) (c.counts.ensures.same live)
+    let it : Sees (state g.S.Store c.args.conn.now).now.schema (Ours c.in-Ours.order) = rw c.in-Ours.is at c.requires.found in
+    taken_over (state g.S.Store c.args.conn.now) (state g.S.Store c.counts.new.conn) c.in-Ours.order c.counts.result it c.counts.ensures.of_order (c.counts.ensures.counted live) (c.counts.ensures.same live)
 
 pub returns-in-Ours-clause-foreign : goal.returns-in-Ours-clause-foreign
 returns-in-Ours-clause-foreign g c =
-    let it : Finds (state g.S.Store c.args.conn.now).now.schema outbox_schema Ours = rw c.in-Ours.is at c.requires.found in
-    not_blank (state g.S.Store c.args.conn.now) c.counts.result it
+    let it : Sees (state g.S.Store c.args.conn.now).now.schema (Ours c.in-Ours.order) = rw c.in-Ours.is at c.requires.found in
+    not_blank (state g.S.Store c.args.conn.now) c.in-Ours.order c.counts.result it
 
 pub returns-in_ok-make_outbox-in-Blank-clause-ours : goal.returns-in_ok-make_outbox-in-Blank-clause-ours
 returns-in_ok-make_outbox-in-Blank-clause-ours g c live =
-    let it : Finds (state g.S.Store c.args.conn.now).now.schema outbox_schema Blank = rw c.in-Blank.is at c.requires.found in
+    let it : Sees (state g.S.Store c.args.conn.now).now.schema Blank = rw c.in-Blank.is at c.requires.found in
     inl it
 
 pub returns-in-Ours-clause-ours : goal.returns-in-Ours-clause-ours
 returns-in-Ours-clause-ours g c live =
-    let it : Finds (state g.S.Store c.args.conn.now).now.schema outbox_schema Ours = rw c.in-Ours.is at c.requires.found in
-    ours_too (state g.S.Store c.args.conn.now) c.counts.result it (c.counts.ensures.ours live it)
+    let it : Sees (state g.S.Store c.args.conn.now).now.schema (Ours c.in-Ours.order) = rw c.in-Ours.is at c.requires.found in
+    ours_too (state g.S.Store c.args.conn.now) c.in-Ours.order c.counts.result it c.counts.ensures.of_order (c.counts.ensures.ours live it)
 
 pub returns-in-Ours-clause-lacks : goal.returns-in-Ours-clause-lacks
 returns-in-Ours-clause-lacks g c live =
-    let it : Finds (state g.S.Store c.args.conn.now).now.schema outbox_schema Ours = rw c.in-Ours.is at c.requires.found in
-    none_lacks (state g.S.Store c.args.conn.now) c.counts.result it (c.counts.ensures.lacks live it)
+    let it : Sees (state g.S.Store c.args.conn.now).now.schema (Ours c.in-Ours.order) = rw c.in-Ours.is at c.requires.found in
+    none_lacks (state g.S.Store c.args.conn.now) c.in-Ours.order c.counts.result it (c.counts.ensures.lacks live it)
 
 pub returns-in-Other-clause-lacks : goal.returns-in-Other-clause-lacks
 returns-in-Other-clause-lacks g c live none =
-    let it : Finds (state g.S.Store c.args.conn.now).now.schema outbox_schema Other = rw c.in-Other.is at c.requires.found in
-    neither (state g.S.Store c.args.conn.now) it.0 (λ has. absurd (it.1 simple has))
+    let it : Sees (state g.S.Store c.args.conn.now).now.schema Other = rw c.in-Other.is at c.requires.found in
+    neither (state g.S.Store c.args.conn.now) it.0 (λ o has are. it.1 o has)
