@@ -4,9 +4,7 @@ use fare_owner::{CloseFault, StatementFault, TapFault};
 use fare_record::{Day, OwnerId};
 use fare_scheme::{DemoSize, Scheme};
 use fare_store::{Fault, Ledger, Refused};
-use sqlite::{Alter, Connection, FileStore, Files, MemStore, Options};
-use sqlite_disk::{Fuse, Memory};
-use sqlite_trees::store::Reopen;
+use sqlite::{Connection, MemStore};
 use std::alloc::Global;
 
 // The tables of a ledger.
@@ -153,6 +151,36 @@ INSERT INTO stated VALUES (1, 19723, 1)";
     assert_eq!(rt; says(&mut ledger, &calls), true);
 }
 
+// The same tables, each made by one text.
+const META: &str = "CREATE TABLE meta (format INTEGER NOT NULL, owner INTEGER NOT NULL) STRICT;
+INSERT INTO meta VALUES (1, 1);";
+
+// All but `meta`, the last one first.
+const OTHERS: &str = "CREATE TABLE stated (device INTEGER NOT NULL, day INTEGER NOT NULL,
+  total INTEGER NOT NULL, PRIMARY KEY (device, day)) STRICT;
+CREATE TABLE tap (device INTEGER NOT NULL, lane INTEGER NOT NULL, link INTEGER NOT NULL,
+  product INTEGER NOT NULL, token INTEGER NOT NULL, moment INTEGER NOT NULL,
+  day INTEGER NOT NULL, PRIMARY KEY (device, lane)) STRICT;
+CREATE TABLE lane (device INTEGER PRIMARY KEY, taken INTEGER NOT NULL CHECK (taken >= 0),
+  closed INTEGER NOT NULL CHECK (closed >= 0)) STRICT;";
+
+#[test]
+fn a_ledger_whose_tables_were_made_in_another_order_opens(rt: HostRuntime) {
+    let calls = [
+        (Call::Empty, Answer::Empty(Ok(true))),
+        (Call::TakeAll(3), Answer::Taken(Ok(()))),
+        (Call::Take(3), untaken(TapFault::Duplicate)),
+        (Call::State(3), Answer::Stated(Ok(()))),
+        (Call::Close, Answer::Closed(Ok(()))),
+        (Call::ClosedThrough, Answer::Maybe(Ok(Some(19_723)))),
+        (Call::Count, Answer::Number(Ok(3))),
+    ];
+    for sql in [[OTHERS, META], [META, OTHERS]] {
+        let mut ledger = ledger(rt.alloc(), sql).expect(&rt, "ledger");
+        assert_eq!(rt; says(&mut ledger, &calls), true);
+    }
+}
+
 #[test]
 fn a_row_past_its_limits_fails_a_ledger(rt: HostRuntime) {
     let calls = [
@@ -214,106 +242,4 @@ fn a_ledger_in_tables_is_of_an_owner_of_the_scheme(rt: HostRuntime) {
         refusal(rt.alloc(), 9, [TABLES, ours], "SELECT owner FROM meta"),
         Some((LedgerOpenFault::UnknownOwner, 1))
     );
-}
-
-/// A ledger over two disks in memory that fail after some calls.
-type Burning = SqlLedger<FileStore<Fuse<Memory>>>;
-
-fn opened<S: Alter + Drop>(alloc: Global, conn: Connection<S>) -> Option<SqlLedger<S>> {
-    SqlLedger::open(alloc, &scheme(alloc)?, OwnerId::new(1)?, conn).ok()
-}
-
-fn burning(alloc: Global, calls: u64) -> Option<Burning> {
-    let files = Files {
-        log: Fuse::new(Memory::new(alloc), calls),
-        db: Fuse::new(Memory::new(alloc), calls),
-    };
-    opened(
-        alloc,
-        Connection::open_files(alloc, files, Options::new(1)).ok()?,
-    )
-}
-
-// The ledger after the machine stopped and came back.
-fn reopened<S: Alter + Reopen + Drop>(alloc: Global, ledger: SqlLedger<S>) -> Option<SqlLedger<S>> {
-    let mut store = ledger.into_connection().into_store();
-    store.crash_and_reopen().ok()?;
-    opened(alloc, Connection::over(alloc, store).ok()?)
-}
-
-// How many taps were taken before a disk that fails after some calls failed; how many an open then finds by the
-// device's number; and how many rows of taps there are.
-fn stopped(alloc: Global, calls: u64) -> Option<(u64, u64, usize)> {
-    let mut ledger = burning(alloc, calls)?;
-    let mut taken = 0u64;
-    for lane in 1..=5 {
-        match answer_to(&mut ledger, Call::Take(lane))? {
-            Answer::Taken(Ok(())) => taken = lane,
-            Answer::Taken(Err(Refused::Failed(Fault::Store))) => break,
-            _ => return None,
-        }
-    }
-    let mut ledger = reopened(alloc, ledger)?;
-    let Answer::Number(Ok(count)) = answer_to(&mut ledger, Call::Count)? else {
-        return None;
-    };
-    let day = Day::new(19_723)?;
-    let taps = ledger.taps_between(day, day).ok()?;
-    Some((taken, count, taps.len()))
-}
-
-#[test]
-fn a_stop_leaves_a_tap_and_its_number_or_neither(rt: HostRuntime) {
-    let mut early = 0u64;
-    let mut full = 0u64;
-    for calls in [16, 24, 32, 40, 48, 56, 64, 72, 80, 1_000] {
-        let Some((taken, count, rows)) = stopped(rt.alloc(), calls) else {
-            continue;
-        };
-        assert_eq!(rt;
-            (
-                rows as u64 == count,
-                count == taken || count == taken.saturating_add(1)
-            ),
-            (true, true)
-        );
-        if taken == 5 {
-            full = full.saturating_add(1);
-        } else {
-            early = early.saturating_add(1);
-        }
-    }
-    assert_eq!(rt; (early > 0, full > 0), (true, true));
-}
-
-// What a ledger answers to a count, the day's count, the day's statement and the last closed day.
-fn summary(ledger: &mut Burning) -> Option<[Answer; 4]> {
-    Some([
-        answer_to(ledger, Call::Count)?,
-        answer_to(ledger, Call::DayCount)?,
-        answer_to(ledger, Call::Stated)?,
-        answer_to(ledger, Call::ClosedThrough)?,
-    ])
-}
-
-// What a ledger of three taps and a closed day answers, before it is opened again and after.
-fn kept(alloc: Global) -> Option<([Answer; 4], [Answer; 4])> {
-    let mut ledger = burning(alloc, 1_000_000)?;
-    for call in [Call::TakeAll(3), Call::State(3), Call::Close] {
-        answer_to(&mut ledger, call)?;
-    }
-    let before = summary(&mut ledger)?;
-    let mut ledger = reopened(alloc, ledger)?;
-    Some((before, summary(&mut ledger)?))
-}
-
-#[test]
-fn a_ledger_opened_again_holds_its_rows(rt: HostRuntime) {
-    let want = [
-        Answer::Number(Ok(3)),
-        Answer::Number(Ok(3)),
-        Answer::Maybe(Ok(Some(3))),
-        Answer::Maybe(Ok(Some(19_723))),
-    ];
-    assert_eq!(rt; kept(rt.alloc()), Some((want, want)));
 }

@@ -48,6 +48,8 @@ mod scheme;
 #[cfg(test)]
 mod settlements;
 #[cfg(test)]
+mod stops;
+#[cfg(test)]
 mod stores;
 #[cfg(test)]
 mod supervisor;

@@ -1,10 +1,8 @@
 use crate::stores::{Asked, Said, ask, refused, says, unstated};
 use fare_outbox::SqlOutbox;
-use fare_store::{Fault, Refused, StatedFault, StoreFault};
+use fare_store::{Fault, StatedFault, StoreFault};
 use fare_tables::OpenFault;
-use sqlite::{Alter, Connection, FileStore, Files, MemStore, Options};
-use sqlite_disk::{Fuse, Memory};
-use sqlite_trees::store::Reopen;
+use sqlite::{Connection, MemStore};
 use std::alloc::Global;
 
 // The tables of an outbox, and the row that says so.
@@ -104,6 +102,35 @@ INSERT INTO tap VALUES (1, 1, 2, 2, 1, 0, 1704100000, 19723); INSERT INTO stated
     says(&rt, &mut outbox, &calls);
 }
 
+// The same tables, each made by one text.
+const META: &str = "CREATE TABLE meta (format INTEGER NOT NULL, owner INTEGER NOT NULL) STRICT;
+INSERT INTO meta VALUES (1, 0);";
+
+// All but `meta`, the last one first.
+const OTHERS: &str = "CREATE TABLE stated (owner INTEGER NOT NULL, device INTEGER NOT NULL,
+  day INTEGER NOT NULL, total INTEGER NOT NULL, PRIMARY KEY (owner, device, day)) STRICT;
+CREATE TABLE tap (owner INTEGER NOT NULL, device INTEGER NOT NULL, lane INTEGER NOT NULL,
+  link INTEGER NOT NULL, product INTEGER NOT NULL, token INTEGER NOT NULL,
+  moment INTEGER NOT NULL, day INTEGER NOT NULL,
+  PRIMARY KEY (owner, device, lane), UNIQUE (device, link)) STRICT;
+CREATE TABLE device (id INTEGER PRIMARY KEY, upto INTEGER NOT NULL CHECK (upto >= 0)) STRICT;";
+
+#[test]
+fn an_outbox_whose_tables_were_made_in_another_order_opens(rt: HostRuntime) {
+    let calls = [
+        (Asked::Empty, Said::Empty(Ok(true))),
+        (Asked::StoreAll(3), Said::Stored(Ok(()))),
+        (Asked::Upto, Said::Number(Ok(3))),
+        (Asked::NextRow(1), Said::Found(Ok(Some(2)))),
+        (Asked::Prune(2), Said::Number(Ok(2))),
+        (Asked::NextRow(0), Said::Found(Ok(Some(3)))),
+    ];
+    for sql in [[OTHERS, META], [META, OTHERS]] {
+        let mut outbox = outbox(rt.alloc(), sql).expect(&rt, "outbox");
+        says(&rt, &mut outbox, &calls);
+    }
+}
+
 #[test]
 fn another_database_is_foreign_and_stays(rt: HostRuntime) {
     let other = "CREATE TABLE tap (a INTEGER NOT NULL) STRICT; INSERT INTO tap VALUES (5)";
@@ -141,67 +168,4 @@ fn another_database_is_foreign_and_stays(rt: HostRuntime) {
             Some((OpenFault::Foreign, rows))
         );
     }
-}
-
-/// A database in two disks in memory that fail after some calls.
-type Burning = Connection<FileStore<Fuse<Memory>>>;
-
-fn burning(alloc: Global, calls: u64) -> Option<Burning> {
-    let files = Files {
-        log: Fuse::new(Memory::new(alloc), calls),
-        db: Fuse::new(Memory::new(alloc), calls),
-    };
-    Connection::open_files(alloc, files, Options::new(1)).ok()
-}
-
-// The database after the machine stopped and came back.
-fn reopened<S: Alter + Reopen + Drop>(alloc: Global, conn: Connection<S>) -> Option<Connection<S>> {
-    let mut store = conn.into_store();
-    store.crash_and_reopen().ok()?;
-    Connection::over(alloc, store).ok()
-}
-
-// How many taps were stored before a disk that fails after some calls failed, and how many an open then finds: the
-// greatest link, and whether the row of that link and no later one is there.
-fn stopped(alloc: Global, calls: u64) -> Option<(u64, u64, bool)> {
-    let conn = burning(alloc, calls)?;
-    let mut outbox = SqlOutbox::open(alloc, conn).ok()?;
-    let mut stored = 0u64;
-    for link in 1..=5 {
-        match ask(&mut outbox, Asked::Store(link, link))? {
-            Said::Stored(Ok(())) => stored = link,
-            Said::Stored(Err(Refused::Failed(Fault::Store))) => break,
-            _ => return None,
-        }
-    }
-    let conn = reopened(alloc, outbox.into_connection())?;
-    let mut outbox = SqlOutbox::open(alloc, conn).ok()?;
-    let Said::Number(Ok(upto)) = ask(&mut outbox, Asked::Upto)? else {
-        return None;
-    };
-    let last = ask(&mut outbox, Asked::NextRow(upto.saturating_sub(1)))?;
-    let next = ask(&mut outbox, Asked::NextRow(upto))?;
-    let whole = last == Said::Found(Ok(if upto == 0 { None } else { Some(upto) }));
-    Some((stored, upto, whole && next == Said::Found(Ok(None))))
-}
-
-#[test]
-fn a_stop_leaves_a_tap_and_its_link_or_neither(rt: HostRuntime) {
-    let mut early = 0u64;
-    let mut full = 0u64;
-    for calls in [16, 24, 32, 40, 48, 56, 64, 72, 80, 1_000] {
-        let Some((stored, upto, whole)) = stopped(rt.alloc(), calls) else {
-            continue;
-        };
-        assert_eq!(rt;
-            (whole, upto == stored || upto == stored.saturating_add(1)),
-            (true, true)
-        );
-        if stored == 5 {
-            full = full.saturating_add(1);
-        } else {
-            early = early.saturating_add(1);
-        }
-    }
-    assert_eq!(rt; (early > 0, full > 0), (true, true));
 }
