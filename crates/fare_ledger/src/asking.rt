@@ -3,7 +3,7 @@ ghost use Rattle.sqlite.specs.State.{HasCleanDisk, Survives, Shown, QueriesRow};
 ghost use Rattle.sqlite.specs.Held.{state};
 ghost use Rattle.sqlite.specs.Values.{bound};
 ghost use Rattle.fare_tables.specs.Asking.{IsLive, IsAtRest, SameRows, Reads};
-ghost use Rattle.fare_ledger.specs.Orders.{schema_in, ours};
+ghost use Rattle.fare_ledger.specs.Orders.{schema_in};
 
 use crate::Order;
 use fare_store::Fault;

@@ -4,7 +4,7 @@ ghost use Rattle.sqlite.specs.State.{HasCleanDisk, Survives, Shown};
 ghost use Rattle.sqlite.specs.Held.{state};
 ghost use Rattle.sqlite.specs.Values.{bound};
 ghost use Rattle.fare_tables.specs.Asking.{IsLive, IsAtRest, SameRows, Reads};
-ghost use Rattle.fare_tables.specs.Making.{no_schema, Finds};
+ghost use Rattle.fare_tables.specs.Making.{no_schema};
 ghost use Rattle.fare_outbox.specs.Orders.{schema_in, ours};
 ghost use Rattle.fare_store.specs.OutboxWords.{IsEmptyOutbox};
 ghost use Rattle.fare_tables.specs.Tabled.{IsFit};
