@@ -8,4 +8,3 @@ pub mod Counting
 pub mod Least
 pub mod Steps
 pub mod Removing
-mod Nodes

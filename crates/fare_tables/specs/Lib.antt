@@ -5,4 +5,3 @@ pub mod Making
 pub mod Tabled
 pub mod Opened
 pub mod Records
-pub mod Schemas

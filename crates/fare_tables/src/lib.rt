@@ -1,6 +1,5 @@
 //! What a store in tables of SQLite asks of its connection, over the kit's port: a question that has at most one
-//! row or several, a statement in a transaction, the schema that a database has beside the one that is wanted,
-//! and numbers in cells. Each call says what it leaves of the rows, what a stop at that moment may leave, and
+//! row or several, a statement in a transaction, and numbers in cells. Each call says what it leaves of the rows, what a stop at that moment may leave, and
 //! whether the connection stays open. Want of memory is told apart from all other failures, and these are counted.
 #![tactic(auto)]
 
@@ -10,12 +9,10 @@ mod changing;
 mod faults;
 mod opening;
 mod records;
-mod schemas;
 
 pub use asking::{ask, ask_all, touch};
 pub use cells::{cell_number, cell_total, parameter};
 pub use changing::change;
 pub use faults::{fault_of, note};
-pub use opening::{Found, OpenFault, find, make_table, open_fault};
+pub use opening::{OpenFault, make_table, open_fault};
 pub use records::{cell_count, cell_day, cell_tap_number, tap_in_cells};
-pub use schemas::{is_blank, same_schema};

@@ -3,13 +3,12 @@ ghost use Rattle.sqlite.specs.State.{HasCleanDisk, Survives};
 ghost use Rattle.sqlite.specs.Held.{state};
 ghost use Rattle.sqlite.specs.Table.{Table};
 ghost use Rattle.fare_tables.specs.Asking.{Inside};
-ghost use Rattle.fare_tables.specs.Making.{Defines, Made, Finds};
+ghost use Rattle.fare_tables.specs.Making.{Defines, Made};
 ghost use Rattle.fare_tables.specs.Opened.{opening_fault};
 
-use crate::{change, is_blank, same_schema};
+use crate::change;
 use fare_store::Fault;
 use sqlite::{Alter, Transaction};
-use sqlite_schema::schema::Schema;
 use thiserror::Error;
 
 /// Why a database isn't opened as a store, in the order in which this is tested.
@@ -33,30 +32,6 @@ pub fn open_fault(fault: Fault) -> OpenFault
     match fault {
         Fault::Memory => OpenFault::Memory,
         Fault::Store => OpenFault::Store,
-    }
-}
-
-/// What a database holds, by its schema.
-#[derive(Clone, Copy, PartialEq, Eq, Debug)]
-pub enum Found {
-    /// No table, index or view.
-    Blank,
-    /// The tables of the store and nothing else.
-    Ours,
-    /// Anything else.
-    Other,
-}
-
-/// What a schema is beside the wanted one.
-pub fn find(schema: &Schema, wanted: &Schema) -> Found
-    ensures { Finds schema.now wanted.now result }
-{
-    if is_blank(schema) {
-        Found::Blank
-    } else if same_schema(schema, wanted) {
-        Found::Ours
-    } else {
-        Found::Other
     }
 }
 

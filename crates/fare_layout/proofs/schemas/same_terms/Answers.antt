@@ -1,7 +1,7 @@
 use Rattle.std.proofs.Common.{◌≡◌, IsTrue, sym, subst, ◌∙◌}
 use Rattle.sqlite_schema.specs.Code.{terms_in}
-use Rattle.fare_tables.specs.Schemas.{AreSimple}
-use Rattle.fare_tables.proofs.schemas.same_terms.Goals as goal
+use Rattle.fare_layout.specs.Schemas.{AreSimple}
+use Rattle.fare_layout.proofs.schemas.same_terms.Goals as goal
 
 pub returns-clause-found : goal.returns-clause-found
 returns-clause-found c simple same =

@@ -1,5 +1,5 @@
 use Rattle.std.proofs.Common.{length}
-use Rattle.fare_tables.proofs.schemas.+same_orders.Given as goal
+use Rattle.fare_layout.proofs.schemas.+same_orders.Given as goal
 
 abbrev pub decreases-same_orders : goal.decreases-same_orders
 decreases-same_orders l = length l.a.now

@@ -1,5 +1,5 @@
 use Rattle.std.proofs.Common.{length}
-use Rattle.fare_tables.proofs.schemas.+same_columns.Given as goal
+use Rattle.fare_layout.proofs.schemas.+same_columns.Given as goal
 
 abbrev pub decreases-same_columns : goal.decreases-same_columns
 decreases-same_columns l = length l.a.now

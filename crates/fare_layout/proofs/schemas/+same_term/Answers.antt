@@ -2,8 +2,8 @@ use Rattle.std.proofs.Common.{rules, ◌≡◌, ◌-◌, sym, ap, ◌∙◌, ℕ
 use Rattle.sqlite_schema.specs.Code.{term_to, op_term}
 use Rattle.sqlite_schema.specs.declared.code.Op.TheVariants.{Unary, Binary}
 use Rattle.sqlite_sql.specs.Term.{op1, op2}
-use Rattle.fare_tables.proofs.Nodes.{op1_same, op2_same, term_at}
-use Rattle.fare_tables.proofs.schemas.+same_term.Goals as goal
+use Rattle.fare_layout.proofs.Nodes.{op1_same, op2_same, term_at}
+use Rattle.fare_layout.proofs.schemas.+same_term.Goals as goal
 
 pub returns-then-same_term-clause-found : goal.returns-then-same_term-clause-found
 returns-then-same_term-clause-found t c simple same =

@@ -4,7 +4,7 @@ ghost use Rattle.sqlite_schema.specs.Code.{term_to, term_in};
 ghost use Rattle.sqlite_sql.specs.Term.{lit};
 ghost use Rattle.sqlite_value.specs.declared.value.Value.TheVariants as value;
 ghost use Rattle.fare_tables.specs.Making.{no_schema};
-ghost use Rattle.fare_tables.specs.Schemas.{IsSimple, IsSimpleTerm, AreSimple, AreSimpleColumns, IsSimpleTable, IsSimpleSchema};
+ghost use Rattle.fare_layout.specs.Schemas.{IsSimple, IsSimpleTerm, AreSimple, AreSimpleColumns, IsSimpleTable, IsSimpleSchema};
 
 use sqlite_items::Items;
 use sqlite_schema::code::{Op, Terms};
