@@ -1,1 +1,3 @@
 mod Nodes
+mod Four
+mod Creation

@@ -1,2 +1,5 @@
 pub mod Schemas
 pub mod Commands
+pub mod Places
+pub mod Layouts
+pub mod Growing

@@ -1,8 +1,7 @@
--- The schemas that the tables of a store have.
+-- The tables that a store has.
 use Rattle.std.specs.Prelude.{◌≡◌, List, []}
 use Rattle.std.specs.List.{AllByRecursion}
 use Rattle.sqlite_schema.specs.declared.schema.Column.{Column}
-use Rattle.sqlite.specs.Schema.{Schema}
 use Rattle.sqlite.specs.Table.{Table}
 use Rattle.sqlite.specs.declared.types.Value.{Value}
 use Rattle.sqlite.specs.declared.types.Value.TheVariants.{Null, Int, Real, Text, Blob}
@@ -37,8 +36,3 @@ pub record IsSimpleTable (t : Table) : Type 0 where
   pub references : t.references ≡ []
   pub stamps : AreSimple t.stamps.terms
   pub formats : t.stamps.formats ≡ []
-
--- such tables alone, with their indexes
-pub record IsSimpleSchema (s : Schema) : Type 0 where
-  pub tables : AllByRecursion IsSimpleTable s.tables
-  pub views : s.views ≡ []

@@ -4,14 +4,14 @@
 //! means the same.
 #![tactic(auto)]
 
-mod commands;
+mod growing;
+mod layout;
 mod meaning;
 mod place;
-mod plans;
+mod places;
 mod schemas;
 
-pub use commands::same_command;
+pub use growing::grow_by;
+pub use layout::find_places;
 pub use meaning::keeps_meaning;
-pub use place::{Kind, Place};
-pub use plans::same_plan;
-pub use schemas::{is_blank, same_schema};
+pub use place::{Kind, Place, Places};

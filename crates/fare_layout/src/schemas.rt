@@ -1,36 +1,15 @@
-ghost use Rattle.std.specs.Prelude.{◌≡◌, ◌↔◌, [], map, IsTrue};
-ghost use Rattle.std.specs.List.{AllByRecursion};
+ghost use Rattle.std.specs.Prelude.{◌≡◌, ◌↔◌, map, IsTrue};
 ghost use Rattle.sqlite_schema.specs.Code.{term_to, term_in};
 ghost use Rattle.sqlite_sql.specs.Term.{lit};
 ghost use Rattle.sqlite_value.specs.declared.value.Value.TheVariants as value;
-ghost use Rattle.fare_tables.specs.Making.{no_schema};
-ghost use Rattle.fare_layout.specs.Schemas.{IsSimple, IsSimpleTerm, AreSimple, AreSimpleColumns, IsSimpleTable, IsSimpleSchema};
+ghost use Rattle.fare_layout.specs.Schemas.{IsSimple, IsSimpleTerm, AreSimple, AreSimpleColumns, IsSimpleTable};
 
 use sqlite_items::Items;
 use sqlite_schema::code::{Op, Terms};
-use sqlite_schema::schema::{Column, Index, Schema, Table};
+use sqlite_schema::schema::{Column, Table};
 use sqlite_sql::ops::{BinaryOp, UnaryOp};
 use sqlite_value::keys::Order;
 use sqlite_value::value::{Bytes, Value};
-
-/// Whether a database has no table, index or view.
-pub fn is_blank(schema: &Schema) -> bool
-    ensures { IsTrue result ↔ (schema.now ≡ no_schema) }
-{
-    schema.tables.is_empty() && schema.indexes.is_empty() && schema.views.is_empty()
-}
-
-/// Whether a schema is the very one that is wanted. The wanted one has no view, no reference to another table, and
-/// no default or literal but NULL and integers, as a store's own has none; of another one it may say no.
-pub fn same_schema(a: &Schema, b: &Schema) -> bool
-    ensures same { IsTrue result → a.now ≡ b.now }
-    ensures found { IsSimpleSchema b.now → a.now ≡ b.now → IsTrue result }
-{
-    same_tables(a.tables.as_slice(), b.tables.as_slice())
-        && same_indexes(a.indexes.as_slice(), b.indexes.as_slice())
-        && a.views.is_empty()
-        && b.views.is_empty()
-}
 
 fn same_bytes(a: &Bytes, b: &Bytes) -> bool
     ensures { IsTrue result ↔ (a.now ≡ b.now) }
@@ -181,12 +160,13 @@ fn same_terms(a: &Terms, b: &Terms) -> bool
     )
 }
 
-fn same_table(a: &Table, b: &Table) -> bool
-    ensures same { IsTrue result → a.now ≡ b.now }
-    ensures found { IsSimpleTable b.now → a.now ≡ b.now → IsTrue result }
+/// Whether a table is another one, but for the tree of its rows. The other has no reference to a table, and no
+/// default or literal but NULL and integers, as a store's own has none; of another one it may say no.
+pub(crate) fn same_shape(a: &Table, b: &Table) -> bool
+    ensures same { IsTrue result → a.now ≡ record b.now { tree = a.now.tree } }
+    ensures found { IsSimpleTable b.now → a.now ≡ record b.now { tree = a.now.tree } → IsTrue result }
 {
     same_bytes(&a.name, &b.name)
-        && a.tree == b.tree
         && same_columns(a.columns.as_slice(), b.columns.as_slice())
         && a.key == b.key
         && a.primary.as_slice() == b.primary.as_slice()
@@ -202,7 +182,7 @@ fn same_rest(a: &Table, b: &Table) -> bool
     ensures computed { IsTrue result → (a.now.computed ≡ b.now.computed) }
     ensures stamps { IsTrue result → (a.now.stamps ≡ b.now.stamps) }
     ensures counted { IsTrue result → (a.now.is_counted ≡ b.now.is_counted) }
-    ensures found { IsSimpleTable b.now → a.now ≡ b.now → IsTrue result }
+    ensures found { IsSimpleTable b.now → a.now ≡ record b.now { tree = a.now.tree } → IsTrue result }
 {
     a.references.is_empty()
         && b.references.is_empty()
@@ -212,36 +192,4 @@ fn same_rest(a: &Table, b: &Table) -> bool
         && a.stamps.formats.is_empty()
         && b.stamps.formats.is_empty()
         && a.is_counted == b.is_counted
-}
-
-fn same_tables(a: &[Table], b: &[Table]) -> bool
-    ensures same { IsTrue result → a.now ≡ b.now }
-    ensures found { AllByRecursion IsSimpleTable b.now → a.now ≡ b.now → IsTrue result }
-{
-    match (a, b) {
-        ([], []) => true,
-        ([x, xs @ ..], [y, ys @ ..]) => same_table(x, y) && same_tables(xs, ys),
-        _ => false,
-    }
-}
-
-fn same_index(a: &Index, b: &Index) -> bool
-    ensures { IsTrue result ↔ (a.now ≡ b.now) }
-{
-    same_bytes(&a.name, &b.name)
-        && a.tree == b.tree
-        && a.table == b.table
-        && a.columns.as_slice() == b.columns.as_slice()
-        && a.order.digits == b.order.digits
-        && a.is_unique == b.is_unique
-}
-
-fn same_indexes(a: &[Index], b: &[Index]) -> bool
-    ensures { IsTrue result ↔ (a.now ≡ b.now) }
-{
-    match (a, b) {
-        ([], []) => true,
-        ([x, xs @ ..], [y, ys @ ..]) => same_index(x, y) && same_indexes(xs, ys),
-        _ => false,
-    }
 }

@@ -1,0 +1,60 @@
+-- When a schema has a store's tables, and the store's statements mean there what they should.
+use Rattle.std.specs.Prelude.{◌≡◌, ◌≢◌, ◌^◌, ℕ, nat_le, false, List, [], ◌∷◌, find, slice_get, Some, IfSome}
+use Rattle.std.specs.List.{AllByRecursion, AllZip}
+use Rattle.sqlite.specs.Schema.{Schema}
+use Rattle.sqlite.specs.Table.{Table}
+use Rattle.sqlite_schema.specs.declared.schema.Index.{Index}
+use Rattle.sqlite_schema.specs.declared.schema.Reference.{Reference}
+use Rattle.sqlite_schema.specs.Names.{same_name, table_named}
+use Rattle.fare_layout.specs.declared.place.Kind.{Kind}
+use Rattle.fare_layout.specs.declared.place.Place.{Place}
+use Rattle.fare_layout.specs.declared.place.Places.{Places}
+use Rattle.sqlite_schema.specs.declared.command.Command.{Command}
+use Rattle.fare_layout.specs.Commands.{IsMeant, IsSimpleCommand, KeepsMeaning}
+use Rattle.fare_layout.specs.Places.{place_of, all_of, AreApart}
+
+-- a table, but for its tree, is at a place, and its name finds it there
+pub record Stands (schema : Schema) (table : Table) (place : Place) : Type 0 where
+  pub named : table_named schema table.name ≡ Some place.at
+  pub there : slice_get schema.tables place.at ≡ Some (record table { tree = place.tree })
+  pub low : nat_le (2 ^ 31) place.tree ≡ false
+
+-- a foreign key refers to a table of another tree, or to none
+abbrev pub RefersElsewhere : Schema → ℕ → Reference → Type 0
+RefersElsewhere schema tree r = IfSome (find (λ (t : Table). same_name t.name r.parent) schema.tables) (λ t. t.tree ≢ tree)
+
+-- so does each one
+abbrev pub IsFree : Schema → ℕ → Type 0
+IsFree schema tree = AllByRecursion (λ (t : Table). AllByRecursion (RefersElsewhere schema tree) t.references) schema.tables
+
+-- no foreign key refers to one of the store's tables
+pub record AreFree (schema : Schema) (p : Places) : Type 0 where
+  pub meta : IsFree schema p.meta.tree
+  pub device : IsFree schema p.device.tree
+  pub tap : IsFree schema p.tap.tree
+  pub stated : IsFree schema p.stated.tree
+
+-- no index of a table is by its rowid
+abbrev pub HasNoRowidIndex : Schema → ℕ → Type 0
+HasNoRowidIndex schema tree = AllByRecursion (λ (i : Index). i.table ≡ tree → i.columns ≢ 0 ∷ []) schema.indexes
+
+-- nothing else reaches into the tables
+pub record IsUntouched (schema : Schema) (p : Places) : Type 0 where
+  pub apart : AreApart p
+  pub free : AreFree schema p
+  pub by_rowid : HasNoRowidIndex schema p.device.tree
+
+-- each text means what it means under the own schema, over the table of its kind
+abbrev pub KeepsMeanings : Schema → Schema → Places → List (Kind × List ℕ) → Type 0
+KeepsMeanings own schema p texts = AllByRecursion (λ (t : Kind × List ℕ). KeepsMeaning own schema (place_of p t.0) t.1) texts
+
+-- a schema has the tables of the store's own schema at these places, nothing else reaches into them, and each
+-- text means what it means under the own schema
+pub record Fits (own : Schema) (texts : List (Kind × List ℕ)) (schema : Schema) (p : Places) : Type 0 where
+  pub stands : AllZip (Stands schema) own.tables (all_of p)
+  pub untouched : IsUntouched schema p
+  pub keeps : KeepsMeanings own schema p texts
+
+-- each text means something of the usual form under the own schema
+abbrev pub AreUnderstood : Schema → List (Kind × List ℕ) → Type 0
+AreUnderstood own texts = AllByRecursion (λ (t : Kind × List ℕ). (c : Command) × IsMeant own t.1 c × IsSimpleCommand c) texts
