@@ -27,13 +27,13 @@ use Rattle.fare_tables.proofs.Rows.{all_of, rows_filter}
 use Rattle.fare_tables.proofs.Removing.{id_shown, left_over}
 use Rattle.fare_tables.proofs.Statements.{made, went, same_value}
 use Rattle.fare_tables.proofs.Terms.{chosen, matched, eq_holds, le_holds, three_terms}
-use Rattle.fare_outbox.specs.declared.order.Kind.TheVariants.{Device, Tap, Stated}
-use Rattle.fare_outbox.specs.declared.order.Order.{Order}
-use Rattle.fare_outbox.specs.Orders.{schema_in, tree_in, ours}
+use Rattle.fare_layout.specs.declared.place.Kind.TheVariants.{Device, Tap, Stated}
+use Rattle.fare_outbox.specs.declared.layout.Layout.{Layout}
+use Rattle.fare_outbox.specs.Layouts.{schema_in, tree_in, ours}
 use Rattle.fare_outbox.specs.Tables.{tap_table, cut_terms, cut_query}
 use Rattle.fare_outbox.specs.Held.{AreReadable, Becomes, IsDevice, IsTap, IsStated, upto_of, tap_cells, tap_of, stated_of, held_of, is_cut, without_lane}
 use Rattle.fare_outbox.proofs.Texts.{cut_text, cut_command, cut_meant}
-use Rattle.fare_outbox.proofs.Ordered.{no_works, tap_placed, each, at_found, device_is_not_tap, stated_is_not_tap}
+use Rattle.fare_outbox.proofs.Placed.{no_works, tap_placed, each, at_found, device_is_not_tap, stated_is_not_tap}
 use Rattle.fare_outbox.proofs.Found.{asked, at_tap}
 use Rattle.fare_outbox.proofs.Puts.{tap_ids}
 
@@ -64,11 +64,11 @@ answer_length db o d l out ok a =
     let rows : length out ≡ length a.ordered = ap length a.shown ∙ length-map a.ordered (λ (p : Output). p.1) in
     rows ∙ same ∙ length-map (filter (goes o d l) (db 2)) id_shown ∙ sym (ap length (filter_of_map tap_of (is_cut o d l) (db 2)) ∙ length-map (filter (goes o d l) (db 2)) tap_of)
 
-pub record IsCut (w : Order) (old new : Database) (o d l count : ℕ) : Type 0 where
+pub record IsCut (w : Layout) (old new : Database) (o d l count : ℕ) : Type 0 where
   pub becomes : Becomes w new (without_lane o d l (held_of (ours w old.trees)))
   pub counted : count ≡ length (filter (is_cut o d l) (held_of (ours w old.trees)).taps)
 
-pub cuts : (w : Order) (old new : State) (o d l count : ℕ) → old.now.schema ≡ schema_in w → AreReadable (ours w old.now.trees) → Executes cut_text (asked o d l) old new (Ok count) → IsCut w old.now new.now o d l count
+pub cuts : (w : Layout) (old new : State) (o d l count : ℕ) → old.now.schema ≡ schema_in w → AreReadable (ours w old.now.trees) → Executes cut_text (asked o d l) old new (Ok count) → IsCut w old.now new.now o d l count
 unfolding ours
 cuts w old new o d l count has ok h =
     let db = old.now.trees in

@@ -20,10 +20,10 @@ use Rattle.fare_tables.proofs.Terms.{chosen, matched, eq_holds, gt_holds, ge_hol
 use Rattle.fare_tables.proofs.Rows.{all_of, held_one}
 use Rattle.fare_tables.proofs.Counting.{found, count_answer}
 use Rattle.fare_tables.proofs.Least.{IsLeastOf, least_answer}
-use Rattle.fare_outbox.specs.declared.order.Kind.TheVariants.{Meta, Device, Tap, Stated}
-use Rattle.fare_outbox.specs.declared.order.Order.{Order}
-use Rattle.fare_outbox.specs.Orders.{schema_in, tree_in, ours, at_tree}
-use Rattle.fare_outbox.proofs.Ordered.{each_low}
+use Rattle.fare_layout.specs.declared.place.Kind.TheVariants.{Meta, Device, Tap, Stated}
+use Rattle.fare_outbox.specs.declared.layout.Layout.{Layout}
+use Rattle.fare_outbox.specs.Layouts.{schema_in, tree_in, ours, at_tree}
+use Rattle.fare_outbox.proofs.Placed.{each_low}
 use Rattle.fare_outbox.specs.Tables.{link_query, row_terms, row_columns, row_query, day_terms, day_columns, day_query, seen_terms}
 use Rattle.fare_outbox.specs.Held.{device_row, IsDevice, upto_of, tap_cells, tap_of, IsTap, stated_cells, stated_of, IsStated, is_past, IsNext, is_from, IsNextStated, is_seen}
 use Rattle.fare_outbox.specs.Shown.{ShowsRow, ShowsStatement}
@@ -62,19 +62,19 @@ moved q tree number db other params rows same a = record {
 over : (db : Trees) (tree : ℕ) → nat_le (2 ^ 31) tree ≡ false → overlay db [] tree ≡ db tree
 over db tree low = rw low refl
 
-pub at_meta : (w : Order) (q : Query) (db : Trees) (params : Row) (rows : List Row) → IsAnswer (at_tree (tree_in w Meta) q) (overlay db []) params rows → IsAnswer (at_tree 0 q) (overlay (ours w db) []) params rows
+pub at_meta : (w : Layout) (q : Query) (db : Trees) (params : Row) (rows : List Row) → IsAnswer (at_tree (tree_in w Meta) q) (overlay db []) params rows → IsAnswer (at_tree 0 q) (overlay (ours w db) []) params rows
 unfolding ours
 at_meta w q db params rows = moved q (tree_in w Meta) 0 db (overlay (ours w db) []) params rows (over db (tree_in w Meta) (each_low w).meta)
 
-pub at_device : (w : Order) (q : Query) (db : Trees) (params : Row) (rows : List Row) → IsAnswer (at_tree (tree_in w Device) q) (overlay db []) params rows → IsAnswer (at_tree 1 q) (overlay (ours w db) []) params rows
+pub at_device : (w : Layout) (q : Query) (db : Trees) (params : Row) (rows : List Row) → IsAnswer (at_tree (tree_in w Device) q) (overlay db []) params rows → IsAnswer (at_tree 1 q) (overlay (ours w db) []) params rows
 unfolding ours
 at_device w q db params rows = moved q (tree_in w Device) 1 db (overlay (ours w db) []) params rows (over db (tree_in w Device) (each_low w).device)
 
-pub at_tap : (w : Order) (q : Query) (db : Trees) (params : Row) (rows : List Row) → IsAnswer (at_tree (tree_in w Tap) q) (overlay db []) params rows → IsAnswer (at_tree 2 q) (overlay (ours w db) []) params rows
+pub at_tap : (w : Layout) (q : Query) (db : Trees) (params : Row) (rows : List Row) → IsAnswer (at_tree (tree_in w Tap) q) (overlay db []) params rows → IsAnswer (at_tree 2 q) (overlay (ours w db) []) params rows
 unfolding ours
 at_tap w q db params rows = moved q (tree_in w Tap) 2 db (overlay (ours w db) []) params rows (over db (tree_in w Tap) (each_low w).tap)
 
-pub at_stated : (w : Order) (q : Query) (db : Trees) (params : Row) (rows : List Row) → IsAnswer (at_tree (tree_in w Stated) q) (overlay db []) params rows → IsAnswer (at_tree 5 q) (overlay (ours w db) []) params rows
+pub at_stated : (w : Layout) (q : Query) (db : Trees) (params : Row) (rows : List Row) → IsAnswer (at_tree (tree_in w Stated) q) (overlay db []) params rows → IsAnswer (at_tree 5 q) (overlay (ours w db) []) params rows
 unfolding ours
 at_stated w q db params rows = moved q (tree_in w Stated) 5 db (overlay (ours w db) []) params rows (over db (tree_in w Stated) (each_low w).stated)
 
@@ -102,7 +102,7 @@ link_answer db d rows ok a =
           inr (shown (o ∷ []) (one_permutation o a.ordered (subst (λ k. IsPermutation k a.ordered) kept a.same)) ∙ ap (λ v. (v ∷ []) ∷ []) value))
     ]
 
-pub link_row : (w : Order) (old new : State) (d : ℕ) (row : Row) → old.now.schema ≡ schema_in w → AreRows IsDevice (ours w old.now.trees 1) → QueriesRow link_text (int d ∷ []) old new (Ok row) → row ≡ int (upto_of (held (ours w old.now.trees 1) d)) ∷ []
+pub link_row : (w : Layout) (old new : State) (d : ℕ) (row : Row) → old.now.schema ≡ schema_in w → AreRows IsDevice (ours w old.now.trees 1) → QueriesRow link_text (int d ∷ []) old new (Ok row) → row ≡ int (upto_of (held (ours w old.now.trees 1) d)) ∷ []
 link_row w old new d row has ok h =
     let got = (first_as link_text (int d ∷ []) old new (schema_in w) has _ (link_meant w).command_is (link_meant w).plain (link_meant w).unlisted row h).1 in
     let a : IsAnswer link_query (overlay (ours w old.now.trees) []) (int d ∷ []) (row ∷ got.0) = at_device w link_query old.now.trees (int d ∷ []) (row ∷ got.0) (got.1 Null) in
@@ -111,7 +111,7 @@ link_row w old new d row has ok h =
       | inr one ↦ (let e = one in cc)
     ]
 
-pub link_none : (w : Order) (old new : State) (d : ℕ) → old.now.schema ≡ schema_in w → AreRows IsDevice (ours w old.now.trees 1) → Shown link_text (int d ∷ []) old new [] → upto_of (held (ours w old.now.trees 1) d) ≡ 0
+pub link_none : (w : Layout) (old new : State) (d : ℕ) → old.now.schema ≡ schema_in w → AreRows IsDevice (ours w old.now.trees 1) → Shown link_text (int d ∷ []) old new [] → upto_of (held (ours w old.now.trees 1) d) ≡ 0
 link_none w old new d has ok shown =
     let read = reads_as link_text (int d ∷ []) old new (schema_in w) has _ (link_meant w).command_is (link_meant w).plain (link_meant w).unlisted [] shown in
     elim (link_answer (ours w old.now.trees) d [] ok (at_device w link_query old.now.trees (int d ∷ []) [] (read.answer Null))) [
@@ -167,7 +167,7 @@ same_tap o d n t u row shows past is =
       };
     }
 
-pub next_row : (w : Order) (old new : State) (o d n : ℕ) (t : RecordValue) (row : Row) → ShowsRow row o d t → old.now.schema ≡ schema_in w → AreRows IsTap (ours w old.now.trees 2)
+pub next_row : (w : Layout) (old new : State) (o d n : ℕ) (t : RecordValue) (row : Row) → ShowsRow row o d t → old.now.schema ≡ schema_in w → AreRows IsTap (ours w old.now.trees 2)
     → QueriesRow next_text (asked o d n) old new (Ok row) → IsNext (map tap_of (ours w old.now.trees 2)) o d n (Some t)
 next_row w old new o d n t row shows has ok h =
     let got = (first_as next_text (asked o d n) old new (schema_in w) has _ (next_meant w).command_is (next_meant w).plain (next_meant w).unlisted row h).1 in
@@ -180,7 +180,7 @@ next_row w old new o d n t row shows has ok h =
           subst (λ u. IsNext (map tap_of (ours w old.now.trees 2)) o d n (Some u)) (same_tap o d n it.one t row shows past first) (it.has, it.least))
     ]
 
-pub next_none : (w : Order) (old new : State) (o d n : ℕ) → old.now.schema ≡ schema_in w → AreRows IsTap (ours w old.now.trees 2) → Shown next_text (asked o d n) old new [] → IsNext (map tap_of (ours w old.now.trees 2)) o d n None
+pub next_none : (w : Layout) (old new : State) (o d n : ℕ) → old.now.schema ≡ schema_in w → AreRows IsTap (ours w old.now.trees 2) → Shown next_text (asked o d n) old new [] → IsNext (map tap_of (ours w old.now.trees 2)) o d n None
 next_none w old new o d n has ok shown =
     let read = reads_as next_text (asked o d n) old new (schema_in w) has _ (next_meant w).command_is (next_meant w).plain (next_meant w).unlisted [] shown in
     elim (row_answer (ours w old.now.trees) o d n [] ok (at_tap w row_query old.now.trees (asked o d n) [] (read.answer Null))) [
@@ -226,7 +226,7 @@ same_statement o d n s u row shows from is =
       count = ap nat_in (at 1 ∙ shows.count) i;
     }
 
-pub next_day_row : (w : Order) (old new : State) (o d n : ℕ) (s : StatementValue) (row : Row) → ShowsStatement row o d s → old.now.schema ≡ schema_in w → AreRows IsStated (ours w old.now.trees 5)
+pub next_day_row : (w : Layout) (old new : State) (o d n : ℕ) (s : StatementValue) (row : Row) → ShowsStatement row o d s → old.now.schema ≡ schema_in w → AreRows IsStated (ours w old.now.trees 5)
     → QueriesRow next_day_text (asked o d n) old new (Ok row) → IsNextStated (map stated_of (ours w old.now.trees 5)) o d n (Some s)
 next_day_row w old new o d n s row shows has ok h =
     let got = (first_as next_day_text (asked o d n) old new (schema_in w) has _ (next_day_meant w).command_is (next_day_meant w).plain (next_day_meant w).unlisted row h).1 in
@@ -239,7 +239,7 @@ next_day_row w old new o d n s row shows has ok h =
           subst (λ u. IsNextStated (map stated_of (ours w old.now.trees 5)) o d n (Some u)) (same_statement o d n it.one s row shows from first) (it.has, it.least))
     ]
 
-pub next_day_none : (w : Order) (old new : State) (o d n : ℕ) → old.now.schema ≡ schema_in w → AreRows IsStated (ours w old.now.trees 5) → Shown next_day_text (asked o d n) old new [] → IsNextStated (map stated_of (ours w old.now.trees 5)) o d n None
+pub next_day_none : (w : Layout) (old new : State) (o d n : ℕ) → old.now.schema ≡ schema_in w → AreRows IsStated (ours w old.now.trees 5) → Shown next_day_text (asked o d n) old new [] → IsNextStated (map stated_of (ours w old.now.trees 5)) o d n None
 next_day_none w old new o d n has ok shown =
     let read = reads_as next_day_text (asked o d n) old new (schema_in w) has _ (next_day_meant w).command_is (next_day_meant w).plain (next_day_meant w).unlisted [] shown in
     elim (day_answer (ours w old.now.trees) o d n [] ok (at_stated w day_query old.now.trees (asked o d n) [] (read.answer Null))) [
@@ -254,7 +254,7 @@ all_found : (rows : List Row) → length (flat_map (λ r. matches_as Null (λ _.
 all_found [] = refl
 all_found (r ∷ rows) = ap (λ n. suc n) (all_found rows)
 
-pub rows_counted : (w : Order) (old new : State) (row : Row) → old.now.schema ≡ schema_in w → QueriesRow rows_text [] old new (Ok row) → row ≡ int (counted (length (map tap_of (ours w old.now.trees 2)))) ∷ []
+pub rows_counted : (w : Layout) (old new : State) (row : Row) → old.now.schema ≡ schema_in w → QueriesRow rows_text [] old new (Ok row) → row ≡ int (counted (length (map tap_of (ours w old.now.trees 2)))) ∷ []
 rows_counted w old new row has h =
     let got = (first_as rows_text [] old new (schema_in w) has _ (rows_meant w).command_is (rows_meant w).plain (rows_meant w).unlisted row h).1 in
     let a : IsAnswer (count_query 2 []) (overlay (ours w old.now.trees) []) [] (row ∷ got.0) = at_tap w (count_query 2 []) old.now.trees [] (row ∷ got.0) (got.1 Null) in
@@ -262,7 +262,7 @@ rows_counted w old new row has h =
     let first : row ≡ int (counted (length (found 2 [] (overlay (ours w old.now.trees) []) []))) ∷ [] = cc in
     first ∙ ap (λ n. int (counted n) ∷ []) (all_found (ours w old.now.trees 2) ∙ sym (length-map (ours w old.now.trees 2) tap_of))
 
-pub statements_counted : (w : Order) (old new : State) (row : Row) → old.now.schema ≡ schema_in w → QueriesRow statements_text [] old new (Ok row) → row ≡ int (counted (length (map stated_of (ours w old.now.trees 5)))) ∷ []
+pub statements_counted : (w : Layout) (old new : State) (row : Row) → old.now.schema ≡ schema_in w → QueriesRow statements_text [] old new (Ok row) → row ≡ int (counted (length (map stated_of (ours w old.now.trees 5)))) ∷ []
 statements_counted w old new row has h =
     let got = (first_as statements_text [] old new (schema_in w) has _ (statements_meant w).command_is (statements_meant w).plain (statements_meant w).unlisted row h).1 in
     let a : IsAnswer (count_query 5 []) (overlay (ours w old.now.trees) []) [] (row ∷ got.0) = at_stated w (count_query 5 []) old.now.trees [] (row ∷ got.0) (got.1 Null) in
@@ -276,7 +276,7 @@ seen_cell id upto = rw (gt_holds upto 0) (one_term (nat_lt 0 upto) ([] ∷ devic
 seen_each : (r : Row) → IsDevice r → matches_as Null (λ _. []) seen_terms end ([] ∷ r ∷ []) ≡ chosen (is_seen r) ([] ∷ r ∷ [])
 seen_each r ok = subst (λ x. matches_as Null (λ _. []) seen_terms end ([] ∷ x ∷ []) ≡ chosen (is_seen x) ([] ∷ x ∷ [])) (sym ok) (seen_cell (id_of r) (nat_in (column r 2)))
 
-pub seen_counted : (w : Order) (old new : State) (row : Row) → old.now.schema ≡ schema_in w → AreRows IsDevice (ours w old.now.trees 1) → QueriesRow seen_text [] old new (Ok row) → row ≡ int (counted (length (filter is_seen (ours w old.now.trees 1)))) ∷ []
+pub seen_counted : (w : Layout) (old new : State) (row : Row) → old.now.schema ≡ schema_in w → AreRows IsDevice (ours w old.now.trees 1) → QueriesRow seen_text [] old new (Ok row) → row ≡ int (counted (length (filter is_seen (ours w old.now.trees 1)))) ∷ []
 seen_counted w old new row has ok h =
     let got = (first_as seen_text [] old new (schema_in w) has _ (seen_meant w).command_is (seen_meant w).plain (seen_meant w).unlisted row h).1 in
     let a : IsAnswer (count_query 1 seen_terms) (overlay (ours w old.now.trees) []) [] (row ∷ got.0) = at_device w (count_query 1 seen_terms) old.now.trees [] (row ∷ got.0) (got.1 Null) in

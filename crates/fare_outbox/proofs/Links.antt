@@ -34,14 +34,14 @@ use Rattle.fare_tables.proofs.Lists.{member, of_filter}
 use Rattle.fare_tables.proofs.Rows.{all_of, held_one}
 use Rattle.fare_tables.proofs.Statements.{made, cast_int, cast_null, went, same_value}
 use Rattle.fare_tables.proofs.Terms.{chosen, matched, eq_holds, one_term}
-use Rattle.fare_outbox.specs.declared.order.Kind.TheVariants.{Device}
-use Rattle.fare_outbox.specs.declared.order.Order.{Order}
-use Rattle.fare_outbox.specs.Orders.{schema_in, tree_in, ours}
-use Rattle.fare_outbox.specs.Orders.{at_tree}
+use Rattle.fare_layout.specs.declared.place.Kind.TheVariants.{Device}
+use Rattle.fare_outbox.specs.declared.layout.Layout.{Layout}
+use Rattle.fare_outbox.specs.Layouts.{schema_in, tree_in, ours}
+use Rattle.fare_outbox.specs.Layouts.{at_tree}
 use Rattle.fare_outbox.specs.Tables.{device_table, renew_query}
 use Rattle.fare_outbox.specs.Held.{PutsLink, device_row, IsDevice}
 use Rattle.fare_outbox.proofs.Texts.{put_link_text, put_link_command, put_link_meant}
-use Rattle.fare_outbox.proofs.Ordered.{no_works, no_shares, device_placed, each, at_found, tap_is_not_device, stated_is_not_device, meta_is_not_device}
+use Rattle.fare_outbox.proofs.Placed.{no_works, no_shares, device_placed, each, at_found, tap_is_not_device, stated_is_not_device, meta_is_not_device}
 use Rattle.fare_outbox.proofs.Found.{device_ids, at_device}
 
 -- ---- the row that the update reads
@@ -83,7 +83,7 @@ renews db d u x rows ok has is a =
 
 -- ---- the conflict
 
-conflict_of : (way : Order) (a v d u : ℕ) → conflicts (Some (0 ∷ [])) (schema_in way).indexes (device_table (tree_in way Device)) (device_row d u) (device_row a v) ≡ (a == d)
+conflict_of : (way : Layout) (a v d u : ℕ) → conflicts (Some (0 ∷ [])) (schema_in way).indexes (device_table (tree_in way Device)) (device_row d u) (device_row a v) ≡ (a == d)
 unfolding first_key
 conflict_of way a v d u = rw (no_shares way (device_row d u) (device_row a v), eq_holds a d) (go (a == d))
   where
@@ -91,18 +91,18 @@ conflict_of way a v d u = rw (no_shares way (device_row d u) (device_row a v), e
     go true = refl
     go false = refl
 
-conflict_id : (way : Order) (r : Row) (d u : ℕ) → IsDevice r → conflicts (Some (0 ∷ [])) (schema_in way).indexes (device_table (tree_in way Device)) (device_row d u) r ≡ true → id_of r ≡ d
+conflict_id : (way : Layout) (r : Row) (d u : ℕ) → IsDevice r → conflicts (Some (0 ∷ [])) (schema_in way).indexes (device_table (tree_in way Device)) (device_row d u) r ≡ true → id_of r ≡ d
 conflict_id way r d u ok is =
     let same : (id_of r == d) ≡ true = sym (conflict_of way (id_of r) (nat_in (column r 2)) d u) ∙ subst (λ x. conflicts (Some (0 ∷ [])) (schema_in way).indexes (device_table (tree_in way Device)) (device_row d u) x ≡ true) ok is in
     grind (arith, nat_tests)
 
 -- ---- the ways to put the row in
 
-abbrev pub IsPut : Order → Trees → Trees → ℕ → ℕ → Type 0
+abbrev pub IsPut : Layout → Trees → Trees → ℕ → ℕ → Type 0
 IsPut way db next d u =
     ((ours way next 1 ≡ put_row (device_row d u) (ours way db 1)) ⊎ (ours way next 1 ≡ put_row (device_row d u) (without_rowid (pos d) (ours way db 1)))) × (ours way next 0 ≡ ours way db 0) × (ours way next 2 ≡ ours way db 2) × (ours way next 5 ≡ ours way db 5)
 
-module _ (way : Order) (limit : Option ℕ) (keys : Keys) (d u : ℕ) where
+module _ (way : Layout) (limit : Option ℕ) (keys : Keys) (d u : ℕ) where
   abbrev pub task : Task
   task = record { limit = limit; keys = keys; schema = schema_in way; table = device_table (tree_in way Device); params = int d ∷ int u ∷ [] }
 
@@ -188,7 +188,7 @@ module _ (way : Order) (limit : Option ℕ) (keys : Keys) (d u : ℕ) where
       let end : w.trees ≡ tried.0.0.trees = ap (λ (x : Written). x.trees) (same_value counted.2) ∙ same_value counted.1 in
       subst (λ t. IsPut way db t d u) (sym end) put
 
-pub puts_link : (way : Order) (old new : State) (d u : ℕ) (count : ℕ) → old.now.schema ≡ schema_in way → AreRows IsDevice (ours way old.now.trees 1) → Executes put_link_text (int d ∷ int u ∷ []) old new (Ok count) → PutsLink way old.now new.now d u
+pub puts_link : (way : Layout) (old new : State) (d u : ℕ) (count : ℕ) → old.now.schema ≡ schema_in way → AreRows IsDevice (ours way old.now.trees 1) → Executes put_link_text (int d ∷ int u ∷ []) old new (Ok count) → PutsLink way old.now new.now d u
 puts_link way old new d u count has ok h =
     let params = int d ∷ int u ∷ [] in
     let command = put_link_command way in

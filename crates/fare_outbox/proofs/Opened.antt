@@ -11,12 +11,12 @@ use Rattle.fare_tables.specs.Cells.{AreRows, held}
 use Rattle.fare_tables.specs.Making.{no_schema}
 use Rattle.fare_tables.specs.Schemas.{IsSimpleSchema, IsSimpleTable}
 use Rattle.fare_tables.specs.Tabled.{IsFit}
-use Rattle.fare_outbox.specs.declared.order.Order.{Order}
-use Rattle.fare_outbox.specs.declared.order.Kind.{Kind}
-use Rattle.fare_outbox.specs.declared.order.Kind.TheVariants.{Meta, Device, Tap, Stated}
+use Rattle.fare_outbox.specs.declared.layout.Layout.{Layout}
+use Rattle.fare_layout.specs.declared.place.Kind.{Kind}
+use Rattle.fare_layout.specs.declared.place.Kind.TheVariants.{Meta, Device, Tap, Stated}
 use Rattle.fare_outbox.specs.declared.order.Order.TheVariants.{MetaDeviceTapStated}
-use Rattle.fare_outbox.specs.Orders.{schema_in, ours, four, table_of}
-use Rattle.fare_outbox.proofs.Ordered.{same_trees}
+use Rattle.fare_outbox.specs.Layouts.{schema_in, ours, four, table_of}
+use Rattle.fare_outbox.proofs.Placed.{same_trees}
 use Rattle.fare_outbox.specs.Tables.{outbox_schema}
 use Rattle.fare_outbox.specs.Held.{AreReadable, IsReady, IsDevice, IsTap, IsStated, upto_of, tap_of, stated_of, held_of}
 use Rattle.fare_outbox.specs.Making.{IsNew}
@@ -24,7 +24,7 @@ use Rattle.fare_outbox.specs.Opening.{IsOurs, IsBlankOrOurs, IsOpened, IsCounted
 use Rattle.fare_outbox.specs.Words.{tap_key, stated_key, first_at, itself, count_of, value_at, value_in, AreApart, IsKnown, FitTogether, IsLawful, IsWell}
 
 -- no schema is both
-pub not_both : (o : Order) → ¬ (no_schema ≡ schema_in o)
+pub not_both : (o : Layout) → ¬ (no_schema ≡ schema_in o)
 unfolding schema_in
 not_both o same = let e = ap (λ (s : Schema). length s.tables) same in omega (arith, e)
 
@@ -74,7 +74,7 @@ new_fits new rows statements it =
     )
 
 -- the tables are an outbox's already
-pub taken_over : (old new : State) (o : Order) {E : Type 0} (r : Result (Option (Order × ℕ × ℕ)) E) → old.now.schema ≡ schema_in o → IfOk r (λ found. IfSome found (λ n. n.0 ≡ o))
+pub taken_over : (old new : State) (o : Layout) {E : Type 0} (r : Result (Option (Order × ℕ × ℕ)) E) → old.now.schema ≡ schema_in o → IfOk r (λ found. IfSome found (λ n. n.0 ≡ o))
     → (IsReady o old → IfOk r (λ found. IfSome found (λ n. IsCounted o old.now.trees n.1 n.2))) → (IsAtRest (schema_in o) old → SameRows old new) → IfOk r (λ found. IfSome found (λ n. Settles old new n.0 n.1 n.2))
 taken_over old new o (Ok (Some n)) has at counted same = record {
   made = λ none. absurd (not_both o (sym none ∙ has));
@@ -84,11 +84,11 @@ taken_over old new o (Ok None) has at counted same = tt
 taken_over old new o (Err e) has at counted same = tt
 
 -- what has the tables of an outbox isn't without tables
-pub not_blank : {E : Type 0} (old : State) (o : Order) (r : Result (Option (Order × ℕ × ℕ)) E) → old.now.schema ≡ schema_in o → IfOk r (λ found. found ≡ None → old.now.schema ≢ no_schema)
+pub not_blank : {E : Type 0} (old : State) (o : Layout) (r : Result (Option (Order × ℕ × ℕ)) E) → old.now.schema ≡ schema_in o → IfOk r (λ found. found ≡ None → old.now.schema ≢ no_schema)
 not_blank old o (Ok found) has = λ none blank. not_both o (sym blank ∙ has)
 not_blank old o (Err e) has = tt
 
-pub ours_too : {E : Type 0} (old : State) (o : Order) (r : Result (Option (Order × ℕ × ℕ)) E) → old.now.schema ≡ schema_in o → IfOk r (λ found. IfSome found (λ n. n.0 ≡ o)) → IfOk r (λ found. IfSome found (λ n. IsOurs (ours o old.now.trees)))
+pub ours_too : {E : Type 0} (old : State) (o : Layout) (r : Result (Option (Order × ℕ × ℕ)) E) → old.now.schema ≡ schema_in o → IfOk r (λ found. IfSome found (λ n. n.0 ≡ o)) → IfOk r (λ found. IfSome found (λ n. IsOurs (ours o old.now.trees)))
     → IfOk r (λ found. IfSome found (λ n. IsOpened old n.0))
 ours_too old o (Ok (Some n)) has at are = subst (IsOpened old) (sym at) (inr (has, are))
 ours_too old o (Ok None) has at are = tt
@@ -101,7 +101,7 @@ simple_table Device tree = record { columns = (tt, (tt, tt)); checks = ((tt, tt)
 simple_table Tap tree = record { columns = (tt, (tt, (tt, (tt, (tt, (tt, (tt, (tt, tt)))))))); checks = tt; references = refl; stamps = tt; formats = refl }
 simple_table Stated tree = record { columns = (tt, (tt, (tt, (tt, tt)))); checks = tt; references = refl; stamps = tt; formats = refl }
 
-pub simple : (o : Order) → IsSimpleSchema (schema_in o)
+pub simple : (o : Layout) → IsSimpleSchema (schema_in o)
 unfolding schema_in
 simple o = record {
   tables = (simple_table (four o).0 _, (simple_table (four o).1 _, (simple_table (four o).2 _, (simple_table (four o).3 _, tt))));
@@ -109,16 +109,16 @@ simple o = record {
 }
 
 -- what is neither without tables nor the store's own
-pub neither : (old : State) → old.now.schema ≢ no_schema → ((o : Order) → old.now.schema ≡ schema_in o → ¬ IsOurs (ours o old.now.trees)) → ¬ IsBlankOrOurs old
+pub neither : (old : State) → old.now.schema ≢ no_schema → ((o : Layout) → old.now.schema ≡ schema_in o → ¬ IsOurs (ours o old.now.trees)) → ¬ IsBlankOrOurs old
 neither old some other (inl blank) = some blank
 neither old some other (inr are) = other are.0 are.1 are.2
 
-pub none_lacks : {E : Type 0} (old : State) (o : Order) (r : Result (Option (Order × ℕ × ℕ)) E) → old.now.schema ≡ schema_in o → IfOk r (λ found. found ≡ None → ¬ IsOurs (ours o old.now.trees)) → IfOk r (λ found. found ≡ None → ¬ IsBlankOrOurs old)
+pub none_lacks : {E : Type 0} (old : State) (o : Layout) (r : Result (Option (Order × ℕ × ℕ)) E) → old.now.schema ≡ schema_in o → IfOk r (λ found. found ≡ None → ¬ IsOurs (ours o old.now.trees)) → IfOk r (λ found. found ≡ None → ¬ IsBlankOrOurs old)
 none_lacks old o (Ok found) has lacks = λ none. neither old (λ blank. not_both o (sym blank ∙ has)) (λ p is are. lacks none (subst IsOurs (same_trees p o old.now.trees (sym is ∙ has)) are))
 none_lacks old o (Err e) has lacks = tt
 
 -- an outbox that was there goes on as it was, whichever order it is taken for
-pub kept_fits : (old new : State) (o p : Order) (rows statements : ℕ) → Settles old new o rows statements → IsOpened old o → IsFit (schema_in p) (IsLawful p) old
+pub kept_fits : (old new : State) (o p : Layout) (rows statements : ℕ) → Settles old new o rows statements → IsOpened old o → IsFit (schema_in p) (IsLawful p) old
     → IsFit (schema_in o) (IsWell o rows statements) new × (value_at o new.now.trees ≡ value_at p old.now.trees)
 kept_fits old new o p rows statements settles (inl blank) fit = absurd (not_both p (sym blank ∙ fit.rest.schema_is))
 kept_fits old new o p rows statements settles (inr are) fit =

@@ -18,13 +18,13 @@ use Rattle.fare_record.specs.Values.{RecordValue, StatementValue}
 use Rattle.fare_tables.specs.Cells.{nat_in, int, id_of, AreRows, held}
 use Rattle.fare_tables.proofs.Rows.{appended, rows_put, rows_without, held_put, held_replaced}
 use Rattle.fare_tables.proofs.Statements.{made, cast_int, cast_null, went, same_value}
-use Rattle.fare_outbox.specs.declared.order.Kind.TheVariants.{Device, Tap, Stated}
-use Rattle.fare_outbox.specs.declared.order.Order.{Order}
-use Rattle.fare_outbox.specs.Orders.{schema_in, tree_in, ours}
+use Rattle.fare_layout.specs.declared.place.Kind.TheVariants.{Device, Tap, Stated}
+use Rattle.fare_outbox.specs.declared.layout.Layout.{Layout}
+use Rattle.fare_outbox.specs.Layouts.{schema_in, tree_in, ours}
 use Rattle.fare_outbox.specs.Tables.{tap_table, stated_table}
 use Rattle.fare_outbox.specs.Held.{PutsTap, PutsLink, PutsStated, Becomes, AreReadable, IsDevice, IsTap, IsStated, device_row, upto_of, tap_cells, tap_of, stated_cells, stated_of, held_of, with_tap, with_statement}
 use Rattle.fare_outbox.proofs.Texts.{put_tap_text, put_tap_command, put_tap_meant, put_statement_text, put_statement_command, put_statement_meant}
-use Rattle.fare_outbox.proofs.Ordered.{no_works, tap_placed, stated_placed, each, at_found, device_is_not_tap, stated_is_not_tap, device_is_not_stated, tap_is_not_stated}
+use Rattle.fare_outbox.proofs.Placed.{no_works, tap_placed, stated_placed, each, at_found, device_is_not_tap, stated_is_not_tap, device_is_not_stated, tap_is_not_stated}
 use Rattle.fare_outbox.proofs.Found.{device_ids}
 
 pub tap_ids : (r : Row) → IsTap r → column r 0 ≡ int (id_of r)
@@ -33,7 +33,7 @@ tap_ids r ok = ap (λ x. column x 0) ok
 stated_ids : (r : Row) → IsStated r → column r 0 ≡ int (id_of r)
 stated_ids r ok = ap (λ x. column x 0) ok
 
-pub puts_tap : (w : Order) (old new : State) (t : RecordValue) (count : ℕ) → old.now.schema ≡ schema_in w → Executes put_tap_text (tap_cells t) old new (Ok count) → PutsTap w old.now new.now t
+pub puts_tap : (w : Layout) (old new : State) (t : RecordValue) (count : ℕ) → old.now.schema ≡ schema_in w → Executes put_tap_text (tap_cells t) old new (Ok count) → PutsTap w old.now new.now t
 unfolding ours
 puts_tap w old new t count has h =
     let params = tap_cells t in
@@ -60,7 +60,7 @@ puts_tap w old new t count has h =
       statements = at (tree_in w Stated) ∙ kept.stated (stated_is_not_tap w);
     }
 
-pub puts_stated : (w : Order) (old new : State) (s : StatementValue) (count : ℕ) → old.now.schema ≡ schema_in w → Executes put_statement_text (stated_cells s) old new (Ok count) → PutsStated w old.now new.now s
+pub puts_stated : (w : Layout) (old new : State) (s : StatementValue) (count : ℕ) → old.now.schema ≡ schema_in w → Executes put_statement_text (stated_cells s) old new (Ok count) → PutsStated w old.now new.now s
 unfolding ours
 puts_stated w old new s count has h =
     let params = stated_cells s in
@@ -107,7 +107,7 @@ devices_after rows now d u ok (inr is) = (
   λ x. ap (λ all. upto_of (held all x)) is ∙ ap upto_of (held_replaced IsDevice device_ids rows d (Null ∷ int u ∷ []) x ok) ∙ upto_if d x (device_row d u) (held rows x),
 )
 
-pub both : (w : Order) (old mid new : Database) (t : RecordValue) → AreReadable (ours w old.trees) → PutsTap w old mid t → PutsLink w mid new t.device t.link → Becomes w new (with_tap t (held_of (ours w old.trees)))
+pub both : (w : Layout) (old mid new : Database) (t : RecordValue) → AreReadable (ours w old.trees) → PutsTap w old mid t → PutsLink w mid new t.device t.link → Becomes w new (with_tap t (held_of (ours w old.trees)))
 both w old mid new t ok first second =
     let taps = appended IsTap tap_ids (ours w old.trees 2) (ours w new.trees 2) (tap_cells t) ok.taps (λ n. refl) (second.taps ∙ first.taps) in
     let devices = devices_after (ours w mid.trees 1) (ours w new.trees 1) t.device t.link (subst (AreRows IsDevice) (sym first.devices) ok.devices) second.devices in
@@ -122,7 +122,7 @@ both w old mid new t ok first second =
       };
     }
 
-pub one_more : (w : Order) (old new : Database) (s : StatementValue) → AreReadable (ours w old.trees) → PutsStated w old new s → Becomes w new (with_statement s (held_of (ours w old.trees)))
+pub one_more : (w : Layout) (old new : Database) (s : StatementValue) → AreReadable (ours w old.trees) → PutsStated w old new s → Becomes w new (with_statement s (held_of (ours w old.trees)))
 one_more w old new s ok puts =
     let statements = appended IsStated stated_ids (ours w old.trees 5) (ours w new.trees 5) (stated_cells s) ok.statements (λ n. refl) puts.statements in
     record {

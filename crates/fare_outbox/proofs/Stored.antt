@@ -6,17 +6,17 @@ use Rattle.sqlite.specs.State.{State}
 use Rattle.fare_record.specs.Values.{RecordValue, StatementValue}
 use Rattle.fare_store.specs.OutboxWords.{pruned}
 use Rattle.fare_tables.specs.Tabled.{IsFit}
-use Rattle.fare_outbox.specs.declared.order.Order.{Order}
-use Rattle.fare_outbox.specs.Orders.{schema_in, ours}
+use Rattle.fare_outbox.specs.declared.layout.Layout.{Layout}
+use Rattle.fare_outbox.specs.Layouts.{schema_in, ours}
 use Rattle.fare_outbox.specs.Held.{Held, Becomes, IsReady, held_of, with_tap, with_statement, without_lane, is_cut}
 use Rattle.fare_outbox.specs.Words.{first_at, stated_key, count_of, value_at, value_in, FitTogether, IsWell, MayStore}
 use Rattle.fare_outbox.proofs.Lanes.{store_fits, statement_fits}
 use Rattle.fare_outbox.proofs.Pruned.{left_count, same_without, prune_value, prune_fits}
 
-pub ready : (w : Order) (s : State) (rows statements : ℕ) → IsFit (schema_in w) (IsWell w rows statements) s → IsReady w s
+pub ready : (w : Layout) (s : State) (rows statements : ℕ) → IsFit (schema_in w) (IsWell w rows statements) s → IsReady w s
 ready w s rows statements fit = record { rest = fit.rest; fits = fit.fits.lawful.readable }
 
-becomes_well : (w : Order) (new : State) (rows statements : ℕ) (h : Held) → Becomes w new.now h × (new.now ≡ new.committed) → FitTogether h → rows ≡ length h.taps → statements ≡ length h.statements → IsFit (schema_in w) (IsWell w rows statements) new
+becomes_well : (w : Layout) (new : State) (rows statements : ℕ) (h : Held) → Becomes w new.now h × (new.now ≡ new.committed) → FitTogether h → rows ≡ length h.taps → statements ≡ length h.statements → IsFit (schema_in w) (IsWell w rows statements) new
 becomes_well w new rows statements h wrote fit rows_are statements_are = record {
   rest = record { settled = wrote.1; schema_is = wrote.0.schema };
   fits = record {
@@ -26,17 +26,17 @@ becomes_well w new rows statements h wrote fit rows_are statements_are = record 
   };
 }
 
-pub put_fits : (w : Order) (old new : State) (rows statements : ℕ) (t : RecordValue) → t.lane ≤ 9223372036854775807 → IsFit (schema_in w) (IsWell w rows statements) old → MayStore (value_at w old.now.trees) t → Becomes w new.now (with_tap t (held_of (ours w old.now.trees))) × (new.now ≡ new.committed) → IsFit (schema_in w) (IsWell w (rows + 1) statements) new
+pub put_fits : (w : Layout) (old new : State) (rows statements : ℕ) (t : RecordValue) → t.lane ≤ 9223372036854775807 → IsFit (schema_in w) (IsWell w rows statements) old → MayStore (value_at w old.now.trees) t → Becomes w new.now (with_tap t (held_of (ours w old.now.trees))) × (new.now ≡ new.committed) → IsFit (schema_in w) (IsWell w (rows + 1) statements) new
 put_fits w old new rows statements t low fit may wrote =
     let h = held_of (ours w old.now.trees) in
     becomes_well w new (rows + 1) statements (with_tap t h) wrote (store_fits h t low may fit.fits.lawful.together) (ap (λ n. n + 1) fit.fits.rows_are ∙ sym (length_push h.taps t)) fit.fits.statements_are
 
-pub statement_put_fits : (w : Order) (old new : State) (rows statements : ℕ) (s : StatementValue) → IsFit (schema_in w) (IsWell w rows statements) old → first_at stated_key count_of (held_of (ours w old.now.trees)).statements s.owner s.device s.day ≡ None → Becomes w new.now (with_statement s (held_of (ours w old.now.trees))) × (new.now ≡ new.committed) → IsFit (schema_in w) (IsWell w rows (statements + 1)) new
+pub statement_put_fits : (w : Layout) (old new : State) (rows statements : ℕ) (s : StatementValue) → IsFit (schema_in w) (IsWell w rows statements) old → first_at stated_key count_of (held_of (ours w old.now.trees)).statements s.owner s.device s.day ≡ None → Becomes w new.now (with_statement s (held_of (ours w old.now.trees))) × (new.now ≡ new.committed) → IsFit (schema_in w) (IsWell w rows (statements + 1)) new
 statement_put_fits w old new rows statements s fit free wrote =
     let h = held_of (ours w old.now.trees) in
     becomes_well w new rows (statements + 1) (with_statement s h) wrote (statement_fits h s free fit.fits.lawful.together) fit.fits.rows_are (ap (λ n. n + 1) fit.fits.statements_are ∙ sym (length_push h.statements s))
 
-pub cut_fits : (w : Order) (old new : State) (rows statements o d last count : ℕ) → IsFit (schema_in w) (IsWell w rows statements) old → Becomes w new.now (without_lane o d last (held_of (ours w old.now.trees))) × (new.now ≡ new.committed) → count ≡ length (filter (is_cut o d last) (held_of (ours w old.now.trees)).taps) → IsFit (schema_in w) (IsWell w (rows - count) statements) new
+pub cut_fits : (w : Layout) (old new : State) (rows statements o d last count : ℕ) → IsFit (schema_in w) (IsWell w rows statements) old → Becomes w new.now (without_lane o d last (held_of (ours w old.now.trees))) × (new.now ≡ new.committed) → count ≡ length (filter (is_cut o d last) (held_of (ours w old.now.trees)).taps) → IsFit (schema_in w) (IsWell w (rows - count) statements) new
 cut_fits w old new rows statements o d last count fit wrote is =
     let h = held_of (ours w old.now.trees) in
     let was = fit.fits.rows_are in

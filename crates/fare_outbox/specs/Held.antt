@@ -11,8 +11,8 @@ use Rattle.sqlite.specs.State.{State}
 use Rattle.fare_record.specs.Values.{RecordValue, StatementValue}
 use Rattle.fare_tables.specs.Cells.{nat_in, int, id_of, AreRows, held}
 use Rattle.fare_tables.specs.Tabled.{IsFit}
-use Rattle.fare_outbox.specs.declared.order.Order.{Order}
-use Rattle.fare_outbox.specs.Orders.{schema_in, ours}
+use Rattle.fare_outbox.specs.declared.layout.Layout.{Layout}
+use Rattle.fare_outbox.specs.Layouts.{schema_in, ours}
 
 -- ROWS
 -- a device's row has the device for its rowid
@@ -67,7 +67,7 @@ abbrev pub held_of : Trees → Held
 held_of trees = record { upto = λ device. upto_of (held (trees 1) device); taps = map tap_of (trees 2); statements = map stated_of (trees 5) }
 
 -- between calls, over the tables of the outbox with rows that can be read
-abbrev pub IsReady : Order → State → Type 0
+abbrev pub IsReady : Layout → State → Type 0
 IsReady o = IsFit (schema_in o) (λ trees. AreReadable (ours o trees))
 
 -- READS
@@ -108,25 +108,25 @@ abbrev pub without_lane : ℕ → ℕ → ℕ → Held → Held
 without_lane owner device lane h = record { upto = h.upto; taps = filter (λ t. not (is_cut owner device lane t)) h.taps; statements = h.statements }
 
 -- the database holds this, in rows that can be read
-pub record Becomes (o : Order) (db : Database) (h : Held) : Type 0 where
+pub record Becomes (o : Layout) (db : Database) (h : Held) : Type 0 where
   pub schema : db.schema ≡ schema_in o
   pub readable : AreReadable (ours o db.trees)
   pub value : held_of (ours o db.trees) ≡ h
 
 -- what one statement writes
-pub record PutsTap (o : Order) (old new : Database) (t : RecordValue) : Type 0 where
+pub record PutsTap (o : Layout) (old new : Database) (t : RecordValue) : Type 0 where
   pub schema : new.schema ≡ schema_in o
   pub devices : ours o new.trees 1 ≡ ours o old.trees 1
   pub taps : ours o new.trees 2 ≡ put_row (Int (next_rowid (ours o old.trees 2)) ∷ tap_cells t) (ours o old.trees 2)
   pub statements : ours o new.trees 5 ≡ ours o old.trees 5
 
-pub record PutsStated (o : Order) (old new : Database) (s : StatementValue) : Type 0 where
+pub record PutsStated (o : Layout) (old new : Database) (s : StatementValue) : Type 0 where
   pub schema : new.schema ≡ schema_in o
   pub devices : ours o new.trees 1 ≡ ours o old.trees 1
   pub taps : ours o new.trees 2 ≡ ours o old.trees 2
   pub statements : ours o new.trees 5 ≡ put_row (Int (next_rowid (ours o old.trees 5)) ∷ stated_cells s) (ours o old.trees 5)
 
-pub record PutsLink (o : Order) (old new : Database) (device upto : ℕ) : Type 0 where
+pub record PutsLink (o : Layout) (old new : Database) (device upto : ℕ) : Type 0 where
   pub schema : new.schema ≡ schema_in o
   pub devices : (ours o new.trees 1 ≡ put_row (device_row device upto) (ours o old.trees 1)) ⊎ (ours o new.trees 1 ≡ put_row (device_row device upto) (without_rowid (pos device) (ours o old.trees 1)))
   pub taps : ours o new.trees 2 ≡ ours o old.trees 2

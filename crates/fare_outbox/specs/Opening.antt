@@ -6,12 +6,12 @@ use Rattle.sqlite.specs.Tree.{Trees}
 use Rattle.sqlite.specs.State.{State}
 use Rattle.fare_tables.specs.Asking.{SameRows}
 use Rattle.fare_tables.specs.Making.{no_schema}
-use Rattle.fare_outbox.specs.declared.order.Order.{Order}
+use Rattle.fare_outbox.specs.declared.layout.Layout.{Layout}
 use Rattle.fare_outbox.specs.declared.order.Order.TheVariants.{MetaDeviceTapStated}
 use Rattle.fare_outbox.specs.declared.order.Seen.{Seen}
 use Rattle.fare_outbox.specs.declared.order.Seen.TheVariants as seen
 use Rattle.sqlite.specs.Schema.{Schema}
-use Rattle.fare_outbox.specs.Orders.{schema_in, ours}
+use Rattle.fare_outbox.specs.Layouts.{schema_in, ours}
 use Rattle.fare_outbox.specs.Held.{IsReady, held_of}
 use Rattle.fare_outbox.specs.Making.{IsNew, IsMade}
 
@@ -34,18 +34,18 @@ pub record IsOurs (trees : Trees) : Type 0 where
 
 -- it has an outbox's tables, made in some order, with its row of meta
 abbrev pub IsOutbox : State → Type 0
-IsOutbox s = (o : Order) × (s.now.schema ≡ schema_in o) × IsOurs (ours o s.now.trees)
+IsOutbox s = (o : Layout) × (s.now.schema ≡ schema_in o) × IsOurs (ours o s.now.trees)
 
 -- a database has no table, or an outbox's
 abbrev pub IsBlankOrOurs : State → Type 0
 IsBlankOrOurs s = (s.now.schema ≡ no_schema) ⊎ IsOutbox s
 
-pub record IsCounted (o : Order) (trees : Trees) (rows statements : ℕ) : Type 0 where
+pub record IsCounted (o : Layout) (trees : Trees) (rows statements : ℕ) : Type 0 where
   pub rows_are : rows ≡ length (held_of (ours o trees)).taps
   pub statements_are : statements ≡ length (held_of (ours o trees)).statements
 
 -- a database without tables gets those of an empty outbox, and one that has the outbox's stays as it is and is counted
-pub record Settles (old new : State) (o : Order) (rows statements : ℕ) : Type 0 where
+pub record Settles (old new : State) (o : Layout) (rows statements : ℕ) : Type 0 where
   pub made : old.now.schema ≡ no_schema → IsNew new.now × (new.now ≡ new.committed) × (o ≡ MetaDeviceTapStated) × (rows ≡ 0) × (statements ≡ 0)
   pub kept : IsReady o old → SameRows old new × IsCounted o old.now.trees rows statements
 
@@ -61,4 +61,4 @@ IsOpened s o = (s.now.schema ≡ no_schema) ⊎ ((s.now.schema ≡ schema_in o) 
 abbrev pub Sees : Schema → Seen → Type 0
 Sees schema seen.Blank = schema ≡ no_schema
 Sees schema (seen.Ours o) = schema ≡ schema_in o
-Sees schema seen.Other = (schema ≢ no_schema) × ((o : Order) → schema ≢ schema_in o)
+Sees schema seen.Other = (schema ≢ no_schema) × ((o : Layout) → schema ≢ schema_in o)

@@ -11,8 +11,8 @@ use Rattle.fare_store.specs.OutboxWords.{OutboxValue}
 use Rattle.fare_tables.specs.Tabled.{tabled}
 use Rattle.fare_outbox.specs.declared.tables.SqlOutbox.{SqlOutbox}
 use Rattle.fare_outbox.specs.Held.{Held, AreReadable, held_of}
-use Rattle.fare_outbox.specs.declared.order.Order.{Order}
-use Rattle.fare_outbox.specs.Orders.{schema_in, ours}
+use Rattle.fare_outbox.specs.declared.layout.Layout.{Layout}
+use Rattle.fare_outbox.specs.Layouts.{schema_in, ours}
 
 -- KEYED LISTS: each member has an owner, a device and a number, which is a tap's lane number and a statement's day
 abbrev pub Key : Type 0
@@ -52,7 +52,7 @@ pub record IsKnown (upto : ℕ → ℕ) (t : RecordValue) : Type 0 where
 abbrev pub value_in : Held → OutboxValue
 value_in h = record { upto = h.upto; rows = first_at tap_key itself h.taps; row_count = length h.taps; stated = first_at stated_key count_of h.statements; stated_count = length h.statements }
 
-abbrev pub value_at : Order → Trees → OutboxValue
+abbrev pub value_at : Layout → Trees → OutboxValue
 value_at o trees = value_in (held_of (ours o trees))
 
 -- the rows fit together
@@ -61,12 +61,12 @@ pub record FitTogether (h : Held) : Type 0 where
   pub known : AllByRecursion (IsKnown h.upto) h.taps
   pub single : AreApart stated_key h.statements
 
-pub record IsLawful (o : Order) (trees : Trees) : Type 0 where
+pub record IsLawful (o : Layout) (trees : Trees) : Type 0 where
   pub readable : AreReadable (ours o trees)
   pub together : FitTogether (held_of (ours o trees))
 
 -- the same, with the counts of rows that are kept beside the connection
-pub record IsWell (o : Order) (rows statements : ℕ) (trees : Trees) : Type 0 where
+pub record IsWell (o : Layout) (rows statements : ℕ) (trees : Trees) : Type 0 where
   pub lawful : IsLawful o trees
   pub rows_are : rows ≡ length (held_of (ours o trees)).taps
   pub statements_are : statements ≡ length (held_of (ours o trees)).statements
@@ -76,7 +76,7 @@ abbrev pub connected : {S : Type 0} → (g : Ghosts S) → SqlOutbox S g → Sta
 connected g o = state g o.conn
 
 abbrev pub stands : {S : Type 0} → (g : Ghosts S) → SqlOutbox S g → Standing OutboxValue
-stands g o = tabled (schema_in o.order) (value_at o.order) (IsWell o.order o.rows o.statements) (state g o.conn) o.failures
+stands g o = tabled (schema_in o.layout) (value_at o.layout) (IsWell o.layout o.rows o.statements) (state g o.conn) o.failures
 
 -- a row may be written: none of its key is held, and its link is the next one of its device
 pub record MayStore (v : OutboxValue) (r : RecordValue) : Type 0 where

@@ -5,13 +5,14 @@
 
 mod asking;
 mod calls;
+mod layout;
 mod making;
 mod opening;
-mod order;
 mod reading;
+mod statements;
 mod storing;
 mod tables;
 mod writing;
 
-pub use order::{Kind, Order};
+pub use layout::Layout;
 pub use tables::SqlOutbox;

@@ -109,14 +109,14 @@ fn make_kind<S: Alter>(tx: &mut Transaction<'_, S>, kind: Kind) -> Result<(), Fa
 }
 
 // The tables in this order.
-fn make_four<S: Alter>(tx: &mut Transaction<'_, S>, order: Order) -> Result<(), Fault>
+fn make_four<S: Alter>(tx: &mut Transaction<'_, S>, layout: &Layout) -> Result<(), Fault>
     ensures same_reference { tx.new.conn.ghost_name ≡ tx.old.conn.ghost_name }
     ensures made { HasCleanDisk (state S.Store tx.new.conn.now) → IsTrue (state S.Store tx.old.conn.now).in_transaction → (state S.Store tx.old.conn.now).now.schema ≡ no_schema
-        → OnOk result (((state S.Store tx.new.conn.now).now.schema ≡ schema_in order) × IsTrue (state S.Store tx.new.conn.now).in_transaction) }
+        → OnOk result (((state S.Store tx.new.conn.now).now.schema ≡ schema_in layout.now) × IsTrue (state S.Store tx.new.conn.now).in_transaction) }
     ensures inside { HasCleanDisk (state S.Store tx.new.conn.now) → Inside (state S.Store tx.old.conn.now) (state S.Store tx.new.conn.now) }
     ensures survives { Survives (state S.Store tx.old.conn.now) (state S.Store tx.new.conn.now) (λ _. ⊥) }
 {
-    let (first, second, third, fourth) = order.four();
+    let (first, second, third, fourth) = layout.four();
     make_kind(tx, first)?;
     make_kind(tx, second)?;
     make_kind(tx, third)?;
@@ -124,13 +124,13 @@ fn make_four<S: Alter>(tx: &mut Transaction<'_, S>, order: Order) -> Result<(), 
 }
 
 // The tables in this order and no row, in a database that has no table.
-pub(crate) fn make_in<S: Alter>(conn: &mut Connection<S>, order: Order) -> Result<(), Fault>
+pub(crate) fn make_in<S: Alter>(conn: &mut Connection<S>, layout: &Layout) -> Result<(), Fault>
     requires { conn.old.in_transaction ≡ false }
-    ensures made { IsLive (state S.Store conn.new) → (state S.Store conn.old).now.schema ≡ no_schema → OnOk result ((state S.Store conn.new).now.schema ≡ schema_in order) }
+    ensures made { IsLive (state S.Store conn.new) → (state S.Store conn.old).now.schema ≡ no_schema → OnOk result ((state S.Store conn.new).now.schema ≡ schema_in layout.now) }
     ensures stays { HasCleanDisk (state S.Store conn.new) → OnOk result (IsTrue (state S.Store conn.new).is_open) }
 {
     let mut tx = conn.transaction();
-    make_four(&mut tx, order)?;
+    make_four(&mut tx, layout)?;
     match tx.commit() {
         Ok(()) => Ok(()),
         Err(error) => Err(fault_of(error)),

@@ -26,14 +26,14 @@ use std::alloc::Global;
 // All rows of the answer to one of the outbox's texts.
 fn ask_rows<S: Alter>(
     conn: &mut Connection<S>,
-    order: Order,
+    layout: &Layout,
     sql: &str,
     params: &[ValueRef<'_>],
 ) -> Result<Vec<Row>, Fault>
-    requires { Reads (schema_in order) sql.now }
+    requires { Reads (schema_in layout.now) sql.now }
     ensures rows { HasCleanDisk (state S.Store conn.new) → IfOk result (λ rows. Shown sql.now (bound params.now) (state S.Store conn.old) (state S.Store conn.new) rows.items) }
-    ensures same { IsLive (state S.Store conn.new) → IsAtRest (schema_in order) (state S.Store conn.old) → SameRows (state S.Store conn.old) (state S.Store conn.new) }
-    ensures crash { Survives (state S.Store conn.old) (state S.Store conn.new) (λ _. ¬ ((state S.Store conn.old).now.schema ≡ schema_in order)) }
+    ensures same { IsLive (state S.Store conn.new) → IsAtRest (schema_in layout.now) (state S.Store conn.old) → SameRows (state S.Store conn.old) (state S.Store conn.new) }
+    ensures crash { Survives (state S.Store conn.old) (state S.Store conn.new) (λ _. ¬ ((state S.Store conn.old).now.schema ≡ schema_in layout.now)) }
     ensures live { IsLive (state S.Store conn.new) → IsLive (state S.Store conn.old) }
     ensures stays { HasCleanDisk (state S.Store conn.new) → OnOk result (IsTrue (state S.Store conn.new).is_open) }
     ensures mode { conn.old.in_transaction ≡ false → conn.new.in_transaction ≡ false }
@@ -62,25 +62,25 @@ fn are_meta(rows: &[Row]) -> bool
 }
 
 // Whether `meta` holds its one row.
-fn has_meta<S: Alter>(conn: &mut Connection<S>, order: Order) -> Result<bool, Fault>
-    ensures meta { HasCleanDisk (state S.Store conn.new) → (state S.Store conn.old).now.schema ≡ schema_in order → IfOk result (λ right. IsTrue right ↔ IsOurs (ours order (state S.Store conn.old).now.trees)) }
-    ensures same { IsLive (state S.Store conn.new) → IsAtRest (schema_in order) (state S.Store conn.old) → SameRows (state S.Store conn.old) (state S.Store conn.new) }
-    ensures crash { Survives (state S.Store conn.old) (state S.Store conn.new) (λ _. ¬ ((state S.Store conn.old).now.schema ≡ schema_in order)) }
+fn has_meta<S: Alter>(conn: &mut Connection<S>, layout: &Layout) -> Result<bool, Fault>
+    ensures meta { HasCleanDisk (state S.Store conn.new) → (state S.Store conn.old).now.schema ≡ schema_in layout.now → IfOk result (λ right. IsTrue right ↔ IsOurs (ours layout.now (state S.Store conn.old).now.trees)) }
+    ensures same { IsLive (state S.Store conn.new) → IsAtRest (schema_in layout.now) (state S.Store conn.old) → SameRows (state S.Store conn.old) (state S.Store conn.new) }
+    ensures crash { Survives (state S.Store conn.old) (state S.Store conn.new) (λ _. ¬ ((state S.Store conn.old).now.schema ≡ schema_in layout.now)) }
     ensures live { IsLive (state S.Store conn.new) → IsLive (state S.Store conn.old) }
     ensures stays { HasCleanDisk (state S.Store conn.new) → OnOk result (IsTrue (state S.Store conn.new).is_open) }
     ensures mode { conn.old.in_transaction ≡ false → conn.new.in_transaction ≡ false }
 {
-    let rows = ask_rows(conn, order, "SELECT format, owner FROM meta", &[])?;
+    let rows = ask_rows(conn, layout, "SELECT format, owner FROM meta", &[])?;
     Ok(are_meta(rows.as_slice()))
 }
 
 // The tables of an outbox in memory, made in this order.
-fn wanted(alloc: Global, order: Order) -> Result<Connection<MemStore>, Fault>
-    ensures { IfOk result (λ c. c.schema ≡ schema_in order) }
+fn wanted(alloc: Global, layout: &Layout) -> Result<Connection<MemStore>, Fault>
+    ensures { IfOk result (λ c. c.schema ≡ schema_in layout.now) }
 {
     match Connection::open_in_memory(alloc) {
         Ok(mut conn) => {
-            make_in(&mut conn, order)?;
+            make_in(&mut conn, layout)?;
             Ok(conn)
         }
         Err(_) => Err(Fault::Memory),
@@ -111,7 +111,7 @@ fn look<S: Alter>(conn: &Connection<S>, alloc: Global) -> Result<Seen, Fault>
         return Ok(Seen::Blank);
     }
     match find_order(conn.schema(), alloc, &ORDERS)? {
-        Some(order) => Ok(Seen::Ours(order)),
+        Some(layout) => Ok(Seen::Ours(layout)),
         None => Ok(Seen::Other),
     }
 }
@@ -119,24 +119,24 @@ fn look<S: Alter>(conn: &Connection<S>, alloc: Global) -> Result<Seen, Fault>
 // How many taps and how many statements the tables of an outbox hold, if its meta is right.
 fn counts<S: Alter>(
     conn: &mut Connection<S>,
-    order: Order,
+    layout: &Layout,
 ) -> Result<Option<(Order, u64, u64)>, Fault>
     requires settled { IsTrue (state S.Store conn.old).is_open → (state S.Store conn.old).now ≡ (state S.Store conn.old).committed }
-    ensures of_order { IfOk result (λ found. IfSome found (λ n. n.0 ≡ order)) }
-    ensures counted { IsLive (state S.Store conn.new) → IsReady order (state S.Store conn.old) → IfOk result (λ found. IfSome found (λ n. IsCounted order (state S.Store conn.old).now.trees n.1 n.2)) }
-    ensures ours { IsLive (state S.Store conn.new) → (state S.Store conn.old).now.schema ≡ schema_in order → IfOk result (λ found. IfSome found (λ n. IsOurs (ours order (state S.Store conn.old).now.trees))) }
-    ensures lacks { IsLive (state S.Store conn.new) → (state S.Store conn.old).now.schema ≡ schema_in order → IfOk result (λ found. found ≡ None → ¬ IsOurs (ours order (state S.Store conn.old).now.trees)) }
-    ensures same { IsLive (state S.Store conn.new) → IsAtRest (schema_in order) (state S.Store conn.old) → SameRows (state S.Store conn.old) (state S.Store conn.new) }
-    ensures crash { Survives (state S.Store conn.old) (state S.Store conn.new) (λ _. ¬ ((state S.Store conn.old).now.schema ≡ schema_in order)) }
+    ensures of_order { IfOk result (λ found. IfSome found (λ n. n.0 ≡ layout.now)) }
+    ensures counted { IsLive (state S.Store conn.new) → IsReady layout.now (state S.Store conn.old) → IfOk result (λ found. IfSome found (λ n. IsCounted layout.now (state S.Store conn.old).now.trees n.1 n.2)) }
+    ensures ours { IsLive (state S.Store conn.new) → (state S.Store conn.old).now.schema ≡ schema_in layout.now → IfOk result (λ found. IfSome found (λ n. IsOurs (ours layout.now (state S.Store conn.old).now.trees))) }
+    ensures lacks { IsLive (state S.Store conn.new) → (state S.Store conn.old).now.schema ≡ schema_in layout.now → IfOk result (λ found. found ≡ None → ¬ IsOurs (ours layout.now (state S.Store conn.old).now.trees)) }
+    ensures same { IsLive (state S.Store conn.new) → IsAtRest (schema_in layout.now) (state S.Store conn.old) → SameRows (state S.Store conn.old) (state S.Store conn.new) }
+    ensures crash { Survives (state S.Store conn.old) (state S.Store conn.new) (λ _. ¬ ((state S.Store conn.old).now.schema ≡ schema_in layout.now)) }
     ensures live { IsLive (state S.Store conn.new) → IsLive (state S.Store conn.old) }
     ensures mode { conn.old.in_transaction ≡ false → conn.new.in_transaction ≡ false }
 {
-    if !has_meta(conn, order)? {
+    if !has_meta(conn, layout)? {
         return Ok(None);
     }
-    let rows = count_rows(conn, order)?;
-    let statements = count_statements(conn, order)?;
-    Ok(Some((order, rows, statements)))
+    let rows = count_rows(conn, layout)?;
+    let statements = count_statements(conn, layout)?;
+    Ok(Some((layout, rows, statements)))
 }
 
 // Makes the tables where there are none, and counts the rows of an outbox; none if it is neither.
@@ -161,7 +161,7 @@ fn settle<S: Alter>(
             make_outbox(conn)?;
             Ok(Some((Order::MetaDeviceTapStated, 0, 0)))
         }
-        Seen::Ours(order) => counts(conn, order),
+        Seen::Ours(layout) => counts(conn, layout),
         Seen::Other => Ok(None),
     }
 }
@@ -175,7 +175,7 @@ impl<S: Alter> SqlOutbox<S> {
         conn: Connection<S>,
     ) -> Result<SqlOutbox<S>, (Connection<S>, OpenFault)>
         ensures made { IfOk result (λ o. (stands S.Store o).live → (state S.Store conn).now.schema ≡ no_schema → (stands S.Store o).lawful × IsEmptyOutbox (stands S.Store o).value) }
-        ensures kept { IfOk result (λ o. (stands S.Store o).live → (order : Order) → IsFit (schema_in order) (IsLawful order) (state S.Store conn) → (stands S.Store o).lawful × ((stands S.Store o).value ≡ value_at order (state S.Store conn).now.trees)) }
+        ensures kept { IfOk result (λ o. (stands S.Store o).live → (layout.now : Order) → IsFit (schema_in layout.now) (IsLawful layout.now) (state S.Store conn) → (stands S.Store o).lawful × ((stands S.Store o).value ≡ value_at layout.now (state S.Store conn).now.trees)) }
         ensures ours { IfOk result (λ o. (stands S.Store o).live → IsBlankOrOurs (state S.Store conn)) }
         ensures failures { IfOk result (λ o. (stands S.Store o).failures ≡ 0) }
         ensures inside { conn.in_transaction ≡ true → result ≡ Err (conn, OpenFault.Store) }
@@ -194,9 +194,9 @@ impl<S: Alter> SqlOutbox<S> {
             Err(fault) => return Err((conn, open_fault(fault))),
         };
         match settle(&mut conn, found) {
-            Ok(Some((order, rows, statements))) => Ok(SqlOutbox {
+            Ok(Some((layout, rows, statements))) => Ok(SqlOutbox {
                 conn,
-                order,
+                layout,
                 rows,
                 statements,
                 failures: 0,
@@ -211,7 +211,7 @@ impl<S: Alter> SqlOutbox<S> {
         ensures crash { Survives (connected S.Store self) (state S.Store result) (λ _. ⊥) }
         ensures idle { result.in_transaction ≡ false }
         ensures live { (stands S.Store self).live → IsLive (state S.Store result) }
-        ensures kept { (stands S.Store self).lawful → IsFit (schema_in self.order) (IsLawful self.order) (state S.Store result) × (value_at self.order (state S.Store result).now.trees ≡ (stands S.Store self).value) }
+        ensures kept { (stands S.Store self).lawful → IsFit (schema_in self.layout) (IsLawful self.layout) (state S.Store result) × (value_at self.layout (state S.Store result).now.trees ≡ (stands S.Store self).value) }
     {
         self.into_parts()
     }

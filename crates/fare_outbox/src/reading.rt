@@ -7,7 +7,8 @@ ghost use Rattle.fare_outbox.specs.Orders.{schema_in, ours};
 ghost use Rattle.fare_outbox.specs.Held.{held_of, IsReady, IsNext, IsNextStated, is_seen};
 ghost use Rattle.fare_outbox.specs.Shown.{ShowsRow, ShowsStatement};
 
-use crate::Order;
+use crate::Layout;
+use crate::statements::{COUNT_ROWS, COUNT_SEEN, COUNT_STATEMENTS, READ_LINK, READ_NEXT, READ_STATEMENT};
 use crate::asking::ask;
 use fare_record::{DeviceId, OwnerId, Record, Statement};
 use fare_store::Fault;
@@ -19,20 +20,20 @@ use sqlite::{Alter, Connection, Row};
 // The greatest link of a device, 0 where it has no row.
 pub(crate) fn read_link<S: Alter>(
     conn: &mut Connection<S>,
-    order: Order,
+    layout: &Layout,
     device: DeviceId,
 ) -> Result<u64, Fault>
-    ensures value { IsLive (state S.Store conn.new) → IsReady order (state S.Store conn.old) → IfOk result (λ upto. upto ≡ (held_of (ours order (state S.Store conn.old).now.trees)).upto device) }
-    ensures same { IsLive (state S.Store conn.new) → IsAtRest (schema_in order) (state S.Store conn.old) → SameRows (state S.Store conn.old) (state S.Store conn.new) }
-    ensures crash { Survives (state S.Store conn.old) (state S.Store conn.new) (λ _. ¬ IsAtRest (schema_in order) (state S.Store conn.old)) }
+    ensures value { IsLive (state S.Store conn.new) → IsReady layout.now (state S.Store conn.old) → IfOk result (λ upto. upto ≡ (held_of (ours layout.now (state S.Store conn.old).now.trees)).upto device) }
+    ensures same { IsLive (state S.Store conn.new) → IsAtRest (schema_in layout.now) (state S.Store conn.old) → SameRows (state S.Store conn.old) (state S.Store conn.new) }
+    ensures crash { Survives (state S.Store conn.old) (state S.Store conn.new) (λ _. ¬ IsAtRest (schema_in layout.now) (state S.Store conn.old)) }
     ensures live { IsLive (state S.Store conn.new) → IsLive (state S.Store conn.old) }
     ensures stays { HasCleanDisk (state S.Store conn.new) → OnOk result (IsTrue (state S.Store conn.new).is_open) }
     ensures mode { conn.old.in_transaction ≡ false → conn.new.in_transaction ≡ false }
 {
     match ask(
         conn,
-        order,
-        "SELECT upto FROM device WHERE id = ?1",
+        layout,
+        READ_LINK,
         &[parameter(u64::from(device.get()))],
     )? {
         Some(row) => cell_number(&row, 0),
@@ -53,15 +54,15 @@ fn row_in(row: &Row, owner: OwnerId, device: DeviceId) -> Result<Record, Fault>
 // The row of least lane number past one.
 pub(crate) fn read_next<S: Alter>(
     conn: &mut Connection<S>,
-    order: Order,
+    layout: &Layout,
     owner: OwnerId,
     device: DeviceId,
     after: u64,
 ) -> Result<Option<Record>, Fault>
     requires { after < 2 ^ 63 }
-    ensures value { IsLive (state S.Store conn.new) → IsReady order (state S.Store conn.old) → IfOk result (IsNext (held_of (ours order (state S.Store conn.old).now.trees)).taps owner device after) }
-    ensures same { IsLive (state S.Store conn.new) → IsAtRest (schema_in order) (state S.Store conn.old) → SameRows (state S.Store conn.old) (state S.Store conn.new) }
-    ensures crash { Survives (state S.Store conn.old) (state S.Store conn.new) (λ _. ¬ IsAtRest (schema_in order) (state S.Store conn.old)) }
+    ensures value { IsLive (state S.Store conn.new) → IsReady layout.now (state S.Store conn.old) → IfOk result (IsNext (held_of (ours layout.now (state S.Store conn.old).now.trees)).taps owner device after) }
+    ensures same { IsLive (state S.Store conn.new) → IsAtRest (schema_in layout.now) (state S.Store conn.old) → SameRows (state S.Store conn.old) (state S.Store conn.new) }
+    ensures crash { Survives (state S.Store conn.old) (state S.Store conn.new) (λ _. ¬ IsAtRest (schema_in layout.now) (state S.Store conn.old)) }
     ensures live { IsLive (state S.Store conn.new) → IsLive (state S.Store conn.old) }
     ensures stays { HasCleanDisk (state S.Store conn.new) → OnOk result (IsTrue (state S.Store conn.new).is_open) }
     ensures mode { conn.old.in_transaction ≡ false → conn.new.in_transaction ≡ false }
@@ -73,8 +74,8 @@ pub(crate) fn read_next<S: Alter>(
     ];
     match ask(
         conn,
-        order,
-        "SELECT lane, link, product, token, moment, day FROM tap WHERE owner = ?1 AND device = ?2 AND lane > ?3 ORDER BY lane LIMIT 1",
+        layout,
+        READ_NEXT,
         &asked,
     )? {
         Some(row) => Ok(Some(row_in(&row, owner, device)?)),
@@ -94,15 +95,15 @@ fn statement_in(row: &Row, owner: OwnerId, device: DeviceId) -> Result<Statement
 // The statement of least day from one on.
 pub(crate) fn read_statement<S: Alter>(
     conn: &mut Connection<S>,
-    order: Order,
+    layout: &Layout,
     owner: OwnerId,
     device: DeviceId,
     from: u64,
 ) -> Result<Option<Statement>, Fault>
     requires { from < 2 ^ 63 }
-    ensures value { IsLive (state S.Store conn.new) → IsReady order (state S.Store conn.old) → IfOk result (IsNextStated (held_of (ours order (state S.Store conn.old).now.trees)).statements owner device from) }
-    ensures same { IsLive (state S.Store conn.new) → IsAtRest (schema_in order) (state S.Store conn.old) → SameRows (state S.Store conn.old) (state S.Store conn.new) }
-    ensures crash { Survives (state S.Store conn.old) (state S.Store conn.new) (λ _. ¬ IsAtRest (schema_in order) (state S.Store conn.old)) }
+    ensures value { IsLive (state S.Store conn.new) → IsReady layout.now (state S.Store conn.old) → IfOk result (IsNextStated (held_of (ours layout.now (state S.Store conn.old).now.trees)).statements owner device from) }
+    ensures same { IsLive (state S.Store conn.new) → IsAtRest (schema_in layout.now) (state S.Store conn.old) → SameRows (state S.Store conn.old) (state S.Store conn.new) }
+    ensures crash { Survives (state S.Store conn.old) (state S.Store conn.new) (λ _. ¬ IsAtRest (schema_in layout.now) (state S.Store conn.old)) }
     ensures live { IsLive (state S.Store conn.new) → IsLive (state S.Store conn.old) }
     ensures stays { HasCleanDisk (state S.Store conn.new) → OnOk result (IsTrue (state S.Store conn.new).is_open) }
     ensures mode { conn.old.in_transaction ≡ false → conn.new.in_transaction ≡ false }
@@ -114,8 +115,8 @@ pub(crate) fn read_statement<S: Alter>(
     ];
     match ask(
         conn,
-        order,
-        "SELECT day, total FROM stated WHERE owner = ?1 AND device = ?2 AND day >= ?3 ORDER BY day LIMIT 1",
+        layout,
+        READ_STATEMENT,
         &asked,
     )? {
         Some(row) => Ok(Some(statement_in(&row, owner, device)?)),
@@ -124,15 +125,15 @@ pub(crate) fn read_statement<S: Alter>(
 }
 
 // How many rows of taps there are.
-pub(crate) fn count_rows<S: Alter>(conn: &mut Connection<S>, order: Order) -> Result<u64, Fault>
-    ensures value { IsLive (state S.Store conn.new) → IsReady order (state S.Store conn.old) → IfOk result (λ n. n ≡ length (held_of (ours order (state S.Store conn.old).now.trees)).taps) }
-    ensures same { IsLive (state S.Store conn.new) → IsAtRest (schema_in order) (state S.Store conn.old) → SameRows (state S.Store conn.old) (state S.Store conn.new) }
-    ensures crash { Survives (state S.Store conn.old) (state S.Store conn.new) (λ _. ¬ IsAtRest (schema_in order) (state S.Store conn.old)) }
+pub(crate) fn count_rows<S: Alter>(conn: &mut Connection<S>, layout: &Layout) -> Result<u64, Fault>
+    ensures value { IsLive (state S.Store conn.new) → IsReady layout.now (state S.Store conn.old) → IfOk result (λ n. n ≡ length (held_of (ours layout.now (state S.Store conn.old).now.trees)).taps) }
+    ensures same { IsLive (state S.Store conn.new) → IsAtRest (schema_in layout.now) (state S.Store conn.old) → SameRows (state S.Store conn.old) (state S.Store conn.new) }
+    ensures crash { Survives (state S.Store conn.old) (state S.Store conn.new) (λ _. ¬ IsAtRest (schema_in layout.now) (state S.Store conn.old)) }
     ensures live { IsLive (state S.Store conn.new) → IsLive (state S.Store conn.old) }
     ensures stays { HasCleanDisk (state S.Store conn.new) → OnOk result (IsTrue (state S.Store conn.new).is_open) }
     ensures mode { conn.old.in_transaction ≡ false → conn.new.in_transaction ≡ false }
 {
-    match ask(conn, order, "SELECT count(*) FROM tap", &[])? {
+    match ask(conn, layout, COUNT_ROWS, &[])? {
         Some(row) => cell_total(&row, 0),
         None => Err(Fault::Store),
     }
@@ -141,34 +142,34 @@ pub(crate) fn count_rows<S: Alter>(conn: &mut Connection<S>, order: Order) -> Re
 // How many statements there are.
 pub(crate) fn count_statements<S: Alter>(
     conn: &mut Connection<S>,
-    order: Order,
+    layout: &Layout,
 ) -> Result<u64, Fault>
-    ensures value { IsLive (state S.Store conn.new) → IsReady order (state S.Store conn.old) → IfOk result (λ n. n ≡ length (held_of (ours order (state S.Store conn.old).now.trees)).statements) }
-    ensures same { IsLive (state S.Store conn.new) → IsAtRest (schema_in order) (state S.Store conn.old) → SameRows (state S.Store conn.old) (state S.Store conn.new) }
-    ensures crash { Survives (state S.Store conn.old) (state S.Store conn.new) (λ _. ¬ IsAtRest (schema_in order) (state S.Store conn.old)) }
+    ensures value { IsLive (state S.Store conn.new) → IsReady layout.now (state S.Store conn.old) → IfOk result (λ n. n ≡ length (held_of (ours layout.now (state S.Store conn.old).now.trees)).statements) }
+    ensures same { IsLive (state S.Store conn.new) → IsAtRest (schema_in layout.now) (state S.Store conn.old) → SameRows (state S.Store conn.old) (state S.Store conn.new) }
+    ensures crash { Survives (state S.Store conn.old) (state S.Store conn.new) (λ _. ¬ IsAtRest (schema_in layout.now) (state S.Store conn.old)) }
     ensures live { IsLive (state S.Store conn.new) → IsLive (state S.Store conn.old) }
     ensures stays { HasCleanDisk (state S.Store conn.new) → OnOk result (IsTrue (state S.Store conn.new).is_open) }
     ensures mode { conn.old.in_transaction ≡ false → conn.new.in_transaction ≡ false }
 {
-    match ask(conn, order, "SELECT count(*) FROM stated", &[])? {
+    match ask(conn, layout, COUNT_STATEMENTS, &[])? {
         Some(row) => cell_total(&row, 0),
         None => Err(Fault::Store),
     }
 }
 
 // How many devices were seen.
-pub(crate) fn count_seen<S: Alter>(conn: &mut Connection<S>, order: Order) -> Result<u64, Fault>
-    ensures value { IsLive (state S.Store conn.new) → IsReady order (state S.Store conn.old) → IfOk result (λ n. n ≡ counted (length (filter is_seen (ours order (state S.Store conn.old).now.trees 1)))) }
-    ensures same { IsLive (state S.Store conn.new) → IsAtRest (schema_in order) (state S.Store conn.old) → SameRows (state S.Store conn.old) (state S.Store conn.new) }
-    ensures crash { Survives (state S.Store conn.old) (state S.Store conn.new) (λ _. ¬ IsAtRest (schema_in order) (state S.Store conn.old)) }
+pub(crate) fn count_seen<S: Alter>(conn: &mut Connection<S>, layout: &Layout) -> Result<u64, Fault>
+    ensures value { IsLive (state S.Store conn.new) → IsReady layout.now (state S.Store conn.old) → IfOk result (λ n. n ≡ counted (length (filter is_seen (ours layout.now (state S.Store conn.old).now.trees 1)))) }
+    ensures same { IsLive (state S.Store conn.new) → IsAtRest (schema_in layout.now) (state S.Store conn.old) → SameRows (state S.Store conn.old) (state S.Store conn.new) }
+    ensures crash { Survives (state S.Store conn.old) (state S.Store conn.new) (λ _. ¬ IsAtRest (schema_in layout.now) (state S.Store conn.old)) }
     ensures live { IsLive (state S.Store conn.new) → IsLive (state S.Store conn.old) }
     ensures stays { HasCleanDisk (state S.Store conn.new) → OnOk result (IsTrue (state S.Store conn.new).is_open) }
     ensures mode { conn.old.in_transaction ≡ false → conn.new.in_transaction ≡ false }
 {
     match ask(
         conn,
-        order,
-        "SELECT count(*) FROM device WHERE upto > 0",
+        layout,
+        COUNT_SEEN,
         &[],
     )? {
         Some(row) => cell_number(&row, 0),

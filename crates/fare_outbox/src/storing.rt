@@ -62,7 +62,7 @@ impl<S: Alter> SqlOutbox<S> {
         ensures rows { self.new.rows ≡ self.old.rows }
         ensures statements { self.new.statements ≡ self.old.statements }
     {
-        match read_link(&mut self.conn, self.order, device) {
+        match read_link(&mut self.conn, &self.layout, device) {
             Ok(upto) => {
                 if upto > LAST_NUMBER {
                     return Err(note(&mut self.failures, Fault::Store));
@@ -80,7 +80,7 @@ impl<S: Alter> SqlOutbox<S> {
         ensures rows { self.new.rows ≡ self.old.rows }
         ensures statements { self.new.statements ≡ self.old.statements }
     {
-        match count_seen(&mut self.conn, self.order) {
+        match count_seen(&mut self.conn, &self.layout) {
             Ok(seen) => Ok(seen == 0),
             Err(fault) => Err(note(&mut self.failures, fault)),
         }
@@ -100,7 +100,7 @@ impl<S: Alter> SqlOutbox<S> {
         ensures statements { self.new.statements ≡ self.old.statements }
     {
         let past = within(after);
-        match read_next(&mut self.conn, self.order, owner, device, past) {
+        match read_next(&mut self.conn, &self.layout, owner, device, past) {
             Ok(next) => Ok(next),
             Err(fault) => Err(note(&mut self.failures, fault)),
         }
@@ -121,7 +121,7 @@ impl<S: Alter> SqlOutbox<S> {
     {
         match read_statement(
             &mut self.conn,
-            self.order,
+            &self.layout,
             owner,
             device,
             u64::from(from.get()),
@@ -226,7 +226,7 @@ impl<S: Alter> SqlOutbox<S> {
         ensures { Calls (given (MayStore (stands S.Store self.old).value row.now) (stands S.Store self.old)) (stands S.Store self.new) (fault_of result)
             (Makes (stands S.Store self.old).value (stands S.Store self.new).value (stored row.now (stands S.Store self.old).value) result) (λ v. v ≡ stored row.now (stands S.Store self.old).value) }
     {
-        match write_row(&mut self.conn, self.order, row) {
+        match write_row(&mut self.conn, &self.layout, row) {
             Ok(()) => {
                 self.rows += 1;
                 Ok(())
@@ -242,7 +242,7 @@ impl<S: Alter> SqlOutbox<S> {
         ensures { Calls (given ((stands S.Store self.old).value.stated statement.now.owner statement.now.device statement.now.day ≡ None) (stands S.Store self.old)) (stands S.Store self.new) (fault_of result)
             (Makes (stands S.Store self.old).value (stands S.Store self.new).value (stored_statement statement.now (stands S.Store self.old).value) result) (λ v. v ≡ stored_statement statement.now (stands S.Store self.old).value) }
     {
-        match write_statement(&mut self.conn, self.order, statement) {
+        match write_statement(&mut self.conn, &self.layout, statement) {
             Ok(()) => {
                 self.statements += 1;
                 Ok(())
@@ -257,7 +257,7 @@ impl<S: Alter> SqlOutbox<S> {
         ensures { Removes (stands S.Store self.old) (stands S.Store self.new) (pruned owner device upto (stands S.Store self.old).value) (rows_upto upto ((stands S.Store self.old).value.rows owner device)) result }
     {
         let last = within(upto);
-        match write_cut(&mut self.conn, self.order, owner, device, last) {
+        match write_cut(&mut self.conn, &self.layout, owner, device, last) {
             Ok(count) => {
                 let count = count as u64;
                 self.rows = self.rows.saturating_sub(count);

@@ -1,13 +1,13 @@
 ghost use Rattle.std.specs.Prelude.{◌≡◌, false};
 
-use crate::Order;
+use crate::Layout;
 use sqlite::{Alter, Connection};
 
 /// An outbox in tables, over the connection that it was opened with.
 pub struct SqlOutbox<S: Alter> {
     pub(crate) conn: Connection<S>,
-    // In which order its tables were made.
-    pub(crate) order: Order,
+    // Where its tables stand.
+    pub(crate) layout: Layout,
     // How many taps and how many statements it holds.
     pub(crate) rows: u64,
     pub(crate) statements: u64,

@@ -7,7 +7,8 @@ ghost use Rattle.fare_tables.specs.Cells.{AreRows};
 ghost use Rattle.fare_outbox.specs.Orders.{schema_in, ours};
 ghost use Rattle.fare_outbox.specs.Held.{held_of, AreReadable, IsReady, IsDevice, Becomes, PutsTap, PutsLink, PutsStated, tap_cells, stated_cells, with_tap, with_statement, without_lane, is_cut};
 
-use crate::Order;
+use crate::Layout;
+use crate::statements::{CUT_ROWS, PUT_LINK, PUT_STATEMENT, PUT_TAP};
 use fare_record::{DeviceId, OwnerId, Record, Statement};
 use fare_store::Fault;
 use fare_tables::{change, fault_of, parameter};
@@ -30,17 +31,17 @@ fn cells_of(row: &Record) -> [ValueRef<'static>; 8]
     ]
 }
 
-fn put_tap<S: Alter>(tx: &mut Transaction<'_, S>, order: Order, row: &Record) -> Result<(), Fault>
+fn put_tap<S: Alter>(tx: &mut Transaction<'_, S>, layout: &Layout, row: &Record) -> Result<(), Fault>
     ensures same_reference { tx.new.conn.ghost_name ≡ tx.old.conn.ghost_name }
-    ensures puts { HasCleanDisk (state S.Store tx.new.conn.now) → IsTrue (state S.Store tx.old.conn.now).in_transaction → (state S.Store tx.old.conn.now).now.schema ≡ schema_in order
-        → OnOk result (PutsTap order (state S.Store tx.old.conn.now).now (state S.Store tx.new.conn.now).now row.now × IsTrue (state S.Store tx.new.conn.now).in_transaction) }
+    ensures puts { HasCleanDisk (state S.Store tx.new.conn.now) → IsTrue (state S.Store tx.old.conn.now).in_transaction → (state S.Store tx.old.conn.now).now.schema ≡ schema_in layout.now
+        → OnOk result (PutsTap layout.now (state S.Store tx.old.conn.now).now (state S.Store tx.new.conn.now).now row.now × IsTrue (state S.Store tx.new.conn.now).in_transaction) }
     ensures inside { HasCleanDisk (state S.Store tx.new.conn.now) → Inside (state S.Store tx.old.conn.now) (state S.Store tx.new.conn.now) }
     ensures survives { Survives (state S.Store tx.old.conn.now) (state S.Store tx.new.conn.now) (λ _. ⊥) }
 {
     let cells = cells_of(row);
     match change(
         tx,
-        "INSERT INTO tap (owner, device, lane, link, product, token, moment, day) VALUES (?1, ?2, ?3, ?4, ?5, ?6, ?7, ?8)",
+        PUT_TAP,
         &cells,
     ) {
         Ok(_) => Ok(()),
@@ -50,21 +51,21 @@ fn put_tap<S: Alter>(tx: &mut Transaction<'_, S>, order: Order, row: &Record) ->
 
 fn put_link<S: Alter>(
     tx: &mut Transaction<'_, S>,
-    order: Order,
+    layout: &Layout,
     device: DeviceId,
     upto: u64,
 ) -> Result<(), Fault>
     requires { upto < 2 ^ 63 }
     ensures same_reference { tx.new.conn.ghost_name ≡ tx.old.conn.ghost_name }
-    ensures puts { HasCleanDisk (state S.Store tx.new.conn.now) → IsTrue (state S.Store tx.old.conn.now).in_transaction → (state S.Store tx.old.conn.now).now.schema ≡ schema_in order → AreRows IsDevice (ours order (state S.Store tx.old.conn.now).now.trees 1)
-        → OnOk result (PutsLink order (state S.Store tx.old.conn.now).now (state S.Store tx.new.conn.now).now device upto × IsTrue (state S.Store tx.new.conn.now).in_transaction) }
+    ensures puts { HasCleanDisk (state S.Store tx.new.conn.now) → IsTrue (state S.Store tx.old.conn.now).in_transaction → (state S.Store tx.old.conn.now).now.schema ≡ schema_in layout.now → AreRows IsDevice (ours layout.now (state S.Store tx.old.conn.now).now.trees 1)
+        → OnOk result (PutsLink layout.now (state S.Store tx.old.conn.now).now (state S.Store tx.new.conn.now).now device upto × IsTrue (state S.Store tx.new.conn.now).in_transaction) }
     ensures inside { HasCleanDisk (state S.Store tx.new.conn.now) → Inside (state S.Store tx.old.conn.now) (state S.Store tx.new.conn.now) }
     ensures survives { Survives (state S.Store tx.old.conn.now) (state S.Store tx.new.conn.now) (λ _. ⊥) }
 {
     let cells = [parameter(u64::from(device.get())), parameter(upto)];
     match change(
         tx,
-        "INSERT INTO device (id, upto) VALUES (?1, ?2) ON CONFLICT (id) DO UPDATE SET upto = excluded.upto",
+        PUT_LINK,
         &cells,
     ) {
         Ok(_) => Ok(()),
@@ -73,33 +74,33 @@ fn put_link<S: Alter>(
 }
 
 // The row and the greatest link of its device.
-fn put_row<S: Alter>(tx: &mut Transaction<'_, S>, order: Order, row: &Record) -> Result<(), Fault>
+fn put_row<S: Alter>(tx: &mut Transaction<'_, S>, layout: &Layout, row: &Record) -> Result<(), Fault>
     ensures same_reference { tx.new.conn.ghost_name ≡ tx.old.conn.ghost_name }
-    ensures puts { HasCleanDisk (state S.Store tx.new.conn.now) → IsTrue (state S.Store tx.old.conn.now).in_transaction → (state S.Store tx.old.conn.now).now.schema ≡ schema_in order → AreReadable (ours order (state S.Store tx.old.conn.now).now.trees)
-        → OnOk result (Becomes order (state S.Store tx.new.conn.now).now (with_tap row.now (held_of (ours order (state S.Store tx.old.conn.now).now.trees))) × IsTrue (state S.Store tx.new.conn.now).in_transaction) }
+    ensures puts { HasCleanDisk (state S.Store tx.new.conn.now) → IsTrue (state S.Store tx.old.conn.now).in_transaction → (state S.Store tx.old.conn.now).now.schema ≡ schema_in layout.now → AreReadable (ours layout.now (state S.Store tx.old.conn.now).now.trees)
+        → OnOk result (Becomes layout.now (state S.Store tx.new.conn.now).now (with_tap row.now (held_of (ours layout.now (state S.Store tx.old.conn.now).now.trees))) × IsTrue (state S.Store tx.new.conn.now).in_transaction) }
     ensures inside { HasCleanDisk (state S.Store tx.new.conn.now) → Inside (state S.Store tx.old.conn.now) (state S.Store tx.new.conn.now) }
     ensures survives { Survives (state S.Store tx.old.conn.now) (state S.Store tx.new.conn.now) (λ _. ⊥) }
 {
-    put_tap(tx, order, row)?;
-    put_link(tx, order, row.device(), row.link())
+    put_tap(tx, layout, row)?;
+    put_link(tx, layout, row.device(), row.link())
 }
 
 // The row and the greatest link of its device, in one transaction.
 pub(crate) fn write_row<S: Alter>(
     conn: &mut Connection<S>,
-    order: Order,
+    layout: &Layout,
     row: &Record,
 ) -> Result<(), Fault>
     requires { conn.old.in_transaction ≡ false }
-    ensures value { IsLive (state S.Store conn.new) → IsReady order (state S.Store conn.old) → OnOk result (Becomes order (state S.Store conn.new).now (with_tap row.now (held_of (ours order (state S.Store conn.old).now.trees))) × ((state S.Store conn.new).now ≡ (state S.Store conn.new).committed)) }
-    ensures same { IsLive (state S.Store conn.new) → IsReady order (state S.Store conn.old) → OnErr result (SameRows (state S.Store conn.old) (state S.Store conn.new)) }
-    ensures crash { Survives (state S.Store conn.old) (state S.Store conn.new) (λ trees. IsReady order (state S.Store conn.old) → held_of (ours order trees) ≡ with_tap row.now (held_of (ours order (state S.Store conn.old).now.trees))) }
+    ensures value { IsLive (state S.Store conn.new) → IsReady layout.now (state S.Store conn.old) → OnOk result (Becomes layout.now (state S.Store conn.new).now (with_tap row.now (held_of (ours layout.now (state S.Store conn.old).now.trees))) × ((state S.Store conn.new).now ≡ (state S.Store conn.new).committed)) }
+    ensures same { IsLive (state S.Store conn.new) → IsReady layout.now (state S.Store conn.old) → OnErr result (SameRows (state S.Store conn.old) (state S.Store conn.new)) }
+    ensures crash { Survives (state S.Store conn.old) (state S.Store conn.new) (λ trees. IsReady layout.now (state S.Store conn.old) → held_of (ours layout.now trees) ≡ with_tap row.now (held_of (ours layout.now (state S.Store conn.old).now.trees))) }
     ensures live { IsLive (state S.Store conn.new) → IsLive (state S.Store conn.old) }
     ensures stays { HasCleanDisk (state S.Store conn.new) → OnOk result (IsTrue (state S.Store conn.new).is_open) }
     ensures idle { conn.new.in_transaction ≡ false }
 {
     let mut tx = conn.transaction();
-    put_row(&mut tx, order, row)?;
+    put_row(&mut tx, layout, row)?;
     match tx.commit() {
         Ok(()) => Ok(()),
         Err(error) => Err(fault_of(error)),
@@ -119,19 +120,19 @@ fn cells_stated(statement: &Statement) -> [ValueRef<'static>; 4]
 
 fn put_statement<S: Alter>(
     tx: &mut Transaction<'_, S>,
-    order: Order,
+    layout: &Layout,
     statement: &Statement,
 ) -> Result<(), Fault>
     ensures same_reference { tx.new.conn.ghost_name ≡ tx.old.conn.ghost_name }
-    ensures puts { HasCleanDisk (state S.Store tx.new.conn.now) → IsTrue (state S.Store tx.old.conn.now).in_transaction → (state S.Store tx.old.conn.now).now.schema ≡ schema_in order → AreReadable (ours order (state S.Store tx.old.conn.now).now.trees)
-        → OnOk result (Becomes order (state S.Store tx.new.conn.now).now (with_statement statement.now (held_of (ours order (state S.Store tx.old.conn.now).now.trees))) × IsTrue (state S.Store tx.new.conn.now).in_transaction) }
+    ensures puts { HasCleanDisk (state S.Store tx.new.conn.now) → IsTrue (state S.Store tx.old.conn.now).in_transaction → (state S.Store tx.old.conn.now).now.schema ≡ schema_in layout.now → AreReadable (ours layout.now (state S.Store tx.old.conn.now).now.trees)
+        → OnOk result (Becomes layout.now (state S.Store tx.new.conn.now).now (with_statement statement.now (held_of (ours layout.now (state S.Store tx.old.conn.now).now.trees))) × IsTrue (state S.Store tx.new.conn.now).in_transaction) }
     ensures inside { HasCleanDisk (state S.Store tx.new.conn.now) → Inside (state S.Store tx.old.conn.now) (state S.Store tx.new.conn.now) }
     ensures survives { Survives (state S.Store tx.old.conn.now) (state S.Store tx.new.conn.now) (λ _. ⊥) }
 {
     let cells = cells_stated(statement);
     match change(
         tx,
-        "INSERT INTO stated (owner, device, day, total) VALUES (?1, ?2, ?3, ?4)",
+        PUT_STATEMENT,
         &cells,
     ) {
         Ok(_) => Ok(()),
@@ -142,19 +143,19 @@ fn put_statement<S: Alter>(
 // The statement, in one transaction.
 pub(crate) fn write_statement<S: Alter>(
     conn: &mut Connection<S>,
-    order: Order,
+    layout: &Layout,
     statement: &Statement,
 ) -> Result<(), Fault>
     requires { conn.old.in_transaction ≡ false }
-    ensures value { IsLive (state S.Store conn.new) → IsReady order (state S.Store conn.old) → OnOk result (Becomes order (state S.Store conn.new).now (with_statement statement.now (held_of (ours order (state S.Store conn.old).now.trees))) × ((state S.Store conn.new).now ≡ (state S.Store conn.new).committed)) }
-    ensures same { IsLive (state S.Store conn.new) → IsReady order (state S.Store conn.old) → OnErr result (SameRows (state S.Store conn.old) (state S.Store conn.new)) }
-    ensures crash { Survives (state S.Store conn.old) (state S.Store conn.new) (λ trees. IsReady order (state S.Store conn.old) → held_of (ours order trees) ≡ with_statement statement.now (held_of (ours order (state S.Store conn.old).now.trees))) }
+    ensures value { IsLive (state S.Store conn.new) → IsReady layout.now (state S.Store conn.old) → OnOk result (Becomes layout.now (state S.Store conn.new).now (with_statement statement.now (held_of (ours layout.now (state S.Store conn.old).now.trees))) × ((state S.Store conn.new).now ≡ (state S.Store conn.new).committed)) }
+    ensures same { IsLive (state S.Store conn.new) → IsReady layout.now (state S.Store conn.old) → OnErr result (SameRows (state S.Store conn.old) (state S.Store conn.new)) }
+    ensures crash { Survives (state S.Store conn.old) (state S.Store conn.new) (λ trees. IsReady layout.now (state S.Store conn.old) → held_of (ours layout.now trees) ≡ with_statement statement.now (held_of (ours layout.now (state S.Store conn.old).now.trees))) }
     ensures live { IsLive (state S.Store conn.new) → IsLive (state S.Store conn.old) }
     ensures stays { HasCleanDisk (state S.Store conn.new) → OnOk result (IsTrue (state S.Store conn.new).is_open) }
     ensures idle { conn.new.in_transaction ≡ false }
 {
     let mut tx = conn.transaction();
-    put_statement(&mut tx, order, statement)?;
+    put_statement(&mut tx, layout, statement)?;
     match tx.commit() {
         Ok(()) => Ok(()),
         Err(error) => Err(fault_of(error)),
@@ -164,19 +165,19 @@ pub(crate) fn write_statement<S: Alter>(
 // Removes the rows of a lane up to a lane number.
 fn cut_rows<S: Alter>(
     tx: &mut Transaction<'_, S>,
-    order: Order,
+    layout: &Layout,
     owner: OwnerId,
     device: DeviceId,
     upto: u64,
 ) -> Result<usize, Fault>
     requires { upto < 2 ^ 63 }
     ensures same_reference { tx.new.conn.ghost_name ≡ tx.old.conn.ghost_name }
-    ensures puts { HasCleanDisk (state S.Store tx.new.conn.now) → IsTrue (state S.Store tx.old.conn.now).in_transaction → (state S.Store tx.old.conn.now).now.schema ≡ schema_in order → AreReadable (ours order (state S.Store tx.old.conn.now).now.trees)
-        → OnOk result (Becomes order (state S.Store tx.new.conn.now).now (without_lane owner device upto (held_of (ours order (state S.Store tx.old.conn.now).now.trees))) × IsTrue (state S.Store tx.new.conn.now).in_transaction) }
+    ensures puts { HasCleanDisk (state S.Store tx.new.conn.now) → IsTrue (state S.Store tx.old.conn.now).in_transaction → (state S.Store tx.old.conn.now).now.schema ≡ schema_in layout.now → AreReadable (ours layout.now (state S.Store tx.old.conn.now).now.trees)
+        → OnOk result (Becomes layout.now (state S.Store tx.new.conn.now).now (without_lane owner device upto (held_of (ours layout.now (state S.Store tx.old.conn.now).now.trees))) × IsTrue (state S.Store tx.new.conn.now).in_transaction) }
     ensures inside { HasCleanDisk (state S.Store tx.new.conn.now) → Inside (state S.Store tx.old.conn.now) (state S.Store tx.new.conn.now) }
     ensures survives { Survives (state S.Store tx.old.conn.now) (state S.Store tx.new.conn.now) (λ _. ⊥) }
-    ensures count { HasCleanDisk (state S.Store tx.new.conn.now) → IsTrue (state S.Store tx.old.conn.now).in_transaction → (state S.Store tx.old.conn.now).now.schema ≡ schema_in order → AreReadable (ours order (state S.Store tx.old.conn.now).now.trees)
-        → IfOk result (λ n. n ≡ length (filter (is_cut owner device upto) (held_of (ours order (state S.Store tx.old.conn.now).now.trees)).taps)) }
+    ensures count { HasCleanDisk (state S.Store tx.new.conn.now) → IsTrue (state S.Store tx.old.conn.now).in_transaction → (state S.Store tx.old.conn.now).now.schema ≡ schema_in layout.now → AreReadable (ours layout.now (state S.Store tx.old.conn.now).now.trees)
+        → IfOk result (λ n. n ≡ length (filter (is_cut owner device upto) (held_of (ours layout.now (state S.Store tx.old.conn.now).now.trees)).taps)) }
 {
     let asked = [
         parameter(u64::from(owner.get())),
@@ -185,7 +186,7 @@ fn cut_rows<S: Alter>(
     ];
     match change(
         tx,
-        "DELETE FROM tap WHERE owner = ?1 AND device = ?2 AND lane <= ?3",
+        CUT_ROWS,
         &asked,
     ) {
         Ok(count) => Ok(count),
@@ -196,23 +197,23 @@ fn cut_rows<S: Alter>(
 // Removes the rows of a lane up to a lane number, in one transaction, and answers how many.
 pub(crate) fn write_cut<S: Alter>(
     conn: &mut Connection<S>,
-    order: Order,
+    layout: &Layout,
     owner: OwnerId,
     device: DeviceId,
     upto: u64,
 ) -> Result<usize, Fault>
     requires low { upto < 2 ^ 63 }
     requires idle { conn.old.in_transaction ≡ false }
-    ensures value { IsLive (state S.Store conn.new) → IsReady order (state S.Store conn.old) → OnOk result (Becomes order (state S.Store conn.new).now (without_lane owner device upto (held_of (ours order (state S.Store conn.old).now.trees))) × ((state S.Store conn.new).now ≡ (state S.Store conn.new).committed)) }
-    ensures same { IsLive (state S.Store conn.new) → IsReady order (state S.Store conn.old) → OnErr result (SameRows (state S.Store conn.old) (state S.Store conn.new)) }
-    ensures crash { Survives (state S.Store conn.old) (state S.Store conn.new) (λ trees. IsReady order (state S.Store conn.old) → held_of (ours order trees) ≡ without_lane owner device upto (held_of (ours order (state S.Store conn.old).now.trees))) }
+    ensures value { IsLive (state S.Store conn.new) → IsReady layout.now (state S.Store conn.old) → OnOk result (Becomes layout.now (state S.Store conn.new).now (without_lane owner device upto (held_of (ours layout.now (state S.Store conn.old).now.trees))) × ((state S.Store conn.new).now ≡ (state S.Store conn.new).committed)) }
+    ensures same { IsLive (state S.Store conn.new) → IsReady layout.now (state S.Store conn.old) → OnErr result (SameRows (state S.Store conn.old) (state S.Store conn.new)) }
+    ensures crash { Survives (state S.Store conn.old) (state S.Store conn.new) (λ trees. IsReady layout.now (state S.Store conn.old) → held_of (ours layout.now trees) ≡ without_lane owner device upto (held_of (ours layout.now (state S.Store conn.old).now.trees))) }
     ensures live { IsLive (state S.Store conn.new) → IsLive (state S.Store conn.old) }
     ensures stays { HasCleanDisk (state S.Store conn.new) → OnOk result (IsTrue (state S.Store conn.new).is_open) }
     ensures idle { conn.new.in_transaction ≡ false }
-    ensures count { IsLive (state S.Store conn.new) → IsReady order (state S.Store conn.old) → IfOk result (λ n. n ≡ length (filter (is_cut owner device upto) (held_of (ours order (state S.Store conn.old).now.trees)).taps)) }
+    ensures count { IsLive (state S.Store conn.new) → IsReady layout.now (state S.Store conn.old) → IfOk result (λ n. n ≡ length (filter (is_cut owner device upto) (held_of (ours layout.now (state S.Store conn.old).now.trees)).taps)) }
 {
     let mut tx = conn.transaction();
-    let count = cut_rows(&mut tx, order, owner, device, upto)?;
+    let count = cut_rows(&mut tx, layout, owner, device, upto)?;
     match tx.commit() {
         Ok(()) => Ok(count),
         Err(error) => Err(fault_of(error)),

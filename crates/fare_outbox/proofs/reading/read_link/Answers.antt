@@ -7,18 +7,18 @@ use Rattle.fare_outbox.proofs.Found.{link_row, link_none, number_is}
 use Rattle.fare_outbox.proofs.reading.read_link.Goals as goal
 
 pub ask-requires : goal.ask-requires
-ask-requires g c = link_reads c.args.order
+ask-requires g c = link_reads c.args.layout.now
 
 pub returns-in-Some-clause-value : goal.returns-in-Some-clause-value
 returns-in-Some-clause-value g c live ready =
     let old = state g.S.Store c.args.conn.now in
     let new = state g.S.Store c.ask.new.conn in
     let h : QueriesRow link_text (int c.args.device ∷ []) old new (Ok c.in-Some.row) = rw (c.parameter.ensures, c.from.ensures, c.get.ensures.value, c.in-Some.is) at (c.in_ok-row.ensures.row live.0 ready.rest) in
-    number_is c.cell_number.result c.in-Some.row _ (link_row c.args.order old new c.args.device c.in-Some.row ready.rest.schema_is ready.fits.devices h) c.cell_number.ensures.read
+    number_is c.cell_number.result c.in-Some.row _ (link_row c.args.layout.now old new c.args.device c.in-Some.row ready.rest.schema_is ready.fits.devices h) c.cell_number.ensures.read
 
 pub returns-in-None-clause-value : goal.returns-in-None-clause-value
 returns-in-None-clause-value g c live ready =
     let old = state g.S.Store c.args.conn.now in
     let new = state g.S.Store c.ask.new.conn in
     let h : Shown link_text (int c.args.device ∷ []) old new [] = rw (c.parameter.ensures, c.from.ensures, c.get.ensures.value, c.in-None.is) at (c.in_ok-row.ensures.row live.0 ready.rest) in
-    sym (link_none c.args.order old new c.args.device ready.rest.schema_is ready.fits.devices h)
+    sym (link_none c.args.layout.now old new c.args.device ready.rest.schema_is ready.fits.devices h)

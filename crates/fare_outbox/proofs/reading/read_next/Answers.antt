@@ -6,7 +6,7 @@ use Rattle.fare_outbox.proofs.Found.{asked, next_row, next_none}
 use Rattle.fare_outbox.proofs.reading.read_next.Goals as goal
 
 pub ask-requires : goal.ask-requires
-ask-requires g c = next_reads c.args.order
+ask-requires g c = next_reads c.args.layout.now
 
 pub returns-in_ok-row_in-in-Some-clause-value : goal.returns-in_ok-row_in-in-Some-clause-value
 returns-in_ok-row_in-in-Some-clause-value g c live ready =
@@ -14,7 +14,7 @@ returns-in_ok-row_in-in-Some-clause-value g c live ready =
     let new = state g.S.Store c.ask.new.conn in
     let h : QueriesRow next_text (asked c.args.owner c.args.device c.args.after) old new (Ok c.in-Some.row) =
     rw (c.parameter.ensures, c.parameter-2.ensures, c.parameter-3.ensures, c.from.ensures, c.from-2.ensures, c.get.ensures.value, c.get-2.ensures.value, c.in-Some.is) at (c.in_ok-row.ensures.row live.0 ready.rest) in
-    next_row c.args.order old new c.args.owner c.args.device c.args.after c.in_ok-row_in-in-Some.field-0 c.in-Some.row c.in_ok-row_in-in-Some.ensures ready.rest.schema_is ready.fits.taps h
+    next_row c.args.layout.now old new c.args.owner c.args.device c.args.after c.in_ok-row_in-in-Some.field-0 c.in-Some.row c.in_ok-row_in-in-Some.ensures ready.rest.schema_is ready.fits.taps h
 
 pub returns-in-None-clause-value : goal.returns-in-None-clause-value
 returns-in-None-clause-value g c live ready =
@@ -22,4 +22,4 @@ returns-in-None-clause-value g c live ready =
     let new = state g.S.Store c.ask.new.conn in
     let h : Shown next_text (asked c.args.owner c.args.device c.args.after) old new [] =
     rw (c.parameter.ensures, c.parameter-2.ensures, c.parameter-3.ensures, c.from.ensures, c.from-2.ensures, c.get.ensures.value, c.get-2.ensures.value, c.in-None.is) at (c.in_ok-row.ensures.row live.0 ready.rest) in
-    next_none c.args.order old new c.args.owner c.args.device c.args.after ready.rest.schema_is ready.fits.taps h
+    next_none c.args.layout.now old new c.args.owner c.args.device c.args.after ready.rest.schema_is ready.fits.taps h

@@ -12,4 +12,4 @@ returns-in-Ok-clause-puts g c clean inside schema devices =
     let new = state g.S.Store c.change.new.tx.conn.now in
     let ran = c.in-Ok.ensures.ran clean inside in
     let h : Executes put_link_text (int c.args.device ∷ int c.args.upto ∷ []) old new (Ok c.in-Ok.field-0) = rw (c.parameter.ensures, c.parameter-2.ensures, c.from.ensures, c.get.ensures.value) at ran.0 in
-    (puts_link c.args.order old new c.args.device c.args.upto c.in-Ok.field-0 schema devices h, ran.1)
+    (puts_link c.args.layout.now old new c.args.device c.args.upto c.in-Ok.field-0 schema devices h, ran.1)

@@ -3,7 +3,7 @@ use Rattle.sqlite_trees.specs.Tree.{Trees}
 use Rattle.sqlite.specs.Held.{state}
 use Rattle.fare_store.specs.OutboxWords.{pruned, rows_upto}
 use Rattle.fare_tables.proofs.Steps.{write_step, given_none, same_fit, same_at}
-use Rattle.fare_outbox.specs.Orders.{schema_in, ours}
+use Rattle.fare_outbox.specs.Layouts.{schema_in, ours}
 use Rattle.fare_outbox.specs.Held.{IsReady, held_of, without_lane}
 use Rattle.fare_outbox.specs.Words.{tap_key, first_at, itself, value_at, value_in, IsWell}
 use Rattle.fare_outbox.proofs.Stored.{ready, cut_fits, cut_value}
@@ -21,19 +21,19 @@ returns-in-Ok g c =
     let last = c.within-last.result in
     let low = c.within-last.ensures.low in
     let which = c.within-last.ensures.which in
-    let h = held_of (ours self.order old.now.trees) in
-    let done = pruned o d n (value_at self.order old.now.trees) in
+    let h = held_of (ours self.layout old.now.trees) in
+    let done = pruned o d n (value_at self.layout old.now.trees) in
     let count = c.in-Ok.count in
-    given_none _ _ _ None _ (write_step (schema_in self.order) (value_at self.order) (IsWell self.order self.rows self.statements) (IsWell self.order c.saturating_sub-self.result self.statements) old new self.failures self.failures None (Unit {0}) ((count ≡ rows_upto n (first_at tap_key itself h.taps o d)) × (value_at self.order new.now.trees ≡ done)) done
-    (λ (trees : Trees). IsReady self.order old → held_of (ours self.order trees) ≡ without_lane o d last h) c.requires
+    given_none _ _ _ None _ (write_step (schema_in self.layout) (value_at self.layout) (IsWell self.layout self.rows self.statements) (IsWell self.layout c.saturating_sub-self.result self.statements) old new self.failures self.failures None (Unit {0}) ((count ≡ rows_upto n (first_at tap_key itself h.taps o d)) × (value_at self.layout new.now.trees ≡ done)) done
+    (λ (trees : Trees). IsReady self.layout old → held_of (ours self.layout trees) ≡ without_lane o d last h) c.requires
     (λ live known.
     let fit = known.0 in
     let together = fit.fits.lawful.together in
-    let wrote = c.in-Ok.ensures.value live (ready self.order old self.rows self.statements fit) in
-    let is = c.in-Ok.ensures.count live (ready self.order old self.rows self.statements fit) in
-    (rw c.saturating_sub-self.ensures (cut_fits self.order old new self.rows self.statements o d last count fit wrote is), (is ∙ cut_count o d last n h together low which, ap value_in wrote.0.value ∙ cut_value h o d last n together low which)))
+    let wrote = c.in-Ok.ensures.value live (ready self.layout old self.rows self.statements fit) in
+    let is = c.in-Ok.ensures.count live (ready self.layout old self.rows self.statements fit) in
+    (rw c.saturating_sub-self.ensures (cut_fits self.layout old new self.rows self.statements o d last count fit wrote is), (is ∙ cut_count o d last n h together low which, ap value_in wrote.0.value ∙ cut_value h o d last n together low which)))
     c.write_cut.ensures.crash
-    (λ fit trees wrote may. ap value_in (wrote (ready self.order old self.rows self.statements fit)) ∙ cut_value h o d last n fit.fits.lawful.together low which)
+    (λ fit trees wrote may. ap value_in (wrote (ready self.layout old self.rows self.statements fit)) ∙ cut_value h o d last n fit.fits.lawful.together low which)
     c.write_cut.ensures.live (λ e. c.in-Ok.ensures.stays) refl)
 
 pub returns-in-Err : goal.returns-in-Err
@@ -45,13 +45,13 @@ returns-in-Err g c =
     let d = c.args.device in
     let n = c.args.upto in
     let last = c.within-last.result in
-    let h = held_of (ours self.order old.now.trees) in
-    let done = pruned o d n (value_at self.order old.now.trees) in
-    given_none _ _ _ (Some c.note.result) _ (write_step (schema_in self.order) (value_at self.order) (IsWell self.order self.rows self.statements) (IsWell self.order self.rows self.statements) old new self.failures c.note.new.failures (Some c.note.result) (Unit {0}) (value_at self.order new.now.trees ≡ value_at self.order old.now.trees) done
-    (λ (trees : Trees). IsReady self.order old → held_of (ours self.order trees) ≡ without_lane o d last h) c.requires
+    let h = held_of (ours self.layout old.now.trees) in
+    let done = pruned o d n (value_at self.layout old.now.trees) in
+    given_none _ _ _ (Some c.note.result) _ (write_step (schema_in self.layout) (value_at self.layout) (IsWell self.layout self.rows self.statements) (IsWell self.layout self.rows self.statements) old new self.failures c.note.new.failures (Some c.note.result) (Unit {0}) (value_at self.layout new.now.trees ≡ value_at self.layout old.now.trees) done
+    (λ (trees : Trees). IsReady self.layout old → held_of (ours self.layout trees) ≡ without_lane o d last h) c.requires
     (λ live known.
-    let same = c.in-Err.ensures.same live (ready self.order old self.rows self.statements known.0) in
-    (same_fit (schema_in self.order) (value_at self.order) (IsWell self.order self.rows self.statements) old new same known.0, same_at (schema_in self.order) (value_at self.order) old new same))
+    let same = c.in-Err.ensures.same live (ready self.layout old self.rows self.statements known.0) in
+    (same_fit (schema_in self.layout) (value_at self.layout) (IsWell self.layout self.rows self.statements) old new same known.0, same_at (schema_in self.layout) (value_at self.layout) old new same))
     c.write_cut.ensures.crash
-    (λ fit trees wrote may. ap value_in (wrote (ready self.order old self.rows self.statements fit)) ∙ cut_value h o d last n fit.fits.lawful.together c.within-last.ensures.low c.within-last.ensures.which)
+    (λ fit trees wrote may. ap value_in (wrote (ready self.layout old self.rows self.statements fit)) ∙ cut_value h o d last n fit.fits.lawful.together c.within-last.ensures.low c.within-last.ensures.which)
     c.write_cut.ensures.live (λ e. absurd (cc)) c.note.ensures.counted)

@@ -3,7 +3,7 @@ use Rattle.sqlite_trees.specs.Tree.{Trees}
 use Rattle.sqlite.specs.Held.{state}
 use Rattle.fare_store.specs.OutboxWords.{stored}
 use Rattle.fare_tables.proofs.Steps.{write_step, same_fit, same_at}
-use Rattle.fare_outbox.specs.Orders.{schema_in, ours}
+use Rattle.fare_outbox.specs.Layouts.{schema_in, ours}
 use Rattle.fare_outbox.specs.Held.{IsReady, held_of, with_tap}
 use Rattle.fare_outbox.specs.Words.{value_at, value_in, IsWell, MayStore}
 use Rattle.fare_outbox.proofs.Stored.{ready, put_fits}
@@ -16,13 +16,13 @@ returns-in-Ok g c =
     let new = state g.S.Store c.write_row.new.conn in
     let self = c.args.self.now in
     let r = c.args.row.now in
-    let h = held_of (ours self.order old.now.trees) in
-    write_step (schema_in self.order) (value_at self.order) (IsWell self.order self.rows self.statements) (IsWell self.order (self.rows + 1) self.statements) old new self.failures self.failures None (MayStore (value_at self.order old.now.trees) r) (value_at self.order new.now.trees ≡ stored r (value_at self.order old.now.trees)) (stored r (value_at self.order old.now.trees)) (λ (trees : Trees). IsReady self.order old → held_of (ours self.order trees) ≡ with_tap r h) c.requires.up
+    let h = held_of (ours self.layout old.now.trees) in
+    write_step (schema_in self.layout) (value_at self.layout) (IsWell self.layout self.rows self.statements) (IsWell self.layout (self.rows + 1) self.statements) old new self.failures self.failures None (MayStore (value_at self.layout old.now.trees) r) (value_at self.layout new.now.trees ≡ stored r (value_at self.layout old.now.trees)) (stored r (value_at self.layout old.now.trees)) (λ (trees : Trees). IsReady self.layout old → held_of (ours self.layout trees) ≡ with_tap r h) c.requires.up
     (λ live known.
-    let wrote = c.in-Ok.ensures.value live (ready self.order old self.rows self.statements known.0) in
-    (put_fits self.order old new self.rows self.statements r c.requires.lane known.0 known.1 wrote, ap value_in wrote.0.value ∙ store_value h r known.1))
+    let wrote = c.in-Ok.ensures.value live (ready self.layout old self.rows self.statements known.0) in
+    (put_fits self.layout old new self.rows self.statements r c.requires.lane known.0 known.1 wrote, ap value_in wrote.0.value ∙ store_value h r known.1))
     c.write_row.ensures.crash
-    (λ fit trees wrote may. ap value_in (wrote (ready self.order old self.rows self.statements fit)) ∙ store_value h r may)
+    (λ fit trees wrote may. ap value_in (wrote (ready self.layout old self.rows self.statements fit)) ∙ store_value h r may)
     c.write_row.ensures.live (λ e. c.in-Ok.ensures.stays) refl
 
 pub returns-in-Err : goal.returns-in-Err
@@ -31,11 +31,11 @@ returns-in-Err g c =
     let new = state g.S.Store c.write_row.new.conn in
     let self = c.args.self.now in
     let r = c.args.row.now in
-    let h = held_of (ours self.order old.now.trees) in
-    write_step (schema_in self.order) (value_at self.order) (IsWell self.order self.rows self.statements) (IsWell self.order self.rows self.statements) old new self.failures c.note.new.failures (Some c.note.result) (MayStore (value_at self.order old.now.trees) r) (value_at self.order new.now.trees ≡ value_at self.order old.now.trees) (stored r (value_at self.order old.now.trees)) (λ (trees : Trees). IsReady self.order old → held_of (ours self.order trees) ≡ with_tap r h) c.requires.up
+    let h = held_of (ours self.layout old.now.trees) in
+    write_step (schema_in self.layout) (value_at self.layout) (IsWell self.layout self.rows self.statements) (IsWell self.layout self.rows self.statements) old new self.failures c.note.new.failures (Some c.note.result) (MayStore (value_at self.layout old.now.trees) r) (value_at self.layout new.now.trees ≡ value_at self.layout old.now.trees) (stored r (value_at self.layout old.now.trees)) (λ (trees : Trees). IsReady self.layout old → held_of (ours self.layout trees) ≡ with_tap r h) c.requires.up
     (λ live known.
-    let same = c.in-Err.ensures.same live (ready self.order old self.rows self.statements known.0) in
-    (same_fit (schema_in self.order) (value_at self.order) (IsWell self.order self.rows self.statements) old new same known.0, same_at (schema_in self.order) (value_at self.order) old new same))
+    let same = c.in-Err.ensures.same live (ready self.layout old self.rows self.statements known.0) in
+    (same_fit (schema_in self.layout) (value_at self.layout) (IsWell self.layout self.rows self.statements) old new same known.0, same_at (schema_in self.layout) (value_at self.layout) old new same))
     c.write_row.ensures.crash
-    (λ fit trees wrote may. ap value_in (wrote (ready self.order old self.rows self.statements fit)) ∙ store_value h r may)
+    (λ fit trees wrote may. ap value_in (wrote (ready self.layout old self.rows self.statements fit)) ∙ store_value h r may)
     c.write_row.ensures.live (λ e. absurd (cc)) c.note.ensures.counted

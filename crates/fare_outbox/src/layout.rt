@@ -1,0 +1,20 @@
+ghost use Rattle.fare_outbox.specs.Statements.{FitsOutbox};
+
+use fare_layout::Places;
+use sqlite_schema::schema::Schema;
+
+/// Where the tables of an outbox stand in a database, which may hold others too: each statement of the outbox
+/// means there what it means in a database of an outbox alone.
+pub struct Layout {
+    // The schema of the database.
+    pub(crate) schema: Schema,
+    pub(crate) places: Places,
+    ghost fits: { FitsOutbox schema places },
+}
+
+// It is written out, so that a caller doesn't prove again how each part is let go.
+impl Drop for Layout {
+    fn drop(self) {
+        let Layout { schema: _, places: _ } = self;
+    }
+}
