@@ -32,7 +32,7 @@ pub fn same_schema(a: &Schema, b: &Schema) -> bool
         && b.views.is_empty()
 }
 
-fn same_bytes(a: &Bytes, b: &Bytes) -> bool
+pub(crate) fn same_bytes(a: &Bytes, b: &Bytes) -> bool
     ensures { IsTrue result ↔ (a.now ≡ b.now) }
 {
     a.as_slice() == b.as_slice()
@@ -73,7 +73,7 @@ fn same_columns(a: &[Column], b: &[Column]) -> bool
     }
 }
 
-fn same_places(a: &Items<usize>, b: &Items<usize>) -> bool
+pub(crate) fn same_places(a: &Items<usize>, b: &Items<usize>) -> bool
     ensures { IsTrue result ↔ (a.now ≡ b.now) }
 {
     a.as_slice() == b.as_slice()
@@ -126,7 +126,7 @@ fn same_binary(a: BinaryOp, b: BinaryOp) -> bool
 }
 
 // Whether the terms at two places, each read to a depth, are the same. The work is bounded by the second one.
-fn same_term(a: &[Op], depth: usize, at: usize, b: &[Op], limit: usize, place: usize) -> bool
+pub(crate) fn same_term(a: &[Op], depth: usize, at: usize, b: &[Op], limit: usize, place: usize) -> bool
     ensures same { IsTrue result → term_to a.now depth at ≡ term_to b.now limit place }
     ensures found { IsSimpleTerm (term_to b.now limit place) → term_to a.now depth at ≡ term_to b.now limit place → IsTrue result }
 {
@@ -156,7 +156,7 @@ fn same_term(a: &[Op], depth: usize, at: usize, b: &[Op], limit: usize, place: u
 }
 
 // Whether the terms at these roots are the same.
-fn same_roots(a: &[Op], roots: &[usize], b: &[Op], places: &[usize]) -> bool
+pub(crate) fn same_roots(a: &[Op], roots: &[usize], b: &[Op], places: &[usize]) -> bool
     ensures same { IsTrue result → map (term_in a.now) roots.now ≡ map (term_in b.now) places.now }
     ensures found { AreSimple (map (term_in b.now) places.now) → map (term_in a.now) roots.now ≡ map (term_in b.now) places.now → IsTrue result }
 {
@@ -169,7 +169,7 @@ fn same_roots(a: &[Op], roots: &[usize], b: &[Op], places: &[usize]) -> bool
     }
 }
 
-fn same_terms(a: &Terms, b: &Terms) -> bool
+pub(crate) fn same_terms(a: &Terms, b: &Terms) -> bool
     ensures same { IsTrue result → a.now ≡ b.now }
     ensures found { AreSimple b.now → a.now ≡ b.now → IsTrue result }
 {
