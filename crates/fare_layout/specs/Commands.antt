@@ -85,10 +85,13 @@ IsSimpleSource (source.Query p) = ⊥
 abbrev pub IsSimpleUpsert : Upsert → Type 0
 IsSimpleUpsert u = IfSome u.update IsSimpleProgram
 
+abbrev pub AreSimpleUpserts : List Upsert → Type 0
+AreSimpleUpserts upserts = AllByRecursion IsSimpleUpsert upserts
+
 abbrev pub IsSimpleCommand : Command → Type 0
 IsSimpleCommand (Select q names) = IsSimpleProgram q
 IsSimpleCommand (Insert at rows) = IsSimpleSource rows
-IsSimpleCommand (InsertOr at by rows upserts) = IsSimpleSource rows × AllByRecursion IsSimpleUpsert upserts
+IsSimpleCommand (InsertOr at by rows upserts) = IsSimpleSource rows × AreSimpleUpserts upserts
 IsSimpleCommand (Delete at q) = IsSimpleProgram q
 IsSimpleCommand c = ⊥
 

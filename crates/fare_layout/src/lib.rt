@@ -4,10 +4,12 @@
 //! means the same.
 #![tactic(auto)]
 
+mod commands;
 mod place;
 mod plans;
 mod schemas;
 
+pub use commands::same_command;
 pub use place::{Kind, Place};
 pub use plans::same_plan;
 pub use schemas::{is_blank, same_schema};
