@@ -5,11 +5,13 @@
 #![tactic(auto)]
 
 mod commands;
+mod meaning;
 mod place;
 mod plans;
 mod schemas;
 
 pub use commands::same_command;
+pub use meaning::keeps_meaning;
 pub use place::{Kind, Place};
 pub use plans::same_plan;
 pub use schemas::{is_blank, same_schema};
