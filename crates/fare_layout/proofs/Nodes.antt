@@ -1,5 +1,5 @@
 -- The terms that operations stand for.
-use Rattle.std.proofs.Common.{◌≡◌, ◌≢◌, ◌-◌, ℕ, zero, suc, List, slice_index_or, refl, sym, ap, ◌∙◌, arith}
+use Rattle.std.proofs.Common.{◌≡◌, ◌≢◌, ◌-◌, ℕ, zero, suc, List, slice_index_or, refl, sym, ap, arith}
 use Rattle.sqlite.specs.declared.types.Value.TheVariants.{Null}
 use Rattle.sqlite_schema.specs.Code.{op_term, term_to}
 use Rattle.sqlite_schema.specs.declared.code.Op.{Op}

@@ -1,5 +1,5 @@
 -- What a statement means under one schema, beside what it means under another.
-use Rattle.std.specs.Prelude.{◌≡◌, List, [], ◌∷◌, map, Option, Some, None, option_map, IfSome, Result, Ok, Err, ℕ}
+use Rattle.std.specs.Prelude.{◌≡◌, List, [], map, Option, Some, None, option_map, IfSome, Result, Ok, Err, ℕ}
 use Rattle.std.specs.List.{AllByRecursion}
 use Rattle.sqlite.specs.Schema.{Schema}
 use Rattle.sqlite_sql.specs.Term.{Term}

@@ -19,20 +19,19 @@ pub fn same_command(a: &Command, place: Place, b: &Command) -> bool
 {
     match (a, b) {
         (Command::Select(query, names), Command::Select(other, others)) => {
-            same_program(query, place.tree, other) && same_names(names.as_slice(), others.as_slice())
+            same_program(query, place.tree, other)
+                && same_names(names.as_slice(), others.as_slice())
         }
         (Command::Insert(at, rows), Command::Insert(_, others)) => {
             *at == place.at && same_source(rows, others)
         }
-        (
-            Command::InsertOr(at, way, rows, upserts),
-            Command::InsertOr(_, other, others, wanted),
-        ) => {
-            *at == place.at
-                && *way == *other
-                && same_source(rows, others)
-                && same_upserts(upserts.as_slice(), place.tree, wanted.as_slice())
-        }
+        (Command::InsertOr(at, way, rows, upserts), Command::InsertOr(_, other, others, wanted)) =>
+            {
+                *at == place.at
+                    && *way == *other
+                    && same_source(rows, others)
+                    && same_upserts(upserts.as_slice(), place.tree, wanted.as_slice())
+            }
         (Command::Delete(at, query), Command::Delete(_, other)) => {
             *at == place.at && same_program(query, place.tree, other)
         }

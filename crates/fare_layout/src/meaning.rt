@@ -6,7 +6,7 @@ ghost use Rattle.fare_layout.specs.Commands.{essence, moved, IsMeant, IsSimpleCo
 use crate::commands::same_command;
 use crate::place::Place;
 use fare_store::Fault;
-use sqlite_resolve::{Compiled, CompileError, compile};
+use sqlite_resolve::{CompileError, Compiled, compile};
 use sqlite_schema::command::Command;
 use sqlite_schema::schema::Schema;
 use std::alloc::Global;

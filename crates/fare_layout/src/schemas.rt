@@ -126,7 +126,14 @@ fn same_binary(a: BinaryOp, b: BinaryOp) -> bool
 }
 
 // Whether the terms at two places, each read to a depth, are the same. The work is bounded by the second one.
-pub(crate) fn same_term(a: &[Op], depth: usize, at: usize, b: &[Op], limit: usize, place: usize) -> bool
+pub(crate) fn same_term(
+    a: &[Op],
+    depth: usize,
+    at: usize,
+    b: &[Op],
+    limit: usize,
+    place: usize,
+) -> bool
     ensures same { IsTrue result → term_to a.now depth at ≡ term_to b.now limit place }
     ensures found { IsSimpleTerm (term_to b.now limit place) → term_to a.now depth at ≡ term_to b.now limit place → IsTrue result }
 {

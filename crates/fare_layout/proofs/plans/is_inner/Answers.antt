@@ -1,6 +1,6 @@
 use Rattle.std.proofs.Common.{◌≡◌, ◌≢◌, ◌-◌, true, nat_lt, length, sym, ap, ◌∙◌, arith}
 use Rattle.sqlite_schema.specs.Plan.{join_to, stage_join}
-use Rattle.sqlite_sql.specs.Query.{inner, end}
+use Rattle.sqlite_sql.specs.Query.{inner}
 use Rattle.fare_layout.proofs.Nodes.{join_at, inner_same}
 use Rattle.fare_layout.proofs.plans.is_inner.Goals as goal
 
