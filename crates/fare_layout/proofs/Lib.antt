@@ -1,3 +1,6 @@
 mod Nodes
 mod Four
 mod Creation
+pub mod Meant
+pub mod Untouched
+pub mod Grown

@@ -1,11 +1,15 @@
 -- What a statement means under one schema, beside what it means under another.
-use Rattle.std.specs.Prelude.{◌≡◌, List, [], ◌∷◌, map, Option, Some, None, option_map, IfSome, Result, Ok, Err, ℕ}
+use Rattle.std.specs.Prelude.{◌≡◌, List, [], map, Option, Some, None, option_map, IfSome, Result, Ok, Err, ℕ}
 use Rattle.std.specs.List.{AllByRecursion}
 use Rattle.sqlite.specs.Schema.{Schema}
 use Rattle.sqlite_sql.specs.Term.{Term}
 use Rattle.sqlite_sql.specs.Group.{Aggregate, Grouping}
 use Rattle.sqlite_sql.specs.Query.{Query, inner, end}
+use Rattle.sqlite_sql.specs.declared.query.Aggregate as written
+use Rattle.sqlite_sql.specs.declared.query.SortKey.{SortKey}
 use Rattle.sqlite_value.specs.declared.keys.Key.{Key}
+use Rattle.sqlite_schema.specs.declared.code.Op.{Op}
+use Rattle.sqlite_schema.specs.Code.{term_in}
 use Rattle.sqlite_schema.specs.declared.program.Program.{Program}
 use Rattle.sqlite_schema.specs.declared.command.Command.{Command}
 use Rattle.sqlite_schema.specs.declared.command.Command.TheVariants.{Select, Insert, InsertOr, Delete}
@@ -18,6 +22,13 @@ use Rattle.sqlite_resolve.specs.declared.compiled.Compiled.{Compiled}
 use Rattle.sqlite_resolve.specs.declared.error.CompileError.{CompileError}
 use Rattle.fare_layout.specs.declared.place.Place.{Place}
 use Rattle.fare_layout.specs.Schemas.{IsSimpleTerm, AreSimple}
+
+-- PARTS: what the parts of a plan stand for, as `query_in` has them
+abbrev pub aggregate_in : List Op → written.Aggregate → Aggregate
+aggregate_in ops a = record { op = a.op; distinct = a.distinct; collation = a.collation; argument = term_in ops a.argument }
+
+abbrev pub sort_key_in : List Op → SortKey → Term × Key
+sort_key_in ops k = (term_in ops k.node, k.key)
 
 -- MOVED: a statement over one table, as it reads where that table stands at another place
 abbrev pub moved_query : ℕ → Query → Query
@@ -40,16 +51,25 @@ moved p c = c
 abbrev pub IsSimpleAggregate : Aggregate → Type 0
 IsSimpleAggregate a = IsSimpleTerm a.argument
 
+abbrev pub AreSimpleAggregates : List Aggregate → Type 0
+AreSimpleAggregates all = AllByRecursion IsSimpleAggregate all
+
+abbrev pub IsSimpleKey : Term × Key → Type 0
+IsSimpleKey k = IsSimpleTerm k.0
+
+abbrev pub AreSimpleKeys : List (Term × Key) → Type 0
+AreSimpleKeys keys = AllByRecursion IsSimpleKey keys
+
 pub record IsSimpleGrouping (g : Grouping) : Type 0 where
   pub keys : AreSimple g.keys
-  pub aggregates : AllByRecursion IsSimpleAggregate g.aggregates
+  pub aggregates : AreSimpleAggregates g.aggregates
   pub having : AreSimple g.having
 
 pub record IsSimpleQuery (q : Query) : Type 0 where
   pub filter : AreSimple q.filter
   pub group : IfSome q.group IsSimpleGrouping
   pub project : AreSimple q.project
-  pub order : AllByRecursion (λ (k : Term × Key). IsSimpleTerm k.0) q.order
+  pub order : AreSimpleKeys q.order
   pub limit : IsSimpleTerm q.limit
   pub offset : IsSimpleTerm q.offset
 
@@ -65,10 +85,13 @@ IsSimpleSource (source.Query p) = ⊥
 abbrev pub IsSimpleUpsert : Upsert → Type 0
 IsSimpleUpsert u = IfSome u.update IsSimpleProgram
 
+abbrev pub AreSimpleUpserts : List Upsert → Type 0
+AreSimpleUpserts upserts = AllByRecursion IsSimpleUpsert upserts
+
 abbrev pub IsSimpleCommand : Command → Type 0
 IsSimpleCommand (Select q names) = IsSimpleProgram q
 IsSimpleCommand (Insert at rows) = IsSimpleSource rows
-IsSimpleCommand (InsertOr at by rows upserts) = IsSimpleSource rows × AllByRecursion IsSimpleUpsert upserts
+IsSimpleCommand (InsertOr at by rows upserts) = IsSimpleSource rows × AreSimpleUpserts upserts
 IsSimpleCommand (Delete at q) = IsSimpleProgram q
 IsSimpleCommand c = ⊥
 

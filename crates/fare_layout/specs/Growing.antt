@@ -1,6 +1,9 @@
 -- What a schema becomes where a store's tables are made.
 use Rattle.std.specs.Prelude.{◌≡◌, ◌+◌, ◌<◌, ◌^◌, ℕ, false, List, [], ◌∷◌, length, None, Result, Ok, Err}
+use Rattle.std.specs.List.{AllByRecursion}
 use Rattle.sqlite.specs.Change.{created, next_tree}
+use Rattle.sqlite_catalog.specs.Change.{is_used}
+use Rattle.fare_layout.specs.declared.place.Places.{Places}
 use Rattle.sqlite.specs.Compile.{table_defined_by}
 use Rattle.sqlite.specs.Does.{lacks_sequence}
 use Rattle.sqlite.specs.Schema.{Schema}
@@ -45,3 +48,14 @@ pub record Grows (schema : Schema) (sql : List ℕ) (next : Schema) : Type 0 whe
 abbrev pub GrowsBy : Schema → List (List ℕ × List ℕ) → Schema → Type 0
 GrowsBy schema [] last = schema ≡ last
 GrowsBy schema (t ∷ texts) last = (next : Schema) × Grows schema t.1 next × GrowsBy next texts last
+
+-- a schema has nothing of these names
+abbrev pub HasNone : List (List ℕ × List ℕ) → Schema → Type 0
+HasNone texts schema = AllByRecursion (λ (t : List ℕ × List ℕ). is_used schema t.0 ≡ false) texts
+
+-- the last four tables, in the order in which a store makes them
+pub record AreLast (schema : Schema) (p : Places) : Type 0 where
+  pub meta : p.meta.at ≡ length schema.tables
+  pub device : p.device.at ≡ length schema.tables + 1
+  pub tap : p.tap.at ≡ length schema.tables + 2
+  pub stated : p.stated.at ≡ length schema.tables + 3

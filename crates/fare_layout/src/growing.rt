@@ -6,10 +6,10 @@ ghost use Rattle.sqlite.specs.Compile.{table_defined_by};
 ghost use Rattle.sqlite_resolve.specs.Compile.{compiled};
 ghost use Rattle.sqlite_catalog.specs.Listing.{automatic};
 ghost use Rattle.sqlite_catalog.specs.Change.{next_tree, created, automatics};
-ghost use Rattle.fare_layout.specs.Growing.{IsCreation, Creates, Grows, GrowsBy, CanMake, CanMakeAll};
+ghost use Rattle.fare_layout.specs.Growing.{IsCreation, Creates, Grows, GrowsBy, CanMake, CanMakeAll, HasNone};
 
 use fare_store::Fault;
-use sqlite_catalog::layout::{automatic, automatic_name, next_tree};
+use sqlite_catalog::layout::{automatic, automatic_name, is_used, next_tree};
 use sqlite_items::Items;
 use sqlite_resolve::{CompileError, Compiled, compile, define_table};
 use sqlite_schema::command::Command;
@@ -217,5 +217,18 @@ pub fn grow_by(
             Some(next) => grow_by(alloc, &next, rest),
             None => Ok(None),
         },
+    }
+}
+
+/// Whether a schema has nothing of these names: no table, index or view. With each name comes the text that would
+/// make the table.
+pub fn has_none(schema: &Schema, texts: &[(&str, &str)]) -> bool
+    ensures { IsTrue result ↔ HasNone (map (λ t. (t.0.now, t.1.now)) texts.now) schema.now }
+{
+    match texts {
+        [] => true,
+        [(name, _), rest @ ..] => {
+            !is_used(schema, name.as_bytes()) && has_none(schema, rest)
+        }
     }
 }

@@ -1,7 +1,8 @@
-ghost use Rattle.std.specs.Prelude.{◌≡◌, ◌↔◌, IsTrue, IfOk, IfErr, IfSome, Some, map};
+ghost use Rattle.std.specs.Prelude.{◌≡◌, ◌+◌, ◌↔◌, IsTrue, IfOk, IfErr, IfSome, Some, map};
 ghost use Rattle.std.specs.List.{AllByRecursion};
 ghost use Rattle.fare_layout.specs.Schemas.{IsSimpleTable};
 ghost use Rattle.fare_layout.specs.Layouts.{Fits, AreUnderstood, IsUntouched, KeepsMeanings};
+ghost use Rattle.fare_layout.specs.Growing.{AreLast};
 
 use crate::meaning::keeps_meaning;
 use crate::places::{all_free, has_no_rowid_index, stand_all};
@@ -65,4 +66,22 @@ pub fn find_places(
     } else {
         Ok(None)
     }
+}
+
+fn is_past(at: usize, count: usize, by: usize) -> bool
+    ensures { IsTrue result ↔ (at ≡ count + by) }
+{
+    at >= count && at - count == by
+}
+
+/// Whether the tables are the last four of the schema that this one grew to, in the order in which a store makes
+/// them.
+pub fn are_last(schema: &Schema, places: Places) -> bool
+    ensures { IsTrue result ↔ AreLast schema.now places }
+{
+    let count = schema.tables.len();
+    is_past(places.meta.at, count, 0)
+        && is_past(places.device.at, count, 1)
+        && is_past(places.tap.at, count, 2)
+        && is_past(places.stated.at, count, 3)
 }

@@ -4,14 +4,18 @@
 //! means the same.
 #![tactic(auto)]
 
+mod commands;
 mod growing;
 mod layout;
 mod meaning;
 mod place;
 mod places;
+mod plans;
 mod schemas;
 
-pub use growing::grow_by;
-pub use layout::find_places;
+pub use commands::same_command;
+pub use growing::{grow_by, has_none};
+pub use layout::{are_last, find_places};
 pub use meaning::keeps_meaning;
 pub use place::{Kind, Place, Places};
+pub use plans::same_plan;

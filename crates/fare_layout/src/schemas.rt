@@ -11,7 +11,7 @@ use sqlite_sql::ops::{BinaryOp, UnaryOp};
 use sqlite_value::keys::Order;
 use sqlite_value::value::{Bytes, Value};
 
-fn same_bytes(a: &Bytes, b: &Bytes) -> bool
+pub(crate) fn same_bytes(a: &Bytes, b: &Bytes) -> bool
     ensures { IsTrue result ↔ (a.now ≡ b.now) }
 {
     a.as_slice() == b.as_slice()
@@ -52,7 +52,7 @@ fn same_columns(a: &[Column], b: &[Column]) -> bool
     }
 }
 
-fn same_places(a: &Items<usize>, b: &Items<usize>) -> bool
+pub(crate) fn same_places(a: &Items<usize>, b: &Items<usize>) -> bool
     ensures { IsTrue result ↔ (a.now ≡ b.now) }
 {
     a.as_slice() == b.as_slice()
@@ -105,7 +105,14 @@ fn same_binary(a: BinaryOp, b: BinaryOp) -> bool
 }
 
 // Whether the terms at two places, each read to a depth, are the same. The work is bounded by the second one.
-fn same_term(a: &[Op], depth: usize, at: usize, b: &[Op], limit: usize, place: usize) -> bool
+pub(crate) fn same_term(
+    a: &[Op],
+    depth: usize,
+    at: usize,
+    b: &[Op],
+    limit: usize,
+    place: usize,
+) -> bool
     ensures same { IsTrue result → term_to a.now depth at ≡ term_to b.now limit place }
     ensures found { IsSimpleTerm (term_to b.now limit place) → term_to a.now depth at ≡ term_to b.now limit place → IsTrue result }
 {
@@ -135,7 +142,7 @@ fn same_term(a: &[Op], depth: usize, at: usize, b: &[Op], limit: usize, place: u
 }
 
 // Whether the terms at these roots are the same.
-fn same_roots(a: &[Op], roots: &[usize], b: &[Op], places: &[usize]) -> bool
+pub(crate) fn same_roots(a: &[Op], roots: &[usize], b: &[Op], places: &[usize]) -> bool
     ensures same { IsTrue result → map (term_in a.now) roots.now ≡ map (term_in b.now) places.now }
     ensures found { AreSimple (map (term_in b.now) places.now) → map (term_in a.now) roots.now ≡ map (term_in b.now) places.now → IsTrue result }
 {
@@ -148,7 +155,7 @@ fn same_roots(a: &[Op], roots: &[usize], b: &[Op], places: &[usize]) -> bool
     }
 }
 
-fn same_terms(a: &Terms, b: &Terms) -> bool
+pub(crate) fn same_terms(a: &Terms, b: &Terms) -> bool
     ensures same { IsTrue result → a.now ≡ b.now }
     ensures found { AreSimple b.now → a.now ≡ b.now → IsTrue result }
 {

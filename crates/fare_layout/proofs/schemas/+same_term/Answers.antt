@@ -1,7 +1,6 @@
-use Rattle.std.proofs.Common.{rules, ◌≡◌, ◌-◌, sym, ap, ◌∙◌, ℕ, refl}
+use Rattle.std.proofs.Common.{◌≡◌, ◌-◌, sym, ap, ◌∙◌}
 use Rattle.sqlite_schema.specs.Code.{term_to, op_term}
 use Rattle.sqlite_schema.specs.declared.code.Op.TheVariants.{Unary, Binary}
-use Rattle.sqlite_sql.specs.Term.{op1, op2}
 use Rattle.fare_layout.proofs.Nodes.{op1_same, op2_same, term_at}
 use Rattle.fare_layout.proofs.schemas.+same_term.Goals as goal
 
