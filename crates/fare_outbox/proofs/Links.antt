@@ -112,7 +112,7 @@ module _ (way : Layout) (limit : Option ℕ) (keys : Keys) (d u : ℕ) where
       let it = went h in
       let edit = edit_of db (device_table (tree_in way Device)) [] Given 0 (device_row d u ∷ []) in
       let next : w.trees ≡ it.0 = ap (λ (x : Written). x.trees) (same_value it.2) in
-      let step = one_step (schema_in way) keys db it.0 edit (no_works way keys db edit) it.1 in
+      let step = one_step (schema_in way) keys db it.0 edit (no_works way Device keys db edit refl) it.1 in
       let kept = each (λ tree. tree ≢ tree_in way Device → it.0 tree ≡ db tree) way step.tables in
       let is : edited db edit ≡ put_row (device_row d u) (ours way db 1) = simp (cast_int, cast_null) in (
         inl (ap (λ (t : Trees). ours way t 1) next ∙ step.rows ∙ is),
@@ -133,7 +133,7 @@ module _ (way : Layout) (limit : Option ℕ) (keys : Keys) (d u : ℕ) where
       let edit = edit_of db (device_table (tree_in way Device)) (ids_of it.0) Given 1 it.0 in
       let done = went it.2 in
       let next : w.trees ≡ done.0 = ap (λ (x : Written). x.trees) (same_value done.2) in
-      let step = one_step (schema_in way) keys db done.0 edit (no_works way keys db edit) done.1 in
+      let step = one_step (schema_in way) keys db done.0 edit (no_works way Device keys db edit refl) done.1 in
       let kept = each (λ tree. tree ≢ tree_in way Device → done.0 tree ≡ db tree) way step.tables in
       let is : edited db edit ≡ put_row (device_row d u) (without_rowid (pos d) (ours way db 1)) = ap (λ all. edited db (edit_of db (device_table (tree_in way Device)) (ids_of all) Given 1 all)) rows ∙ simp (cast_int, cast_null) in (
         inr (ap (λ (t : Trees). ours way t 1) next ∙ step.rows ∙ is),

@@ -1,26 +1,20 @@
 -- What the texts of the outbox mean where its tables stand.
-use Rattle.std.proofs.Common.{◌≡◌, [], ◌∷◌, codes, List, ℕ, Ok, Err, Result, refl, sym, ap, subst, ◌∙◌, false, Some, None, pos}
+use Rattle.std.proofs.Common.{[], ◌∷◌, codes, List, ℕ, refl, Some, None, pos}
 use Rattle.sqlite_tied.specs.Compute.{everything}
-use Rattle.sqlite.specs.Effect.{is_query}
-use Rattle.sqlite.specs.Listing.{understood, reads_listing, misses_table}
-use Rattle.sqlite.proofs.Callers.{IsPlain, command_of}
 use Rattle.sqlite.specs.declared.types.Value.TheVariants.{Null, Int}
 use Rattle.sqlite.specs.Term.{Term, lit, col}
 use Rattle.sqlite.specs.Command.TheVariants.{Insert, InsertOr, Select, Delete}
 use Rattle.sqlite.specs.Source.TheVariants.{Values}
 use Rattle.sqlite_schema.specs.declared.command.Conflict.TheVariants.{Abort}
 use Rattle.fare_tables.specs.Queries.{count_query}
-use Rattle.sqlite_resolve.specs.Compile.{compiled}
-use Rattle.sqlite_resolve.specs.declared.compiled.Compiled.{Compiled}
-use Rattle.sqlite_resolve.specs.declared.error.CompileError.{CompileError}
 use Rattle.sqlite_schema.specs.declared.command.Command.{Command}
-use Rattle.sqlite.specs.Schema.{Schema}
-use Rattle.fare_tables.specs.Asking.{Reads, is_select}
+use Rattle.fare_tables.specs.Asking.{Reads}
 use Rattle.fare_layout.specs.declared.place.Kind.TheVariants.{Meta, Device, Tap, Stated}
 use Rattle.fare_layout.specs.declared.place.Place.{Place}
 use Rattle.fare_layout.specs.declared.place.Places.{Places}
 use Rattle.fare_layout.specs.Places.{place_of}
-use Rattle.fare_layout.specs.Commands.{Essence, essence, IsMeant, IsSimpleCommand}
+use Rattle.fare_layout.specs.Commands.{IsMeant, IsSimpleCommand}
+use Rattle.fare_layout.proofs.Meant.{Meant, meant}
 use Rattle.fare_layout.specs.Layouts.{AreUnderstood}
 use Rattle.fare_outbox.specs.declared.layout.Layout.{Layout}
 use Rattle.fare_outbox.specs.Layouts.{schema_in, at_tree}
@@ -30,34 +24,6 @@ use Rattle.fare_outbox.specs.Tables.{outbox_schema, meta_query, link_query, row_
 -- where the tables stand in a database of an outbox alone
 abbrev pub own_places : Places
 own_places = record { meta = record { at = 0; tree = 0 }; device = record { at = 1; tree = 1 }; tap = record { at = 2; tree = 2 }; stated = record { at = 3; tree = 5 } }
-
-pub record Meant (schema : Schema) (sql : List ℕ) (command : Command) : Type 0 where
-  pub command_is : command_of (understood schema sql) ≡ command
-  pub plain : IsPlain (understood schema sql)
-  pub unlisted : reads_listing schema sql ≡ false
-  pub selects : is_select (understood schema sql) ≡ is_query command
-
-same_some : {X : Type 0} {x y : X} → Some x ≡ Some y → x ≡ y
-same_some e = cc
-
-meant : (schema : Schema) (sql : List ℕ) (command : Command) → IsMeant schema sql command → Meant schema sql command
-unfolding understood
-meant schema sql command is = go (compiled schema sql) refl is
-  where
-    go : (r : Result Compiled CompileError) → compiled schema sql ≡ r → essence r ≡ Some (command, None, []) → Meant schema sql command
-    go (Err e) at is = absurd (let e = is in cc)
-    go (Ok c) at is =
-        let parts = same_some is in
-        let known : understood schema sql ≡ Ok c = rw at refl in
-        let first = ap (λ (p : Essence). p.0) parts in
-        let second = ap (λ (p : Essence). p.1) parts in
-        let third = ap (λ (p : Essence). p.2) parts in
-        record {
-          command_is = ap command_of known ∙ first;
-          plain = subst IsPlain (sym known) (second, third);
-          unlisted = ap misses_table at;
-          selects = ap is_select known ∙ ap is_query first;
-        }
 
 abbrev pub tap_terms : List Term
 tap_terms = lit Null ∷ col 0 0 ∷ col 0 1 ∷ col 0 2 ∷ col 0 3 ∷ col 0 4 ∷ col 0 5 ∷ col 0 6 ∷ col 0 7 ∷ []
