@@ -1,6 +1,14 @@
 -- When a schema has a store's tables, and the store's statements mean there what they should.
-use Rattle.std.specs.Prelude.{◌≡◌, ◌≢◌, ◌^◌, ℕ, nat_le, false, List, [], ◌∷◌, find, slice_get, Some, IfSome}
-use Rattle.std.specs.List.{AllByRecursion, AllZip}
+use Rattle.std.specs.Prelude.{◌≡◌, refl, ◌≢◌, ◌^◌, ℕ, nat_le, false, List, [], ◌∷◌, find, slice_get, Option, Some, IfSome}
+use Rattle.std.specs.List.{AllByRecursion, AllByRecursion-prop, AllZip}
+use Rattle.std.specs.Coded.{×_prop, Unit-prop, Coded, code_by, coded×, coded_ℕ, coded_list, coded_option}
+use Rattle.sqlite_schema.specs.contracts.schema.Table as table
+use Rattle.sqlite_schema.specs.contracts.command.Command as command
+use Rattle.sqlite_schema.specs.contracts.command.Returning as returning
+use Rattle.sqlite_schema.specs.declared.command.Returning.{Returning}
+use Rattle.std.specs.Option.{MatchOption-prop}
+use mathlib.Core.HLevel.{⊥_prop}
+use denote.Struct.Props as logic
 use Rattle.sqlite.specs.Schema.{Schema}
 use Rattle.sqlite.specs.Table.{Table}
 use Rattle.sqlite_schema.specs.declared.schema.Index.{Index}
@@ -10,7 +18,7 @@ use Rattle.fare_layout.specs.declared.place.Kind.{Kind}
 use Rattle.fare_layout.specs.declared.place.Place.{Place}
 use Rattle.fare_layout.specs.declared.place.Places.{Places}
 use Rattle.sqlite_schema.specs.declared.command.Command.{Command}
-use Rattle.fare_layout.specs.Commands.{IsMeant, IsSimpleCommand, KeepsMeaning}
+use Rattle.fare_layout.specs.Commands.{Essence, IsMeant, IsSimpleCommand, KeepsMeaning}
 use Rattle.fare_layout.specs.Places.{place_of, all_of, AreApart}
 
 -- a table, but for its tree, is at a place, and its name finds it there
@@ -58,3 +66,24 @@ pub record Fits (own : Schema) (texts : List (Kind × List ℕ)) (schema : Schem
 -- each text means something of the usual form under the own schema
 abbrev pub AreUnderstood : Schema → List (Kind × List ℕ) → Type 0
 AreUnderstood own texts = AllByRecursion (λ (t : Kind × List ℕ). (c : Command) × IsMeant own t.1 c × IsSimpleCommand c) texts
+
+-- IT IS A FACT: there is one proof of it at most
+pub AllZip-prop : {A B : Type 0} (R : A → B → Type 0) → ((x : A) (y : B) → IsProp (R x y)) → (xs : List A) (ys : List B) → IsProp (AllZip R xs ys)
+AllZip-prop R each [] [] = Unit-prop
+AllZip-prop R each [] (y ∷ ys) = ⊥_prop
+AllZip-prop R each (x ∷ xs) [] = ⊥_prop
+AllZip-prop R each (x ∷ xs) (y ∷ ys) = ×_prop (each x y) (AllZip-prop R each xs ys)
+
+found_coded : Coded (Option Table)
+found_coded = coded_option table.the_row.coded
+
+essence_coded : Coded (Option Essence)
+essence_coded =
+    coded_option (
+      code_by (Command × (Option Returning × List (List ℕ))) (coded× command.the_row.coded (coded× (coded_option returning.the_row.coded) (coded_list (coded_list coded_ℕ))))
+      (λ e. (e.0, (e.1, e.2))) (λ p. (p.0, p.1.0, p.1.1)) (λ _. refl))
+
+ruleset facts = (logic.props, AllByRecursion-prop, MatchOption-prop, AllZip-prop, found_coded, essence_coded)
+
+pub Fits-prop : (own : Schema) (texts : List (Kind × List ℕ)) (schema : Schema) (p : Places) → IsProp (Fits own texts schema p)
+Fits-prop own texts schema p = Prim.hlevel facts

@@ -7,11 +7,12 @@ use Rattle.sqlite.specs.State.{State}
 use Rattle.fare_tables.specs.Asking.{SameRows}
 use Rattle.fare_tables.specs.Making.{no_schema}
 use Rattle.fare_outbox.specs.declared.layout.Layout.{Layout}
-use Rattle.fare_outbox.specs.declared.order.Order.TheVariants.{MetaDeviceTapStated}
-use Rattle.fare_outbox.specs.declared.order.Seen.{Seen}
-use Rattle.fare_outbox.specs.declared.order.Seen.TheVariants as seen
+use Rattle.fare_layout.specs.Growing.{HasNone, GrowsBy, AreLast}
+use Rattle.fare_outbox.specs.declared.opening.Seen.{Seen}
+use Rattle.fare_outbox.specs.declared.opening.Seen.TheVariants as seen
 use Rattle.sqlite.specs.Schema.{Schema}
 use Rattle.fare_outbox.specs.Layouts.{schema_in, ours}
+use Rattle.fare_outbox.specs.Statements.{tables}
 use Rattle.fare_outbox.specs.Held.{IsReady, held_of}
 use Rattle.fare_outbox.specs.Making.{IsNew, IsMade}
 
@@ -32,33 +33,43 @@ pub record IsOurs (trees : Trees) : Type 0 where
   pub format_is : column row 1 ≡ Int (pos 1)
   pub owner_is : column row 2 ≡ Int (pos 0)
 
--- it has an outbox's tables, made in some order, with its row of meta
+-- it has an outbox's tables, wherever they stand, with its row of meta
 abbrev pub IsOutbox : State → Type 0
-IsOutbox s = (o : Layout) × (s.now.schema ≡ schema_in o) × IsOurs (ours o s.now.trees)
+IsOutbox s = (w : Layout) × (s.now.schema ≡ schema_in w) × IsOurs (ours w s.now.trees)
 
 -- a database has no table, or an outbox's
 abbrev pub IsBlankOrOurs : State → Type 0
 IsBlankOrOurs s = (s.now.schema ≡ no_schema) ⊎ IsOutbox s
 
-pub record IsCounted (o : Layout) (trees : Trees) (rows statements : ℕ) : Type 0 where
-  pub rows_are : rows ≡ length (held_of (ours o trees)).taps
-  pub statements_are : statements ≡ length (held_of (ours o trees)).statements
+-- nothing in it has the name of a table of an outbox
+abbrev pub IsVacant : State → Type 0
+IsVacant s = HasNone tables s.now.schema
 
--- a database without tables gets those of an empty outbox, and one that has the outbox's stays as it is and is counted
-pub record Settles (old new : State) (o : Layout) (rows statements : ℕ) : Type 0 where
-  pub made : old.now.schema ≡ no_schema → IsNew new.now × (new.now ≡ new.committed) × (o ≡ MetaDeviceTapStated) × (rows ≡ 0) × (statements ≡ 0)
-  pub kept : IsReady o old → SameRows old new × IsCounted o old.now.trees rows statements
+pub record IsCounted (w : Layout) (trees : Trees) (rows statements : ℕ) : Type 0 where
+  pub rows_are : rows ≡ length (held_of (ours w trees)).taps
+  pub statements_are : statements ≡ length (held_of (ours w trees)).statements
 
--- what an open may commit: the empty outbox, where there is no table
+-- a database without the outbox's names gets the tables of an empty outbox, and one that has them stays as it is
+-- and is counted
+pub record Settles (old new : State) (w : Layout) (rows statements : ℕ) : Type 0 where
+  pub made : IsVacant old → IsNew w new.now × (new.now ≡ new.committed) × (rows ≡ 0) × (statements ≡ 0)
+  pub kept : IsReady w old → SameRows old new × IsCounted w old.now.trees rows statements
+
+-- what an open may commit: the empty outbox, where nothing has a name of its tables
 abbrev pub MayMake : State → Trees → Type 0
-MayMake old trees = (old.now.schema ≡ no_schema) × IsMade trees
+MayMake old trees = IsVacant old × IsMade trees
 
--- the database had no table, or is an outbox whose tables were made in this order
-abbrev pub IsOpened : State → Order → Type 0
-IsOpened s o = (s.now.schema ≡ no_schema) ⊎ ((s.now.schema ≡ schema_in o) × IsOurs (ours o s.now.trees))
+-- the database had none of the names, or is an outbox whose tables stand there
+abbrev pub IsOpened : State → Layout → Type 0
+IsOpened s w = IsVacant s ⊎ ((s.now.schema ≡ schema_in w) × IsOurs (ours w s.now.trees))
+
+-- where the tables stand once they are made in a schema
+pub record Makes (schema : Schema) (w : Layout) : Type 0 where
+  pub grows : GrowsBy schema tables (schema_in w)
+  pub last : AreLast schema w.places
 
 -- what was seen of a schema
 abbrev pub Sees : Schema → Seen → Type 0
-Sees schema seen.Blank = schema ≡ no_schema
-Sees schema (seen.Ours o) = schema ≡ schema_in o
-Sees schema seen.Other = (schema ≢ no_schema) × ((o : Layout) → schema ≢ schema_in o)
+Sees schema (seen.Ours w) = schema ≡ schema_in w
+Sees schema (seen.Vacant w) = HasNone tables schema × Makes schema w
+Sees schema seen.Other = (schema ≢ no_schema) × ((w : Layout) → schema ≢ schema_in w)

@@ -3,7 +3,7 @@ ghost use Rattle.sqlite.specs.State.{HasCleanDisk, Survives, Shown, QueriesRow};
 ghost use Rattle.sqlite.specs.Held.{state};
 ghost use Rattle.sqlite.specs.Values.{bound};
 ghost use Rattle.fare_tables.specs.Asking.{IsLive, IsAtRest, SameRows, Reads};
-ghost use Rattle.fare_outbox.specs.Orders.{schema_in};
+ghost use Rattle.fare_outbox.specs.Layouts.{schema_in};
 
 use crate::Layout;
 use fare_store::Fault;

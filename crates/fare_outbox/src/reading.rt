@@ -3,7 +3,7 @@ ghost use Rattle.sqlite.specs.State.{HasCleanDisk, Survives};
 ghost use Rattle.sqlite.specs.Held.{state};
 ghost use Rattle.fare_tables.specs.Asking.{IsLive, IsAtRest, SameRows};
 ghost use Rattle.fare_tables.specs.Cells.{counted};
-ghost use Rattle.fare_outbox.specs.Orders.{schema_in, ours};
+ghost use Rattle.fare_outbox.specs.Layouts.{schema_in, ours};
 ghost use Rattle.fare_outbox.specs.Held.{held_of, IsReady, IsNext, IsNextStated, is_seen};
 ghost use Rattle.fare_outbox.specs.Shown.{ShowsRow, ShowsStatement};
 

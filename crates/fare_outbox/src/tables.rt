@@ -23,7 +23,7 @@ impl<S: Alter> SqlOutbox<S> {
     {
         let SqlOutbox {
             conn,
-            order: _,
+            layout: _,
             rows: _,
             statements: _,
             failures: _,
@@ -37,7 +37,7 @@ impl<S: Alter + Drop> Drop for SqlOutbox<S> {
     fn drop(self) {
         let SqlOutbox {
             conn: _,
-            order: _,
+            layout: _,
             rows: _,
             statements: _,
             failures: _,

@@ -4,7 +4,7 @@ ghost use Rattle.sqlite.specs.Held.{state};
 ghost use Rattle.sqlite.specs.Values.{bound};
 ghost use Rattle.fare_tables.specs.Asking.{IsLive, SameRows, Inside};
 ghost use Rattle.fare_tables.specs.Cells.{AreRows};
-ghost use Rattle.fare_outbox.specs.Orders.{schema_in, ours};
+ghost use Rattle.fare_outbox.specs.Layouts.{schema_in, ours};
 ghost use Rattle.fare_outbox.specs.Held.{held_of, AreReadable, IsReady, IsDevice, Becomes, PutsTap, PutsLink, PutsStated, tap_cells, stated_cells, with_tap, with_statement, without_lane, is_cut};
 
 use crate::Layout;
