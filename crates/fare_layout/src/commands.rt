@@ -1,5 +1,4 @@
-ghost use Rattle.std.specs.Prelude.{◌≡◌, ◌↔◌, List, map, option_map, IfSome, IsTrue};
-ghost use Rattle.std.specs.List.{AllByRecursion};
+ghost use Rattle.std.specs.Prelude.{◌≡◌, ◌↔◌, map, option_map, IfSome, IsTrue};
 ghost use Rattle.fare_layout.specs.Commands.{moved, moved_program, moved_upsert, AreSimpleUpserts, IsSimpleCommand, IsSimpleProgram, IsSimpleSource, IsSimpleUpsert};
 
 use crate::place::Place;
@@ -10,9 +9,9 @@ use sqlite_schema::command::{Command, Source, Upsert};
 use sqlite_schema::program::Program;
 use sqlite_value::value::Bytes;
 
-/// Whether a command is another one over the table at this place. The other one is made of what a store's statements
-/// are made of: a SELECT or a DELETE that computes no table first, or an INSERT of values, with no literal but NULL and
-/// integers. Of another one it may say no.
+/// Whether a command is the command `b`, over the table at this place. It may say no where `b` has what no statement of
+/// a store has: an UPDATE or a change of tables, a query that computes a table first, an INSERT from a query, or a
+/// literal other than NULL and integers.
 pub fn same_command(a: &Command, place: Place, b: &Command) -> bool
     ensures same { IsTrue result → a.now ≡ moved place b.now }
     ensures found { IsSimpleCommand b.now → a.now ≡ moved place b.now → IsTrue result }

@@ -1,11 +1,10 @@
 ghost use Rattle.std.specs.Prelude.{◌≡◌, ◌↔◌, List, map, option_map, length, IfSome, IsTrue};
-ghost use Rattle.std.specs.List.{AllByRecursion};
 ghost use Rattle.sqlite_schema.specs.declared.code.Op as code;
-ghost use Rattle.sqlite_schema.specs.Code.{term_in, terms_in};
+ghost use Rattle.sqlite_schema.specs.Code.{term_in};
 ghost use Rattle.sqlite_schema.specs.Plan.{grouping_in, join_to};
 ghost use Rattle.sqlite_sql.specs.Query.{inner, end};
 ghost use Rattle.fare_layout.specs.Commands.{aggregate_in, sort_key_in, moved_query, AreSimpleAggregates, AreSimpleKeys, IsSimpleAggregate, IsSimpleKey, IsSimpleGrouping, IsSimpleQuery};
-ghost use Rattle.fare_layout.specs.Schemas.{AreSimple, IsSimpleTerm};
+ghost use Rattle.fare_layout.specs.Schemas.{IsSimpleTerm};
 
 use crate::schemas::{same_roots, same_term};
 use sqlite_schema::code::Op;
@@ -13,8 +12,9 @@ use sqlite_schema::plan::{Groups, Plan, Stage};
 use sqlite_sql::query::{Aggregate, SortKey};
 use sqlite_value::keys::Collation;
 
-/// Whether a plan is another one over the table of this tree. The other one has no literal but NULL and integers, as
-/// a store's statements have none; of another one it may say no. How they scan the table doesn't count.
+/// Whether a plan is the plan `b`, read over the table of this tree alone, whatever `b` itself reads. Where `b` has a
+/// literal other than NULL and integers it may say no: a store's statements have none. How a table is scanned doesn't
+/// count.
 pub fn same_plan(a: &Plan, tree: u32, b: &Plan) -> bool
     ensures same { IsTrue result → a.now ≡ moved_query tree b.now }
     ensures found { IsSimpleQuery b.now → a.now ≡ moved_query tree b.now → IsTrue result }
