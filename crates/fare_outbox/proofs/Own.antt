@@ -1,5 +1,5 @@
 -- A database of an outbox alone.
-use Rattle.std.proofs.Common.{◌≡◌, ◌≢◌, [], ◌∷◌, codes, List, ℕ, Ok, Err, Result, true, false, Some, None, refl, sym, ap, subst, ◌∙◌, arith}
+use Rattle.std.proofs.Common.{◌≡◌, ◌≢◌, [], ◌∷◌, codes, List, ℕ, Ok, Err, Result, true, false, Bool, IsTrue, Option, Some, None, IfSome, IfOk, OnErr, refl, sym, ap, subst, ◌∙◌, arith}
 use Rattle.std.specs.List.{AllByRecursion, AllZip}
 use Rattle.sqlite.specs.Change.{created}
 use Rattle.sqlite.specs.Compile.{table_defined_by}
@@ -130,6 +130,10 @@ own_fits = record { stands = own_stands; untouched = own_untouched; keeps = own_
 pub own_layout : Layout
 own_layout = record { schema = outbox_schema; places = own_places; fits = own_fits }
 
+pub own_is : schema_in own_layout ≡ outbox_schema
+unfolding own_layout
+own_is = refl
+
 own_last : AreLast no_schema own_places
 own_last = record { meta = refl; device = refl; tap = refl; stated = refl }
 
@@ -165,3 +169,20 @@ blank_last w s grown blank grows is =
     let own : w.schema ≡ outbox_schema = is ∙ grown_own grown (subst (λ x. GrowsBy x tables grown) blank grows) in
     let places : w.places ≡ own_places = same_places outbox_schema outbox_schema.tables w.places own_places (subst (λ x. AllZip (Stands x) outbox_schema.tables (all_of w.places)) own w.fits.stands) own_stands in
     subst (λ x. AreLast x w.places) (sym blank) (subst (AreLast no_schema) (sym places) own_last)
+
+pub some_is : {X : Type 0} (o : Option X) (x : X) (P : X → Type 0) → o ≡ Some x → IfSome o P → P x
+some_is {X = X} o x P is holds = subst (λ (f : Option X). IfSome f P) is holds
+
+pub none_some : {X : Type 0} (o : Option X) (x : X) → o ≡ None → o ≡ Some x → ⊥
+none_some o x none some = absurd (let e = sym none ∙ some in cc)
+
+pub not_true : (b : Bool) → b ≡ false → IsTrue b → ⊥
+not_true b fails holds = absurd (let e = sym fails ∙ holds in cc)
+
+pub for_none : {T E : Type 0} (r : Result (Option T) E) (P : Type 0) → P → IfOk r (λ found. found ≡ None → P)
+for_none (Ok x) P p = λ none. p
+for_none (Err e) P p = tt
+
+pub for_err : {T E : Type 0} (r : Result T E) (P : Type 0) → P → OnErr r P
+for_err (Ok x) P p = tt
+for_err (Err e) P p = p
