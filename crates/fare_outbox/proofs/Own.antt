@@ -1,5 +1,5 @@
 -- A database of an outbox alone.
-use Rattle.std.proofs.Common.{◌≡◌, ◌≢◌, [], ◌∷◌, codes, List, ℕ, Ok, Err, Result, true, false, Bool, IsTrue, Option, Some, None, IfSome, IfOk, OnErr, refl, sym, ap, subst, ◌∙◌, arith}
+use Rattle.std.proofs.Common.{◌≡◌, codes, List, ℕ, Ok, Err, Result, true, false, Bool, IsTrue, Option, Some, None, IfSome, IfOk, OnErr, refl, sym, ap, subst, ◌∙◌, arith}
 use Rattle.std.specs.List.{AllByRecursion, AllZip}
 use Rattle.sqlite.specs.Change.{created}
 use Rattle.sqlite.specs.Compile.{table_defined_by}
@@ -18,7 +18,7 @@ use Rattle.fare_layout.specs.declared.place.Place.{Place}
 use Rattle.fare_layout.specs.Places.{place_of, all_of}
 use Rattle.fare_layout.specs.Schemas.{IsSimpleTable}
 use Rattle.fare_layout.specs.Commands.{moved, Essence, IsMeant, KeepsMeaning}
-use Rattle.fare_layout.specs.Layouts.{Stands, IsUntouched, Fits}
+use Rattle.fare_layout.specs.Layouts.{Stands, IsUntouched}
 use Rattle.fare_layout.specs.Growing.{CanMake, CanMakeAll, Grows, GrowsBy, HasNone, AreLast}
 use Rattle.fare_layout.proofs.Meant.{same_some}
 use Rattle.fare_layout.proofs.Grown.{same_places}
@@ -26,7 +26,6 @@ use Rattle.fare_outbox.specs.declared.layout.Layout.{Layout}
 use Rattle.fare_outbox.specs.Layouts.{schema_in}
 use Rattle.fare_outbox.specs.Statements.{tables, texts, FitsOutbox}
 use Rattle.fare_outbox.specs.Tables.{one_table, two_tables, three_tables, outbox_schema, device_table, tap_table, stated_table}
-use Rattle.fare_outbox.specs.Opening.{Makes}
 use Rattle.fare_outbox.proofs.Placed.{meta_stands}
 use Rattle.fare_outbox.proofs.Texts.{own_places, link_text, link_at, link_own, next_text, next_at, next_own, next_day_text, next_day_at, next_day_own, rows_text, rows_at, rows_own, statements_text, statements_at, statements_own, seen_text, seen_at, seen_own, meta_asked_text, meta_at, meta_own, put_meta_text, put_meta_at, put_meta_own, put_link_text, put_link_at, put_link_own, put_tap_text, put_tap_at, put_tap_own, put_statement_text, put_statement_at, put_statement_own, cut_text, cut_at, cut_own}
 

@@ -11,5 +11,5 @@ returns-clause-made g c clean inside grows =
     let late = clean in
     let before : HasCleanDisk (state g.S.Store c.make_tables.new.tx.conn.now) = omega (arith, late, c.put_meta.ensures.survives.clean) in
     all_new c.put_meta.result a b (IsTrue (state g.S.Store c.put_meta.new.tx.conn.now).in_transaction) grows (λ w makes. (
-      let blank = c.in_ok-make_tables.ensures.made before inside w makes in
-      c.put_meta.ensures.made clean blank.1 w blank.0))
+    let blank = c.in_ok-make_tables.ensures.made before inside w makes in
+    c.put_meta.ensures.made clean blank.1 w blank.0))

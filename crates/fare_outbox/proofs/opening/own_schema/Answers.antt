@@ -1,4 +1,4 @@
-use Rattle.std.proofs.Common.{◌≡◌, sym, subst}
+use Rattle.std.proofs.Common.{sym, subst}
 use Rattle.fare_layout.specs.Growing.{CanMakeAll, GrowsBy}
 use Rattle.fare_outbox.specs.Statements.{tables}
 use Rattle.fare_outbox.proofs.Own.{can_make, grown_own, some_is}

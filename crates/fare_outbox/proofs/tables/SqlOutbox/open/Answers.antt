@@ -24,4 +24,4 @@ returns-in-Ok-Some-clause-kept g c live w fit =
 pub returns-in-Ok-Some-clause-ours : goal.returns-in-Ok-Some-clause-ours
 returns-in-Ok-Some-clause-ours g c live =
     let opened : IsOpened (state g.S.Store c.args.conn) c.in-Ok-Some.layout = rw c.in-Ok-Some.field-0-is at (c.in-Ok-Some.ensures.ours live) in
-    elim opened [ | inl vacant ↦ inl vacant | inr are ↦ inr (c.in-Ok-Some.layout, are.0, are.1) ]
+    elim opened [ inl vacant ↦ inl vacant | inr are ↦ inr (c.in-Ok-Some.layout, are.0, are.1) ]
