@@ -47,8 +47,8 @@ abbrev pub Shows : List Text → Option (List ℕ) → Option (List ℕ) → Typ
 Shows words old new = IsUntaken words × ((text : List ℕ) × Appends old new text)
 
 -- done where a replay was asked for and is, or a text is shown; failed where a replay was asked for and failed, or
--- a text could not be shown, or with nothing written; refused where the words are no job, with nothing written
+-- a text could not be shown, or with nothing written; refused where the words are no job
 abbrev pub RunEnds : List Text → Option (List ℕ) → Option (List ℕ) → Option (List ℕ) → Ending → Type 0
 RunEnds words known old new Done = EndsReplay words known old new Done ⊎ Shows words old new
 RunEnds words known old new Failed = EndsReplay words known old new Failed ⊎ (IsUntaken words ⊎ Keeps old new)
-RunEnds words known old new Refused = IsNoJob words × Keeps old new
+RunEnds words known old new Refused = IsNoJob words
