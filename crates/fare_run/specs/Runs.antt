@@ -8,15 +8,14 @@ use Rattle.fare_command.specs.declared.words.Job.{Job}
 use Rattle.fare_command.specs.declared.words.Job.TheVariants.{Replay, Serve}
 use Rattle.fare_trace.specs.Replay.{ReplayFails, Replays}
 use Rattle.fare_trace.specs.declared.stream.ReplayFault.{ReplayFault}
-use Rattle.fare_trace.specs.declared.stream.ReplayFault.TheVariants.{Store}
 use Rattle.fare_run.specs.declared.ending.Ending.{Ending}
 use Rattle.fare_run.specs.declared.ending.Ending.TheVariants.{Done, Failed, Refused}
 
--- done where the replies were written; failed by a fault of the replay, by a store's only over tables; never refused
-abbrev pub ReplayEnds : Bool → Option (List ℕ) → Option (List ℕ) → Option (List ℕ) → Ending → Type 0
-ReplayEnds sql known old new Done = IfSome known (Replays old new)
-ReplayEnds sql known old new Failed = (why : ReplayFault) × ReplayFails known old new why × (why ≡ Store → sql ≡ true)
-ReplayEnds sql known old new Refused = ⊥
+-- done where the replies were written; failed where what is known of the writer is as some fault of the replay says; never refused
+abbrev pub ReplayEnds : Option (List ℕ) → Option (List ℕ) → Option (List ℕ) → Ending → Type 0
+ReplayEnds known old new Done = IfSome known (Replays old new)
+ReplayEnds known old new Failed = (fault : ReplayFault) × ReplayFails known old new fault
+ReplayEnds known old new Refused = ⊥
 
 -- the job of the words
 abbrev pub IsJob : List Text → Job → Type 0
@@ -32,7 +31,7 @@ AsksToServe words = (takes hub_app words ≡ true) × ((job : Job) × IsJob word
 
 -- the words ask for a replay, which ends so
 abbrev pub EndsReplay : List Text → Option (List ℕ) → Option (List ℕ) → Option (List ℕ) → Ending → Type 0
-EndsReplay words known old new ending = (sql : Bool) × IsJob words (Replay sql) × ReplayEnds sql known old new ending
+EndsReplay words known old new ending = (sql : Bool) × IsJob words (Replay sql) × ReplayEnds known old new ending
 
 -- clap does not take the words
 abbrev pub IsUntaken : List Text → Type 0

@@ -8,7 +8,7 @@ use fare_trace::{ReplayFault, replay, replay_sql};
 use std::alloc::Global;
 use std::io::{Read, Write};
 
-/// Replays over tables or over lists.
+/// Replays over tables or over lists, where no store fails.
 fn replay_over<I: Read, O: Write>(
     alloc: Global,
     sql: bool,
@@ -35,7 +35,7 @@ pub fn replay_to<R: Eprint, I: Read, O: Write>(
     input: &mut I,
     output: &mut O,
 ) -> Ending
-    ensures { ReplayEnds sql (I.remaining input.old) (O.contents output.old) (O.contents output.new) result }
+    ensures { ReplayEnds (I.remaining input.old) (O.contents output.old) (O.contents output.new) result }
 {
     match replay_over(alloc, sql, input, output) {
         Ok(()) => Ending::Done,
