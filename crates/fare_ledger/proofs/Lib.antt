@@ -1,6 +1,5 @@
 pub mod Texts
-pub mod Ordered
-pub mod Made
+pub mod Placed
 pub mod Found
 pub mod Links
 pub mod Puts

@@ -11,12 +11,12 @@ use Rattle.fare_tables.specs.Cells.{AreRows, held}
 use Rattle.fare_tables.specs.Making.{no_schema}
 use Rattle.fare_tables.specs.Schemas.{IsSimpleSchema, IsSimpleTable}
 use Rattle.fare_tables.specs.Tabled.{IsFit}
-use Rattle.fare_ledger.specs.declared.order.Order.{Order}
-use Rattle.fare_ledger.specs.declared.order.Kind.{Kind}
-use Rattle.fare_ledger.specs.declared.order.Kind.TheVariants.{Meta, Lane, Tap, Stated}
+use Rattle.fare_ledger.specs.declared.layout.Layout.{Layout}
+use Rattle.fare_layout.specs.declared.place.Kind.{Kind}
+use Rattle.fare_layout.specs.declared.place.Kind.TheVariants.{Meta, Device, Tap, Stated}
 use Rattle.fare_ledger.specs.declared.order.Order.TheVariants.{MetaLaneTapStated}
-use Rattle.fare_ledger.specs.Orders.{schema_in, ours, four, table_of}
-use Rattle.fare_ledger.proofs.Ordered.{same_trees}
+use Rattle.fare_ledger.specs.Layouts.{schema_in, ours, four, table_of}
+use Rattle.fare_ledger.proofs.Placed.{same_trees}
 use Rattle.fare_ledger.specs.Tables.{ledger_schema}
 use Rattle.fare_ledger.specs.Held.{AreReadable, IsReady, IsLane, IsTap, IsStated, lane_of, tap_of, stated_of, stated_in, held_of}
 use Rattle.fare_ledger.specs.Making.{IsNew}
@@ -24,7 +24,7 @@ use Rattle.fare_ledger.specs.Opening.{IsOurs, IsBlankOrOurs, IsOpened, Settles}
 use Rattle.fare_ledger.specs.Words.{taken_in, value_at, value_in, AreNext, AreApart, FitTogether, IsLawful}
 
 -- no schema is both
-pub not_both : (o : Order) → ¬ (no_schema ≡ schema_in o)
+pub not_both : (o : Layout) → ¬ (no_schema ≡ schema_in o)
 unfolding schema_in
 not_both o same = let e = ap (λ (s : Schema). length s.tables) same in omega (arith, e)
 
@@ -67,7 +67,7 @@ new_fits o start known new it =
     )
 
 -- the tables are a ledger's already
-pub taken_over : {E : Type 0} (owner : ℕ) (old new : State) (o : Order) (r : Result (Option Order) E) → old.now.schema ≡ schema_in o → IfOk r (λ found. IfSome found (λ p. p ≡ o)) → (IsAtRest (schema_in o) old → SameRows old new)
+pub taken_over : {E : Type 0} (owner : ℕ) (old new : State) (o : Layout) (r : Result (Option Order) E) → old.now.schema ≡ schema_in o → IfOk r (λ found. IfSome found (λ p. p ≡ o)) → (IsAtRest (schema_in o) old → SameRows old new)
     → IfOk r (λ found. IfSome found (Settles owner old new))
 taken_over owner old new o (Ok (Some p)) has at same = record {
   made = λ none. absurd (not_both o (sym none ∙ has));
@@ -77,11 +77,11 @@ taken_over owner old new o (Ok None) has at same = tt
 taken_over owner old new o (Err e) has at same = tt
 
 -- what has the tables of a ledger isn't without tables
-pub not_blank : {E : Type 0} (old : State) (o : Order) (r : Result (Option Order) E) → old.now.schema ≡ schema_in o → IfOk r (λ found. found ≡ None → old.now.schema ≢ no_schema)
+pub not_blank : {E : Type 0} (old : State) (o : Layout) (r : Result (Option Order) E) → old.now.schema ≡ schema_in o → IfOk r (λ found. found ≡ None → old.now.schema ≢ no_schema)
 not_blank old o (Ok found) has = λ none blank. not_both o (sym blank ∙ has)
 not_blank old o (Err e) has = tt
 
-pub ours_too : {E : Type 0} (owner : ℕ) (old : State) (o : Order) (r : Result (Option Order) E) → old.now.schema ≡ schema_in o → IfOk r (λ found. IfSome found (λ p. p ≡ o)) → IfOk r (λ found. IfSome found (λ p. IsOurs owner (ours o old.now.trees)))
+pub ours_too : {E : Type 0} (owner : ℕ) (old : State) (o : Layout) (r : Result (Option Order) E) → old.now.schema ≡ schema_in o → IfOk r (λ found. IfSome found (λ p. p ≡ o)) → IfOk r (λ found. IfSome found (λ p. IsOurs owner (ours o old.now.trees)))
     → IfOk r (λ found. IfSome found (IsOpened owner old))
 ours_too owner old o (Ok (Some p)) has at are = subst (IsOpened owner old) (sym at) (inr (has, are))
 ours_too owner old o (Ok None) has at are = tt
@@ -94,7 +94,7 @@ simple_table Lane tree = record { columns = (tt, (tt, (tt, tt))); checks = ((tt,
 simple_table Tap tree = record { columns = (tt, (tt, (tt, (tt, (tt, (tt, (tt, tt))))))); checks = tt; references = refl; stamps = tt; formats = refl }
 simple_table Stated tree = record { columns = (tt, (tt, (tt, tt))); checks = tt; references = refl; stamps = tt; formats = refl }
 
-pub simple : (o : Order) → IsSimpleSchema (schema_in o)
+pub simple : (o : Layout) → IsSimpleSchema (schema_in o)
 unfolding schema_in
 simple o = record {
   tables = (simple_table (four o).0 _, (simple_table (four o).1 _, (simple_table (four o).2 _, (simple_table (four o).3 _, tt))));
@@ -102,16 +102,16 @@ simple o = record {
 }
 
 -- what is neither without tables nor the store's own
-pub neither : (owner : ℕ) (old : State) → old.now.schema ≢ no_schema → ((o : Order) → old.now.schema ≡ schema_in o → ¬ IsOurs owner (ours o old.now.trees)) → ¬ IsBlankOrOurs owner old
+pub neither : (owner : ℕ) (old : State) → old.now.schema ≢ no_schema → ((o : Layout) → old.now.schema ≡ schema_in o → ¬ IsOurs owner (ours o old.now.trees)) → ¬ IsBlankOrOurs owner old
 neither owner old some other (inl blank) = some blank
 neither owner old some other (inr are) = other are.0 are.1 are.2
 
-pub none_lacks : {E : Type 0} (owner : ℕ) (old : State) (o : Order) (r : Result (Option Order) E) → old.now.schema ≡ schema_in o → IfOk r (λ found. found ≡ None → ¬ IsOurs owner (ours o old.now.trees)) → IfOk r (λ found. found ≡ None → ¬ IsBlankOrOurs owner old)
+pub none_lacks : {E : Type 0} (owner : ℕ) (old : State) (o : Layout) (r : Result (Option Order) E) → old.now.schema ≡ schema_in o → IfOk r (λ found. found ≡ None → ¬ IsOurs owner (ours o old.now.trees)) → IfOk r (λ found. found ≡ None → ¬ IsBlankOrOurs owner old)
 none_lacks owner old o (Ok found) has lacks = λ none. neither owner old (λ blank. not_both o (sym blank ∙ has)) (λ p is are. lacks none (subst (IsOurs owner) (same_trees p o old.now.trees (sym is ∙ has)) are))
 none_lacks owner old o (Err e) has lacks = tt
 
 -- a ledger that was there goes on as it was, whichever order it is taken for
-pub kept_fits : (owner start : ℕ) (known : ℕ → Bool) (old new : State) (o p : Order) → Settles owner old new o → IsOpened owner old o → IsFit (schema_in p) (IsLawful p owner start) old
+pub kept_fits : (owner start : ℕ) (known : ℕ → Bool) (old new : State) (o p : Layout) → Settles owner old new o → IsOpened owner old o → IsFit (schema_in p) (IsLawful p owner start) old
     → IsFit (schema_in o) (IsLawful o owner start) new × (value_at o owner start known new.now.trees ≡ value_at p owner start known old.now.trees)
 kept_fits owner start known old new o p settles (inl blank) fit = absurd (not_both p (sym blank ∙ fit.rest.schema_is))
 kept_fits owner start known old new o p settles (inr are) fit =

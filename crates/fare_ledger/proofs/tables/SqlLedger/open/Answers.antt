@@ -2,9 +2,9 @@ use Rattle.std.proofs.Common.{◌≡◌, sym, ap, subst, ◌∙◌}
 use Rattle.sqlite.specs.Held.{state}
 use Rattle.fare_store.specs.LedgerWords.{IsEmptyLedger}
 use Rattle.fare_tables.specs.Tabled.{IsFit}
-use Rattle.fare_ledger.specs.declared.order.Order.{Order}
+use Rattle.fare_ledger.specs.declared.layout.Layout.{Layout}
 use Rattle.fare_ledger.specs.Known.{knows}
-use Rattle.fare_ledger.specs.Orders.{schema_in}
+use Rattle.fare_ledger.specs.Layouts.{schema_in}
 use Rattle.fare_ledger.specs.Opening.{IsOpened, Settles}
 use Rattle.fare_ledger.specs.Words.{IsLawful, value_at}
 use Rattle.fare_ledger.proofs.Opened.{new_fits, kept_fits}
@@ -16,7 +16,7 @@ returns-in-Ok-Some-clause-made g c live blank =
     let known = knows c.in-Ok-devices_of.devices in
     let settles : Settles c.args.owner (state g.S.Store c.args.conn) new c.in-Ok-Some.order = rw c.in-Ok-Some.field-0-is at (c.in-Ok-Some.ensures.opens live) in
     let made = settles.made blank in
-    subst (λ (o : Order). IsFit (schema_in o) (IsLawful o c.args.owner c.start.result) new × IsEmptyLedger (value_at o c.args.owner c.start.result known new.now.trees)) (sym made.2) (new_fits c.args.owner c.start.result known new (made.0, made.1))
+    subst (λ (o : Layout). IsFit (schema_in o) (IsLawful o c.args.owner c.start.result) new × IsEmptyLedger (value_at o c.args.owner c.start.result known new.now.trees)) (sym made.2) (new_fits c.args.owner c.start.result known new (made.0, made.1))
 
 pub returns-in-Ok-Some-clause-kept : goal.returns-in-Ok-Some-clause-kept
 returns-in-Ok-Some-clause-kept g c live order fit =
