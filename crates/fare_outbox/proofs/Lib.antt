@@ -1,5 +1,6 @@
 pub mod Texts
 pub mod Placed
+pub mod Own
 pub mod Found
 pub mod Links
 pub mod Puts

@@ -40,7 +40,7 @@ link_at p = Select (record { lets = []; body = at_tree p.tree link_query }) (cod
 abbrev pub link_command : Layout → Command
 link_command o = link_at (place_of o.places Device)
 
-link_own : IsMeant outbox_schema link_text (link_at (place_of own_places Device))
+pub link_own : IsMeant outbox_schema link_text (link_at (place_of own_places Device))
 unfolding everything outbox_schema
 link_own = refl
 
@@ -62,7 +62,7 @@ next_at p = Select (record { lets = []; body = at_tree p.tree row_query }) (code
 abbrev pub next_command : Layout → Command
 next_command o = next_at (place_of o.places Tap)
 
-next_own : IsMeant outbox_schema next_text (next_at (place_of own_places Tap))
+pub next_own : IsMeant outbox_schema next_text (next_at (place_of own_places Tap))
 unfolding everything outbox_schema
 next_own = refl
 
@@ -84,7 +84,7 @@ next_day_at p = Select (record { lets = []; body = at_tree p.tree day_query }) (
 abbrev pub next_day_command : Layout → Command
 next_day_command o = next_day_at (place_of o.places Stated)
 
-next_day_own : IsMeant outbox_schema next_day_text (next_day_at (place_of own_places Stated))
+pub next_day_own : IsMeant outbox_schema next_day_text (next_day_at (place_of own_places Stated))
 unfolding everything outbox_schema
 next_day_own = refl
 
@@ -106,7 +106,7 @@ rows_at p = Select (record { lets = []; body = at_tree p.tree (count_query 2 [])
 abbrev pub rows_command : Layout → Command
 rows_command o = rows_at (place_of o.places Tap)
 
-rows_own : IsMeant outbox_schema rows_text (rows_at (place_of own_places Tap))
+pub rows_own : IsMeant outbox_schema rows_text (rows_at (place_of own_places Tap))
 unfolding everything outbox_schema
 rows_own = refl
 
@@ -128,7 +128,7 @@ statements_at p = Select (record { lets = []; body = at_tree p.tree (count_query
 abbrev pub statements_command : Layout → Command
 statements_command o = statements_at (place_of o.places Stated)
 
-statements_own : IsMeant outbox_schema statements_text (statements_at (place_of own_places Stated))
+pub statements_own : IsMeant outbox_schema statements_text (statements_at (place_of own_places Stated))
 unfolding everything outbox_schema
 statements_own = refl
 
@@ -150,7 +150,7 @@ seen_at p = Select (record { lets = []; body = at_tree p.tree (count_query 1 see
 abbrev pub seen_command : Layout → Command
 seen_command o = seen_at (place_of o.places Device)
 
-seen_own : IsMeant outbox_schema seen_text (seen_at (place_of own_places Device))
+pub seen_own : IsMeant outbox_schema seen_text (seen_at (place_of own_places Device))
 unfolding everything outbox_schema
 seen_own = refl
 
@@ -172,7 +172,7 @@ meta_at p = Select (record { lets = []; body = at_tree p.tree meta_query }) (cod
 abbrev pub meta_command : Layout → Command
 meta_command o = meta_at (place_of o.places Meta)
 
-meta_own : IsMeant outbox_schema meta_asked_text (meta_at (place_of own_places Meta))
+pub meta_own : IsMeant outbox_schema meta_asked_text (meta_at (place_of own_places Meta))
 unfolding everything outbox_schema
 meta_own = refl
 
@@ -194,7 +194,7 @@ put_meta_at p = Insert p.at (Values (lit Null ∷ lit (Int (pos 1)) ∷ lit (Int
 abbrev pub put_meta_command : Layout → Command
 put_meta_command o = put_meta_at (place_of o.places Meta)
 
-put_meta_own : IsMeant outbox_schema put_meta_text (put_meta_at (place_of own_places Meta))
+pub put_meta_own : IsMeant outbox_schema put_meta_text (put_meta_at (place_of own_places Meta))
 unfolding everything outbox_schema
 put_meta_own = refl
 
@@ -213,7 +213,7 @@ put_link_at p = InsertOr p.at Abort (Values (col 0 0 ∷ lit Null ∷ col 0 1 �
 abbrev pub put_link_command : Layout → Command
 put_link_command o = put_link_at (place_of o.places Device)
 
-put_link_own : IsMeant outbox_schema put_link_text (put_link_at (place_of own_places Device))
+pub put_link_own : IsMeant outbox_schema put_link_text (put_link_at (place_of own_places Device))
 unfolding everything outbox_schema
 put_link_own = refl
 
@@ -232,7 +232,7 @@ put_tap_at p = Insert p.at (Values tap_terms 9)
 abbrev pub put_tap_command : Layout → Command
 put_tap_command o = put_tap_at (place_of o.places Tap)
 
-put_tap_own : IsMeant outbox_schema put_tap_text (put_tap_at (place_of own_places Tap))
+pub put_tap_own : IsMeant outbox_schema put_tap_text (put_tap_at (place_of own_places Tap))
 unfolding everything outbox_schema
 put_tap_own = refl
 
@@ -251,7 +251,7 @@ put_statement_at p = Insert p.at (Values stated_terms 5)
 abbrev pub put_statement_command : Layout → Command
 put_statement_command o = put_statement_at (place_of o.places Stated)
 
-put_statement_own : IsMeant outbox_schema put_statement_text (put_statement_at (place_of own_places Stated))
+pub put_statement_own : IsMeant outbox_schema put_statement_text (put_statement_at (place_of own_places Stated))
 unfolding everything outbox_schema
 put_statement_own = refl
 
@@ -270,7 +270,7 @@ cut_at p = Delete p.at (record { lets = []; body = at_tree p.tree cut_query })
 abbrev pub cut_command : Layout → Command
 cut_command o = cut_at (place_of o.places Tap)
 
-cut_own : IsMeant outbox_schema cut_text (cut_at (place_of own_places Tap))
+pub cut_own : IsMeant outbox_schema cut_text (cut_at (place_of own_places Tap))
 unfolding everything outbox_schema
 cut_own = refl
 

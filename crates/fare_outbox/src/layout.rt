@@ -1,4 +1,6 @@
-ghost use Rattle.fare_outbox.specs.Statements.{FitsOutbox};
+ghost use Rattle.fare_layout.specs.Layouts.{Fits-prop};
+ghost use Rattle.fare_outbox.specs.Statements.{FitsOutbox, texts};
+ghost use Rattle.fare_outbox.specs.Tables.{outbox_schema};
 
 use fare_layout::Places;
 use sqlite_schema::schema::Schema;
@@ -9,7 +11,7 @@ pub struct Layout {
     // The schema of the database.
     pub(crate) schema: Schema,
     pub(crate) places: Places,
-    ghost fits: { FitsOutbox schema places },
+    ghost fits: { FitsOutbox schema places } by { Fits-prop outbox_schema texts schema places },
 }
 
 // It is written out, so that a caller doesn't prove again how each part is let go.

@@ -230,7 +230,7 @@ impl<S: Alter> SqlOutbox<S> {
         conn: Connection<S>,
     ) -> Result<SqlOutbox<S>, (Connection<S>, OpenFault)>
         ensures made { IfOk result (λ o. (stands S.Store o).live → IsVacant (state S.Store conn) → (stands S.Store o).lawful × IsEmptyOutbox (stands S.Store o).value) }
-        ensures kept { IfOk result (λ o. (stands S.Store o).live → (w : Layout) → IsFit (schema_in layout.now) (IsLawful layout.now) (state S.Store conn) → (stands S.Store o).lawful × ((stands S.Store o).value ≡ value_at layout.now (state S.Store conn).now.trees)) }
+        ensures kept { IfOk result (λ o. (stands S.Store o).live → (w : Layout) → IsFit (schema_in w) (IsLawful w) (state S.Store conn) → (stands S.Store o).lawful × ((stands S.Store o).value ≡ value_at w (state S.Store conn).now.trees)) }
         ensures ours { IfOk result (λ o. (stands S.Store o).live → IsVacant (state S.Store conn) ⊎ IsOutbox (state S.Store conn)) }
         ensures failures { IfOk result (λ o. (stands S.Store o).failures ≡ 0) }
         ensures inside { conn.in_transaction ≡ true → result ≡ Err (conn, OpenFault.Store) }

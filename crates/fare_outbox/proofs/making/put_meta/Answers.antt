@@ -3,6 +3,6 @@ use Rattle.fare_outbox.proofs.Makes.{puts_meta}
 use Rattle.fare_outbox.proofs.making.put_meta.Goals as goal
 
 pub returns-in-Ok-clause-made : goal.returns-in-Ok-clause-made
-returns-in-Ok-clause-made g c clean inside blank =
+returns-in-Ok-clause-made g c clean inside w blank =
     let ran = c.in-Ok.ensures.ran clean inside in
-    (puts_meta (state g.S.Store c.args.tx.now.conn.now) (state g.S.Store c.change.new.tx.conn.now) c.in-Ok.field-0 blank ran.0, ran.1)
+    (puts_meta w (state g.S.Store c.args.tx.now.conn.now) (state g.S.Store c.change.new.tx.conn.now) c.in-Ok.field-0 blank ran.0, ran.1)
