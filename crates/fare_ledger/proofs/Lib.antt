@@ -3,6 +3,7 @@ pub mod Placed
 pub mod Found
 pub mod Links
 pub mod Puts
+pub mod Own
 pub mod Makes
 pub mod Taken
 pub mod Days

@@ -43,7 +43,7 @@ lane_at p = Select (record { lets = []; body = at_tree p.tree lane_query }) (cod
 abbrev pub lane_command : Layout → Command
 lane_command o = lane_at (place_of o.places Device)
 
-lane_own : IsMeant ledger_schema lane_text (lane_at (place_of own_places Device))
+pub lane_own : IsMeant ledger_schema lane_text (lane_at (place_of own_places Device))
 unfolding everything ledger_schema
 lane_own = refl
 
@@ -65,7 +65,7 @@ stated_at p = Select (record { lets = []; body = at_tree p.tree stated_query }) 
 abbrev pub stated_command : Layout → Command
 stated_command o = stated_at (place_of o.places Stated)
 
-stated_own : IsMeant ledger_schema stated_text (stated_at (place_of own_places Stated))
+pub stated_own : IsMeant ledger_schema stated_text (stated_at (place_of own_places Stated))
 unfolding everything ledger_schema
 stated_own = refl
 
@@ -87,7 +87,7 @@ day_at p = Select (record { lets = []; body = at_tree p.tree (count_query 2 day_
 abbrev pub day_command : Layout → Command
 day_command o = day_at (place_of o.places Tap)
 
-day_own : IsMeant ledger_schema day_text (day_at (place_of own_places Tap))
+pub day_own : IsMeant ledger_schema day_text (day_at (place_of own_places Tap))
 unfolding everything ledger_schema
 day_own = refl
 
@@ -109,7 +109,7 @@ between_at p = Select (record { lets = []; body = at_tree p.tree between_query }
 abbrev pub between_command : Layout → Command
 between_command o = between_at (place_of o.places Tap)
 
-between_own : IsMeant ledger_schema between_text (between_at (place_of own_places Tap))
+pub between_own : IsMeant ledger_schema between_text (between_at (place_of own_places Tap))
 unfolding everything ledger_schema
 between_own = refl
 
@@ -131,7 +131,7 @@ begun_at p = Select (record { lets = []; body = at_tree p.tree (count_query 1 be
 abbrev pub begun_command : Layout → Command
 begun_command o = begun_at (place_of o.places Device)
 
-begun_own : IsMeant ledger_schema begun_text (begun_at (place_of own_places Device))
+pub begun_own : IsMeant ledger_schema begun_text (begun_at (place_of own_places Device))
 unfolding everything ledger_schema
 begun_own = refl
 
@@ -153,7 +153,7 @@ taps_at p = Select (record { lets = []; body = at_tree p.tree (count_query 2 [])
 abbrev pub taps_command : Layout → Command
 taps_command o = taps_at (place_of o.places Tap)
 
-taps_own : IsMeant ledger_schema taps_text (taps_at (place_of own_places Tap))
+pub taps_own : IsMeant ledger_schema taps_text (taps_at (place_of own_places Tap))
 unfolding everything ledger_schema
 taps_own = refl
 
@@ -175,7 +175,7 @@ statements_at p = Select (record { lets = []; body = at_tree p.tree (count_query
 abbrev pub statements_command : Layout → Command
 statements_command o = statements_at (place_of o.places Stated)
 
-statements_own : IsMeant ledger_schema statements_text (statements_at (place_of own_places Stated))
+pub statements_own : IsMeant ledger_schema statements_text (statements_at (place_of own_places Stated))
 unfolding everything ledger_schema
 statements_own = refl
 
@@ -197,7 +197,7 @@ meta_at p = Select (record { lets = []; body = at_tree p.tree meta_query }) (cod
 abbrev pub meta_command : Layout → Command
 meta_command o = meta_at (place_of o.places Meta)
 
-meta_own : IsMeant ledger_schema meta_text (meta_at (place_of own_places Meta))
+pub meta_own : IsMeant ledger_schema meta_text (meta_at (place_of own_places Meta))
 unfolding everything ledger_schema
 meta_own = refl
 
@@ -219,7 +219,7 @@ put_meta_at p = Insert p.at (Values (lit Null ∷ lit (Int (pos 1)) ∷ col 0 0 
 abbrev pub put_meta_command : Layout → Command
 put_meta_command o = put_meta_at (place_of o.places Meta)
 
-put_meta_own : IsMeant ledger_schema put_meta_text (put_meta_at (place_of own_places Meta))
+pub put_meta_own : IsMeant ledger_schema put_meta_text (put_meta_at (place_of own_places Meta))
 unfolding everything ledger_schema
 put_meta_own = refl
 
@@ -238,7 +238,7 @@ put_lane_at p = InsertOr p.at Abort (Values lane_terms 4) (record { target = Som
 abbrev pub put_lane_command : Layout → Command
 put_lane_command o = put_lane_at (place_of o.places Device)
 
-put_lane_own : IsMeant ledger_schema put_lane_text (put_lane_at (place_of own_places Device))
+pub put_lane_own : IsMeant ledger_schema put_lane_text (put_lane_at (place_of own_places Device))
 unfolding everything ledger_schema
 put_lane_own = refl
 
@@ -257,7 +257,7 @@ put_tap_at p = Insert p.at (Values tap_terms 8)
 abbrev pub put_tap_command : Layout → Command
 put_tap_command o = put_tap_at (place_of o.places Tap)
 
-put_tap_own : IsMeant ledger_schema put_tap_text (put_tap_at (place_of own_places Tap))
+pub put_tap_own : IsMeant ledger_schema put_tap_text (put_tap_at (place_of own_places Tap))
 unfolding everything ledger_schema
 put_tap_own = refl
 
@@ -276,7 +276,7 @@ put_stated_at p = Insert p.at (Values stated_cells_terms 4)
 abbrev pub put_stated_command : Layout → Command
 put_stated_command o = put_stated_at (place_of o.places Stated)
 
-put_stated_own : IsMeant ledger_schema put_stated_text (put_stated_at (place_of own_places Stated))
+pub put_stated_own : IsMeant ledger_schema put_stated_text (put_stated_at (place_of own_places Stated))
 unfolding everything ledger_schema
 put_stated_own = refl
 

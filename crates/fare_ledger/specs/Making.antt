@@ -15,6 +15,11 @@ pub record Makes (schema : Schema) (w : Layout) : Type 0 where
   pub grows : GrowsBy schema tables (schema_in w)
   pub last : AreLast schema w.places
 
+-- the tables can be made in a schema
+pub record MayGrow (schema : Schema) : Type 0 where
+  pub layout : Layout
+  pub makes : Makes schema layout
+
 -- its tables, with no row
 pub record IsBlank (w : Layout) (db : Database) : Type 0 where
   pub schema : db.schema ≡ schema_in w
@@ -30,6 +35,14 @@ pub record IsNew (owner : ℕ) (w : Layout) (db : Database) : Type 0 where
   pub lanes : ours w db.trees 1 ≡ []
   pub taps : ours w db.trees 2 ≡ []
   pub stated : ours w db.trees 4 ≡ []
+
+-- the database is an empty ledger now, wherever the tables stand that were made
+pub record MakesNew (owner : ℕ) (old new : Database) : Type 0 where
+  pub each : (w : Layout) → Makes old.schema w → IsNew owner w new
+
+-- these are the trees of one
+abbrev pub MadeFrom : ℕ → Database → Trees → Type 0
+MadeFrom owner old trees = (db : Database) × MakesNew owner old db × (trees ≡ db.trees)
 
 -- the trees of an empty ledger, whose tables were made in this schema
 abbrev pub IsMade : ℕ → Schema → Trees → Type 0

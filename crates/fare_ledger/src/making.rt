@@ -3,7 +3,7 @@ ghost use Rattle.sqlite.specs.State.{HasCleanDisk, Survives};
 ghost use Rattle.sqlite.specs.Held.{state};
 ghost use Rattle.fare_tables.specs.Asking.{IsLive, SameRows, Inside};
 ghost use Rattle.fare_ledger.specs.declared.layout.Layout.{Layout};
-ghost use Rattle.fare_ledger.specs.Making.{Makes, IsBlank, IsNew, IsMade};
+ghost use Rattle.fare_ledger.specs.Making.{Makes, MayGrow, IsBlank, IsNew, MakesNew, MadeFrom};
 
 use crate::statements::{PUT_META, TABLES};
 use fare_record::OwnerId;
@@ -43,8 +43,8 @@ fn put_meta<S: Alter>(tx: &mut Transaction<'_, S>, owner: OwnerId) -> Result<(),
 // The tables and the row of meta.
 fn make_all<S: Alter>(tx: &mut Transaction<'_, S>, owner: OwnerId) -> Result<(), Fault>
     ensures same_reference { tx.new.conn.ghost_name ≡ tx.old.conn.ghost_name }
-    ensures made { HasCleanDisk (state S.Store tx.new.conn.now) → IsTrue (state S.Store tx.old.conn.now).in_transaction → (w : Layout) → Makes (state S.Store tx.old.conn.now).now.schema w
-        → OnOk result (IsNew owner w (state S.Store tx.new.conn.now).now × IsTrue (state S.Store tx.new.conn.now).in_transaction) }
+    ensures made { HasCleanDisk (state S.Store tx.new.conn.now) → IsTrue (state S.Store tx.old.conn.now).in_transaction → OnOk result (MakesNew owner (state S.Store tx.old.conn.now).now (state S.Store tx.new.conn.now).now) }
+    ensures stays { HasCleanDisk (state S.Store tx.new.conn.now) → IsTrue (state S.Store tx.old.conn.now).in_transaction → MayGrow (state S.Store tx.old.conn.now).now.schema → OnOk result (IsTrue (state S.Store tx.new.conn.now).in_transaction) }
     ensures inside { HasCleanDisk (state S.Store tx.new.conn.now) → Inside (state S.Store tx.old.conn.now) (state S.Store tx.new.conn.now) }
     ensures survives { Survives (state S.Store tx.old.conn.now) (state S.Store tx.new.conn.now) (λ _. ⊥) }
 {
@@ -55,9 +55,9 @@ fn make_all<S: Alter>(tx: &mut Transaction<'_, S>, owner: OwnerId) -> Result<(),
 // A ledger in a database where nothing has a name of its tables, in one transaction.
 pub(crate) fn make_ledger<S: Alter>(conn: &mut Connection<S>, owner: OwnerId) -> Result<(), Fault>
     requires { conn.old.in_transaction ≡ false }
-    ensures made { IsLive (state S.Store conn.new) → (w : Layout) → Makes (state S.Store conn.old).now.schema w → OnOk result (IsNew owner w (state S.Store conn.new).now × ((state S.Store conn.new).now ≡ (state S.Store conn.new).committed)) }
-    ensures same { IsLive (state S.Store conn.new) → (state S.Store conn.old).now ≡ (state S.Store conn.old).committed → OnErr result (SameRows (state S.Store conn.old) (state S.Store conn.new)) }
-    ensures crash { Survives (state S.Store conn.old) (state S.Store conn.new) (λ trees. (w : Layout) → Makes (state S.Store conn.old).now.schema w → IsMade owner (state S.Store conn.old).now.schema trees) }
+    ensures made { IsLive (state S.Store conn.new) → OnOk result (MakesNew owner (state S.Store conn.old).now (state S.Store conn.new).now × ((state S.Store conn.new).now ≡ (state S.Store conn.new).committed)) }
+    ensures same { IsLive (state S.Store conn.new) → MayGrow (state S.Store conn.old).now.schema → (state S.Store conn.old).now ≡ (state S.Store conn.old).committed → OnErr result (SameRows (state S.Store conn.old) (state S.Store conn.new)) }
+    ensures crash { Survives (state S.Store conn.old) (state S.Store conn.new) (MadeFrom owner (state S.Store conn.old).now) }
     ensures live { IsLive (state S.Store conn.new) → IsLive (state S.Store conn.old) }
     ensures stays { HasCleanDisk (state S.Store conn.new) → OnOk result (IsTrue (state S.Store conn.new).is_open) }
     ensures idle { conn.new.in_transaction ≡ false }
