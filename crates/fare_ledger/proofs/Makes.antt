@@ -13,9 +13,7 @@ use Rattle.sqlite.specs.Change.{created}
 use Rattle.sqlite_schema.specs.declared.schema.Keys.TheVariants.{Enforced}
 use Rattle.sqlite.specs.Listing.{understood}
 use Rattle.sqlite.specs.Effect.{Database}
-use Rattle.sqlite.specs.Held.{Held, state}
-use Rattle.sqlite.specs.State.{State, mode_of, Executes, Survives}
-use Rattle.sqlite_trees.specs.declared.store.Store.{Ghosts}
+use Rattle.sqlite.specs.State.{State, mode_of, Executes}
 use Rattle.sqlite.proofs.Callers.{statement_of, runs_as, one_step}
 use Rattle.fare_tables.specs.Cells.{int}
 use Rattle.fare_tables.specs.Making.{Made}
@@ -90,7 +88,3 @@ puts_meta owner w old new count blank h =
 pub all_new : {X E : Type 0} (owner : ℕ) (r : Result X E) (a b : Database) (Q : Type 0) → ((w : Layout) → Makes a.schema w → OnOk r (IsNew owner w b × Q)) → OnOk r (MakesNew owner a b)
 all_new owner (Ok x) a b Q h = record { each = λ w makes. (h w makes).0 }
 all_new owner (Err e) a b Q h = tt
-
--- what comes back from a transaction is what its end left
-pub given_back : {S P : Type 0} (g : Ghosts S) (a : State) (end : Held S) (Commits : Trees → Type 0) → P → (back : (x : Held S) × (P → x ≡ end)) → Survives a (state g end) Commits → Survives a (state g back.0) Commits
-given_back g a end Commits same back survives = subst (λ x. Survives a (state g x) Commits) (sym (back.1 same)) survives

@@ -1,5 +1,5 @@
 -- A database of a ledger alone.
-use Rattle.std.proofs.Common.{◌≡◌, ◌≢◌, [], ◌∷◌, codes, List, ℕ, Ok, Err, Result, true, false, Some, None, refl, sym, ap, subst, ◌∙◌, arith}
+use Rattle.std.proofs.Common.{◌≡◌, codes, List, ℕ, Ok, Result, true, false, Some, refl, sym, ap, subst, ◌∙◌, arith}
 use Rattle.std.specs.List.{AllByRecursion, AllZip}
 use Rattle.sqlite.specs.Change.{created}
 use Rattle.sqlite.specs.Compile.{table_defined_by}
@@ -18,7 +18,7 @@ use Rattle.fare_layout.specs.declared.place.Place.{Place}
 use Rattle.fare_layout.specs.Places.{place_of, all_of}
 use Rattle.fare_layout.specs.Schemas.{IsSimpleTable}
 use Rattle.fare_layout.specs.Commands.{moved, Essence, IsMeant, KeepsMeaning}
-use Rattle.fare_layout.specs.Layouts.{Stands, IsUntouched, Fits}
+use Rattle.fare_layout.specs.Layouts.{Stands, IsUntouched}
 use Rattle.fare_layout.specs.Growing.{CanMake, CanMakeAll, Grows, GrowsBy, HasNone, AreLast}
 use Rattle.fare_layout.proofs.Meant.{same_some}
 use Rattle.fare_layout.proofs.Grown.{same_places}
@@ -26,7 +26,6 @@ use Rattle.fare_ledger.specs.declared.layout.Layout.{Layout}
 use Rattle.fare_ledger.specs.Layouts.{schema_in}
 use Rattle.fare_ledger.specs.Statements.{tables, texts, FitsLedger}
 use Rattle.fare_ledger.specs.Tables.{one_table, two_tables, three_tables, ledger_schema, lane_table, tap_table, stated_table}
-use Rattle.fare_ledger.specs.Making.{Makes}
 use Rattle.fare_ledger.proofs.Placed.{meta_stands}
 use Rattle.fare_ledger.proofs.Texts.{own_places, lane_text, lane_at, lane_own, stated_text, stated_at, stated_own, day_text, day_at, day_own, between_text, between_at, between_own, begun_text, begun_at, begun_own, taps_text, taps_at, taps_own, statements_text, statements_at, statements_own, meta_text, meta_at, meta_own, put_meta_text, put_meta_at, put_meta_own, put_lane_text, put_lane_at, put_lane_own, put_tap_text, put_tap_at, put_tap_own, put_stated_text, put_stated_at, put_stated_own}
 

@@ -152,7 +152,14 @@ impl<S: Alter> SqlLedger<S> {
         ensures does { Reads (stands S.Store self.old) (stands S.Store self.new) (λ taps. AreTapsBetween (stands S.Store self.old).value from to taps.items) result }
         ensures up { OnOk result (IsUp (state S.Store self.new.conn)) }
     {
-        match read_between(self.alloc, &mut self.conn, &self.layout, self.owner, from, to) {
+        match read_between(
+            self.alloc,
+            &mut self.conn,
+            &self.layout,
+            self.owner,
+            from,
+            to,
+        ) {
             Ok(taps) => Ok(taps),
             Err(fault) => Err(note(&mut self.failures, fault)),
         }

@@ -77,7 +77,11 @@ fn are_meta(rows: &[Row], owner: OwnerId) -> bool
 }
 
 // Whether `meta` holds its one row.
-fn has_meta<S: Alter>(conn: &mut Connection<S>, layout: &Layout, owner: OwnerId) -> Result<bool, Fault>
+fn has_meta<S: Alter>(
+    conn: &mut Connection<S>,
+    layout: &Layout,
+    owner: OwnerId,
+) -> Result<bool, Fault>
     ensures meta { HasCleanDisk (state S.Store conn.new) → (state S.Store conn.old).now.schema ≡ schema_in layout.now → IfOk result (λ right. IsTrue right ↔ IsOurs owner (ours layout.now (state S.Store conn.old).now.trees)) }
     ensures same { IsLive (state S.Store conn.new) → IsAtRest (schema_in layout.now) (state S.Store conn.old) → SameRows (state S.Store conn.old) (state S.Store conn.new) }
     ensures crash { Survives (state S.Store conn.old) (state S.Store conn.new) (λ _. ¬ ((state S.Store conn.old).now.schema ≡ schema_in layout.now)) }

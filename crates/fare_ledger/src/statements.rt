@@ -30,7 +30,8 @@ pub(crate) const READ_STATED: &str = "SELECT total FROM stated WHERE device = ?1
 pub(crate) const COUNT_DAY: &str = "SELECT count(*) FROM tap WHERE device = ?1 AND day = ?2";
 
 /// The taps of the days from one to another, by day, moment, device and lane number.
-pub(crate) const READ_BETWEEN: &str = "SELECT device, lane, link, product, token, moment, day FROM tap WHERE day >= ?1 AND day <= ?2 ORDER BY day, moment, device, lane";
+pub(crate) const READ_BETWEEN: &str =
+    "SELECT device, lane, link, product, token, moment, day FROM tap WHERE day >= ?1 AND day <= ?2 ORDER BY day, moment, device, lane";
 
 /// How many devices have a tap taken or a day closed.
 pub(crate) const COUNT_BEGUN: &str = "SELECT count(*) FROM lane WHERE taken > 0 OR closed > 0";
@@ -48,10 +49,12 @@ pub(crate) const READ_META: &str = "SELECT format, owner FROM meta";
 pub(crate) const PUT_META: &str = "INSERT INTO meta (format, owner) VALUES (1, ?1)";
 
 /// A device's numbers.
-pub(crate) const PUT_LANE: &str = "INSERT INTO lane (device, taken, closed) VALUES (?1, ?2, ?3) ON CONFLICT (device) DO UPDATE SET taken = excluded.taken, closed = excluded.closed";
+pub(crate) const PUT_LANE: &str =
+    "INSERT INTO lane (device, taken, closed) VALUES (?1, ?2, ?3) ON CONFLICT (device) DO UPDATE SET taken = excluded.taken, closed = excluded.closed";
 
 /// A tap.
-pub(crate) const PUT_TAP: &str = "INSERT INTO tap (device, lane, link, product, token, moment, day) VALUES (?1, ?2, ?3, ?4, ?5, ?6, ?7)";
+pub(crate) const PUT_TAP: &str =
+    "INSERT INTO tap (device, lane, link, product, token, moment, day) VALUES (?1, ?2, ?3, ?4, ?5, ?6, ?7)";
 
 /// A statement.
 pub(crate) const PUT_STATED: &str = "INSERT INTO stated (device, day, total) VALUES (?1, ?2, ?3)";

@@ -30,7 +30,11 @@ fn cells_of(row: &Record) -> [ValueRef<'static>; 7]
     ]
 }
 
-fn put_tap<S: Alter>(tx: &mut Transaction<'_, S>, layout: &Layout, row: &Record) -> Result<(), Fault>
+fn put_tap<S: Alter>(
+    tx: &mut Transaction<'_, S>,
+    layout: &Layout,
+    row: &Record,
+) -> Result<(), Fault>
     ensures same_reference { tx.new.conn.ghost_name ≡ tx.old.conn.ghost_name }
     ensures puts { HasCleanDisk (state S.Store tx.new.conn.now) → IsTrue (state S.Store tx.old.conn.now).in_transaction → (state S.Store tx.old.conn.now).now.schema ≡ schema_in layout.now
         → OnOk result (PutsTap layout.now (state S.Store tx.old.conn.now).now (state S.Store tx.new.conn.now).now (row_of row.now) × IsTrue (state S.Store tx.new.conn.now).in_transaction) }
@@ -38,11 +42,7 @@ fn put_tap<S: Alter>(tx: &mut Transaction<'_, S>, layout: &Layout, row: &Record)
     ensures survives { Survives (state S.Store tx.old.conn.now) (state S.Store tx.new.conn.now) (λ _. ⊥) }
 {
     let cells = cells_of(row);
-    match change(
-        tx,
-        PUT_TAP,
-        &cells,
-    ) {
+    match change(tx, PUT_TAP, &cells) {
         Ok(_) => Ok(()),
         Err(fault) => Err(fault),
     }
@@ -68,11 +68,7 @@ fn put_lane<S: Alter>(
         parameter(taken),
         parameter(closed),
     ];
-    match change(
-        tx,
-        PUT_LANE,
-        &cells,
-    ) {
+    match change(tx, PUT_LANE, &cells) {
         Ok(_) => Ok(()),
         Err(fault) => Err(fault),
     }
@@ -142,11 +138,7 @@ fn put_statement<S: Alter>(
     ensures survives { Survives (state S.Store tx.old.conn.now) (state S.Store tx.new.conn.now) (λ _. ⊥) }
 {
     let cells = cells_stated(statement);
-    match change(
-        tx,
-        PUT_STATED,
-        &cells,
-    ) {
+    match change(tx, PUT_STATED, &cells) {
         Ok(_) => Ok(()),
         Err(fault) => Err(fault),
     }

@@ -13,8 +13,8 @@ returns-clause-made g c clean inside =
     let late = clean in
     let before : HasCleanDisk (state g.S.Store c.make_tables.new.tx.conn.now) = omega (arith, late, c.put_meta.ensures.survives.clean) in
     all_new c.args.owner c.put_meta.result a b (IsTrue (state g.S.Store c.put_meta.new.tx.conn.now).in_transaction) (λ w makes. (
-      let blank = c.in_ok-make_tables.ensures.made before inside w makes in
-      c.put_meta.ensures.made clean blank.1 w blank.0))
+    let blank = c.in_ok-make_tables.ensures.made before inside w makes in
+    c.put_meta.ensures.made clean blank.1 w blank.0))
 
 pub returns-clause-stays : goal.returns-clause-stays
 returns-clause-stays g c clean inside grows =

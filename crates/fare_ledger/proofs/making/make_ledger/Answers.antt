@@ -1,10 +1,9 @@
-use Rattle.std.proofs.Common.{◌≡◌, true, refl, sym, ◌∙◌, arith}
+use Rattle.std.proofs.Common.{rules, ◌≡◌, true, refl, arith}
 use Rattle.sqlite.specs.Held.{state}
 use Rattle.sqlite.specs.State.{HasCleanDisk, Survives}
 use Rattle.sqlite.proofs.Callers.{survives_begin}
 use Rattle.sqlite.proofs.StateLemmas.{survives_then}
 use Rattle.fare_ledger.specs.Making.{MadeFrom}
-use Rattle.fare_ledger.proofs.Makes.{given_back}
 use Rattle.fare_ledger.proofs.making.make_ledger.Goals as goal
 
 pub returns-in-Err-clause-crash : goal.returns-in-Err-clause-crash
@@ -15,9 +14,8 @@ returns-in-Err-clause-crash g c =
     let made = rw c.transaction-tx.ensures.begun at c.in_ok-make_all.ensures.made in
     let stays : Survives begun mid (λ _. ⊥) = rw c.transaction-tx.ensures.begun at c.make_all.ensures.survives in
     let end = state g.S.Store c.commit.new.self.0 in
-    let same = sym (c.make_all.ensures.same_reference ∙ c.transaction-tx.ensures.same_reference) in
     let survives = survives_begin g.S.Store old end (MadeFrom c.args.owner (state g.S.Store old).now) (survives_then begun mid end (λ _. ⊥) (λ trees. trees ≡ mid.now.trees) (MadeFrom c.args.owner (state g.S.Store old).now) (λ clean trees none. absurd none) (λ clean trees is. (
-      let late = clean in
-      let before : HasCleanDisk mid = omega (arith, late, c.commit.ensures.survives.clean) in
-      (mid.now, made before refl, is))) stays c.commit.ensures.survives) in
-    given_back g.S.Store (state g.S.Store old) c.commit.new.self.0 (MadeFrom c.args.owner (state g.S.Store old).now) same _ survives
+    let late = clean in
+    let before : HasCleanDisk mid = omega (arith, late, c.commit.ensures.survives.clean) in
+    (mid.now, made before refl, is))) stays c.commit.ensures.survives) in
+    search rules

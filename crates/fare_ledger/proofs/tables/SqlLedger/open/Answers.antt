@@ -1,9 +1,7 @@
 use Rattle.std.proofs.Common.{◌≡◌, sym, ap, subst, ◌∙◌}
 use Rattle.sqlite.specs.Held.{state}
-use Rattle.fare_store.specs.LedgerWords.{IsEmptyLedger}
 use Rattle.sqlite.specs.Schema.{Schema}
 use Rattle.fare_tables.specs.Tabled.{IsFit}
-use Rattle.fare_ledger.specs.declared.layout.Layout.{Layout}
 use Rattle.fare_ledger.specs.Known.{knows}
 use Rattle.fare_ledger.specs.Layouts.{schema_in}
 use Rattle.fare_ledger.specs.Opening.{IsOpened, Sees, Settles}
