@@ -1,5 +1,5 @@
 -- What a text that is one CREATE TABLE makes.
-use Rattle.std.proofs.Common.{◌≡◌, IfSome, Option, Some, ◌≤◌, ◌+◌, ◌++◌, ◌∷◌, List, ℕ, [], length, None, false, Ok, Err, Result, refl, sym, ap, subst, ◌∙◌, ◌-◌, arith}
+use Rattle.std.proofs.Common.{◌≡◌, IfSome, Option, Some, ◌≤◌, ◌+◌, ◌++◌, ◌∷◌, List, ℕ, [], length, false, Ok, Err, Result, refl, sym, ap, subst, ◌∙◌, ◌-◌, arith}
 use Rattle.std.specs.Prelude.{take, drop, slice_index_or}
 use Rattle.std.proofs.Math.Seq.{take-length}
 use Rattle.std.proofs.lemmas.List.{append_assoc}
@@ -18,7 +18,7 @@ use Rattle.sqlite_resolve.specs.Compile.{compiled}
 use Rattle.sqlite_resolve.specs.declared.compiled.Compiled.{Compiled}
 use Rattle.sqlite_resolve.specs.declared.error.CompileError.{CompileError}
 use Rattle.fare_tables.specs.Making.{IsWhole, Defines}
-use Rattle.fare_layout.specs.Growing.{IsCreation, Creates}
+use Rattle.fare_layout.specs.Growing.{Creates}
 
 -- the index of the first key, and then those of the others
 pub one_more : (old mid new : List Index) (table : Table) (at tree : ℕ) (key : List ℕ) (keys : List (List ℕ)) → key ≡ slice_index_or keys 0 key → 1 ≤ length keys → mid ≡ old ++ automatic table at key tree ∷ []

@@ -1,5 +1,5 @@
 -- What follows from what a text means.
-use Rattle.std.proofs.Common.{◌≡◌, [], List, ℕ, Ok, Err, Result, Option, Some, None, false, refl, sym, ap, subst, ◌∙◌}
+use Rattle.std.proofs.Common.{◌≡◌, [], List, ℕ, Ok, Err, Result, Some, None, false, refl, sym, ap, subst, ◌∙◌}
 use Rattle.sqlite.specs.Effect.{is_query}
 use Rattle.sqlite.specs.Listing.{understood, reads_listing, misses_table}
 use Rattle.sqlite.proofs.Callers.{IsPlain, command_of}
@@ -38,4 +38,3 @@ meant schema sql command is = go (compiled schema sql) refl is
           unlisted = ap misses_table at;
           selects = ap is_select known ∙ ap is_query first;
         }
-

@@ -1,5 +1,5 @@
 -- What holds where a schema fits: no foreign key acts on a store's tables, and no index has a rowid for its key.
-use Rattle.std.proofs.Common.{◌≡◌, ◌≢◌, ◌==◌, ◌&&◌, ◌⊎◌, inl, inr, ◌++◌, ℕ, [], ◌∷◌, List, Bool, true, false, Some, None, Option, IfSome, refl, sym, ap, subst, ◌∙◌, arith}
+use Rattle.std.proofs.Common.{◌≡◌, ◌≢◌, ◌==◌, ◌&&◌, ◌⊎◌, inl, inr, ◌++◌, ℕ, [], ◌∷◌, List, Bool, true, false, Some, None, Option, IfSome, refl, sym, ap, ◌∙◌, arith}
 use Rattle.std.specs.Prelude.{bytes_eq, find}
 use Rattle.std.specs.List.{AllByRecursion, list_any, flat_map, filter_map}
 use Rattle.std.proofs.lemmas.Bool.Decides.{nat_tests}
@@ -11,15 +11,15 @@ use Rattle.sqlite_schema.specs.declared.schema.Index.{Index}
 use Rattle.sqlite_schema.specs.declared.schema.Keys.{Keys}
 use Rattle.sqlite_schema.specs.declared.schema.Reference.{Reference}
 use Rattle.sqlite_schema.specs.Names.{same_name}
-use Rattle.sqlite_schema.specs.Rules.{parent_key, key_in, key_places, declared_order, guards, agree}
+use Rattle.sqlite_schema.specs.Rules.{parent_key, key_in, key_places, declared_order, agree}
 use Rattle.sqlite_value.specs.declared.keys.Order.{Order}
 use Rattle.std.specs.Prelude.{length, option_map, option_and_then}
 use Rattle.std.specs.List.{cons_option}
 use Rattle.std.proofs.lemmas.Bool.{ne_eqb}
-use Rattle.sqlite_rules.specs.Action.{Work, work_for, work_by, works, pairs, deed_for}
+use Rattle.sqlite_rules.specs.Action.{work_for, work_by, works, pairs, deed_for}
 use Rattle.sqlite_rules.specs.declared.action.Deed.{Deed}
-use Rattle.sqlite_rules.specs.Keys.{shares, aims}
-use Rattle.fare_layout.specs.Layouts.{RefersElsewhere, IsFree, HasNoRowidIndex}
+use Rattle.sqlite_rules.specs.Keys.{shares}
+use Rattle.fare_layout.specs.Layouts.{RefersElsewhere, IsFree}
 
 -- ---- no foreign key acts
 
@@ -31,12 +31,15 @@ module _ (schema : Schema) (keys : Keys) (depth tree : ℕ) (olds news : List Ro
       by_order : (deed : Deed) (t : Table) (places : List ℕ) (o : Option Order) → t.tree ≢ tree → work_by depth tree (pairs olds news) child ref (Some deed) (option_map (λ o. (t.tree, places, o)) o) ≡ None
       by_order deed t places None other = refl
       by_order deed t places (Some o) other = rw (ne_eqb t.tree tree other) refl
+
       by_places : (deed : Deed) (t : Table) (places : Option (List ℕ)) → t.tree ≢ tree → work_by depth tree (pairs olds news) child ref (Some deed) (option_and_then (key_in t) places) ≡ None
       by_places deed t None other = refl
       by_places deed t (Some places) other = by_order deed t places (declared_order t places) other
+
       by_parent : (deed : Deed) (found : Option Table) → IfSome found (λ t. t.tree ≢ tree) → work_by depth tree (pairs olds news) child ref (Some deed) (option_and_then (λ t. option_and_then (key_in t) (key_places t ref.parent_columns)) found) ≡ None
       by_parent deed None other = refl
       by_parent deed (Some t) other = by_places deed t (key_places t ref.parent_columns) other
+
       by_deed : (deed : Option Deed) → work_by depth tree (pairs olds news) child ref deed (parent_key schema.tables ref) ≡ None
       by_deed None = refl
       by_deed (Some deed) = by_parent deed (find (λ (t : Table). same_name t.name ref.parent) schema.tables) elsewhere
@@ -71,6 +74,7 @@ module _ (table : Table) (new row : Row) where
         where
           same : i.table ≡ table.tree
           same = let e = is in grind (arith, nat_tests)
+
           not_same : (b : Bool) → bytes_eq (0 ∷ []) i.columns ≡ b → bytes_eq (0 ∷ []) i.columns ≡ false
           not_same false is = is
           not_same true is = absurd (other same (sym ((bytes_eq-Decides (0 ∷ []) i.columns).0 is)))

@@ -80,8 +80,8 @@ found_coded = coded_option table.the_row.coded
 essence_coded : Coded (Option Essence)
 essence_coded =
     coded_option (
-      code_by (Command × (Option Returning × List (List ℕ))) (coded× command.the_row.coded (coded× (coded_option returning.the_row.coded) (coded_list (coded_list coded_ℕ))))
-      (λ e. (e.0, (e.1, e.2))) (λ p. (p.0, p.1.0, p.1.1)) (λ _. refl))
+    code_by (Command × (Option Returning × List (List ℕ))) (coded× command.the_row.coded (coded× (coded_option returning.the_row.coded) (coded_list (coded_list coded_ℕ))))
+    (λ e. (e.0, (e.1, e.2))) (λ p. (p.0, p.1.0, p.1.1)) (λ _. refl))
 
 ruleset facts = (logic.props, AllByRecursion-prop, MatchOption-prop, AllZip-prop, found_coded, essence_coded)
 

@@ -1,5 +1,5 @@
 -- Where a store's tables stand.
-use Rattle.std.specs.Prelude.{◌≢◌, ℕ, List, [], ◌∷◌}
+use Rattle.std.specs.Prelude.{◌≢◌, List, [], ◌∷◌}
 use Rattle.fare_layout.specs.declared.place.Kind.{Kind}
 use Rattle.fare_layout.specs.declared.place.Kind.TheVariants.{Meta, Device, Tap, Stated}
 use Rattle.fare_layout.specs.declared.place.Place.{Place}

@@ -227,8 +227,6 @@ pub fn has_none(schema: &Schema, texts: &[(&str, &str)]) -> bool
 {
     match texts {
         [] => true,
-        [(name, _), rest @ ..] => {
-            !is_used(schema, name.as_bytes()) && has_none(schema, rest)
-        }
+        [(name, _), rest @ ..] => { !is_used(schema, name.as_bytes()) && has_none(schema, rest) }
     }
 }

@@ -65,11 +65,7 @@ fn is_elsewhere(tables: &[Table], name: &[u8], tree: u32) -> bool
 fn refers_elsewhere(schema: &Schema, tree: u32, reference: &Reference) -> bool
     ensures { IsTrue result ↔ RefersElsewhere schema.now tree reference.now }
 {
-    is_elsewhere(
-        schema.tables.as_slice(),
-        reference.parent.as_slice(),
-        tree,
-    )
+    is_elsewhere(schema.tables.as_slice(), reference.parent.as_slice(), tree)
 }
 
 fn refer_elsewhere(schema: &Schema, tree: u32, references: &[Reference]) -> bool
@@ -125,8 +121,7 @@ pub(crate) fn has_no_rowid_index(indexes: &[Index], tree: u32) -> bool
     match indexes {
         [] => true,
         [first, rest @ ..] => {
-            (first.table != tree || !is_by_rowid(&first.columns))
-                && has_no_rowid_index(rest, tree)
+            (first.table != tree || !is_by_rowid(&first.columns)) && has_no_rowid_index(rest, tree)
         }
     }
 }

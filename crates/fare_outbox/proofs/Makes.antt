@@ -1,5 +1,5 @@
 -- The four tables in turn, and the row of meta.
-use Rattle.std.proofs.Common.{◌≡◌, ◌≢◌, ◌+◌, ℕ, List, [], ◌∷◌, None, Ok, pos, length, refl, ap, sym, subst, ◌∙◌, arith}
+use Rattle.std.proofs.Common.{◌≡◌, ◌≢◌, ◌+◌, ℕ, List, [], ◌∷◌, None, Ok, Err, Result, OnOk, pos, length, refl, ap, sym, subst, ◌∙◌, arith}
 use Rattle.sqlite.specs.declared.types.Value.TheVariants.{Null, Int}
 use Rattle.sqlite_value.specs.Order.{Row}
 use Rattle.sqlite.specs.Tree.{Trees}
@@ -26,6 +26,7 @@ use Rattle.fare_outbox.specs.declared.layout.Layout.{Layout}
 use Rattle.fare_outbox.specs.Layouts.{schema_in, tree_in, ours}
 use Rattle.fare_outbox.specs.Tables.{device_table, tap_table, stated_table}
 use Rattle.fare_outbox.specs.Making.{IsBlank, IsNew}
+use Rattle.fare_outbox.specs.Opening.{Makes, MayGrow, MakesNew}
 use Rattle.fare_outbox.proofs.Placed.{meta_stands, device_stands, tap_stands, stated_stands, meta_placed, no_works, each, at_found, device_is_not_meta, tap_is_not_meta, stated_is_not_meta}
 use Rattle.fare_outbox.proofs.Texts.{put_meta_text, put_meta_command, put_meta_meant}
 
@@ -82,3 +83,7 @@ puts_meta w old new count blank h =
       taps = at (tree_in w Tap) ∙ kept.tap (tap_is_not_meta w) ∙ blank.taps;
       stated = at (tree_in w Stated) ∙ kept.stated (stated_is_not_meta w) ∙ blank.stated;
     }
+
+pub all_new : {X E : Type 0} (r : Result X E) (a b : Database) (Q : Type 0) → MayGrow a.schema → ((w : Layout) → Makes a.schema w → OnOk r (IsNew w b × Q)) → OnOk r (MakesNew a b × Q)
+all_new (Ok x) a b Q grows h = (record { each = λ w makes. (h w makes).0 }, (h grows.layout grows.makes).1)
+all_new (Err e) a b Q grows h = tt

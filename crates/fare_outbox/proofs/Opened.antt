@@ -1,10 +1,8 @@
 -- What an open finds, and what it makes.
-use Rattle.std.proofs.Common.{◌≡◌, ◌≢◌, inl, inr, refl, ℕ, ◌≤◌, List, [], ◌∷◌, map, length, Option, Some, None, Result, Ok, Err, IfOk, sym, ap, subst, ◌∙◌, arith}
-use Rattle.std.specs.Prelude.{IfSome, MatchOption, slice_index_or, drop}
+use Rattle.std.proofs.Common.{◌≡◌, ◌≢◌, inl, inr, ℕ, List, [], map, length, sym, ap, subst, ◌∙◌}
 use Rattle.std.specs.List.{AllByRecursion}
-use Rattle.sqlite.specs.Schema.{Schema}
 use Rattle.sqlite.specs.Effect.{Database}
-use Rattle.sqlite.specs.State.{State}
+use Rattle.sqlite.specs.State.{State, Survives}
 use Rattle.fare_store.specs.OutboxWords.{IsEmptyOutbox}
 use Rattle.fare_tables.specs.Asking.{IsAtRest, SameRows}
 use Rattle.fare_tables.specs.Cells.{AreRows, held}
@@ -16,7 +14,7 @@ use Rattle.fare_outbox.proofs.Placed.{same_trees}
 use Rattle.fare_outbox.proofs.Own.{blank_is_vacant, not_vacant}
 use Rattle.fare_outbox.specs.Held.{AreReadable, IsReady, IsDevice, IsTap, IsStated, upto_of, tap_of, stated_of, held_of}
 use Rattle.fare_outbox.specs.Making.{IsNew}
-use Rattle.fare_outbox.specs.Opening.{IsOurs, IsVacant, IsBlankOrOurs, IsOpened, IsCounted, Settles}
+use Rattle.fare_outbox.specs.Opening.{IsOurs, IsVacant, IsBlankOrOurs, IsOpened, IsCounted, Settles, Makes, MayGrow, MadeFrom, MayMake}
 use Rattle.fare_outbox.specs.Words.{tap_key, stated_key, first_at, itself, count_of, value_at, value_in, AreApart, IsKnown, FitTogether, IsLawful, IsWell}
 
 -- no schema is both
@@ -104,3 +102,17 @@ kept_fits old new o p rows statements settles (inr are) fit =
       },
       ap (λ t. value_in (held_of t)) (now ∙ sym trees),
     )
+
+-- what making the tables may leave, where nothing has their names
+pub makes_survives : (old new : State) (w : Layout) → IsVacant old → Makes old.now.schema w → Survives old new (λ trees. MayGrow old.now.schema → MadeFrom old.now trees) → Survives old new (MayMake old)
+makes_survives old new w vacant makes s = record {
+  clean = s.clean;
+  shield = s.shield;
+  counts = s.counts;
+  limit = s.limit;
+  closes = s.closes;
+  crash = λ clean db may. elim (s.crash clean db may) [
+    | inl before ↦ inl before
+    | inr from ↦ (let it = from (record { layout = w; makes = makes }) in inr (vacant, (w, it.0, it.1.each w makes, it.2)))
+  ];
+}

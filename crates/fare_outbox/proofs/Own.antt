@@ -1,5 +1,5 @@
 -- A database of an outbox alone.
-use Rattle.std.proofs.Common.{◌≡◌, ◌≢◌, [], ◌∷◌, codes, List, ℕ, Ok, Err, Result, true, false, Some, None, refl, sym, ap, subst, ◌∙◌, arith}
+use Rattle.std.proofs.Common.{◌≡◌, codes, List, ℕ, Ok, Err, Result, true, false, Bool, IsTrue, Option, Some, None, IfSome, IfOk, OnErr, refl, sym, ap, subst, ◌∙◌, arith}
 use Rattle.std.specs.List.{AllByRecursion, AllZip}
 use Rattle.sqlite.specs.Change.{created}
 use Rattle.sqlite.specs.Compile.{table_defined_by}
@@ -18,7 +18,7 @@ use Rattle.fare_layout.specs.declared.place.Place.{Place}
 use Rattle.fare_layout.specs.Places.{place_of, all_of}
 use Rattle.fare_layout.specs.Schemas.{IsSimpleTable}
 use Rattle.fare_layout.specs.Commands.{moved, Essence, IsMeant, KeepsMeaning}
-use Rattle.fare_layout.specs.Layouts.{Stands, IsUntouched, Fits}
+use Rattle.fare_layout.specs.Layouts.{Stands, IsUntouched}
 use Rattle.fare_layout.specs.Growing.{CanMake, CanMakeAll, Grows, GrowsBy, HasNone, AreLast}
 use Rattle.fare_layout.proofs.Meant.{same_some}
 use Rattle.fare_layout.proofs.Grown.{same_places}
@@ -26,7 +26,6 @@ use Rattle.fare_outbox.specs.declared.layout.Layout.{Layout}
 use Rattle.fare_outbox.specs.Layouts.{schema_in}
 use Rattle.fare_outbox.specs.Statements.{tables, texts, FitsOutbox}
 use Rattle.fare_outbox.specs.Tables.{one_table, two_tables, three_tables, outbox_schema, device_table, tap_table, stated_table}
-use Rattle.fare_outbox.specs.Opening.{Makes}
 use Rattle.fare_outbox.proofs.Placed.{meta_stands}
 use Rattle.fare_outbox.proofs.Texts.{own_places, link_text, link_at, link_own, next_text, next_at, next_own, next_day_text, next_day_at, next_day_own, rows_text, rows_at, rows_own, statements_text, statements_at, statements_own, seen_text, seen_at, seen_own, meta_asked_text, meta_at, meta_own, put_meta_text, put_meta_at, put_meta_own, put_link_text, put_link_at, put_link_own, put_tap_text, put_tap_at, put_tap_own, put_statement_text, put_statement_at, put_statement_own, cut_text, cut_at, cut_own}
 
@@ -130,6 +129,10 @@ own_fits = record { stands = own_stands; untouched = own_untouched; keeps = own_
 pub own_layout : Layout
 own_layout = record { schema = outbox_schema; places = own_places; fits = own_fits }
 
+pub own_is : schema_in own_layout ≡ outbox_schema
+unfolding own_layout
+own_is = refl
+
 own_last : AreLast no_schema own_places
 own_last = record { meta = refl; device = refl; tap = refl; stated = refl }
 
@@ -165,3 +168,20 @@ blank_last w s grown blank grows is =
     let own : w.schema ≡ outbox_schema = is ∙ grown_own grown (subst (λ x. GrowsBy x tables grown) blank grows) in
     let places : w.places ≡ own_places = same_places outbox_schema outbox_schema.tables w.places own_places (subst (λ x. AllZip (Stands x) outbox_schema.tables (all_of w.places)) own w.fits.stands) own_stands in
     subst (λ x. AreLast x w.places) (sym blank) (subst (AreLast no_schema) (sym places) own_last)
+
+pub some_is : {X : Type 0} (o : Option X) (x : X) (P : X → Type 0) → o ≡ Some x → IfSome o P → P x
+some_is {X = X} o x P is holds = subst (λ (f : Option X). IfSome f P) is holds
+
+pub none_some : {X : Type 0} (o : Option X) (x : X) → o ≡ None → o ≡ Some x → ⊥
+none_some o x none some = absurd (let e = sym none ∙ some in cc)
+
+pub not_true : (b : Bool) → b ≡ false → IsTrue b → ⊥
+not_true b fails holds = absurd (let e = sym fails ∙ holds in cc)
+
+pub for_none : {T E : Type 0} (r : Result (Option T) E) (P : Type 0) → P → IfOk r (λ found. found ≡ None → P)
+for_none (Ok x) P p = λ none. p
+for_none (Err e) P p = tt
+
+pub for_err : {T E : Type 0} (r : Result T E) (P : Type 0) → P → OnErr r P
+for_err (Ok x) P p = tt
+for_err (Err e) P p = p

@@ -1,5 +1,5 @@
 -- What holds where the tables of an outbox stand.
-use Rattle.std.proofs.Common.{◌≡◌, ◌≢◌, [], ◌∷◌, List, ℕ, false, ◌==◌, Some, None, Ok, Option, subst, sym, ap, ◌∙◌, refl, nat_le, ◌^◌}
+use Rattle.std.proofs.Common.{◌≡◌, ◌≢◌, [], ◌∷◌, ℕ, false, ◌==◌, Some, None, Ok, Option, subst, sym, ap, ◌∙◌, nat_le, ◌^◌}
 use Rattle.std.specs.Prelude.{slice_get, if◌then◌else◌}
 use Rattle.std.specs.List.{AllByRecursion, AllZip, list_any}
 use Rattle.sqlite_value.specs.Order.{Row}

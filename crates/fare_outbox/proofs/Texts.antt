@@ -1,5 +1,5 @@
 -- What the texts of the outbox mean where its tables stand.
-use Rattle.std.proofs.Common.{[], ◌∷◌, codes, List, ℕ, refl, Some, None, pos}
+use Rattle.std.proofs.Common.{[], ◌∷◌, codes, List, ℕ, refl, Some, pos}
 use Rattle.sqlite_tied.specs.Compute.{everything}
 use Rattle.sqlite.specs.declared.types.Value.TheVariants.{Null, Int}
 use Rattle.sqlite.specs.Term.{Term, lit, col}

@@ -3,6 +3,7 @@ use Rattle.std.specs.Prelude.{◌≡◌, ◌≢◌, ◌⊎◌, ℕ, pos, List, [
 use Rattle.sqlite.specs.declared.types.Value.TheVariants.{Int}
 use Rattle.sqlite_value.specs.Order.{Row, column}
 use Rattle.sqlite.specs.Tree.{Trees}
+use Rattle.sqlite.specs.Effect.{Database}
 use Rattle.sqlite.specs.State.{State}
 use Rattle.fare_tables.specs.Asking.{SameRows}
 use Rattle.fare_tables.specs.Making.{no_schema}
@@ -67,6 +68,19 @@ IsOpened s w = IsVacant s ⊎ ((s.now.schema ≡ schema_in w) × IsOurs (ours w 
 pub record Makes (schema : Schema) (w : Layout) : Type 0 where
   pub grows : GrowsBy schema tables (schema_in w)
   pub last : AreLast schema w.places
+
+-- the tables can be made in a schema
+pub record MayGrow (schema : Schema) : Type 0 where
+  pub layout : Layout
+  pub makes : Makes schema layout
+
+-- the database is an empty outbox now, wherever the tables stand that were made
+pub record MakesNew (old new : Database) : Type 0 where
+  pub each : (w : Layout) → Makes old.schema w → IsNew w new
+
+-- these are the trees of one
+abbrev pub MadeFrom : Database → Trees → Type 0
+MadeFrom old trees = (db : Database) × MakesNew old db × (trees ≡ db.trees)
 
 -- what was seen of a schema
 abbrev pub Sees : Schema → Seen → Type 0

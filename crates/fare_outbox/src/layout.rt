@@ -17,6 +17,9 @@ pub struct Layout {
 // It is written out, so that a caller doesn't prove again how each part is let go.
 impl Drop for Layout {
     fn drop(self) {
-        let Layout { schema: _, places: _ } = self;
+        let Layout {
+            schema: _,
+            places: _,
+        } = self;
     }
 }

@@ -8,8 +8,10 @@ ghost use Rattle.fare_outbox.specs.Held.{held_of, IsReady, IsNext, IsNextStated,
 ghost use Rattle.fare_outbox.specs.Shown.{ShowsRow, ShowsStatement};
 
 use crate::Layout;
-use crate::statements::{COUNT_ROWS, COUNT_SEEN, COUNT_STATEMENTS, READ_LINK, READ_NEXT, READ_STATEMENT};
 use crate::asking::ask;
+use crate::statements::{
+    COUNT_ROWS, COUNT_SEEN, COUNT_STATEMENTS, READ_LINK, READ_NEXT, READ_STATEMENT,
+};
 use fare_record::{DeviceId, OwnerId, Record, Statement};
 use fare_store::Fault;
 use fare_tables::{
@@ -72,12 +74,7 @@ pub(crate) fn read_next<S: Alter>(
         parameter(u64::from(device.get())),
         parameter(after),
     ];
-    match ask(
-        conn,
-        layout,
-        READ_NEXT,
-        &asked,
-    )? {
+    match ask(conn, layout, READ_NEXT, &asked)? {
         Some(row) => Ok(Some(row_in(&row, owner, device)?)),
         None => Ok(None),
     }
@@ -113,12 +110,7 @@ pub(crate) fn read_statement<S: Alter>(
         parameter(u64::from(device.get())),
         parameter(from),
     ];
-    match ask(
-        conn,
-        layout,
-        READ_STATEMENT,
-        &asked,
-    )? {
+    match ask(conn, layout, READ_STATEMENT, &asked)? {
         Some(row) => Ok(Some(statement_in(&row, owner, device)?)),
         None => Ok(None),
     }
@@ -166,12 +158,7 @@ pub(crate) fn count_seen<S: Alter>(conn: &mut Connection<S>, layout: &Layout) ->
     ensures stays { HasCleanDisk (state S.Store conn.new) → OnOk result (IsTrue (state S.Store conn.new).is_open) }
     ensures mode { conn.old.in_transaction ≡ false → conn.new.in_transaction ≡ false }
 {
-    match ask(
-        conn,
-        layout,
-        COUNT_SEEN,
-        &[],
-    )? {
+    match ask(conn, layout, COUNT_SEEN, &[])? {
         Some(row) => cell_number(&row, 0),
         None => Err(Fault::Store),
     }

@@ -24,10 +24,12 @@ pub(crate) const TABLES: [(&str, &str); 4] = [
 pub(crate) const READ_LINK: &str = "SELECT upto FROM device WHERE id = ?1";
 
 /// The row of least lane number past one.
-pub(crate) const READ_NEXT: &str = "SELECT lane, link, product, token, moment, day FROM tap WHERE owner = ?1 AND device = ?2 AND lane > ?3 ORDER BY lane LIMIT 1";
+pub(crate) const READ_NEXT: &str =
+    "SELECT lane, link, product, token, moment, day FROM tap WHERE owner = ?1 AND device = ?2 AND lane > ?3 ORDER BY lane LIMIT 1";
 
 /// The statement of least day from one on.
-pub(crate) const READ_STATEMENT: &str = "SELECT day, total FROM stated WHERE owner = ?1 AND device = ?2 AND day >= ?3 ORDER BY day LIMIT 1";
+pub(crate) const READ_STATEMENT: &str =
+    "SELECT day, total FROM stated WHERE owner = ?1 AND device = ?2 AND day >= ?3 ORDER BY day LIMIT 1";
 
 /// How many taps there are.
 pub(crate) const COUNT_ROWS: &str = "SELECT count(*) FROM tap";
@@ -45,13 +47,16 @@ pub(crate) const READ_META: &str = "SELECT format, owner FROM meta";
 pub(crate) const PUT_META: &str = "INSERT INTO meta (format, owner) VALUES (1, 0)";
 
 /// A device's greatest link.
-pub(crate) const PUT_LINK: &str = "INSERT INTO device (id, upto) VALUES (?1, ?2) ON CONFLICT (id) DO UPDATE SET upto = excluded.upto";
+pub(crate) const PUT_LINK: &str =
+    "INSERT INTO device (id, upto) VALUES (?1, ?2) ON CONFLICT (id) DO UPDATE SET upto = excluded.upto";
 
 /// A tap.
-pub(crate) const PUT_TAP: &str = "INSERT INTO tap (owner, device, lane, link, product, token, moment, day) VALUES (?1, ?2, ?3, ?4, ?5, ?6, ?7, ?8)";
+pub(crate) const PUT_TAP: &str =
+    "INSERT INTO tap (owner, device, lane, link, product, token, moment, day) VALUES (?1, ?2, ?3, ?4, ?5, ?6, ?7, ?8)";
 
 /// A statement.
-pub(crate) const PUT_STATEMENT: &str = "INSERT INTO stated (owner, device, day, total) VALUES (?1, ?2, ?3, ?4)";
+pub(crate) const PUT_STATEMENT: &str =
+    "INSERT INTO stated (owner, device, day, total) VALUES (?1, ?2, ?3, ?4)";
 
 /// The rows of a lane up to a number go.
 pub(crate) const CUT_ROWS: &str = "DELETE FROM tap WHERE owner = ?1 AND device = ?2 AND lane <= ?3";

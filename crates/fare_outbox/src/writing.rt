@@ -31,7 +31,11 @@ fn cells_of(row: &Record) -> [ValueRef<'static>; 8]
     ]
 }
 
-fn put_tap<S: Alter>(tx: &mut Transaction<'_, S>, layout: &Layout, row: &Record) -> Result<(), Fault>
+fn put_tap<S: Alter>(
+    tx: &mut Transaction<'_, S>,
+    layout: &Layout,
+    row: &Record,
+) -> Result<(), Fault>
     ensures same_reference { tx.new.conn.ghost_name ≡ tx.old.conn.ghost_name }
     ensures puts { HasCleanDisk (state S.Store tx.new.conn.now) → IsTrue (state S.Store tx.old.conn.now).in_transaction → (state S.Store tx.old.conn.now).now.schema ≡ schema_in layout.now
         → OnOk result (PutsTap layout.now (state S.Store tx.old.conn.now).now (state S.Store tx.new.conn.now).now row.now × IsTrue (state S.Store tx.new.conn.now).in_transaction) }
@@ -39,11 +43,7 @@ fn put_tap<S: Alter>(tx: &mut Transaction<'_, S>, layout: &Layout, row: &Record)
     ensures survives { Survives (state S.Store tx.old.conn.now) (state S.Store tx.new.conn.now) (λ _. ⊥) }
 {
     let cells = cells_of(row);
-    match change(
-        tx,
-        PUT_TAP,
-        &cells,
-    ) {
+    match change(tx, PUT_TAP, &cells) {
         Ok(_) => Ok(()),
         Err(fault) => Err(fault),
     }
@@ -63,18 +63,18 @@ fn put_link<S: Alter>(
     ensures survives { Survives (state S.Store tx.old.conn.now) (state S.Store tx.new.conn.now) (λ _. ⊥) }
 {
     let cells = [parameter(u64::from(device.get())), parameter(upto)];
-    match change(
-        tx,
-        PUT_LINK,
-        &cells,
-    ) {
+    match change(tx, PUT_LINK, &cells) {
         Ok(_) => Ok(()),
         Err(fault) => Err(fault),
     }
 }
 
 // The row and the greatest link of its device.
-fn put_row<S: Alter>(tx: &mut Transaction<'_, S>, layout: &Layout, row: &Record) -> Result<(), Fault>
+fn put_row<S: Alter>(
+    tx: &mut Transaction<'_, S>,
+    layout: &Layout,
+    row: &Record,
+) -> Result<(), Fault>
     ensures same_reference { tx.new.conn.ghost_name ≡ tx.old.conn.ghost_name }
     ensures puts { HasCleanDisk (state S.Store tx.new.conn.now) → IsTrue (state S.Store tx.old.conn.now).in_transaction → (state S.Store tx.old.conn.now).now.schema ≡ schema_in layout.now → AreReadable (ours layout.now (state S.Store tx.old.conn.now).now.trees)
         → OnOk result (Becomes layout.now (state S.Store tx.new.conn.now).now (with_tap row.now (held_of (ours layout.now (state S.Store tx.old.conn.now).now.trees))) × IsTrue (state S.Store tx.new.conn.now).in_transaction) }
@@ -130,11 +130,7 @@ fn put_statement<S: Alter>(
     ensures survives { Survives (state S.Store tx.old.conn.now) (state S.Store tx.new.conn.now) (λ _. ⊥) }
 {
     let cells = cells_stated(statement);
-    match change(
-        tx,
-        PUT_STATEMENT,
-        &cells,
-    ) {
+    match change(tx, PUT_STATEMENT, &cells) {
         Ok(_) => Ok(()),
         Err(fault) => Err(fault),
     }
@@ -184,11 +180,7 @@ fn cut_rows<S: Alter>(
         parameter(u64::from(device.get())),
         parameter(upto),
     ];
-    match change(
-        tx,
-        CUT_ROWS,
-        &asked,
-    ) {
+    match change(tx, CUT_ROWS, &asked) {
         Ok(count) => Ok(count),
         Err(fault) => Err(fault),
     }

@@ -16,6 +16,8 @@ mod day;
 #[cfg(test)]
 mod device;
 #[cfg(test)]
+mod endings;
+#[cfg(test)]
 mod frame;
 #[cfg(test)]
 mod inbox_queue;

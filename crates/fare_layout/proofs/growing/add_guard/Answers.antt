@@ -1,4 +1,4 @@
-use Rattle.std.proofs.Common.{◌≡◌, ◌∙◌}
+use Rattle.std.proofs.Common.{◌∙◌}
 use Rattle.fare_layout.proofs.growing.add_guard.Goals as goal
 
 pub automatic-requires : goal.automatic-requires

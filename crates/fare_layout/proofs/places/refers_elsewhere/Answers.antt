@@ -1,5 +1,4 @@
-use Rattle.std.proofs.Common.{◌≡◌, ◌↔◌, IsTrue, IfSome, find, ◌≢◌}
-use Rattle.sqlite_schema.specs.Names.{same_name}
+use Rattle.std.proofs.Common.{◌↔◌, IsTrue}
 use Rattle.fare_layout.specs.Layouts.{RefersElsewhere}
 use Rattle.fare_layout.proofs.places.refers_elsewhere.Goals as goal
 

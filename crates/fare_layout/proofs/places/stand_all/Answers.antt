@@ -1,4 +1,4 @@
-use Rattle.std.proofs.Common.{◌≡◌, length, arith}
+use Rattle.std.proofs.Common.{arith}
 use Rattle.fare_layout.proofs.Four.{four_long}
 use Rattle.fare_layout.proofs.places.stand_all.Goals as goal
 

@@ -1,6 +1,6 @@
 use Rattle.std.specs.Prelude.{ℕ}
-use Rattle.fare_hub.specs.declared.ending.Ending.{Ending}
-use Rattle.fare_hub.specs.declared.ending.Ending.TheVariants.{Done, Failed, Refused}
+use Rattle.fare_run.specs.declared.ending.Ending.{Ending}
+use Rattle.fare_run.specs.declared.ending.Ending.TheVariants.{Done, Failed, Refused}
 
 -- the program's status
 abbrev pub status_of : Ending → ℕ

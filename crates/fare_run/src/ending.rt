@@ -1,5 +1,5 @@
 ghost use Rattle.std.specs.Prelude.{◌≡◌};
-ghost use Rattle.fare_hub.specs.Endings.{status_of};
+ghost use Rattle.fare_run.specs.Endings.{status_of};
 
 /// How a run of the program ends.
 #[derive(Clone, Copy, PartialEq, Eq, Debug)]
