@@ -26,10 +26,10 @@ use Rattle.fare_tables.proofs.Terms.{chosen, matched, eq_holds, one_term, two_te
 use Rattle.fare_tables.proofs.Rows.{all_of, held_one}
 use Rattle.fare_tables.proofs.Counting.{found, count_answer}
 use Rattle.fare_ledger.specs.declared.lane.Lane.{Lane}
-use Rattle.fare_ledger.specs.declared.order.Kind.TheVariants as kind
-use Rattle.fare_ledger.specs.declared.order.Order.{Order}
-use Rattle.fare_ledger.specs.Orders.{schema_in, tree_in, ours, at_tree}
-use Rattle.fare_ledger.proofs.Ordered.{each_low}
+use Rattle.fare_layout.specs.declared.place.Kind.TheVariants as kind
+use Rattle.fare_ledger.specs.declared.layout.Layout.{Layout}
+use Rattle.fare_ledger.specs.Layouts.{schema_in, tree_in, ours, at_tree}
+use Rattle.fare_ledger.proofs.Placed.{each_low}
 use Rattle.fare_ledger.specs.Tables.{lane_query, stated_terms, stated_query, day_terms, begun_terms}
 use Rattle.fare_ledger.specs.Held.{TapRow, StatedRow, lane_row, IsLane, lane_of, tap_cells, tap_of, IsTap, stated_cells, stated_of, IsStated, is_of, stated_in, is_on, is_begun}
 use Rattle.fare_ledger.specs.Words.{AreApart}
@@ -68,19 +68,19 @@ moved q tree number db other params rows same a = record {
 over : (db : Trees) (tree : ℕ) → nat_le (2 ^ 31) tree ≡ false → overlay db [] tree ≡ db tree
 over db tree low = rw low refl
 
-pub at_meta : (w : Order) (q : Query) (db : Trees) (params : Row) (rows : List Row) → IsAnswer (at_tree (tree_in w kind.Meta) q) (overlay db []) params rows → IsAnswer (at_tree 0 q) (overlay (ours w db) []) params rows
+pub at_meta : (w : Layout) (q : Query) (db : Trees) (params : Row) (rows : List Row) → IsAnswer (at_tree (tree_in w kind.Meta) q) (overlay db []) params rows → IsAnswer (at_tree 0 q) (overlay (ours w db) []) params rows
 unfolding ours
 at_meta w q db params rows = moved q (tree_in w kind.Meta) 0 db (overlay (ours w db) []) params rows (over db (tree_in w kind.Meta) (each_low w).meta)
 
-pub at_lane : (w : Order) (q : Query) (db : Trees) (params : Row) (rows : List Row) → IsAnswer (at_tree (tree_in w kind.Lane) q) (overlay db []) params rows → IsAnswer (at_tree 1 q) (overlay (ours w db) []) params rows
+pub at_lane : (w : Layout) (q : Query) (db : Trees) (params : Row) (rows : List Row) → IsAnswer (at_tree (tree_in w kind.Device) q) (overlay db []) params rows → IsAnswer (at_tree 1 q) (overlay (ours w db) []) params rows
 unfolding ours
-at_lane w q db params rows = moved q (tree_in w kind.Lane) 1 db (overlay (ours w db) []) params rows (over db (tree_in w kind.Lane) (each_low w).lane)
+at_lane w q db params rows = moved q (tree_in w kind.Device) 1 db (overlay (ours w db) []) params rows (over db (tree_in w kind.Device) (each_low w).lane)
 
-pub at_tap : (w : Order) (q : Query) (db : Trees) (params : Row) (rows : List Row) → IsAnswer (at_tree (tree_in w kind.Tap) q) (overlay db []) params rows → IsAnswer (at_tree 2 q) (overlay (ours w db) []) params rows
+pub at_tap : (w : Layout) (q : Query) (db : Trees) (params : Row) (rows : List Row) → IsAnswer (at_tree (tree_in w kind.Tap) q) (overlay db []) params rows → IsAnswer (at_tree 2 q) (overlay (ours w db) []) params rows
 unfolding ours
 at_tap w q db params rows = moved q (tree_in w kind.Tap) 2 db (overlay (ours w db) []) params rows (over db (tree_in w kind.Tap) (each_low w).tap)
 
-pub at_stated : (w : Order) (q : Query) (db : Trees) (params : Row) (rows : List Row) → IsAnswer (at_tree (tree_in w kind.Stated) q) (overlay db []) params rows → IsAnswer (at_tree 4 q) (overlay (ours w db) []) params rows
+pub at_stated : (w : Layout) (q : Query) (db : Trees) (params : Row) (rows : List Row) → IsAnswer (at_tree (tree_in w kind.Stated) q) (overlay db []) params rows → IsAnswer (at_tree 4 q) (overlay (ours w db) []) params rows
 unfolding ours
 at_stated w q db params rows = moved q (tree_in w kind.Stated) 4 db (overlay (ours w db) []) params rows (over db (tree_in w kind.Stated) (each_low w).stated)
 
@@ -113,7 +113,7 @@ lane_answer db d rows ok a =
           inr (shown (o ∷ []) (one_permutation o a.ordered (subst (λ k. IsPermutation k a.ordered) kept a.same)) ∙ (λ i. (taken i ∷ closed i ∷ []) ∷ [])))
     ]
 
-pub lane_row_is : (w : Order) (old new : State) (d : ℕ) (row : Row) → old.now.schema ≡ schema_in w → AreRows IsLane (ours w old.now.trees 1) → QueriesRow lane_text (int d ∷ []) old new (Ok row) → row ≡ shown_lane (lane_of (held (ours w old.now.trees 1) d))
+pub lane_row_is : (w : Layout) (old new : State) (d : ℕ) (row : Row) → old.now.schema ≡ schema_in w → AreRows IsLane (ours w old.now.trees 1) → QueriesRow lane_text (int d ∷ []) old new (Ok row) → row ≡ shown_lane (lane_of (held (ours w old.now.trees 1) d))
 lane_row_is w old new d row has ok h =
     let got = (first_as lane_text (int d ∷ []) old new (schema_in w) has _ (lane_meant w).command_is (lane_meant w).plain (lane_meant w).unlisted row h).1 in
     let a : IsAnswer lane_query (overlay (ours w old.now.trees) []) (int d ∷ []) (row ∷ got.0) = at_lane w lane_query old.now.trees (int d ∷ []) (row ∷ got.0) (got.1 Null) in
@@ -122,7 +122,7 @@ lane_row_is w old new d row has ok h =
       | inr one ↦ (let e = one in cc)
     ]
 
-pub lane_none : (w : Order) (old new : State) (d : ℕ) → old.now.schema ≡ schema_in w → AreRows IsLane (ours w old.now.trees 1) → Shown lane_text (int d ∷ []) old new [] → held (ours w old.now.trees 1) d ≡ None
+pub lane_none : (w : Layout) (old new : State) (d : ℕ) → old.now.schema ≡ schema_in w → AreRows IsLane (ours w old.now.trees 1) → Shown lane_text (int d ∷ []) old new [] → held (ours w old.now.trees 1) d ≡ None
 lane_none w old new d has ok shown =
     let read = reads_as lane_text (int d ∷ []) old new (schema_in w) has _ (lane_meant w).command_is (lane_meant w).plain (lane_meant w).unlisted [] shown in
     elim (lane_answer (ours w old.now.trees) d [] ok (at_lane w lane_query old.now.trees (int d ∷ []) [] (read.answer Null))) [
@@ -180,7 +180,7 @@ said_answer db d y rows ok apart a =
           inr ((stated_of one.0).count, shown (o ∷ []) (one_permutation o a.ordered (subst (λ k. IsPermutation k a.ordered) kept a.same)) ∙ ap (λ v. (v ∷ []) ∷ []) count, one.3))
     ]
 
-pub said_row : (w : Order) (old new : State) (d y n : ℕ) (row : Row) → old.now.schema ≡ schema_in w → AreRows IsStated (ours w old.now.trees 4) → AreApart (map stated_of (ours w old.now.trees 4)) → QueriesRow stated_text (asked d y) old new (Ok row) → column row 0 ≡ int n
+pub said_row : (w : Layout) (old new : State) (d y n : ℕ) (row : Row) → old.now.schema ≡ schema_in w → AreRows IsStated (ours w old.now.trees 4) → AreApart (map stated_of (ours w old.now.trees 4)) → QueriesRow stated_text (asked d y) old new (Ok row) → column row 0 ≡ int n
     → Some n ≡ stated_in (map stated_of (ours w old.now.trees 4)) d y
 said_row w old new d y n row has ok apart h is =
     let got = (first_as stated_text (asked d y) old new (schema_in w) has _ (stated_meant w).command_is (stated_meant w).plain (stated_meant w).unlisted row h).1 in
@@ -193,7 +193,7 @@ said_row w old new d y n row has ok apart h is =
           ap {B = Option ℕ} Some number ∙ sym one.2)
     ]
 
-pub said_none : (w : Order) (old new : State) (d y : ℕ) → old.now.schema ≡ schema_in w → AreRows IsStated (ours w old.now.trees 4) → AreApart (map stated_of (ours w old.now.trees 4)) → Shown stated_text (asked d y) old new []
+pub said_none : (w : Layout) (old new : State) (d y : ℕ) → old.now.schema ≡ schema_in w → AreRows IsStated (ours w old.now.trees 4) → AreApart (map stated_of (ours w old.now.trees 4)) → Shown stated_text (asked d y) old new []
     → None ≡ stated_in (map stated_of (ours w old.now.trees 4)) d y
 said_none w old new d y has ok apart shown =
     let read = reads_as stated_text (asked d y) old new (schema_in w) has _ (stated_meant w).command_is (stated_meant w).plain (stated_meant w).unlisted [] shown in
@@ -210,7 +210,7 @@ day_cell id t d y = rw (eq_holds t.device d, eq_holds t.tap.day y) (two_terms (t
 day_each : (d y : ℕ) (r : Row) → IsTap r → matches_as Null (λ _. []) day_terms end (asked d y ∷ r ∷ []) ≡ chosen (is_on d y (tap_of r)) (asked d y ∷ r ∷ [])
 day_each d y r ok = subst (λ x. matches_as Null (λ _. []) day_terms end (asked d y ∷ x ∷ []) ≡ chosen (is_on d y (tap_of x)) (asked d y ∷ x ∷ [])) (sym ok) (day_cell (id_of r) (tap_of r) d y)
 
-pub day_counted : (w : Order) (old new : State) (d y : ℕ) (row : Row) → old.now.schema ≡ schema_in w → AreRows IsTap (ours w old.now.trees 2) → QueriesRow day_text (asked d y) old new (Ok row) → row ≡ int (counted (length (filter (is_on d y) (map tap_of (ours w old.now.trees 2))))) ∷ []
+pub day_counted : (w : Layout) (old new : State) (d y : ℕ) (row : Row) → old.now.schema ≡ schema_in w → AreRows IsTap (ours w old.now.trees 2) → QueriesRow day_text (asked d y) old new (Ok row) → row ≡ int (counted (length (filter (is_on d y) (map tap_of (ours w old.now.trees 2))))) ∷ []
 day_counted w old new d y row has ok h =
     let got = (first_as day_text (asked d y) old new (schema_in w) has _ (day_meant w).command_is (day_meant w).plain (day_meant w).unlisted row h).1 in
     let a : IsAnswer (count_query 2 day_terms) (overlay (ours w old.now.trees) []) (asked d y) (row ∷ got.0) = at_tap w (count_query 2 day_terms) old.now.trees (asked d y) (row ∷ got.0) (got.1 Null) in
@@ -242,7 +242,7 @@ begun_cell id k c = rw (or_holds k c) (one_term (nat_lt 0 k || nat_lt 0 c) ([] �
 begun_each : (r : Row) → IsLane r → matches_as Null (λ _. []) begun_terms end ([] ∷ r ∷ []) ≡ chosen (is_begun r) ([] ∷ r ∷ [])
 begun_each r ok = subst (λ x. matches_as Null (λ _. []) begun_terms end ([] ∷ x ∷ []) ≡ chosen (is_begun x) ([] ∷ x ∷ [])) (sym ok) (begun_cell (id_of r) (nat_in (column r 2)) (nat_in (column r 3)))
 
-pub begun_counted : (w : Order) (old new : State) (row : Row) → old.now.schema ≡ schema_in w → AreRows IsLane (ours w old.now.trees 1) → QueriesRow begun_text [] old new (Ok row) → row ≡ int (counted (length (filter is_begun (ours w old.now.trees 1)))) ∷ []
+pub begun_counted : (w : Layout) (old new : State) (row : Row) → old.now.schema ≡ schema_in w → AreRows IsLane (ours w old.now.trees 1) → QueriesRow begun_text [] old new (Ok row) → row ≡ int (counted (length (filter is_begun (ours w old.now.trees 1)))) ∷ []
 begun_counted w old new row has ok h =
     let got = (first_as begun_text [] old new (schema_in w) has _ (begun_meant w).command_is (begun_meant w).plain (begun_meant w).unlisted row h).1 in
     let a : IsAnswer (count_query 1 begun_terms) (overlay (ours w old.now.trees) []) [] (row ∷ got.0) = at_lane w (count_query 1 begun_terms) old.now.trees [] (row ∷ got.0) (got.1 Null) in
@@ -255,7 +255,7 @@ all_found : (rows : List Row) → length (flat_map (λ r. matches_as Null (λ _.
 all_found [] = refl
 all_found (r ∷ rows) = ap (λ n. suc n) (all_found rows)
 
-pub taps_counted : (w : Order) (old new : State) (row : Row) → old.now.schema ≡ schema_in w → QueriesRow taps_text [] old new (Ok row) → row ≡ int (counted (length (map tap_of (ours w old.now.trees 2)))) ∷ []
+pub taps_counted : (w : Layout) (old new : State) (row : Row) → old.now.schema ≡ schema_in w → QueriesRow taps_text [] old new (Ok row) → row ≡ int (counted (length (map tap_of (ours w old.now.trees 2)))) ∷ []
 taps_counted w old new row has h =
     let got = (first_as taps_text [] old new (schema_in w) has _ (taps_meant w).command_is (taps_meant w).plain (taps_meant w).unlisted row h).1 in
     let a : IsAnswer (count_query 2 []) (overlay (ours w old.now.trees) []) [] (row ∷ got.0) = at_tap w (count_query 2 []) old.now.trees [] (row ∷ got.0) (got.1 Null) in
@@ -263,7 +263,7 @@ taps_counted w old new row has h =
     let first : row ≡ int (counted (length (found 2 [] (overlay (ours w old.now.trees) []) []))) ∷ [] = cc in
     first ∙ ap (λ n. int (counted n) ∷ []) (all_found (ours w old.now.trees 2) ∙ sym (length-map (ours w old.now.trees 2) tap_of))
 
-pub statements_counted : (w : Order) (old new : State) (row : Row) → old.now.schema ≡ schema_in w → QueriesRow statements_text [] old new (Ok row) → row ≡ int (counted (length (map stated_of (ours w old.now.trees 4)))) ∷ []
+pub statements_counted : (w : Layout) (old new : State) (row : Row) → old.now.schema ≡ schema_in w → QueriesRow statements_text [] old new (Ok row) → row ≡ int (counted (length (map stated_of (ours w old.now.trees 4)))) ∷ []
 statements_counted w old new row has h =
     let got = (first_as statements_text [] old new (schema_in w) has _ (statements_meant w).command_is (statements_meant w).plain (statements_meant w).unlisted row h).1 in
     let a : IsAnswer (count_query 4 []) (overlay (ours w old.now.trees) []) [] (row ∷ got.0) = at_stated w (count_query 4 []) old.now.trees [] (row ∷ got.0) (got.1 Null) in

@@ -1,9 +1,9 @@
 pub mod Texts
-pub mod Ordered
-pub mod Made
+pub mod Placed
 pub mod Found
 pub mod Links
 pub mod Puts
+pub mod Own
 pub mod Makes
 pub mod Taken
 pub mod Days

@@ -33,13 +33,13 @@ use Rattle.fare_tables.proofs.Lists.{member, of_filter}
 use Rattle.fare_tables.proofs.Rows.{all_of, held_one}
 use Rattle.fare_tables.proofs.Statements.{made, cast_int, cast_null, went, same_value}
 use Rattle.fare_tables.proofs.Terms.{chosen, matched, eq_holds, one_term}
-use Rattle.fare_ledger.specs.declared.order.Kind.TheVariants.{Lane}
-use Rattle.fare_ledger.specs.declared.order.Order.{Order}
-use Rattle.fare_ledger.specs.Orders.{schema_in, tree_in, ours, at_tree}
+use Rattle.fare_layout.specs.declared.place.Kind.TheVariants.{Device}
+use Rattle.fare_ledger.specs.declared.layout.Layout.{Layout}
+use Rattle.fare_ledger.specs.Layouts.{schema_in, tree_in, ours, at_tree}
 use Rattle.fare_ledger.specs.Tables.{lane_table, renew_query}
 use Rattle.fare_ledger.specs.Held.{PutsLane, lane_row, IsLane}
 use Rattle.fare_ledger.proofs.Texts.{lane_terms, put_lane_text, put_lane_command, put_lane_meant}
-use Rattle.fare_ledger.proofs.Ordered.{no_works, no_shares, lane_placed, each, at_found, tap_is_not_lane, stated_is_not_lane, meta_is_not_lane}
+use Rattle.fare_ledger.proofs.Placed.{no_works, no_shares, lane_placed, each, at_found, tap_is_not_lane, stated_is_not_lane, meta_is_not_lane}
 use Rattle.fare_ledger.proofs.Found.{lane_ids, at_lane}
 
 -- ---- the row that the update reads
@@ -81,7 +81,7 @@ renews db d k c x rows ok has is a =
 
 -- ---- the conflict
 
-conflict_of : (way : Order) (a v w d k c : ℕ) → conflicts (Some (0 ∷ [])) (schema_in way).indexes (lane_table (tree_in way Lane)) (lane_row d k c) (lane_row a v w) ≡ (a == d)
+conflict_of : (way : Layout) (a v w d k c : ℕ) → conflicts (Some (0 ∷ [])) (schema_in way).indexes (lane_table (tree_in way Device)) (lane_row d k c) (lane_row a v w) ≡ (a == d)
 unfolding first_key
 conflict_of way a v w d k c = rw (no_shares way (lane_row d k c) (lane_row a v w), eq_holds a d) (go (a == d))
   where
@@ -89,29 +89,29 @@ conflict_of way a v w d k c = rw (no_shares way (lane_row d k c) (lane_row a v w
     go true = refl
     go false = refl
 
-conflict_id : (way : Order) (r : Row) (d k c : ℕ) → IsLane r → conflicts (Some (0 ∷ [])) (schema_in way).indexes (lane_table (tree_in way Lane)) (lane_row d k c) r ≡ true → id_of r ≡ d
+conflict_id : (way : Layout) (r : Row) (d k c : ℕ) → IsLane r → conflicts (Some (0 ∷ [])) (schema_in way).indexes (lane_table (tree_in way Device)) (lane_row d k c) r ≡ true → id_of r ≡ d
 conflict_id way r d k c ok is =
-    let same : (id_of r == d) ≡ true = sym (conflict_of way (id_of r) (nat_in (column r 2)) (nat_in (column r 3)) d k c) ∙ subst (λ x. conflicts (Some (0 ∷ [])) (schema_in way).indexes (lane_table (tree_in way Lane)) (lane_row d k c) x ≡ true) ok is in
+    let same : (id_of r == d) ≡ true = sym (conflict_of way (id_of r) (nat_in (column r 2)) (nat_in (column r 3)) d k c) ∙ subst (λ x. conflicts (Some (0 ∷ [])) (schema_in way).indexes (lane_table (tree_in way Device)) (lane_row d k c) x ≡ true) ok is in
     grind (arith, nat_tests)
 
 -- ---- the ways to put the row in
 
-abbrev pub IsPut : Order → Trees → Trees → ℕ → ℕ → ℕ → Type 0
+abbrev pub IsPut : Layout → Trees → Trees → ℕ → ℕ → ℕ → Type 0
 IsPut way db next d k c =
     ((ours way next 1 ≡ put_row (lane_row d k c) (ours way db 1)) ⊎ (ours way next 1 ≡ put_row (lane_row d k c) (without_rowid (pos d) (ours way db 1)))) × (ours way next 0 ≡ ours way db 0) × (ours way next 2 ≡ ours way db 2) × (ours way next 4 ≡ ours way db 4)
 
-module _ (way : Order) (limit : Option ℕ) (keys : Keys) (d k c : ℕ) where
+module _ (way : Layout) (limit : Option ℕ) (keys : Keys) (d k c : ℕ) where
   abbrev pub task : Task
-  task = record { limit = limit; keys = keys; schema = schema_in way; table = lane_table (tree_in way Lane); params = int d ∷ int k ∷ int c ∷ [] }
+  task = record { limit = limit; keys = keys; schema = schema_in way; table = lane_table (tree_in way Device); params = int d ∷ int k ∷ int c ∷ [] }
 
   puts : (db : Trees) (w : Written) → Puts task (lane_row d k c) db (Ok w) → IsPut way db w.trees d k c
   unfolding ours
   puts db w h =
       let it = went h in
-      let edit = edit_of db (lane_table (tree_in way Lane)) [] Given 0 (lane_row d k c ∷ []) in
+      let edit = edit_of db (lane_table (tree_in way Device)) [] Given 0 (lane_row d k c ∷ []) in
       let next : w.trees ≡ it.0 = ap (λ (x : Written). x.trees) (same_value it.2) in
-      let step = one_step (schema_in way) keys db it.0 edit (no_works way keys db edit) it.1 in
-      let kept = each (λ tree. tree ≢ tree_in way Lane → it.0 tree ≡ db tree) way step.tables in
+      let step = one_step (schema_in way) keys db it.0 edit (no_works way Device keys db edit refl) it.1 in
+      let kept = each (λ tree. tree ≢ tree_in way Device → it.0 tree ≡ db tree) way step.tables in
       let is : edited db edit ≡ put_row (lane_row d k c) (ours way db 1) = simp (cast_int, cast_null) in (
         inl (ap (λ (t : Trees). ours way t 1) next ∙ step.rows ∙ is),
         ap (λ (t : Trees). ours way t 0) next ∙ kept.meta (meta_is_not_lane way),
@@ -123,17 +123,17 @@ module _ (way : Order) (limit : Option ℕ) (keys : Keys) (d k c : ℕ) where
   clears db w [] h = puts db w h
   clears db w (x ∷ more) h = puts db w h
 
-  updates : (db : Trees) (w : Written) (x : Row) → AreRows IsLane (ours way db 1) → Has (ours way db 1) x → id_of x ≡ d → Updates task (record { lets = []; body = at_tree (tree_in way Lane) renew_query }) (given d k c) db (Ok w) → IsPut way db w.trees d k c
+  updates : (db : Trees) (w : Written) (x : Row) → AreRows IsLane (ours way db 1) → Has (ours way db 1) x → id_of x ≡ d → Updates task (record { lets = []; body = at_tree (tree_in way Device) renew_query }) (given d k c) db (Ok w) → IsPut way db w.trees d k c
   unfolding ours
   updates db w x ok has is h =
       let it = went h in
       let rows : it.0 ≡ (int d ∷ int d ∷ Null ∷ int k ∷ int c ∷ []) ∷ [] = renews (ours way db) d k c x it.0 ok has is (at_lane way renew_query db (given d k c) it.0 (it.1.answer Null)) in
-      let edit = edit_of db (lane_table (tree_in way Lane)) (ids_of it.0) Given 1 it.0 in
+      let edit = edit_of db (lane_table (tree_in way Device)) (ids_of it.0) Given 1 it.0 in
       let done = went it.2 in
       let next : w.trees ≡ done.0 = ap (λ (x : Written). x.trees) (same_value done.2) in
-      let step = one_step (schema_in way) keys db done.0 edit (no_works way keys db edit) done.1 in
-      let kept = each (λ tree. tree ≢ tree_in way Lane → done.0 tree ≡ db tree) way step.tables in
-      let is : edited db edit ≡ put_row (lane_row d k c) (without_rowid (pos d) (ours way db 1)) = ap (λ all. edited db (edit_of db (lane_table (tree_in way Lane)) (ids_of all) Given 1 all)) rows ∙ simp (cast_int, cast_null) in (
+      let step = one_step (schema_in way) keys db done.0 edit (no_works way Device keys db edit refl) done.1 in
+      let kept = each (λ tree. tree ≢ tree_in way Device → done.0 tree ≡ db tree) way step.tables in
+      let is : edited db edit ≡ put_row (lane_row d k c) (without_rowid (pos d) (ours way db 1)) = ap (λ all. edited db (edit_of db (lane_table (tree_in way Device)) (ids_of all) Given 1 all)) rows ∙ simp (cast_int, cast_null) in (
         inr (ap (λ (t : Trees). ours way t 1) next ∙ step.rows ∙ is),
         ap (λ (t : Trees). ours way t 0) next ∙ kept.meta (meta_is_not_lane way),
         ap (λ (t : Trees). ours way t 2) next ∙ kept.tap (tap_is_not_lane way),
@@ -141,9 +141,9 @@ module _ (way : Order) (limit : Option ℕ) (keys : Keys) (d k c : ℕ) where
       )
 
   abbrev clause : Upsert
-  clause = record { target = Some (0 ∷ []); update = Some (record { lets = []; body = at_tree (tree_in way Lane) renew_query }) }
+  clause = record { target = Some (0 ∷ []); update = Some (record { lets = []; body = at_tree (tree_in way Device) renew_query }) }
 
-  meets : (db : Trees) (w : Written) (found : List Row) → AreRows IsLane (ours way db 1) → AreConflicts (Some (0 ∷ [])) (schema_in way).indexes (lane_table (tree_in way Lane)) (ours way db 1) (lane_row d k c) found
+  meets : (db : Trees) (w : Written) (found : List Row) → AreRows IsLane (ours way db 1) → AreConflicts (Some (0 ∷ [])) (schema_in way).indexes (lane_table (tree_in way Device)) (ours way db 1) (lane_row d k c) found
       → Meets task (Upserts task Abort (lane_row d k c) db []) (lane_row d k c) db clause found (Ok w) → IsPut way db w.trees d k c
   unfolding ours
   meets db w [] ok all h = clears db w h.0 h.2
@@ -151,7 +151,7 @@ module _ (way : Order) (limit : Option ℕ) (keys : Keys) (d k c : ℕ) where
       let it = all.sound there (inl refl) in
       let id : id_of it.0 ≡ d = conflict_id way it.0 d k c (member IsLane (ours way db 1) it.0 (all_of IsLane (ours way db 1) ok) it.1) it.2 in
       let at : rowid there ≡ int d = ap rowid it.3 ∙ ap rowid (member IsLane (ours way db 1) it.0 (all_of IsLane (ours way db 1) ok) it.1) ∙ ap int id in
-      updates db w it.0 ok it.1 id (subst (λ v. Updates task (record { lets = []; body = at_tree (tree_in way Lane) renew_query }) (int d ∷ int k ∷ int c ∷ v ∷ int d ∷ int d ∷ int k ∷ int c ∷ []) db (Ok w)) at h)
+      updates db w it.0 ok it.1 id (subst (λ v. Updates task (record { lets = []; body = at_tree (tree_in way Device) renew_query }) (int d ∷ int k ∷ int c ∷ v ∷ int d ∷ int d ∷ int k ∷ int c ∷ []) db (Ok w)) at h)
 
   upserts : (db : Trees) (w : Written) → AreRows IsLane (ours way db 1) → Upserts task Abort (lane_row d k c) db (clause ∷ []) (Ok w) → IsPut way db w.trees d k c
   unfolding ours
@@ -165,7 +165,7 @@ module _ (way : Order) (limit : Option ℕ) (keys : Keys) (d k c : ℕ) where
   tries db w ok (inl h) = absurd (let e = h.1 in cc)
   tries db w ok (inr h) = judged db w h.0 ok h.2
 
-  new_given : (rows : List Row) (top : ℤ) → with_rowid (rowids_for (lane_table (tree_in way Lane)) top) rows (cast_row (lane_table (tree_in way Lane)) (lane_row d k c)) ≡ lane_row d k c
+  new_given : (rows : List Row) (top : ℤ) → with_rowid (rowids_for (lane_table (tree_in way Device)) top) rows (cast_row (lane_table (tree_in way Device)) (lane_row d k c)) ≡ lane_row d k c
   new_given rows top = simp (cast_int, cast_null)
 
   tries_each : (db : Trees) (done : Written × ℤ) (top : ℤ) → AreRows IsLane (ours way db 1) → TriesEach task Abort (clause ∷ []) (lane_row d k c ∷ []) top (nothing db) (Ok done) → IsPut way db done.0.trees d k c
@@ -186,7 +186,7 @@ module _ (way : Order) (limit : Option ℕ) (keys : Keys) (d k c : ℕ) where
       let end : w.trees ≡ tried.0.0.trees = ap (λ (x : Written). x.trees) (same_value counted.2) ∙ same_value counted.1 in
       subst (λ t. IsPut way db t d k c) (sym end) put
 
-pub puts_lane : (way : Order) (old new : State) (d k c : ℕ) (count : ℕ) → old.now.schema ≡ schema_in way → AreRows IsLane (ours way old.now.trees 1) → Executes put_lane_text (int d ∷ int k ∷ int c ∷ []) old new (Ok count) → PutsLane way old.now new.now d k c
+pub puts_lane : (way : Layout) (old new : State) (d k c : ℕ) (count : ℕ) → old.now.schema ≡ schema_in way → AreRows IsLane (ours way old.now.trees 1) → Executes put_lane_text (int d ∷ int k ∷ int c ∷ []) old new (Ok count) → PutsLane way old.now new.now d k c
 puts_lane way old new d k c count has ok h =
     let params = int d ∷ int k ∷ int c ∷ [] in
     let command = put_lane_command way in

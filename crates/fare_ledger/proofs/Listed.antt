@@ -22,8 +22,8 @@ use Rattle.fare_record.specs.Values.{RecordValue}
 use Rattle.fare_tables.specs.Cells.{nat_in, int, id_of, AreRows}
 use Rattle.fare_tables.proofs.Terms.{chosen, matched, shown_as, ge_holds, le_holds, two_terms}
 use Rattle.fare_tables.proofs.Rows.{all_of}
-use Rattle.fare_ledger.specs.declared.order.Order.{Order}
-use Rattle.fare_ledger.specs.Orders.{schema_in, ours}
+use Rattle.fare_ledger.specs.declared.layout.Layout.{Layout}
+use Rattle.fare_ledger.specs.Layouts.{schema_in, ours}
 use Rattle.fare_ledger.specs.Tables.{between_terms, between_query}
 use Rattle.fare_ledger.specs.Held.{TapRow, tap_cells, tap_of, IsTap, is_between, tap_order, AreListed, IsListedOf, record_of}
 use Rattle.fare_ledger.specs.Shown.{ShowsRow, ShowRows}
@@ -123,7 +123,7 @@ shown_records owner [] (t ∷ taps) shows = absurd shows
 shown_records owner (r ∷ rows) [] shows = absurd shows
 shown_records owner (r ∷ rows) (t ∷ taps) shows = λ i. shown_record r owner t shows.0 i ∷ shown_records owner rows taps shows.1 i
 
-pub between_rows : {E : Type 0} (w : Order) (V : Type 0) (items : V → List RecordValue) (result : Result V E) (old new : State) (owner from to : ℕ) (rows : List Row) → old.now.schema ≡ schema_in w → AreRows IsTap (ours w old.now.trees 2) → Shown between_text (asked from to) old new rows
+pub between_rows : {E : Type 0} (w : Layout) (V : Type 0) (items : V → List RecordValue) (result : Result V E) (old new : State) (owner from to : ℕ) (rows : List Row) → old.now.schema ≡ schema_in w → AreRows IsTap (ours w old.now.trees 2) → Shown between_text (asked from to) old new rows
     → IfOk result (λ v. ShowRows owner rows (items v)) → IfOk result (λ v. IsListedOf owner (map tap_of (ours w old.now.trees 2)) from to (items v))
 between_rows w V items (Ok v) old new owner from to rows has ok shown shows =
     let read = reads_as between_text (asked from to) old new (schema_in w) has _ (between_meant w).command_is (between_meant w).plain (between_meant w).unlisted rows shown in

@@ -1,80 +1,90 @@
 -- The four tables in turn, and the row of meta.
-use Rattle.std.proofs.Common.{◌≡◌, ℕ, List, [], ◌∷◌, None, Ok, pos, refl, ap, subst, ◌∙◌, arith}
+use Rattle.std.proofs.Common.{◌≡◌, ◌≢◌, ◌+◌, ℕ, List, [], ◌∷◌, None, Ok, Err, Result, OnOk, pos, length, refl, ap, sym, subst, ◌∙◌, arith}
 use Rattle.sqlite.specs.declared.types.Value.TheVariants.{Null, Int}
 use Rattle.sqlite_value.specs.Order.{Row}
 use Rattle.sqlite.specs.Tree.{Trees}
-use Rattle.sqlite.specs.Term.{lit, col}
-use Rattle.sqlite.specs.Source.TheVariants.{Values}
-use Rattle.sqlite.specs.Command.TheVariants.{Insert}
 use Rattle.sqlite.specs.Edit.{edit_of, edited}
 use Rattle.sqlite.specs.Rowids.TheVariants.{Chosen}
 use Rattle.sqlite.specs.Does.{Does}
 use Rattle.sqlite.specs.Rows.{Written, Task}
+use Rattle.sqlite.specs.Schema.{Schema}
+use Rattle.sqlite.specs.Table.{Table}
+use Rattle.sqlite.specs.Change.{created}
 use Rattle.sqlite_schema.specs.declared.schema.Keys.TheVariants.{Enforced}
 use Rattle.sqlite.specs.Listing.{understood}
 use Rattle.sqlite.specs.Effect.{Database}
 use Rattle.sqlite.specs.State.{State, mode_of, Executes}
 use Rattle.sqlite.proofs.Callers.{statement_of, runs_as, one_step}
 use Rattle.fare_tables.specs.Cells.{int}
-use Rattle.fare_tables.specs.Making.{no_schema, Made}
+use Rattle.fare_tables.specs.Making.{Made}
 use Rattle.fare_tables.specs.Queries.{meta_table}
-use Rattle.fare_tables.proofs.Making.{made_at}
 use Rattle.fare_tables.proofs.Statements.{made, cast_int, cast_null, went, same_value}
-use Rattle.fare_ledger.specs.Tables.{one_table, two_tables, three_tables, ledger_schema, lane_table, tap_table, stated_table}
-use Rattle.fare_ledger.specs.Making.{IsBlank, IsNew}
-use Rattle.fare_ledger.proofs.Texts.{put_meta_text, put_meta_is, put_meta_plain}
+use Rattle.fare_layout.specs.declared.place.Kind.TheVariants.{Meta, Device, Tap, Stated}
+use Rattle.fare_layout.specs.Growing.{AreLast, Grows}
+use Rattle.fare_layout.specs.Layouts.{Stands}
+use Rattle.fare_layout.proofs.Grown.{first_made, stays_empty, one_longer, empty_there}
+use Rattle.fare_ledger.specs.declared.layout.Layout.{Layout}
+use Rattle.fare_ledger.specs.Layouts.{schema_in, tree_in, ours}
+use Rattle.fare_ledger.specs.Tables.{lane_table, tap_table, stated_table}
+use Rattle.fare_ledger.specs.Making.{Makes, IsBlank, IsNew, MakesNew}
+use Rattle.fare_ledger.proofs.Placed.{meta_stands, lane_stands, tap_stands, stated_stands, meta_placed, no_works, each, at_found, lane_is_not_meta, tap_is_not_meta, stated_is_not_meta}
+use Rattle.fare_ledger.proofs.Texts.{put_meta_text, put_meta_command, put_meta_meant}
 
-pub all_made : (a b c d e : Database) → a.schema ≡ no_schema → Made a b (meta_table 0) → Made b c (lane_table 0) → Made c d (tap_table 0) → Made d e (stated_table 0) → IsBlank e
-unfolding ledger_schema
-all_made a b c d e has first second third fourth =
-    let m1 = made_at a b no_schema (meta_table 0) has first in
-    let s1 : b.schema ≡ one_table = m1.schema in
-    let m2 = made_at b c one_table (lane_table 0) s1 second in
-    let s2 : c.schema ≡ two_tables = m2.schema in
-    let m3 = made_at c d two_tables (tap_table 0) s2 third in
-    let s3 : d.schema ≡ three_tables = m3.schema in
-    let m4 = made_at d e three_tables (stated_table 0) s3 fourth in
+-- the schema after one of them
+pub after : (a b : Database) (s next : Schema) (sql : List ℕ) → a.schema ≡ s → (g : Grows s sql next) → Made a b g.table → b.schema ≡ next
+after a b s next sql is g m = m.schema ∙ (λ i. created (is i) g.table) ∙ sym g.next_is
+
+pub all_made : (w : Layout) (a b c d e : Database) (t1 t2 t3 t4 : Table) → AreLast a.schema w.places → Made a b t1 → Made b c t2 → Made c d t3 → Made d e t4 → e.schema ≡ schema_in w → IsBlank w e
+unfolding ours
+all_made w a b c d e t1 t2 t3 t4 last m1 m2 m3 m4 is =
+    let first = stays_empty d e t4 _ _ m4 (stays_empty c d t3 _ _ m3 (stays_empty b c t2 _ _ m2 (first_made a b t1 m1))) in
+    let second = stays_empty d e t4 _ _ m4 (stays_empty c d t3 _ _ m3 (first_made b c t2 m2)) in
+    let third = stays_empty d e t4 _ _ m4 (first_made c d t3 m3) in
+    let fourth = first_made d e t4 m4 in
+    let one = one_longer a b t1 m1 in
+    let two = one_longer b c t2 m2 in
+    let three = one_longer c d t3 m3 in
+    let at_two : length a.schema.tables + 2 ≡ length c.schema.tables = omega (arith, one, two) in
+    let at_three : length a.schema.tables + 3 ≡ length d.schema.tables = omega (arith, one, two, three) in
+    let here = sym is in
     record {
-      schema = m4.schema;
-      meta = m4.others.0 ∙ m3.others.0 ∙ m2.others.0 ∙ m1.empty;
-      lanes = m4.others.1.0 ∙ m3.others.1.0 ∙ m2.empty;
-      taps = m4.others.1.1.0 ∙ m3.empty;
-      stated = m4.empty;
+      schema = is;
+      meta = empty_there e (meta_table 0) w.places.meta _ _ last.meta first (subst (λ s. Stands s (meta_table 0) w.places.meta) here (meta_stands w));
+      lanes = empty_there e (lane_table 1) w.places.device _ _ (last.device ∙ sym one) second (subst (λ s. Stands s (lane_table 1) w.places.device) here (lane_stands w));
+      taps = empty_there e (tap_table 2) w.places.tap _ _ (last.tap ∙ at_two) third (subst (λ s. Stands s (tap_table 2) w.places.tap) here (tap_stands w));
+      stated = empty_there e (stated_table 4) w.places.stated _ _ (last.stated ∙ at_three) fourth (subst (λ s. Stands s (stated_table 4) w.places.stated) here (stated_stands w));
     }
 
--- which schema each of the four starts from
-pub after_meta : (a b : Database) → a.schema ≡ no_schema → Made a b (meta_table 0) → b.schema ≡ one_table
-after_meta a b has h = (made_at a b no_schema (meta_table 0) has h).schema
+inserted : (owner : ℕ) (db : Trees) (tree : ℕ) (rows : List Row) → db tree ≡ [] → rows ≡ (Null ∷ Int (pos 1) ∷ int owner ∷ []) ∷ [] → edited db (edit_of db (meta_table tree) [] Chosen 0 rows) ≡ (Int (pos 1) ∷ Int (pos 1) ∷ int owner ∷ []) ∷ []
+inserted owner db tree rows none is = ap (λ all. edited db (edit_of db (meta_table tree) [] Chosen 0 all)) is ∙ rw none (simp (cast_int, cast_null))
 
-pub after_lane : (a b : Database) → a.schema ≡ one_table → Made a b (lane_table 0) → b.schema ≡ two_tables
-after_lane a b has h = (made_at a b one_table (lane_table 0) has h).schema
-
-pub after_tap : (a b : Database) → a.schema ≡ two_tables → Made a b (tap_table 0) → b.schema ≡ three_tables
-after_tap a b has h = (made_at a b two_tables (tap_table 0) has h).schema
-
-inserted : (owner : ℕ) (db : Trees) (rows : List Row) → db 0 ≡ [] → rows ≡ (Null ∷ Int (pos 1) ∷ int owner ∷ []) ∷ [] → edited db (edit_of db (meta_table 0) [] Chosen 0 rows) ≡ (Int (pos 1) ∷ Int (pos 1) ∷ int owner ∷ []) ∷ []
-inserted owner db rows none is = ap (λ all. edited db (edit_of db (meta_table 0) [] Chosen 0 all)) is ∙ rw none (simp (cast_int, cast_null))
-
-pub puts_meta : (owner : ℕ) (old new : State) (count : ℕ) → IsBlank old.now → Executes put_meta_text (int owner ∷ []) old new (Ok count) → IsNew owner new.now
-unfolding ledger_schema
-puts_meta owner old new count blank h =
-    let db = old.now.trees in
+pub puts_meta : (owner : ℕ) (w : Layout) (old new : State) (count : ℕ) → IsBlank w old.now → Executes put_meta_text (int owner ∷ []) old new (Ok count) → IsNew owner w new.now
+unfolding ours
+puts_meta owner w old new count blank h =
     let params = int owner ∷ [] in
-    let command = Insert 0 (Values (lit Null ∷ lit (Int (pos 1)) ∷ col 0 0 ∷ []) 3) in
-    let w = runs_as put_meta_text params old new ledger_schema blank.schema command put_meta_is put_meta_plain count h in
-    let text = statement_of put_meta_text (understood ledger_schema put_meta_text) in
-    let task : Task = record { limit = old.step_limit; keys = Enforced; schema = ledger_schema; table = meta_table 0; params = params } in
-    let done = made task (mode_of old) command db w.tally new.now (subst (λ s. Does old.step_limit (mode_of old) params (record old.now { schema = s }) text None command (Ok (w.tally, new.now))) blank.schema w.changed) in
+    let db = old.now.trees in
+    let table = meta_table (tree_in w Meta) in
+    let command = put_meta_command w in
+    let means = put_meta_meant w in
+    let run = runs_as put_meta_text params old new (schema_in w) blank.schema command means.command_is means.plain count h in
+    let text = statement_of put_meta_text (understood (schema_in w) put_meta_text) in
+    let task : Task = record { limit = old.step_limit; keys = Enforced; schema = schema_in w; table = table; params = params } in
+    let done = made task (mode_of old) command db run.tally new.now (at_found task (mode_of old) command db _ (run.tally, new.now) (meta_placed w) (subst (λ s. Does old.step_limit (mode_of old) params (record old.now { schema = s }) text None command (Ok (run.tally, new.now))) blank.schema run.changed)) in
     let given = went done.wrote in
     let written = went (went given.2).2 in
     let counted = went written.2 in
     let trees : new.now.trees ≡ written.0 = ap (λ (d : Database). d.trees) done.after_is ∙ ap (λ (it : Written). it.trees) (same_value counted.2) ∙ same_value counted.1 in
-    let step = one_step ledger_schema Enforced db written.0 (edit_of db (meta_table 0) [] Chosen 0 given.0) refl written.1 in
+    let step = one_step (schema_in w) Enforced db written.0 (edit_of db table [] Chosen 0 given.0) (no_works w Meta Enforced db (edit_of db table [] Chosen 0 given.0) refl) written.1 in
+    let kept = each (λ tree. tree ≢ tree_in w Meta → written.0 tree ≡ db tree) w step.tables in
     let at : (k : ℕ) → new.now.trees k ≡ written.0 k = λ k. ap (λ (t : Trees). t k) trees in
     record {
       schema = ap (λ (d : Database). d.schema) done.after_is;
-      meta = at 0 ∙ step.rows ∙ inserted owner db given.0 blank.meta given.1.1;
-      lanes = at 1 ∙ step.tables.1.0 (λ e. let e = e in omega arith) ∙ blank.lanes;
-      taps = at 2 ∙ step.tables.1.1.0 (λ e. let e = e in omega arith) ∙ blank.taps;
-      stated = at 4 ∙ step.tables.1.1.1.0 (λ e. let e = e in omega arith) ∙ blank.stated;
+      meta = at (tree_in w Meta) ∙ step.rows ∙ inserted owner db (tree_in w Meta) given.0 blank.meta given.1.1;
+      lanes = at (tree_in w Device) ∙ kept.lane (lane_is_not_meta w) ∙ blank.lanes;
+      taps = at (tree_in w Tap) ∙ kept.tap (tap_is_not_meta w) ∙ blank.taps;
+      stated = at (tree_in w Stated) ∙ kept.stated (stated_is_not_meta w) ∙ blank.stated;
     }
+
+pub all_new : {X E : Type 0} (owner : ℕ) (r : Result X E) (a b : Database) (Q : Type 0) → ((w : Layout) → Makes a.schema w → OnOk r (IsNew owner w b × Q)) → OnOk r (MakesNew owner a b)
+all_new owner (Ok x) a b Q h = record { each = λ w makes. (h w makes).0 }
+all_new owner (Err e) a b Q h = tt

@@ -10,8 +10,8 @@ use Rattle.sqlite.specs.Program.{overlay}
 use Rattle.sqlite.specs.State.{State, Shown}
 use Rattle.sqlite.proofs.Callers.{reads_as, one_permutation}
 use Rattle.fare_tables.proofs.Terms.{matched}
-use Rattle.fare_ledger.specs.declared.order.Order.{Order}
-use Rattle.fare_ledger.specs.Orders.{schema_in, ours}
+use Rattle.fare_ledger.specs.declared.layout.Layout.{Layout}
+use Rattle.fare_ledger.specs.Layouts.{schema_in, ours}
 use Rattle.fare_ledger.specs.Tables.{meta_query}
 use Rattle.fare_ledger.specs.Opening.{AreMeta, IsOurs}
 use Rattle.fare_ledger.proofs.Texts.{meta_text, meta_meant}
@@ -43,7 +43,7 @@ one_row owner stored (o ∷ []) same are = by stored (one_permutation o (map sho
     by (r ∷ []) is = let one : shown r ≡ o = cc in (r, refl, subst (λ (y : Output). AreMeta owner (y.1 ∷ [])) (sym one) are)
     by (r ∷ s ∷ rows) is = absurd cc
 
-pub meta_is : (w : Order) (owner : ℕ) (old new : State) (rows : List Row) → old.now.schema ≡ schema_in w → Shown meta_text [] old new rows → AreMeta owner rows → IsOurs owner (ours w old.now.trees)
+pub meta_is : (w : Layout) (owner : ℕ) (old new : State) (rows : List Row) → old.now.schema ≡ schema_in w → Shown meta_text [] old new rows → AreMeta owner rows → IsOurs owner (ours w old.now.trees)
 meta_is w owner old new rows has shows are =
     let read = reads_as meta_text [] old new (schema_in w) has _ (meta_meant w).command_is (meta_meant w).plain (meta_meant w).unlisted rows shows in
     let a : IsAnswer meta_query (overlay (ours w old.now.trees) []) [] rows = at_meta w meta_query old.now.trees [] rows (read.answer Null) in
@@ -54,7 +54,7 @@ meta_is w owner old new rows has shows are =
     record { row = it.0; only = it.1; format_is = it.2.0; owner_is = it.2.1 }
 
 -- and where meta holds the row, the answer is that row
-pub meta_found : (w : Order) (owner : ℕ) (old new : State) (rows : List Row) → old.now.schema ≡ schema_in w → Shown meta_text [] old new rows → IsOurs owner (ours w old.now.trees) → AreMeta owner rows
+pub meta_found : (w : Layout) (owner : ℕ) (old new : State) (rows : List Row) → old.now.schema ≡ schema_in w → Shown meta_text [] old new rows → IsOurs owner (ours w old.now.trees) → AreMeta owner rows
 meta_found w owner old new rows has shows it =
     let read = reads_as meta_text [] old new (schema_in w) has _ (meta_meant w).command_is (meta_meant w).plain (meta_meant w).unlisted rows shows in
     let a : IsAnswer meta_query (overlay (ours w old.now.trees) []) [] rows = at_meta w meta_query old.now.trees [] rows (read.answer Null) in

@@ -17,13 +17,13 @@ use Rattle.sqlite.proofs.Callers.{statement_of, runs_as, one_step}
 use Rattle.fare_tables.specs.Cells.{int, id_of, AreRows, held}
 use Rattle.fare_tables.proofs.Rows.{appended, rows_put, rows_without, held_put, held_replaced}
 use Rattle.fare_tables.proofs.Statements.{made, cast_int, cast_null, went, same_value}
-use Rattle.fare_ledger.specs.declared.order.Kind.TheVariants.{Lane, Tap, Stated}
-use Rattle.fare_ledger.specs.declared.order.Order.{Order}
-use Rattle.fare_ledger.specs.Orders.{schema_in, tree_in, ours}
+use Rattle.fare_layout.specs.declared.place.Kind.TheVariants.{Device, Tap, Stated}
+use Rattle.fare_ledger.specs.declared.layout.Layout.{Layout}
+use Rattle.fare_ledger.specs.Layouts.{schema_in, tree_in, ours}
 use Rattle.fare_ledger.specs.Tables.{tap_table, stated_table}
 use Rattle.fare_ledger.specs.Held.{TapRow, StatedRow, PutsTap, PutsLane, PutsStated, Becomes, AreReadable, IsLane, IsTap, IsStated, lane_row, lane_of, tap_cells, tap_of, stated_cells, stated_of, held_of, with_lane, with_tap, with_stated, with_numbers}
 use Rattle.fare_ledger.proofs.Texts.{put_tap_text, put_tap_command, put_tap_meant, put_stated_text, put_stated_command, put_stated_meant}
-use Rattle.fare_ledger.proofs.Ordered.{no_works, tap_placed, stated_placed, each, at_found, lane_is_not_tap, stated_is_not_tap, lane_is_not_stated, tap_is_not_stated}
+use Rattle.fare_ledger.proofs.Placed.{no_works, tap_placed, stated_placed, each, at_found, lane_is_not_tap, stated_is_not_tap, lane_is_not_stated, tap_is_not_stated}
 use Rattle.fare_ledger.proofs.Found.{lane_ids}
 
 pub tap_ids : (r : Row) → IsTap r → column r 0 ≡ int (id_of r)
@@ -32,7 +32,7 @@ tap_ids r ok = ap (λ x. column x 0) ok
 stated_ids : (r : Row) → IsStated r → column r 0 ≡ int (id_of r)
 stated_ids r ok = ap (λ x. column x 0) ok
 
-pub puts_tap : (w : Order) (old new : State) (t : TapRow) (count : ℕ) → old.now.schema ≡ schema_in w → Executes put_tap_text (tap_cells t) old new (Ok count) → PutsTap w old.now new.now t
+pub puts_tap : (w : Layout) (old new : State) (t : TapRow) (count : ℕ) → old.now.schema ≡ schema_in w → Executes put_tap_text (tap_cells t) old new (Ok count) → PutsTap w old.now new.now t
 unfolding ours
 puts_tap w old new t count has h =
     let params = tap_cells t in
@@ -48,18 +48,18 @@ puts_tap w old new t count has h =
     let written = went (went given.2).2 in
     let counted = went written.2 in
     let trees : new.now.trees ≡ written.0 = ap (λ (d : Database). d.trees) done.after_is ∙ ap (λ (it : Written). it.trees) (same_value counted.2) ∙ same_value counted.1 in
-    let step = one_step (schema_in w) Enforced db written.0 (edit_of db table [] Chosen 0 given.0) (no_works w Enforced db (edit_of db table [] Chosen 0 given.0)) written.1 in
+    let step = one_step (schema_in w) Enforced db written.0 (edit_of db table [] Chosen 0 given.0) (no_works w Tap Enforced db (edit_of db table [] Chosen 0 given.0) refl) written.1 in
     let kept = each (λ tree. tree ≢ tree_in w Tap → written.0 tree ≡ db tree) w step.tables in
     let edit : edited db (edit_of db table [] Chosen 0 given.0) ≡ put_row (Int (next_rowid (db (tree_in w Tap))) ∷ tap_cells t) (db (tree_in w Tap)) = ap (λ all. edited db (edit_of db table [] Chosen 0 all)) given.1.1 ∙ simp (cast_int, cast_null) in
     let at : (k : ℕ) → new.now.trees k ≡ written.0 k = λ k. ap (λ (t : Trees). t k) trees in
     record {
       schema = ap (λ (d : Database). d.schema) done.after_is;
-      lanes = at (tree_in w Lane) ∙ kept.lane (lane_is_not_tap w);
+      lanes = at (tree_in w Device) ∙ kept.lane (lane_is_not_tap w);
       taps = at (tree_in w Tap) ∙ step.rows ∙ edit;
       statements = at (tree_in w Stated) ∙ kept.stated (stated_is_not_tap w);
     }
 
-pub puts_stated : (w : Order) (old new : State) (s : StatedRow) (count : ℕ) → old.now.schema ≡ schema_in w → Executes put_stated_text (stated_cells s) old new (Ok count) → PutsStated w old.now new.now s
+pub puts_stated : (w : Layout) (old new : State) (s : StatedRow) (count : ℕ) → old.now.schema ≡ schema_in w → Executes put_stated_text (stated_cells s) old new (Ok count) → PutsStated w old.now new.now s
 unfolding ours
 puts_stated w old new s count has h =
     let params = stated_cells s in
@@ -75,13 +75,13 @@ puts_stated w old new s count has h =
     let written = went (went given.2).2 in
     let counted = went written.2 in
     let trees : new.now.trees ≡ written.0 = ap (λ (d : Database). d.trees) done.after_is ∙ ap (λ (it : Written). it.trees) (same_value counted.2) ∙ same_value counted.1 in
-    let step = one_step (schema_in w) Enforced db written.0 (edit_of db table [] Chosen 0 given.0) (no_works w Enforced db (edit_of db table [] Chosen 0 given.0)) written.1 in
+    let step = one_step (schema_in w) Enforced db written.0 (edit_of db table [] Chosen 0 given.0) (no_works w Stated Enforced db (edit_of db table [] Chosen 0 given.0) refl) written.1 in
     let kept = each (λ tree. tree ≢ tree_in w Stated → written.0 tree ≡ db tree) w step.tables in
     let edit : edited db (edit_of db table [] Chosen 0 given.0) ≡ put_row (Int (next_rowid (db (tree_in w Stated))) ∷ stated_cells s) (db (tree_in w Stated)) = ap (λ all. edited db (edit_of db table [] Chosen 0 all)) given.1.1 ∙ simp (cast_int, cast_null) in
     let at : (k : ℕ) → new.now.trees k ≡ written.0 k = λ k. ap (λ (t : Trees). t k) trees in
     record {
       schema = ap (λ (d : Database). d.schema) done.after_is;
-      lanes = at (tree_in w Lane) ∙ kept.lane (lane_is_not_stated w);
+      lanes = at (tree_in w Device) ∙ kept.lane (lane_is_not_stated w);
       taps = at (tree_in w Tap) ∙ kept.tap (tap_is_not_stated w);
       statements = at (tree_in w Stated) ∙ step.rows ∙ edit;
     }
@@ -103,7 +103,7 @@ lanes_after rows now d k c ok (inr is) = (
   λ x. ap (λ all. lane_of (held all x)) is ∙ ap lane_of (held_replaced IsLane lane_ids rows d (Null ∷ int k ∷ int c ∷ []) x ok) ∙ lane_if (d == x) (lane_row d k c) (held rows x),
 )
 
-pub both : (w : Order) (old mid new : Database) (t : TapRow) (c : ℕ) → AreReadable (ours w old.trees) → PutsTap w old mid t → PutsLane w mid new t.device t.lane c → Becomes w new (with_tap t c (held_of (ours w old.trees)))
+pub both : (w : Layout) (old mid new : Database) (t : TapRow) (c : ℕ) → AreReadable (ours w old.trees) → PutsTap w old mid t → PutsLane w mid new t.device t.lane c → Becomes w new (with_tap t c (held_of (ours w old.trees)))
 both w old mid new t c ok first second =
     let taps = appended IsTap tap_ids (ours w old.trees 2) (ours w new.trees 2) (tap_cells t) ok.taps (λ n. refl) (second.taps ∙ first.taps) in
     let lanes = lanes_after (ours w mid.trees 1) (ours w new.trees 1) t.device t.lane c (subst (AreRows IsLane) (sym first.lanes) ok.lanes) second.lanes in
@@ -118,7 +118,7 @@ both w old mid new t c ok first second =
       };
     }
 
-pub one_more : (w : Order) (old new : Database) (s : StatedRow) → AreReadable (ours w old.trees) → PutsStated w old new s → Becomes w new (with_stated s (held_of (ours w old.trees)))
+pub one_more : (w : Layout) (old new : Database) (s : StatedRow) → AreReadable (ours w old.trees) → PutsStated w old new s → Becomes w new (with_stated s (held_of (ours w old.trees)))
 one_more w old new s ok puts =
     let statements = appended IsStated stated_ids (ours w old.trees 4) (ours w new.trees 4) (stated_cells s) ok.statements (λ n. refl) puts.statements in
     record {
@@ -131,7 +131,7 @@ one_more w old new s ok puts =
       };
     }
 
-pub other_numbers : (w : Order) (old new : Database) (d k c : ℕ) → AreReadable (ours w old.trees) → PutsLane w old new d k c → Becomes w new (with_numbers d k c (held_of (ours w old.trees)))
+pub other_numbers : (w : Layout) (old new : Database) (d k c : ℕ) → AreReadable (ours w old.trees) → PutsLane w old new d k c → Becomes w new (with_numbers d k c (held_of (ours w old.trees)))
 other_numbers w old new d k c ok puts =
     let lanes = lanes_after (ours w old.trees 1) (ours w new.trees 1) d k c ok.lanes puts.lanes in
     record {

@@ -11,17 +11,17 @@ use Rattle.fare_store.specs.LedgerWords.{took, with_statement, with_close}
 use Rattle.fare_store.proofs.Taps.{count_last}
 use Rattle.fare_tables.specs.Tabled.{IsFit}
 use Rattle.fare_ledger.specs.declared.lane.Lane.{Lane}
-use Rattle.fare_ledger.specs.declared.order.Order.{Order}
-use Rattle.fare_ledger.specs.Orders.{schema_in}
+use Rattle.fare_ledger.specs.declared.layout.Layout.{Layout}
+use Rattle.fare_ledger.specs.Layouts.{schema_in}
 use Rattle.fare_ledger.specs.Held.{Held, TapRow, Becomes, IsReady, row_of, record_of, row_stated, stated_in, with_lane, with_tap, with_stated, with_numbers}
 use Rattle.fare_ledger.specs.Words.{taken_in, value_in, AreCounted, FitTogether, IsLawful, MayTake, MayClose}
 use Rattle.fare_ledger.proofs.Taken.{taken_pushed, next_pushed}
 use Rattle.fare_ledger.proofs.Days.{stated_put, apart_pushed, stays_stated}
 
-pub ready : (w : Order) (o start : ℕ) (s : State) → IsFit (schema_in w) (IsLawful w o start) s → IsReady w s
+pub ready : (w : Layout) (o start : ℕ) (s : State) → IsFit (schema_in w) (IsLawful w o start) s → IsReady w s
 ready w o start s fit = record { rest = fit.rest; fits = fit.fits.readable }
 
-pub becomes_lawful : (w : Order) (o start : ℕ) (new : State) (h : Held) → Becomes w new.now h × (new.now ≡ new.committed) → FitTogether o start h → IsFit (schema_in w) (IsLawful w o start) new
+pub becomes_lawful : (w : Layout) (o start : ℕ) (new : State) (h : Held) → Becomes w new.now h × (new.now ≡ new.committed) → FitTogether o start h → IsFit (schema_in w) (IsLawful w o start) new
 becomes_lawful w o start new h wrote fit = record {
   rest = record { settled = wrote.1; schema_is = wrote.0.schema };
   fits = record { readable = wrote.0.readable; together = subst (FitTogether o start) (sym wrote.0.value) fit };

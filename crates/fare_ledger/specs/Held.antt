@@ -13,8 +13,8 @@ use Rattle.fare_record.specs.Values.{TapValue, RecordValue, StatementValue}
 use Rattle.fare_ledger.specs.declared.lane.Lane.{Lane}
 use Rattle.fare_tables.specs.Cells.{nat_in, int, id_of, AreRows, held}
 use Rattle.fare_tables.specs.Tabled.{IsFit}
-use Rattle.fare_ledger.specs.declared.order.Order.{Order}
-use Rattle.fare_ledger.specs.Orders.{schema_in, ours}
+use Rattle.fare_ledger.specs.declared.layout.Layout.{Layout}
+use Rattle.fare_ledger.specs.Layouts.{schema_in, ours}
 
 -- ROWS
 -- a device's row has the device for its rowid
@@ -96,7 +96,7 @@ abbrev pub held_of : Trees → Held
 held_of trees = record { lanes = λ device. lane_of (held (trees 1) device); taps = map tap_of (trees 2); statements = map stated_of (trees 4) }
 
 -- between calls, over the tables of a ledger with rows that can be read
-abbrev pub IsReady : Order → State → Type 0
+abbrev pub IsReady : Layout → State → Type 0
 IsReady o = IsFit (schema_in o) (λ trees. AreReadable (ours o trees))
 
 -- READS
@@ -152,25 +152,25 @@ abbrev pub with_numbers : ℕ → ℕ → ℕ → Held → Held
 with_numbers device taken closed h = record { lanes = with_lane device taken closed h.lanes; taps = h.taps; statements = h.statements }
 
 -- the database holds this, in rows that can be read
-pub record Becomes (o : Order) (db : Database) (h : Held) : Type 0 where
+pub record Becomes (o : Layout) (db : Database) (h : Held) : Type 0 where
   pub schema : db.schema ≡ schema_in o
   pub readable : AreReadable (ours o db.trees)
   pub value : held_of (ours o db.trees) ≡ h
 
 -- what one statement writes
-pub record PutsTap (o : Order) (old new : Database) (t : TapRow) : Type 0 where
+pub record PutsTap (o : Layout) (old new : Database) (t : TapRow) : Type 0 where
   pub schema : new.schema ≡ schema_in o
   pub lanes : ours o new.trees 1 ≡ ours o old.trees 1
   pub taps : ours o new.trees 2 ≡ put_row (Int (next_rowid (ours o old.trees 2)) ∷ tap_cells t) (ours o old.trees 2)
   pub statements : ours o new.trees 4 ≡ ours o old.trees 4
 
-pub record PutsStated (o : Order) (old new : Database) (s : StatedRow) : Type 0 where
+pub record PutsStated (o : Layout) (old new : Database) (s : StatedRow) : Type 0 where
   pub schema : new.schema ≡ schema_in o
   pub lanes : ours o new.trees 1 ≡ ours o old.trees 1
   pub taps : ours o new.trees 2 ≡ ours o old.trees 2
   pub statements : ours o new.trees 4 ≡ put_row (Int (next_rowid (ours o old.trees 4)) ∷ stated_cells s) (ours o old.trees 4)
 
-pub record PutsLane (o : Order) (old new : Database) (device taken closed : ℕ) : Type 0 where
+pub record PutsLane (o : Layout) (old new : Database) (device taken closed : ℕ) : Type 0 where
   pub schema : new.schema ≡ schema_in o
   pub lanes : (ours o new.trees 1 ≡ put_row (lane_row device taken closed) (ours o old.trees 1)) ⊎ (ours o new.trees 1 ≡ put_row (lane_row device taken closed) (without_rowid (pos device) (ours o old.trees 1)))
   pub taps : ours o new.trees 2 ≡ ours o old.trees 2

@@ -1,5 +1,6 @@
 pub mod Tables
-pub mod Orders
+pub mod Statements
+pub mod Layouts
 pub mod Held
 pub mod Making
 pub mod Opening

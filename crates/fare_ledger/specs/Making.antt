@@ -1,27 +1,49 @@
 -- The empty ledger of an owner.
 use Rattle.std.specs.Prelude.{◌≡◌, ℕ, [], ◌∷◌, pos}
 use Rattle.sqlite.specs.declared.types.Value.TheVariants.{Int}
+use Rattle.sqlite.specs.Schema.{Schema}
 use Rattle.sqlite.specs.Tree.{Trees}
 use Rattle.sqlite.specs.Effect.{Database}
+use Rattle.fare_layout.specs.Growing.{GrowsBy, AreLast}
 use Rattle.fare_tables.specs.Cells.{int}
-use Rattle.fare_ledger.specs.Tables.{ledger_schema}
+use Rattle.fare_ledger.specs.declared.layout.Layout.{Layout}
+use Rattle.fare_ledger.specs.Layouts.{schema_in, ours}
+use Rattle.fare_ledger.specs.Statements.{tables}
+
+-- where the tables stand once they are made in a schema: after those that are there
+pub record Makes (schema : Schema) (w : Layout) : Type 0 where
+  pub grows : GrowsBy schema tables (schema_in w)
+  pub last : AreLast schema w.places
+
+-- the tables can be made in a schema
+pub record MayGrow (schema : Schema) : Type 0 where
+  pub layout : Layout
+  pub makes : Makes schema layout
 
 -- its tables, with no row
-pub record IsBlank (db : Database) : Type 0 where
-  pub schema : db.schema ≡ ledger_schema
-  pub meta : db.trees 0 ≡ []
-  pub lanes : db.trees 1 ≡ []
-  pub taps : db.trees 2 ≡ []
-  pub stated : db.trees 4 ≡ []
+pub record IsBlank (w : Layout) (db : Database) : Type 0 where
+  pub schema : db.schema ≡ schema_in w
+  pub meta : ours w db.trees 0 ≡ []
+  pub lanes : ours w db.trees 1 ≡ []
+  pub taps : ours w db.trees 2 ≡ []
+  pub stated : ours w db.trees 4 ≡ []
 
 -- with the one row of meta: format 1, and the owner
-pub record IsNew (owner : ℕ) (db : Database) : Type 0 where
-  pub schema : db.schema ≡ ledger_schema
-  pub meta : db.trees 0 ≡ (Int (pos 1) ∷ Int (pos 1) ∷ int owner ∷ []) ∷ []
-  pub lanes : db.trees 1 ≡ []
-  pub taps : db.trees 2 ≡ []
-  pub stated : db.trees 4 ≡ []
+pub record IsNew (owner : ℕ) (w : Layout) (db : Database) : Type 0 where
+  pub schema : db.schema ≡ schema_in w
+  pub meta : ours w db.trees 0 ≡ (Int (pos 1) ∷ Int (pos 1) ∷ int owner ∷ []) ∷ []
+  pub lanes : ours w db.trees 1 ≡ []
+  pub taps : ours w db.trees 2 ≡ []
+  pub stated : ours w db.trees 4 ≡ []
 
--- the trees of an empty ledger
-abbrev pub IsMade : ℕ → Trees → Type 0
-IsMade owner trees = (db : Database) × IsNew owner db × (trees ≡ db.trees)
+-- the database is an empty ledger now, wherever the tables stand that were made
+pub record MakesNew (owner : ℕ) (old new : Database) : Type 0 where
+  pub each : (w : Layout) → Makes old.schema w → IsNew owner w new
+
+-- these are the trees of one
+abbrev pub MadeFrom : ℕ → Database → Trees → Type 0
+MadeFrom owner old trees = (db : Database) × MakesNew owner old db × (trees ≡ db.trees)
+
+-- the trees of an empty ledger, whose tables were made in this schema
+abbrev pub IsMade : ℕ → Schema → Trees → Type 0
+IsMade owner schema trees = (w : Layout) × Makes schema w × (db : Database) × IsNew owner w db × (trees ≡ db.trees)

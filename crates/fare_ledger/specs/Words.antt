@@ -16,8 +16,8 @@ use Rattle.fare_ledger.specs.declared.tables.SqlLedger.{SqlLedger}
 use Rattle.fare_ledger.specs.declared.lane.Lane.{Lane}
 use Rattle.fare_ledger.specs.Held.{Held, TapRow, StatedRow, AreReadable, held_of, is_of, stated_in, record_of}
 use Rattle.fare_ledger.specs.Known.{knows}
-use Rattle.fare_ledger.specs.declared.order.Order.{Order}
-use Rattle.fare_ledger.specs.Orders.{schema_in, ours}
+use Rattle.fare_ledger.specs.declared.layout.Layout.{Layout}
+use Rattle.fare_ledger.specs.Layouts.{schema_in, ours}
 
 -- THE VALUE
 -- an owner's taps of a device, in the order of storing
@@ -28,7 +28,7 @@ taken_in owner taps device = map (record_of owner) (filter (λ t. t.device == de
 abbrev pub value_in : ℕ → ℕ → (ℕ → Bool) → Held → LedgerValue
 value_in owner start known h = record { owner = owner; start = start; knows = known; taken = taken_in owner h.taps; stated = stated_in h.statements; closed = λ device. (h.lanes device).closed }
 
-abbrev pub value_at : Order → ℕ → ℕ → (ℕ → Bool) → Trees → LedgerValue
+abbrev pub value_at : Layout → ℕ → ℕ → (ℕ → Bool) → Trees → LedgerValue
 value_at o owner start known trees = value_in owner start known (held_of (ours o trees))
 
 -- THE ROWS FIT TOGETHER
@@ -54,7 +54,7 @@ pub record FitTogether (owner start : ℕ) (h : Held) : Type 0 where
   pub single : AreApart h.statements
   pub days : AreCounted owner start h
 
-pub record IsLawful (o : Order) (owner start : ℕ) (trees : Trees) : Type 0 where
+pub record IsLawful (o : Layout) (owner start : ℕ) (trees : Trees) : Type 0 where
   pub readable : AreReadable (ours o trees)
   pub together : FitTogether owner start (held_of (ours o trees))
 
@@ -63,7 +63,7 @@ abbrev pub connected : {S : Type 0} → (g : Ghosts S) → SqlLedger S g → Sta
 connected g l = state g l.conn
 
 abbrev pub stands : {S : Type 0} → (g : Ghosts S) → SqlLedger S g → Standing LedgerValue
-stands g l = tabled (schema_in l.order) (value_at l.order l.owner l.start (knows l.devices)) (IsLawful l.order l.owner l.start) (state g l.conn) l.failures
+stands g l = tabled (schema_in l.layout) (value_at l.layout l.owner l.start (knows l.devices)) (IsLawful l.layout l.owner l.start) (state g l.conn) l.failures
 
 -- WHAT A READ FINDS
 -- a device's numbers

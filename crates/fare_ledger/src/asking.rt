@@ -3,9 +3,9 @@ ghost use Rattle.sqlite.specs.State.{HasCleanDisk, Survives, Shown, QueriesRow};
 ghost use Rattle.sqlite.specs.Held.{state};
 ghost use Rattle.sqlite.specs.Values.{bound};
 ghost use Rattle.fare_tables.specs.Asking.{IsLive, IsAtRest, SameRows, Reads};
-ghost use Rattle.fare_ledger.specs.Orders.{schema_in};
+ghost use Rattle.fare_ledger.specs.Layouts.{schema_in};
 
-use crate::Order;
+use crate::Layout;
 use fare_store::Fault;
 use sqlite::types::ValueRef;
 use sqlite::{Alter, Connection, Row};
@@ -13,16 +13,16 @@ use sqlite::{Alter, Connection, Row};
 // The first row of the answer to one of the ledger's texts.
 pub(crate) fn ask<S: Alter>(
     conn: &mut Connection<S>,
-    order: Order,
+    layout: &Layout,
     sql: &str,
     params: &[ValueRef<'_>],
 ) -> Result<Option<Row>, Fault>
-    requires { Reads (schema_in order) sql.now }
-    ensures row { HasCleanDisk (state S.Store conn.new) → IsAtRest (schema_in order) (state S.Store conn.old) → IfOk result (λ first. MatchOption first
+    requires { Reads (schema_in layout.now) sql.now }
+    ensures row { HasCleanDisk (state S.Store conn.new) → IsAtRest (schema_in layout.now) (state S.Store conn.old) → IfOk result (λ first. MatchOption first
         (Shown sql.now (bound params.now) (state S.Store conn.old) (state S.Store conn.new) [])
         (λ row. QueriesRow sql.now (bound params.now) (state S.Store conn.old) (state S.Store conn.new) (Ok row))) }
-    ensures same { IsLive (state S.Store conn.new) → IsAtRest (schema_in order) (state S.Store conn.old) → SameRows (state S.Store conn.old) (state S.Store conn.new) }
-    ensures crash { Survives (state S.Store conn.old) (state S.Store conn.new) (λ _. ¬ IsAtRest (schema_in order) (state S.Store conn.old)) }
+    ensures same { IsLive (state S.Store conn.new) → IsAtRest (schema_in layout.now) (state S.Store conn.old) → SameRows (state S.Store conn.old) (state S.Store conn.new) }
+    ensures crash { Survives (state S.Store conn.old) (state S.Store conn.new) (λ _. ¬ IsAtRest (schema_in layout.now) (state S.Store conn.old)) }
     ensures live { IsLive (state S.Store conn.new) → IsLive (state S.Store conn.old) }
     ensures stays { HasCleanDisk (state S.Store conn.new) → OnOk result (IsTrue (state S.Store conn.new).is_open) }
     ensures mode { conn.old.in_transaction ≡ false → conn.new.in_transaction ≡ false }
@@ -33,14 +33,14 @@ pub(crate) fn ask<S: Alter>(
 // All rows of the answer to one of the ledger's texts.
 pub(crate) fn ask_rows<S: Alter>(
     conn: &mut Connection<S>,
-    order: Order,
+    layout: &Layout,
     sql: &str,
     params: &[ValueRef<'_>],
 ) -> Result<Vec<Row>, Fault>
-    requires { Reads (schema_in order) sql.now }
+    requires { Reads (schema_in layout.now) sql.now }
     ensures rows { HasCleanDisk (state S.Store conn.new) → IfOk result (λ rows. Shown sql.now (bound params.now) (state S.Store conn.old) (state S.Store conn.new) rows.items) }
-    ensures same { IsLive (state S.Store conn.new) → IsAtRest (schema_in order) (state S.Store conn.old) → SameRows (state S.Store conn.old) (state S.Store conn.new) }
-    ensures crash { Survives (state S.Store conn.old) (state S.Store conn.new) (λ _. ¬ ((state S.Store conn.old).now.schema ≡ schema_in order)) }
+    ensures same { IsLive (state S.Store conn.new) → IsAtRest (schema_in layout.now) (state S.Store conn.old) → SameRows (state S.Store conn.old) (state S.Store conn.new) }
+    ensures crash { Survives (state S.Store conn.old) (state S.Store conn.new) (λ _. ¬ ((state S.Store conn.old).now.schema ≡ schema_in layout.now)) }
     ensures live { IsLive (state S.Store conn.new) → IsLive (state S.Store conn.old) }
     ensures stays { HasCleanDisk (state S.Store conn.new) → OnOk result (IsTrue (state S.Store conn.new).is_open) }
     ensures mode { conn.old.in_transaction ≡ false → conn.new.in_transaction ≡ false }

@@ -68,7 +68,7 @@ impl<S: Alter> SqlLedger<S> {
         ensures within { IfOk result IsWithin }
         ensures up { OnOk result (IsUp (state S.Store self.new.conn)) }
     {
-        match read_lane(&mut self.conn, self.order, device) {
+        match read_lane(&mut self.conn, &self.layout, device) {
             Ok(lane) => Ok(lane),
             Err(fault) => Err(note(&mut self.failures, fault)),
         }
@@ -80,7 +80,7 @@ impl<S: Alter> SqlLedger<S> {
         ensures does { Reads (stands S.Store self.old) (stands S.Store self.new) (λ held. held ≡ (stands S.Store self.old).value.stated device day) result }
         ensures up { OnOk result (IsUp (state S.Store self.new.conn)) }
     {
-        match read_stated(&mut self.conn, self.order, device, day) {
+        match read_stated(&mut self.conn, &self.layout, device, day) {
             Ok(held) => Ok(held),
             Err(fault) => Err(note(&mut self.failures, fault)),
         }
@@ -92,7 +92,7 @@ impl<S: Alter> SqlLedger<S> {
         ensures does { Reads (stands S.Store self.old) (stands S.Store self.new) (λ count. count ≡ day_count ((stands S.Store self.old).value.taken device) day) result }
         ensures up { OnOk result (IsUp (state S.Store self.new.conn)) }
     {
-        match count_day(&mut self.conn, self.order, device, day) {
+        match count_day(&mut self.conn, &self.layout, device, day) {
             Ok(count) => Ok(count),
             Err(fault) => Err(note(&mut self.failures, fault)),
         }
@@ -104,7 +104,7 @@ impl<S: Alter> SqlLedger<S> {
         ensures does { Reads (stands S.Store self.old) (stands S.Store self.new) (λ day. day ≡ closed_through (stands S.Store self.old).value device) result }
         ensures up { OnOk result (IsUp (state S.Store self.new.conn)) }
     {
-        match read_last(&mut self.conn, self.order, device, self.start) {
+        match read_last(&mut self.conn, &self.layout, device, self.start) {
             Ok(day) => Ok(day),
             Err(fault) => Err(note(&mut self.failures, fault)),
         }
@@ -116,7 +116,7 @@ impl<S: Alter> SqlLedger<S> {
         ensures does { Reads (stands S.Store self.old) (stands S.Store self.new) (λ none. IsTrue none ↔ AreUnbegun (stands S.Store self.old).value) result }
         ensures up { OnOk result (IsUp (state S.Store self.new.conn)) }
     {
-        match count_begun(&mut self.conn, self.order) {
+        match count_begun(&mut self.conn, &self.layout) {
             Ok(begun) => Ok(begun == 0),
             Err(fault) => Err(note(&mut self.failures, fault)),
         }
@@ -128,7 +128,7 @@ impl<S: Alter> SqlLedger<S> {
         ensures does { Reads (stands S.Store self.old) (stands S.Store self.new) (λ none. IsTrue none ↔ AreUntaken (stands S.Store self.old).value) result }
         ensures up { OnOk result (IsUp (state S.Store self.new.conn)) }
     {
-        match count_taps(&mut self.conn, self.order) {
+        match count_taps(&mut self.conn, &self.layout) {
             Ok(taps) => Ok(taps == 0),
             Err(fault) => Err(note(&mut self.failures, fault)),
         }
@@ -140,7 +140,7 @@ impl<S: Alter> SqlLedger<S> {
         ensures does { Reads (stands S.Store self.old) (stands S.Store self.new) (λ none. IsTrue none ↔ AreUnstated (stands S.Store self.old).value) result }
         ensures up { OnOk result (IsUp (state S.Store self.new.conn)) }
     {
-        match count_statements(&mut self.conn, self.order) {
+        match count_statements(&mut self.conn, &self.layout) {
             Ok(statements) => Ok(statements == 0),
             Err(fault) => Err(note(&mut self.failures, fault)),
         }
@@ -152,7 +152,14 @@ impl<S: Alter> SqlLedger<S> {
         ensures does { Reads (stands S.Store self.old) (stands S.Store self.new) (λ taps. AreTapsBetween (stands S.Store self.old).value from to taps.items) result }
         ensures up { OnOk result (IsUp (state S.Store self.new.conn)) }
     {
-        match read_between(self.alloc, &mut self.conn, self.order, self.owner, from, to) {
+        match read_between(
+            self.alloc,
+            &mut self.conn,
+            &self.layout,
+            self.owner,
+            from,
+            to,
+        ) {
             Ok(taps) => Ok(taps),
             Err(fault) => Err(note(&mut self.failures, fault)),
         }

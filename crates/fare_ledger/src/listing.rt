@@ -4,12 +4,13 @@ ghost use Rattle.sqlite.specs.Held.{state};
 ghost use Rattle.sqlite_value.specs.Order.{column};
 ghost use Rattle.fare_tables.specs.Cells.{int};
 ghost use Rattle.fare_tables.specs.Asking.{IsLive, IsAtRest, SameRows};
-ghost use Rattle.fare_ledger.specs.Orders.{schema_in, ours};
+ghost use Rattle.fare_ledger.specs.Layouts.{schema_in, ours};
 ghost use Rattle.fare_ledger.specs.Held.{held_of, IsReady, IsListedOf};
 ghost use Rattle.fare_ledger.specs.Shown.{ShowsRow, ShowRows};
 
-use crate::Order;
+use crate::Layout;
 use crate::asking::ask_rows;
+use crate::statements::READ_BETWEEN;
 use fare_record::{Day, DeviceId, OwnerId, Record};
 use fare_store::Fault;
 use fare_tables::{cell_number, cell_tap_number, parameter, tap_in_cells};
@@ -53,14 +54,14 @@ fn records_in(alloc: Global, rows: &[Row], owner: OwnerId) -> Result<Vec<Record>
 pub(crate) fn read_between<S: Alter>(
     alloc: Global,
     conn: &mut Connection<S>,
-    order: Order,
+    layout: &Layout,
     owner: OwnerId,
     from: Day,
     to: Day,
 ) -> Result<Vec<Record>, Fault>
-    ensures value { IsLive (state S.Store conn.new) → IsReady order (state S.Store conn.old) → IfOk result (λ taps. IsListedOf owner (held_of (ours order (state S.Store conn.old).now.trees)).taps from to taps.items) }
-    ensures same { IsLive (state S.Store conn.new) → IsAtRest (schema_in order) (state S.Store conn.old) → SameRows (state S.Store conn.old) (state S.Store conn.new) }
-    ensures crash { Survives (state S.Store conn.old) (state S.Store conn.new) (λ _. ¬ IsAtRest (schema_in order) (state S.Store conn.old)) }
+    ensures value { IsLive (state S.Store conn.new) → IsReady layout.now (state S.Store conn.old) → IfOk result (λ taps. IsListedOf owner (held_of (ours layout.now (state S.Store conn.old).now.trees)).taps from to taps.items) }
+    ensures same { IsLive (state S.Store conn.new) → IsAtRest (schema_in layout.now) (state S.Store conn.old) → SameRows (state S.Store conn.old) (state S.Store conn.new) }
+    ensures crash { Survives (state S.Store conn.old) (state S.Store conn.new) (λ _. ¬ IsAtRest (schema_in layout.now) (state S.Store conn.old)) }
     ensures live { IsLive (state S.Store conn.new) → IsLive (state S.Store conn.old) }
     ensures stays { HasCleanDisk (state S.Store conn.new) → OnOk result (IsTrue (state S.Store conn.new).is_open) }
     ensures mode { conn.old.in_transaction ≡ false → conn.new.in_transaction ≡ false }
@@ -69,11 +70,6 @@ pub(crate) fn read_between<S: Alter>(
         parameter(u64::from(from.get())),
         parameter(u64::from(to.get())),
     ];
-    let rows = ask_rows(
-        conn,
-        order,
-        "SELECT device, lane, link, product, token, moment, day FROM tap WHERE day >= ?1 AND day <= ?2 ORDER BY day, moment, device, lane",
-        &asked,
-    )?;
+    let rows = ask_rows(conn, layout, READ_BETWEEN, &asked)?;
     records_in(alloc, rows.as_slice(), owner)
 }

@@ -2,54 +2,39 @@ ghost use Rattle.std.specs.Prelude.{◌≡◌, false, IsTrue, OnOk, OnErr};
 ghost use Rattle.sqlite.specs.State.{HasCleanDisk, Survives};
 ghost use Rattle.sqlite.specs.Held.{state};
 ghost use Rattle.fare_tables.specs.Asking.{IsLive, SameRows, Inside};
-ghost use Rattle.fare_tables.specs.Making.{no_schema, Defines, Made};
-ghost use Rattle.fare_ledger.specs.Orders.{schema_in, table_of, text_of};
-ghost use Rattle.fare_ledger.specs.Making.{IsBlank, IsNew, IsMade};
+ghost use Rattle.fare_ledger.specs.declared.layout.Layout.{Layout};
+ghost use Rattle.fare_ledger.specs.Making.{Makes, MayGrow, IsBlank, IsNew, MakesNew, MadeFrom};
 
-use crate::{Kind, Order};
+use crate::statements::{PUT_META, TABLES};
 use fare_record::OwnerId;
 use fare_store::Fault;
 use fare_tables::{change, fault_of, make_table, parameter};
 use sqlite::{Alter, Connection, Transaction};
 
+// The tables, after those that are there.
 fn make_tables<S: Alter>(tx: &mut Transaction<'_, S>) -> Result<(), Fault>
     ensures same_reference { tx.new.conn.ghost_name ≡ tx.old.conn.ghost_name }
-    ensures made { HasCleanDisk (state S.Store tx.new.conn.now) → IsTrue (state S.Store tx.old.conn.now).in_transaction → (state S.Store tx.old.conn.now).now.schema ≡ no_schema
-        → OnOk result (IsBlank (state S.Store tx.new.conn.now).now × IsTrue (state S.Store tx.new.conn.now).in_transaction) }
+    ensures made { HasCleanDisk (state S.Store tx.new.conn.now) → IsTrue (state S.Store tx.old.conn.now).in_transaction → (w : Layout) → Makes (state S.Store tx.old.conn.now).now.schema w
+        → OnOk result (IsBlank w (state S.Store tx.new.conn.now).now × IsTrue (state S.Store tx.new.conn.now).in_transaction) }
     ensures inside { HasCleanDisk (state S.Store tx.new.conn.now) → Inside (state S.Store tx.old.conn.now) (state S.Store tx.new.conn.now) }
     ensures survives { Survives (state S.Store tx.old.conn.now) (state S.Store tx.new.conn.now) (λ _. ⊥) }
 {
-    make_table(
-        tx,
-        "CREATE TABLE meta (format INTEGER NOT NULL, owner INTEGER NOT NULL) STRICT",
-    )?;
-    make_table(
-        tx,
-        "CREATE TABLE lane (device INTEGER PRIMARY KEY, taken INTEGER NOT NULL CHECK (taken >= 0), closed INTEGER NOT NULL CHECK (closed >= 0)) STRICT",
-    )?;
-    make_table(
-        tx,
-        "CREATE TABLE tap (device INTEGER NOT NULL, lane INTEGER NOT NULL, link INTEGER NOT NULL, product INTEGER NOT NULL, token INTEGER NOT NULL, moment INTEGER NOT NULL, day INTEGER NOT NULL, PRIMARY KEY (device, lane)) STRICT",
-    )?;
-    make_table(
-        tx,
-        "CREATE TABLE stated (device INTEGER NOT NULL, day INTEGER NOT NULL, total INTEGER NOT NULL, PRIMARY KEY (device, day)) STRICT",
-    )
+    let [meta, lane, tap, stated] = TABLES;
+    make_table(tx, meta.1)?;
+    make_table(tx, lane.1)?;
+    make_table(tx, tap.1)?;
+    make_table(tx, stated.1)
 }
 
 // The one row of meta.
 fn put_meta<S: Alter>(tx: &mut Transaction<'_, S>, owner: OwnerId) -> Result<(), Fault>
     ensures same_reference { tx.new.conn.ghost_name ≡ tx.old.conn.ghost_name }
-    ensures made { HasCleanDisk (state S.Store tx.new.conn.now) → IsTrue (state S.Store tx.old.conn.now).in_transaction → IsBlank (state S.Store tx.old.conn.now).now
-        → OnOk result (IsNew owner (state S.Store tx.new.conn.now).now × IsTrue (state S.Store tx.new.conn.now).in_transaction) }
+    ensures made { HasCleanDisk (state S.Store tx.new.conn.now) → IsTrue (state S.Store tx.old.conn.now).in_transaction → (w : Layout) → IsBlank w (state S.Store tx.old.conn.now).now
+        → OnOk result (IsNew owner w (state S.Store tx.new.conn.now).now × IsTrue (state S.Store tx.new.conn.now).in_transaction) }
     ensures inside { HasCleanDisk (state S.Store tx.new.conn.now) → Inside (state S.Store tx.old.conn.now) (state S.Store tx.new.conn.now) }
     ensures survives { Survives (state S.Store tx.old.conn.now) (state S.Store tx.new.conn.now) (λ _. ⊥) }
 {
-    match change(
-        tx,
-        "INSERT INTO meta (format, owner) VALUES (1, ?1)",
-        &[parameter(u64::from(owner.get()))],
-    ) {
+    match change(tx, PUT_META, &[parameter(u64::from(owner.get()))]) {
         Ok(_) => Ok(()),
         Err(fault) => Err(fault),
     }
@@ -58,8 +43,8 @@ fn put_meta<S: Alter>(tx: &mut Transaction<'_, S>, owner: OwnerId) -> Result<(),
 // The tables and the row of meta.
 fn make_all<S: Alter>(tx: &mut Transaction<'_, S>, owner: OwnerId) -> Result<(), Fault>
     ensures same_reference { tx.new.conn.ghost_name ≡ tx.old.conn.ghost_name }
-    ensures made { HasCleanDisk (state S.Store tx.new.conn.now) → IsTrue (state S.Store tx.old.conn.now).in_transaction → (state S.Store tx.old.conn.now).now.schema ≡ no_schema
-        → OnOk result (IsNew owner (state S.Store tx.new.conn.now).now × IsTrue (state S.Store tx.new.conn.now).in_transaction) }
+    ensures made { HasCleanDisk (state S.Store tx.new.conn.now) → IsTrue (state S.Store tx.old.conn.now).in_transaction → OnOk result (MakesNew owner (state S.Store tx.old.conn.now).now (state S.Store tx.new.conn.now).now) }
+    ensures stays { HasCleanDisk (state S.Store tx.new.conn.now) → IsTrue (state S.Store tx.old.conn.now).in_transaction → MayGrow (state S.Store tx.old.conn.now).now.schema → OnOk result (IsTrue (state S.Store tx.new.conn.now).in_transaction) }
     ensures inside { HasCleanDisk (state S.Store tx.new.conn.now) → Inside (state S.Store tx.old.conn.now) (state S.Store tx.new.conn.now) }
     ensures survives { Survives (state S.Store tx.old.conn.now) (state S.Store tx.new.conn.now) (λ _. ⊥) }
 {
@@ -67,75 +52,18 @@ fn make_all<S: Alter>(tx: &mut Transaction<'_, S>, owner: OwnerId) -> Result<(),
     put_meta(tx, owner)
 }
 
-// A ledger in a database that has no table, in one transaction.
+// A ledger in a database where nothing has a name of its tables, in one transaction.
 pub(crate) fn make_ledger<S: Alter>(conn: &mut Connection<S>, owner: OwnerId) -> Result<(), Fault>
     requires { conn.old.in_transaction ≡ false }
-    ensures made { IsLive (state S.Store conn.new) → (state S.Store conn.old).now.schema ≡ no_schema → OnOk result (IsNew owner (state S.Store conn.new).now × ((state S.Store conn.new).now ≡ (state S.Store conn.new).committed)) }
-    ensures same { IsLive (state S.Store conn.new) → (state S.Store conn.old).now.schema ≡ no_schema → (state S.Store conn.old).now ≡ (state S.Store conn.old).committed → OnErr result (SameRows (state S.Store conn.old) (state S.Store conn.new)) }
-    ensures crash { Survives (state S.Store conn.old) (state S.Store conn.new) (λ trees. (state S.Store conn.old).now.schema ≡ no_schema → IsMade owner trees) }
+    ensures made { IsLive (state S.Store conn.new) → OnOk result (MakesNew owner (state S.Store conn.old).now (state S.Store conn.new).now × ((state S.Store conn.new).now ≡ (state S.Store conn.new).committed)) }
+    ensures same { IsLive (state S.Store conn.new) → MayGrow (state S.Store conn.old).now.schema → (state S.Store conn.old).now ≡ (state S.Store conn.old).committed → OnErr result (SameRows (state S.Store conn.old) (state S.Store conn.new)) }
+    ensures crash { Survives (state S.Store conn.old) (state S.Store conn.new) (MadeFrom owner (state S.Store conn.old).now) }
     ensures live { IsLive (state S.Store conn.new) → IsLive (state S.Store conn.old) }
     ensures stays { HasCleanDisk (state S.Store conn.new) → OnOk result (IsTrue (state S.Store conn.new).is_open) }
     ensures idle { conn.new.in_transaction ≡ false }
 {
     let mut tx = conn.transaction();
     make_all(&mut tx, owner)?;
-    match tx.commit() {
-        Ok(()) => Ok(()),
-        Err(error) => Err(fault_of(error)),
-    }
-}
-
-// A table of a ledger.
-fn make_kind<S: Alter>(tx: &mut Transaction<'_, S>, kind: Kind) -> Result<(), Fault>
-    ensures same_reference { tx.new.conn.ghost_name ≡ tx.old.conn.ghost_name }
-    ensures made { HasCleanDisk (state S.Store tx.new.conn.now) → IsTrue (state S.Store tx.old.conn.now).in_transaction → Defines (state S.Store tx.old.conn.now).now.schema (text_of kind) (table_of kind 0)
-        → OnOk result (Made (state S.Store tx.old.conn.now).now (state S.Store tx.new.conn.now).now (table_of kind 0) × IsTrue (state S.Store tx.new.conn.now).in_transaction) }
-    ensures inside { HasCleanDisk (state S.Store tx.new.conn.now) → Inside (state S.Store tx.old.conn.now) (state S.Store tx.new.conn.now) }
-    ensures survives { Survives (state S.Store tx.old.conn.now) (state S.Store tx.new.conn.now) (λ _. ⊥) }
-{
-    match kind {
-        Kind::Meta => make_table(
-            tx,
-            "CREATE TABLE meta (format INTEGER NOT NULL, owner INTEGER NOT NULL) STRICT",
-        ),
-        Kind::Lane => make_table(
-            tx,
-            "CREATE TABLE lane (device INTEGER PRIMARY KEY, taken INTEGER NOT NULL CHECK (taken >= 0), closed INTEGER NOT NULL CHECK (closed >= 0)) STRICT",
-        ),
-        Kind::Tap => make_table(
-            tx,
-            "CREATE TABLE tap (device INTEGER NOT NULL, lane INTEGER NOT NULL, link INTEGER NOT NULL, product INTEGER NOT NULL, token INTEGER NOT NULL, moment INTEGER NOT NULL, day INTEGER NOT NULL, PRIMARY KEY (device, lane)) STRICT",
-        ),
-        Kind::Stated => make_table(
-            tx,
-            "CREATE TABLE stated (device INTEGER NOT NULL, day INTEGER NOT NULL, total INTEGER NOT NULL, PRIMARY KEY (device, day)) STRICT",
-        ),
-    }
-}
-
-// The tables in this order.
-fn make_four<S: Alter>(tx: &mut Transaction<'_, S>, order: Order) -> Result<(), Fault>
-    ensures same_reference { tx.new.conn.ghost_name ≡ tx.old.conn.ghost_name }
-    ensures made { HasCleanDisk (state S.Store tx.new.conn.now) → IsTrue (state S.Store tx.old.conn.now).in_transaction → (state S.Store tx.old.conn.now).now.schema ≡ no_schema
-        → OnOk result (((state S.Store tx.new.conn.now).now.schema ≡ schema_in order) × IsTrue (state S.Store tx.new.conn.now).in_transaction) }
-    ensures inside { HasCleanDisk (state S.Store tx.new.conn.now) → Inside (state S.Store tx.old.conn.now) (state S.Store tx.new.conn.now) }
-    ensures survives { Survives (state S.Store tx.old.conn.now) (state S.Store tx.new.conn.now) (λ _. ⊥) }
-{
-    let (first, second, third, fourth) = order.four();
-    make_kind(tx, first)?;
-    make_kind(tx, second)?;
-    make_kind(tx, third)?;
-    make_kind(tx, fourth)
-}
-
-// The tables in this order and no row, in a database that has no table.
-pub(crate) fn make_in<S: Alter>(conn: &mut Connection<S>, order: Order) -> Result<(), Fault>
-    requires { conn.old.in_transaction ≡ false }
-    ensures made { IsLive (state S.Store conn.new) → (state S.Store conn.old).now.schema ≡ no_schema → OnOk result ((state S.Store conn.new).now.schema ≡ schema_in order) }
-    ensures stays { HasCleanDisk (state S.Store conn.new) → OnOk result (IsTrue (state S.Store conn.new).is_open) }
-{
-    let mut tx = conn.transaction();
-    make_four(&mut tx, order)?;
     match tx.commit() {
         Ok(()) => Ok(()),
         Err(error) => Err(fault_of(error)),

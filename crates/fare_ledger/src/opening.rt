@@ -1,5 +1,4 @@
-ghost use Rattle.std.specs.Prelude.{◌≡◌, ◌≢◌, ◌↔◌, false, true, None, Err, IsTrue, IsNone, IsSome, IfOk, IfErr, IfSome, MatchOption, OnOk, OnErr};
-ghost use Rattle.std.specs.List.{AllByRecursion};
+ghost use Rattle.std.specs.Prelude.{◌≡◌, ◌≢◌, ◌↔◌, ◌⊎◌, false, true, None, Err, IsTrue, IsNone, IsSome, IfOk, IfErr, IfSome, OnOk, OnErr};
 ghost use Rattle.sqlite.specs.State.{HasCleanDisk, Survives};
 ghost use Rattle.sqlite.specs.Held.{state};
 ghost use Rattle.fare_scheme.specs.Words.{position_of_owner};
@@ -7,22 +6,22 @@ ghost use Rattle.fare_store.specs.LedgerWords.{IsEmptyLedger, IsOfScheme};
 ghost use Rattle.fare_tables.specs.Asking.{IsLive, IsAtRest, SameRows};
 ghost use Rattle.fare_tables.specs.Making.{no_schema};
 ghost use Rattle.fare_tables.specs.Tabled.{IsFit};
-ghost use Rattle.fare_ledger.specs.Orders.{schema_in, ours};
-ghost use Rattle.fare_ledger.specs.Opening.{IsMetaRow, AreMeta, IsOurs, IsBlankOrOurs, IsOpened, Sees, Settles, MayMake};
+ghost use Rattle.fare_ledger.specs.declared.layout.Layout.{Layout};
+ghost use Rattle.fare_ledger.specs.Layouts.{schema_in, ours};
+ghost use Rattle.fare_ledger.specs.Opening.{IsMetaRow, AreMeta, IsOurs, IsLedger, IsVacant, IsBlankOrOurs, IsOpened, Sees, Settles, MayMake};
 ghost use Rattle.fare_ledger.specs.Words.{IsLawful, value_at, connected, stands};
 
 use crate::asking::ask_rows;
 use crate::devices::devices_of;
-use crate::making::{make_in, make_ledger};
-use crate::order::{ORDERS, Seen};
-use crate::{Order, SqlLedger};
+use crate::looking::{Seen, look_at};
+use crate::making::make_ledger;
+use crate::statements::READ_META;
+use crate::{Layout, SqlLedger};
 use fare_record::OwnerId;
 use fare_scheme::Scheme;
 use fare_store::Fault;
-use fare_tables::{is_blank, same_schema};
 use sqlite::types::ValueRef;
-use sqlite::{Alter, Connection, MemStore, Row};
-use sqlite_schema::schema::Schema;
+use sqlite::{Alter, Connection, Row};
 use std::alloc::Global;
 use thiserror::Error;
 
@@ -32,8 +31,8 @@ pub enum LedgerOpenFault {
     /// The owner isn't registered.
     #[error("the owner isn't registered")]
     UnknownOwner,
-    /// It holds something else: other tables, a table of the ledger's with another shape or format, or the
-    /// ledger of another owner.
+    /// It holds something else under a name of the ledger's tables, as a table with another shape or format, or
+    /// the ledger of another owner; or its other tables leave no room for the ledger's.
     #[error("the database holds something else")]
     Foreign,
     /// No memory is left for it.
@@ -78,86 +77,49 @@ fn are_meta(rows: &[Row], owner: OwnerId) -> bool
 }
 
 // Whether `meta` holds its one row.
-fn has_meta<S: Alter>(conn: &mut Connection<S>, order: Order, owner: OwnerId) -> Result<bool, Fault>
-    ensures meta { HasCleanDisk (state S.Store conn.new) → (state S.Store conn.old).now.schema ≡ schema_in order → IfOk result (λ right. IsTrue right ↔ IsOurs owner (ours order (state S.Store conn.old).now.trees)) }
-    ensures same { IsLive (state S.Store conn.new) → IsAtRest (schema_in order) (state S.Store conn.old) → SameRows (state S.Store conn.old) (state S.Store conn.new) }
-    ensures crash { Survives (state S.Store conn.old) (state S.Store conn.new) (λ _. ¬ ((state S.Store conn.old).now.schema ≡ schema_in order)) }
+fn has_meta<S: Alter>(
+    conn: &mut Connection<S>,
+    layout: &Layout,
+    owner: OwnerId,
+) -> Result<bool, Fault>
+    ensures meta { HasCleanDisk (state S.Store conn.new) → (state S.Store conn.old).now.schema ≡ schema_in layout.now → IfOk result (λ right. IsTrue right ↔ IsOurs owner (ours layout.now (state S.Store conn.old).now.trees)) }
+    ensures same { IsLive (state S.Store conn.new) → IsAtRest (schema_in layout.now) (state S.Store conn.old) → SameRows (state S.Store conn.old) (state S.Store conn.new) }
+    ensures crash { Survives (state S.Store conn.old) (state S.Store conn.new) (λ _. ¬ ((state S.Store conn.old).now.schema ≡ schema_in layout.now)) }
     ensures live { IsLive (state S.Store conn.new) → IsLive (state S.Store conn.old) }
     ensures stays { HasCleanDisk (state S.Store conn.new) → OnOk result (IsTrue (state S.Store conn.new).is_open) }
     ensures mode { conn.old.in_transaction ≡ false → conn.new.in_transaction ≡ false }
 {
-    let rows = ask_rows(conn, order, "SELECT format, owner FROM meta", &[])?;
+    let rows = ask_rows(conn, layout, READ_META, &[])?;
     Ok(are_meta(rows.as_slice(), owner))
 }
 
-// The tables of a ledger in memory, made in this order.
-fn wanted(alloc: Global, order: Order) -> Result<Connection<MemStore>, Fault>
-    ensures { IfOk result (λ c. c.schema ≡ schema_in order) }
-{
-    match Connection::open_in_memory(alloc) {
-        Ok(mut conn) => {
-            make_in(&mut conn, order)?;
-            Ok(conn)
-        }
-        Err(_) => Err(Fault::Memory),
-    }
-}
-
-// Which order a schema's tables were made in, of these.
-fn find_order(schema: &Schema, alloc: Global, orders: &[Order]) -> Result<Option<Order>, Fault>
-    ensures { IfOk result (λ found. MatchOption found (AllByRecursion (λ o. schema.now ≢ schema_in o) orders.now) (λ o. schema.now ≡ schema_in o)) }
-{
-    match orders {
-        [] => Ok(None),
-        [first, rest @ ..] => {
-            let wanted = wanted(alloc, *first)?;
-            if same_schema(schema, wanted.schema()) {
-                return Ok(Some(*first));
-            }
-            find_order(schema, alloc, rest)
-        }
-    }
-}
-
-// What the database holds.
-fn look<S: Alter>(conn: &Connection<S>, alloc: Global) -> Result<Seen, Fault>
-    ensures { IfOk result (Sees (state S.Store conn.now).now.schema) }
-{
-    if is_blank(conn.schema()) {
-        return Ok(Seen::Blank);
-    }
-    match find_order(conn.schema(), alloc, &ORDERS)? {
-        Some(order) => Ok(Seen::Ours(order)),
-        None => Ok(Seen::Other),
-    }
-}
-
-// The order, if the ledger whose tables were made in it is the owner's.
+// Where the tables stand, if the ledger that they are is the owner's.
 fn if_mine<S: Alter>(
     conn: &mut Connection<S>,
-    order: Order,
+    layout: Layout,
     owner: OwnerId,
-) -> Result<Option<Order>, Fault>
-    ensures of_order { IfOk result (λ found. IfSome found (λ o. o ≡ order)) }
-    ensures ours { IsLive (state S.Store conn.new) → (state S.Store conn.old).now.schema ≡ schema_in order → IfOk result (λ found. IfSome found (λ o. IsOurs owner (ours order (state S.Store conn.old).now.trees))) }
-    ensures lacks { IsLive (state S.Store conn.new) → (state S.Store conn.old).now.schema ≡ schema_in order → IfOk result (λ found. found ≡ None → ¬ IsOurs owner (ours order (state S.Store conn.old).now.trees)) }
-    ensures same { IsLive (state S.Store conn.new) → IsAtRest (schema_in order) (state S.Store conn.old) → SameRows (state S.Store conn.old) (state S.Store conn.new) }
-    ensures crash { Survives (state S.Store conn.old) (state S.Store conn.new) (λ _. ¬ ((state S.Store conn.old).now.schema ≡ schema_in order)) }
+) -> Result<Option<Layout>, Fault>
+    ensures of_layout { IfOk result (λ found. IfSome found (λ w. w ≡ layout)) }
+    ensures ours { IsLive (state S.Store conn.new) → (state S.Store conn.old).now.schema ≡ schema_in layout → IfOk result (λ found. IfSome found (λ w. IsOurs owner (ours layout (state S.Store conn.old).now.trees))) }
+    ensures lacks { IsLive (state S.Store conn.new) → (state S.Store conn.old).now.schema ≡ schema_in layout → IfOk result (λ found. found ≡ None → ¬ IsOurs owner (ours layout (state S.Store conn.old).now.trees)) }
+    ensures same { IsLive (state S.Store conn.new) → IsAtRest (schema_in layout) (state S.Store conn.old) → SameRows (state S.Store conn.old) (state S.Store conn.new) }
+    ensures crash { Survives (state S.Store conn.old) (state S.Store conn.new) (λ _. ¬ ((state S.Store conn.old).now.schema ≡ schema_in layout)) }
     ensures live { IsLive (state S.Store conn.new) → IsLive (state S.Store conn.old) }
     ensures mode { conn.old.in_transaction ≡ false → conn.new.in_transaction ≡ false }
 {
-    if has_meta(conn, order, owner)? {
-        return Ok(Some(order));
+    if has_meta(conn, &layout, owner)? {
+        return Ok(Some(layout));
     }
     Ok(None)
 }
 
-// Makes the tables where there are none, and looks whose ledger it is where it is one; none if it isn't the owner's.
+// Makes the tables where nothing has their names, and looks whose ledger it is where it is one; none if it isn't
+// the owner's.
 fn settle<S: Alter>(
     conn: &mut Connection<S>,
     found: Seen,
     owner: OwnerId,
-) -> Result<Option<Order>, Fault>
+) -> Result<Option<Layout>, Fault>
     requires idle { conn.old.in_transaction ≡ false }
     requires found { Sees (state S.Store conn.old).now.schema found }
     ensures opens { IsLive (state S.Store conn.new) → IfOk result (λ found. IfSome found (Settles owner (state S.Store conn.old) (state S.Store conn.new))) }
@@ -170,19 +132,20 @@ fn settle<S: Alter>(
     ensures idle { conn.new.in_transaction ≡ false }
 {
     match found {
-        Seen::Blank => {
+        Seen::Ours(layout) => if_mine(conn, layout, owner),
+        Seen::Vacant(layout) => {
             make_ledger(conn, owner)?;
-            Ok(Some(Order::MetaLaneTapStated))
+            Ok(Some(layout))
         }
-        Seen::Ours(order) => if_mine(conn, order, owner),
         Seen::Other => Ok(None),
     }
 }
 
 impl<S: Alter> SqlLedger<S> {
-    /// Takes a database for the ledger of an owner of a scheme: one that holds this owner's ledger as it is, and
-    /// one with no table after it made the ledger's tables there. Where it can't, the connection comes back, with
-    /// its rows as before. A connection that is inside a transaction answers Store.
+    /// Takes a database for the ledger of an owner of a scheme, which may hold other tables too: one that holds
+    /// this owner's ledger as it is, and one in which nothing has a name of the ledger's tables after it made them
+    /// there. Where it can't, the connection comes back, with its rows as before. A connection that is inside a
+    /// transaction answers Store.
     ///
     /// Refused by the first case of `LedgerOpenFault` that applies.
     pub fn open(
@@ -195,9 +158,9 @@ impl<S: Alter> SqlLedger<S> {
         ensures unknown { IfErr result (λ e. (e.1 ≡ LedgerOpenFault.UnknownOwner) ↔ IsNone (position_of_owner scheme.now owner)) }
         ensures owner { IfOk result (λ l. (stands S.Store l).value.owner ≡ owner) }
         ensures scheme { IfOk result (λ l. IsOfScheme scheme.now (stands S.Store l).value) }
-        ensures made { IfOk result (λ l. (stands S.Store l).live → (state S.Store conn).now.schema ≡ no_schema → (stands S.Store l).lawful × IsEmptyLedger (stands S.Store l).value) }
-        ensures kept { IfOk result (λ l. (stands S.Store l).live → (order : Order) → IsFit (schema_in order) (IsLawful order owner scheme.now.start) (state S.Store conn) → (stands S.Store l).lawful × ((stands S.Store l).value ≡ value_at order owner scheme.now.start (stands S.Store l).value.knows (state S.Store conn).now.trees)) }
-        ensures ours { IfOk result (λ l. (stands S.Store l).live → IsBlankOrOurs owner (state S.Store conn)) }
+        ensures made { IfOk result (λ l. (stands S.Store l).live → IsVacant (state S.Store conn) → (stands S.Store l).lawful × IsEmptyLedger (stands S.Store l).value) }
+        ensures kept { IfOk result (λ l. (stands S.Store l).live → (w : Layout) → IsFit (schema_in w) (IsLawful w owner scheme.now.start) (state S.Store conn) → (stands S.Store l).lawful × ((stands S.Store l).value ≡ value_at w owner scheme.now.start (stands S.Store l).value.knows (state S.Store conn).now.trees)) }
+        ensures ours { IfOk result (λ l. (stands S.Store l).live → IsVacant (state S.Store conn) ⊎ IsLedger owner (state S.Store conn)) }
         ensures failures { IfOk result (λ l. (stands S.Store l).failures ≡ 0) }
         ensures inside { conn.in_transaction ≡ true → IsSome (position_of_owner scheme.now owner) → result ≡ Err (conn, LedgerOpenFault.Store) }
         ensures foreign { IfErr result (λ e. e.1 ≡ LedgerOpenFault.Foreign → (state S.Store conn).now.schema ≢ no_schema) }
@@ -213,7 +176,7 @@ impl<S: Alter> SqlLedger<S> {
         if !conn.is_autocommit() {
             return Err((conn, LedgerOpenFault::Store));
         }
-        let found = match look(&conn, alloc) {
+        let found = match look_at(conn.schema(), alloc) {
             Ok(found) => found,
             Err(fault) => return Err((conn, open_fault(fault))),
         };
@@ -221,10 +184,10 @@ impl<S: Alter> SqlLedger<S> {
             return Err((conn, LedgerOpenFault::Memory));
         };
         match settle(&mut conn, found, owner) {
-            Ok(Some(order)) => Ok(SqlLedger {
+            Ok(Some(layout)) => Ok(SqlLedger {
                 alloc,
                 conn,
-                order,
+                layout,
                 owner,
                 start: scheme.start(),
                 devices,
@@ -240,8 +203,8 @@ impl<S: Alter> SqlLedger<S> {
         ensures crash { Survives (connected S.Store self) (state S.Store result) (λ _. ⊥) }
         ensures idle { result.in_transaction ≡ false }
         ensures live { (stands S.Store self).live → IsLive (state S.Store result) }
-        ensures kept { (stands S.Store self).lawful → IsFit (schema_in self.order) (IsLawful self.order (stands S.Store self).value.owner (stands S.Store self).value.start) (state S.Store result)
-            × (value_at self.order (stands S.Store self).value.owner (stands S.Store self).value.start (stands S.Store self).value.knows (state S.Store result).now.trees ≡ (stands S.Store self).value) }
+        ensures kept { (stands S.Store self).lawful → IsFit (schema_in self.layout) (IsLawful self.layout (stands S.Store self).value.owner (stands S.Store self).value.start) (state S.Store result)
+            × (value_at self.layout (stands S.Store self).value.owner (stands S.Store self).value.start (stands S.Store self).value.knows (state S.Store result).now.trees ≡ (stands S.Store self).value) }
     {
         self.into_parts()
     }

@@ -4,13 +4,16 @@ ghost use Rattle.sqlite.specs.Held.{state};
 ghost use Rattle.fare_tables.specs.Asking.{IsLive, IsAtRest, SameRows};
 ghost use Rattle.sqlite_value.specs.Order.{column};
 ghost use Rattle.fare_tables.specs.Cells.{int, counted};
-ghost use Rattle.fare_ledger.specs.Orders.{schema_in, ours};
+ghost use Rattle.fare_ledger.specs.Layouts.{schema_in, ours};
 ghost use Rattle.fare_ledger.specs.Held.{held_of, IsReady, stated_in, is_on, is_begun, IsWithin};
 ghost use Rattle.fare_ledger.specs.Words.{AreApart};
 
-use crate::Order;
+use crate::Layout;
 use crate::asking::ask;
 use crate::lane::Lane;
+use crate::statements::{
+    COUNT_BEGUN, COUNT_DAY, COUNT_STATEMENTS, COUNT_TAPS, READ_LANE, READ_STATED,
+};
 use fare_record::{Day, DeviceId};
 use fare_store::Fault;
 use fare_tables::{cell_count, cell_number, cell_total, parameter};
@@ -36,21 +39,21 @@ fn lane_in(row: &Row) -> Result<Lane, Fault>
 // How many taps of a device are taken, and how many of its days closed: none where it has no row.
 pub(crate) fn read_lane<S: Alter>(
     conn: &mut Connection<S>,
-    order: Order,
+    layout: &Layout,
     device: DeviceId,
 ) -> Result<Lane, Fault>
-    ensures value { IsLive (state S.Store conn.new) → IsReady order (state S.Store conn.old) → IfOk result (λ lane. lane ≡ (held_of (ours order (state S.Store conn.old).now.trees)).lanes device) }
+    ensures value { IsLive (state S.Store conn.new) → IsReady layout.now (state S.Store conn.old) → IfOk result (λ lane. lane ≡ (held_of (ours layout.now (state S.Store conn.old).now.trees)).lanes device) }
     ensures within { IfOk result IsWithin }
-    ensures same { IsLive (state S.Store conn.new) → IsAtRest (schema_in order) (state S.Store conn.old) → SameRows (state S.Store conn.old) (state S.Store conn.new) }
-    ensures crash { Survives (state S.Store conn.old) (state S.Store conn.new) (λ _. ¬ IsAtRest (schema_in order) (state S.Store conn.old)) }
+    ensures same { IsLive (state S.Store conn.new) → IsAtRest (schema_in layout.now) (state S.Store conn.old) → SameRows (state S.Store conn.old) (state S.Store conn.new) }
+    ensures crash { Survives (state S.Store conn.old) (state S.Store conn.new) (λ _. ¬ IsAtRest (schema_in layout.now) (state S.Store conn.old)) }
     ensures live { IsLive (state S.Store conn.new) → IsLive (state S.Store conn.old) }
     ensures stays { HasCleanDisk (state S.Store conn.new) → OnOk result (IsTrue (state S.Store conn.new).is_open) }
     ensures mode { conn.old.in_transaction ≡ false → conn.new.in_transaction ≡ false }
 {
     match ask(
         conn,
-        order,
-        "SELECT taken, closed FROM lane WHERE device = ?1",
+        layout,
+        READ_LANE,
         &[parameter(u64::from(device.get()))],
     )? {
         Some(row) => lane_in(&row),
@@ -78,31 +81,31 @@ fn last_day(start: Day, closed: u64) -> Result<Option<Day>, Fault>
 // The last closed day of a device, where the days are closed from this one on.
 pub(crate) fn read_last<S: Alter>(
     conn: &mut Connection<S>,
-    order: Order,
+    layout: &Layout,
     device: DeviceId,
     start: Day,
 ) -> Result<Option<Day>, Fault>
-    ensures value { IsLive (state S.Store conn.new) → IsReady order (state S.Store conn.old) → IfOk result (λ day. day ≡ (if ((held_of (ours order (state S.Store conn.old).now.trees)).lanes device).closed == 0 then None else Some (start + ((held_of (ours order (state S.Store conn.old).now.trees)).lanes device).closed - 1))) }
-    ensures same { IsLive (state S.Store conn.new) → IsAtRest (schema_in order) (state S.Store conn.old) → SameRows (state S.Store conn.old) (state S.Store conn.new) }
-    ensures crash { Survives (state S.Store conn.old) (state S.Store conn.new) (λ _. ¬ IsAtRest (schema_in order) (state S.Store conn.old)) }
+    ensures value { IsLive (state S.Store conn.new) → IsReady layout.now (state S.Store conn.old) → IfOk result (λ day. day ≡ (if ((held_of (ours layout.now (state S.Store conn.old).now.trees)).lanes device).closed == 0 then None else Some (start + ((held_of (ours layout.now (state S.Store conn.old).now.trees)).lanes device).closed - 1))) }
+    ensures same { IsLive (state S.Store conn.new) → IsAtRest (schema_in layout.now) (state S.Store conn.old) → SameRows (state S.Store conn.old) (state S.Store conn.new) }
+    ensures crash { Survives (state S.Store conn.old) (state S.Store conn.new) (λ _. ¬ IsAtRest (schema_in layout.now) (state S.Store conn.old)) }
     ensures live { IsLive (state S.Store conn.new) → IsLive (state S.Store conn.old) }
     ensures stays { HasCleanDisk (state S.Store conn.new) → OnOk result (IsTrue (state S.Store conn.new).is_open) }
     ensures mode { conn.old.in_transaction ≡ false → conn.new.in_transaction ≡ false }
 {
-    let lane = read_lane(conn, order, device)?;
+    let lane = read_lane(conn, layout, device)?;
     last_day(start, lane.closed)
 }
 
 // The stated count of a day.
 pub(crate) fn read_stated<S: Alter>(
     conn: &mut Connection<S>,
-    order: Order,
+    layout: &Layout,
     device: DeviceId,
     day: Day,
 ) -> Result<Option<u64>, Fault>
-    ensures value { IsLive (state S.Store conn.new) → IsReady order (state S.Store conn.old) → AreApart (held_of (ours order (state S.Store conn.old).now.trees)).statements → IfOk result (λ held. held ≡ stated_in (held_of (ours order (state S.Store conn.old).now.trees)).statements device day) }
-    ensures same { IsLive (state S.Store conn.new) → IsAtRest (schema_in order) (state S.Store conn.old) → SameRows (state S.Store conn.old) (state S.Store conn.new) }
-    ensures crash { Survives (state S.Store conn.old) (state S.Store conn.new) (λ _. ¬ IsAtRest (schema_in order) (state S.Store conn.old)) }
+    ensures value { IsLive (state S.Store conn.new) → IsReady layout.now (state S.Store conn.old) → AreApart (held_of (ours layout.now (state S.Store conn.old).now.trees)).statements → IfOk result (λ held. held ≡ stated_in (held_of (ours layout.now (state S.Store conn.old).now.trees)).statements device day) }
+    ensures same { IsLive (state S.Store conn.new) → IsAtRest (schema_in layout.now) (state S.Store conn.old) → SameRows (state S.Store conn.old) (state S.Store conn.new) }
+    ensures crash { Survives (state S.Store conn.old) (state S.Store conn.new) (λ _. ¬ IsAtRest (schema_in layout.now) (state S.Store conn.old)) }
     ensures live { IsLive (state S.Store conn.new) → IsLive (state S.Store conn.old) }
     ensures stays { HasCleanDisk (state S.Store conn.new) → OnOk result (IsTrue (state S.Store conn.new).is_open) }
     ensures mode { conn.old.in_transaction ≡ false → conn.new.in_transaction ≡ false }
@@ -111,12 +114,7 @@ pub(crate) fn read_stated<S: Alter>(
         parameter(u64::from(device.get())),
         parameter(u64::from(day.get())),
     ];
-    match ask(
-        conn,
-        order,
-        "SELECT total FROM stated WHERE device = ?1 AND day = ?2",
-        &asked,
-    )? {
+    match ask(conn, layout, READ_STATED, &asked)? {
         Some(row) => Ok(Some(cell_count(&row, 0)?)),
         None => Ok(None),
     }
@@ -125,13 +123,13 @@ pub(crate) fn read_stated<S: Alter>(
 // How many taps of a device are of a day.
 pub(crate) fn count_day<S: Alter>(
     conn: &mut Connection<S>,
-    order: Order,
+    layout: &Layout,
     device: DeviceId,
     day: Day,
 ) -> Result<u64, Fault>
-    ensures value { IsLive (state S.Store conn.new) → IsReady order (state S.Store conn.old) → IfOk result (λ n. n ≡ length (filter (is_on device day) (held_of (ours order (state S.Store conn.old).now.trees)).taps)) }
-    ensures same { IsLive (state S.Store conn.new) → IsAtRest (schema_in order) (state S.Store conn.old) → SameRows (state S.Store conn.old) (state S.Store conn.new) }
-    ensures crash { Survives (state S.Store conn.old) (state S.Store conn.new) (λ _. ¬ IsAtRest (schema_in order) (state S.Store conn.old)) }
+    ensures value { IsLive (state S.Store conn.new) → IsReady layout.now (state S.Store conn.old) → IfOk result (λ n. n ≡ length (filter (is_on device day) (held_of (ours layout.now (state S.Store conn.old).now.trees)).taps)) }
+    ensures same { IsLive (state S.Store conn.new) → IsAtRest (schema_in layout.now) (state S.Store conn.old) → SameRows (state S.Store conn.old) (state S.Store conn.new) }
+    ensures crash { Survives (state S.Store conn.old) (state S.Store conn.new) (λ _. ¬ IsAtRest (schema_in layout.now) (state S.Store conn.old)) }
     ensures live { IsLive (state S.Store conn.new) → IsLive (state S.Store conn.old) }
     ensures stays { HasCleanDisk (state S.Store conn.new) → OnOk result (IsTrue (state S.Store conn.new).is_open) }
     ensures mode { conn.old.in_transaction ≡ false → conn.new.in_transaction ≡ false }
@@ -140,47 +138,37 @@ pub(crate) fn count_day<S: Alter>(
         parameter(u64::from(device.get())),
         parameter(u64::from(day.get())),
     ];
-    match ask(
-        conn,
-        order,
-        "SELECT count(*) FROM tap WHERE device = ?1 AND day = ?2",
-        &asked,
-    )? {
+    match ask(conn, layout, COUNT_DAY, &asked)? {
         Some(row) => cell_total(&row, 0),
         None => Err(Fault::Store),
     }
 }
 
 // How many devices have a tap taken or a day closed.
-pub(crate) fn count_begun<S: Alter>(conn: &mut Connection<S>, order: Order) -> Result<u64, Fault>
-    ensures value { IsLive (state S.Store conn.new) → IsReady order (state S.Store conn.old) → IfOk result (λ n. n ≡ counted (length (filter is_begun (ours order (state S.Store conn.old).now.trees 1)))) }
-    ensures same { IsLive (state S.Store conn.new) → IsAtRest (schema_in order) (state S.Store conn.old) → SameRows (state S.Store conn.old) (state S.Store conn.new) }
-    ensures crash { Survives (state S.Store conn.old) (state S.Store conn.new) (λ _. ¬ IsAtRest (schema_in order) (state S.Store conn.old)) }
+pub(crate) fn count_begun<S: Alter>(conn: &mut Connection<S>, layout: &Layout) -> Result<u64, Fault>
+    ensures value { IsLive (state S.Store conn.new) → IsReady layout.now (state S.Store conn.old) → IfOk result (λ n. n ≡ counted (length (filter is_begun (ours layout.now (state S.Store conn.old).now.trees 1)))) }
+    ensures same { IsLive (state S.Store conn.new) → IsAtRest (schema_in layout.now) (state S.Store conn.old) → SameRows (state S.Store conn.old) (state S.Store conn.new) }
+    ensures crash { Survives (state S.Store conn.old) (state S.Store conn.new) (λ _. ¬ IsAtRest (schema_in layout.now) (state S.Store conn.old)) }
     ensures live { IsLive (state S.Store conn.new) → IsLive (state S.Store conn.old) }
     ensures stays { HasCleanDisk (state S.Store conn.new) → OnOk result (IsTrue (state S.Store conn.new).is_open) }
     ensures mode { conn.old.in_transaction ≡ false → conn.new.in_transaction ≡ false }
 {
-    match ask(
-        conn,
-        order,
-        "SELECT count(*) FROM lane WHERE taken > 0 OR closed > 0",
-        &[],
-    )? {
+    match ask(conn, layout, COUNT_BEGUN, &[])? {
         Some(row) => cell_number(&row, 0),
         None => Err(Fault::Store),
     }
 }
 
 // How many taps there are.
-pub(crate) fn count_taps<S: Alter>(conn: &mut Connection<S>, order: Order) -> Result<u64, Fault>
-    ensures value { IsLive (state S.Store conn.new) → IsReady order (state S.Store conn.old) → IfOk result (λ n. n ≡ counted (length (held_of (ours order (state S.Store conn.old).now.trees)).taps)) }
-    ensures same { IsLive (state S.Store conn.new) → IsAtRest (schema_in order) (state S.Store conn.old) → SameRows (state S.Store conn.old) (state S.Store conn.new) }
-    ensures crash { Survives (state S.Store conn.old) (state S.Store conn.new) (λ _. ¬ IsAtRest (schema_in order) (state S.Store conn.old)) }
+pub(crate) fn count_taps<S: Alter>(conn: &mut Connection<S>, layout: &Layout) -> Result<u64, Fault>
+    ensures value { IsLive (state S.Store conn.new) → IsReady layout.now (state S.Store conn.old) → IfOk result (λ n. n ≡ counted (length (held_of (ours layout.now (state S.Store conn.old).now.trees)).taps)) }
+    ensures same { IsLive (state S.Store conn.new) → IsAtRest (schema_in layout.now) (state S.Store conn.old) → SameRows (state S.Store conn.old) (state S.Store conn.new) }
+    ensures crash { Survives (state S.Store conn.old) (state S.Store conn.new) (λ _. ¬ IsAtRest (schema_in layout.now) (state S.Store conn.old)) }
     ensures live { IsLive (state S.Store conn.new) → IsLive (state S.Store conn.old) }
     ensures stays { HasCleanDisk (state S.Store conn.new) → OnOk result (IsTrue (state S.Store conn.new).is_open) }
     ensures mode { conn.old.in_transaction ≡ false → conn.new.in_transaction ≡ false }
 {
-    match ask(conn, order, "SELECT count(*) FROM tap", &[])? {
+    match ask(conn, layout, COUNT_TAPS, &[])? {
         Some(row) => cell_number(&row, 0),
         None => Err(Fault::Store),
     }
@@ -189,16 +177,16 @@ pub(crate) fn count_taps<S: Alter>(conn: &mut Connection<S>, order: Order) -> Re
 // How many statements there are.
 pub(crate) fn count_statements<S: Alter>(
     conn: &mut Connection<S>,
-    order: Order,
+    layout: &Layout,
 ) -> Result<u64, Fault>
-    ensures value { IsLive (state S.Store conn.new) → IsReady order (state S.Store conn.old) → IfOk result (λ n. n ≡ counted (length (held_of (ours order (state S.Store conn.old).now.trees)).statements)) }
-    ensures same { IsLive (state S.Store conn.new) → IsAtRest (schema_in order) (state S.Store conn.old) → SameRows (state S.Store conn.old) (state S.Store conn.new) }
-    ensures crash { Survives (state S.Store conn.old) (state S.Store conn.new) (λ _. ¬ IsAtRest (schema_in order) (state S.Store conn.old)) }
+    ensures value { IsLive (state S.Store conn.new) → IsReady layout.now (state S.Store conn.old) → IfOk result (λ n. n ≡ counted (length (held_of (ours layout.now (state S.Store conn.old).now.trees)).statements)) }
+    ensures same { IsLive (state S.Store conn.new) → IsAtRest (schema_in layout.now) (state S.Store conn.old) → SameRows (state S.Store conn.old) (state S.Store conn.new) }
+    ensures crash { Survives (state S.Store conn.old) (state S.Store conn.new) (λ _. ¬ IsAtRest (schema_in layout.now) (state S.Store conn.old)) }
     ensures live { IsLive (state S.Store conn.new) → IsLive (state S.Store conn.old) }
     ensures stays { HasCleanDisk (state S.Store conn.new) → OnOk result (IsTrue (state S.Store conn.new).is_open) }
     ensures mode { conn.old.in_transaction ≡ false → conn.new.in_transaction ≡ false }
 {
-    match ask(conn, order, "SELECT count(*) FROM stated", &[])? {
+    match ask(conn, layout, COUNT_STATEMENTS, &[])? {
         Some(row) => cell_number(&row, 0),
         None => Err(Fault::Store),
     }

@@ -23,7 +23,7 @@ impl<S: Alter> SqlLedger<S> {
         ensures { Calls (given (MayTake (stands S.Store self.old).value row.now closed) (stands S.Store self.old)) (stands S.Store self.new) (fault_of result)
             (Makes (stands S.Store self.old).value (stands S.Store self.new).value (took row.now (stands S.Store self.old).value) result) (λ v. v ≡ took row.now (stands S.Store self.old).value) }
     {
-        match write_tap(&mut self.conn, self.order, row, closed) {
+        match write_tap(&mut self.conn, &self.layout, row, closed) {
             Ok(()) => Ok(()),
             Err(fault) => Err(note(&mut self.failures, fault)),
         }
@@ -35,7 +35,7 @@ impl<S: Alter> SqlLedger<S> {
         ensures { Calls (given ((stands S.Store self.old).value.stated statement.now.device statement.now.day ≡ None) (stands S.Store self.old)) (stands S.Store self.new) (fault_of result)
             (Makes (stands S.Store self.old).value (stands S.Store self.new).value (with_statement statement.now (stands S.Store self.old).value) result) (λ v. v ≡ with_statement statement.now (stands S.Store self.old).value) }
     {
-        match write_statement(&mut self.conn, self.order, statement) {
+        match write_statement(&mut self.conn, &self.layout, statement) {
             Ok(()) => Ok(()),
             Err(fault) => Err(note(&mut self.failures, fault)),
         }
@@ -50,7 +50,7 @@ impl<S: Alter> SqlLedger<S> {
     {
         match write_numbers(
             &mut self.conn,
-            self.order,
+            &self.layout,
             device,
             lane.taken,
             lane.closed + 1,

@@ -1,6 +1,6 @@
 ghost use Rattle.std.specs.Prelude.{◌≡◌, false};
 
-use crate::Order;
+use crate::Layout;
 use fare_record::{Day, DeviceId, OwnerId};
 use sqlite::{Alter, Connection};
 use std::alloc::Global;
@@ -10,8 +10,8 @@ use std::collections::HashSet;
 pub struct SqlLedger<S: Alter> {
     pub(crate) alloc: Global,
     pub(crate) conn: Connection<S>,
-    // In which order its tables were made.
-    pub(crate) order: Order,
+    // Where its tables stand.
+    pub(crate) layout: Layout,
     pub(crate) owner: OwnerId,
     // The scheme's first day, and its devices.
     pub(crate) start: Day,
@@ -29,7 +29,7 @@ impl<S: Alter> SqlLedger<S> {
         let SqlLedger {
             alloc: _,
             conn,
-            order: _,
+            layout: _,
             owner: _,
             start: _,
             devices,
@@ -46,7 +46,7 @@ impl<S: Alter + Drop> Drop for SqlLedger<S> {
         let SqlLedger {
             alloc: _,
             conn: _,
-            order: _,
+            layout: _,
             owner: _,
             start: _,
             devices: _,

@@ -4,10 +4,11 @@ ghost use Rattle.sqlite.specs.Held.{state};
 ghost use Rattle.sqlite.specs.Values.{bound};
 ghost use Rattle.fare_tables.specs.Asking.{IsLive, SameRows, Inside};
 ghost use Rattle.fare_tables.specs.Cells.{AreRows};
-ghost use Rattle.fare_ledger.specs.Orders.{schema_in, ours};
+ghost use Rattle.fare_ledger.specs.Layouts.{schema_in, ours};
 ghost use Rattle.fare_ledger.specs.Held.{held_of, AreReadable, IsReady, IsLane, Becomes, PutsTap, PutsStated, PutsLane, tap_cells, stated_cells, row_of, row_stated, with_tap, with_stated, with_numbers};
 
-use crate::Order;
+use crate::Layout;
+use crate::statements::{PUT_LANE, PUT_STATED, PUT_TAP};
 use fare_record::{DeviceId, Record, Statement};
 use fare_store::Fault;
 use fare_tables::{change, fault_of, parameter};
@@ -29,19 +30,19 @@ fn cells_of(row: &Record) -> [ValueRef<'static>; 7]
     ]
 }
 
-fn put_tap<S: Alter>(tx: &mut Transaction<'_, S>, order: Order, row: &Record) -> Result<(), Fault>
+fn put_tap<S: Alter>(
+    tx: &mut Transaction<'_, S>,
+    layout: &Layout,
+    row: &Record,
+) -> Result<(), Fault>
     ensures same_reference { tx.new.conn.ghost_name ≡ tx.old.conn.ghost_name }
-    ensures puts { HasCleanDisk (state S.Store tx.new.conn.now) → IsTrue (state S.Store tx.old.conn.now).in_transaction → (state S.Store tx.old.conn.now).now.schema ≡ schema_in order
-        → OnOk result (PutsTap order (state S.Store tx.old.conn.now).now (state S.Store tx.new.conn.now).now (row_of row.now) × IsTrue (state S.Store tx.new.conn.now).in_transaction) }
+    ensures puts { HasCleanDisk (state S.Store tx.new.conn.now) → IsTrue (state S.Store tx.old.conn.now).in_transaction → (state S.Store tx.old.conn.now).now.schema ≡ schema_in layout.now
+        → OnOk result (PutsTap layout.now (state S.Store tx.old.conn.now).now (state S.Store tx.new.conn.now).now (row_of row.now) × IsTrue (state S.Store tx.new.conn.now).in_transaction) }
     ensures inside { HasCleanDisk (state S.Store tx.new.conn.now) → Inside (state S.Store tx.old.conn.now) (state S.Store tx.new.conn.now) }
     ensures survives { Survives (state S.Store tx.old.conn.now) (state S.Store tx.new.conn.now) (λ _. ⊥) }
 {
     let cells = cells_of(row);
-    match change(
-        tx,
-        "INSERT INTO tap (device, lane, link, product, token, moment, day) VALUES (?1, ?2, ?3, ?4, ?5, ?6, ?7)",
-        &cells,
-    ) {
+    match change(tx, PUT_TAP, &cells) {
         Ok(_) => Ok(()),
         Err(fault) => Err(fault),
     }
@@ -49,7 +50,7 @@ fn put_tap<S: Alter>(tx: &mut Transaction<'_, S>, order: Order, row: &Record) ->
 
 fn put_lane<S: Alter>(
     tx: &mut Transaction<'_, S>,
-    order: Order,
+    layout: &Layout,
     device: DeviceId,
     taken: u64,
     closed: u64,
@@ -57,8 +58,8 @@ fn put_lane<S: Alter>(
     requires taken { taken < 2 ^ 63 }
     requires closed { closed < 2 ^ 63 }
     ensures same_reference { tx.new.conn.ghost_name ≡ tx.old.conn.ghost_name }
-    ensures puts { HasCleanDisk (state S.Store tx.new.conn.now) → IsTrue (state S.Store tx.old.conn.now).in_transaction → (state S.Store tx.old.conn.now).now.schema ≡ schema_in order → AreRows IsLane (ours order (state S.Store tx.old.conn.now).now.trees 1)
-        → OnOk result (PutsLane order (state S.Store tx.old.conn.now).now (state S.Store tx.new.conn.now).now device taken closed × IsTrue (state S.Store tx.new.conn.now).in_transaction) }
+    ensures puts { HasCleanDisk (state S.Store tx.new.conn.now) → IsTrue (state S.Store tx.old.conn.now).in_transaction → (state S.Store tx.old.conn.now).now.schema ≡ schema_in layout.now → AreRows IsLane (ours layout.now (state S.Store tx.old.conn.now).now.trees 1)
+        → OnOk result (PutsLane layout.now (state S.Store tx.old.conn.now).now (state S.Store tx.new.conn.now).now device taken closed × IsTrue (state S.Store tx.new.conn.now).in_transaction) }
     ensures inside { HasCleanDisk (state S.Store tx.new.conn.now) → Inside (state S.Store tx.old.conn.now) (state S.Store tx.new.conn.now) }
     ensures survives { Survives (state S.Store tx.old.conn.now) (state S.Store tx.new.conn.now) (λ _. ⊥) }
 {
@@ -67,11 +68,7 @@ fn put_lane<S: Alter>(
         parameter(taken),
         parameter(closed),
     ];
-    match change(
-        tx,
-        "INSERT INTO lane (device, taken, closed) VALUES (?1, ?2, ?3) ON CONFLICT (device) DO UPDATE SET taken = excluded.taken, closed = excluded.closed",
-        &cells,
-    ) {
+    match change(tx, PUT_LANE, &cells) {
         Ok(_) => Ok(()),
         Err(fault) => Err(fault),
     }
@@ -80,39 +77,39 @@ fn put_lane<S: Alter>(
 // The tap and its device's numbers.
 fn put_row<S: Alter>(
     tx: &mut Transaction<'_, S>,
-    order: Order,
+    layout: &Layout,
     row: &Record,
     closed: u64,
 ) -> Result<(), Fault>
     requires { closed < 2 ^ 63 }
     ensures same_reference { tx.new.conn.ghost_name ≡ tx.old.conn.ghost_name }
-    ensures puts { HasCleanDisk (state S.Store tx.new.conn.now) → IsTrue (state S.Store tx.old.conn.now).in_transaction → (state S.Store tx.old.conn.now).now.schema ≡ schema_in order → AreReadable (ours order (state S.Store tx.old.conn.now).now.trees)
-        → OnOk result (Becomes order (state S.Store tx.new.conn.now).now (with_tap (row_of row.now) closed (held_of (ours order (state S.Store tx.old.conn.now).now.trees))) × IsTrue (state S.Store tx.new.conn.now).in_transaction) }
+    ensures puts { HasCleanDisk (state S.Store tx.new.conn.now) → IsTrue (state S.Store tx.old.conn.now).in_transaction → (state S.Store tx.old.conn.now).now.schema ≡ schema_in layout.now → AreReadable (ours layout.now (state S.Store tx.old.conn.now).now.trees)
+        → OnOk result (Becomes layout.now (state S.Store tx.new.conn.now).now (with_tap (row_of row.now) closed (held_of (ours layout.now (state S.Store tx.old.conn.now).now.trees))) × IsTrue (state S.Store tx.new.conn.now).in_transaction) }
     ensures inside { HasCleanDisk (state S.Store tx.new.conn.now) → Inside (state S.Store tx.old.conn.now) (state S.Store tx.new.conn.now) }
     ensures survives { Survives (state S.Store tx.old.conn.now) (state S.Store tx.new.conn.now) (λ _. ⊥) }
 {
-    put_tap(tx, order, row)?;
-    put_lane(tx, order, row.device(), row.lane(), closed)
+    put_tap(tx, layout, row)?;
+    put_lane(tx, layout, row.device(), row.lane(), closed)
 }
 
 // The tap and its device's numbers, of which the number of closed days is as before, in one transaction.
 pub(crate) fn write_tap<S: Alter>(
     conn: &mut Connection<S>,
-    order: Order,
+    layout: &Layout,
     row: &Record,
     closed: u64,
 ) -> Result<(), Fault>
     requires low { closed < 2 ^ 63 }
     requires idle { conn.old.in_transaction ≡ false }
-    ensures value { IsLive (state S.Store conn.new) → IsReady order (state S.Store conn.old) → OnOk result (Becomes order (state S.Store conn.new).now (with_tap (row_of row.now) closed (held_of (ours order (state S.Store conn.old).now.trees))) × ((state S.Store conn.new).now ≡ (state S.Store conn.new).committed)) }
-    ensures same { IsLive (state S.Store conn.new) → IsReady order (state S.Store conn.old) → OnErr result (SameRows (state S.Store conn.old) (state S.Store conn.new)) }
-    ensures crash { Survives (state S.Store conn.old) (state S.Store conn.new) (λ trees. IsReady order (state S.Store conn.old) → held_of (ours order trees) ≡ with_tap (row_of row.now) closed (held_of (ours order (state S.Store conn.old).now.trees))) }
+    ensures value { IsLive (state S.Store conn.new) → IsReady layout.now (state S.Store conn.old) → OnOk result (Becomes layout.now (state S.Store conn.new).now (with_tap (row_of row.now) closed (held_of (ours layout.now (state S.Store conn.old).now.trees))) × ((state S.Store conn.new).now ≡ (state S.Store conn.new).committed)) }
+    ensures same { IsLive (state S.Store conn.new) → IsReady layout.now (state S.Store conn.old) → OnErr result (SameRows (state S.Store conn.old) (state S.Store conn.new)) }
+    ensures crash { Survives (state S.Store conn.old) (state S.Store conn.new) (λ trees. IsReady layout.now (state S.Store conn.old) → held_of (ours layout.now trees) ≡ with_tap (row_of row.now) closed (held_of (ours layout.now (state S.Store conn.old).now.trees))) }
     ensures live { IsLive (state S.Store conn.new) → IsLive (state S.Store conn.old) }
     ensures stays { HasCleanDisk (state S.Store conn.new) → OnOk result (IsTrue (state S.Store conn.new).is_open) }
     ensures idle { conn.new.in_transaction ≡ false }
 {
     let mut tx = conn.transaction();
-    put_row(&mut tx, order, row, closed)?;
+    put_row(&mut tx, layout, row, closed)?;
     match tx.commit() {
         Ok(()) => Ok(()),
         Err(error) => Err(fault_of(error)),
@@ -131,21 +128,17 @@ fn cells_stated(statement: &Statement) -> [ValueRef<'static>; 3]
 
 fn put_statement<S: Alter>(
     tx: &mut Transaction<'_, S>,
-    order: Order,
+    layout: &Layout,
     statement: &Statement,
 ) -> Result<(), Fault>
     ensures same_reference { tx.new.conn.ghost_name ≡ tx.old.conn.ghost_name }
-    ensures puts { HasCleanDisk (state S.Store tx.new.conn.now) → IsTrue (state S.Store tx.old.conn.now).in_transaction → (state S.Store tx.old.conn.now).now.schema ≡ schema_in order → AreReadable (ours order (state S.Store tx.old.conn.now).now.trees)
-        → OnOk result (Becomes order (state S.Store tx.new.conn.now).now (with_stated (row_stated statement.now) (held_of (ours order (state S.Store tx.old.conn.now).now.trees))) × IsTrue (state S.Store tx.new.conn.now).in_transaction) }
+    ensures puts { HasCleanDisk (state S.Store tx.new.conn.now) → IsTrue (state S.Store tx.old.conn.now).in_transaction → (state S.Store tx.old.conn.now).now.schema ≡ schema_in layout.now → AreReadable (ours layout.now (state S.Store tx.old.conn.now).now.trees)
+        → OnOk result (Becomes layout.now (state S.Store tx.new.conn.now).now (with_stated (row_stated statement.now) (held_of (ours layout.now (state S.Store tx.old.conn.now).now.trees))) × IsTrue (state S.Store tx.new.conn.now).in_transaction) }
     ensures inside { HasCleanDisk (state S.Store tx.new.conn.now) → Inside (state S.Store tx.old.conn.now) (state S.Store tx.new.conn.now) }
     ensures survives { Survives (state S.Store tx.old.conn.now) (state S.Store tx.new.conn.now) (λ _. ⊥) }
 {
     let cells = cells_stated(statement);
-    match change(
-        tx,
-        "INSERT INTO stated (device, day, total) VALUES (?1, ?2, ?3)",
-        &cells,
-    ) {
+    match change(tx, PUT_STATED, &cells) {
         Ok(_) => Ok(()),
         Err(fault) => Err(fault),
     }
@@ -154,19 +147,19 @@ fn put_statement<S: Alter>(
 // The statement, in one transaction.
 pub(crate) fn write_statement<S: Alter>(
     conn: &mut Connection<S>,
-    order: Order,
+    layout: &Layout,
     statement: &Statement,
 ) -> Result<(), Fault>
     requires { conn.old.in_transaction ≡ false }
-    ensures value { IsLive (state S.Store conn.new) → IsReady order (state S.Store conn.old) → OnOk result (Becomes order (state S.Store conn.new).now (with_stated (row_stated statement.now) (held_of (ours order (state S.Store conn.old).now.trees))) × ((state S.Store conn.new).now ≡ (state S.Store conn.new).committed)) }
-    ensures same { IsLive (state S.Store conn.new) → IsReady order (state S.Store conn.old) → OnErr result (SameRows (state S.Store conn.old) (state S.Store conn.new)) }
-    ensures crash { Survives (state S.Store conn.old) (state S.Store conn.new) (λ trees. IsReady order (state S.Store conn.old) → held_of (ours order trees) ≡ with_stated (row_stated statement.now) (held_of (ours order (state S.Store conn.old).now.trees))) }
+    ensures value { IsLive (state S.Store conn.new) → IsReady layout.now (state S.Store conn.old) → OnOk result (Becomes layout.now (state S.Store conn.new).now (with_stated (row_stated statement.now) (held_of (ours layout.now (state S.Store conn.old).now.trees))) × ((state S.Store conn.new).now ≡ (state S.Store conn.new).committed)) }
+    ensures same { IsLive (state S.Store conn.new) → IsReady layout.now (state S.Store conn.old) → OnErr result (SameRows (state S.Store conn.old) (state S.Store conn.new)) }
+    ensures crash { Survives (state S.Store conn.old) (state S.Store conn.new) (λ trees. IsReady layout.now (state S.Store conn.old) → held_of (ours layout.now trees) ≡ with_stated (row_stated statement.now) (held_of (ours layout.now (state S.Store conn.old).now.trees))) }
     ensures live { IsLive (state S.Store conn.new) → IsLive (state S.Store conn.old) }
     ensures stays { HasCleanDisk (state S.Store conn.new) → OnOk result (IsTrue (state S.Store conn.new).is_open) }
     ensures idle { conn.new.in_transaction ≡ false }
 {
     let mut tx = conn.transaction();
-    put_statement(&mut tx, order, statement)?;
+    put_statement(&mut tx, layout, statement)?;
     match tx.commit() {
         Ok(()) => Ok(()),
         Err(error) => Err(fault_of(error)),
@@ -176,7 +169,7 @@ pub(crate) fn write_statement<S: Alter>(
 // A device's numbers.
 fn put_numbers<S: Alter>(
     tx: &mut Transaction<'_, S>,
-    order: Order,
+    layout: &Layout,
     device: DeviceId,
     taken: u64,
     closed: u64,
@@ -184,18 +177,18 @@ fn put_numbers<S: Alter>(
     requires taken { taken < 2 ^ 63 }
     requires closed { closed < 2 ^ 63 }
     ensures same_reference { tx.new.conn.ghost_name ≡ tx.old.conn.ghost_name }
-    ensures puts { HasCleanDisk (state S.Store tx.new.conn.now) → IsTrue (state S.Store tx.old.conn.now).in_transaction → (state S.Store tx.old.conn.now).now.schema ≡ schema_in order → AreReadable (ours order (state S.Store tx.old.conn.now).now.trees)
-        → OnOk result (Becomes order (state S.Store tx.new.conn.now).now (with_numbers device taken closed (held_of (ours order (state S.Store tx.old.conn.now).now.trees))) × IsTrue (state S.Store tx.new.conn.now).in_transaction) }
+    ensures puts { HasCleanDisk (state S.Store tx.new.conn.now) → IsTrue (state S.Store tx.old.conn.now).in_transaction → (state S.Store tx.old.conn.now).now.schema ≡ schema_in layout.now → AreReadable (ours layout.now (state S.Store tx.old.conn.now).now.trees)
+        → OnOk result (Becomes layout.now (state S.Store tx.new.conn.now).now (with_numbers device taken closed (held_of (ours layout.now (state S.Store tx.old.conn.now).now.trees))) × IsTrue (state S.Store tx.new.conn.now).in_transaction) }
     ensures inside { HasCleanDisk (state S.Store tx.new.conn.now) → Inside (state S.Store tx.old.conn.now) (state S.Store tx.new.conn.now) }
     ensures survives { Survives (state S.Store tx.old.conn.now) (state S.Store tx.new.conn.now) (λ _. ⊥) }
 {
-    put_lane(tx, order, device, taken, closed)
+    put_lane(tx, layout, device, taken, closed)
 }
 
 // A device's numbers, in one transaction.
 pub(crate) fn write_numbers<S: Alter>(
     conn: &mut Connection<S>,
-    order: Order,
+    layout: &Layout,
     device: DeviceId,
     taken: u64,
     closed: u64,
@@ -203,15 +196,15 @@ pub(crate) fn write_numbers<S: Alter>(
     requires taken { taken < 2 ^ 63 }
     requires closed { closed < 2 ^ 63 }
     requires idle { conn.old.in_transaction ≡ false }
-    ensures value { IsLive (state S.Store conn.new) → IsReady order (state S.Store conn.old) → OnOk result (Becomes order (state S.Store conn.new).now (with_numbers device taken closed (held_of (ours order (state S.Store conn.old).now.trees))) × ((state S.Store conn.new).now ≡ (state S.Store conn.new).committed)) }
-    ensures same { IsLive (state S.Store conn.new) → IsReady order (state S.Store conn.old) → OnErr result (SameRows (state S.Store conn.old) (state S.Store conn.new)) }
-    ensures crash { Survives (state S.Store conn.old) (state S.Store conn.new) (λ trees. IsReady order (state S.Store conn.old) → held_of (ours order trees) ≡ with_numbers device taken closed (held_of (ours order (state S.Store conn.old).now.trees))) }
+    ensures value { IsLive (state S.Store conn.new) → IsReady layout.now (state S.Store conn.old) → OnOk result (Becomes layout.now (state S.Store conn.new).now (with_numbers device taken closed (held_of (ours layout.now (state S.Store conn.old).now.trees))) × ((state S.Store conn.new).now ≡ (state S.Store conn.new).committed)) }
+    ensures same { IsLive (state S.Store conn.new) → IsReady layout.now (state S.Store conn.old) → OnErr result (SameRows (state S.Store conn.old) (state S.Store conn.new)) }
+    ensures crash { Survives (state S.Store conn.old) (state S.Store conn.new) (λ trees. IsReady layout.now (state S.Store conn.old) → held_of (ours layout.now trees) ≡ with_numbers device taken closed (held_of (ours layout.now (state S.Store conn.old).now.trees))) }
     ensures live { IsLive (state S.Store conn.new) → IsLive (state S.Store conn.old) }
     ensures stays { HasCleanDisk (state S.Store conn.new) → OnOk result (IsTrue (state S.Store conn.new).is_open) }
     ensures idle { conn.new.in_transaction ≡ false }
 {
     let mut tx = conn.transaction();
-    put_numbers(&mut tx, order, device, taken, closed)?;
+    put_numbers(&mut tx, layout, device, taken, closed)?;
     match tx.commit() {
         Ok(()) => Ok(()),
         Err(error) => Err(fault_of(error)),

@@ -6,7 +6,7 @@ use Rattle.fare_ledger.proofs.Texts.{meta_reads}
 use Rattle.fare_ledger.proofs.opening.has_meta.Goals as goal
 
 pub ask_rows-requires : goal.ask_rows-requires
-ask_rows-requires g c = meta_reads c.args.order
+ask_rows-requires g c = meta_reads c.args.layout.now
 
 pub returns-clause-meta : goal.returns-clause-meta
 returns-clause-meta g c clean has =
@@ -15,6 +15,6 @@ returns-clause-meta g c clean has =
     let new = state g.S.Store c.ask_rows.new.conn in
     let rows = c.in_ok-rows.rows.items in
     let shows = c.in_ok-rows.ensures.rows clean in (
-      λ is. meta_is c.args.order owner old new rows has shows (subst (AreMeta c.args.owner) c.as_slice.ensures.value (c.are_meta.ensures.0 is)),
-      λ ours. c.are_meta.ensures.1 (subst (AreMeta c.args.owner) (sym c.as_slice.ensures.value) (meta_found c.args.order owner old new rows has shows ours)),
+      λ is. meta_is c.args.layout.now owner old new rows has shows (subst (AreMeta c.args.owner) c.as_slice.ensures.value (c.are_meta.ensures.0 is)),
+      λ ours. c.are_meta.ensures.1 (subst (AreMeta c.args.owner) (sym c.as_slice.ensures.value) (meta_found c.args.layout.now owner old new rows has shows ours)),
     )

@@ -6,11 +6,11 @@ use Rattle.fare_ledger.proofs.Found.{taps_counted, number_is}
 use Rattle.fare_ledger.proofs.reading.count_taps.Goals as goal
 
 pub ask-requires : goal.ask-requires
-ask-requires g c = taps_reads c.args.order
+ask-requires g c = taps_reads c.args.layout.now
 
 pub returns-in-Some-clause-value : goal.returns-in-Some-clause-value
 returns-in-Some-clause-value g c live ready =
     let old = state g.S.Store c.args.conn.now in
     let new = state g.S.Store c.ask.new.conn in
     let h : QueriesRow taps_text [] old new (Ok c.in-Some.row) = rw c.in-Some.is at (c.in_ok-row.ensures.row live.0 ready.rest) in
-    number_is c.cell_number.result c.in-Some.row _ (taps_counted c.args.order old new c.in-Some.row ready.rest.schema_is h) c.cell_number.ensures.read
+    number_is c.cell_number.result c.in-Some.row _ (taps_counted c.args.layout.now old new c.in-Some.row ready.rest.schema_is h) c.cell_number.ensures.read

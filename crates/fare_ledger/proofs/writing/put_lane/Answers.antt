@@ -12,4 +12,4 @@ returns-in-Ok-clause-puts g c clean inside schema lanes =
     let new = state g.S.Store c.change.new.tx.conn.now in
     let ran = c.in-Ok.ensures.ran clean inside in
     let h : Executes put_lane_text (int c.args.device ∷ int c.args.taken ∷ int c.args.closed ∷ []) old new (Ok c.in-Ok.field-0) = rw (c.parameter.ensures, c.parameter-2.ensures, c.parameter-3.ensures, c.from.ensures, c.get.ensures.value) at ran.0 in
-    (puts_lane c.args.order old new c.args.device c.args.taken c.args.closed c.in-Ok.field-0 schema lanes h, ran.1)
+    (puts_lane c.args.layout.now old new c.args.device c.args.taken c.args.closed c.in-Ok.field-0 schema lanes h, ran.1)

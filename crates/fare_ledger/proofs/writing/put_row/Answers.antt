@@ -16,5 +16,5 @@ returns-clause-puts g c late inside schema readable =
     let clean : HasCleanDisk (state g.S.Store c.put_tap.new.tx.conn.now) = omega (arith, now, c.put_lane.ensures.survives.clean) in
     let first = c.in_ok-put_tap.ensures.puts clean inside schema in
     let r = c.args.row.now in
-    on_ok c.put_lane.result (λ (second : PutsLane c.args.order b d r.device r.lane c.args.closed × _). (both c.args.order a b d (row_of r) c.args.closed readable first.0 second.0, second.1))
+    on_ok c.put_lane.result (λ (second : PutsLane c.args.layout.now b d r.device r.lane c.args.closed × _). (both c.args.layout.now a b d (row_of r) c.args.closed readable first.0 second.0, second.1))
     ((rw (c.device.ensures, c.lane.ensures.value) at c.put_lane.ensures.puts) late first.1 first.0.schema (subst (AreRows IsLane) (sym first.0.lanes) readable.lanes))

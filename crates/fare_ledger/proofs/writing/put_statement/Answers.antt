@@ -12,4 +12,4 @@ returns-in-Ok-clause-puts g c clean inside schema readable =
     let new = state g.S.Store c.change.new.tx.conn.now in
     let ran = c.in-Ok.ensures.ran clean inside in
     let h : Executes put_stated_text (stated_cells (row_stated c.args.statement.now)) old new (Ok c.in-Ok.field-0) = rw c.cells_stated-cells.ensures at ran.0 in
-    (one_more c.args.order old.now new.now (row_stated c.args.statement.now) readable (puts_stated c.args.order old new (row_stated c.args.statement.now) c.in-Ok.field-0 schema h), ran.1)
+    (one_more c.args.layout.now old.now new.now (row_stated c.args.statement.now) readable (puts_stated c.args.layout.now old new (row_stated c.args.statement.now) c.in-Ok.field-0 schema h), ran.1)

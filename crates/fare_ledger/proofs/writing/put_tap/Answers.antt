@@ -12,4 +12,4 @@ returns-in-Ok-clause-puts g c clean inside schema =
     let new = state g.S.Store c.change.new.tx.conn.now in
     let ran = c.in-Ok.ensures.ran clean inside in
     let h : Executes put_tap_text (tap_cells (row_of c.args.row.now)) old new (Ok c.in-Ok.field-0) = rw c.cells_of-cells.ensures at ran.0 in
-    (puts_tap c.args.order old new (row_of c.args.row.now) c.in-Ok.field-0 schema h, ran.1)
+    (puts_tap c.args.layout.now old new (row_of c.args.row.now) c.in-Ok.field-0 schema h, ran.1)

@@ -1,7 +1,7 @@
 use Rattle.std.proofs.Common.{None, refl}
 use Rattle.sqlite.specs.Held.{state}
 use Rattle.fare_tables.proofs.Steps.{read_step}
-use Rattle.fare_ledger.specs.Orders.{schema_in, ours}
+use Rattle.fare_ledger.specs.Layouts.{schema_in, ours}
 use Rattle.fare_ledger.specs.Held.{held_of}
 use Rattle.fare_ledger.specs.Known.{knows}
 use Rattle.fare_ledger.proofs.Stored.{ready}
@@ -16,8 +16,8 @@ returns-in-Ok-clause-does g c =
     let new = state g.S.Store c.read_between.new.conn in
     let self = c.args.self.now in
     let known = knows self.devices in
-    let v = value_at self.order self.owner self.start known old.now.trees in
-    let h = held_of (ours self.order old.now.trees) in
-    read_step (schema_in self.order) (value_at self.order self.owner self.start known) (IsLawful self.order self.owner self.start) old new self.failures self.failures None (AreTapsBetween v c.args.from c.args.to c.in-Ok.taps.items) c.requires
-    (λ live fit. taps_between self.owner self.start known h c.args.from c.args.to c.in-Ok.taps.items fit.fits.together (c.in-Ok.ensures.value live (ready self.order self.owner self.start old fit)))
+    let v = value_at self.layout self.owner self.start known old.now.trees in
+    let h = held_of (ours self.layout old.now.trees) in
+    read_step (schema_in self.layout) (value_at self.layout self.owner self.start known) (IsLawful self.layout self.owner self.start) old new self.failures self.failures None (AreTapsBetween v c.args.from c.args.to c.in-Ok.taps.items) c.requires
+    (λ live fit. taps_between self.owner self.start known h c.args.from c.args.to c.in-Ok.taps.items fit.fits.together (c.in-Ok.ensures.value live (ready self.layout self.owner self.start old fit)))
     c.read_between.ensures.same c.read_between.ensures.crash c.read_between.ensures.live (λ e. c.in-Ok.ensures.stays) refl

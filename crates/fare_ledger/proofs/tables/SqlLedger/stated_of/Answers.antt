@@ -1,7 +1,7 @@
 use Rattle.std.proofs.Common.{None, refl, ◌≡◌}
 use Rattle.sqlite.specs.Held.{state}
 use Rattle.fare_tables.proofs.Steps.{read_step}
-use Rattle.fare_ledger.specs.Orders.{schema_in, ours}
+use Rattle.fare_ledger.specs.Layouts.{schema_in, ours}
 use Rattle.fare_ledger.specs.Held.{held_of}
 use Rattle.fare_ledger.specs.Known.{knows}
 use Rattle.fare_ledger.proofs.Stored.{ready}
@@ -14,8 +14,8 @@ returns-in-Ok-clause-does g c =
     let new = state g.S.Store c.read_stated.new.conn in
     let self = c.args.self.now in
     let known = knows self.devices in
-    let v = value_at self.order self.owner self.start known old.now.trees in
-    let h = held_of (ours self.order old.now.trees) in
-    read_step (schema_in self.order) (value_at self.order self.owner self.start known) (IsLawful self.order self.owner self.start) old new self.failures self.failures None (c.in-Ok.held ≡ v.stated c.args.device c.args.day) c.requires
-    (λ live fit. c.in-Ok.ensures.value live (ready self.order self.owner self.start old fit) fit.fits.together.single)
+    let v = value_at self.layout self.owner self.start known old.now.trees in
+    let h = held_of (ours self.layout old.now.trees) in
+    read_step (schema_in self.layout) (value_at self.layout self.owner self.start known) (IsLawful self.layout self.owner self.start) old new self.failures self.failures None (c.in-Ok.held ≡ v.stated c.args.device c.args.day) c.requires
+    (λ live fit. c.in-Ok.ensures.value live (ready self.layout self.owner self.start old fit) fit.fits.together.single)
     c.read_stated.ensures.same c.read_stated.ensures.crash c.read_stated.ensures.live (λ e. c.in-Ok.ensures.stays) refl

@@ -1,0 +1,14 @@
+use Rattle.std.proofs.Common.{sym, subst}
+use Rattle.fare_layout.specs.Growing.{HasNone}
+use Rattle.fare_ledger.specs.Statements.{tables}
+use Rattle.fare_ledger.proofs.Own.{blank_is_vacant}
+use Rattle.fare_ledger.proofs.looking.look_at.Goals as goal
+
+pub returns-then-not-has_none : goal.returns-then-not-has_none
+returns-then-not-has_none c = (
+  λ blank. (let none = c.if-not-has_none.ensures.1 (subst (HasNone tables) (sym blank) blank_is_vacant) in absurd (let e = none in cc)),
+  c.in_ok-layout.ensures.lacks c.in_default.is,
+)
+
+pub returns-in-None : goal.returns-in-None
+returns-in-None c = (c.in_ok-layout-2.ensures.lacks c.in-None.is, c.in_ok-layout.ensures.lacks c.in_default.is)

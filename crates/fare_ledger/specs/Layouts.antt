@@ -1,0 +1,28 @@
+-- Where the tables of a ledger stand.
+use Rattle.std.specs.Prelude.{ℕ, ◌==◌, if◌then◌else◌}
+use Rattle.sqlite.specs.Query.{Query, inner, end}
+use Rattle.sqlite.specs.Schema.{Schema}
+use Rattle.sqlite.specs.Tree.{Trees}
+use Rattle.fare_layout.specs.declared.place.Kind.{Kind}
+use Rattle.fare_layout.specs.declared.place.Kind.TheVariants.{Meta, Device, Tap, Stated}
+use Rattle.fare_layout.specs.Places.{place_of}
+use Rattle.fare_ledger.specs.declared.layout.Layout.{Layout}
+
+abbrev pub schema_in : Layout → Schema
+schema_in w = w.schema
+
+-- the tree of a table
+abbrev pub tree_in : Layout → Kind → ℕ
+tree_in w kind = (place_of w.places kind).tree
+
+-- its place among the tables
+abbrev pub place_in : Layout → Kind → ℕ
+place_in w kind = (place_of w.places kind).at
+
+-- the trees of the tables, numbered as in a database of a ledger alone
+unfoldable pub ours : Layout → Trees → Trees
+ours w trees tree = trees (tree_in w (if tree == 0 then Meta else (if tree == 1 then Device else (if tree == 2 then Tap else Stated))))
+
+-- the query, over the table where it stands
+abbrev pub at_tree : ℕ → Query → Query
+at_tree tree q = record q { from = inner tree end }

@@ -1,0 +1,38 @@
+-- The statements of a ledger, and the schemas that they are made for.
+use Rattle.std.specs.Prelude.{ℕ, [], ◌∷◌, codes, List}
+use Rattle.sqlite.specs.Schema.{Schema}
+use Rattle.fare_layout.specs.declared.place.Kind.{Kind}
+use Rattle.fare_layout.specs.declared.place.Kind.TheVariants.{Meta, Device, Tap, Stated}
+use Rattle.fare_layout.specs.declared.place.Places.{Places}
+use Rattle.fare_layout.specs.Layouts.{Fits}
+use Rattle.fare_ledger.specs.Tables.{ledger_schema}
+
+-- what makes the tables, each with its name
+abbrev pub tables : List (List ℕ × List ℕ)
+tables =
+    (codes "meta", codes "CREATE TABLE meta (format INTEGER NOT NULL, owner INTEGER NOT NULL) STRICT")
+    ∷ (codes "lane", codes "CREATE TABLE lane (device INTEGER PRIMARY KEY, taken INTEGER NOT NULL CHECK (taken >= 0), closed INTEGER NOT NULL CHECK (closed >= 0)) STRICT")
+    ∷ (codes "tap", codes "CREATE TABLE tap (device INTEGER NOT NULL, lane INTEGER NOT NULL, link INTEGER NOT NULL, product INTEGER NOT NULL, token INTEGER NOT NULL, moment INTEGER NOT NULL, day INTEGER NOT NULL, PRIMARY KEY (device, lane)) STRICT")
+    ∷ (codes "stated", codes "CREATE TABLE stated (device INTEGER NOT NULL, day INTEGER NOT NULL, total INTEGER NOT NULL, PRIMARY KEY (device, day)) STRICT")
+    ∷ []
+
+-- what is asked of the tables and written to them, each with its table: that of kind Device is lane
+abbrev pub texts : List (Kind × List ℕ)
+texts =
+    (Device, codes "SELECT taken, closed FROM lane WHERE device = ?1")
+    ∷ (Stated, codes "SELECT total FROM stated WHERE device = ?1 AND day = ?2")
+    ∷ (Tap, codes "SELECT count(*) FROM tap WHERE device = ?1 AND day = ?2")
+    ∷ (Tap, codes "SELECT device, lane, link, product, token, moment, day FROM tap WHERE day >= ?1 AND day <= ?2 ORDER BY day, moment, device, lane")
+    ∷ (Device, codes "SELECT count(*) FROM lane WHERE taken > 0 OR closed > 0")
+    ∷ (Tap, codes "SELECT count(*) FROM tap")
+    ∷ (Stated, codes "SELECT count(*) FROM stated")
+    ∷ (Meta, codes "SELECT format, owner FROM meta")
+    ∷ (Meta, codes "INSERT INTO meta (format, owner) VALUES (1, ?1)")
+    ∷ (Device, codes "INSERT INTO lane (device, taken, closed) VALUES (?1, ?2, ?3) ON CONFLICT (device) DO UPDATE SET taken = excluded.taken, closed = excluded.closed")
+    ∷ (Tap, codes "INSERT INTO tap (device, lane, link, product, token, moment, day) VALUES (?1, ?2, ?3, ?4, ?5, ?6, ?7)")
+    ∷ (Stated, codes "INSERT INTO stated (device, day, total) VALUES (?1, ?2, ?3)")
+    ∷ []
+
+-- a schema has the ledger's tables at these places, and its statements mean there what they should
+abbrev pub FitsLedger : Schema → Places → Type 0
+FitsLedger schema places = Fits ledger_schema texts schema places

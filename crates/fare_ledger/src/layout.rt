@@ -1,0 +1,25 @@
+ghost use Rattle.fare_layout.specs.Layouts.{Fits-prop};
+ghost use Rattle.fare_ledger.specs.Statements.{FitsLedger, texts};
+ghost use Rattle.fare_ledger.specs.Tables.{ledger_schema};
+
+use fare_layout::Places;
+use sqlite_schema::schema::Schema;
+
+/// Where the tables of a ledger stand in a database, which may hold others too: each statement of the ledger
+/// means there what it means in a database of a ledger alone.
+pub struct Layout {
+    // The schema of the database.
+    pub(crate) schema: Schema,
+    pub(crate) places: Places,
+    ghost fits: { FitsLedger schema places } by { Fits-prop ledger_schema texts schema places },
+}
+
+// It is written out, so that a caller doesn't prove again how each part is let go.
+impl Drop for Layout {
+    fn drop(self) {
+        let Layout {
+            schema: _,
+            places: _,
+        } = self;
+    }
+}

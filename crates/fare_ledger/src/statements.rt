@@ -1,0 +1,76 @@
+use fare_layout::Kind;
+
+/// The texts that make the tables, each with the name of its table.
+pub(crate) const TABLES: [(&str, &str); 4] = [
+    (
+        "meta",
+        "CREATE TABLE meta (format INTEGER NOT NULL, owner INTEGER NOT NULL) STRICT",
+    ),
+    (
+        "lane",
+        "CREATE TABLE lane (device INTEGER PRIMARY KEY, taken INTEGER NOT NULL CHECK (taken >= 0), closed INTEGER NOT NULL CHECK (closed >= 0)) STRICT",
+    ),
+    (
+        "tap",
+        "CREATE TABLE tap (device INTEGER NOT NULL, lane INTEGER NOT NULL, link INTEGER NOT NULL, product INTEGER NOT NULL, token INTEGER NOT NULL, moment INTEGER NOT NULL, day INTEGER NOT NULL, PRIMARY KEY (device, lane)) STRICT",
+    ),
+    (
+        "stated",
+        "CREATE TABLE stated (device INTEGER NOT NULL, day INTEGER NOT NULL, total INTEGER NOT NULL, PRIMARY KEY (device, day)) STRICT",
+    ),
+];
+
+/// How many taps of a device are taken, and how many of its days closed.
+pub(crate) const READ_LANE: &str = "SELECT taken, closed FROM lane WHERE device = ?1";
+
+/// The stated count of a day.
+pub(crate) const READ_STATED: &str = "SELECT total FROM stated WHERE device = ?1 AND day = ?2";
+
+/// How many taps of a device are of a day.
+pub(crate) const COUNT_DAY: &str = "SELECT count(*) FROM tap WHERE device = ?1 AND day = ?2";
+
+/// The taps of the days from one to another, by day, moment, device and lane number.
+pub(crate) const READ_BETWEEN: &str =
+    "SELECT device, lane, link, product, token, moment, day FROM tap WHERE day >= ?1 AND day <= ?2 ORDER BY day, moment, device, lane";
+
+/// How many devices have a tap taken or a day closed.
+pub(crate) const COUNT_BEGUN: &str = "SELECT count(*) FROM lane WHERE taken > 0 OR closed > 0";
+
+/// How many taps there are.
+pub(crate) const COUNT_TAPS: &str = "SELECT count(*) FROM tap";
+
+/// How many statements there are.
+pub(crate) const COUNT_STATEMENTS: &str = "SELECT count(*) FROM stated";
+
+/// Whose tables these are.
+pub(crate) const READ_META: &str = "SELECT format, owner FROM meta";
+
+/// They are a ledger's of this owner, of format 1.
+pub(crate) const PUT_META: &str = "INSERT INTO meta (format, owner) VALUES (1, ?1)";
+
+/// A device's numbers.
+pub(crate) const PUT_LANE: &str =
+    "INSERT INTO lane (device, taken, closed) VALUES (?1, ?2, ?3) ON CONFLICT (device) DO UPDATE SET taken = excluded.taken, closed = excluded.closed";
+
+/// A tap.
+pub(crate) const PUT_TAP: &str =
+    "INSERT INTO tap (device, lane, link, product, token, moment, day) VALUES (?1, ?2, ?3, ?4, ?5, ?6, ?7)";
+
+/// A statement.
+pub(crate) const PUT_STATED: &str = "INSERT INTO stated (device, day, total) VALUES (?1, ?2, ?3)";
+
+/// All statements of a ledger, each with its table: that of kind Device is `lane`.
+pub(crate) const TEXTS: [(Kind, &str); 12] = [
+    (Kind::Device, READ_LANE),
+    (Kind::Stated, READ_STATED),
+    (Kind::Tap, COUNT_DAY),
+    (Kind::Tap, READ_BETWEEN),
+    (Kind::Device, COUNT_BEGUN),
+    (Kind::Tap, COUNT_TAPS),
+    (Kind::Stated, COUNT_STATEMENTS),
+    (Kind::Meta, READ_META),
+    (Kind::Meta, PUT_META),
+    (Kind::Device, PUT_LANE),
+    (Kind::Tap, PUT_TAP),
+    (Kind::Stated, PUT_STATED),
+];
