@@ -15,3 +15,4 @@ pub mod Between
 pub mod Known
 pub mod Opened
 pub mod Meta
+pub mod AnyOrder

@@ -7,3 +7,4 @@ pub mod Opening
 pub mod Known
 pub mod Words
 pub mod Shown
+pub mod Orders

@@ -10,6 +10,7 @@ mod devices;
 mod finding;
 mod judging;
 mod lane;
+pub mod laws;
 mod layout;
 mod listing;
 mod looking;

@@ -14,3 +14,4 @@ pub mod Seen
 pub mod Judged
 pub mod Opened
 pub mod Meta
+pub mod AnyOrder

@@ -6,3 +6,4 @@ pub mod Making
 pub mod Opening
 pub mod Words
 pub mod Shown
+pub mod Orders

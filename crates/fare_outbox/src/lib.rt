@@ -5,6 +5,7 @@
 
 mod asking;
 mod calls;
+pub mod laws;
 mod layout;
 mod making;
 mod opening;

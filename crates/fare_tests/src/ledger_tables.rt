@@ -165,7 +165,8 @@ CREATE TABLE lane (device INTEGER PRIMARY KEY, taken INTEGER NOT NULL CHECK (tak
   closed INTEGER NOT NULL CHECK (closed >= 0)) STRICT;";
 
 // Other tables, with an index, a view, a count of rows and a reference among themselves.
-const RIDERS: &str = "CREATE TABLE rider (id INTEGER PRIMARY KEY AUTOINCREMENT, name TEXT NOT NULL UNIQUE);
+const RIDERS: &str =
+    "CREATE TABLE rider (id INTEGER PRIMARY KEY AUTOINCREMENT, name TEXT NOT NULL UNIQUE);
 CREATE TABLE pass (rider INTEGER NOT NULL REFERENCES rider (id), day INTEGER);
 CREATE INDEX pass_day ON pass (day);
 CREATE VIEW names AS SELECT name FROM rider;

@@ -116,7 +116,8 @@ CREATE TABLE tap (owner INTEGER NOT NULL, device INTEGER NOT NULL, lane INTEGER 
 CREATE TABLE device (id INTEGER PRIMARY KEY, upto INTEGER NOT NULL CHECK (upto >= 0)) STRICT;";
 
 // Other tables, with an index, a view, a count of rows and a reference among themselves.
-const RIDERS: &str = "CREATE TABLE rider (id INTEGER PRIMARY KEY AUTOINCREMENT, name TEXT NOT NULL UNIQUE);
+const RIDERS: &str =
+    "CREATE TABLE rider (id INTEGER PRIMARY KEY AUTOINCREMENT, name TEXT NOT NULL UNIQUE);
 CREATE TABLE pass (rider INTEGER NOT NULL REFERENCES rider (id), day INTEGER);
 CREATE INDEX pass_day ON pass (day);
 CREATE VIEW names AS SELECT name FROM rider;
@@ -153,15 +154,18 @@ fn beside(alloc: Global) -> Option<(i64, Said)> {
     let mut first = outbox(alloc, &[RIDERS])?;
     ask(&mut first, Asked::StoreAll(3))?;
     let mut conn = first.into_connection();
-    let question = "SELECT count(*) + 10 * (SELECT sum(day) FROM pass) FROM names";
-    let others = conn.query_row(question, &[]).ok()?.get(0).ok()?;
+    let others = conn
+        .query_row("SELECT sum(day) FROM pass", &[])
+        .ok()?
+        .get(0)
+        .ok()?;
     let mut again = SqlOutbox::open(alloc, conn).ok()?;
     Some((others, ask(&mut again, Asked::Upto)?))
 }
 
 #[test]
 fn other_tables_stay_beside_an_outbox(rt: HostRuntime) {
-    assert_eq!(rt; beside(rt.alloc()), Some((112, Said::Number(Ok(3)))));
+    assert_eq!(rt; beside(rt.alloc()), Some((11, Said::Number(Ok(3)))));
 }
 
 #[test]

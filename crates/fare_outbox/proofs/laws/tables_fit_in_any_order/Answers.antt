@@ -1,0 +1,5 @@
+use Rattle.fare_outbox.proofs.AnyOrder.{any_order}
+use Rattle.fare_outbox.proofs.laws.tables_fit_in_any_order.Goals as goal
+
+pub returns : goal.returns
+returns c = any_order
