@@ -1,5 +1,5 @@
 -- The tables of a ledger fit in whatever order they were made.
-use Rattle.std.proofs.Common.{◌≡◌, [], ◌∷◌, List, ℕ, refl, ap, subst, sym, ◌∙◌, arith}
+use Rattle.std.proofs.Common.{[], ◌∷◌, List, ℕ, refl, ap, subst, sym, ◌∙◌, arith}
 use Rattle.sqlite.specs.Schema.{Schema}
 use Rattle.sqlite_tied.specs.Compute.{everything}
 use Rattle.sqlite_schema.specs.declared.command.Command.{Command}
