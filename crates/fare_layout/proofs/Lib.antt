@@ -4,3 +4,4 @@ mod Creation
 pub mod Meant
 pub mod Untouched
 pub mod Grown
+pub mod Others
