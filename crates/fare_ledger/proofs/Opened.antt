@@ -8,6 +8,7 @@ use Rattle.fare_tables.specs.Asking.{IsAtRest, SameRows}
 use Rattle.fare_tables.specs.Cells.{AreRows, held}
 use Rattle.fare_tables.specs.Making.{no_schema}
 use Rattle.fare_tables.specs.Tabled.{IsFit}
+use Rattle.fare_layout.proofs.Others.{all_kept}
 use Rattle.fare_ledger.specs.declared.layout.Layout.{Layout}
 use Rattle.fare_ledger.specs.Layouts.{schema_in, ours}
 use Rattle.fare_ledger.specs.Held.{AreReadable, IsReady, IsLane, IsTap, IsStated, lane_of, tap_of, stated_of, stated_in, held_of}
@@ -64,6 +65,7 @@ pub taken_over : {E : Type 0} (owner : ℕ) (old new : State) (o : Layout) (r : 
 taken_over owner old new o (Ok (Some p)) has at same = record {
   made = λ none. absurd (not_vacant o old.now.schema none has);
   kept = λ ready. (let it : IsReady o old = subst (λ w. IsReady w old) at ready in same it.rest);
+  others = λ settled. all_kept old.now.schema.tables old.now.trees new.now.trees (ap (λ (d : Database). d.trees) (same (record { settled = settled; schema_is = has })).0);
 }
 taken_over owner old new o (Ok None) has at same = tt
 taken_over owner old new o (Err e) has at same = tt

@@ -15,7 +15,7 @@ use Rattle.fare_ledger.specs.declared.looking.Seen.TheVariants as seen
 use Rattle.fare_ledger.specs.Layouts.{schema_in, ours}
 use Rattle.fare_ledger.specs.Statements.{tables}
 use Rattle.fare_ledger.specs.Held.{IsReady}
-use Rattle.fare_ledger.specs.Making.{Makes, IsNew, IsMade}
+use Rattle.fare_ledger.specs.Making.{Makes, KeepsOthers, IsNew, IsMade}
 
 -- format 1, and the owner
 abbrev pub IsMetaRow : ℕ → Row → Type 0
@@ -46,10 +46,12 @@ IsBlankOrOurs owner s = (s.now.schema ≡ no_schema) ⊎ IsLedger owner s
 abbrev pub IsVacant : State → Type 0
 IsVacant s = HasNone tables s.now.schema
 
--- a database without the ledger's names gets the tables of an empty ledger, and one that has them stays as it is
+-- a database without the ledger's names gets the tables of an empty ledger beside its own, and one that has them
+-- stays as it is
 pub record Settles (owner : ℕ) (old new : State) (w : Layout) : Type 0 where
   pub made : IsVacant old → Makes old.now.schema w × IsNew owner w new.now × (new.now ≡ new.committed)
   pub kept : IsReady w old → SameRows old new
+  pub others : old.now ≡ old.committed → KeepsOthers old.now new.now
 
 -- what an open may commit: the empty ledger, where nothing has a name of its tables
 abbrev pub MayMake : ℕ → State → Trees → Type 0

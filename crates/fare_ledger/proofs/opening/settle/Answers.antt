@@ -14,6 +14,7 @@ returns-in_ok-make_ledger-in-Vacant-clause-opens g c live =
     let made = c.in_ok-make_ledger-in-Vacant.ensures.made live in
     record {
       made = λ vacant. (it.1, made.0.each c.in-Vacant.layout it.1, made.1);
+      others = λ settled. made.0.others (record { layout = c.in-Vacant.layout; makes = it.1 });
       kept = λ ready. absurd (not_vacant c.in-Vacant.layout (state g.S.Store c.args.conn.now).now.schema it.0 ready.rest.schema_is);
     }
 
