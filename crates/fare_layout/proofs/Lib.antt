@@ -5,3 +5,4 @@ pub mod Meant
 pub mod Untouched
 pub mod Grown
 pub mod Others
+pub mod Again

@@ -1,7 +1,8 @@
 -- The other tables keep their rows where a store makes its own.
-use Rattle.std.proofs.Common.{◌≡◌, ◌<◌, ◌++◌, ℕ, [], ◌∷◌, List, length, Some, inl, inr, refl, sym, ap, subst, ◌∙◌}
+use Rattle.std.proofs.Common.{◌≡◌, ◌<◌, ◌+◌, ◌++◌, ℕ, [], ◌∷◌, List, length, Some, inl, inr, refl, sym, ap, subst, ◌∙◌}
 use Rattle.std.specs.Prelude.{slice_get}
 use Rattle.std.specs.List.{AllByRecursion}
+use Rattle.std.proofs.lemmas.List.{length-append}
 use Rattle.sqlite.specs.Change.{next_tree, KeepsRows}
 use Rattle.sqlite.specs.Effect.{Database}
 use Rattle.sqlite.specs.Schema.{Schema}
@@ -10,8 +11,11 @@ use Rattle.sqlite.specs.Tree.{Trees}
 use Rattle.sqlite_catalog.proofs.StepLemmas.{table_below}
 use Rattle.sqlite_rules.specs.Lists.{Has}
 use Rattle.fare_tables.specs.Making.{Made}
+use Rattle.fare_layout.specs.declared.place.Place.{Place}
 use Rattle.fare_layout.specs.Growing.{Grows, GrowsBy}
+use Rattle.fare_layout.specs.Layouts.{Stands}
 use Rattle.fare_layout.proofs.Grown.{kept_at, last_at}
+use Rattle.fare_layout.proofs.Meant.{same_some}
 
 -- ---- lists of tables
 
@@ -46,6 +50,17 @@ pub grown_at : (texts : List (List ℕ × List ℕ)) (s last : Schema) → Grows
 grown_at [] s last same at t is = subst (λ (x : Schema). slice_get x.tables at ≡ Some t) same is
 grown_at (text ∷ texts) s last grows at t is =
     grown_at texts grows.0 last grows.2 at t (ap (λ (x : Schema). slice_get x.tables at) grows.1.next_is ∙ kept_at s.tables (record grows.1.table { tree = next_tree s } ∷ []) at t is)
+
+-- so its tree is the next one
+pub tree_next : (rest : List (List ℕ × List ℕ)) (table : Table) (place : Place) (s next last : Schema) (sql : List ℕ) → Stands last table place → place.at ≡ length s.tables → Grows s sql next → GrowsBy next rest last → place.tree ≡ next_tree s
+tree_next rest table place s next last sql stands here g grows =
+    let there = grown_at rest next last grows (length s.tables) (record g.table { tree = next_tree s }) (new_at s next sql g) in
+    let placed = sym stands.there ∙ ap (slice_get last.tables) here ∙ there in
+    ap (λ (t : Table). t.tree) (same_some placed)
+
+-- there is one more
+pub longer : (s next : Schema) (sql : List ℕ) → Grows s sql next → length next.tables ≡ length s.tables + 1
+longer s next sql g = ap (λ (x : Schema). length x.tables) g.next_is ∙ length-append s.tables (record g.table { tree = next_tree s } ∷ [])
 
 -- and what holds of all tables then holds of them
 pub grown_all : (P : Table → Type 0) (texts : List (List ℕ × List ℕ)) (s last : Schema) → GrowsBy s texts last → AllByRecursion P last.tables → AllByRecursion P s.tables
