@@ -13,5 +13,6 @@ pub mod Empty
 pub mod Listed
 pub mod Between
 pub mod Known
+pub mod Vacant
 pub mod Opened
 pub mod Meta

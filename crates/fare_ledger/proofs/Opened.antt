@@ -12,7 +12,7 @@ use Rattle.fare_layout.proofs.Others.{all_kept}
 use Rattle.fare_ledger.specs.declared.layout.Layout.{Layout}
 use Rattle.fare_ledger.specs.Layouts.{schema_in, ours}
 use Rattle.fare_ledger.specs.Held.{AreReadable, IsReady, IsLane, IsTap, IsStated, lane_of, tap_of, stated_of, stated_in, held_of}
-use Rattle.fare_ledger.specs.Making.{IsNew}
+use Rattle.fare_ledger.specs.Making.{MayGrow, IsNew}
 use Rattle.fare_ledger.specs.Opening.{IsOurs, IsLedger, IsVacant, IsBlankOrOurs, IsOpened, Settles}
 use Rattle.fare_ledger.specs.Words.{taken_in, value_at, value_in, AreNext, AreApart, FitTogether, IsLawful}
 use Rattle.fare_ledger.proofs.Placed.{same_trees}
@@ -74,6 +74,10 @@ taken_over owner old new o (Err e) has at same = tt
 pub not_blank : {E : Type 0} (old : State) (o : Layout) (r : Result (Option Layout) E) → old.now.schema ≡ schema_in o → IfOk r (λ found. found ≡ None → old.now.schema ≢ no_schema)
 not_blank old o (Ok found) has = λ none blank. not_both o (sym blank ∙ has)
 not_blank old o (Err e) has = tt
+
+pub not_free : {E : Type 0} (old : State) (o : Layout) (r : Result (Option Layout) E) → old.now.schema ≡ schema_in o → IfOk r (λ found. found ≡ None → IsVacant old → ¬ MayGrow old.now.schema)
+not_free old o (Ok found) has = λ none vacant. absurd (not_vacant o old.now.schema vacant has)
+not_free old o (Err e) has = tt
 
 pub ours_too : {E : Type 0} (owner : ℕ) (old : State) (o : Layout) (r : Result (Option Layout) E) → old.now.schema ≡ schema_in o → IfOk r (λ found. IfSome found (λ p. p ≡ o)) → IfOk r (λ found. IfSome found (λ p. IsOurs owner (ours o old.now.trees)))
     → IfOk r (λ found. IfSome found (IsOpened owner old))

@@ -15,7 +15,7 @@ use Rattle.fare_ledger.specs.declared.looking.Seen.TheVariants as seen
 use Rattle.fare_ledger.specs.Layouts.{schema_in, ours}
 use Rattle.fare_ledger.specs.Statements.{tables}
 use Rattle.fare_ledger.specs.Held.{IsReady}
-use Rattle.fare_ledger.specs.Making.{Makes, KeepsOthers, IsNew, IsMade}
+use Rattle.fare_ledger.specs.Making.{Makes, MayGrow, KeepsOthers, IsNew, IsMade}
 
 -- format 1, and the owner
 abbrev pub IsMetaRow : ℕ → Row → Type 0
@@ -65,4 +65,4 @@ IsOpened owner s w = IsVacant s ⊎ ((s.now.schema ≡ schema_in w) × IsOurs ow
 abbrev pub Sees : Schema → Seen → Type 0
 Sees schema (seen.Ours w) = schema ≡ schema_in w
 Sees schema (seen.Vacant w) = HasNone tables schema × Makes schema w
-Sees schema seen.Other = (schema ≢ no_schema) × ((w : Layout) → schema ≢ schema_in w)
+Sees schema seen.Other = (schema ≢ no_schema) × ((w : Layout) → schema ≢ schema_in w) × (HasNone tables schema → ¬ MayGrow schema)

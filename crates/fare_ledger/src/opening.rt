@@ -8,7 +8,7 @@ ghost use Rattle.fare_tables.specs.Making.{no_schema};
 ghost use Rattle.fare_tables.specs.Tabled.{IsFit};
 ghost use Rattle.fare_ledger.specs.declared.layout.Layout.{Layout};
 ghost use Rattle.fare_ledger.specs.Layouts.{schema_in, ours};
-ghost use Rattle.fare_ledger.specs.Making.{Makes, KeepsOthers};
+ghost use Rattle.fare_ledger.specs.Making.{Makes, MayGrow, KeepsOthers};
 ghost use Rattle.fare_ledger.specs.Opening.{IsMetaRow, AreMeta, IsOurs, IsLedger, IsVacant, IsBlankOrOurs, IsOpened, Sees, Settles, MayMake};
 ghost use Rattle.fare_ledger.specs.Words.{IsLawful, value_at, connected, stands};
 
@@ -129,6 +129,7 @@ fn settle<S: Alter>(
     ensures refused { IsLive (state S.Store conn.new) → (state S.Store conn.old).now ≡ (state S.Store conn.old).committed → IfOk result (λ found. found ≡ None → SameRows (state S.Store conn.old) (state S.Store conn.new)) }
     ensures foreign { IfOk result (λ found. found ≡ None → (state S.Store conn.old).now.schema ≢ no_schema) }
     ensures lacks { IsLive (state S.Store conn.new) → IfOk result (λ found. found ≡ None → ¬ IsBlankOrOurs owner (state S.Store conn.old)) }
+    ensures vacant { IfOk result (λ found. found ≡ None → IsVacant (state S.Store conn.old) → ¬ MayGrow (state S.Store conn.old).now.schema) }
     ensures crash { Survives (state S.Store conn.old) (state S.Store conn.new) (MayMake owner (state S.Store conn.old)) }
     ensures failed { IsLive (state S.Store conn.new) → (state S.Store conn.old).now ≡ (state S.Store conn.old).committed → OnErr result (SameRows (state S.Store conn.old) (state S.Store conn.new)) }
     ensures idle { conn.new.in_transaction ≡ false }
@@ -169,6 +170,7 @@ impl<S: Alter> SqlLedger<S> {
         ensures inside { conn.in_transaction ≡ true → IsSome (position_of_owner scheme.now owner) → result ≡ Err (conn, LedgerOpenFault.Store) }
         ensures foreign { IfErr result (λ e. e.1 ≡ LedgerOpenFault.Foreign → (state S.Store conn).now.schema ≢ no_schema) }
         ensures lacks { IfErr result (λ e. e.1 ≡ LedgerOpenFault.Foreign → IsLive (state S.Store e.0) → ¬ IsBlankOrOurs owner (state S.Store conn)) }
+        ensures vacant { IfErr result (λ e. e.1 ≡ LedgerOpenFault.Foreign → IsVacant (state S.Store conn) → ¬ MayGrow (state S.Store conn).now.schema) }
         ensures crash { IfOk result (λ l. Survives (state S.Store conn) (connected S.Store l) (MayMake owner (state S.Store conn))) }
         ensures crash_refused { IfErr result (λ e. Survives (state S.Store conn) (state S.Store e.0) (MayMake owner (state S.Store conn))) }
         ensures refused { IfErr result (λ e. IsLive (state S.Store e.0) → (state S.Store conn).now ≡ (state S.Store conn).committed → SameRows (state S.Store conn) (state S.Store e.0)) }

@@ -4,7 +4,7 @@ use Rattle.sqlite.proofs.StateLemmas.{survives_weaker}
 use Rattle.fare_ledger.specs.declared.looking.Seen.TheVariants.{Vacant, Ours, Other}
 use Rattle.fare_ledger.specs.Making.{MadeFrom}
 use Rattle.fare_ledger.specs.Opening.{Sees, MayMake}
-use Rattle.fare_ledger.proofs.Opened.{on_err, not_blank, taken_over, ours_too, neither, none_lacks}
+use Rattle.fare_ledger.proofs.Opened.{on_err, not_blank, not_free, taken_over, ours_too, neither, none_lacks}
 use Rattle.fare_ledger.proofs.Own.{not_vacant}
 use Rattle.fare_ledger.proofs.opening.settle.Goals as goal
 
@@ -66,3 +66,13 @@ pub returns-in_err-make_ledger-in-Vacant-clause-failed : goal.returns-in_err-mak
 returns-in_err-make_ledger-in-Vacant-clause-failed g c live settled =
     let it : Sees (state g.S.Store c.args.conn.now).now.schema (Vacant c.in-Vacant.layout) = rw c.in-Vacant.is at c.requires.found in
     on_err c.from_residual.result (c.in_err-make_ledger-in-Vacant.ensures.same live (record { layout = c.in-Vacant.layout; makes = it.1 }) settled)
+
+pub returns-in-Ours-clause-vacant : goal.returns-in-Ours-clause-vacant
+returns-in-Ours-clause-vacant g c =
+    let it : Sees (state g.S.Store c.args.conn.now).now.schema (Ours c.in-Ours.layout) = rw c.in-Ours.is at c.requires.found in
+    not_free (state g.S.Store c.args.conn.now) c.in-Ours.layout c.if_mine.result it
+
+pub returns-in-Other-clause-vacant : goal.returns-in-Other-clause-vacant
+returns-in-Other-clause-vacant g c =
+    let it : Sees (state g.S.Store c.args.conn.now).now.schema Other = rw c.in-Other.is at c.requires.found in
+    λ none. it.2
