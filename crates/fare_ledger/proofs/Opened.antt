@@ -2,7 +2,9 @@
 use Rattle.std.proofs.Common.{◌≡◌, ◌≢◌, ◌⊎◌, inl, inr, ℕ, Bool, [], map, length, Option, Some, None, Result, Ok, Err, IfOk, OnErr, sym, ap, subst, ◌∙◌, arith}
 use Rattle.std.specs.Prelude.{IfSome}
 use Rattle.sqlite.specs.Effect.{Database}
-use Rattle.sqlite.specs.State.{State}
+use Rattle.sqlite.specs.Change.{KeepsRows}
+use Rattle.sqlite.specs.State.{State, HasCleanDisk}
+use Rattle.sqlite.specs.Tree.{Trees}
 use Rattle.fare_store.specs.LedgerWords.{IsEmptyLedger}
 use Rattle.fare_tables.specs.Asking.{IsAtRest, SameRows}
 use Rattle.fare_tables.specs.Cells.{AreRows, held}
@@ -12,8 +14,8 @@ use Rattle.fare_layout.proofs.Others.{all_kept}
 use Rattle.fare_ledger.specs.declared.layout.Layout.{Layout}
 use Rattle.fare_ledger.specs.Layouts.{schema_in, ours}
 use Rattle.fare_ledger.specs.Held.{AreReadable, IsReady, IsLane, IsTap, IsStated, lane_of, tap_of, stated_of, stated_in, held_of}
-use Rattle.fare_ledger.specs.Making.{MayGrow, IsNew}
-use Rattle.fare_ledger.specs.Opening.{IsOurs, IsLedger, IsVacant, IsBlankOrOurs, IsOpened, Settles}
+use Rattle.fare_ledger.specs.Making.{Makes, MayGrow, IsNew, MadeFrom}
+use Rattle.fare_ledger.specs.Opening.{IsOurs, IsLedger, IsVacant, IsBlankOrOurs, IsOpened, Settles, MayMake}
 use Rattle.fare_ledger.specs.Words.{taken_in, value_at, value_in, AreNext, AreApart, FitTogether, IsLawful}
 use Rattle.fare_ledger.proofs.Placed.{same_trees}
 use Rattle.fare_ledger.proofs.Own.{blank_is_vacant, not_vacant}
@@ -58,6 +60,14 @@ new_fits w o start known new it =
 pub on_err : {X E P : Type 0} (r : Result X E) → P → OnErr r P
 on_err (Ok x) p = tt
 on_err (Err e) p = p
+
+-- what is committed where the tables can be made
+pub makes_all : (owner : ℕ) (old new : State) (w : Layout) → IsVacant old → Makes old.now.schema w → HasCleanDisk new → (trees : Trees) → MadeFrom owner old.now trees → MayMake owner old trees
+makes_all owner old new w vacant makes clean trees from = (
+  vacant,
+  (w, makes, from.0, from.1.each w makes, from.2),
+  subst (KeepsRows old.now.schema.tables old.now.trees) (sym from.2) (from.1.others (record { layout = w; makes = makes })),
+)
 
 -- the tables are a ledger's already
 pub taken_over : {E : Type 0} (owner : ℕ) (old new : State) (o : Layout) (r : Result (Option Layout) E) → old.now.schema ≡ schema_in o → IfOk r (λ found. IfSome found (λ p. p ≡ o)) → (IsAtRest (schema_in o) old → SameRows old new)

@@ -2,6 +2,7 @@
 use Rattle.std.specs.Prelude.{◌≡◌, ◌≢◌, ◌⊎◌, ℕ, pos, List, [], ◌∷◌}
 use Rattle.sqlite.specs.declared.types.Value.TheVariants.{Int}
 use Rattle.sqlite_value.specs.Order.{Row, column}
+use Rattle.sqlite.specs.Change.{KeepsRows}
 use Rattle.sqlite.specs.Schema.{Schema}
 use Rattle.sqlite.specs.Tree.{Trees}
 use Rattle.sqlite.specs.State.{State}
@@ -53,9 +54,9 @@ pub record Settles (owner : ℕ) (old new : State) (w : Layout) : Type 0 where
   pub kept : IsReady w old → SameRows old new
   pub others : old.now ≡ old.committed → KeepsOthers old.now new.now
 
--- what an open may commit: the empty ledger, where nothing has a name of its tables
+-- what an open may commit: the empty ledger, where nothing has a name of its tables, beside the rows that were there
 abbrev pub MayMake : ℕ → State → Trees → Type 0
-MayMake owner old trees = IsVacant old × IsMade owner old.now.schema trees
+MayMake owner old trees = IsVacant old × IsMade owner old.now.schema trees × KeepsRows old.now.schema.tables old.now.trees trees
 
 -- the database had none of the names, or is this owner's ledger, whose tables stand there
 abbrev pub IsOpened : ℕ → State → Layout → Type 0

@@ -4,7 +4,7 @@ use Rattle.sqlite.proofs.StateLemmas.{survives_weaker}
 use Rattle.fare_ledger.specs.declared.looking.Seen.TheVariants.{Vacant, Ours, Other}
 use Rattle.fare_ledger.specs.Making.{MadeFrom}
 use Rattle.fare_ledger.specs.Opening.{Sees, MayMake}
-use Rattle.fare_ledger.proofs.Opened.{on_err, not_blank, not_free, taken_over, ours_too, neither, none_lacks}
+use Rattle.fare_ledger.proofs.Opened.{makes_all, on_err, not_blank, not_free, taken_over, ours_too, neither, none_lacks}
 use Rattle.fare_ledger.proofs.Own.{not_vacant}
 use Rattle.fare_ledger.proofs.opening.settle.Goals as goal
 
@@ -53,14 +53,14 @@ returns-in_ok-make_ledger-in-Vacant-clause-crash g c =
     let old = state g.S.Store c.args.conn.now in
     let new = state g.S.Store c.make_ledger.new.conn in
     let it : Sees old.now.schema (Vacant c.in-Vacant.layout) = rw c.in-Vacant.is at c.requires.found in
-    survives_weaker old new (MadeFrom c.args.owner old.now) (MayMake c.args.owner old) (λ clean trees from. (it.0, (c.in-Vacant.layout, it.1, from.0, from.1.each c.in-Vacant.layout it.1, from.2))) c.make_ledger.ensures.crash
+    survives_weaker old new (MadeFrom c.args.owner old.now) (MayMake c.args.owner old) (makes_all c.args.owner old new c.in-Vacant.layout it.0 it.1) c.make_ledger.ensures.crash
 
 pub returns-in_err-make_ledger-in-Vacant-clause-crash : goal.returns-in_err-make_ledger-in-Vacant-clause-crash
 returns-in_err-make_ledger-in-Vacant-clause-crash g c =
     let old = state g.S.Store c.args.conn.now in
     let new = state g.S.Store c.make_ledger.new.conn in
     let it : Sees old.now.schema (Vacant c.in-Vacant.layout) = rw c.in-Vacant.is at c.requires.found in
-    survives_weaker old new (MadeFrom c.args.owner old.now) (MayMake c.args.owner old) (λ clean trees from. (it.0, (c.in-Vacant.layout, it.1, from.0, from.1.each c.in-Vacant.layout it.1, from.2))) c.make_ledger.ensures.crash
+    survives_weaker old new (MadeFrom c.args.owner old.now) (MayMake c.args.owner old) (makes_all c.args.owner old new c.in-Vacant.layout it.0 it.1) c.make_ledger.ensures.crash
 
 pub returns-in_err-make_ledger-in-Vacant-clause-failed : goal.returns-in_err-make_ledger-in-Vacant-clause-failed
 returns-in_err-make_ledger-in-Vacant-clause-failed g c live settled =
