@@ -1,6 +1,7 @@
 -- What an open finds, and what it makes.
 use Rattle.std.proofs.Common.{◌≡◌, ◌≢◌, ◌⊎◌, inl, inr, ℕ, Bool, [], map, length, Option, Some, None, Result, Ok, Err, IfOk, OnErr, sym, ap, subst, ◌∙◌, arith}
 use Rattle.std.specs.Prelude.{IfSome}
+use Rattle.sqlite.specs.Schema.{Schema}
 use Rattle.sqlite.specs.Effect.{Database}
 use Rattle.sqlite.specs.Change.{KeepsRows}
 use Rattle.sqlite.specs.State.{State, HasCleanDisk}
@@ -17,6 +18,8 @@ use Rattle.fare_ledger.specs.Held.{AreReadable, IsReady, IsLane, IsTap, IsStated
 use Rattle.fare_ledger.specs.Making.{Makes, MayGrow, IsNew, MadeFrom}
 use Rattle.fare_ledger.specs.Opening.{IsOurs, IsLedger, IsVacant, IsBlankOrOurs, IsOpened, Settles, MayMake}
 use Rattle.fare_ledger.specs.Words.{taken_in, value_at, value_in, AreNext, AreApart, FitTogether, IsLawful}
+use Rattle.fare_layout.specs.Growing.{HasNone}
+use Rattle.fare_ledger.specs.Statements.{tables}
 use Rattle.fare_ledger.proofs.Placed.{same_trees}
 use Rattle.fare_ledger.proofs.Own.{blank_is_vacant, not_vacant}
 
@@ -124,3 +127,7 @@ kept_fits owner start known old new o p settles (inr are) fit =
 pub vacant_or_ours : (owner : ℕ) (s : State) (w : Layout) → IsOpened owner s w → IsVacant s ⊎ IsLedger owner s
 vacant_or_ours owner s w (inl vacant) = inl vacant
 vacant_or_ours owner s w (inr are) = inr (w, are.0, are.1)
+
+-- a database with no table has none of the names
+pub vacant_of : (s : Schema) → s ≡ no_schema → HasNone tables s
+vacant_of s blank = subst (HasNone tables) (sym blank) blank_is_vacant

@@ -1,6 +1,7 @@
 -- What an open finds, and what it makes.
 use Rattle.std.proofs.Common.{◌≡◌, ◌≢◌, inl, inr, ℕ, List, [], map, length, sym, ap, subst, ◌∙◌}
 use Rattle.std.specs.List.{AllByRecursion}
+use Rattle.sqlite.specs.Schema.{Schema}
 use Rattle.sqlite.specs.Effect.{Database}
 use Rattle.sqlite.specs.State.{State, Survives}
 use Rattle.fare_store.specs.OutboxWords.{IsEmptyOutbox}
@@ -10,6 +11,8 @@ use Rattle.fare_tables.specs.Making.{no_schema}
 use Rattle.fare_tables.specs.Tabled.{IsFit}
 use Rattle.fare_outbox.specs.declared.layout.Layout.{Layout}
 use Rattle.fare_outbox.specs.Layouts.{schema_in, ours}
+use Rattle.fare_layout.specs.Growing.{HasNone}
+use Rattle.fare_outbox.specs.Statements.{tables}
 use Rattle.fare_outbox.proofs.Placed.{same_trees}
 use Rattle.fare_outbox.proofs.Own.{blank_is_vacant, not_vacant}
 use Rattle.fare_outbox.specs.Held.{AreReadable, IsReady, IsDevice, IsTap, IsStated, upto_of, tap_of, stated_of, held_of}
@@ -116,3 +119,7 @@ makes_survives old new w vacant makes s = record {
     | inr from ↦ (let it = from (record { layout = w; makes = makes }) in inr (vacant, (w, it.0, it.1.each w makes, it.2)))
   ];
 }
+
+-- a database with no table has none of the names
+pub vacant_of : (s : Schema) → s ≡ no_schema → HasNone tables s
+vacant_of s blank = subst (HasNone tables) (sym blank) blank_is_vacant

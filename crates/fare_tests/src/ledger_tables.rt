@@ -23,15 +23,15 @@ fn scheme(alloc: Global) -> Option<Scheme> {
 }
 
 // A database in memory in which these statements were run.
-fn database(alloc: Global, sql: [&str; 2]) -> Option<Connection<MemStore>> {
+fn database(alloc: Global, sql: &[&str]) -> Option<Connection<MemStore>> {
     let mut conn = Connection::open_in_memory(alloc).ok()?;
     for text in sql {
-        conn.execute_batch(text).ok()?;
+        conn.execute_batch(*text).ok()?;
     }
     Some(conn)
 }
 
-fn ledger(alloc: Global, sql: [&str; 2]) -> Option<SqlLedger<MemStore>> {
+fn ledger(alloc: Global, sql: &[&str]) -> Option<SqlLedger<MemStore>> {
     SqlLedger::open(
         alloc,
         &scheme(alloc)?,
@@ -45,7 +45,7 @@ fn ledger(alloc: Global, sql: [&str; 2]) -> Option<SqlLedger<MemStore>> {
 fn refusal(
     alloc: Global,
     owner: u64,
-    sql: [&str; 2],
+    sql: &[&str],
     question: &str,
 ) -> Option<(LedgerOpenFault, i64)> {
     let conn = database(alloc, sql)?;
@@ -76,7 +76,7 @@ fn a_ledger_in_tables_takes_each_next_tap(rt: HostRuntime) {
         (Call::DayCount, Answer::Number(Ok(300))),
         (Call::Empty, Answer::Empty(Ok(false))),
     ];
-    let mut ledger = ledger(rt.alloc(), ["", ""]).expect(&rt, "ledger");
+    let mut ledger = ledger(rt.alloc(), &[]).expect(&rt, "ledger");
     assert_eq!(rt; says(&mut ledger, &calls), true);
     assert_eq!(rt; Some(ledger.owner()), OwnerId::new(1));
 }
@@ -105,13 +105,13 @@ fn a_ledger_in_tables_closes_a_day_where_the_counts_agree(rt: HostRuntime) {
         (Call::Close, unclosed(CloseFault::AlreadyClosed)),
         (Call::Count, Answer::Number(Ok(1))),
     ];
-    let mut ledger = ledger(rt.alloc(), ["", ""]).expect(&rt, "ledger");
+    let mut ledger = ledger(rt.alloc(), &[]).expect(&rt, "ledger");
     assert_eq!(rt; says(&mut ledger, &calls), true);
 }
 
 // The first and the last lane number of the taps of some days, in their order, and how many these are.
 fn between(alloc: Global, from: u64, to: u64) -> Option<(Option<u64>, Option<u64>, usize)> {
-    let mut ledger = ledger(alloc, ["", ""])?;
+    let mut ledger = ledger(alloc, &[])?;
     answer_to(&mut ledger, Call::TakeAll(3))?;
     let taps = ledger.taps_between(Day::new(from)?, Day::new(to)?).ok()?;
     let (first, last) = (taps.first().copied(), taps.last().copied());
@@ -147,7 +147,7 @@ fn a_ledger_takes_its_own_tables(rt: HostRuntime) {
     let rows = "INSERT INTO meta VALUES (1, 1); INSERT INTO lane VALUES (1, 2, 1);
 INSERT INTO tap VALUES (1, 1, 1, 1, 77, 1704100000, 19723), (1, 2, 2, 1, 77, 1704186400, 19724);
 INSERT INTO stated VALUES (1, 19723, 1)";
-    let mut ledger = ledger(rt.alloc(), [TABLES, rows]).expect(&rt, "ledger");
+    let mut ledger = ledger(rt.alloc(), &[TABLES, rows]).expect(&rt, "ledger");
     assert_eq!(rt; says(&mut ledger, &calls), true);
 }
 
@@ -164,8 +164,15 @@ CREATE TABLE tap (device INTEGER NOT NULL, lane INTEGER NOT NULL, link INTEGER N
 CREATE TABLE lane (device INTEGER PRIMARY KEY, taken INTEGER NOT NULL CHECK (taken >= 0),
   closed INTEGER NOT NULL CHECK (closed >= 0)) STRICT;";
 
+// Other tables, with an index, a view, a count of rows and a reference among themselves.
+const RIDERS: &str = "CREATE TABLE rider (id INTEGER PRIMARY KEY AUTOINCREMENT, name TEXT NOT NULL UNIQUE);
+CREATE TABLE pass (rider INTEGER NOT NULL REFERENCES rider (id), day INTEGER);
+CREATE INDEX pass_day ON pass (day);
+CREATE VIEW names AS SELECT name FROM rider;
+INSERT INTO rider (name) VALUES ('a'), ('b'); INSERT INTO pass VALUES (1, 5), (2, 6);";
+
 #[test]
-fn a_ledger_whose_tables_were_made_in_another_order_opens(rt: HostRuntime) {
+fn a_ledger_opens_wherever_its_tables_stand(rt: HostRuntime) {
     let calls = [
         (Call::Empty, Answer::Empty(Ok(true))),
         (Call::TakeAll(3), Answer::Taken(Ok(()))),
@@ -175,7 +182,15 @@ fn a_ledger_whose_tables_were_made_in_another_order_opens(rt: HostRuntime) {
         (Call::ClosedThrough, Answer::Maybe(Ok(Some(19_723)))),
         (Call::Count, Answer::Number(Ok(3))),
     ];
-    for sql in [[OTHERS, META], [META, OTHERS]] {
+    let cases: [&[&str]; 6] = [
+        &[OTHERS, META],
+        &[META, OTHERS],
+        &[RIDERS],
+        &[RIDERS, META, OTHERS],
+        &[META, RIDERS, OTHERS],
+        &[OTHERS, META, RIDERS],
+    ];
+    for sql in cases {
         let mut ledger = ledger(rt.alloc(), sql).expect(&rt, "ledger");
         assert_eq!(rt; says(&mut ledger, &calls), true);
     }
@@ -194,7 +209,7 @@ fn a_row_past_its_limits_fails_a_ledger(rt: HostRuntime) {
     ];
     let rows = "INSERT INTO meta VALUES (1, 1); INSERT INTO lane VALUES (1, 1099511627776, 0);
 INSERT INTO stated VALUES (1, 19723, 1099511627776)";
-    let mut ledger = ledger(rt.alloc(), [TABLES, rows]).expect(&rt, "ledger");
+    let mut ledger = ledger(rt.alloc(), &[TABLES, rows]).expect(&rt, "ledger");
     assert_eq!(rt; says(&mut ledger, &calls), true);
 }
 
@@ -204,23 +219,29 @@ fn another_database_is_foreign_to_a_ledger_and_stays(rt: HostRuntime) {
     let whole = "CREATE TABLE meta (format INTEGER NOT NULL, owner INTEGER NOT NULL) STRICT";
     let taps = "SELECT count(*) FROM tap";
     let metas = "SELECT count(*) + 10 * coalesce(sum(format), 0) FROM meta";
-    let cases = [
-        ([TABLES, "INSERT INTO meta VALUES (9, 1)"], metas, 91),
-        ([TABLES, "INSERT INTO meta VALUES (1, 0)"], metas, 11),
-        ([TABLES, "INSERT INTO meta VALUES (1, 2)"], metas, 11),
+    let child = "CREATE TABLE child (d INTEGER, l INTEGER,
+FOREIGN KEY (d, l) REFERENCES tap (device, lane) ON DELETE CASCADE)";
+    let by_rowid = "CREATE UNIQUE INDEX again ON lane (device)";
+    let cases: [(&[&str], &str, i64); 11] = [
+        (&[TABLES, "INSERT INTO meta VALUES (9, 1)"], metas, 91),
+        (&[TABLES, "INSERT INTO meta VALUES (1, 0)"], metas, 11),
+        (&[TABLES, "INSERT INTO meta VALUES (1, 2)"], metas, 11),
         (
-            [TABLES, "INSERT INTO meta VALUES (1, 1), (1, 1)"],
+            &[TABLES, "INSERT INTO meta VALUES (1, 1), (1, 1)"],
             metas,
             22,
         ),
-        ([TABLES, ""], metas, 0),
+        (&[TABLES], metas, 0),
         (
-            [TABLES, "INSERT INTO meta VALUES (1, 1); DROP TABLE stated"],
+            &[TABLES, "INSERT INTO meta VALUES (1, 1); DROP TABLE stated"],
             metas,
             11,
         ),
-        ([other, ""], taps, 1),
-        ([whole, other], taps, 1),
+        (&[other], taps, 1),
+        (&[whole, other], taps, 1),
+        (&[RIDERS, "CREATE VIEW stated AS SELECT 1"], "SELECT 1", 1),
+        (&[META, OTHERS, child], metas, 11),
+        (&[META, OTHERS, by_rowid], metas, 11),
     ];
     for (sql, question, rows) in cases {
         assert_eq!(rt;
@@ -234,12 +255,12 @@ fn another_database_is_foreign_to_a_ledger_and_stays(rt: HostRuntime) {
 fn a_ledger_in_tables_is_of_an_owner_of_the_scheme(rt: HostRuntime) {
     let tables = "SELECT count(*) FROM sqlite_schema";
     assert_eq!(rt;
-        refusal(rt.alloc(), 9, ["", ""], tables),
+        refusal(rt.alloc(), 9, &[], tables),
         Some((LedgerOpenFault::UnknownOwner, 0))
     );
     let ours = "INSERT INTO meta VALUES (1, 1)";
     assert_eq!(rt;
-        refusal(rt.alloc(), 9, [TABLES, ours], "SELECT owner FROM meta"),
+        refusal(rt.alloc(), 9, &[TABLES, ours], "SELECT owner FROM meta"),
         Some((LedgerOpenFault::UnknownOwner, 1))
     );
 }

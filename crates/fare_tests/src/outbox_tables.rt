@@ -16,20 +16,20 @@ CREATE TABLE stated (owner INTEGER NOT NULL, device INTEGER NOT NULL, day INTEGE
   total INTEGER NOT NULL, PRIMARY KEY (owner, device, day)) STRICT;";
 
 // A database in memory in which these statements were run.
-fn database(alloc: Global, sql: [&str; 2]) -> Option<Connection<MemStore>> {
+fn database(alloc: Global, sql: &[&str]) -> Option<Connection<MemStore>> {
     let mut conn = Connection::open_in_memory(alloc).ok()?;
     for text in sql {
-        conn.execute_batch(text).ok()?;
+        conn.execute_batch(*text).ok()?;
     }
     Some(conn)
 }
 
-fn outbox(alloc: Global, sql: [&str; 2]) -> Option<SqlOutbox<MemStore>> {
+fn outbox(alloc: Global, sql: &[&str]) -> Option<SqlOutbox<MemStore>> {
     SqlOutbox::open(alloc, database(alloc, sql)?).ok()
 }
 
 // Why the database isn't opened, and what this question then answers.
-fn refusal(alloc: Global, sql: [&str; 2], question: &str) -> Option<(OpenFault, i64)> {
+fn refusal(alloc: Global, sql: &[&str], question: &str) -> Option<(OpenFault, i64)> {
     let (mut conn, fault) = SqlOutbox::open(alloc, database(alloc, sql)?).err()?;
     let rows = conn.query_row(question, &[]).ok()?.get(0).ok()?;
     Some((fault, rows))
@@ -57,7 +57,7 @@ fn an_outbox_in_tables_stores_each_next_tap(rt: HostRuntime) {
         (Asked::Empty, Said::Empty(Ok(false))),
         (Asked::Upto, Said::Number(Ok(301))),
     ];
-    let mut outbox = outbox(rt.alloc(), ["", ""]).expect(&rt, "outbox");
+    let mut outbox = outbox(rt.alloc(), &[]).expect(&rt, "outbox");
     says(&rt, &mut outbox, &calls);
 }
 
@@ -71,7 +71,7 @@ fn an_outbox_in_tables_holds_a_statement_once(rt: HostRuntime) {
         (Asked::NextStatement(19_724), Said::Found(Ok(None))),
         (Asked::Empty, Said::Empty(Ok(false))),
     ];
-    let mut outbox = outbox(rt.alloc(), ["", ""]).expect(&rt, "outbox");
+    let mut outbox = outbox(rt.alloc(), &[]).expect(&rt, "outbox");
     says(&rt, &mut outbox, &calls);
 }
 
@@ -85,7 +85,7 @@ fn an_outbox_takes_its_own_tables(rt: HostRuntime) {
     ];
     let rows = "INSERT INTO meta VALUES (1, 0); INSERT INTO device VALUES (1, 2);
 INSERT INTO tap VALUES (1, 1, 2, 2, 1, 77, 1704100000, 19723)";
-    let mut outbox = outbox(rt.alloc(), [TABLES, rows]).expect(&rt, "outbox");
+    let mut outbox = outbox(rt.alloc(), &[TABLES, rows]).expect(&rt, "outbox");
     says(&rt, &mut outbox, &calls);
 }
 
@@ -98,7 +98,7 @@ fn a_row_past_its_limits_is_a_failure(rt: HostRuntime) {
     ];
     let rows = "INSERT INTO meta VALUES (1, 0); INSERT INTO device VALUES (1, 1099511627776);
 INSERT INTO tap VALUES (1, 1, 2, 2, 1, 0, 1704100000, 19723); INSERT INTO stated VALUES (1, 1, 100001, 3)";
-    let mut outbox = outbox(rt.alloc(), [TABLES, rows]).expect(&rt, "outbox");
+    let mut outbox = outbox(rt.alloc(), &[TABLES, rows]).expect(&rt, "outbox");
     says(&rt, &mut outbox, &calls);
 }
 
@@ -115,8 +115,15 @@ CREATE TABLE tap (owner INTEGER NOT NULL, device INTEGER NOT NULL, lane INTEGER 
   PRIMARY KEY (owner, device, lane), UNIQUE (device, link)) STRICT;
 CREATE TABLE device (id INTEGER PRIMARY KEY, upto INTEGER NOT NULL CHECK (upto >= 0)) STRICT;";
 
+// Other tables, with an index, a view, a count of rows and a reference among themselves.
+const RIDERS: &str = "CREATE TABLE rider (id INTEGER PRIMARY KEY AUTOINCREMENT, name TEXT NOT NULL UNIQUE);
+CREATE TABLE pass (rider INTEGER NOT NULL REFERENCES rider (id), day INTEGER);
+CREATE INDEX pass_day ON pass (day);
+CREATE VIEW names AS SELECT name FROM rider;
+INSERT INTO rider (name) VALUES ('a'), ('b'); INSERT INTO pass VALUES (1, 5), (2, 6);";
+
 #[test]
-fn an_outbox_whose_tables_were_made_in_another_order_opens(rt: HostRuntime) {
+fn an_outbox_opens_wherever_its_tables_stand(rt: HostRuntime) {
     let calls = [
         (Asked::Empty, Said::Empty(Ok(true))),
         (Asked::StoreAll(3), Said::Stored(Ok(()))),
@@ -124,11 +131,37 @@ fn an_outbox_whose_tables_were_made_in_another_order_opens(rt: HostRuntime) {
         (Asked::NextRow(1), Said::Found(Ok(Some(2)))),
         (Asked::Prune(2), Said::Number(Ok(2))),
         (Asked::NextRow(0), Said::Found(Ok(Some(3)))),
+        (Asked::State(3), Said::Stated(Ok(()))),
+        (Asked::NextStatement(0), Said::Found(Ok(Some(3)))),
     ];
-    for sql in [[OTHERS, META], [META, OTHERS]] {
+    let cases: [&[&str]; 6] = [
+        &[OTHERS, META],
+        &[META, OTHERS],
+        &[RIDERS],
+        &[RIDERS, META, OTHERS],
+        &[META, RIDERS, OTHERS],
+        &[OTHERS, META, RIDERS],
+    ];
+    for sql in cases {
         let mut outbox = outbox(rt.alloc(), sql).expect(&rt, "outbox");
         says(&rt, &mut outbox, &calls);
     }
+}
+
+// What is left of the other tables where an outbox was made beside them, and what it says opened again.
+fn beside(alloc: Global) -> Option<(i64, Said)> {
+    let mut first = outbox(alloc, &[RIDERS])?;
+    ask(&mut first, Asked::StoreAll(3))?;
+    let mut conn = first.into_connection();
+    let question = "SELECT count(*) + 10 * (SELECT sum(day) FROM pass) FROM names";
+    let others = conn.query_row(question, &[]).ok()?.get(0).ok()?;
+    let mut again = SqlOutbox::open(alloc, conn).ok()?;
+    Some((others, ask(&mut again, Asked::Upto)?))
+}
+
+#[test]
+fn other_tables_stay_beside_an_outbox(rt: HostRuntime) {
+    assert_eq!(rt; beside(rt.alloc()), Some((112, Said::Number(Ok(3)))));
 }
 
 #[test]
@@ -137,30 +170,29 @@ fn another_database_is_foreign_and_stays(rt: HostRuntime) {
     let whole = "CREATE TABLE meta (format INTEGER NOT NULL, owner INTEGER NOT NULL) STRICT";
     let taps = "SELECT count(*) FROM tap";
     let metas = "SELECT count(*) + 10 * coalesce(sum(format), 0) FROM meta";
-    let cases = [
-        ([TABLES, "INSERT INTO meta VALUES (9, 0)"], metas, 91),
-        ([TABLES, "INSERT INTO meta VALUES (1, 3)"], metas, 11),
+    let child = "CREATE TABLE child (o INTEGER, d INTEGER, l INTEGER,
+FOREIGN KEY (o, d, l) REFERENCES tap (owner, device, lane) ON DELETE CASCADE)";
+    let by_rowid = "CREATE UNIQUE INDEX again ON device (id)";
+    let cases: [(&[&str], &str, i64); 11] = [
+        (&[TABLES, "INSERT INTO meta VALUES (9, 0)"], metas, 91),
+        (&[TABLES, "INSERT INTO meta VALUES (1, 3)"], metas, 11),
         (
-            [TABLES, "INSERT INTO meta VALUES (1, 0), (1, 0)"],
+            &[TABLES, "INSERT INTO meta VALUES (1, 0), (1, 0)"],
             metas,
             22,
         ),
-        ([TABLES, ""], metas, 0),
+        (&[TABLES], metas, 0),
         (
-            [TABLES, "INSERT INTO meta VALUES (1, 0); DROP TABLE stated"],
+            &[TABLES, "INSERT INTO meta VALUES (1, 0); DROP TABLE stated"],
             metas,
             11,
         ),
-        ([other, ""], taps, 1),
-        ([whole, other], taps, 1),
-        (
-            [
-                "CREATE TABLE others (a INTEGER) STRICT; INSERT INTO others VALUES (5)",
-                "",
-            ],
-            "SELECT count(*) FROM others",
-            1,
-        ),
+        (&[other], taps, 1),
+        (&[whole, other], taps, 1),
+        (&[RIDERS, other], taps, 1),
+        (&[RIDERS, "CREATE VIEW stated AS SELECT 1"], "SELECT 1", 1),
+        (&[META, OTHERS, child], metas, 11),
+        (&[META, OTHERS, by_rowid], metas, 11),
     ];
     for (sql, question, rows) in cases {
         assert_eq!(rt;
