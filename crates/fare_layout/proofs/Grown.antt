@@ -17,12 +17,12 @@ use Rattle.fare_layout.proofs.Meant.{same_some}
 
 -- ---- lists
 
-kept_at : {X : Type 0} (xs ys : List X) (i : ℕ) (x : X) → slice_get xs i ≡ Some x → slice_get (xs ++ ys) i ≡ Some x
+pub kept_at : {X : Type 0} (xs ys : List X) (i : ℕ) (x : X) → slice_get xs i ≡ Some x → slice_get (xs ++ ys) i ≡ Some x
 kept_at [] ys i x is = absurd (let e = is in cc)
 kept_at (y ∷ xs) ys zero x is = is
 kept_at (y ∷ xs) ys (suc i) x is = kept_at xs ys i x is
 
-last_at : {X : Type 0} (xs : List X) (x : X) → slice_get (xs ++ x ∷ []) (length xs) ≡ Some x
+pub last_at : {X : Type 0} (xs : List X) (x : X) → slice_get (xs ++ x ∷ []) (length xs) ≡ Some x
 last_at [] x = refl
 last_at (y ∷ xs) x = last_at xs x
 

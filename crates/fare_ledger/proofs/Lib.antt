@@ -13,6 +13,7 @@ pub mod Empty
 pub mod Listed
 pub mod Between
 pub mod Known
+pub mod Vacant
 pub mod Opened
 pub mod Meta
 pub mod AnyOrder

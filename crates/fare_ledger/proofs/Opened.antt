@@ -3,17 +3,20 @@ use Rattle.std.proofs.Common.{◌≡◌, ◌≢◌, ◌⊎◌, inl, inr, ℕ, Bo
 use Rattle.std.specs.Prelude.{IfSome}
 use Rattle.sqlite.specs.Schema.{Schema}
 use Rattle.sqlite.specs.Effect.{Database}
-use Rattle.sqlite.specs.State.{State}
+use Rattle.sqlite.specs.Change.{KeepsRows}
+use Rattle.sqlite.specs.State.{State, HasCleanDisk}
+use Rattle.sqlite.specs.Tree.{Trees}
 use Rattle.fare_store.specs.LedgerWords.{IsEmptyLedger}
 use Rattle.fare_tables.specs.Asking.{IsAtRest, SameRows}
 use Rattle.fare_tables.specs.Cells.{AreRows, held}
 use Rattle.fare_tables.specs.Making.{no_schema}
 use Rattle.fare_tables.specs.Tabled.{IsFit}
+use Rattle.fare_layout.proofs.Others.{all_kept}
 use Rattle.fare_ledger.specs.declared.layout.Layout.{Layout}
 use Rattle.fare_ledger.specs.Layouts.{schema_in, ours}
 use Rattle.fare_ledger.specs.Held.{AreReadable, IsReady, IsLane, IsTap, IsStated, lane_of, tap_of, stated_of, stated_in, held_of}
-use Rattle.fare_ledger.specs.Making.{IsNew}
-use Rattle.fare_ledger.specs.Opening.{IsOurs, IsLedger, IsVacant, IsBlankOrOurs, IsOpened, Settles}
+use Rattle.fare_ledger.specs.Making.{Makes, MayGrow, IsNew, MadeFrom}
+use Rattle.fare_ledger.specs.Opening.{IsOurs, IsLedger, IsVacant, IsBlankOrOurs, IsOpened, Settles, MayMake}
 use Rattle.fare_ledger.specs.Words.{taken_in, value_at, value_in, AreNext, AreApart, FitTogether, IsLawful}
 use Rattle.fare_layout.specs.Growing.{HasNone}
 use Rattle.fare_ledger.specs.Statements.{tables}
@@ -61,12 +64,21 @@ pub on_err : {X E P : Type 0} (r : Result X E) → P → OnErr r P
 on_err (Ok x) p = tt
 on_err (Err e) p = p
 
+-- what is committed where the tables can be made
+pub makes_all : (owner : ℕ) (old new : State) (w : Layout) → IsVacant old → Makes old.now.schema w → HasCleanDisk new → (trees : Trees) → MadeFrom owner old.now trees → MayMake owner old trees
+makes_all owner old new w vacant makes clean trees from = (
+  vacant,
+  (w, makes, from.0, from.1.each w makes, from.2),
+  subst (KeepsRows old.now.schema.tables old.now.trees) (sym from.2) (from.1.others (record { layout = w; makes = makes })),
+)
+
 -- the tables are a ledger's already
 pub taken_over : {E : Type 0} (owner : ℕ) (old new : State) (o : Layout) (r : Result (Option Layout) E) → old.now.schema ≡ schema_in o → IfOk r (λ found. IfSome found (λ p. p ≡ o)) → (IsAtRest (schema_in o) old → SameRows old new)
     → IfOk r (λ found. IfSome found (Settles owner old new))
 taken_over owner old new o (Ok (Some p)) has at same = record {
   made = λ none. absurd (not_vacant o old.now.schema none has);
   kept = λ ready. (let it : IsReady o old = subst (λ w. IsReady w old) at ready in same it.rest);
+  others = λ settled. all_kept old.now.schema.tables old.now.trees new.now.trees (ap (λ (d : Database). d.trees) (same (record { settled = settled; schema_is = has })).0);
 }
 taken_over owner old new o (Ok None) has at same = tt
 taken_over owner old new o (Err e) has at same = tt
@@ -75,6 +87,10 @@ taken_over owner old new o (Err e) has at same = tt
 pub not_blank : {E : Type 0} (old : State) (o : Layout) (r : Result (Option Layout) E) → old.now.schema ≡ schema_in o → IfOk r (λ found. found ≡ None → old.now.schema ≢ no_schema)
 not_blank old o (Ok found) has = λ none blank. not_both o (sym blank ∙ has)
 not_blank old o (Err e) has = tt
+
+pub not_free : {E : Type 0} (old : State) (o : Layout) (r : Result (Option Layout) E) → old.now.schema ≡ schema_in o → IfOk r (λ found. found ≡ None → IsVacant old → ¬ MayGrow old.now.schema)
+not_free old o (Ok found) has = λ none vacant. absurd (not_vacant o old.now.schema vacant has)
+not_free old o (Err e) has = tt
 
 pub ours_too : {E : Type 0} (owner : ℕ) (old : State) (o : Layout) (r : Result (Option Layout) E) → old.now.schema ≡ schema_in o → IfOk r (λ found. IfSome found (λ p. p ≡ o)) → IfOk r (λ found. IfSome found (λ p. IsOurs owner (ours o old.now.trees)))
     → IfOk r (λ found. IfSome found (IsOpened owner old))

@@ -4,7 +4,7 @@ ghost use Rattle.fare_ledger.specs.declared.layout.Layout.{Layout};
 ghost use Rattle.fare_ledger.specs.Layouts.{schema_in};
 ghost use Rattle.fare_ledger.specs.Statements.{FitsLedger};
 ghost use Rattle.fare_ledger.specs.Tables.{ledger_schema};
-ghost use Rattle.fare_ledger.specs.Making.{Makes};
+ghost use Rattle.fare_ledger.specs.Making.{Makes, MayGrow};
 ghost use Rattle.fare_ledger.specs.Opening.{Sees};
 
 use crate::Layout;
@@ -62,6 +62,7 @@ fn layout_in(alloc: Global, schema: &Schema) -> Result<Option<Layout>, Fault>
 fn layout_after(alloc: Global, schema: &Schema) -> Result<Option<Layout>, Fault>
     ensures found { IfOk result (λ found. IfSome found (Makes schema.now)) }
     ensures lacks { IfOk result (λ found. found ≡ None → schema.now ≢ no_schema) }
+    ensures vacant { IfOk result (λ found. found ≡ None → ¬ MayGrow schema.now) }
 {
     let Some(grown) = grow_by(alloc, schema, &TABLES)? else {
         return Ok(None);

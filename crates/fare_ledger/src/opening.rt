@@ -8,6 +8,7 @@ ghost use Rattle.fare_tables.specs.Making.{no_schema};
 ghost use Rattle.fare_tables.specs.Tabled.{IsFit};
 ghost use Rattle.fare_ledger.specs.declared.layout.Layout.{Layout};
 ghost use Rattle.fare_ledger.specs.Layouts.{schema_in, ours};
+ghost use Rattle.fare_ledger.specs.Making.{Makes, MayGrow, KeepsOthers};
 ghost use Rattle.fare_ledger.specs.Opening.{IsMetaRow, AreMeta, IsOurs, IsLedger, IsVacant, IsBlankOrOurs, IsOpened, Sees, Settles, MayMake};
 ghost use Rattle.fare_ledger.specs.Words.{IsLawful, value_at, connected, stands};
 
@@ -31,8 +32,9 @@ pub enum LedgerOpenFault {
     /// The owner isn't registered.
     #[error("the owner isn't registered")]
     UnknownOwner,
-    /// It holds something else under a name of the ledger's tables, as a table with another shape or format, or
-    /// the ledger of another owner; or its other tables leave no room for the ledger's.
+    /// A name of the ledger's tables stands for something else in it: a table of another shape or format, the
+    /// ledger of another owner, or a table that other tables reach into. Or the ledger's tables can't be made
+    /// beside those that are there.
     #[error("the database holds something else")]
     Foreign,
     /// No memory is left for it.
@@ -127,6 +129,7 @@ fn settle<S: Alter>(
     ensures refused { IsLive (state S.Store conn.new) → (state S.Store conn.old).now ≡ (state S.Store conn.old).committed → IfOk result (λ found. found ≡ None → SameRows (state S.Store conn.old) (state S.Store conn.new)) }
     ensures foreign { IfOk result (λ found. found ≡ None → (state S.Store conn.old).now.schema ≢ no_schema) }
     ensures lacks { IsLive (state S.Store conn.new) → IfOk result (λ found. found ≡ None → ¬ IsBlankOrOurs owner (state S.Store conn.old)) }
+    ensures vacant { IfOk result (λ found. found ≡ None → IsVacant (state S.Store conn.old) → ¬ MayGrow (state S.Store conn.old).now.schema) }
     ensures crash { Survives (state S.Store conn.old) (state S.Store conn.new) (MayMake owner (state S.Store conn.old)) }
     ensures failed { IsLive (state S.Store conn.new) → (state S.Store conn.old).now ≡ (state S.Store conn.old).committed → OnErr result (SameRows (state S.Store conn.old) (state S.Store conn.new)) }
     ensures idle { conn.new.in_transaction ≡ false }
@@ -144,8 +147,8 @@ fn settle<S: Alter>(
 impl<S: Alter> SqlLedger<S> {
     /// Takes a database for the ledger of an owner of a scheme, which may hold other tables too: one that holds
     /// this owner's ledger as it is, and one in which nothing has a name of the ledger's tables after it made them
-    /// there. Where it can't, the connection comes back, with its rows as before. A connection that is inside a
-    /// transaction answers Store.
+    /// there, past the others, whose rows stay. Where it can't, the connection comes back, with its rows as before.
+    /// A connection that is inside a transaction answers Store.
     ///
     /// Refused by the first case of `LedgerOpenFault` that applies.
     pub fn open(
@@ -159,12 +162,15 @@ impl<S: Alter> SqlLedger<S> {
         ensures owner { IfOk result (λ l. (stands S.Store l).value.owner ≡ owner) }
         ensures scheme { IfOk result (λ l. IsOfScheme scheme.now (stands S.Store l).value) }
         ensures made { IfOk result (λ l. (stands S.Store l).live → IsVacant (state S.Store conn) → (stands S.Store l).lawful × IsEmptyLedger (stands S.Store l).value) }
+        ensures placed { IfOk result (λ l. (stands S.Store l).live → IsVacant (state S.Store conn) → Makes (state S.Store conn).now.schema l.layout) }
+        ensures others { IfOk result (λ l. (stands S.Store l).live → (state S.Store conn).now ≡ (state S.Store conn).committed → KeepsOthers (state S.Store conn).now (connected S.Store l).now) }
         ensures kept { IfOk result (λ l. (stands S.Store l).live → (w : Layout) → IsFit (schema_in w) (IsLawful w owner scheme.now.start) (state S.Store conn) → (stands S.Store l).lawful × ((stands S.Store l).value ≡ value_at w owner scheme.now.start (stands S.Store l).value.knows (state S.Store conn).now.trees)) }
         ensures ours { IfOk result (λ l. (stands S.Store l).live → IsVacant (state S.Store conn) ⊎ IsLedger owner (state S.Store conn)) }
         ensures failures { IfOk result (λ l. (stands S.Store l).failures ≡ 0) }
         ensures inside { conn.in_transaction ≡ true → IsSome (position_of_owner scheme.now owner) → result ≡ Err (conn, LedgerOpenFault.Store) }
         ensures foreign { IfErr result (λ e. e.1 ≡ LedgerOpenFault.Foreign → (state S.Store conn).now.schema ≢ no_schema) }
         ensures lacks { IfErr result (λ e. e.1 ≡ LedgerOpenFault.Foreign → IsLive (state S.Store e.0) → ¬ IsBlankOrOurs owner (state S.Store conn)) }
+        ensures vacant { IfErr result (λ e. e.1 ≡ LedgerOpenFault.Foreign → IsVacant (state S.Store conn) → ¬ MayGrow (state S.Store conn).now.schema) }
         ensures crash { IfOk result (λ l. Survives (state S.Store conn) (connected S.Store l) (MayMake owner (state S.Store conn))) }
         ensures crash_refused { IfErr result (λ e. Survives (state S.Store conn) (state S.Store e.0) (MayMake owner (state S.Store conn))) }
         ensures refused { IfErr result (λ e. IsLive (state S.Store e.0) → (state S.Store conn).now ≡ (state S.Store conn).committed → SameRows (state S.Store conn) (state S.Store e.0)) }

@@ -12,4 +12,4 @@ returns-in-Ok-clause-made g c clean inside w blank =
     let new = state g.S.Store c.change.new.tx.conn.now in
     let ran = c.in-Ok.ensures.ran clean inside in
     let h : Executes put_meta_text (int c.args.owner ∷ []) old new (Ok c.in-Ok.field-0) = rw (c.parameter.ensures, c.from.ensures, c.get.ensures.value) at ran.0 in
-    (puts_meta c.args.owner w old new c.in-Ok.field-0 blank h, ran.1)
+    (let put = puts_meta c.args.owner w old new c.in-Ok.field-0 blank h in (put.0, put.1, ran.1))
