@@ -25,8 +25,7 @@ use Rattle.fare_layout.proofs.Grown.{first_made, stays_empty, one_longer, empty_
 use Rattle.fare_outbox.specs.declared.layout.Layout.{Layout}
 use Rattle.fare_outbox.specs.Layouts.{schema_in, tree_in, ours}
 use Rattle.fare_outbox.specs.Tables.{device_table, tap_table, stated_table}
-use Rattle.fare_outbox.specs.Making.{IsBlank, IsNew}
-use Rattle.fare_outbox.specs.Opening.{Makes, MayGrow, MakesNew}
+use Rattle.fare_outbox.specs.Making.{Makes, MayGrow, IsBlank, IsNew, MakesNew}
 use Rattle.fare_outbox.proofs.Placed.{meta_stands, device_stands, tap_stands, stated_stands, meta_placed, no_works, each, at_found, device_is_not_meta, tap_is_not_meta, stated_is_not_meta}
 use Rattle.fare_outbox.proofs.Texts.{put_meta_text, put_meta_command, put_meta_meant}
 

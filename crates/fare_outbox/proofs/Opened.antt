@@ -16,8 +16,8 @@ use Rattle.fare_outbox.specs.Statements.{tables}
 use Rattle.fare_outbox.proofs.Placed.{same_trees}
 use Rattle.fare_outbox.proofs.Own.{blank_is_vacant, not_vacant}
 use Rattle.fare_outbox.specs.Held.{AreReadable, IsReady, IsDevice, IsTap, IsStated, upto_of, tap_of, stated_of, held_of}
-use Rattle.fare_outbox.specs.Making.{IsNew}
-use Rattle.fare_outbox.specs.Opening.{IsOurs, IsVacant, IsBlankOrOurs, IsOpened, IsCounted, Settles, Makes, MayGrow, MadeFrom, MayMake}
+use Rattle.fare_outbox.specs.Making.{Makes, MayGrow, IsNew, MadeFrom}
+use Rattle.fare_outbox.specs.Opening.{IsOurs, IsVacant, IsBlankOrOurs, IsOpened, IsCounted, Settles, MayMake}
 use Rattle.fare_outbox.specs.Words.{tap_key, stated_key, first_at, itself, count_of, value_at, value_in, AreApart, IsKnown, FitTogether, IsLawful, IsWell}
 
 -- no schema is both
@@ -116,7 +116,7 @@ makes_survives old new w vacant makes s = record {
   closes = s.closes;
   crash = λ clean db may. elim (s.crash clean db may) [
     | inl before ↦ inl before
-    | inr from ↦ (let it = from (record { layout = w; makes = makes }) in inr (vacant, (w, it.0, it.1.each w makes, it.2)))
+    | inr from ↦ (let it = from (record { layout = w; makes = makes }) in inr (vacant, (w, makes, it.0, it.1.each w makes, it.2)))
   ];
 }
 

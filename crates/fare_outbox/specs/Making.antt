@@ -1,10 +1,23 @@
 -- The empty outbox.
 use Rattle.std.specs.Prelude.{◌≡◌, [], ◌∷◌, pos}
 use Rattle.sqlite.specs.declared.types.Value.TheVariants.{Int}
+use Rattle.sqlite.specs.Schema.{Schema}
 use Rattle.sqlite.specs.Tree.{Trees}
 use Rattle.sqlite.specs.Effect.{Database}
+use Rattle.fare_layout.specs.Growing.{GrowsBy, AreLast}
 use Rattle.fare_outbox.specs.declared.layout.Layout.{Layout}
 use Rattle.fare_outbox.specs.Layouts.{schema_in, ours}
+use Rattle.fare_outbox.specs.Statements.{tables}
+
+-- where the tables stand once they are made in a schema: after those that are there
+pub record Makes (schema : Schema) (w : Layout) : Type 0 where
+  pub grows : GrowsBy schema tables (schema_in w)
+  pub last : AreLast schema w.places
+
+-- the tables can be made in a schema
+pub record MayGrow (schema : Schema) : Type 0 where
+  pub layout : Layout
+  pub makes : Makes schema layout
 
 -- its tables, with no row
 pub record IsBlank (w : Layout) (db : Database) : Type 0 where
@@ -22,6 +35,14 @@ pub record IsNew (w : Layout) (db : Database) : Type 0 where
   pub taps : ours w db.trees 2 ≡ []
   pub stated : ours w db.trees 5 ≡ []
 
--- the trees of an empty outbox
-abbrev pub IsMade : Trees → Type 0
-IsMade trees = (w : Layout) × (db : Database) × IsNew w db × (trees ≡ db.trees)
+-- the database is an empty outbox now, wherever the tables stand that were made
+pub record MakesNew (old new : Database) : Type 0 where
+  pub each : (w : Layout) → Makes old.schema w → IsNew w new
+
+-- these are the trees of one
+abbrev pub MadeFrom : Database → Trees → Type 0
+MadeFrom old trees = (db : Database) × MakesNew old db × (trees ≡ db.trees)
+
+-- the trees of an empty outbox, whose tables were made in this schema
+abbrev pub IsMade : Schema → Trees → Type 0
+IsMade schema trees = (w : Layout) × Makes schema w × (db : Database) × IsNew w db × (trees ≡ db.trees)

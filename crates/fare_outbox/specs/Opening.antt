@@ -3,19 +3,18 @@ use Rattle.std.specs.Prelude.{◌≡◌, ◌≢◌, ◌⊎◌, ℕ, pos, List, [
 use Rattle.sqlite.specs.declared.types.Value.TheVariants.{Int}
 use Rattle.sqlite_value.specs.Order.{Row, column}
 use Rattle.sqlite.specs.Tree.{Trees}
-use Rattle.sqlite.specs.Effect.{Database}
 use Rattle.sqlite.specs.State.{State}
 use Rattle.fare_tables.specs.Asking.{SameRows}
 use Rattle.fare_tables.specs.Making.{no_schema}
 use Rattle.fare_outbox.specs.declared.layout.Layout.{Layout}
-use Rattle.fare_layout.specs.Growing.{HasNone, GrowsBy, AreLast}
+use Rattle.fare_layout.specs.Growing.{HasNone}
 use Rattle.fare_outbox.specs.declared.opening.Seen.{Seen}
 use Rattle.fare_outbox.specs.declared.opening.Seen.TheVariants as seen
 use Rattle.sqlite.specs.Schema.{Schema}
 use Rattle.fare_outbox.specs.Layouts.{schema_in, ours}
 use Rattle.fare_outbox.specs.Statements.{tables}
 use Rattle.fare_outbox.specs.Held.{IsReady, held_of}
-use Rattle.fare_outbox.specs.Making.{IsNew, IsMade}
+use Rattle.fare_outbox.specs.Making.{Makes, IsNew, IsMade}
 
 -- format 1, owner 0
 abbrev pub IsMetaRow : Row → Type 0
@@ -58,29 +57,11 @@ pub record Settles (old new : State) (w : Layout) (rows statements : ℕ) : Type
 
 -- what an open may commit: the empty outbox, where nothing has a name of its tables
 abbrev pub MayMake : State → Trees → Type 0
-MayMake old trees = IsVacant old × IsMade trees
+MayMake old trees = IsVacant old × IsMade old.now.schema trees
 
 -- the database had none of the names, or is an outbox whose tables stand there
 abbrev pub IsOpened : State → Layout → Type 0
 IsOpened s w = IsVacant s ⊎ ((s.now.schema ≡ schema_in w) × IsOurs (ours w s.now.trees))
-
--- where the tables stand once they are made in a schema
-pub record Makes (schema : Schema) (w : Layout) : Type 0 where
-  pub grows : GrowsBy schema tables (schema_in w)
-  pub last : AreLast schema w.places
-
--- the tables can be made in a schema
-pub record MayGrow (schema : Schema) : Type 0 where
-  pub layout : Layout
-  pub makes : Makes schema layout
-
--- the database is an empty outbox now, wherever the tables stand that were made
-pub record MakesNew (old new : Database) : Type 0 where
-  pub each : (w : Layout) → Makes old.schema w → IsNew w new
-
--- these are the trees of one
-abbrev pub MadeFrom : Database → Trees → Type 0
-MadeFrom old trees = (db : Database) × MakesNew old db × (trees ≡ db.trees)
 
 -- what was seen of a schema
 abbrev pub Sees : Schema → Seen → Type 0

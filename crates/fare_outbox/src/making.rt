@@ -5,8 +5,7 @@ ghost use Rattle.sqlite.specs.declared.error.Error.{Error};
 ghost use Rattle.sqlite.specs.Held.{state};
 ghost use Rattle.fare_tables.specs.Asking.{IsLive, SameRows, Inside};
 ghost use Rattle.fare_outbox.specs.declared.layout.Layout.{Layout};
-ghost use Rattle.fare_outbox.specs.Making.{IsBlank, IsNew};
-ghost use Rattle.fare_outbox.specs.Opening.{Makes, MayGrow, MakesNew, MadeFrom};
+ghost use Rattle.fare_outbox.specs.Making.{Makes, MayGrow, IsBlank, IsNew, MakesNew, MadeFrom};
 
 use crate::statements::{PUT_META, TABLES};
 use fare_store::Fault;

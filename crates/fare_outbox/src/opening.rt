@@ -11,7 +11,8 @@ ghost use Rattle.fare_outbox.specs.Tables.{outbox_schema};
 ghost use Rattle.fare_store.specs.OutboxWords.{IsEmptyOutbox};
 ghost use Rattle.fare_tables.specs.Tabled.{IsFit};
 ghost use Rattle.fare_outbox.specs.Held.{IsReady};
-ghost use Rattle.fare_outbox.specs.Opening.{IsMetaRow, AreMeta, IsOurs, IsOutbox, IsVacant, IsBlankOrOurs, IsCounted, IsOpened, Makes, Sees, Settles, MayMake};
+ghost use Rattle.fare_outbox.specs.Making.{Makes};
+ghost use Rattle.fare_outbox.specs.Opening.{IsMetaRow, AreMeta, IsOurs, IsOutbox, IsVacant, IsBlankOrOurs, IsCounted, IsOpened, Sees, Settles, MayMake};
 ghost use Rattle.fare_outbox.specs.Words.{IsLawful, value_at, connected, stands};
 
 use crate::making::make_outbox;
