@@ -12,6 +12,7 @@ pub mod Pruned
 pub mod Stored
 pub mod Seen
 pub mod Judged
+pub mod Vacant
 pub mod Opened
 pub mod Meta
 pub mod AnyOrder

@@ -3,12 +3,14 @@ use Rattle.std.proofs.Common.{◌≡◌, ◌≢◌, inl, inr, ℕ, List, [], map
 use Rattle.std.specs.List.{AllByRecursion}
 use Rattle.sqlite.specs.Schema.{Schema}
 use Rattle.sqlite.specs.Effect.{Database}
+use Rattle.sqlite.specs.Change.{KeepsRows}
 use Rattle.sqlite.specs.State.{State, Survives}
 use Rattle.fare_store.specs.OutboxWords.{IsEmptyOutbox}
 use Rattle.fare_tables.specs.Asking.{IsAtRest, SameRows}
 use Rattle.fare_tables.specs.Cells.{AreRows, held}
 use Rattle.fare_tables.specs.Making.{no_schema}
 use Rattle.fare_tables.specs.Tabled.{IsFit}
+use Rattle.fare_layout.proofs.Others.{all_kept}
 use Rattle.fare_outbox.specs.declared.layout.Layout.{Layout}
 use Rattle.fare_outbox.specs.Layouts.{schema_in, ours}
 use Rattle.fare_layout.specs.Growing.{HasNone}
@@ -69,11 +71,15 @@ pub taken_over : (old new : State) (w : Layout) (rows statements : ℕ) → old.
 taken_over old new w rows statements has counted same = record {
   made = λ none. absurd (not_vacant w old.now.schema none has);
   kept = λ ready. (same ready.rest, counted ready);
+  others = λ settled. all_kept old.now.schema.tables old.now.trees new.now.trees (ap (λ (d : Database). d.trees) (same (record { settled = settled; schema_is = has })).0);
 }
 
 -- what has the tables of an outbox isn't without tables
 pub not_blank : (old : State) (w : Layout) → old.now.schema ≡ schema_in w → old.now.schema ≢ no_schema
 not_blank old w has = λ blank. not_both w (sym blank ∙ has)
+
+pub not_free : (old : State) (w : Layout) → old.now.schema ≡ schema_in w → IsVacant old → ¬ MayGrow old.now.schema
+not_free old w has = λ vacant. absurd (not_vacant w old.now.schema vacant has)
 
 -- what is neither without tables nor the store's own
 pub neither : (old : State) → old.now.schema ≢ no_schema → ((o : Layout) → old.now.schema ≡ schema_in o → ¬ IsOurs (ours o old.now.trees)) → ¬ IsBlankOrOurs old
@@ -116,7 +122,7 @@ makes_survives old new w vacant makes s = record {
   closes = s.closes;
   crash = λ clean db may. elim (s.crash clean db may) [
     | inl before ↦ inl before
-    | inr from ↦ (let it = from (record { layout = w; makes = makes }) in inr (vacant, (w, makes, it.0, it.1.each w makes, it.2)))
+    | inr from ↦ (let it = from (record { layout = w; makes = makes }) in inr (vacant, (w, makes, it.0, it.1.each w makes, it.2), subst (KeepsRows old.now.schema.tables old.now.trees) (sym it.2) it.1.others))
   ];
 }
 

@@ -134,7 +134,7 @@ no_shares w new row = untouched.no_shares (device_table (tree_in w Device)) new 
 
 -- ---- a schema has them at one place
 
-same_at : (v w : Layout) → schema_in v ≡ schema_in w → v.places ≡ w.places
+pub same_at : (v w : Layout) → schema_in v ≡ schema_in w → v.places ≡ w.places
 same_at v w same = same_places v.schema outbox_schema.tables v.places w.places v.fits.stands (subst (λ (s : Schema). AllZip (Stands s) outbox_schema.tables (all_of w.places)) (sym same) w.fits.stands)
 
 pub same_trees : (v w : Layout) (trees : Trees) → schema_in v ≡ schema_in w → ours v trees ≡ ours w trees

@@ -5,7 +5,7 @@ ghost use Rattle.sqlite.specs.declared.error.Error.{Error};
 ghost use Rattle.sqlite.specs.Held.{state};
 ghost use Rattle.fare_tables.specs.Asking.{IsLive, SameRows, Inside};
 ghost use Rattle.fare_outbox.specs.declared.layout.Layout.{Layout};
-ghost use Rattle.fare_outbox.specs.Making.{Makes, MayGrow, IsBlank, IsNew, MakesNew, MadeFrom};
+ghost use Rattle.fare_outbox.specs.Making.{Makes, MayGrow, KeepsOthers, KeepsAllButMeta, IsBlank, IsNew, MakesNew, MadeFrom};
 
 use crate::statements::{PUT_META, TABLES};
 use fare_store::Fault;
@@ -16,7 +16,7 @@ use sqlite::{Alter, Connection, Transaction};
 fn make_tables<S: Alter>(tx: &mut Transaction<'_, S>) -> Result<(), Fault>
     ensures same_reference { tx.new.conn.ghost_name ≡ tx.old.conn.ghost_name }
     ensures made { HasCleanDisk (state S.Store tx.new.conn.now) → IsTrue (state S.Store tx.old.conn.now).in_transaction → (w : Layout) → Makes (state S.Store tx.old.conn.now).now.schema w
-        → OnOk result (IsBlank w (state S.Store tx.new.conn.now).now × IsTrue (state S.Store tx.new.conn.now).in_transaction) }
+        → OnOk result (IsBlank w (state S.Store tx.new.conn.now).now × KeepsOthers (state S.Store tx.old.conn.now).now (state S.Store tx.new.conn.now).now × IsTrue (state S.Store tx.new.conn.now).in_transaction) }
     ensures inside { HasCleanDisk (state S.Store tx.new.conn.now) → Inside (state S.Store tx.old.conn.now) (state S.Store tx.new.conn.now) }
     ensures survives { Survives (state S.Store tx.old.conn.now) (state S.Store tx.new.conn.now) (λ _. ⊥) }
 {
@@ -31,7 +31,7 @@ fn make_tables<S: Alter>(tx: &mut Transaction<'_, S>) -> Result<(), Fault>
 fn put_meta<S: Alter>(tx: &mut Transaction<'_, S>) -> Result<(), Fault>
     ensures same_reference { tx.new.conn.ghost_name ≡ tx.old.conn.ghost_name }
     ensures made { HasCleanDisk (state S.Store tx.new.conn.now) → IsTrue (state S.Store tx.old.conn.now).in_transaction → (w : Layout) → IsBlank w (state S.Store tx.old.conn.now).now
-        → OnOk result (IsNew w (state S.Store tx.new.conn.now).now × IsTrue (state S.Store tx.new.conn.now).in_transaction) }
+        → OnOk result (IsNew w (state S.Store tx.new.conn.now).now × KeepsAllButMeta w (state S.Store tx.old.conn.now).now (state S.Store tx.new.conn.now).now × IsTrue (state S.Store tx.new.conn.now).in_transaction) }
     ensures inside { HasCleanDisk (state S.Store tx.new.conn.now) → Inside (state S.Store tx.old.conn.now) (state S.Store tx.new.conn.now) }
     ensures survives { Survives (state S.Store tx.old.conn.now) (state S.Store tx.new.conn.now) (λ _. ⊥) }
 {

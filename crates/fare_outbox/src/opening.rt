@@ -11,7 +11,7 @@ ghost use Rattle.fare_outbox.specs.Tables.{outbox_schema};
 ghost use Rattle.fare_store.specs.OutboxWords.{IsEmptyOutbox};
 ghost use Rattle.fare_tables.specs.Tabled.{IsFit};
 ghost use Rattle.fare_outbox.specs.Held.{IsReady};
-ghost use Rattle.fare_outbox.specs.Making.{Makes};
+ghost use Rattle.fare_outbox.specs.Making.{Makes, MayGrow, KeepsOthers};
 ghost use Rattle.fare_outbox.specs.Opening.{IsMetaRow, AreMeta, IsOurs, IsOutbox, IsVacant, IsBlankOrOurs, IsCounted, IsOpened, Sees, Settles, MayMake};
 ghost use Rattle.fare_outbox.specs.Words.{IsLawful, value_at, connected, stands};
 
@@ -125,6 +125,7 @@ fn layout_in(alloc: Global, schema: &Schema) -> Result<Option<Layout>, Fault>
 fn layout_after(alloc: Global, schema: &Schema) -> Result<Option<Layout>, Fault>
     ensures found { IfOk result (λ found. IfSome found (Makes schema.now)) }
     ensures lacks { IfOk result (λ found. found ≡ None → schema.now ≢ no_schema) }
+    ensures vacant { IfOk result (λ found. found ≡ None → ¬ MayGrow schema.now) }
 {
     let Some(grown) = grow_by(alloc, schema, &TABLES)? else {
         return Ok(None);
@@ -208,6 +209,7 @@ fn settle<S: Alter>(
     ensures refused { IsLive (state S.Store conn.new) → (state S.Store conn.old).now ≡ (state S.Store conn.old).committed → IfOk result (λ found. found ≡ None → SameRows (state S.Store conn.old) (state S.Store conn.new)) }
     ensures foreign { IfOk result (λ found. found ≡ None → (state S.Store conn.old).now.schema ≢ no_schema) }
     ensures lacks { IsLive (state S.Store conn.new) → IfOk result (λ found. found ≡ None → ¬ IsBlankOrOurs (state S.Store conn.old)) }
+    ensures vacant { IfOk result (λ found. found ≡ None → IsVacant (state S.Store conn.old) → ¬ MayGrow (state S.Store conn.old).now.schema) }
     ensures crash { Survives (state S.Store conn.old) (state S.Store conn.new) (MayMake (state S.Store conn.old)) }
     ensures failed { IsLive (state S.Store conn.new) → (state S.Store conn.old).now ≡ (state S.Store conn.old).committed → OnErr result (SameRows (state S.Store conn.old) (state S.Store conn.new)) }
     ensures idle { conn.new.in_transaction ≡ false }
@@ -224,19 +226,23 @@ fn settle<S: Alter>(
 
 impl<S: Alter> SqlOutbox<S> {
     /// Takes a database for the outbox, which may hold other tables too: one that holds an outbox as it is, and
-    /// one in which nothing has a name of the outbox's tables after it made them there. Where it can't, the
-    /// connection comes back, with its rows as before. A connection that is inside a transaction answers Store.
+    /// one in which nothing has a name of the outbox's tables after it made them there, past the others, whose rows
+    /// stay. Where it can't, the connection comes back, with its rows as before. A connection that is inside a
+    /// transaction answers Store.
     pub fn open(
         alloc: Global,
         conn: Connection<S>,
     ) -> Result<SqlOutbox<S>, (Connection<S>, OpenFault)>
         ensures made { IfOk result (λ o. (stands S.Store o).live → IsVacant (state S.Store conn) → (stands S.Store o).lawful × IsEmptyOutbox (stands S.Store o).value) }
+        ensures placed { IfOk result (λ o. (stands S.Store o).live → IsVacant (state S.Store conn) → Makes (state S.Store conn).now.schema o.layout) }
+        ensures others { IfOk result (λ o. (stands S.Store o).live → (state S.Store conn).now ≡ (state S.Store conn).committed → KeepsOthers (state S.Store conn).now (connected S.Store o).now) }
         ensures kept { IfOk result (λ o. (stands S.Store o).live → (w : Layout) → IsFit (schema_in w) (IsLawful w) (state S.Store conn) → (stands S.Store o).lawful × ((stands S.Store o).value ≡ value_at w (state S.Store conn).now.trees)) }
         ensures ours { IfOk result (λ o. (stands S.Store o).live → IsVacant (state S.Store conn) ⊎ IsOutbox (state S.Store conn)) }
         ensures failures { IfOk result (λ o. (stands S.Store o).failures ≡ 0) }
         ensures inside { conn.in_transaction ≡ true → result ≡ Err (conn, OpenFault.Store) }
         ensures foreign { IfErr result (λ e. e.1 ≡ OpenFault.Foreign → (state S.Store conn).now.schema ≢ no_schema) }
         ensures lacks { IfErr result (λ e. e.1 ≡ OpenFault.Foreign → IsLive (state S.Store e.0) → ¬ IsBlankOrOurs (state S.Store conn)) }
+        ensures vacant { IfErr result (λ e. e.1 ≡ OpenFault.Foreign → IsVacant (state S.Store conn) → ¬ MayGrow (state S.Store conn).now.schema) }
         ensures crash { IfOk result (λ o. Survives (state S.Store conn) (connected S.Store o) (MayMake (state S.Store conn))) }
         ensures crash_refused { IfErr result (λ e. Survives (state S.Store conn) (state S.Store e.0) (MayMake (state S.Store conn))) }
         ensures refused { IfErr result (λ e. IsLive (state S.Store e.0) → (state S.Store conn).now ≡ (state S.Store conn).committed → SameRows (state S.Store conn) (state S.Store e.0)) }

@@ -3,6 +3,7 @@ use Rattle.sqlite.specs.Held.{state}
 use Rattle.sqlite.specs.State.{HasCleanDisk}
 use Rattle.fare_tables.specs.Making.{Made}
 use Rattle.fare_tables.proofs.Making.{on_ok, defines_at}
+use Rattle.fare_layout.proofs.Others.{others_then}
 use Rattle.fare_outbox.proofs.Makes.{after, all_made}
 use Rattle.fare_outbox.proofs.making.make_tables.Goals as goal
 
@@ -31,5 +32,6 @@ returns-clause-made g c clean4 inside w makes =
     let s2 = after b d n1 n2 _ s1 g2 m2.0 in
     let m3 = c.in_ok-make_table-3.ensures.made clean3 m2.1 g3.table (defines_at d.schema n2 _ g3.table s2 g3.defines) in
     let s3 = after d e n2 n3 _ s2 g3 m3.0 in
-    on_ok c.make_table-4.result (λ (m : Made e f g4.table × _). (all_made w a b d e f g1.table g2.table g3.table g4.table makes.last m1.0 m2.0 m3.0 m.0 (after e f n3 n4 _ s3 g4 m.0 ∙ makes.grows.2.2.2.2), m.1))
+    let others = λ (m4 : Made e f g4.table). others_then a b f g1.table m1.0 (others_then b d f g2.table m2.0 (others_then d e f g3.table m3.0 m4.others)) in
+    on_ok c.make_table-4.result (λ (m : Made e f g4.table × _). (all_made w a b d e f g1.table g2.table g3.table g4.table makes.last m1.0 m2.0 m3.0 m.0 (after e f n3 n4 _ s3 g4 m.0 ∙ makes.grows.2.2.2.2), others m.0, m.1))
     (c.make_table-4.ensures.made clean4 m3.1 g4.table (defines_at e.schema n3 _ g4.table s3 g4.defines))

@@ -11,7 +11,8 @@ pub returns-in-Ok-Some-clause-made : goal.returns-in-Ok-Some-clause-made
 returns-in-Ok-Some-clause-made g c live vacant =
     let new = state g.S.Store c.settle.new.conn in
     let settles : Settles (state g.S.Store c.args.conn) new c.in-Ok-Some.layout c.in-Ok-Some.rows c.in-Ok-Some.statements = rw c.in-Ok-Some.field-0-is at (c.in-Ok-Some.ensures.opens live) in
-    new_fits c.in-Ok-Some.layout new c.in-Ok-Some.rows c.in-Ok-Some.statements (settles.made vacant)
+    let made = settles.made vacant in
+    new_fits c.in-Ok-Some.layout new c.in-Ok-Some.rows c.in-Ok-Some.statements (made.1, made.2, made.3, made.4)
 
 pub returns-in-Ok-Some-clause-kept : goal.returns-in-Ok-Some-clause-kept
 returns-in-Ok-Some-clause-kept g c live w fit =
@@ -25,3 +26,8 @@ pub returns-in-Ok-Some-clause-ours : goal.returns-in-Ok-Some-clause-ours
 returns-in-Ok-Some-clause-ours g c live =
     let opened : IsOpened (state g.S.Store c.args.conn) c.in-Ok-Some.layout = rw c.in-Ok-Some.field-0-is at (c.in-Ok-Some.ensures.ours live) in
     elim opened [ inl vacant ↦ inl vacant | inr are ↦ inr (c.in-Ok-Some.layout, are.0, are.1) ]
+
+pub returns-in-Ok-Some-clause-placed : goal.returns-in-Ok-Some-clause-placed
+returns-in-Ok-Some-clause-placed g c live vacant =
+    let settles : Settles (state g.S.Store c.args.conn) (state g.S.Store c.settle.new.conn) c.in-Ok-Some.layout c.in-Ok-Some.rows c.in-Ok-Some.statements = rw c.in-Ok-Some.field-0-is at (c.in-Ok-Some.ensures.opens live) in
+    (settles.made vacant).0
