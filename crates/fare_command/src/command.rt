@@ -1,5 +1,5 @@
 ghost use Rattle.std.specs.Prelude.{◌≡◌, IfOk, false};
-ghost use Rattle.clap.specs.Words.{app_of, rule_of};
+ghost use Rattle.clap.specs.Words.{app_of, rule_of, with_subcommand};
 ghost use Rattle.clap.specs.declared.builder.command.Command.TheViews.{out-Command};
 ghost use Rattle.fare_command.specs.CommandLine.{base_app, hub_app, replay_app, serve_app, store_rule, port_rule, turns_rule, outbox_rule};
 
@@ -89,11 +89,18 @@ fn base_command<'a>(alloc: Global) -> Result<Command<'a>, AllocError>
         .bin_name("fare_hub")
 }
 
+/// The program, with `replay` alone.
+fn with_replay<'a>(alloc: Global) -> Result<Command<'a>, AllocError>
+    ensures { IfOk result (λ c. (app_of c ≡ with_subcommand base_app replay_app.top) × ((out-Command c).has_globals ≡ false)) }
+{
+    let replay = replay_command(alloc)?;
+    base_command(alloc)?.subcommand(replay)
+}
+
 /// The command line of the program.
 pub fn hub_command<'a>(alloc: Global) -> Result<Command<'a>, AllocError>
     ensures { IfOk result (λ c. app_of c ≡ hub_app) }
 {
-    let replay = replay_command(alloc)?;
     let serve = serve_command(alloc)?;
-    base_command(alloc)?.subcommand(replay)?.subcommand(serve)
+    with_replay(alloc)?.subcommand(serve)
 }

@@ -1,5 +1,6 @@
 ghost use Rattle.std.specs.Prelude.{◌≡◌, ℕ, Bool, None, IfOk, IfErr, map, option_map, codes};
 ghost use Rattle.clap.specs.Words.{rows_of, found_of, first_of, subcommand_of, subcommand_rows_of};
+ghost use Rattle.clap.specs.Values.{kind_of};
 ghost use Rattle.fare_command.specs.CommandLine.{hub_app};
 ghost use Rattle.fare_command.specs.Jobs.{IsStore, IsNumber, IsTurns, JobIn, JobOf, RefusedFor, FailsOn};
 ghost use Rattle.fare_command.specs.declared.words.WordsFault.TheVariants.{Memory};
@@ -50,20 +51,28 @@ impl From<AllocError> for WordsFault {
     }
 }
 
+/// Why clap made nothing of the words: its text, or want of memory.
+fn refusal(alloc: Global, error: &clap::Error) -> WordsFault
+    ensures { kind_of error.now ≡ ErrorKind.OutOfMemory → result ≡ WordsFault.Memory }
+{
+    match error.to_string(alloc) {
+        Ok(text) => match error.kind() {
+            ErrorKind::OutOfMemory => WordsFault::Memory,
+            ErrorKind::DisplayHelp | ErrorKind::DisplayVersion => WordsFault::Asked(text),
+            _ => WordsFault::Refused(text),
+        },
+        Err(_) => WordsFault::Memory,
+    }
+}
+
 /// What clap makes of the words.
 fn matches_of<'a>(alloc: Global, words: &'a [&'a str]) -> Result<ArgMatches<'a>, WordsFault>
     ensures ok { IfOk result (λ m. subcommand_rows_of m ≡ subcommand_of hub_app (map (λ word. word.now) words.now)) }
     ensures err { IfErr result (FailsOn (map (λ word. word.now) words.now)) }
 {
-    let command = hub_command(alloc)?;
-    match command.try_get_matches_from(words) {
+    match hub_command(alloc)?.try_get_matches_from(words) {
         Ok(matches) => Ok(matches),
-        Err(error) => match error.kind() {
-            ErrorKind::OutOfMemory => Err(WordsFault::Memory),
-            ErrorKind::DisplayHelp => Err(WordsFault::Asked(error.to_string(alloc)?)),
-            ErrorKind::DisplayVersion => Err(WordsFault::Asked(error.to_string(alloc)?)),
-            _ => Err(WordsFault::Refused(error.to_string(alloc)?)),
-        },
+        Err(error) => Err(refusal(alloc, &error)),
     }
 }
 
@@ -153,14 +162,11 @@ fn serve_job<'a>(alloc: Global, matches: &ArgMatches<'a>) -> Result<Job<'a>, Wor
     Ok(Job::Serve { port, turns, path })
 }
 
-/// The job that the words ask for, which are those after the program's name. `Asked` where they ask for help
-/// or the version; `Refused` where clap does not take them, or a store, port or number of turns is none;
-/// `Memory` where there was none.
-pub fn read_words<'a>(alloc: Global, words: &'a [&'a str]) -> Result<Job<'a>, WordsFault>
-    ensures job { IfOk result (JobOf (subcommand_of hub_app (map (λ word. word.now) words.now))) }
-    ensures fault { IfErr result (FailsOn (map (λ word. word.now) words.now)) }
+/// The job that clap's matches ask for.
+fn job_in<'a>(alloc: Global, matches: &ArgMatches<'a>) -> Result<Job<'a>, WordsFault>
+    ensures ok { IfOk result (JobOf (subcommand_rows_of matches.now)) }
+    ensures err { IfErr result (RefusedFor ((job : Job) → JobOf (subcommand_rows_of matches.now) job → ⊥)) }
 {
-    let matches = matches_of(alloc, words)?;
     match matches.subcommand() {
         Some(("replay", inner)) => replay_job(alloc, inner),
         Some(("serve", inner)) => serve_job(alloc, inner),
@@ -169,4 +175,15 @@ pub fn read_words<'a>(alloc: Global, words: &'a [&'a str]) -> Result<Job<'a>, Wo
             Err(WordsFault::Refused(String::from_str(alloc, text)?))
         }
     }
+}
+
+/// The job that the words ask for, which are those after the program's name. `Asked` where they ask for help
+/// or the version; `Refused` where clap does not take them, or a store, port or number of turns is none;
+/// `Memory` where there was none.
+pub fn read_words<'a>(alloc: Global, words: &'a [&'a str]) -> Result<Job<'a>, WordsFault>
+    ensures job { IfOk result (JobOf (subcommand_of hub_app (map (λ word. word.now) words.now))) }
+    ensures fault { IfErr result (FailsOn (map (λ word. word.now) words.now)) }
+{
+    let matches = matches_of(alloc, words)?;
+    job_in(alloc, &matches)
 }

@@ -1,23 +1,16 @@
-use Rattle.std.proofs.Common.{◌≡◌, ◌∙◌, ap, map, sym}
-use Rattle.clap.specs.Words.{App, takes}
-use Rattle.clap.specs.declared.error.kind.ErrorKind.TheVariants.{DisplayHelp, DisplayVersion, OutOfMemory}
+use Rattle.std.proofs.Common.{◌≡◌, ◌∙◌, ap, List, map, true}
+use Rattle.clap.specs.Words.{App, Text, takes}
+use Rattle.fare_command.specs.CommandLine.{hub_app}
+use Rattle.fare_command.specs.Jobs.{FailsOn}
+use Rattle.fare_command.specs.declared.words.WordsFault.{WordsFault}
+use Rattle.fare_command.specs.declared.words.WordsFault.TheVariants.{Asked, Refused, Memory}
 use Rattle.fare_command.proofs.words.matches_of.Goals as goal
 
-pub returns-in-DisplayHelp-clause-err : goal.returns-in-DisplayHelp-clause-err
-returns-in-DisplayHelp-clause-err c = λ taken.
-    let other : DisplayHelp ≡ OutOfMemory = sym c.in-DisplayHelp.is ∙ c.kind.ensures
-    ∙ c.in-Err.ensures.passes (ap (λ (a : App). takes a (map (λ word. word.now) c.args.words.now)) c.in_ok-command.ensures ∙ taken) in
-    absurd (cc)
+-- what is want of memory where the words are taken fails as it must
+fails : (words : List Text) (fault : WordsFault) → (takes hub_app words ≡ true → fault ≡ Memory) → FailsOn words fault
+fails words (Asked text) f = λ taken. let memory : Asked text ≡ Memory = f taken in absurd (cc)
+fails words (Refused text) f = λ taken job is. let memory : Refused text ≡ Memory = f taken in absurd (cc)
+fails words Memory f = tt
 
-pub returns-in-DisplayVersion-clause-err : goal.returns-in-DisplayVersion-clause-err
-returns-in-DisplayVersion-clause-err c = λ taken.
-    let other : DisplayVersion ≡ OutOfMemory = sym c.in-DisplayVersion.is ∙ c.kind.ensures
-    ∙ c.in-Err.ensures.passes (ap (λ (a : App). takes a (map (λ word. word.now) c.args.words.now)) c.in_ok-command.ensures ∙ taken) in
-    absurd (cc)
-
-pub returns : goal.returns
-returns c = record {
-  ok = tt;
-  err = λ taken. absurd (c.in_default.not-OutOfMemory (c.kind.ensures
-      ∙ c.in-Err.ensures.passes (ap (λ (a : App). takes a (map (λ word. word.now) c.args.words.now)) c.in_ok-command.ensures ∙ taken)));
-}
+pub returns-in-Err-clause-err : goal.returns-in-Err-clause-err
+returns-in-Err-clause-err c = fails (map (λ word. word.now) c.args.words.now) c.refusal.result (λ taken. c.refusal.ensures (c.in-Err.ensures.passes (ap (λ (a : App). takes a (map (λ word. word.now) c.args.words.now)) c.in_ok-hub_command.ensures ∙ taken)))
