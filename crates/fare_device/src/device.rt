@@ -1,10 +1,10 @@
-ghost use Rattle.std.specs.Prelude.{◌≡◌, ◌↔◌, ◌<◌, ◌≤◌, ◌+◌, ◌-◌, ℕ, None, Some, IsSome, IsTrue, IsFalse, IfSome, IfNone, IsOk, IfOk, IfErr, IsErr, OnOk, OnErr, MatchResult, length, nat_eq, option_map, position, slice_get};
+ghost use Rattle.std.specs.Prelude.{◌≡◌, ◌≢◌, ◌↔◌, ◌<◌, ◌≤◌, ◌+◌, ◌-◌, ℕ, None, Some, IsSome, IsTrue, IsFalse, IfSome, IfNone, IsOk, IfOk, IfErr, IsErr, OnOk, OnErr, MatchResult, length, nat_eq, option_map, position, slice_get};
 ghost use Rattle.fare_frame.specs.declared.frame.Frame.TheVariants.{Tapped};
 ghost use Rattle.fare_scheme.specs.Words.{buffer_of, position_of_device};
 ghost use Rattle.fare_device.specs.DeviceWords.{IsDeviceValue, fresh_device, taking_over, acknowledged, last_link, AreNumbers};
 ghost use Rattle.std.specs.List.{sum};
 ghost use Rattle.std.specs.Map.{keys_of};
-ghost use Rattle.fare_device.specs.Tapping.{IsTapped, TapRefused};
+ghost use Rattle.fare_device.specs.Tapping.{MayNumber, IsNumbered, IsTapped, TapRefused};
 ghost use Rattle.fare_device.specs.Turning.{turn_judged, turned, stated, is_waiting, day_acknowledged};
 
 use crate::days::{Counts, WaitingDays};
@@ -227,6 +227,56 @@ impl Device {
         self.link.base() + self.waiting.len() as u64
     }
 
+    // The owner of a product and its place among the lanes, where a tap of this day may be numbered; else the first
+    // refusal that applies but `BufferFull`.
+    fn owner_for(
+        &self,
+        scheme: &Scheme,
+        product: ProductId,
+        day: Day,
+    ) -> Result<(OwnerId, usize), TapRefusal>
+        requires { length self.now.lanes ≡ length scheme.now.owners }
+        ensures ok { IfOk result (λ p. MayNumber scheme.now self.now product day p.0 p.1) }
+        ensures cause { IfErr result (λ e. TapRefused scheme.now self.now product day e × (e ≢ TapRefusal.BufferFull)) }
+    {
+        let Some(owner) = scheme.owner_of(product) else {
+            return Err(TapRefusal::UnknownProduct);
+        };
+        if day < self.day {
+            return Err(TapRefusal::DayClosed);
+        }
+        if day > self.day {
+            return Err(TapRefusal::DayAhead);
+        }
+        if self.last() >= LAST_NUMBER {
+            return Err(TapRefusal::NumbersSpent);
+        }
+        match scheme.owner_position(owner) {
+            Some(place) => Ok((owner, place)),
+            None => unreachable!(),
+        }
+    }
+
+    // Numbers a tap for the owner at this place, counts it and keeps it at the end of those that wait; `BufferFull`
+    // where there is no room.
+    fn number(&mut self, owner: OwnerId, place: usize, tap: Tap) -> Result<Record, TapRefusal>
+        requires place { place < length self.old.lanes }
+        requires few { last_link self.old < 1099511627775 }
+        ensures ok { IfOk result (λ r. IsNumbered self.old owner place tap r self.new) }
+        ensures full { IfErr result (λ e. (e ≡ TapRefusal.BufferFull) × (length self.old.waiting ≡ self.old.room)) }
+        ensures err { OnErr result (self.new ≡ self.old) }
+        ensures lanes { length self.new.lanes ≡ length self.old.lanes }
+    {
+        let lane = self.lanes[place] + 1;
+        let numbered = Record::new(self.id, self.last() + 1, owner, lane, tap);
+        if self.waiting.push(numbered).is_err() {
+            return Err(TapRefusal::BufferFull);
+        }
+        self.lanes[place] = lane;
+        self.counts[place] += 1;
+        Ok(numbered)
+    }
+
     /// Numbers a tap, counts it for its owner and keeps it at the end of those that wait. `day` is the traffic
     /// day of `moment`, and the scheme is the one that the device was made with. Answers the numbered record, or the first refusal
     /// that applies, in the order `UnknownProduct`, `DayClosed`, `DayAhead`, `NumbersSpent`,
@@ -245,31 +295,8 @@ impl Device {
         ensures cause { IfErr result (TapRefused scheme.now self.old product day) }
         ensures lanes { length self.new.lanes ≡ length self.old.lanes }
     {
-        let Some(owner) = scheme.owner_of(product) else {
-            return Err(TapRefusal::UnknownProduct);
-        };
-        if day < self.day {
-            return Err(TapRefusal::DayClosed);
-        }
-        if day > self.day {
-            return Err(TapRefusal::DayAhead);
-        }
-        let last = self.last();
-        if last >= LAST_NUMBER {
-            return Err(TapRefusal::NumbersSpent);
-        }
-        let Some(place) = scheme.owner_position(owner) else {
-            unreachable!()
-        };
-        let lane = self.lanes[place] + 1;
-        let tap = Tap::new(product, token, moment, day);
-        let numbered = Record::new(self.id, last + 1, owner, lane, tap);
-        if self.waiting.push(numbered).is_err() {
-            return Err(TapRefusal::BufferFull);
-        }
-        self.lanes[place] = lane;
-        self.counts[place] += 1;
-        Ok(numbered)
+        let (owner, place) = self.owner_for(scheme, product, day)?;
+        self.number(owner, place, Tap::new(product, token, moment, day))
     }
 
     /// Turns the open day: the counts of its taps are final, and its statements wait for their

@@ -24,6 +24,8 @@ mod inbox_queue;
 #[cfg(test)]
 mod lane_queue;
 #[cfg(test)]
+mod layout;
+#[cfg(test)]
 mod ledger_tables;
 #[cfg(test)]
 mod lines;
