@@ -18,6 +18,8 @@ mod device;
 #[cfg(test)]
 mod endings;
 #[cfg(test)]
+mod files;
+#[cfg(test)]
 mod frame;
 #[cfg(test)]
 mod inbox_queue;
