@@ -197,10 +197,7 @@ pub fn grow_by(
     ensures memory { IfErr result (λ e. e ≡ Fault.Memory) }
 {
     match texts {
-        [] => match schema.copy(alloc) {
-            Ok(copy) => Ok(Some(copy)),
-            Err(_) => Err(Fault::Memory),
-        },
+        [] => Ok(Some(schema.copy(alloc)?)),
         [(name, sql), rest @ ..] => match grow(alloc, schema, name, sql)? {
             Some(next) => grow_by(alloc, &next.schema, rest),
             None => Ok(None),
