@@ -18,7 +18,7 @@ use Rattle.sqlite_resolve.specs.Compile.{compiled}
 use Rattle.sqlite_resolve.specs.declared.compiled.Compiled.{Compiled}
 use Rattle.sqlite_resolve.specs.declared.error.CompileError.{CompileError}
 use Rattle.fare_tables.specs.Making.{IsWhole, Defines}
-use Rattle.fare_layout.specs.Growing.{Creates}
+use Rattle.fare_layout.specs.Growing.{Creates, Grows}
 
 -- the index of the first key, and then those of the others
 pub one_more : (old mid new : List Index) (table : Table) (at tree : ℕ) (key : List ℕ) (keys : List (List ℕ)) → key ≡ slice_index_or keys 0 key → 1 ≤ length keys → mid ≡ old ++ automatic table at key tree ∷ []
@@ -53,6 +53,10 @@ defines_of schema sql table creates defined uncounted = go (compiled schema sql)
           defined = defined;
           uncounted = uncounted;
         }
+
+pub grows_of : (schema next : Schema) (sql : List ℕ) (table : Table) → Creates sql (compiled schema sql) → table_defined_by sql ≡ Ok table → next ≡ created schema table → lacks_sequence next ≡ false → Grows schema sql next
+grows_of schema next sql table creates defined is uncounted =
+    record { table = table; defines = defines_of schema sql table creates defined (ap lacks_sequence (sym is) ∙ uncounted); next_is = is }
 
 pub some_is : {X : Type 0} (o : Option X) (x : X) (P : X → Type 0) → o ≡ Some x → IfSome o P → P x
 some_is {X = X} o x P is holds = subst (λ (f : Option X). IfSome f P) is holds

@@ -1,6 +1,7 @@
 mod Nodes
 mod Four
 mod Creation
+mod Unread
 pub mod Meant
 pub mod Untouched
 pub mod Grown

@@ -1,4 +1,4 @@
-ghost use Rattle.std.specs.Prelude.{◌≡◌, ◌≢◌, ◌↔◌, ◌^◌, ◌≤◌, ◌<◌, ◌+◌, ◌++◌, [], ◌∷◌, IsTrue, IfOk, IfErr, IfSome, OnOk, None, Ok, map, is_some, length};
+ghost use Rattle.std.specs.Prelude.{◌≡◌, ◌↔◌, ◌^◌, ◌<◌, ◌+◌, ◌++◌, [], ◌∷◌, IsTrue, IfOk, IfErr, IfSome, OnOk, None, Ok, map, is_some, length};
 ghost use Rattle.std.specs.List.{list_any};
 ghost use Rattle.sqlite.specs.Does.{lacks_sequence};
 ghost use Rattle.sqlite.specs.Rows.{sequence};
@@ -6,52 +6,24 @@ ghost use Rattle.sqlite.specs.Compile.{table_defined_by};
 ghost use Rattle.sqlite_resolve.specs.Compile.{compiled};
 ghost use Rattle.sqlite_catalog.specs.Listing.{automatic};
 ghost use Rattle.sqlite_catalog.specs.Change.{next_tree, created, automatics};
-ghost use Rattle.fare_layout.specs.Growing.{IsCreation, Creates, Grows, GrowsBy, CanMake, CanMakeAll, HasNone};
+ghost use Rattle.fare_layout.specs.Growing.{Creates, Grows, GrowsBy, CanMake, CanMakeAll, HasNone};
 
+use crate::new_table::NewTable;
+use crate::statement::Statement;
 use fare_store::Fault;
 use sqlite_catalog::layout::{automatic, automatic_name, is_used, next_tree};
 use sqlite_items::Items;
-use sqlite_resolve::{CompileError, Compiled, compile, define_table};
-use sqlite_schema::command::Command;
 use sqlite_schema::schema::{Index, Schema, Table};
 use std::alloc::{AllocError, Global};
-
-/// No tree has this number or one above.
-const PAST_ALL_TREES: u64 = 0x1_0000_0000;
-
-// Whether a statement of this length is one CREATE TABLE.
-fn is_creation(statement: &Compiled, length: usize) -> bool
-    ensures { IsTrue result ↔ IsCreation length statement.now }
-{
-    matches!(statement.command, Command::CreateTable)
-        && statement.returning.is_none()
-        && statement.formats.is_empty()
-        && statement.start == 0
-        && statement.end == length
-}
 
 // Whether a text is one CREATE TABLE from end to end, under a schema.
 fn creates(alloc: Global, schema: &Schema, sql: &str) -> Result<bool, Fault>
     ensures creates { IfOk result (λ right. IsTrue right ↔ Creates sql.now (compiled schema.now sql.now)) }
     ensures memory { IfErr result (λ e. e ≡ Fault.Memory) }
 {
-    match compile(alloc, schema, sql.as_bytes()) {
-        Ok(statement) => Ok(is_creation(&statement, sql.len())),
-        Err(CompileError::OutOfMemory) => Err(Fault::Memory),
-        Err(_) => Ok(false),
-    }
-}
-
-// The table that a text defines, if it defines one.
-fn table_of(alloc: Global, sql: &str) -> Result<Option<Table>, Fault>
-    ensures found { IfOk result (λ found. IfSome found (λ table. table_defined_by sql.now ≡ Ok table)) }
-    ensures lacks { IfOk result (λ found. found ≡ None → (table : _) → table_defined_by sql.now ≢ Ok table) }
-    ensures memory { IfErr result (λ e. e ≡ Fault.Memory) }
-{
-    match define_table(alloc, sql.as_bytes()) {
-        Ok(table) => Ok(Some(table)),
-        Err(CompileError::OutOfMemory) => Err(Fault::Memory),
-        Err(_) => Ok(None),
+    match Statement::read(alloc, schema, sql)? {
+        Some(statement) => Ok(statement.is_creation(sql.len())),
+        None => Ok(false),
     }
 }
 
@@ -124,77 +96,93 @@ fn add_guards(
     }
 }
 
-// The schema with one more table, if there are numbers left for its trees.
+// The schema after one table was added to another one.
+struct NextSchema {
+    schema: Schema,
+}
+
+// It is written out, so that a caller doesn't prove again how each part is let go.
+impl Drop for NextSchema {
+    fn drop(self) {
+        let NextSchema { schema: _ } = self;
+    }
+}
+
+impl NextSchema {
+    // The schema with one more table, which has this name and for whose trees there are numbers left.
+    fn with_table(
+        alloc: Global,
+        schema: &Schema,
+        table: NewTable,
+        name: &str,
+    ) -> Result<NextSchema, Fault>
+        requires named { table.table.name ≡ name.now }
+        requires room { next_tree schema.now + length table.table.uniques + 1 < 2 ^ 32 }
+        ensures grown { IfOk result (λ next. next.schema ≡ created schema.now table.table) }
+        ensures memory { IfErr result (λ e. e ≡ Fault.Memory) }
+    {
+        let schema = schema.copy(alloc)?;
+        let mut next = NextSchema { schema };
+        next.add(alloc, table, name)?;
+        Ok(next)
+    }
+
+    fn add(&mut self, alloc: Global, table: NewTable, name: &str) -> Result<(), AllocError>
+        requires named { table.table.name ≡ name.now }
+        requires room { next_tree self.old.schema + length table.table.uniques + 1 < 2 ^ 32 }
+        ensures { OnOk result (self.new.schema ≡ created self.old.schema table.table) }
+    {
+        let tree = next_tree(&self.schema) as u32;
+        let mut new = table;
+        new.table.tree = tree;
+        add_guards(
+            alloc,
+            &mut self.schema.indexes,
+            &new.table,
+            name,
+            0,
+            tree + 1,
+            new.table.uniques.as_slice(),
+        )?;
+        self.schema.tables.push(new.into_table())
+    }
+}
+
+// The schema with one more table, if that may stand there under this name.
 fn try_with_table(
     alloc: Global,
     schema: &Schema,
-    table: Table,
+    table: NewTable,
     name: &str,
-) -> Result<Option<Schema>, AllocError>
-    requires { table.name ≡ name.now }
-    ensures grown { IfOk result (λ found. IfSome found (λ next. next ≡ created schema.now table)) }
-    ensures lacks { IfOk result (λ found. found ≡ None → 2 ^ 32 ≤ next_tree schema.now + length table.uniques + 1) }
-{
-    let mut table = table;
-    let tree = next_tree(schema);
-    if tree + 1 + table.uniques.len() as u64 >= PAST_ALL_TREES {
-        return Ok(None);
-    }
-    table.tree = tree as u32;
-    let mut next = schema.copy(alloc)?;
-    add_guards(
-        alloc,
-        &mut next.indexes,
-        &table,
-        name,
-        0,
-        table.tree + 1,
-        table.uniques.as_slice(),
-    )?;
-    next.tables.push(table)?;
-    Ok(Some(next))
-}
-
-// The same, with the fault of a store.
-fn with_table(
-    alloc: Global,
-    schema: &Schema,
-    table: Table,
-    name: &str,
-) -> Result<Option<Schema>, Fault>
-    requires { table.name ≡ name.now }
-    ensures grown { IfOk result (λ found. IfSome found (λ next. next ≡ created schema.now table)) }
-    ensures lacks { IfOk result (λ found. found ≡ None → 2 ^ 32 ≤ next_tree schema.now + length table.uniques + 1) }
+) -> Result<Option<NextSchema>, Fault>
+    ensures grows { IfOk result (λ found. IfSome found (λ next. (sql : _) → Creates sql (compiled schema.now sql) → table_defined_by sql ≡ Ok table.table → Grows schema.now sql next.schema)) }
+    ensures lacks { IfOk result (λ found. found ≡ None → (sql : _) → ¬ CanMake schema.now name.now sql table.table) }
     ensures memory { IfErr result (λ e. e ≡ Fault.Memory) }
 {
-    match try_with_table(alloc, schema, table, name) {
-        Ok(next) => Ok(next),
-        Err(_) => Err(Fault::Memory),
+    if !table.is_named(name) || !table.has_room(schema) {
+        return Ok(None);
+    }
+    let next = NextSchema::with_table(alloc, schema, table, name)?;
+    if is_without_counts(&next.schema) {
+        Ok(None)
+    } else {
+        Ok(Some(next))
     }
 }
 
 // The schema after one CREATE TABLE.
-fn grow(alloc: Global, schema: &Schema, name: &str, sql: &str) -> Result<Option<Schema>, Fault>
-    ensures grows { IfOk result (λ found. IfSome found (Grows schema.now sql.now)) }
+fn grow(alloc: Global, schema: &Schema, name: &str, sql: &str) -> Result<Option<NextSchema>, Fault>
+    ensures grows { IfOk result (λ found. IfSome found (λ next. Grows schema.now sql.now next.schema)) }
     ensures lacks { IfOk result (λ found. found ≡ None → (table : _) → ¬ CanMake schema.now name.now sql.now table) }
     ensures memory { IfErr result (λ e. e ≡ Fault.Memory) }
 {
     if !creates(alloc, schema, sql)? {
         return Ok(None);
     }
-    let Some(table) = table_of(alloc, sql)? else {
-        return Ok(None);
-    };
-    if table.name.as_slice() != name.as_bytes() {
-        return Ok(None);
+    match NewTable::of(alloc, sql)? {
+        Some(table) => try_with_table(alloc, schema, table, name),
+        None => Ok(None),
     }
-    let Some(next) = with_table(alloc, schema, table, name)? else {
-        return Ok(None);
-    };
-    if is_without_counts(&next) {
-        return Ok(None);
-    }
-    Ok(Some(next))
 }
 
 /// The schema after several CREATE TABLE, each with the name of its table, or none where one of them can't be
@@ -209,12 +197,9 @@ pub fn grow_by(
     ensures memory { IfErr result (λ e. e ≡ Fault.Memory) }
 {
     match texts {
-        [] => match schema.copy(alloc) {
-            Ok(copy) => Ok(Some(copy)),
-            Err(_) => Err(Fault::Memory),
-        },
+        [] => Ok(Some(schema.copy(alloc)?)),
         [(name, sql), rest @ ..] => match grow(alloc, schema, name, sql)? {
-            Some(next) => grow_by(alloc, &next, rest),
+            Some(next) => grow_by(alloc, &next.schema, rest),
             None => Ok(None),
         },
     }

@@ -8,10 +8,12 @@ mod commands;
 mod growing;
 mod layout;
 mod meaning;
+mod new_table;
 mod place;
 mod places;
 mod plans;
 mod schemas;
+mod statement;
 
 pub use commands::same_command;
 pub use growing::{grow_by, has_none};

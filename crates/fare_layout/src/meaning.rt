@@ -1,12 +1,12 @@
-ghost use Rattle.std.specs.Prelude.{◌≡◌, ◌↔◌, [], Some, None, Ok, IfOk, IfErr, IsTrue};
+ghost use Rattle.std.specs.Prelude.{◌≡◌, ◌↔◌, [], option_map, Some, None, Ok, IfOk, IfErr, IsTrue};
 ghost use Rattle.sqlite_schema.specs.declared.command.Command as statement;
 ghost use Rattle.fare_store.specs.declared.fault.Fault.TheVariants.{Memory};
 ghost use Rattle.fare_layout.specs.Commands.{essence, moved, IsMeant, IsSimpleCommand, KeepsMeaning};
 
 use crate::commands::same_command;
 use crate::place::Place;
+use crate::statement::Statement;
 use fare_store::Fault;
-use sqlite_resolve::{CompileError, Compiled, compile};
 use sqlite_schema::command::Command;
 use sqlite_schema::schema::Schema;
 use std::alloc::Global;
@@ -26,7 +26,7 @@ pub fn keeps_meaning(
     ensures failed { IfErr result (λ fault. fault ≡ Memory) }
 {
     match meant(alloc, own, sql)? {
-        Some(wanted) => is_meant(alloc, schema, sql, place, &wanted),
+        Some(wanted) => is_meant(alloc, schema, sql, place, &wanted.compiled.command),
         None => Ok(false),
     }
 }
@@ -44,36 +44,25 @@ fn is_meant(
     ensures failed { IfErr result (λ fault. fault ≡ Memory) }
 {
     match meant(alloc, schema, sql)? {
-        Some(given) => Ok(same_command(&given, place, wanted)),
+        Some(given) => Ok(same_command(&given.compiled.command, place, wanted)),
         None => Ok(false),
     }
 }
 
-// The command that a text means under a schema, if it has no RETURNING and reads no time.
-fn meant(alloc: Global, schema: &Schema, sql: &str) -> Result<Option<Command>, Fault>
-    ensures given { IfOk result (λ given. (c : statement.Command) → (given ≡ Some c) ↔ IsMeant schema.now sql.now c) }
+// What a text is under a schema, if it has no RETURNING and reads no time.
+fn meant(alloc: Global, schema: &Schema, sql: &str) -> Result<Option<Statement>, Fault>
+    ensures given { IfOk result (λ given. (c : statement.Command) → (option_map (λ s. s.compiled.command) given ≡ Some c) ↔ IsMeant schema.now sql.now c) }
     ensures failed { IfErr result (λ fault. fault ≡ Memory) }
 {
-    match compile(alloc, schema, sql.as_bytes()) {
-        Ok(compiled) => Ok(plain(compiled)),
-        Err(CompileError::OutOfMemory) => Err(Fault::Memory),
-        Err(_) => Ok(None),
+    match Statement::read(alloc, schema, sql)? {
+        Some(given) => Ok(plain(given)),
+        None => Ok(None),
     }
 }
 
-// The command alone, if there is nothing beside it.
-fn plain(compiled: Compiled) -> Option<Command>
-    ensures { (c : statement.Command) → (result ≡ Some c) ↔ (essence (Ok compiled) ≡ Some (c, None, [])) }
+// The statement, if there is nothing beside its command.
+fn plain(given: Statement) -> Option<Statement>
+    ensures { (c : statement.Command) → (option_map (λ s. s.compiled.command) result ≡ Some c) ↔ (essence (Ok given.compiled) ≡ Some (c, None, [])) }
 {
-    let Compiled {
-        command,
-        returning,
-        formats,
-        ..
-    } = compiled;
-    if returning.is_none() && formats.is_empty() {
-        Some(command)
-    } else {
-        None
-    }
+    if given.is_plain() { Some(given) } else { None }
 }
