@@ -9,10 +9,10 @@ use sqlite_schema::command::{Command, Source, Upsert};
 use sqlite_schema::program::Program;
 use sqlite_value::value::Bytes;
 
-/// Whether a command is the command `b`, over the table at this place. It may say no where `b` has what no statement of
-/// a store has: an UPDATE or a change of tables, a query that computes a table first, an INSERT from a query, or a
-/// literal other than NULL and integers.
-pub fn same_command(a: &Command, place: Place, b: &Command) -> bool
+// Whether a command is the command `b`, over the table at this place. It may say no where `b` has what no statement of
+// a store has: an UPDATE or a change of tables, a query that computes a table first, an INSERT from a query, or a
+// literal other than NULL and integers.
+pub(crate) fn same_command(a: &Command, place: Place, b: &Command) -> bool
     ensures same { IsTrue result → a.now ≡ moved place b.now }
     ensures found { IsSimpleCommand b.now → a.now ≡ moved place b.now → IsTrue result }
 {

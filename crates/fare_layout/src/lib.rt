@@ -15,9 +15,6 @@ mod plans;
 mod schemas;
 mod statement;
 
-pub use commands::same_command;
 pub use growing::{grow_by, has_none};
 pub use layout::{are_last, find_places};
-pub use meaning::keeps_meaning;
 pub use place::{Kind, Place, Places};
-pub use plans::same_plan;

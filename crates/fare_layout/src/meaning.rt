@@ -11,10 +11,10 @@ use sqlite_schema::command::Command;
 use sqlite_schema::schema::Schema;
 use std::alloc::Global;
 
-/// Whether a text means under a schema what it means under the store's own, over the table at this place. It may say
-/// no of a text that has what no statement of a store has: RETURNING, a time that it reads, or what `same_command` may
-/// say no to. It fails only where no memory is left.
-pub fn keeps_meaning(
+// Whether a text means under a schema what it means under the store's own, over the table at this place. It may say
+// no of a text that has what no statement of a store has: RETURNING, a time that it reads, or what `same_command` may
+// say no to. It fails only where no memory is left.
+pub(crate) fn keeps_meaning(
     alloc: Global,
     own: &Schema,
     schema: &Schema,

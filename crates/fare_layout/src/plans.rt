@@ -12,10 +12,10 @@ use sqlite_schema::plan::{Groups, Plan, Stage};
 use sqlite_sql::query::{Aggregate, SortKey};
 use sqlite_value::keys::Collation;
 
-/// Whether a plan is the plan `b`, read over the table of this tree alone, whatever `b` itself reads. Where `b` has a
-/// literal other than NULL and integers it may say no: a store's statements have none. How a table is scanned doesn't
-/// count.
-pub fn same_plan(a: &Plan, tree: u32, b: &Plan) -> bool
+// Whether a plan is the plan `b`, read over the table of this tree alone, whatever `b` itself reads. Where `b` has a
+// literal other than NULL and integers it may say no: a store's statements have none. How a table is scanned doesn't
+// count.
+pub(crate) fn same_plan(a: &Plan, tree: u32, b: &Plan) -> bool
     ensures same { IsTrue result → a.now ≡ moved_query tree b.now }
     ensures found { IsSimpleQuery b.now → a.now ≡ moved_query tree b.now → IsTrue result }
 {
