@@ -26,5 +26,8 @@ fn empty(alloc: Global) -> Option<([u8; 20], usize)> {
 
 #[test]
 fn an_empty_database_is_one_page(rt: HostRuntime) {
-    assert_eq!(rt; empty(rt.alloc()), Some((*b"SQLite format 3\0\x04\0\x01\x01", 1024)));
+    assert_eq!(rt;
+        empty(rt.alloc()),
+        Some((*b"SQLite format 3\0\x04\0\x01\x01", 1024))
+    );
 }
