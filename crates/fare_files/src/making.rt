@@ -19,8 +19,9 @@ fn write_draft(rt: &HostRuntime, path: &str) -> io::Result<()> {
 
 /// Makes the file of a store, an empty database with pages of 1,024 bytes, unless there is one at the path, and says
 /// whether it did. The file gets its name when it is whole: it is written as PATH-new, which a stop may leave behind
-/// and the next call removes. An error is the system's, among others where the folder can't be written or its file
-/// system has no second names for a file; then there is no new file at the path.
+/// and the next call removes; till then the port opens no file that has this second name. An error is the system's,
+/// among others where the folder can't be written or its file system has no second names for a file. After one there
+/// is no new file at the path, unless it was PATH-new that could not be removed.
 pub fn make_file(rt: &HostRuntime, path: &str) -> io::Result<bool> {
     let draft = format!(in rt.alloc(); "{path}-new")?;
     remove(rt, draft.as_str())?;
