@@ -6,35 +6,42 @@
 //! job failed, and 2 with a text on standard error where the words were refused.
 #![tactic(auto)]
 
-use fare_run::{Ending, fail, refuse, run};
+use fare_run::{Failure, run, tell};
+use std::alloc::Global;
 use std::process::ExitCode;
 use std::{env, io};
 
+/// Why the system did not give the words.
+fn without_words(alloc: Global, error: &io::Error) -> Failure {
+    if error.kind() != io::ErrorKind::InvalidData {
+        return Failure::Memory;
+    }
+    match String::from_str(alloc, "error: a word is not UTF-8\n") {
+        Ok(text) => Failure::Refused(text),
+        Err(_) => Failure::Memory,
+    }
+}
+
 /// Does what the program was started for.
-fn start(rt: &HostRuntime) -> Ending {
+fn start(rt: &HostRuntime) -> Result<(), Failure> {
     let alloc = rt.alloc();
-    let args = match env::args(rt) {
-        Ok(args) => args,
-        Err(error) => {
-            return if error.kind() == io::ErrorKind::InvalidData {
-                refuse(rt, "error: a word is not UTF-8\n")
-            } else {
-                fail(rt, "no memory")
-            };
-        }
-    };
-    let Ok(args) = args.collect::<Vec<String>>(alloc) else {
-        return fail(rt, "no memory");
-    };
+    let args = env::args(rt).map_err(|error| without_words(alloc, &error))?;
+    let args = args
+        .collect::<Vec<String>>(alloc)
+        .map_err(|_| Failure::Memory)?;
     let mut words: Vec<&str> = Vec::new(alloc);
     for arg in args.iter().skip(1) {
-        if words.push(arg.as_str()).is_err() {
-            return fail(rt, "no memory");
-        }
+        words.push(arg.as_str()).map_err(|_| Failure::Memory)?;
     }
-    run(rt, alloc, &words, &mut rt.reader(), &mut io::writer(rt))
+    run(alloc, &words, &mut rt.reader(), &mut io::writer(rt))
 }
 
 fn main(rt: HostRuntime) -> ExitCode {
-    ExitCode::from(start(&rt).status())
+    match start(&rt) {
+        Ok(()) => ExitCode::SUCCESS,
+        Err(failure) => {
+            tell(&rt, &failure);
+            ExitCode::from(failure.status())
+        }
+    }
 }

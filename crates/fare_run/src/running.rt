@@ -1,10 +1,9 @@
-ghost use Rattle.std.specs.Prelude.{◌≡◌, map, OnOk};
+ghost use Rattle.std.specs.Prelude.{◌≡◌, map, OnOk, IfErr};
 ghost use Rattle.std.specs.Io.KnownBytes.{Appends};
-ghost use Rattle.fare_run.specs.Runs.{AsksToServe, RunEnds};
+ghost use Rattle.fare_run.specs.Runs.{AsksToServe, IsBefore, RunEnds, RunFails, Serves};
 
-use crate::ending::Ending;
-use crate::replaying::replay_to;
-use crate::telling::{fail, refuse};
+use crate::failure::Failure;
+use crate::replaying::replay_over;
 use fare_command::{Job, WordsFault, read_words};
 use std::alloc::Global;
 use std::io;
@@ -19,27 +18,27 @@ fn write_text<O: Write>(output: &mut O, text: &str) -> io::Result<()>
 }
 
 /// Does what the words after the program's name ask for: replays what the reader gives to the writer, or shows
-/// the help or the version on the writer. Done where that is done; refused where the words are no job, and then
-/// nothing was read or written; else failed, as for `serve`, since this build has no server, or for want of memory.
-pub fn run<R: Eprint, I: Read, O: Write>(
-    rt: &R,
+/// the help or the version on the writer. `Refused` where the words are no job, `NoServer` where they ask to
+/// serve and `Memory` where there is none for the words; nothing was read or written then. `Replay` where a replay
+/// was asked for and stopped, and `Write` where a text could not be shown.
+pub fn run<I: Read, O: Write>(
     alloc: Global,
     words: &[&str],
     input: &mut I,
     output: &mut O,
-) -> Ending
-    ensures ends { RunEnds (map (λ word. word.now) words.now) (I.remaining input.old) (O.contents output.old) (O.contents output.new) result }
-    ensures untouched { result ≡ Ending.Refused → (input.new ≡ input.old) × (output.new ≡ output.old) }
-    ensures serve { AsksToServe (map (λ word. word.now) words.now) → (result ≡ Ending.Failed) × (input.new ≡ input.old) × (output.new ≡ output.old) }
+) -> Result<(), Failure>
+    ensures done { OnOk result (RunEnds (map (λ word. word.now) words.now) (I.remaining input.old) (O.contents output.old) (O.contents output.new)) }
+    ensures failure { IfErr result (RunFails (map (λ word. word.now) words.now) (I.remaining input.old) (O.contents output.old) (O.contents output.new)) }
+    ensures untouched { IfErr result (λ failure. IsBefore failure → (input.new ≡ input.old) × (output.new ≡ output.old)) }
+    ensures serve { AsksToServe (map (λ word. word.now) words.now) → Serves result }
 {
     match read_words(alloc, words) {
-        Ok(Job::Replay { sql }) => replay_to(rt, alloc, sql, input, output),
-        Ok(Job::Serve { .. }) => fail(rt, "this build has no server"),
-        Err(WordsFault::Asked(text)) => match write_text(output, &text) {
-            Ok(()) => Ending::Done,
-            Err(_) => fail(rt, "write failed"),
-        },
-        Err(WordsFault::Refused(text)) => refuse(rt, text),
-        Err(WordsFault::Memory) => fail(rt, "no memory"),
+        Ok(Job::Replay { sql }) => {
+            replay_over(alloc, sql, input, output).map_err(Failure::Replay)
+        }
+        Ok(Job::Serve { .. }) => Err(Failure::NoServer),
+        Err(WordsFault::Asked(text)) => write_text(output, &text).map_err(|_| Failure::Write),
+        Err(WordsFault::Refused(text)) => Err(Failure::Refused(text)),
+        Err(WordsFault::Memory) => Err(Failure::Memory),
     }
 }

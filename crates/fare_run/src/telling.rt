@@ -1,20 +1,11 @@
-ghost use Rattle.std.specs.Prelude.{◌≡◌};
+use crate::failure::Failure;
 
-use crate::ending::Ending;
-use std::fmt::Display;
-
-/// Fails, with one line on standard error.
-pub fn fail<R: Eprint, D: Display + Drop>(rt: &R, line: D) -> Ending
-    ensures { result ≡ Ending.Failed }
-{
-    let _ = eprintln!(rt; "{line}");
-    Ending::Failed
-}
-
-/// Refuses the words, with a text on standard error.
-pub fn refuse<R: Eprint, D: Display + Drop>(rt: &R, text: D) -> Ending
-    ensures { result ≡ Ending.Refused }
-{
-    let _ = eprint!(rt; "{text}");
-    Ending::Refused
+/// Tells standard error why the program failed: one line, or the text that says why the words are refused.
+pub fn tell<R: Eprint>(rt: &R, failure: &Failure) {
+    let _ = match failure {
+        Failure::Refused(text) => eprint!(rt; "{text}"),
+        Failure::Replay(_) | Failure::Write | Failure::Memory | Failure::NoServer => {
+            eprintln!(rt; "{failure}")
+        }
+    };
 }

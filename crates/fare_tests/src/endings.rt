@@ -1,53 +1,65 @@
-use fare_run::{Ending, run};
+use fare_run::{Failure, run};
+use std::alloc::Global;
+
+/// The status of a run, and whether this is what standard error gets of it: the whole line of a failure, or the
+/// begin of what refused words are told.
+fn told(alloc: Global, ended: &Result<(), Failure>, said: &str) -> Option<(u8, bool)> {
+    let Err(failure) = ended else {
+        return Some((0, said.is_empty()));
+    };
+    let text = format!(in alloc; "{failure}").ok()?;
+    let is_said = match failure {
+        Failure::Refused(_) => text.starts_with(said),
+        _ => text.as_str() == said,
+    };
+    Some((failure.status(), is_said))
+}
 
 #[test]
 fn words_and_traces_decide_the_ending(rt: HostRuntime) {
-    // The words, the trace, the ending with its status, and how the output begins.
-    let cases: [(&[&str], &[u8], Ending, u8, &[u8]); 12] = [
-        (&["--version"], b"", Ending::Done, 0, b"fare_hub 0.1.0\n"),
-        (
-            &["replay", "--help"],
-            b"tap 1",
-            Ending::Done,
-            0,
-            b"Reads a trace",
-        ),
+    // The words, the trace, the status, what standard error gets, and how the output begins.
+    let cases: [(&[&str], &[u8], u8, &str, &[u8]); 12] = [
+        (&["--version"], b"", 0, "", b"fare_hub 0.1.0\n"),
+        (&["replay", "--help"], b"tap 1", 0, "", b"Reads a trace"),
         (
             &["serve", "--port", "0", "--turns", "1", "--outbox", "x"],
             b"",
-            Ending::Failed,
             1,
+            "this build has no server",
             b"",
         ),
-        (&[], b"", Ending::Refused, 2, b""),
-        (&["play"], b"", Ending::Refused, 2, b""),
-        (&["replay", "--store", "disk"], b"", Ending::Refused, 2, b""),
-        (&["replay"], b"", Ending::Done, 0, b""),
-        (&["replay"], b"demo 1 4 4 4\n", Ending::Done, 0, b"ok\n"),
-        (&["replay"], b"tap 1", Ending::Failed, 1, b""),
-        (&["replay", "--store", "sql"], b"", Ending::Done, 0, b""),
+        (&[], b"", 2, "error: ", b""),
+        (&["play"], b"", 2, "error: ", b""),
+        (&["replay", "--store", "disk"], b"", 2, "error: ", b""),
+        (&["replay"], b"", 0, "", b""),
+        (&["replay"], b"demo 1 4 4 4\n", 0, "", b"ok\n"),
+        (&["replay"], b"tap 1", 1, "bad line 1", b""),
+        (&["replay", "--store", "sql"], b"", 0, "", b""),
         (
             &["replay", "--store", "sql"],
             b"demo 1 4 4 4\n",
-            Ending::Done,
             0,
+            "",
             b"ok\n",
         ),
         (
             &["replay", "--store", "sql"],
             b"tap 1",
-            Ending::Failed,
             1,
+            "bad line 1",
             b"",
         ),
     ];
-    for (words, trace, ending, status, begin) in cases {
+    for (words, trace, status, said, begin) in cases {
         let mut input = trace;
         let mut output = Vec::new(rt.alloc());
-        let ended = run(&rt, rt.alloc(), words, &mut input, &mut output);
+        let ended = run(rt.alloc(), words, &mut input, &mut output);
         assert_eq!(rt;
-            (ended, ended.status(), output.as_slice().starts_with(begin)),
-            (ending, status, true)
+            (
+                told(rt.alloc(), &ended, said),
+                output.as_slice().starts_with(begin),
+            ),
+            (Some((status, true)), true)
         );
     }
 }

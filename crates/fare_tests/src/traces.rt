@@ -306,6 +306,9 @@ arrive 2
 restart station 1
 arrive 3
 arrive 4
+ack 1
+answer 1
+arrive 5
 draw
 store
 draw
@@ -316,8 +319,8 @@ ack 1
 ack 1
 answer 2
 answer 1
-arrive 5
-arrive 5
+arrive 6
+arrive 6
 send 1
 ";
 
@@ -337,6 +340,9 @@ accepted
 restarted
 accepted
 refused Old
+ack 0
+packet 5 ack 1 0
+acked 0
 drawn 1 link 1
 stored 1 link 1
 drawn 2 link 1
@@ -346,7 +352,7 @@ refused Duplicate
 ack 1
 ack 1
 empty
-packet 5 ack 1 1
+packet 6 ack 1 1
 acked 1
 acked 0
 idle
