@@ -1,7 +1,11 @@
 -- The job that clap's matches of the words say, and why there is none.
-use Rattle.std.specs.Prelude.{◌≡◌, ℕ, ◌≤◌, List, Option, Some, None, true, false, codes, Bool, ◌⊎◌, Ok}
+use Rattle.std.specs.Prelude.{◌≡◌, ℕ, ◌≤◌, List, [], Option, Some, None, true, false, codes, Bool, ◌⊎◌, Ok}
 use Rattle.std.specs.Str.Parse.{ParsesUnsigned}
+use Rattle.clap.specs.Faults.{fault_of}
+use Rattle.clap.specs.Kinds.{IsAmong}
 use Rattle.clap.specs.Words.{Row, Text, first_of, subcommand_of, takes}
+use Rattle.clap.specs.declared.error.kind.ErrorKind.{ErrorKind}
+use Rattle.clap.specs.declared.error.kind.ErrorKind.TheVariants.{DisplayHelp, DisplayVersion, OutOfMemory}
 use Rattle.fare_command.specs.CommandLine.{hub_app}
 use Rattle.fare_command.specs.declared.words.Job.{Job}
 use Rattle.fare_command.specs.declared.words.Job.TheVariants.{Replay, Serve}
@@ -40,8 +44,45 @@ RefusedFor reason (Asked text) = ⊥
 RefusedFor reason (Refused text) = reason
 RefusedFor reason Memory = Unit {0}
 
--- asked for a text only where clap does not take the words, and refused only there or where their matches say no job
+-- clap answers with its help or its version
+abbrev pub IsAnswer : ErrorKind → Type 0
+IsAnswer DisplayHelp = Unit {0}
+IsAnswer DisplayVersion = Unit {0}
+IsAnswer _ = ⊥
+
+-- clap says what is wrong with the words
+abbrev pub IsMistake : ErrorKind → Type 0
+IsMistake DisplayHelp = ⊥
+IsMistake DisplayVersion = ⊥
+IsMistake OutOfMemory = ⊥
+IsMistake _ = Unit {0}
+
+-- what a text of clap's is, by its kind
+abbrev pub Tells : ErrorKind → WordsFault → Type 0
+Tells kind (Asked text) = IsAnswer kind
+Tells kind (Refused text) = IsMistake kind
+Tells kind Memory = Unit {0}
+
+-- clap has nothing to say of the words
+abbrev pub IsSound : List Text → Type 0
+IsSound words = fault_of hub_app words ≡ []
+
+-- clap does not take the words, which ask for its help or its version
+abbrev pub AsksForText : List Text → Type 0
+AsksForText words = (takes hub_app words ≡ true → ⊥)
+    × ((kind : ErrorKind) × IsAnswer kind × IsAmong kind (fault_of hub_app words))
+
+-- clap does not take the words, in which something is wrong
+abbrev pub IsMistaken : List Text → Type 0
+IsMistaken words = (takes hub_app words ≡ true → ⊥)
+    × ((kind : ErrorKind) × IsMistake kind × IsAmong kind (fault_of hub_app words))
+
+-- clap has nothing to say of the words, and they say no job
+abbrev pub SaysNoJob : List Text → Type 0
+SaysNoJob words = IsSound words × ((job : Job) → JobOf (subcommand_of hub_app words) job → ⊥)
+
+-- clap's text only where the words ask for it, and refused only where something is wrong with them or they say no job
 abbrev pub FailsOn : List Text → WordsFault → Type 0
-FailsOn words (Asked text) = takes hub_app words ≡ true → ⊥
-FailsOn words (Refused text) = takes hub_app words ≡ true → (job : Job) → JobOf (subcommand_of hub_app words) job → ⊥
+FailsOn words (Asked text) = AsksForText words
+FailsOn words (Refused text) = IsMistaken words ⊎ SaysNoJob words
 FailsOn words Memory = Unit {0}

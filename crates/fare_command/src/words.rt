@@ -2,7 +2,7 @@ ghost use Rattle.std.specs.Prelude.{◌≡◌, ℕ, Bool, None, IfOk, IfErr, map
 ghost use Rattle.clap.specs.Words.{rows_of, found_of, first_of, subcommand_of, subcommand_rows_of};
 ghost use Rattle.clap.specs.Values.{kind_of};
 ghost use Rattle.fare_command.specs.CommandLine.{hub_app};
-ghost use Rattle.fare_command.specs.Jobs.{IsStore, IsNumber, IsTurns, JobIn, JobOf, RefusedFor, FailsOn};
+ghost use Rattle.fare_command.specs.Jobs.{IsStore, IsNumber, IsTurns, JobIn, JobOf, RefusedFor, FailsOn, IsSound, Tells};
 ghost use Rattle.fare_command.specs.declared.words.WordsFault.TheVariants.{Memory};
 
 use crate::command::hub_command;
@@ -53,7 +53,7 @@ impl From<AllocError> for WordsFault {
 
 /// Why clap made nothing of the words: its text, or want of memory.
 fn refusal(alloc: Global, error: &clap::Error) -> WordsFault
-    ensures { kind_of error.now ≡ ErrorKind.OutOfMemory → result ≡ WordsFault.Memory }
+    ensures { Tells (kind_of error.now) result }
 {
     match error.to_string(alloc) {
         Ok(text) => match error.kind() {
@@ -68,6 +68,7 @@ fn refusal(alloc: Global, error: &clap::Error) -> WordsFault
 /// What clap makes of the words.
 fn matches_of<'a>(alloc: Global, words: &'a [&'a str]) -> Result<ArgMatches<'a>, WordsFault>
     ensures ok { IfOk result (λ m. subcommand_rows_of m ≡ subcommand_of hub_app (map (λ word. word.now) words.now)) }
+    ensures sound { IfOk result (λ _. IsSound (map (λ word. word.now) words.now)) }
     ensures err { IfErr result (FailsOn (map (λ word. word.now) words.now)) }
 {
     match hub_command(alloc)?.try_get_matches_from(words) {
@@ -182,6 +183,7 @@ fn job_in<'a>(alloc: Global, matches: &ArgMatches<'a>) -> Result<Job<'a>, WordsF
 /// `Memory` where there was none.
 pub fn read_words<'a>(alloc: Global, words: &'a [&'a str]) -> Result<Job<'a>, WordsFault>
     ensures job { IfOk result (JobOf (subcommand_of hub_app (map (λ word. word.now) words.now))) }
+    ensures sound { IfOk result (λ _. IsSound (map (λ word. word.now) words.now)) }
     ensures fault { IfErr result (FailsOn (map (λ word. word.now) words.now)) }
 {
     let matches = matches_of(alloc, words)?;

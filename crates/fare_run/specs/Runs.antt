@@ -3,7 +3,7 @@ use Rattle.std.specs.Prelude.{◌≡◌, ◌⊎◌, ℕ, Bool, true, List, Optio
 use Rattle.std.specs.Io.KnownBytes.{Appends}
 use Rattle.clap.specs.Words.{Text, subcommand_of, takes}
 use Rattle.fare_command.specs.CommandLine.{hub_app}
-use Rattle.fare_command.specs.Jobs.{JobOf}
+use Rattle.fare_command.specs.Jobs.{AsksForText, IsMistaken, IsSound, JobOf, SaysNoJob}
 use Rattle.fare_command.specs.declared.words.Job.{Job}
 use Rattle.fare_command.specs.declared.words.Job.TheVariants as job
 use Rattle.fare_trace.specs.Replay.{ReplayFails, Replays}
@@ -19,29 +19,25 @@ abbrev pub IsServe : Job → Type 0
 IsServe (job.Replay sql) = ⊥
 IsServe (job.Serve port turns path) = Unit {0}
 
--- the words' job is to serve
+-- clap has nothing to say of the words, and this is their job
+abbrev pub AsksFor : List Text → Job → Type 0
+AsksFor words job = IsSound words × IsJob words job
+
+-- the words ask to serve
 abbrev pub IsToServe : List Text → Type 0
-IsToServe words = (job : Job) × IsJob words job × IsServe job
+IsToServe words = (job : Job) × AsksFor words job × IsServe job
 
--- clap takes the words, and they ask to serve
+-- clap takes the words, and their job is to serve
 abbrev pub AsksToServe : List Text → Type 0
-AsksToServe words = (takes hub_app words ≡ true) × IsToServe words
+AsksToServe words = (takes hub_app words ≡ true) × ((job : Job) × IsJob words job × IsServe job)
 
--- clap does not take the words
-abbrev pub IsUntaken : List Text → Type 0
-IsUntaken words = takes hub_app words ≡ true → ⊥
-
--- clap does not take the words, or they say no job
-abbrev pub IsNoJob : List Text → Type 0
-IsNoJob words = takes hub_app words ≡ true → (job : Job) → IsJob words job → ⊥
-
--- the words are no job, and a text was written
+-- the words ask for a text of clap's, and a text was written
 abbrev pub Shows : List Text → Option (List ℕ) → Option (List ℕ) → Type 0
-Shows words old new = IsUntaken words × ((text : List ℕ) × Appends old new text)
+Shows words old new = AsksForText words × ((text : List ℕ) × Appends old new text)
 
 -- the words ask for a replay, and the replies are written
 abbrev pub EndsReplay : List Text → Option (List ℕ) → Option (List ℕ) → Option (List ℕ) → Type 0
-EndsReplay words known old new = ((sql : Bool) × IsJob words (job.Replay sql)) × IfSome known (Replays old new)
+EndsReplay words known old new = ((sql : Bool) × AsksFor words (job.Replay sql)) × IfSome known (Replays old new)
 
 -- the job is done: a replay was asked for and its replies are written, or a text is shown
 abbrev pub RunEnds : List Text → Option (List ℕ) → Option (List ℕ) → Option (List ℕ) → Type 0
@@ -49,11 +45,11 @@ RunEnds words known old new = EndsReplay words known old new ⊎ Shows words old
 
 -- what each failure says; a store fails only where the words ask for tables
 abbrev pub RunFails : List Text → Option (List ℕ) → Option (List ℕ) → Option (List ℕ) → Failure → Type 0
-RunFails words known old new (Replay why) = ((sql : Bool) × IsJob words (job.Replay sql) × (why ≡ fault.Store → sql ≡ true)) × ReplayFails known old new why
-RunFails words known old new Write = IsUntaken words
+RunFails words known old new (Replay why) = ((sql : Bool) × AsksFor words (job.Replay sql) × (why ≡ fault.Store → sql ≡ true)) × ReplayFails known old new why
+RunFails words known old new Write = AsksForText words
 RunFails words known old new Memory = Unit {0}
 RunFails words known old new NoServer = IsToServe words
-RunFails words known old new (Refused text) = IsNoJob words
+RunFails words known old new (Refused text) = IsMistaken words ⊎ SaysNoJob words
 
 -- the failures that come before anything is read or written
 abbrev pub IsBefore : Failure → Type 0

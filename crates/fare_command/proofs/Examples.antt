@@ -1,0 +1,38 @@
+-- What clap says of some words, computed.
+use Rattle.std.proofs.Common.{◌≡◌, refl, [], ◌∷◌, codes}
+use Rattle.clap.specs.Faults.{fault_of}
+use Rattle.clap.specs.declared.error.kind.ErrorKind.TheVariants as kind
+use Rattle.clap.proofs.OnLiterals.{clap_on_literals}
+use Rattle.fare_command.specs.CommandLine.{hub_app}
+
+replay : fault_of hub_app (codes "replay" ∷ []) ≡ []
+unfolding clap_on_literals
+replay = refl
+
+serve : fault_of hub_app (codes "serve" ∷ codes "--port" ∷ codes "65535" ∷ codes "--turns" ∷ codes "1" ∷ codes "--outbox" ∷ codes "x" ∷ []) ≡ []
+unfolding clap_on_literals
+serve = refl
+
+help : fault_of hub_app (codes "--help" ∷ []) ≡ kind.DisplayHelp ∷ []
+unfolding clap_on_literals
+help = refl
+
+help_of_replay : fault_of hub_app (codes "replay" ∷ codes "--help" ∷ []) ≡ kind.DisplayHelp ∷ []
+unfolding clap_on_literals
+help_of_replay = refl
+
+version : fault_of hub_app (codes "--version" ∷ []) ≡ kind.DisplayVersion ∷ []
+unfolding clap_on_literals
+version = refl
+
+no_command : fault_of hub_app [] ≡ kind.MissingSubcommand ∷ []
+unfolding clap_on_literals
+no_command = refl
+
+no_port : fault_of hub_app (codes "serve" ∷ codes "--turns" ∷ codes "1" ∷ codes "--outbox" ∷ codes "x" ∷ []) ≡ kind.MissingRequiredArgument ∷ []
+unfolding clap_on_literals
+no_port = refl
+
+no_turns : fault_of hub_app (codes "serve" ∷ codes "--port" ∷ codes "0" ∷ codes "--turns" ∷ codes "0" ∷ codes "--outbox" ∷ codes "x" ∷ []) ≡ kind.ValueValidation ∷ []
+unfolding clap_on_literals
+no_turns = refl
