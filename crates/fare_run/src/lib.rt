@@ -10,6 +10,5 @@ mod running;
 mod telling;
 
 pub use failure::Failure;
-pub use replaying::replay_over;
 pub use running::run;
 pub use telling::tell;

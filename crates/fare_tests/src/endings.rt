@@ -1,5 +1,8 @@
+use crate::readers::{Closed, Lossy};
 use fare_run::{Failure, run};
+use fare_trace::ReplayFault;
 use std::alloc::Global;
+use std::io::Write;
 
 /// The status of a run, and whether this is what standard error gets of it: the whole line of a failure, or the
 /// begin of what refused words are told.
@@ -60,6 +63,41 @@ fn words_and_traces_decide_the_ending(rt: HostRuntime) {
                 output.as_slice().starts_with(begin),
             ),
             (Some((status, true)), true)
+        );
+    }
+}
+
+#[test]
+fn each_failure_has_its_line(rt: HostRuntime) {
+    let cases = [
+        (Failure::Replay(ReplayFault::Store), "store failed"),
+        (Failure::Write, "write failed"),
+        (Failure::Memory, "no memory"),
+        (Failure::NoServer, "this build has no server"),
+    ];
+    for (failure, line) in cases {
+        assert_eq!(rt; told(rt.alloc(), &Err(failure), line), Some((1, true)));
+    }
+}
+
+/// A run that shows the version, or replays a line, to this writer.
+fn written_to<W: Write>(alloc: Global, word: &str, writer: &mut W) -> Result<(), Failure> {
+    let mut input: &[u8] = b"draw\n";
+    run(alloc, &[word], &mut input, writer)
+}
+
+#[test]
+fn a_writer_fails(rt: HostRuntime) {
+    let alloc = rt.alloc();
+    for word in ["--version", "replay"] {
+        let closed = written_to(alloc, word, &mut Closed);
+        let lossy = written_to(alloc, word, &mut Lossy);
+        assert_eq!(rt;
+            (
+                told(alloc, &closed, "write failed"),
+                told(alloc, &lossy, "write failed"),
+            ),
+            (Some((1, true)), Some((1, true)))
         );
     }
 }
