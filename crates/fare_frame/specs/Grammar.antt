@@ -1,7 +1,9 @@
 -- Frames as bytes: a length of two bytes, the highest first, which counts the bytes after itself, a type of one byte, and a body.
 use Rattle.std.specs.Prelude.{◌≡◌, ◌≢◌, ◌+◌, ◌-◌, ◌*◌, ◌<◌, ◌≤◌, ◌⊎◌, ℕ, List, ◌∷◌, ◌++◌, length, take, Option, Some, None}
 use Rattle.std.specs.List.{flat_map}
-use Rattle.fare_record.specs.Values.{RecordValue, StatementValue, AckValue, DayAckValue}
+use Rattle.fare_record.specs.Values.{RecordValue, StatementValue, AckValue, DayAckValue, HelloValue}
+use Rattle.fare_record.specs.declared.ack_item.AckItem.{AckItem}
+use Rattle.fare_record.specs.declared.ack_item.AckItem.TheVariants as ack_item
 use Rattle.fare_record.specs.Bodies.{record_bytes, record_in, statement_bytes, statement_in, ack_bytes, ack_in, day_ack_bytes, day_ack_in, hello_bytes, hello_in}
 use Rattle.fare_record.specs.Lawful.{IsLawfulRecord, IsLawfulStatement, IsLawfulAck, IsLawfulDayAck, IsLawfulHello}
 use Rattle.fare_frame.specs.Table.{code_of, length_of, head_of}
@@ -54,6 +56,16 @@ ack_of _ = None
 abbrev pub day_ack_of : Frame → Option DayAckValue
 day_ack_of (DayAcked a) = Some a
 day_ack_of _ = None
+
+-- a greeting
+abbrev pub hello_of : Frame → Option HelloValue
+hello_of (Greeted h) = Some h
+hello_of _ = None
+
+-- the frame of an acknowledgement
+abbrev pub frame_of : AckItem → Frame
+frame_of (ack_item.Upto a) = Acked a
+frame_of (ack_item.Day a) = DayAcked a
 
 -- the frame of a kind with the numbers in a body, whatever they are
 abbrev pub frame_in : Kind → List ℕ → Frame

@@ -1,9 +1,9 @@
 ghost use Rattle.std.specs.Prelude.{◌≡◌, ◌<◌, ◌≤◌, ◌+◌, ◌++◌, length, vec_len, vec_capacity, OnOk, OnErr};
 ghost use Rattle.fare_frame.specs.Table.{head_of};
-ghost use Rattle.fare_frame.specs.Grammar.{frame_bytes, tap_of, statement_of, ack_of, day_ack_of, IsFrame};
+ghost use Rattle.fare_frame.specs.Grammar.{frame_bytes, frame_of, tap_of, statement_of, ack_of, day_ack_of, hello_of, IsFrame};
 
 use crate::kind::Kind;
-use fare_record::{Ack, DayAck, Hello, Record, Statement};
+use fare_record::{Ack, AckItem, DayAck, Hello, Record, Statement};
 use std::alloc::AllocError;
 
 /// How many bytes the longest frame has.
@@ -25,6 +25,16 @@ pub enum Frame {
 }
 
 impl Frame {
+    /// The frame that tells a device what the hub has had of it.
+    pub fn acknowledging(item: &AckItem) -> Frame
+        ensures { result ≡ frame_of item.now }
+    {
+        match item {
+            AckItem::Upto(ack) => Frame::Acked(*ack),
+            AckItem::Day(ack) => Frame::DayAcked(*ack),
+        }
+    }
+
     /// Appends the frame's bytes: its length as u16, the highest byte first, its type and its body. An error
     /// leaves the bytes as they were.
     pub fn put(&self, out: &mut Vec<u8>) -> Result<(), AllocError>
@@ -81,6 +91,16 @@ impl Frame {
     {
         match self {
             Frame::DayAcked(ack) => Some(*ack),
+            _ => None,
+        }
+    }
+
+    /// A greeting; None for any other frame.
+    pub fn greeted(&self) -> Option<Hello>
+        ensures { result ≡ hello_of self.now }
+    {
+        match self {
+            Frame::Greeted(hello) => Some(*hello),
             _ => None,
         }
     }

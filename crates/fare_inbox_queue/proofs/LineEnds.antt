@@ -3,7 +3,7 @@ use Rattle.std.proofs.Common.{◌≡◌, List, ◌++◌, All, length, drop, sym,
 use Rattle.std.proofs.Math.Seq.{drop-append_seam}
 use Rattle.std.proofs.lemmas.List.{map-append}
 use Rattle.std.proofs.lemmas.List.Elements.{All-map}
-use Rattle.fare_inbox_queue.specs.declared.ack_item.AckItem.{AckItem}
+use Rattle.fare_record.specs.declared.ack_item.AckItem.{AckItem}
 use Rattle.fare_inbox_queue.specs.declared.ack_rule.Told.{Told}
 use Rattle.fare_inbox_queue.specs.declared.ack_rule.View.{View}
 use Rattle.fare_inbox_queue.specs.Line.{both, stored_in, IsStored, IsLeft}

@@ -2,8 +2,8 @@
 use Rattle.std.proofs.Common.{◌≡◌, ℕ, ◌≤◌, ◌==◌, max, Bool, true, List, [], ◌∷◌, ◌++◌, All, ap, arith, if◌then◌else◌}
 use Rattle.std.proofs.lemmas.List.Elements.{All-push, All-weaker}
 use Rattle.std.proofs.lemmas.Bool.Decides.{nat_tests}
-use Rattle.fare_inbox_queue.specs.declared.ack_item.AckItem.{AckItem}
-use Rattle.fare_inbox_queue.specs.declared.ack_item.AckItem.TheVariants.{Upto, Day}
+use Rattle.fare_record.specs.declared.ack_item.AckItem.{AckItem}
+use Rattle.fare_record.specs.declared.ack_item.AckItem.TheVariants.{Upto, Day}
 use Rattle.fare_inbox_queue.specs.declared.ack_rule.Told.{Told}
 use Rattle.fare_inbox_queue.specs.Line.{device_in, told_of, stored_in, IsUpTo, IsStored}
 

@@ -2,8 +2,8 @@
 use Rattle.std.specs.Prelude.{◌≡◌, ℕ, ◌≤◌, ◌==◌, max, Bool, true, false, List, [], ◌∷◌, ◌++◌, All, if◌then◌else◌}
 use mathlib.Core.Option.{some}
 use lib.ListN.{get_elem?}
-use Rattle.fare_inbox_queue.specs.declared.ack_item.AckItem.{AckItem}
-use Rattle.fare_inbox_queue.specs.declared.ack_item.AckItem.TheVariants.{Upto, Day}
+use Rattle.fare_record.specs.declared.ack_item.AckItem.{AckItem}
+use Rattle.fare_record.specs.declared.ack_item.AckItem.TheVariants.{Upto, Day}
 use Rattle.fare_inbox_queue.specs.declared.ack_rule.Told.{Told}
 use Rattle.fare_inbox_queue.specs.declared.ack_rule.View.{View}
 

@@ -3,7 +3,7 @@ use Rattle.std.specs.Prelude.{◌≡◌, ℕ, ◌^◌, ◌-◌, min, true, List,
 use Rattle.crossbeam_queue.specs.Passes.{view, IsPassOf, ruled_capacity}
 use Rattle.crossbeam_queue.specs.Fifo.{Held}
 use Rattle.fare_inbox_queue.specs.Line.{stored_in, Stands}
-use Rattle.fare_inbox_queue.specs.declared.ack_item.AckItem.{AckItem}
+use Rattle.fare_record.specs.declared.ack_item.AckItem.{AckItem}
 use Rattle.fare_inbox_queue.specs.declared.ack_rule.Told.{Told}
 use Rattle.fare_inbox_queue.specs.declared.ack_rule.View.{View}
 use Rattle.fare_inbox_queue.specs.declared.ack_line.AckLine.{AckLine}

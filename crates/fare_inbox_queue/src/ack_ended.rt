@@ -2,8 +2,9 @@ ghost use Rattle.std.specs.Prelude.{◌≡◌, ◌∷◌, [], IfSome, IfNone};
 ghost use Rattle.fare_inbox_queue.specs.LinePasses.{unheard_list, IsLineEnded};
 
 use crate::ack_rule::{Drains, Told, View};
-use crate::{AckItem, AckLine};
+use crate::AckLine;
 use crossbeam_queue::Pass;
+use fare_record::AckItem;
 use std::sync::Wait;
 
 /// An acknowledgement line at its end, with what is left in it.

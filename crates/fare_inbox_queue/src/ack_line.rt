@@ -5,8 +5,9 @@ ghost use Rattle.fare_inbox_queue.specs.LinePasses.{line_capacity, put_list, sto
 
 use crate::ack_rule::{Drains, LineRule, Parted, Puts, Takes, Together, Told, View};
 use crate::fault::MOST_CAPACITY;
-use crate::{AckItem, AckLineEnded, AckPass, Full, HearPass, QueueFault};
+use crate::{AckLineEnded, AckPass, Full, HearPass, QueueFault};
 use crossbeam_queue::RuledArrayQueue;
+use fare_record::AckItem;
 use std::alloc::Global;
 use std::sync::Wait;
 

@@ -3,8 +3,8 @@
 ghost use Rattle.std.specs.Prelude.{◌≡◌};
 ghost use Rattle.fare_inbox_queue.specs.Line.{whole, sender, hearer, both, spent, with_sent, with_taken, IsLine, Stands, IsFirstLeft, IsLeft};
 
-use crate::AckItem;
 use crossbeam_queue::protocol::{Join, Lesson, Outcome, Protocol, Split};
+use fare_record::AckItem;
 use std::collections::LinkedList;
 
 /// An acknowledgement in its line, and how many taps of its device were stored when it was put.

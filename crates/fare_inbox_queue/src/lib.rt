@@ -7,7 +7,6 @@
 #![tactic(auto)]
 
 mod ack_ended;
-mod ack_item;
 mod ack_line;
 mod ack_passes;
 mod ack_rule;
@@ -21,7 +20,6 @@ mod laws;
 mod stations;
 
 pub use ack_ended::AckLineEnded;
-pub use ack_item::AckItem;
 pub use ack_line::AckLine;
 pub use ack_passes::{AckPass, HearPass};
 pub use arrived::Arrived;

@@ -27,17 +27,6 @@ read_next a b c Q first second = says a c None _ _ (λ v. ⊥) (λ v. ⊥) (λ l
 pub read_more : (a b c : Standing LedgerValue) (P Q : LedgerValue → Type 0) → Calls a b None ((b.value ≡ a.value) × P a.value) (λ v. ⊥) → Calls b c None ((c.value ≡ b.value) × Q b.value) (λ v. ⊥) → Calls a c None ((c.value ≡ a.value) × (P a.value × Q a.value)) (λ v. ⊥)
 read_more a b c P Q first second = says a c None _ _ (λ v. ⊥) (λ v. ⊥) (λ lawful p. (p.0, (p.1.1, subst Q p.1.0 p.1.2))) (λ v none. none) (read_then a b c (P a.value) (Q b.value) None first second)
 
--- a call that only looks at what never changes
-pub looks : (a : Standing LedgerValue) (P : Type 0) → P → Calls a a None ((a.value ≡ a.value) × P) (λ v. ⊥)
-looks a P is = record {
-  value = λ live lawful. (lawful, (refl, is));
-  stop = λ clean lawful v leaves. inl leaves;
-  clean = λ clean. clean;
-  live = λ live. live;
-  stays = λ e live clean. live;
-  cause = refl;
-}
-
 -- ---- a tap
 
 pub tap_of_another : (v : LedgerValue) (r : RecordValue) (mine : Bool) → mine ≡ is_mine v r.owner r.device → mine ≡ false → take_judged v r ≡ Err tap.NotMine

@@ -13,7 +13,7 @@ use sqlite::Alter;
 impl<S: Alter> Ledger for SqlLedger<S> {
     ghost standing = { λ l. stands S.Store l };
 
-    ghost sound = { λ l. record { clean = λ live. live.0; settled = λ live lawful v leaves. sym leaves.2 ∙ ap (value_at l.layout l.owner l.start (knows l.devices)) (S.Store.settled l.conn.store leaves.0 live.1 leaves.1 ∙ sym (ap (λ (d : Database). d.trees) lawful.rest.settled)) } };
+    ghost sound = { λ l. record { clean = λ live. live.0; settled = λ live lawful v leaves. sym leaves.2 ∙ ap (value_at l.layout l.owner l.start (knows l.devices)) (S.Store.settled l.conn.store leaves.0 live.1 leaves.1 ∙ sym (ap (λ (d : Database). d.trees) lawful.rest.settled)); some = λ clean. ∥∥₁_map (S.Store.survives l.conn.store clean) (λ left. (value_at l.layout l.owner l.start (knows l.devices) left.0, (left.0, left.1, refl))) } };
 
     fn owner(&self) -> OwnerId {
         self.owner

@@ -22,11 +22,11 @@ impl<S: Alter> SqlLedger<S> {
         ensures low { IfOk result (λ judged. IfOk judged (λ closed. closed ≤ 100001)) }
     {
         let mine = self.is_mine(row.owner(), row.device());
+        let start = self.start;
+        self.begin()?;
         if !mine {
             return Ok(Err(TapFault::NotMine));
         }
-        let start = self.start;
-        self.begin()?;
         let lane = self.numbers_of(row.device())?;
         let closed = is_closed(start, lane.closed, row.tap().day());
         match judge_tap(mine, lane.taken, closed, row.lane()) {
@@ -44,10 +44,10 @@ impl<S: Alter> SqlLedger<S> {
         ensures up { IfOk result (λ judged. OnOk judged (IsUp (state S.Store self.new.conn))) }
     {
         let mine = self.is_mine(statement.owner(), statement.device());
+        self.begin()?;
         if !mine {
             return Ok(Err(StatementFault::NotMine));
         }
-        self.begin()?;
         let held = self.stated_of(statement.device(), statement.day())?;
         Ok(judge_statement(mine, held, statement.count()))
     }

@@ -11,7 +11,7 @@ use sqlite::Alter;
 impl<S: Alter> Outbox for SqlOutbox<S> {
     ghost standing = { λ o. stands S.Store o };
 
-    ghost sound = { λ o. record { clean = λ live. live.0; settled = λ live lawful v leaves. sym leaves.2 ∙ ap (value_at o.layout) (S.Store.settled o.conn.store leaves.0 live.1 leaves.1 ∙ sym (ap (λ (d : Database). d.trees) lawful.rest.settled)) } };
+    ghost sound = { λ o. record { clean = λ live. live.0; settled = λ live lawful v leaves. sym leaves.2 ∙ ap (value_at o.layout) (S.Store.settled o.conn.store leaves.0 live.1 leaves.1 ∙ sym (ap (λ (d : Database). d.trees) lawful.rest.settled)); some = λ clean. ∥∥₁_map (S.Store.survives o.conn.store clean) (λ left. (value_at o.layout left.0, (left.0, left.1, refl))) } };
 
     fn is_empty(&mut self) -> Result<bool, Fault> {
         self.begin()?;

@@ -5,6 +5,7 @@
 #![tactic(auto)]
 
 mod ack;
+mod ack_item;
 mod day;
 mod day_ack;
 mod device_id;
@@ -25,6 +26,7 @@ mod tap;
 mod token;
 
 pub use ack::Ack;
+pub use ack_item::AckItem;
 pub use day::Day;
 pub use day_ack::DayAck;
 pub use device_id::DeviceId;

@@ -1,5 +1,5 @@
 -- What a forwarder hands on.
-use Rattle.std.specs.Prelude.{◌≡◌, ℕ, ◌+◌, ◌<◌, ◌≤◌, ◌==◌, nat_eq, length, slice_get, is_none, if◌then◌else◌, List, Option, Some, None, option_map, option_and_then, Result, IfOk}
+use Rattle.std.specs.Prelude.{◌≡◌, ℕ, ◌+◌, ◌<◌, ◌≤◌, ◌==◌, nat_eq, length, slice_get, is_none, if◌then◌else◌, List, Option, Some, None, option_map, option_and_then, Result, Ok, Err, IfOk}
 use Rattle.std.specs.HashMap.{get}
 use Rattle.fare_record.specs.Limits.{IsDay}
 use Rattle.fare_record.specs.declared.item.Item.{Item}
@@ -7,7 +7,8 @@ use Rattle.fare_record.specs.declared.item.Item.TheVariants.{Tap, Stated}
 use Rattle.fare_scheme.specs.Values.{SchemeValue}
 use Rattle.fare_scheme.specs.Words.{position_of_owner, position_of_device}
 use Rattle.fare_store.specs.declared.fault.Refused.{Refused}
-use Rattle.fare_store.specs.Standing.{Standing, Calls, fault_in}
+use Rattle.fare_store.specs.declared.fault.Refused.TheVariants as refused
+use Rattle.fare_store.specs.Standing.{Standing, Calls}
 use Rattle.fare_store.specs.OutboxWords.{OutboxValue, IsLeastRow, IsLeastStatement}
 use Rattle.fare_route.specs.declared.cursor.Cursor.{Cursor}
 use Rattle.fare_route.specs.declared.forwarder.Forwarder.{Forwarder}
@@ -48,9 +49,11 @@ IsNext v owner device c None = NoRow v owner device c.lane × ((day : ℕ) → c
 IsNext v owner device c (Some (Tap r)) = IsLeastRow v.rows owner device c.lane r
 IsNext v owner device c (Some (Stated s)) = NoRow v owner device c.lane × IsLeastStatement v.stated owner device c.day s
 
--- of the outbox that is asked: an answer, and nothing changes
+-- of the outbox that is asked: an answer, and nothing changes; a refusal by name comes before it is asked
 abbrev pub Asks : {V A R : Type 0} → Standing V → Standing V → (A → Type 0) → Result A (Refused R) → Type 0
-Asks old new answer result = Calls old new (fault_in result) ((new.value ≡ old.value) × IfOk result answer) (λ v. ⊥)
+Asks old new answer (Ok a) = Calls old new None ((new.value ≡ old.value) × answer a) (λ v. ⊥)
+Asks old new answer (Err (refused.Because why)) = Unit {0}
+Asks old new answer (Err (refused.Failed f)) = Calls old new (Some f) ((new.value ≡ old.value) × Unit {0}) (λ v. ⊥)
 
 -- the item follows the cursor, if there is one
 abbrev pub IsNextOf : OutboxValue → ℕ → ℕ → Option Cursor → Option Item → Type 0

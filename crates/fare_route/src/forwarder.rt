@@ -81,6 +81,7 @@ impl Forwarder {
     ) -> Result<Option<Item>, Refused<UnknownDevice>>
         ensures unknown { (result ≡ Err (Because (record {}))) ↔ (cursor_of self.old device ≡ None) }
         ensures read { Asks (O.standing outbox.old) (O.standing outbox.new) (IsNextOf (O.standing outbox.old).value self.old.owner device (cursor_of self.old device)) result }
+        ensures unasked { result ≡ Err (Because (record {})) → outbox.new ≡ outbox.old }
         ensures moved { IfOk result (λ item. (other : ℕ) → cursor_of self.new other ≡ changed (moved item) (cursor_of self.old) device other) }
         ensures unmoved { OnErr result ((other : ℕ) → cursor_of self.new other ≡ cursor_of self.old other) }
         ensures owner { self.new.owner ≡ self.old.owner }

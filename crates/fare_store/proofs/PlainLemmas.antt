@@ -21,6 +21,6 @@ plain_call old new f did commits not d kept = record {
   stop = λ clean lawful v is. elim kept [ inl same ↦ inl (is ∙ same) | inr done ↦ inr (tt, subst commits (sym is) done) ];
   clean = λ h. h;
   live = λ h. h;
-  stays = λ e live clean. live;
+  stays = λ e clean. tt;
   cause = counted f not;
 }

@@ -35,15 +35,16 @@ pub record Calls {V : Type 0} (old new : Standing V) (faulted : Option Fault) (d
   -- what is spoiled or shut stays so
   pub clean : new.clean → old.clean
   pub live : new.live → old.live
-  -- a success shuts nothing, nor does a refusal by name
-  pub stays : faulted ≡ None → old.live → new.clean → new.live
+  -- a clean store that succeeds is live, and so is one that refuses by name: a store that was shut answers with a fault
+  pub stays : faulted ≡ None → new.clean → new.live
   -- Store is answered only where the count of failures rises
   pub cause : Counted old.failures new.failures faulted
 
--- the laws of a store: while it is live it is clean, and a stop leaves what it holds
+-- the laws of a store: while it is live it is clean, and a stop leaves what it holds; and a stop leaves something as long as it is clean, also once a failure has shut it
 pub record IsSound {V : Type 0} (s : Standing V) : Type 0 where
   pub clean : s.live → s.clean
   pub settled : s.live → s.lawful → (v : V) → s.may_leave v → v ≡ s.value
+  pub some : s.clean → ∥ (v : V) × s.may_leave v ∥₁
 
 -- the fault of an answer, if it is one
 abbrev pub fault_of : {A : Type 0} → Result A Fault → Option Fault
@@ -65,9 +66,9 @@ Does old new judged done (Ok _) = (judged ≡ Ok tt) × (new ≡ done)
 Does old new judged done (Err (refused.Because why)) = (judged ≡ Err why) × (new ≡ old)
 Does old new judged done (Err (refused.Failed f)) = new ≡ old
 
--- a write: refused as it is judged, and then nothing changes; or done
+-- a write: refused as it is judged, and then nothing changes, nor would a stop; or done
 abbrev pub Writes : {V R : Type 0} → Standing V → Standing V → Result Unit R → V → Result Unit (Refused R) → Type 0
-Writes old new judged done result = Calls old new (fault_in result) (Does old.value new.value judged done result) (λ v. v ≡ done)
+Writes old new judged done result = Calls old new (fault_in result) (Does old.value new.value judged done result) (λ v. (judged ≡ Ok tt) × (v ≡ done))
 
 -- what a removal leaves, and how much it removed
 abbrev pub Counts : {V : Type 0} → V → V → V → ℕ → Result ℕ Fault → Type 0

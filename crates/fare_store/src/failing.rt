@@ -40,7 +40,7 @@ impl<O> FailingOutbox<O> {
 impl<O: Outbox> Outbox for FailingOutbox<O> {
     ghost standing = { λ s. failing s.left (O.standing s.outbox) };
 
-    ghost sound = { λ s. record { clean = (O.sound s.outbox).clean; settled = (O.sound s.outbox).settled } };
+    ghost sound = { λ s. record { clean = (O.sound s.outbox).clean; settled = (O.sound s.outbox).settled; some = (O.sound s.outbox).some } };
 
     fn is_empty(&mut self) -> Result<bool, Fault> {
         if self.fails_now() {

@@ -1,7 +1,10 @@
-ghost use Rattle.std.specs.Prelude.{◌≡◌, ℕ, ◌↔◌, IsTrue, length};
+ghost use Rattle.std.specs.Prelude.{◌≡◌, ℕ, ◌↔◌, IsTrue, IsFalse, Err, length};
+ghost use Rattle.fare_owner.specs.declared.tap.TapFault.TheVariants as tap;
+ghost use Rattle.fare_owner.specs.declared.statement.StatementFault.TheVariants as statement;
+ghost use Rattle.fare_store.specs.declared.fault.Refused.TheVariants.{Because};
 ghost use Rattle.fare_record.specs.Lanes.{day_count};
 ghost use Rattle.fare_store.specs.Standing.{Standing, IsSound, Reads, Writes};
-ghost use Rattle.fare_store.specs.LedgerWords.{LedgerValue, IsEmptyLedger, closed_through, take_judged, took, state_judged, with_statement, close_of, with_close, AreTapsBetween};
+ghost use Rattle.fare_store.specs.LedgerWords.{LedgerValue, IsEmptyLedger, closed_through, is_mine, take_judged, took, state_judged, with_statement, close_of, with_close, AreTapsBetween};
 
 use crate::{Fault, Refused};
 use fare_owner::{CloseFault, StatementFault, TapFault};
@@ -39,15 +42,21 @@ pub trait Ledger {
 
     /// Takes the owner's next tap of a device.
     ///
-    /// Refused by the first case of `TapFault` that applies.
+    /// Refused by the first case of `TapFault` that applies. `NotMine` is decided by the ledger's owner and scheme
+    /// alone: then nothing is asked of the store, so a ledger that a failure has shut answers it too, and no fault
+    /// stands in its place.
     fn take(&mut self, row: &Record) -> Result<(), Refused<TapFault>>
-        ensures { Writes (standing self.old) (standing self.new) (take_judged (standing self.old).value row.now) (took row.now (standing self.old).value) result };
+        ensures not_mine { (result ≡ Err (Because tap.NotMine)) ↔ IsFalse (is_mine (standing self.old).value row.now.owner row.now.device) }
+        ensures unasked { result ≡ Err (Because tap.NotMine) → self.new ≡ self.old }
+        ensures does { IsTrue (is_mine (standing self.old).value row.now.owner row.now.device) → Writes (standing self.old) (standing self.new) (take_judged (standing self.old).value row.now) (took row.now (standing self.old).value) result };
 
     /// Takes a statement.
     ///
-    /// Refused by the first case of `StatementFault` that applies.
+    /// Refused by the first case of `StatementFault` that applies; `NotMine` as in `take`.
     fn state(&mut self, statement: &Statement) -> Result<(), Refused<StatementFault>>
-        ensures { Writes (standing self.old) (standing self.new) (state_judged (standing self.old).value statement.now) (with_statement statement.now (standing self.old).value) result };
+        ensures not_mine { (result ≡ Err (Because statement.NotMine)) ↔ IsFalse (is_mine (standing self.old).value statement.now.owner statement.now.device) }
+        ensures unasked { result ≡ Err (Because statement.NotMine) → self.new ≡ self.old }
+        ensures does { IsTrue (is_mine (standing self.old).value statement.now.owner statement.now.device) → Writes (standing self.old) (standing self.new) (state_judged (standing self.old).value statement.now) (with_statement statement.now (standing self.old).value) result };
 
     /// Closes a device's first day that isn't closed, where the stated count is the count of that day's taps.
     ///
@@ -59,6 +68,6 @@ pub trait Ledger {
     fn taps_between(&mut self, from: Day, to: Day) -> Result<Vec<Record>, Fault>
         ensures { Reads (standing self.old) (standing self.new) (λ taps. AreTapsBetween (standing self.old).value from to taps.items) result };
 
-    /// While it is live it is clean, and a stop leaves what it holds.
+    /// While it is live it is clean, and a stop leaves what it holds; while it is clean, a stop leaves something.
     ghost sound: { (s : Self) → IsSound (standing s) };
 }

@@ -43,7 +43,7 @@ module _ {V : Type 0} (schema : Schema) (value : Trees → V) where
         ];
     clean = λ clean. was_clean old new _ survives clean;
     live = live;
-    stays = λ e was clean. (clean, stays e clean);
+    stays = λ e clean. (clean, stays e clean);
     cause = cause;
   }
 
@@ -64,7 +64,7 @@ module _ {V : Type 0} (schema : Schema) (value : Trees → V) where
         ];
     clean = λ clean. was_clean old new _ survives clean;
     live = live;
-    stays = λ e was clean. (clean, stays e clean);
+    stays = λ e clean. (clean, stays e clean);
     cause = cause;
   }
 
@@ -89,7 +89,7 @@ module _ {V : Type 0} (schema : Schema) (value : Trees → V) where
         ];
     clean = λ clean. was_clean old new _ survives clean;
     live = live;
-    stays = λ e was clean. (clean, stays e clean);
+    stays = λ e clean. (clean, stays e clean);
     cause = cause;
   }
 
@@ -106,7 +106,7 @@ read_then a b c P Q f first second = record {
   ];
   clean = λ h. first.clean (second.clean h);
   live = λ h. first.live (second.live h);
-  stays = λ e live clean. second.stays e (first.stays refl live (second.clean clean)) clean;
+  stays = second.stays;
   cause = subst (λ n. Counted n c.failures f) first.cause second.cause;
 }
 
@@ -155,7 +155,7 @@ write_then a b c P did f C D commits first second = record {
   ];
   clean = λ h. first.clean (second.clean h);
   live = λ h. first.live (second.live h);
-  stays = λ e live clean. second.stays e (first.stays refl live (second.clean clean)) clean;
+  stays = second.stays;
   cause = subst (λ n. Counted n c.failures f) first.cause second.cause;
 }
 

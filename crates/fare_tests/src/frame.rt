@@ -2,7 +2,7 @@ ghost use Rattle.std.specs.Prelude.{◌<◌};
 
 use crate::samples::{FIRST, record, statement};
 use fare_frame::{Frame, ReadFault, Reader};
-use fare_record::{Ack, Day, DayAck, DeviceId, Hello, Item};
+use fare_record::{Ack, AckItem, Day, DayAck, DeviceId, Hello, Item};
 use std::alloc::Global;
 use std::process::Abort;
 
@@ -247,4 +247,16 @@ fn an_item_tells_what_it_holds(rt: HostRuntime) {
     let (tap, stated) = (Item::Tap(record), Item::Stated(statement));
     assert_eq!(rt; (tap.tap(), tap.stated()), (Some(record), None));
     assert_eq!(rt; (stated.tap(), stated.stated()), (None, Some(statement)));
+}
+
+#[test]
+fn an_acknowledgement_tells_what_it_holds(rt: HostRuntime) {
+    let (acked, day_acked) = (acked().expect(&rt, "ack"), day_acked().expect(&rt, "day"));
+    let ack = acked.acked().expect(&rt, "ack");
+    let day_ack = day_acked.day_acked().expect(&rt, "day");
+    let (upto, day) = (AckItem::Upto(ack), AckItem::Day(day_ack));
+    assert_eq!(rt; (upto.upto(), upto.day()), (Some(ack), None));
+    assert_eq!(rt; (day.upto(), day.day()), (None, Some(day_ack)));
+    assert_eq!(rt; Frame::acknowledging(&upto), acked);
+    assert_eq!(rt; Frame::acknowledging(&day), day_acked);
 }

@@ -5,10 +5,10 @@ ghost use Rattle.fare_inbox_queue.specs.LinePasses.{IsAckOf, IsHearOf};
 
 use crate::samples::{FIRST, Numbers, record};
 use fare_inbox_queue::{
-    AckItem, AckLine, AckPass, Arrived, Full, HearPass, Inbox, InboxEnded, QueueFault, StationPass,
+    AckLine, AckPass, Arrived, Full, HearPass, Inbox, InboxEnded, QueueFault, StationPass,
     WriterPass,
 };
-use fare_record::{Ack, DeviceId, Record, StationId};
+use fare_record::{Ack, AckItem, DeviceId, Record, StationId};
 use std::alloc::Global;
 use std::process::Abort;
 use std::sync::Wait;

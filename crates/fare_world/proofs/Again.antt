@@ -4,7 +4,7 @@ use Rattle.std.specs.Prelude.{if◌then◌else◌, Option, IfSome, is_some, map,
 use Rattle.std.proofs.lemmas.Option.{slice_get-map}
 use Rattle.circular_buffer.specs.Buffer.{Buffer}
 use Rattle.fare_record.specs.declared.item.Item.{Item}
-use Rattle.fare_world.specs.declared.acknowledgement.Acknowledgement.{Acknowledgement}
+use Rattle.fare_record.specs.declared.ack_item.AckItem.{AckItem}
 use Rattle.fare_scheme.specs.Values.{SchemeValue}
 use Rattle.fare_scheme.specs.Words.{station_of, lane_capacity_of, position_of_owner}
 use Rattle.fare_collector.specs.Collecting.{next_in, is_id}
@@ -109,7 +109,7 @@ none_next (Some q) station m n e = absurd (cc)
 pub station_again : (sc : SchemeValue) (h : Shape) (s : System) (uptos : List ℕ) (station : ℕ) (x y : Station) → Shows sc h s → AreUptos sc h.outbox.upto uptos → h.stations station ≡ Some (station_shape x) → IsStationAgain sc uptos x y → IsStationOf sc (hub_again sc s).devices station [] (station_shape y)
 station_again sc h s uptos station x y w told here again = record {
   nexts = λ d. next d (station_of sc d) refl;
-  waits = subst (Each2 IsAnswerOf []) (sym (ap (λ (b : Buffer Acknowledgement). b.items) again.line)) tt;
+  waits = subst (Each2 IsAnswerOf []) (sym (ap (λ (b : Buffer AckItem). b.items) again.line)) tt;
 }
   where
     shown : IsStationOf sc s.devices station (s.lines station) (station_shape x)

@@ -20,7 +20,7 @@ module _ {L : Type 0} (led : L → Standing LedgerValue) (sc : SchemeValue) wher
   asked faulted x y did c tells count queue hand forwarder = record {
     live = c.live;
     clean = c.clean;
-    stays = c.stays;
+    stays = λ e live. c.stays e;
     same = λ live lawful. let is = c.value live lawful in (is.0, is.1.0);
     counts = same_count (led x.ledger).failures (led y.ledger).failures faulted c.cause;
     told = λ none live lawful. tells none (c.value live lawful).1.1;

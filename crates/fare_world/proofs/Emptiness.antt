@@ -26,7 +26,7 @@ kept_asked {V} old new f P c = record {
   stop = λ clean lawful v leaves. left (c.stop clean lawful v leaves);
   live = c.live;
   clean = c.clean;
-  stays = c.stays;
+  stays = λ e live. c.stays e;
   counts = (called old new f ((new.value ≡ old.value) × P) (λ v. ⊥) c).counts;
 }
   where

@@ -1,6 +1,6 @@
 -- The hub's restart: its stores, its rooms, and what is seen of it.
 use Rattle.fare_record.specs.declared.item.Item.{Item}
-use Rattle.fare_world.specs.declared.acknowledgement.Acknowledgement.{Acknowledgement}
+use Rattle.fare_record.specs.declared.ack_item.AckItem.{AckItem}
 use Rattle.std.proofs.Common.{◌≡◌, ℕ, List, [], length, None, Some, refl, sym, ap, ◌∙◌, subst, inr}
 use Rattle.std.specs.Prelude.{Option, IfSome, map, option_map, slice_get, Vec}
 use Rattle.std.specs.Global.{Global}
@@ -51,7 +51,7 @@ restarted_rooms led sc k x z is h = again_rooms sc k is.mid z is.again (asked_ro
 
 -- lines of as much room
 pub lines_kept : (sc : SchemeValue) (uptos : List ℕ) (old new : List Station) → Paired (IsStationAgain sc uptos) old new → ((k : ℕ) (x : Station) → slice_get old k ≡ Some x → x.line.capacity ≡ sc.inbox_capacity) → (k : ℕ) (y : Station) → slice_get new k ≡ Some y → y.line.capacity ≡ sc.inbox_capacity
-lines_kept sc uptos old new both had k y e = let found = both.back k y e in ap (λ (b : Buffer Acknowledgement). b.capacity) found.2.line ∙ had k found.0 found.1
+lines_kept sc uptos old new both had k y e = let found = both.back k y e in ap (λ (b : Buffer AckItem). b.capacity) found.2.line ∙ had k found.0 found.1
 
 -- a list that was written as a slice
 pub written : {X : Type 0} (v : Vec X Global) (ws : List X) → length ws ≡ length v.items → (with_items v ws).items ≡ ws

@@ -1,6 +1,6 @@
 -- Reads of a store one after the other.
 use Rattle.std.proofs.Common.{◌≡◌, ◌≢◌, ℕ, ◌+◌, ◌<◌, ◌≤◌, List, length, set, arith, Some, None, refl, sym, ap, ◌∙◌, subst, inl, inr}
-use Rattle.std.specs.Prelude.{Option, Result, Ok, Err, IsErrAnd, slice_get}
+use Rattle.std.specs.Prelude.{◌⊎◌, Option, Result, Ok, Err, IsErrAnd, slice_get}
 use Rattle.std.proofs.lemmas.Bool.Decides.{nat_tests}
 use Rattle.std.proofs.lemmas.Option.{slice_get_within}
 use Rattle.fare_scheme.specs.Values.{SchemeValue}
@@ -25,13 +25,51 @@ reads_then a b c P Q f first second = record {
   ];
   clean = λ h. first.clean (second.clean h);
   live = λ h. first.live (second.live h);
-  stays = λ e live clean. second.stays e (first.stays refl live (second.clean clean)) clean;
+  stays = second.stays;
   cause = subst (λ n. Counted n c.failures f) first.cause second.cause;
 }
 
+-- LOOPS
+-- reads that answered, as many as there were; where there was one, a clean store is live
+pub record Since {V : Type 0} (old new : Standing V) (asked did : Type 0) : Type 0 where
+  pub value : new.live → old.lawful → new.lawful × ((new.value ≡ old.value) × did)
+  pub stop : new.clean → (old.live → old.lawful) → (v : V) → new.may_leave v → old.may_leave v
+  pub clean : new.clean → old.clean
+  pub live : new.live → old.live
+  pub up : asked → new.clean → new.live
+  pub cause : new.failures ≡ old.failures
+
 -- nothing was read, and nothing is said
-pub reads_none : {V : Type 0} (a : Standing V) (P : Type 0) → P → Calls a a None ((a.value ≡ a.value) × P) (λ v. ⊥)
-reads_none a P p = record { value = λ live lawful. (lawful, (refl, p)); stop = λ clean lawful v leaves. inl leaves; clean = λ h. h; live = λ h. h; stays = λ e live clean. live; cause = refl }
+pub reads_none : {V : Type 0} (a : Standing V) (asked P : Type 0) → (asked → ⊥) → P → Since a a asked P
+reads_none a asked P never p = record { value = λ live lawful. (lawful, (refl, p)); stop = λ clean lawful v leaves. leaves; clean = λ h. h; live = λ h. h; up = λ some. absurd (never some); cause = refl }
+
+-- what was read, and then a read that answered or failed
+pub reads_since : {V : Type 0} (a b c : Standing V) (asked P Q : Type 0) (f : Option Fault) → Since a b asked P → Calls b c f ((c.value ≡ b.value) × Q) (λ v. ⊥) → Calls a c f ((c.value ≡ a.value) × ((b.value ≡ a.value) × P × Q)) (λ v. ⊥)
+reads_since {V} a b c asked P Q f first second = record {
+  value = λ live lawful.
+      let one = first.value (second.live live) lawful in
+      let two = second.value live one.0 in
+      (two.0, (two.1.0 ∙ one.1.0, (one.1.0, one.1.1, two.1.1)));
+  stop = λ clean lawful v leaves. elim (second.stop clean (λ live. (first.value live (lawful (first.live live))).0) v leaves) [
+    | inl before ↦ inl (first.stop (second.clean clean) lawful v before)
+    | inr none ↦ inr (first.live none.0, none.1)
+  ];
+  clean = λ h. first.clean (second.clean h);
+  live = λ h. first.live (second.live h);
+  stays = second.stays;
+  cause = subst (λ n. Counted n c.failures f) first.cause second.cause;
+}
+
+-- one read or several are reads
+pub since_calls : {V : Type 0} (a b : Standing V) (asked P : Type 0) → Calls a b None ((b.value ≡ a.value) × P) (λ v. ⊥) → Since a b asked P
+since_calls {V} a b asked P c = record { value = c.value; stop = λ clean lawful v leaves. left (c.stop clean lawful v leaves); clean = c.clean; live = c.live; up = λ some. c.stays refl; cause = c.cause }
+  where
+    left : {v : V} → a.may_leave v ⊎ (a.live × ⊥) → a.may_leave v
+    left (inl h) = h
+    left (inr h) = absurd h.1
+
+pub calls_since : {V : Type 0} (a b : Standing V) (asked P : Type 0) → asked → Since a b asked P → Calls a b None ((b.value ≡ a.value) × P) (λ v. ⊥)
+calls_since a b asked P some s = record { value = s.value; stop = λ clean lawful v leaves. inl (s.stop clean lawful v leaves); clean = s.clean; live = s.live; stays = λ e. s.up some; cause = s.cause }
 
 -- the same reads, of which something else is said
 pub reads_say : {V : Type 0} (a b : Standing V) (P Q : Type 0) (f : Option Fault) → ((b.value ≡ a.value) × P → (b.value ≡ a.value) × Q) → Calls a b f ((b.value ≡ a.value) × P) (λ v. ⊥) → Calls a b f ((b.value ≡ a.value) × Q) (λ v. ⊥)

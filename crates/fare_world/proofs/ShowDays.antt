@@ -25,7 +25,7 @@ use Rattle.fare_world.specs.declared.event.Event.TheVariants as event
 use Rattle.fare_world.specs.declared.reply.Refusal.TheVariants.{UnknownDevice, UnknownOwner, LastDay, StatementsFull, NotWaiting, Stranger, Misrouted, Busy, Unstated}
 use Rattle.fare_world.specs.declared.reply.Reply.{Reply}
 use Rattle.fare_world.specs.declared.reply.Reply.TheVariants.{Idle, Refused, Opened, SentDay, Accepted, DroppedDay, AcknowledgedDay}
-use Rattle.fare_world.specs.declared.acknowledgement.Acknowledgement.TheVariants as acknowledgement
+use Rattle.fare_record.specs.declared.ack_item.AckItem.TheVariants as ack_item
 use Rattle.fare_world.specs.System.{put, Stated, DayAcked, Statement_of, DayAck_of, DeviceState, System}
 use Rattle.fare_world.specs.Knowing.{knows_owner}
 use Rattle.fare_world.specs.Tapping.{is_waiting, turned, turn_on, turn, state_on, state}
@@ -376,12 +376,12 @@ shown_day_ack_busy sc h s d day station x w of is here full =
     answers_by sc h (Refused Busy) (day_ack sc s d day) (s, Refused Busy)
     (day_ack_goes sc h s d day station true w of is ∙ ap (λ b. if b then (s, Refused Busy) else (gains_answer s station (DayAck_of d day), AcknowledgedDay day)) (has_no_room sc.inbox_capacity (s.lines station) (omega (arith, full, line_length sc h s station x w here)))) refl w
 
-pub shown_day_ack : (sc : SchemeValue) (h : Shape) (s : System) (d day station : ℕ) (x new : StationShape) → Shows sc h s → station_of sc d ≡ Some station → are_all_stated sc h.outbox d day ≡ true → h.stations station ≡ Some x → ((j : ℕ) → new.nexts j ≡ x.nexts j) → new.line ≡ x.line ++ acknowledgement.Day (record { device = d; day = day }) ∷ [] → length x.line < sc.inbox_capacity
+pub shown_day_ack : (sc : SchemeValue) (h : Shape) (s : System) (d day station : ℕ) (x new : StationShape) → Shows sc h s → station_of sc d ≡ Some station → are_all_stated sc h.outbox d day ≡ true → h.stations station ≡ Some x → ((j : ℕ) → new.nexts j ≡ x.nexts j) → new.line ≡ x.line ++ ack_item.Day (record { device = d; day = day }) ∷ [] → length x.line < sc.inbox_capacity
     → Answers sc (record h { stations = put h.stations station (Some new) }) (day_ack sc s d day) (AcknowledgedDay day)
 unfolding stated_or_not
 shown_day_ack sc h s d day station x new w of is here same gained room =
     answers_by sc (record h { stations = put h.stations station (Some new) }) (AcknowledgedDay day) (day_ack sc s d day) (gains_answer s station (DayAck_of d day), AcknowledgedDay day) goes refl
-    (shown_gains sc h s station (DayAck_of d day) (acknowledgement.Day (record { device = d; day = day })) x new w here same gained refl
+    (shown_gains sc h s station (DayAck_of d day) (ack_item.Day (record { device = d; day = day })) x new w here same gained refl
     (subst (λ (y : System × Reply). IsSystem sc y.0) goes (moves_step sc s (event.DayAck d day) w.system).system))
   where
     goes : day_ack sc s d day ≡ (gains_answer s station (DayAck_of d day), AcknowledgedDay day)

@@ -19,10 +19,11 @@ use Rattle.fare_world.specs.declared.reply.Refusal.TheVariants.{NoPacket, Strang
 use Rattle.fare_world.specs.declared.reply.Reply.{Reply}
 use Rattle.fare_world.specs.declared.reply.Reply.TheVariants.{Empty, Refused, Rewound, Accepted, Dropped, Acknowledged, Answered, AnsweredDay, Resumed, Restarted}
 use Rattle.fare_world.specs.System.{put, Packet, Tapped, Stated, Acked, DayAcked, Tap_of, Answer, Ack_of, DayAck_of, DeviceState, System}
-use Rattle.fare_world.specs.Packets.{frame_of, bytes_at, IsPacketRead}
+use Rattle.fare_frame.specs.Grammar.{frame_of}
+use Rattle.fare_world.specs.Packets.{bytes_at, IsPacketRead}
 use Rattle.fare_world.specs.Acknowledging.{answered_by}
-use Rattle.fare_world.specs.declared.acknowledgement.Acknowledgement.{Acknowledgement}
-use Rattle.fare_world.specs.declared.acknowledgement.Acknowledgement.TheVariants as acknowledgement
+use Rattle.fare_record.specs.declared.ack_item.AckItem.{AckItem}
+use Rattle.fare_record.specs.declared.ack_item.AckItem.TheVariants as ack_item
 use Rattle.fare_world.specs.Steps.{has_line_room}
 use Rattle.fare_world.specs.Arriving.{is_owned_tap, next_at, refusal_of, accepted, judged, tap_comes, heard, ack_comes, comes, packet_at, arrive}
 use Rattle.fare_world.specs.Restarting.{resumed_device, resume, restart_device}
@@ -339,7 +340,7 @@ pub ack_may_fail : (sc : SchemeValue) (h : Shape) (s : System) (d station : ℕ)
 ack_may_fail sc h s d station x w of here room = ap (has_line_room sc s) of ∙ ap not (has_room sc.inbox_capacity (s.lines station) (omega (arith, room, line_length sc h s station x w here)))
 
 -- a line that gained an answer
-pub shown_gains : (sc : SchemeValue) (h : Shape) (s : System) (station : ℕ) (y : Answer) (a : Acknowledgement) (x new : StationShape) → Shows sc h s → h.stations station ≡ Some x → ((j : ℕ) → new.nexts j ≡ x.nexts j) → new.line ≡ x.line ++ a ∷ [] → IsAnswerOf y a → IsSystem sc (gains_answer s station y) → Shows sc (record h { stations = put h.stations station (Some new) }) (gains_answer s station y)
+pub shown_gains : (sc : SchemeValue) (h : Shape) (s : System) (station : ℕ) (y : Answer) (a : AckItem) (x new : StationShape) → Shows sc h s → h.stations station ≡ Some x → ((j : ℕ) → new.nexts j ≡ x.nexts j) → new.line ≡ x.line ++ a ∷ [] → IsAnswerOf y a → IsSystem sc (gains_answer s station y) → Shows sc (record h { stations = put h.stations station (Some new) }) (gains_answer s station y)
 shown_gains sc h s station y a x new w here same gained of is =
     shows_line sc h s station (s.lines station ++ y ∷ []) new w is
     (record {
@@ -350,11 +351,11 @@ shown_gains sc h s station y a x new w here same gained of is =
     shown : IsStationOf sc s.devices station (s.lines station) x
     shown = station_shown sc h s station x w here
 
-pub shown_ack : (sc : SchemeValue) (h : Shape) (s : System) (d station u : ℕ) (x new : StationShape) → Shows sc h s → station_of sc d ≡ Some station → h.stations station ≡ Some x → u ≡ h.outbox.upto d → ((j : ℕ) → new.nexts j ≡ x.nexts j) → new.line ≡ x.line ++ acknowledgement.Taps (record { device = d; upto = u }) ∷ [] → length x.line < sc.inbox_capacity
+pub shown_ack : (sc : SchemeValue) (h : Shape) (s : System) (d station u : ℕ) (x new : StationShape) → Shows sc h s → station_of sc d ≡ Some station → h.stations station ≡ Some x → u ≡ h.outbox.upto d → ((j : ℕ) → new.nexts j ≡ x.nexts j) → new.line ≡ x.line ++ ack_item.Upto (record { device = d; upto = u }) ∷ [] → length x.line < sc.inbox_capacity
     → Answers sc (record h { stations = put h.stations station (Some new) }) (storing.ack sc s d) (Acknowledged u)
 shown_ack sc h s d station u x new w of here is same gained room =
     answers_by sc (record h { stations = put h.stations station (Some new) }) (Acknowledged u) (storing.ack sc s d) (gains_answer s station (Ack_of d (s.devices d).upto), Acknowledged (s.devices d).upto) goes (ap Acknowledged stored)
-    (shown_gains sc h s station (Ack_of d (s.devices d).upto) (acknowledgement.Taps (record { device = d; upto = u })) x new w here same gained (λ i. record { device = d; upto = stored i })
+    (shown_gains sc h s station (Ack_of d (s.devices d).upto) (ack_item.Upto (record { device = d; upto = u })) x new w here same gained (λ i. record { device = d; upto = stored i })
     (subst (λ (y : System × Reply). IsSystem sc y.0) goes (moves_step sc s (event.Ack d) w.system).system))
   where
     stored : u ≡ (s.devices d).upto
@@ -376,20 +377,20 @@ shown_no_answer sc h s station k x w at here none =
     answers_by sc h Empty (storing.answer sc s station) (s, Empty) (answer_known sc s station k at ∙ ap (answer_from s station) line) refl w
 
 -- the packet of an answer
-answer_packet : (f : ℕ → DeviceState) (y : Answer) (a : Acknowledgement) → IsAnswerOf y a → IsFrame (frame_of a) → IsPacketOf f (packet_of y) (frame_bytes (frame_of a))
-answer_packet f (Ack_of d u) (acknowledgement.Taps b) is lawful = record { lawful = subst (λ b. IsFrame (frame.Acked b)) is lawful; spelled = ap (λ b. frame_bytes (frame.Acked b)) is }
-answer_packet f (Ack_of d u) (acknowledgement.Day b) is lawful = absurd is
-answer_packet f (DayAck_of d day) (acknowledgement.Taps b) is lawful = absurd is
-answer_packet f (DayAck_of d day) (acknowledgement.Day b) is lawful = record { lawful = subst (λ b. IsFrame (frame.DayAcked b)) is lawful; spelled = ap (λ b. frame_bytes (frame.DayAcked b)) is }
+answer_packet : (f : ℕ → DeviceState) (y : Answer) (a : AckItem) → IsAnswerOf y a → IsFrame (frame_of a) → IsPacketOf f (packet_of y) (frame_bytes (frame_of a))
+answer_packet f (Ack_of d u) (ack_item.Upto b) is lawful = record { lawful = subst (λ b. IsFrame (frame.Acked b)) is lawful; spelled = ap (λ b. frame_bytes (frame.Acked b)) is }
+answer_packet f (Ack_of d u) (ack_item.Day b) is lawful = absurd is
+answer_packet f (DayAck_of d day) (ack_item.Upto b) is lawful = absurd is
+answer_packet f (DayAck_of d day) (ack_item.Day b) is lawful = record { lawful = subst (λ b. IsFrame (frame.DayAcked b)) is lawful; spelled = ap (λ b. frame_bytes (frame.DayAcked b)) is }
 
 -- and what is replied of it
-answer_reply : (n m : ℕ) (y : Answer) (a : Acknowledgement) → n ≡ m → IsAnswerOf y a → answered_by n a ≡ answered_reply m y
-answer_reply n m (Ack_of d u) (acknowledgement.Taps b) same is = λ i. Answered (same i) (is i).device (is i).upto
-answer_reply n m (Ack_of d u) (acknowledgement.Day b) same is = absurd is
-answer_reply n m (DayAck_of d day) (acknowledgement.Taps b) same is = absurd is
-answer_reply n m (DayAck_of d day) (acknowledgement.Day b) same is = λ i. AnsweredDay (same i) (is i).device (is i).day
+answer_reply : (n m : ℕ) (y : Answer) (a : AckItem) → n ≡ m → IsAnswerOf y a → answered_by n a ≡ answered_reply m y
+answer_reply n m (Ack_of d u) (ack_item.Upto b) same is = λ i. Answered (same i) (is i).device (is i).upto
+answer_reply n m (Ack_of d u) (ack_item.Day b) same is = absurd is
+answer_reply n m (DayAck_of d day) (ack_item.Upto b) same is = absurd is
+answer_reply n m (DayAck_of d day) (ack_item.Day b) same is = λ i. AnsweredDay (same i) (is i).device (is i).day
 
-pub shown_answer : (sc : SchemeValue) (h : Shape) (s : System) (station k n : ℕ) (x new : StationShape) (a : Acknowledgement) → Shows sc h s → position_of_station sc station ≡ Some k → h.stations station ≡ Some x → x.line ≡ a ∷ new.line → ((j : ℕ) → new.nexts j ≡ x.nexts j) → IsFrame (frame_of a) → n ≡ length h.air + 1
+pub shown_answer : (sc : SchemeValue) (h : Shape) (s : System) (station k n : ℕ) (x new : StationShape) (a : AckItem) → Shows sc h s → position_of_station sc station ≡ Some k → h.stations station ≡ Some x → x.line ≡ a ∷ new.line → ((j : ℕ) → new.nexts j ≡ x.nexts j) → IsFrame (frame_of a) → n ≡ length h.air + 1
     → Answers sc (record h { stations = put h.stations station (Some new); air = h.air ++ frame_bytes (frame_of a) ∷ [] }) (storing.answer sc s station) (answered_by n a)
 shown_answer sc h s station k n x new a w at here front same lawful count =
     answers_by sc (record h { stations = put h.stations station (Some new); air = h.air ++ frame_bytes (frame_of a) ∷ [] }) (answered_by n a) (storing.answer sc s station)

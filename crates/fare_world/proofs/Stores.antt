@@ -38,7 +38,7 @@ pub rests : {V : Type 0} (s : Standing V) (faulted : Option Fault) → Goes s s 
 rests s faulted = record { live = λ h. h; clean = λ h. h; stays = λ e h c. h; counts = λ not. refl }
 
 pub called : {V : Type 0} (old new : Standing V) (faulted : Option Fault) (did : Type 0) (commits : V → Type 0) → Calls old new faulted did commits → Goes old new faulted
-called old new faulted did commits c = record { live = c.live; clean = c.clean; stays = c.stays; counts = same_count old.failures new.failures faulted c.cause }
+called old new faulted did commits c = record { live = c.live; clean = c.clean; stays = λ e live. c.stays e; counts = same_count old.failures new.failures faulted c.cause }
 
 pub rose : {V : Type 0} (old new : Standing V) (faulted : Option Fault) (did : Type 0) (commits : V → Type 0) → Calls old new faulted did commits → faulted ≡ Some fault.Store → Rose old.failures new.failures
 rose old new faulted did commits c is = subst (Counted old.failures new.failures) is c.cause
@@ -299,7 +299,7 @@ module _ {O L : Type 0} (out : O → Standing OutboxValue) (led : L → Standing
   both_follows old new a x y {faulted} read reads did commits at owners first c =
       follows old new faulted (called (out old.outbox) (out new.outbox) faulted did commits c)
       (subst (Beside (λ p q. Goes (led p) (led q) faulted) old.owners.items) (sym owners) (beside_one (λ p q. Goes (led p) (led q) faulted) old.owners.items a x y (λ p. rests (led p) faulted) at
-      (record { live = first.live; clean = first.clean; stays = λ e h clean. first.stays refl h clean; counts = λ not. first.cause })))
+      (record { live = first.live; clean = first.clean; stays = λ e h clean. first.stays refl clean; counts = λ not. first.cause })))
       (λ is. inl (rose (out old.outbox) (out new.outbox) faulted did commits c is))
 
   pub both_lawful : (old new : World O L) (a : ℕ) (x y : Owner L) {faulted : Option Fault} (read : Type 0) (reads : LedgerValue → Type 0) (did : Type 0) (commits : OutboxValue → Type 0) → slice_get old.owners.items a ≡ Some x → new.owners.items ≡ set old.owners.items a y

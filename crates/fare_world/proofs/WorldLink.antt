@@ -10,11 +10,11 @@ use Rattle.fare_collector.specs.Collecting.{next_in, is_owned, collect_judged, c
 use Rattle.fare_collector.specs.declared.collector.Collector.{Collector}
 use Rattle.fare_collector.specs.declared.fault.CollectRefusal.{CollectRefusal}
 use Rattle.fare_frame.specs.Grammar.{frame_bytes, IsFrame}
-use Rattle.fare_world.specs.declared.acknowledgement.Acknowledgement.{Acknowledgement}
-use Rattle.fare_world.specs.declared.acknowledgement.Acknowledgement.TheVariants as acknowledgement
+use Rattle.fare_record.specs.declared.ack_item.AckItem.{AckItem}
+use Rattle.fare_record.specs.declared.ack_item.AckItem.TheVariants as ack_item
 use Rattle.fare_world.specs.declared.reply.Reply.{Reply}
 use Rattle.fare_world.specs.Acknowledging.{are_all_stated, answered_by}
-use Rattle.fare_world.specs.Packets.{frame_of}
+use Rattle.fare_frame.specs.Grammar.{frame_of}
 use Rattle.fare_world.specs.declared.reply.Refusal.{Refusal}
 use Rattle.fare_world.specs.declared.reply.Refusal.TheVariants.{Busy}
 use Rattle.fare_world.specs.declared.reply.Reply.TheVariants.{Refused, Accepted, Acknowledged, AcknowledgedDay, Resumed}
@@ -60,7 +60,7 @@ world_accepted w s k x collector inbox r sh at has within read judged due does p
     (λ i. (sym (station_write w has.station k (record x { collector = collector }) has.at within) i, sym pushed i))
     (shown_accepted w.scheme (shape w) s has.station (station_shape x) (station_shape (record x { collector = collector })) r sh at has.of (station_read w has.station k x has.at within read) judged due does refl room)
 
-pub world_acked : (w : Seen) (s : System) (d k u : ℕ) (x new : Station) → Shows w.scheme (shape w) s → HasStation w.scheme d k → k < length w.stations → x ≡ get_or w.stations k x → u ≡ w.outbox.upto d → new.collector ≡ x.collector → new.line.items ≡ x.line.items ++ acknowledgement.Taps (record { device = d; upto = u }) ∷ [] → length x.line.items < w.scheme.inbox_capacity
+pub world_acked : (w : Seen) (s : System) (d k u : ℕ) (x new : Station) → Shows w.scheme (shape w) s → HasStation w.scheme d k → k < length w.stations → x ≡ get_or w.stations k x → u ≡ w.outbox.upto d → new.collector ≡ x.collector → new.line.items ≡ x.line.items ++ ack_item.Upto (record { device = d; upto = u }) ∷ [] → length x.line.items < w.scheme.inbox_capacity
     → Answers w.scheme (record (shape w) { stations = with_station w k new }) (storing.ack w.scheme s d) (Acknowledged u)
 world_acked w s d k u x new sh has within read is same gained room =
     subst (λ (q : ℕ → Option StationShape). Answers w.scheme (record (shape w) { stations = q }) (storing.ack w.scheme s d) (Acknowledged u)) (sym (station_write w has.station k new has.at within))
@@ -74,13 +74,13 @@ world_day_busy w s d day k x new sh has within read is same kept full =
     (sym (station_same w has.station k x new has.at within read (λ i. record { nexts = λ e. next_in (same i) e; line = kept i })))
     (shown_day_ack_busy w.scheme (shape w) s d day has.station (station_shape x) sh has.of is (station_read w has.station k x has.at within read) full)
 
-pub world_day_acked : (w : Seen) (s : System) (d day k : ℕ) (x new : Station) → Shows w.scheme (shape w) s → HasStation w.scheme d k → k < length w.stations → x ≡ get_or w.stations k x → are_all_stated w.scheme w.outbox d day ≡ true → new.collector ≡ x.collector → new.line.items ≡ x.line.items ++ acknowledgement.Day (record { device = d; day = day }) ∷ [] → length x.line.items < w.scheme.inbox_capacity
+pub world_day_acked : (w : Seen) (s : System) (d day k : ℕ) (x new : Station) → Shows w.scheme (shape w) s → HasStation w.scheme d k → k < length w.stations → x ≡ get_or w.stations k x → are_all_stated w.scheme w.outbox d day ≡ true → new.collector ≡ x.collector → new.line.items ≡ x.line.items ++ ack_item.Day (record { device = d; day = day }) ∷ [] → length x.line.items < w.scheme.inbox_capacity
     → Answers w.scheme (record (shape w) { stations = with_station w k new }) (storing.day_ack w.scheme s d day) (AcknowledgedDay day)
 world_day_acked w s d day k x new sh has within read is same gained room =
     subst (λ (q : ℕ → Option StationShape). Answers w.scheme (record (shape w) { stations = q }) (storing.day_ack w.scheme s d day) (AcknowledgedDay day)) (sym (station_write w has.station k new has.at within))
     (shown_day_ack w.scheme (shape w) s d day has.station (station_shape x) (station_shape new) sh has.of is (station_read w has.station k x has.at within read) (λ j. ap (λ (c : Collector). next_in c j) same) gained room)
 
-pub world_answered : (w : Seen) (s : System) (station k n : ℕ) (x new : Station) (a : Acknowledgement) (air : List (List ℕ)) (r : Reply) → Shows w.scheme (shape w) s → position_of_station w.scheme station ≡ Some k → k < length w.stations → x ≡ get_or w.stations k x → x.line.items ≡ a ∷ new.line.items → new.collector ≡ x.collector → IsFrame (frame_of a) → air ≡ w.air ++ frame_bytes (frame_of a) ∷ [] → n ≡ length air → r ≡ answered_by n a
+pub world_answered : (w : Seen) (s : System) (station k n : ℕ) (x new : Station) (a : AckItem) (air : List (List ℕ)) (r : Reply) → Shows w.scheme (shape w) s → position_of_station w.scheme station ≡ Some k → k < length w.stations → x ≡ get_or w.stations k x → x.line.items ≡ a ∷ new.line.items → new.collector ≡ x.collector → IsFrame (frame_of a) → air ≡ w.air ++ frame_bytes (frame_of a) ∷ [] → n ≡ length air → r ≡ answered_by n a
     → Answers w.scheme (record (shape w) { stations = with_station w k new; air = air }) (storing.answer w.scheme s station) r
 world_answered w s station k n x new a air r sh at within read front same lawful pushed count is =
     subst (λ (q : (ℕ → Option StationShape) × List (List ℕ) × Reply). Answers w.scheme (record (shape w) { stations = q.0; air = q.1 }) (storing.answer w.scheme s station) q.2)

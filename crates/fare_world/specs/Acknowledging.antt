@@ -3,8 +3,8 @@ use Rattle.std.specs.Prelude.{ℕ, Bool, is_some}
 use Rattle.std.specs.List.{list_all}
 use Rattle.fare_scheme.specs.Values.{SchemeValue}
 use Rattle.fare_store.specs.OutboxWords.{OutboxValue}
-use Rattle.fare_world.specs.declared.acknowledgement.Acknowledgement.{Acknowledgement}
-use Rattle.fare_world.specs.declared.acknowledgement.Acknowledgement.TheVariants.{Taps, Day}
+use Rattle.fare_record.specs.declared.ack_item.AckItem.{AckItem}
+use Rattle.fare_record.specs.declared.ack_item.AckItem.TheVariants.{Upto, Day}
 use Rattle.fare_world.specs.declared.reply.Reply.{Reply}
 use Rattle.fare_world.specs.declared.reply.Reply.TheVariants.{Answered, AnsweredDay}
 
@@ -12,6 +12,6 @@ use Rattle.fare_world.specs.declared.reply.Reply.TheVariants.{Answered, Answered
 abbrev pub are_all_stated : SchemeValue → OutboxValue → ℕ → ℕ → Bool
 are_all_stated sc v device day = list_all (λ o. is_some (v.stated o.0 device day)) sc.owners
 
-abbrev pub answered_by : ℕ → Acknowledgement → Reply
-answered_by packet (Taps a) = Answered packet a.device a.upto
+abbrev pub answered_by : ℕ → AckItem → Reply
+answered_by packet (Upto a) = Answered packet a.device a.upto
 answered_by packet (Day a) = AnsweredDay packet a.device a.day

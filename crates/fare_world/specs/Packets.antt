@@ -2,14 +2,6 @@
 use Rattle.std.specs.Prelude.{◌≡◌, ◌-◌, ◌==◌, ℕ, List, Option, Some, None, if◌then◌else◌, slice_get}
 use Rattle.fare_frame.specs.Grammar.{frame_bytes, IsFrame}
 use Rattle.fare_frame.specs.declared.frame.Frame.{Frame}
-use Rattle.fare_frame.specs.declared.frame.Frame.TheVariants.{Acked, DayAcked}
-use Rattle.fare_world.specs.declared.acknowledgement.Acknowledgement.{Acknowledgement}
-use Rattle.fare_world.specs.declared.acknowledgement.Acknowledgement.TheVariants.{Taps, Day}
-
--- the frame of an acknowledgement
-abbrev pub frame_of : Acknowledgement → Frame
-frame_of (Taps a) = Acked a
-frame_of (Day a) = DayAcked a
 
 -- where the bytes are a frame's, that frame was read
 abbrev pub IsRead : List ℕ → Option Frame → Type 0

@@ -13,8 +13,8 @@ use Rattle.fare_frame.specs.Grammar.{frame_bytes, IsFrame}
 use Rattle.fare_frame.specs.declared.frame.Frame.TheVariants as frame
 use Rattle.fare_store.specs.OutboxWords.{OutboxValue}
 use Rattle.fare_store.specs.LedgerWords.{LedgerValue, IsOfScheme}
-use Rattle.fare_world.specs.declared.acknowledgement.Acknowledgement.{Acknowledgement}
-use Rattle.fare_world.specs.declared.acknowledgement.Acknowledgement.TheVariants as acknowledgement
+use Rattle.fare_record.specs.declared.ack_item.AckItem.{AckItem}
+use Rattle.fare_record.specs.declared.ack_item.AckItem.TheVariants as ack_item
 use Rattle.fare_world.specs.System.{Packet, Tapped, Stated, Acked, DayAcked, Arrived, Tap_of, Statement_of, Answer, Ack_of, DayAck_of, Routed, Lane_of, Day_of, DeviceState, OwnerState, LaneState, System, arrived_of}
 use Rattle.fare_world.specs.Arriving.{next_at}
 use Rattle.fare_world.specs.Kept.{IsSystem}
@@ -31,7 +31,7 @@ entry position xs = option_and_then (slice_get xs) position
 -- a station's side of a world: the link that it accepts next from each device, and its acknowledgement line
 pub record StationShape : Type 0 where
   pub nexts : ℕ → Option ℕ
-  pub line : List Acknowledgement
+  pub line : List AckItem
 
 -- an owner's side of a world, with what its ledger holds, and how far its forwarder has come with each device: the lane number of the last tap, and the first day whose statement was not handed on
 pub record OwnerShape : Type 0 where
@@ -114,9 +114,9 @@ IsPacketOf devices (Acked device upto) bytes = IsAckFrame device upto bytes
 IsPacketOf devices (DayAcked device day) bytes = IsDayAckFrame device day bytes
 
 -- ITEMS AND ANSWERS
-abbrev pub IsAnswerOf : Answer → Acknowledgement → Type 0
-IsAnswerOf (Ack_of device upto) (acknowledgement.Taps a) = a ≡ record { device = device; upto = upto }
-IsAnswerOf (DayAck_of device day) (acknowledgement.Day a) = a ≡ record { device = device; day = day }
+abbrev pub IsAnswerOf : Answer → AckItem → Type 0
+IsAnswerOf (Ack_of device upto) (ack_item.Upto a) = a ≡ record { device = device; upto = upto }
+IsAnswerOf (DayAck_of device day) (ack_item.Day a) = a ≡ record { device = device; day = day }
 IsAnswerOf x y = ⊥
 
 abbrev pub IsArrivedOf : (ℕ → DeviceState) → Arrived → Item → Type 0

@@ -5,16 +5,16 @@ ghost use Rattle.fare_scheme.specs.Words.{position_of_device};
 ghost use Rattle.fare_collector.specs.Collecting.{next_in};
 ghost use Rattle.fare_world.specs.Rooms.{upto_at};
 
-use crate::acknowledgement::Acknowledgement;
 use circular_buffer::HeapCircularBuffer;
 use fare_collector::Collector;
+use fare_record::AckItem;
 use fare_scheme::Scheme;
 
 /// A station's side of the hub: its collector, and the acknowledgements that wait to be sent to its devices.
 #[derive(Debug, Drop)]
 pub struct Station {
     pub collector: Collector,
-    pub line: HeapCircularBuffer<Acknowledgement>,
+    pub line: HeapCircularBuffer<AckItem>,
 }
 
 impl Station {

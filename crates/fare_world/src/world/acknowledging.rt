@@ -7,11 +7,11 @@ ghost use Rattle.fare_world.specs.Acknowledging.{are_all_stated, answered_by};
 ghost use Rattle.fare_world.specs.Whole.{Applied, Does};
 ghost use Rattle.fare_world.specs.declared.event.Event.TheVariants as event;
 
-use crate::acknowledgement::Acknowledgement;
 use crate::packet::Packet;
 use crate::world::World;
 use crate::{Refusal, Reply};
-use fare_record::{Ack, Day, DayAck, DeviceId, StationId};
+use fare_frame::Frame;
+use fare_record::{Ack, AckItem, Day, DayAck, DeviceId, StationId};
 use fare_scheme::Scheme;
 use fare_store::{Fault, Ledger, Outbox};
 
@@ -57,7 +57,7 @@ impl<O: Outbox + Drop, L: Ledger + Drop> World<O, L> {
         let upto = self.outbox.upto(device)?;
         let pushed = self.stations[place]
             .line
-            .try_push_back(Acknowledgement::Taps(Ack::new(device, upto)));
+            .try_push_back(AckItem::Upto(Ack::new(device, upto)));
         if pushed.is_err() {
             unreachable!()
         }
@@ -76,7 +76,7 @@ impl<O: Outbox + Drop, L: Ledger + Drop> World<O, L> {
         }
         let pushed = self.stations[place]
             .line
-            .try_push_back(Acknowledgement::Day(DayAck::new(device, day)));
+            .try_push_back(AckItem::Day(DayAck::new(device, day)));
         if pushed.is_err() {
             return Ok(Reply::Refused(Refusal::Busy));
         }
@@ -94,7 +94,7 @@ impl<O: Outbox + Drop, L: Ledger + Drop> World<O, L> {
             return Ok(Reply::Empty);
         };
         let mut packet = Packet::new(self.alloc)?;
-        packet.write(&answer.frame());
+        packet.write(&Frame::acknowledging(&answer));
         self.air.push(packet)?;
         self.stations[place].line.pop_front();
         Ok(answered(self.air.len() as u64, &answer))
@@ -102,16 +102,16 @@ impl<O: Outbox + Drop, L: Ledger + Drop> World<O, L> {
 }
 
 // The reply where the air gained this packet with an acknowledgement.
-fn answered(packet: u64, answer: &Acknowledgement) -> Reply
+fn answered(packet: u64, answer: &AckItem) -> Reply
     ensures { result ≡ answered_by packet answer.now }
 {
     match answer {
-        Acknowledgement::Taps(ack) => Reply::Answered {
+        AckItem::Upto(ack) => Reply::Answered {
             packet,
             device: ack.device(),
             upto: ack.upto(),
         },
-        Acknowledgement::Day(ack) => Reply::AnsweredDay {
+        AckItem::Day(ack) => Reply::AnsweredDay {
             packet,
             device: ack.device(),
             day: ack.day(),

@@ -2,7 +2,7 @@ use Rattle.std.proofs.Common.{◌≡◌, Some, None, Ok, sym, ap, subst, ◌∙�
 use Rattle.fare_store.specs.Standing.{Calls}
 use Rattle.fare_tables.specs.Tabled.{given}
 use Rattle.fare_tables.proofs.Steps.{says, given_more, write_then}
-use Rattle.fare_store.specs.LedgerWords.{LedgerValue, with_close}
+use Rattle.fare_store.specs.LedgerWords.{LedgerValue, close_of, with_close}
 use Rattle.fare_ledger.specs.Words.{stands, JudgesDay, MayClose}
 use Rattle.fare_ledger.proofs.Judged.{may_close}
 use Rattle.fare_ledger.proofs.calls.SqlLedgerLedger.close.Goals as goal
@@ -18,9 +18,9 @@ returns-in-Ok g c =
     let P : Type 0 = JudgesDay a.value c.args.device c.args.day (Ok c.in-Ok-Ok.lane) in
     let first : Calls a b None ((b.value ≡ a.value) × P) (λ v. ⊥) = rw c.in-Ok-Ok.field-0-is at c.in-Ok-Ok.ensures.does in
     let second : Calls (given (MayClose b.value c.args.device c.in-Ok-Ok.lane) b) d None (d.value ≡ with_close c.args.device b.value) (λ v. v ≡ with_close c.args.device b.value) = c.in-Ok.ensures in
-    says a d None _ _ (λ v. v ≡ with_close c.args.device a.value) _ (λ lawful p. (p.1.0, p.2 ∙ ap (with_close c.args.device) p.0)) (λ v is. is)
-    (write_then a b d P (d.value ≡ with_close c.args.device b.value) None (λ v. v ≡ with_close c.args.device b.value) (λ v. v ≡ with_close c.args.device a.value)
-    (λ p v is. is ∙ ap (with_close c.args.device) p.0) first
+    says a d None _ _ (λ v. (close_of a.value c.args.device c.args.day ≡ Ok tt) × (v ≡ with_close c.args.device a.value)) _ (λ lawful p. (p.1.0, p.2 ∙ ap (with_close c.args.device) p.0)) (λ v is. is)
+    (write_then a b d P (d.value ≡ with_close c.args.device b.value) None (λ v. v ≡ with_close c.args.device b.value) (λ v. (close_of a.value c.args.device c.args.day ≡ Ok tt) × (v ≡ with_close c.args.device a.value))
+    (λ p v is. (p.1.0, is ∙ ap (with_close c.args.device) p.0)) first
     (given_more b d _ _ _ None _ (λ p. subst (λ (v : LedgerValue). MayClose v c.args.device c.in-Ok-Ok.lane) (sym p.0) (may_close a.value c.args.device c.args.day c.in-Ok-Ok.lane p.1)) second))
 
 pub returns-in-Err-put_close : goal.returns-in-Err-put_close
@@ -31,7 +31,7 @@ returns-in-Err-put_close g c =
     let P : Type 0 = JudgesDay a.value c.args.device c.args.day (Ok c.in-Ok-Ok.lane) in
     let first : Calls a b None ((b.value ≡ a.value) × P) (λ v. ⊥) = rw c.in-Ok-Ok.field-0-is at c.in-Ok-Ok.ensures.does in
     let second : Calls (given (MayClose b.value c.args.device c.in-Ok-Ok.lane) b) d (Some c.in-Err-put_close.fault) (d.value ≡ b.value) (λ v. v ≡ with_close c.args.device b.value) = c.in-Err-put_close.ensures in
-    says a d (Some c.in-Err-put_close.fault) _ _ (λ v. v ≡ with_close c.args.device a.value) _ (λ lawful p. p.2 ∙ p.0) (λ v is. is)
-    (write_then a b d P (d.value ≡ b.value) (Some c.in-Err-put_close.fault) (λ v. v ≡ with_close c.args.device b.value) (λ v. v ≡ with_close c.args.device a.value)
-    (λ p v is. is ∙ ap (with_close c.args.device) p.0) first
+    says a d (Some c.in-Err-put_close.fault) _ _ (λ v. (close_of a.value c.args.device c.args.day ≡ Ok tt) × (v ≡ with_close c.args.device a.value)) _ (λ lawful p. p.2 ∙ p.0) (λ v is. is)
+    (write_then a b d P (d.value ≡ b.value) (Some c.in-Err-put_close.fault) (λ v. v ≡ with_close c.args.device b.value) (λ v. (close_of a.value c.args.device c.args.day ≡ Ok tt) × (v ≡ with_close c.args.device a.value))
+    (λ p v is. (p.1.0, is ∙ ap (with_close c.args.device) p.0)) first
     (given_more b d _ _ _ (Some _) _ (λ p. subst (λ (v : LedgerValue). MayClose v c.args.device c.in-Ok-Ok.lane) (sym p.0) (may_close a.value c.args.device c.args.day c.in-Ok-Ok.lane p.1)) second))

@@ -20,9 +20,9 @@ returns-in-Ok g c =
     let P : Type 0 = ◌≡◌ {A = Result Unit StatementFault} (Ok tt) (state_judged a.value r) in
     let first : Calls a b None ((b.value ≡ a.value) × P) (λ v. ⊥) = rw c.in-Ok-Ok.field-0-is at c.in-Ok-Ok.ensures.does in
     let second : Calls (given (b.value.stated r.device r.day ≡ None) b) d None (d.value ≡ with_statement r b.value) (λ v. v ≡ with_statement r b.value) = c.in-Ok.ensures in
-    says a d None _ _ (λ v. v ≡ with_statement r a.value) _ (λ lawful p. (sym p.1, p.2 ∙ ap (with_statement r) p.0)) (λ v is. is)
-    (write_then a b d P (d.value ≡ with_statement r b.value) None (λ v. v ≡ with_statement r b.value) (λ v. v ≡ with_statement r a.value)
-    (λ p v is. is ∙ ap (with_statement r) p.0) first
+    says a d None _ _ (λ v. (state_judged a.value r ≡ Ok tt) × (v ≡ with_statement r a.value)) _ (λ lawful p. (sym p.1, p.2 ∙ ap (with_statement r) p.0)) (λ v is. is)
+    (write_then a b d P (d.value ≡ with_statement r b.value) None (λ v. v ≡ with_statement r b.value) (λ v. (state_judged a.value r ≡ Ok tt) × (v ≡ with_statement r a.value))
+    (λ p v is. (sym p.1, is ∙ ap (with_statement r) p.0)) first
     (given_more b d _ _ _ None _ (λ p. subst (λ (v : LedgerValue). v.stated r.device r.day ≡ None) (sym p.0) (may_state a.value r p.1)) second))
 
 pub returns-in-Err-put_statement : goal.returns-in-Err-put_statement
@@ -34,9 +34,9 @@ returns-in-Err-put_statement g c =
     let P : Type 0 = ◌≡◌ {A = Result Unit StatementFault} (Ok tt) (state_judged a.value r) in
     let first : Calls a b None ((b.value ≡ a.value) × P) (λ v. ⊥) = rw c.in-Ok-Ok.field-0-is at c.in-Ok-Ok.ensures.does in
     let second : Calls (given (b.value.stated r.device r.day ≡ None) b) d (Some c.in-Err-put_statement.fault) (d.value ≡ b.value) (λ v. v ≡ with_statement r b.value) = c.in-Err-put_statement.ensures in
-    says a d (Some c.in-Err-put_statement.fault) _ _ (λ v. v ≡ with_statement r a.value) _ (λ lawful p. p.2 ∙ p.0) (λ v is. is)
-    (write_then a b d P (d.value ≡ b.value) (Some c.in-Err-put_statement.fault) (λ v. v ≡ with_statement r b.value) (λ v. v ≡ with_statement r a.value)
-    (λ p v is. is ∙ ap (with_statement r) p.0) first
+    says a d (Some c.in-Err-put_statement.fault) _ _ (λ v. (state_judged a.value r ≡ Ok tt) × (v ≡ with_statement r a.value)) _ (λ lawful p. p.2 ∙ p.0) (λ v is. is)
+    (write_then a b d P (d.value ≡ b.value) (Some c.in-Err-put_statement.fault) (λ v. v ≡ with_statement r b.value) (λ v. (state_judged a.value r ≡ Ok tt) × (v ≡ with_statement r a.value))
+    (λ p v is. (sym p.1, is ∙ ap (with_statement r) p.0)) first
     (given_more b d _ _ _ (Some _) _ (λ p. subst (λ (v : LedgerValue). v.stated r.device r.day ≡ None) (sym p.0) (may_state a.value r p.1)) second))
 
 pub returns-in-Ok-Err : goal.returns-in-Ok-Err

@@ -19,9 +19,9 @@ returns-in-Ok g c =
     let P : Type 0 = JudgesTap a.value r (Ok c.in-Ok-Ok.closed) in
     let first : Calls a b None ((b.value ≡ a.value) × P) (λ v. ⊥) = rw c.in-Ok-Ok.field-0-is at c.in-Ok-Ok.ensures.does in
     let second : Calls (given (MayTake b.value r c.in-Ok-Ok.closed) b) d None (d.value ≡ took r b.value) (λ v. v ≡ took r b.value) = c.in-Ok.ensures in
-    says a d None _ _ (λ v. v ≡ took r a.value) _ (λ lawful p. (p.1.0, p.2 ∙ ap (took r) p.0)) (λ v is. is)
-    (write_then a b d P (d.value ≡ took r b.value) None (λ v. v ≡ took r b.value) (λ v. v ≡ took r a.value)
-    (λ p v is. is ∙ ap (took r) p.0) first
+    says a d None _ _ (λ v. (take_judged a.value r ≡ Ok tt) × (v ≡ took r a.value)) _ (λ lawful p. (p.1.0, p.2 ∙ ap (took r) p.0)) (λ v is. is)
+    (write_then a b d P (d.value ≡ took r b.value) None (λ v. v ≡ took r b.value) (λ v. (take_judged a.value r ≡ Ok tt) × (v ≡ took r a.value))
+    (λ p v is. (p.1.0, is ∙ ap (took r) p.0)) first
     (given_more b d _ _ _ None _ (λ p. subst (λ (v : LedgerValue). MayTake v r c.in-Ok-Ok.closed) (sym p.0) (may_take a.value r c.in-Ok-Ok.closed p.1)) second))
 
 pub returns-in-Err-put_tap : goal.returns-in-Err-put_tap
@@ -33,9 +33,9 @@ returns-in-Err-put_tap g c =
     let P : Type 0 = JudgesTap a.value r (Ok c.in-Ok-Ok.closed) in
     let first : Calls a b None ((b.value ≡ a.value) × P) (λ v. ⊥) = rw c.in-Ok-Ok.field-0-is at c.in-Ok-Ok.ensures.does in
     let second : Calls (given (MayTake b.value r c.in-Ok-Ok.closed) b) d (Some c.in-Err-put_tap.fault) (d.value ≡ b.value) (λ v. v ≡ took r b.value) = c.in-Err-put_tap.ensures in
-    says a d (Some c.in-Err-put_tap.fault) _ _ (λ v. v ≡ took r a.value) _ (λ lawful p. p.2 ∙ p.0) (λ v is. is)
-    (write_then a b d P (d.value ≡ b.value) (Some c.in-Err-put_tap.fault) (λ v. v ≡ took r b.value) (λ v. v ≡ took r a.value)
-    (λ p v is. is ∙ ap (took r) p.0) first
+    says a d (Some c.in-Err-put_tap.fault) _ _ (λ v. (take_judged a.value r ≡ Ok tt) × (v ≡ took r a.value)) _ (λ lawful p. p.2 ∙ p.0) (λ v is. is)
+    (write_then a b d P (d.value ≡ b.value) (Some c.in-Err-put_tap.fault) (λ v. v ≡ took r b.value) (λ v. (take_judged a.value r ≡ Ok tt) × (v ≡ took r a.value))
+    (λ p v is. (p.1.0, is ∙ ap (took r) p.0)) first
     (given_more b d _ _ _ (Some _) _ (λ p. subst (λ (v : LedgerValue). MayTake v r c.in-Ok-Ok.closed) (sym p.0) (may_take a.value r c.in-Ok-Ok.closed p.1)) second))
 
 pub returns-in-Ok-Err : goal.returns-in-Ok-Err

@@ -20,9 +20,9 @@ returns-in-Ok g c =
     let P : Type 0 = ◌≡◌ {A = Result Unit StoreFault} (Ok tt) (store_judged a.value r) in
     let first : Calls a b None ((b.value ≡ a.value) × P) (λ v. ⊥) = rw c.in-Ok-Ok.field-0-is at c.in-Ok-Ok.ensures.does in
     let second : Calls (given (MayStore b.value r) b) d None (d.value ≡ stored r b.value) (λ v. v ≡ stored r b.value) = c.in-Ok.ensures in
-    says a d None _ _ (λ v. v ≡ stored r a.value) _ (λ lawful p. (sym p.1, p.2 ∙ ap (stored r) p.0)) (λ v is. is)
-    (write_then a b d P (d.value ≡ stored r b.value) None (λ v. v ≡ stored r b.value) (λ v. v ≡ stored r a.value)
-    (λ p v is. is ∙ ap (stored r) p.0) first
+    says a d None _ _ (λ v. (store_judged a.value r ≡ Ok tt) × (v ≡ stored r a.value)) _ (λ lawful p. (sym p.1, p.2 ∙ ap (stored r) p.0)) (λ v is. is)
+    (write_then a b d P (d.value ≡ stored r b.value) None (λ v. v ≡ stored r b.value) (λ v. (store_judged a.value r ≡ Ok tt) × (v ≡ stored r a.value))
+    (λ p v is. (sym p.1, is ∙ ap (stored r) p.0)) first
     (given_more b d _ _ _ None _ (λ p. subst (λ (v : OutboxValue). MayStore v r) (sym p.0) (may_store a.value r p.1)) second))
 
 pub returns-in-Err-put : goal.returns-in-Err-put
@@ -34,7 +34,7 @@ returns-in-Err-put g c =
     let P : Type 0 = ◌≡◌ {A = Result Unit StoreFault} (Ok tt) (store_judged a.value r) in
     let first : Calls a b None ((b.value ≡ a.value) × P) (λ v. ⊥) = rw c.in-Ok-Ok.field-0-is at c.in-Ok-Ok.ensures.does in
     let second : Calls (given (MayStore b.value r) b) d (Some c.in-Err-put.fault) (d.value ≡ b.value) (λ v. v ≡ stored r b.value) = c.in-Err-put.ensures in
-    says a d (Some c.in-Err-put.fault) _ _ (λ v. v ≡ stored r a.value) _ (λ lawful p. p.2 ∙ p.0) (λ v is. is)
-    (write_then a b d P (d.value ≡ b.value) (Some c.in-Err-put.fault) (λ v. v ≡ stored r b.value) (λ v. v ≡ stored r a.value)
-    (λ p v is. is ∙ ap (stored r) p.0) first
+    says a d (Some c.in-Err-put.fault) _ _ (λ v. (store_judged a.value r ≡ Ok tt) × (v ≡ stored r a.value)) _ (λ lawful p. p.2 ∙ p.0) (λ v is. is)
+    (write_then a b d P (d.value ≡ b.value) (Some c.in-Err-put.fault) (λ v. v ≡ stored r b.value) (λ v. (store_judged a.value r ≡ Ok tt) × (v ≡ stored r a.value))
+    (λ p v is. (sym p.1, is ∙ ap (stored r) p.0)) first
     (given_more b d _ _ _ (Some _) _ (λ p. subst (λ (v : OutboxValue). MayStore v r) (sym p.0) (may_store a.value r p.1)) second))

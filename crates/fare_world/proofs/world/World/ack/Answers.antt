@@ -1,6 +1,6 @@
 use Rattle.circular_buffer.specs.Buffer.{Buffer}
-use Rattle.fare_world.specs.declared.acknowledgement.Acknowledgement.{Acknowledgement}
-use Rattle.fare_world.specs.declared.acknowledgement.Acknowledgement.TheVariants as acknowledgement
+use Rattle.fare_record.specs.declared.ack_item.AckItem.{AckItem}
+use Rattle.fare_record.specs.declared.ack_item.AckItem.TheVariants as ack_item
 use Rattle.fare_world.proofs.Queues.{pushed, refused}
 use Rattle.fare_world.proofs.ShowLink.{shown_ack_unknown}
 use Rattle.std.proofs.Common.{◌≡◌, ◌<◌, ◌≤◌, ◌++◌, ◌∷◌, [], length, refl, sym, ap, ◌∙◌, subst, arith}
@@ -51,7 +51,7 @@ returns g c =
     let same : c.index.result.now ≡ x = same_station w k c.index.result.now x c.in-Some.ensures.within c.index.ensures c.index_mut.ensures.value in
     let before : length c.index.result.now.line.items < w.scheme.inbox_capacity = omega (arith, room, c.if-len-capacity.false, c.len.ensures.len, c.capacity.ensures.capacity) in
     let free : length x.line.items < w.scheme.inbox_capacity = subst (λ (z : Station). length z.line.items < w.scheme.inbox_capacity) same before in
-    let gained : c.try_push_back-pushed.new.self.items ≡ x.line.items ++ acknowledgement.Taps (record { device = d; upto = c.in_ok-upto.upto }) ∷ [] = ap (λ (b : Buffer Acknowledgement). b.items) (pushed c.try_push_back-pushed.result x.line c.try_push_back-pushed.new.self (acknowledgement.Taps c.new.result) (sym c.is_err.ensures.value ∙ c.if-is_err.false) c.try_push_back-pushed.ensures.variant c.try_push_back-pushed.ensures.ok).1 ∙ (λ i. x.line.items ++ acknowledgement.Taps (c.new.ensures i) ∷ []) in
+    let gained : c.try_push_back-pushed.new.self.items ≡ x.line.items ++ ack_item.Upto (record { device = d; upto = c.in_ok-upto.upto }) ∷ [] = ap (λ (b : Buffer AckItem). b.items) (pushed c.try_push_back-pushed.result x.line c.try_push_back-pushed.new.self (ack_item.Upto c.new.result) (sym c.is_err.ensures.value ∙ c.if-is_err.false) c.try_push_back-pushed.ensures.variant c.try_push_back-pushed.ensures.ok).1 ∙ (λ i. x.line.items ++ ack_item.Upto (c.new.ensures i) ∷ []) in
     let did : Reads (g.O.Outbox.standing c.args.self.now.outbox) (g.O.Outbox.standing c.upto.new.self) (λ u. u ≡ w.outbox.upto c.args.device) (Ok c.in_ok-upto.upto) = c.in_ok-upto.ensures.read in
     outbox_stepped g.O.Outbox.standing g.L.Ledger.standing c.args.self.now _ _ _ _ _ refl refl did (λ s is sh.
     subst (λ o. Answers w.scheme (record (shape w) { outbox = o; stations = with_station w k (record x { line = c.try_push_back-pushed.new.self }) }) (storing.ack w.scheme s d) (reply.Acknowledged c.in_ok-upto.upto)) (sym is.0)
@@ -70,10 +70,10 @@ unreachable-requires g c =
     let same : c.index.result.now ≡ x = same_station w k c.index.result.now x c.in-Some.ensures.within c.index.ensures c.index_mut.ensures.value in
     let less : length c.index.result.now.line.items < c.index.result.now.line.capacity = omega (arith, c.if-len-capacity.false, c.len.ensures.len, c.capacity.ensures.capacity) in
     let here : length x.line.items < x.line.capacity = subst (λ (z : Station). length z.line.items < z.line.capacity) same less in
-    let full = (refused c.try_push_back-pushed.result x.line c.try_push_back-pushed.new.self (acknowledgement.Taps c.new.result) (sym c.is_err.ensures.value ∙ c.if-is_err.true) c.try_push_back-pushed.ensures.variant c.try_push_back-pushed.ensures.err).0 in
+    let full = (refused c.try_push_back-pushed.result x.line c.try_push_back-pushed.new.self (ack_item.Upto c.new.result) (sym c.is_err.ensures.value ∙ c.if-is_err.true) c.try_push_back-pushed.ensures.variant c.try_push_back-pushed.ensures.err).0 in
     absurd (omega (arith, here, full))
 
 pub invariant_of-self-2 : goal.invariant_of-self-2
 invariant_of-self-2 g c =
     let x = c.index_mut.result.now in
-    record { rooms = rooms_of_station c.args.self.now c.in-Some.place x (record x { line = c.try_push_back-pushed.new.self }) c.in-Some.ensures.within c.index_mut.ensures.value (ap (λ (b : Buffer Acknowledgement). b.capacity) (pushed c.try_push_back-pushed.result x.line c.try_push_back-pushed.new.self (acknowledgement.Taps c.new.result) (sym c.is_err.ensures.value ∙ c.if-is_err.false) c.try_push_back-pushed.ensures.variant c.try_push_back-pushed.ensures.ok).1) }
+    record { rooms = rooms_of_station c.args.self.now c.in-Some.place x (record x { line = c.try_push_back-pushed.new.self }) c.in-Some.ensures.within c.index_mut.ensures.value (ap (λ (b : Buffer AckItem). b.capacity) (pushed c.try_push_back-pushed.result x.line c.try_push_back-pushed.new.self (ack_item.Upto c.new.result) (sym c.is_err.ensures.value ∙ c.if-is_err.false) c.try_push_back-pushed.ensures.variant c.try_push_back-pushed.ensures.ok).1) }

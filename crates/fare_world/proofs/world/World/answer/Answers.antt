@@ -3,8 +3,8 @@ use Rattle.std.proofs.lemmas.Option.{slice_get_within}
 use Rattle.std.proofs.Common.{Some}
 use Rattle.std.specs.Prelude.{slice_get}
 use Rattle.fare_world.proofs.RoomLemmas.{rooms_of_station}
-use Rattle.fare_world.specs.declared.acknowledgement.Acknowledgement.{Acknowledgement}
-use Rattle.fare_world.specs.Packets.{frame_of}
+use Rattle.fare_record.specs.declared.ack_item.AckItem.{AckItem}
+use Rattle.fare_frame.specs.Grammar.{frame_of}
 use Rattle.circular_buffer.specs.Buffer.{Buffer}
 use Rattle.fare_world.proofs.ShowLink.{shown_answer_unknown}
 use Rattle.std.proofs.Common.{◌≡◌, ◌<◌, ◌++◌, ◌∷◌, [], length, refl, sym, ap, ◌∙◌, subst, arith}
@@ -49,12 +49,12 @@ returns g c =
     let a = c.in-Some-copied.answer in
     let at = sym c.station_position.ensures.value ∙ c.in-Some.is in
     let within : k < length w.stations = omega (arith, c.in-Some.ensures.within, c.args.self.now.rooms.station_count) in
-    let pushed : c.push.new.self.items ≡ w.air ++ frame_bytes (frame_of a) ∷ [] = c.in_ok-push.ensures.items ∙ ap (λ b. w.air ++ b ∷ []) (c.write.ensures.bytes ∙ ap frame_bytes c.frame.ensures) in
+    let pushed : c.push.new.self.items ≡ w.air ++ frame_bytes (frame_of a) ∷ [] = c.in_ok-push.ensures.items ∙ ap (λ b. w.air ++ b ∷ []) (c.write.ensures.bytes ∙ ap frame_bytes c.acknowledging.ensures) in
     let count : c.len.result ≡ length c.push.new.self.items = grind (arith, common_steps) in
     let read : c.index.result.now ≡ x = same_station w k c.index.result.now x within c.index.ensures c.index_mut.ensures.value in
     let first : slice_get x.line.items 0 ≡ Some a = ap (λ (z : Station). slice_get z.line.items 0) (sym read) ∙ sym c.front.ensures ∙ sym c.copied.ensures ∙ c.in-Some-copied.is in
-    let front : x.line.items ≡ a ∷ c.pop_front.new.self.items = front_and_rest x.line.items c.pop_front.new.self.items a first (ap (λ (b : Buffer Acknowledgement). b.items) c.pop_front.ensures.items) in
-    steps g.O.Outbox.standing g.L.Ledger.standing c.args.self.now _ _ _ refl (same_stores _ _ refl refl) (λ s sh. world_answered w s c.args.station k c.len.result x (record x { line = c.pop_front.new.self }) a c.push.new.self.items c.answered.result sh at within c.index_mut.ensures.value front refl (subst IsFrame c.frame.ensures c.write.ensures.lawful) pushed count c.answered.ensures)
+    let front : x.line.items ≡ a ∷ c.pop_front.new.self.items = front_and_rest x.line.items c.pop_front.new.self.items a first (ap (λ (b : Buffer AckItem). b.items) c.pop_front.ensures.items) in
+    steps g.O.Outbox.standing g.L.Ledger.standing c.args.self.now _ _ _ refl (same_stores _ _ refl refl) (λ s sh. world_answered w s c.args.station k c.len.result x (record x { line = c.pop_front.new.self }) a c.push.new.self.items c.answered.result sh at within c.index_mut.ensures.value front refl (subst IsFrame c.acknowledging.ensures c.write.ensures.lawful) pushed count c.answered.ensures)
 
 pub returns-in_err-packet : goal.returns-in_err-packet
 returns-in_err-packet g c =
@@ -79,4 +79,4 @@ invariant_of-self-2 g c =
     let w = seen g.O.Outbox.standing g.L.Ledger.standing c.args.self.now in
     let x = c.index_mut.result.now in
     let within : c.in-Some.place < length w.stations = omega (arith, c.in-Some.ensures.within, c.args.self.now.rooms.station_count) in
-    record { rooms = rooms_of_station c.args.self.now c.in-Some.place x (record x { line = c.pop_front.new.self }) within c.index_mut.ensures.value (ap (λ (b : Buffer Acknowledgement). b.capacity) c.pop_front.ensures.items) }
+    record { rooms = rooms_of_station c.args.self.now c.in-Some.place x (record x { line = c.pop_front.new.self }) within c.index_mut.ensures.value (ap (λ (b : Buffer AckItem). b.capacity) c.pop_front.ensures.items) }

@@ -3,8 +3,8 @@ use Rattle.std.specs.Prelude.{Ok, Err, is_some}
 use Rattle.std.proofs.lemmas.Grind.{common_steps}
 use Rattle.circular_buffer.specs.Buffer.{Buffer}
 use Rattle.fare_store.specs.Standing.{Reads}
-use Rattle.fare_world.specs.declared.acknowledgement.Acknowledgement.{Acknowledgement}
-use Rattle.fare_world.specs.declared.acknowledgement.Acknowledgement.TheVariants as acknowledgement
+use Rattle.fare_record.specs.declared.ack_item.AckItem.{AckItem}
+use Rattle.fare_record.specs.declared.ack_item.AckItem.TheVariants as ack_item
 use Rattle.fare_world.specs.declared.reply.Refusal.TheVariants as refusal
 use Rattle.fare_world.specs.declared.reply.Reply.TheVariants as reply
 use Rattle.fare_world.specs.Acknowledging.{are_all_stated}
@@ -46,7 +46,7 @@ pub invariant_of-self-2 : goal.invariant_of-self-2
 invariant_of-self-2 g c =
     let x = c.index_mut.result.now in
     let b = c.try_push_back-pushed in
-    record { rooms = rooms_of_station c.args.self.now c.in-Some.place x (record x { line = b.new.self }) c.in-Some.ensures.within c.index_mut.ensures.value (same_room b.result x.line b.new.self (acknowledgement.Day c.new.result) b.ensures.variant b.ensures.ok b.ensures.err) }
+    record { rooms = rooms_of_station c.args.self.now c.in-Some.place x (record x { line = b.new.self }) c.in-Some.ensures.within c.index_mut.ensures.value (same_room b.result x.line b.new.self (ack_item.Day c.new.result) b.ensures.variant b.ensures.ok b.ensures.err) }
 
 pub returns-then-is_err : goal.returns-then-is_err
 returns-then-is_err g c =
@@ -56,13 +56,13 @@ returns-then-is_err g c =
     let k = c.in-Some.place in
     let x = c.index_mut.result.now in
     let yes : c.in_ok-are_stated.field-0 ≡ true = grind (arith, common_steps) in
-    let left = refused c.try_push_back-pushed.result x.line c.try_push_back-pushed.new.self (acknowledgement.Day c.new.result) (sym c.is_err.ensures.value ∙ c.if-is_err.true) c.try_push_back-pushed.ensures.variant c.try_push_back-pushed.ensures.err in
+    let left = refused c.try_push_back-pushed.result x.line c.try_push_back-pushed.new.self (ack_item.Day c.new.result) (sym c.is_err.ensures.value ∙ c.if-is_err.true) c.try_push_back-pushed.ensures.variant c.try_push_back-pushed.ensures.err in
     let room = line_room c.args.self.now k x c.in-Some.ensures.within c.index_mut.ensures.value in
     let full : w.scheme.inbox_capacity ≤ length x.line.items = omega (arith, left.0, room) in
     let did : Reads (g.O.Outbox.standing c.args.self.now.outbox) (g.O.Outbox.standing c.are_stated.new.outbox) (λ all. all ≡ are_all_stated w.scheme w.outbox d day) (Ok c.in_ok-are_stated.field-0) = c.in_ok-are_stated.ensures in
     outbox_stepped g.O.Outbox.standing g.L.Ledger.standing c.args.self.now _ _ _ _ _ refl refl did (λ s is sh.
     subst (λ o. Answers w.scheme (record (shape w) { outbox = o; stations = with_station w k (record x { line = c.try_push_back-pushed.new.self }) }) (storing.day_ack w.scheme s d day) (reply.Refused refusal.Busy)) (sym is.0)
-    (world_day_busy w s d day k x (record x { line = c.try_push_back-pushed.new.self }) sh c.in-Some.ensures.some c.in-Some.ensures.within c.index_mut.ensures.value (sym is.1 ∙ yes) refl (ap (λ (b : Buffer Acknowledgement). b.items) left.1) full))
+    (world_day_busy w s d day k x (record x { line = c.try_push_back-pushed.new.self }) sh c.in-Some.ensures.some c.in-Some.ensures.within c.index_mut.ensures.value (sym is.1 ∙ yes) refl (ap (λ (b : Buffer AckItem). b.items) left.1) full))
 
 pub returns : goal.returns
 returns g c =
@@ -72,10 +72,10 @@ returns g c =
     let k = c.in-Some.place in
     let x = c.index_mut.result.now in
     let yes : c.in_ok-are_stated.field-0 ≡ true = grind (arith, common_steps) in
-    let put = pushed c.try_push_back-pushed.result x.line c.try_push_back-pushed.new.self (acknowledgement.Day c.new.result) (sym c.is_err.ensures.value ∙ c.if-is_err.false) c.try_push_back-pushed.ensures.variant c.try_push_back-pushed.ensures.ok in
+    let put = pushed c.try_push_back-pushed.result x.line c.try_push_back-pushed.new.self (ack_item.Day c.new.result) (sym c.is_err.ensures.value ∙ c.if-is_err.false) c.try_push_back-pushed.ensures.variant c.try_push_back-pushed.ensures.ok in
     let room = line_room c.args.self.now k x c.in-Some.ensures.within c.index_mut.ensures.value in
     let free : length x.line.items < w.scheme.inbox_capacity = omega (arith, put.0, room) in
-    let gained : c.try_push_back-pushed.new.self.items ≡ x.line.items ++ acknowledgement.Day (record { device = d; day = day }) ∷ [] = ap (λ (b : Buffer Acknowledgement). b.items) put.1 ∙ (λ i. x.line.items ++ acknowledgement.Day (c.new.ensures i) ∷ []) in
+    let gained : c.try_push_back-pushed.new.self.items ≡ x.line.items ++ ack_item.Day (record { device = d; day = day }) ∷ [] = ap (λ (b : Buffer AckItem). b.items) put.1 ∙ (λ i. x.line.items ++ ack_item.Day (c.new.ensures i) ∷ []) in
     let did : Reads (g.O.Outbox.standing c.args.self.now.outbox) (g.O.Outbox.standing c.are_stated.new.outbox) (λ all. all ≡ are_all_stated w.scheme w.outbox d day) (Ok c.in_ok-are_stated.field-0) = c.in_ok-are_stated.ensures in
     outbox_stepped g.O.Outbox.standing g.L.Ledger.standing c.args.self.now _ _ _ _ _ refl refl did (λ s is sh.
     subst (λ o. Answers w.scheme (record (shape w) { outbox = o; stations = with_station w k (record x { line = c.try_push_back-pushed.new.self }) }) (storing.day_ack w.scheme s d day) (reply.AcknowledgedDay day)) (sym is.0)

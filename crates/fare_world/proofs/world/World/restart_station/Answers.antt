@@ -1,4 +1,4 @@
-use Rattle.fare_world.specs.declared.acknowledgement.Acknowledgement.{Acknowledgement}
+use Rattle.fare_record.specs.declared.ack_item.AckItem.{AckItem}
 use Rattle.fare_world.proofs.RoomLemmas.{rooms_of_station, rooms_of_uptos}
 use Rattle.fare_world.proofs.Hub.{written}
 use Rattle.circular_buffer.specs.Buffer.{Buffer}
@@ -48,7 +48,7 @@ returns g c =
     subst (λ o. Answers w.scheme (record (shape w) { outbox = o; stations = λ j. option_map station_shape (entry (position_of_station w.scheme j) (set w.stations k new)) }) (restart_station w.scheme s station) Restarted) (sym is.0)
     (station_written w station k new (restart_station w.scheme s station) Restarted at within
     (shown_restart_station w.scheme (shape w) s station k (station_shape x) (station_shape new) sh at (station_read w station k x at within c.index_mut.ensures.value)
-    (λ d known. resumed d known ∙ ap (λ l. option_map (λ _. upto_at w.scheme l d + 1) (next_in x.collector d)) same ∙ ap (λ n. option_map (λ _. n + 1) (next_in x.collector d)) (uptos_at w.scheme w.outbox.upto c.ask_uptos.new.uptos d is.1 known)) c.resume_all.ensures.others (ap (λ (l : Buffer Acknowledgement). l.items) c.resume_all.ensures.line))))
+    (λ d known. resumed d known ∙ ap (λ l. option_map (λ _. upto_at w.scheme l d + 1) (next_in x.collector d)) same ∙ ap (λ n. option_map (λ _. n + 1) (next_in x.collector d)) (uptos_at w.scheme w.outbox.upto c.ask_uptos.new.uptos d is.1 known)) c.resume_all.ensures.others (ap (λ (l : Buffer AckItem). l.items) c.resume_all.ensures.line))))
 
 pub invariant_of-self-2 : goal.invariant_of-self-2
 invariant_of-self-2 g c =
@@ -56,4 +56,4 @@ invariant_of-self-2 g c =
     let x = c.index_mut.result.now in
     let within : c.in-Some.place < length old.stations.items = omega (arith, c.in-Some.ensures.within, old.rooms.station_count) in
     let long = c.ask_uptos.auto.uptos ∙ ap length c.deref_mut.ensures.value in
-    record { rooms = rooms_of_uptos old _ _ (ap length (written old.uptos c.ask_uptos.new.uptos long) ∙ long) (rooms_of_station old c.in-Some.place x c.resume_all.new.self within c.index_mut.ensures.value (ap (λ (b : Buffer Acknowledgement). b.capacity) c.resume_all.ensures.line)) }
+    record { rooms = rooms_of_uptos old _ _ (ap length (written old.uptos c.ask_uptos.new.uptos long) ∙ long) (rooms_of_station old c.in-Some.place x c.resume_all.new.self within c.index_mut.ensures.value (ap (λ (b : Buffer AckItem). b.capacity) c.resume_all.ensures.line)) }

@@ -12,4 +12,4 @@ returns-in-Ok-write_statement c =
     let mine : c.is_mine-mine.result ≡ is_mine v s.owner s.device = c.is_mine-mine.ensures ∙ (λ i. is_mine v (c.owner.ensures i) (c.device.ensures i)) in
     let held : c.stated_of-held.result ≡ v.stated s.device s.day = c.stated_of-held.ensures ∙ (λ i. v.stated (c.device-2.ensures i) (c.day.ensures i)) in
     let judged : state_judged v s ≡ Ok tt = (λ i. statement_judged (sym mine i) (sym held i) (sym c.count.ensures.value i)) ∙ sym c.judge_statement.ensures.judged ∙ c.in-Ok.is in
-    plain_call (plain_ledger c.args.self.now) (plain_ledger c.write_statement.new.self) None _ _ (λ e. absurd (cc)) (judged, c.in-Ok-write_statement.ensures.ok) (inr c.in-Ok-write_statement.ensures.ok)
+    plain_call (plain_ledger c.args.self.now) (plain_ledger c.write_statement.new.self) None _ _ (λ e. absurd (cc)) (judged, c.in-Ok-write_statement.ensures.ok) (inr (judged, c.in-Ok-write_statement.ensures.ok))

@@ -1,0 +1,74 @@
+-- What a session's stores hold where a call failed and yet committed, or had nothing to do.
+use Rattle.std.proofs.Common.{◌≡◌, ℕ, ◌++◌, ◌∷◌, [], List, ◌+◌, Some, None, Bool, true, false, refl, sym, ap, ◌∙◌, subst, append_assoc}
+use Rattle.std.specs.Prelude.{◌==◌, if◌then◌else◌, Option, Result, Err, IfSome}
+use Rattle.fare_record.specs.Values.{StatementValue}
+use Rattle.fare_scheme.specs.Values.{SchemeValue}
+use Rattle.fare_store.specs.Tables.{put}
+use Rattle.fare_record.specs.declared.item.Item.{Item}
+use Rattle.fare_record.specs.declared.item.Item.TheVariants as item
+use Rattle.fare_store.specs.OutboxWords.{OutboxValue}
+use Rattle.fare_store.specs.LedgerWords.{LedgerValue, is_mine, state_judged}
+use Rattle.fare_owner.specs.StatementJudged.{statement_judged}
+use Rattle.fare_owner.specs.declared.statement.StatementFault.{StatementFault}
+use Rattle.fare_owner.specs.declared.statement.StatementFault.TheVariants.{Repeated, Conflict}
+use Rattle.fare_history.specs.Serving.{behind_ledger, AreNextItems, given, Service, in_hand, device_of, IsOfDevice, IsService, committed}
+use Rattle.std.specs.List.{AllByRecursion}
+use Rattle.std.proofs.lemmas.List.{append-nil}
+use Rattle.fare_history.specs.Gathering.{links_of, CountsFrom, IsHandled, IsAnswerFrom, Entry, Gathering, items_of, stored_hand, hand_stored, storing_all, AreStored, IsGathering}
+use Rattle.fare_history.proofs.Growing.{stored-push}
+use Rattle.fare_history.proofs.Entries.{is_one}
+
+put_same : {A : Type 0} (f : ℕ → A) (k : ℕ) (v : A) → f k ≡ v → put f k v ≡ f
+put_same f k v same = λ i j. by j (j == k) refl i
+  where
+    by : (j : ℕ) (b : Bool) → (j == k) ≡ b → (if b then v else f j) ≡ f j
+    by j true e = sym same ∙ sym (ap f (is_one j k e))
+    by j false e = refl
+
+-- a statement that the ledger holds already changes nothing
+pub given_held : (l : LedgerValue) (v : StatementValue) → l.stated v.device v.day ≡ Some v.count → given l (item.Stated v) ≡ l
+given_held l v same = λ i. record l { stated = (put_same l.stated v.device (put (l.stated v.device) v.day (Some v.count)) (sym (put_same (l.stated v.device) v.day (Some v.count) same))) i }
+
+-- a statement is judged repeated where it is held
+held_where_repeated : (own : Bool) (held : Option ℕ) (n : ℕ) → statement_judged own held n ≡ Err Repeated → held ≡ Some n
+held_where_repeated false held n e = absurd (cc)
+held_where_repeated true None n e = absurd (cc)
+held_where_repeated true (Some m) n e = by (m == n) refl e
+  where
+    refused : Bool → Result Unit StatementFault
+    refused b = if b then Err Repeated else Err Conflict
+
+    by : (b : Bool) → (m == n) ≡ b → refused b ≡ Err Repeated → Some m ≡ Some n
+    by true same f = ap Some (is_one m n same)
+    by false same f = absurd (cc)
+
+pub repeated_is_held : (l : LedgerValue) (v : StatementValue) → state_judged l v ≡ Err Repeated → l.stated v.device v.day ≡ Some v.count
+repeated_is_held l v e = held_where_repeated (is_mine l v.owner v.device) (l.stated v.device v.day) v.count e
+
+pub given_repeated : (l : LedgerValue) (v : StatementValue) → state_judged l v ≡ Err Repeated → given l (item.Stated v) ≡ l
+given_repeated l v e = given_held l v (repeated_is_held l v e)
+
+-- a take that failed and yet committed is a session that took the item in its hand
+pub committed_is : (sc : SchemeValue) (o : ℕ) (x : OutboxValue) (l : LedgerValue) (v : Service) → IsService sc o x l v → IsService sc o x l (committed v)
+committed_is sc o x l v is = record { items = subst (AreNextItems o x (behind_ledger sc l)) (sym (append_assoc v.taken (in_hand v.hand) v.queue)) is.items; known = subst (AllByRecursion (λ i. IsOfDevice sc (device_of i))) (sym (append_assoc v.taken (in_hand v.hand) v.queue)) is.known; room = is.room; registered = is.registered }
+
+-- a store that failed and yet committed is a session that stored the item in its hand
+items-append : (es fs : List Entry) → items_of (es ++ fs) ≡ items_of es ++ items_of fs
+items-append [] fs = refl
+items-append (e ∷ es) fs = ap (λ l. e.item ∷ l) (items-append es fs)
+
+hand_items : (hand : Option Item) → items_of (stored_hand hand) ≡ in_hand hand
+hand_items None = refl
+hand_items (Some i) = refl
+
+stored-hand : (sc : SchemeValue) (x : OutboxValue) (es : List Entry) (hand : Option Item) → AreStored sc x es → IfSome hand (IsHandled (storing_all x es)) → AreStored sc x (es ++ stored_hand hand)
+stored-hand sc x es None stored handled = subst (AreStored sc x) (sym (append-nil es)) stored
+stored-hand sc x es (Some i) stored handled = stored-push sc x es (record { item = i; answers = [] }) stored handled tt
+
+pub hand_stored_is : (sc : SchemeValue) (x : OutboxValue) (g : Gathering) → IsGathering sc x g → g.last ≡ [] → IfSome g.hand (IsHandled (storing_all x g.entries)) → IsGathering sc x (hand_stored g)
+hand_stored_is sc x g is last handled = record {
+  counted = λ d. subst (λ l. CountsFrom (x.upto d + 1) (links_of d l)) (sym ((λ i. (items-append g.entries (stored_hand g.hand) ∙ ap (λ l. items_of g.entries ++ l) (hand_items g.hand)) i ++ g.inbox) ∙ append_assoc (items_of g.entries) (in_hand g.hand) g.inbox)) (is.counted d);
+  stored = stored-hand sc x g.entries g.hand is.stored handled;
+  room = is.room;
+  last = subst (AllByRecursion (IsAnswerFrom sc (storing_all x (g.entries ++ stored_hand g.hand)))) (sym last) tt;
+}

@@ -1,0 +1,111 @@
+-- What a session did to the stores, in plain sentences.
+use Rattle.std.specs.Prelude.{◌≡◌, ◌≢◌, ◌⊎◌, ℕ, ◌+◌, ◌-◌, ◌<◌, ◌≤◌, ◌==◌, true, List, [], ◌∷◌, ◌++◌, length, slice_get, Option, None, Some, is_some, Err}
+use Rattle.std.specs.List.{AllByRecursion, list_all, list_any}
+use Rattle.fare_record.specs.declared.ack_item.AckItem.{AckItem}
+use Rattle.fare_record.specs.declared.ack_item.AckItem.TheVariants as ack_item
+use Rattle.fare_record.specs.Limits.{IsDay}
+use Rattle.fare_record.specs.Values.{RecordValue}
+use Rattle.fare_record.specs.Lanes.{of_device}
+use Rattle.fare_record.specs.declared.item.Item.{Item}
+use Rattle.fare_record.specs.declared.item.Item.TheVariants as item
+use Rattle.fare_scheme.specs.Values.{SchemeValue}
+use Rattle.fare_scheme.specs.Words.{position_of_device}
+use Rattle.fare_store.specs.declared.fault.StoreFault.{StoreFault}
+use Rattle.fare_store.specs.declared.fault.StatedFault.TheVariants as stated
+use Rattle.fare_store.specs.OutboxWords.{OutboxValue, store_judged, stated_judged}
+use Rattle.fare_owner.specs.declared.tap.TapFault.{TapFault}
+use Rattle.fare_owner.specs.declared.statement.StatementFault.TheVariants.{NotMine, Conflict}
+use Rattle.fare_store.specs.LedgerWords.{LedgerValue, is_closed, take_judged, state_judged, IsAmong}
+use Rattle.fare_history.specs.Serving.{behind_ledger, moved_by_all, Service}
+use Rattle.fare_history.specs.Gathering.{Gathering, items_of, accepted_by, all_answers}
+
+-- AN OWNER'S SESSION
+-- the new list is the old one, and then rows of the lane, one by one from the one beyond it on
+pub record ExtendsBy (rows : ℕ → Option RecordValue) (old new : List RecordValue) : Type 0 where
+  pub more : List RecordValue
+  pub is : new ≡ old ++ more
+  pub beyond : (k : ℕ) (r : RecordValue) → slice_get more k ≡ Some r → rows (length old + 1 + k) ≡ Some r
+
+-- a row is where it was, or it was of this owner, taken and is pruned
+abbrev pub IsKeptOrPruned : ℕ → OutboxValue → OutboxValue → LedgerValue → ℕ → ℕ → ℕ → Type 0
+IsKeptOrPruned owner x y l o d lane = (y.rows o d lane ≡ x.rows o d lane) ⊎ ((o ≡ owner) × (lane ≤ length (l.taken d)) × (y.rows o d lane ≡ None))
+
+-- of an outbox x and a ledger l before, and y and m after
+pub record ServesPlainly (owner : ℕ) (x y : OutboxValue) (l m : LedgerValue) : Type 0 where
+  pub taken : (device : ℕ) → ExtendsBy (x.rows owner device) (l.taken device) (m.taken device)
+  pub statements : (device day count : ℕ) → m.stated device day ≡ Some count → (l.stated device day ≡ Some count) ⊎ (x.stated owner device day ≡ Some count)
+  pub closed : m.closed ≡ l.closed
+  pub made : (m.owner ≡ l.owner) × (m.start ≡ l.start) × (m.knows ≡ l.knows)
+  pub rows : (o d lane : ℕ) → IsKeptOrPruned owner x y m o d lane
+  pub upto : y.upto ≡ x.upto
+  pub stated : y.stated ≡ x.stated
+  pub stated_count : y.stated_count ≡ x.stated_count
+
+-- nothing is left, the forwarder has come to the end of each lane, and each lane is pruned
+pub record IsFinished (sc : SchemeValue) (owner : ℕ) (x : OutboxValue) (l : LedgerValue) (v : Service) : Type 0 where
+  pub hand : v.hand ≡ None
+  pub queue : v.queue ≡ []
+  pub rows : (device : ℕ) → is_some (position_of_device sc device) ≡ true → (lane : ℕ) → (moved_by_all (behind_ledger sc l) v.taken).lane device < lane → x.rows owner device lane ≡ None
+  pub days : (device : ℕ) → is_some (position_of_device sc device) ≡ true → (day : ℕ) → (moved_by_all (behind_ledger sc l) v.taken).day device ≤ day → IsDay day → x.stated owner device day ≡ None
+  pub pruned : (device : ℕ) → is_some (position_of_device sc device) ≡ true → list_any (λ d. d == device) v.pruned ≡ true
+
+-- all rows beyond the old list and all statements of days that were open are in the ledger, and what it has of rows is pruned
+pub record IsWholeService (sc : SchemeValue) (owner : ℕ) (x y : OutboxValue) (l m : LedgerValue) : Type 0 where
+  pub rows : (device : ℕ) → is_some (position_of_device sc device) ≡ true → (lane : ℕ) (r : RecordValue) → length (l.taken device) < lane → x.rows owner device lane ≡ Some r → slice_get (m.taken device) (lane - 1) ≡ Some r
+  pub statements : (device : ℕ) → is_some (position_of_device sc device) ≡ true → (day count : ℕ) → sc.start + l.closed device ≤ day → IsDay day → x.stated owner device day ≡ Some count → m.stated device day ≡ Some count
+  pub pruned : (device : ℕ) → is_some (position_of_device sc device) ≡ true → (lane : ℕ) → lane ≤ length (m.taken device) → y.rows owner device lane ≡ None
+
+-- the ledger refuses the item, and not since it holds it already
+abbrev pub IsRefused : LedgerValue → Item → Type 0
+IsRefused m (item.Tap r) = (why : TapFault) × (take_judged m r ≡ Err why)
+IsRefused m (item.Stated v) = (state_judged m v ≡ Err NotMine) ⊎ (state_judged m v ≡ Err Conflict)
+
+-- an item of the outbox that its owner's ledger refuses: the row that comes next in its lane, which is of a closed day; or a statement of which the ledger has another count
+abbrev pub ShowsWhy : ℕ → OutboxValue → LedgerValue → Item → Type 0
+ShowsWhy owner x m (item.Tap r) =
+    (x.rows owner r.device (length (m.taken r.device) + 1) ≡ Some r) × (is_closed m r.device r.tap.day ≡ true)
+ShowsWhy owner x m (item.Stated v) =
+    (x.stated owner v.device v.day ≡ Some v.count) × ((other : ℕ) × (m.stated v.device v.day ≡ Some other) × (other ≢ v.count))
+
+-- A SESSION OF THE STATIONS AND THE WRITER
+-- the taps of these, in order
+abbrev pub with_tap : Item → List RecordValue → List RecordValue
+with_tap (item.Tap r) rs = r ∷ rs
+with_tap (item.Stated v) rs = rs
+
+abbrev pub taps_in : List Item → List RecordValue
+taps_in [] = []
+taps_in (i ∷ is) = with_tap i (taps_in is)
+
+-- a statement of these
+abbrev pub IsStatedIn : List Item → ℕ → ℕ → ℕ → ℕ → Type 0
+IsStatedIn is owner device day count = (k : ℕ) × (slice_get is k ≡ Some (item.Stated (record { device = device; day = day; owner = owner; count = count })))
+
+-- an acknowledged number is at most the greatest link, and an acknowledged day has the statements of all owners
+abbrev pub IsCovered : SchemeValue → OutboxValue → AckItem → Type 0
+IsCovered sc y (ack_item.Upto a) = a.upto ≤ y.upto a.device
+IsCovered sc y (ack_item.Day a) = list_all (λ o. is_some (y.stated o.0 a.device a.day)) sc.owners ≡ true
+
+-- of an outbox x before and y after
+pub record GathersPlainly (sc : SchemeValue) (x y : OutboxValue) (g : Gathering) : Type 0 where
+  -- what is stored of a device is a front of what was accepted of it, which has the links behind the outbox's
+  pub front : (device : ℕ) → (rest : List RecordValue) × (of_device device (taps_in (accepted_by g)) ≡ of_device device (taps_in (items_of g.entries)) ++ rest)
+  pub links : (device k : ℕ) (r : RecordValue) → slice_get (of_device device (taps_in (accepted_by g))) k ≡ Some r → r.link ≡ x.upto device + 1 + k
+  pub upto : (device : ℕ) → y.upto device ≡ x.upto device + length (of_device device (taps_in (items_of g.entries)))
+  pub rows_stay : (o d lane : ℕ) (r : RecordValue) → x.rows o d lane ≡ Some r → y.rows o d lane ≡ Some r
+  pub rows_come : (o d lane : ℕ) (r : RecordValue) → y.rows o d lane ≡ Some r → (x.rows o d lane ≡ Some r) ⊎ (IsAmong (taps_in (items_of g.entries)) r × (r.owner ≡ o) × (r.device ≡ d) × (r.lane ≡ lane))
+  pub rows_held : (r : RecordValue) → IsAmong (taps_in (items_of g.entries)) r → y.rows r.owner r.device r.lane ≡ Some r
+  pub statements_stay : (o d day count : ℕ) → x.stated o d day ≡ Some count → y.stated o d day ≡ Some count
+  pub statements_come : (o d day count : ℕ) → y.stated o d day ≡ Some count → (x.stated o d day ≡ Some count) ⊎ IsStatedIn (items_of g.entries) o d day count
+  pub statements_held : (o d day count : ℕ) → IsStatedIn (items_of g.entries) o d day count → y.stated o d day ≡ Some count
+  pub answers : AllByRecursion (IsCovered sc y) (all_answers g)
+
+-- the outbox refuses the item, and not since it holds it already
+abbrev pub IsRefusedByOutbox : OutboxValue → Item → Type 0
+IsRefusedByOutbox y (item.Tap r) = (why : StoreFault) × (store_judged y r ≡ Err why)
+IsRefusedByOutbox y (item.Stated v) = (stated_judged y v ≡ Err stated.Conflict) ⊎ (stated_judged y v ≡ Err stated.OutboxFull)
+
+-- it is the tap of the next link, and a row stands in its place or there is no room; or the outbox has another count for the statement, or no room
+abbrev pub ShowsWhyNot : OutboxValue → Item → Type 0
+ShowsWhyNot y (item.Tap r) = (r.link ≡ y.upto r.device + 1) × ((is_some (y.rows r.owner r.device r.lane) ≡ true) ⊎ (1000000 ≤ y.row_count))
+ShowsWhyNot y (item.Stated v) = ((other : ℕ) × (y.stated v.owner v.device v.day ≡ Some other) × (other ≢ v.count)) ⊎ (1000000 ≤ y.stated_count)
