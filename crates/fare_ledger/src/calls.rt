@@ -1,4 +1,5 @@
-ghost use Rattle.std.proofs.Common.{sym, ap, ◌∙◌};
+ghost use Rattle.std.proofs.Common.{refl, sym, ap, ◌∙◌};
+ghost use Rattle.std.proofs.Math.Logic.{∥∥₁_map};
 ghost use Rattle.sqlite.specs.Effect.{Database};
 ghost use Rattle.fare_ledger.specs.Known.{knows};
 ghost use Rattle.fare_ledger.specs.Words.{value_at, stands};

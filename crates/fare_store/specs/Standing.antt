@@ -44,7 +44,7 @@ pub record Calls {V : Type 0} (old new : Standing V) (faulted : Option Fault) (d
 pub record IsSound {V : Type 0} (s : Standing V) : Type 0 where
   pub clean : s.live → s.clean
   pub settled : s.live → s.lawful → (v : V) → s.may_leave v → v ≡ s.value
-  pub some : s.clean → ∥ (v : V) × s.may_leave v ∥₁
+  pub some : s.clean → ∥ ((v : V) × s.may_leave v) ∥₁
 
 -- the fault of an answer, if it is one
 abbrev pub fault_of : {A : Type 0} → Result A Fault → Option Fault

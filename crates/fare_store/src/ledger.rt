@@ -1,6 +1,6 @@
 ghost use Rattle.std.specs.Prelude.{◌≡◌, ℕ, ◌↔◌, IsTrue, IsFalse, Err, length};
-ghost use Rattle.fare_owner.specs.declared.tap.TapFault.TheVariants as tap;
-ghost use Rattle.fare_owner.specs.declared.statement.StatementFault.TheVariants as statement;
+ghost use Rattle.fare_owner.specs.declared.tap.TapFault.TheVariants as tap_fault;
+ghost use Rattle.fare_owner.specs.declared.statement.StatementFault.TheVariants as statement_fault;
 ghost use Rattle.fare_store.specs.declared.fault.Refused.TheVariants.{Because};
 ghost use Rattle.fare_record.specs.Lanes.{day_count};
 ghost use Rattle.fare_store.specs.Standing.{Standing, IsSound, Reads, Writes};
@@ -46,16 +46,16 @@ pub trait Ledger {
     /// alone: then nothing is asked of the store, so a ledger that a failure has shut answers it too, and no fault
     /// stands in its place.
     fn take(&mut self, row: &Record) -> Result<(), Refused<TapFault>>
-        ensures not_mine { (result ≡ Err (Because tap.NotMine)) ↔ IsFalse (is_mine (standing self.old).value row.now.owner row.now.device) }
-        ensures unasked { result ≡ Err (Because tap.NotMine) → self.new ≡ self.old }
+        ensures not_mine { (result ≡ Err (Because tap_fault.NotMine)) ↔ IsFalse (is_mine (standing self.old).value row.now.owner row.now.device) }
+        ensures unasked { result ≡ Err (Because tap_fault.NotMine) → self.new ≡ self.old }
         ensures does { IsTrue (is_mine (standing self.old).value row.now.owner row.now.device) → Writes (standing self.old) (standing self.new) (take_judged (standing self.old).value row.now) (took row.now (standing self.old).value) result };
 
     /// Takes a statement.
     ///
     /// Refused by the first case of `StatementFault` that applies; `NotMine` as in `take`.
     fn state(&mut self, statement: &Statement) -> Result<(), Refused<StatementFault>>
-        ensures not_mine { (result ≡ Err (Because statement.NotMine)) ↔ IsFalse (is_mine (standing self.old).value statement.now.owner statement.now.device) }
-        ensures unasked { result ≡ Err (Because statement.NotMine) → self.new ≡ self.old }
+        ensures not_mine { (result ≡ Err (Because statement_fault.NotMine)) ↔ IsFalse (is_mine (standing self.old).value statement.now.owner statement.now.device) }
+        ensures unasked { result ≡ Err (Because statement_fault.NotMine) → self.new ≡ self.old }
         ensures does { IsTrue (is_mine (standing self.old).value statement.now.owner statement.now.device) → Writes (standing self.old) (standing self.new) (state_judged (standing self.old).value statement.now) (with_statement statement.now (standing self.old).value) result };
 
     /// Closes a device's first day that isn't closed, where the stated count is the count of that day's taps.

@@ -1,3 +1,4 @@
+ghost use Rattle.std.proofs.Common.{refl};
 ghost use Rattle.fare_store.specs.Standing.{plain};
 ghost use Rattle.fare_store.specs.PlainLedgerWords.{plain_ledger};
 

@@ -5,8 +5,8 @@ use Rattle.fare_store.specs.PlainLedgerWords.{plain_ledger}
 use Rattle.fare_store.proofs.PlainLemmas.{plain_call}
 use Rattle.fare_store.proofs.plain_ledger.calls.PlainLedgerLedger.state.Goals as goal
 
-pub returns-in-Ok-write_statement : goal.returns-in-Ok-write_statement
-returns-in-Ok-write_statement c =
+pub returns-in-Ok-write_statement-clause-does : goal.returns-in-Ok-write_statement-clause-does
+returns-in-Ok-write_statement-clause-does c mine =
     let v = plain_ledger c.args.self.now in
     let s = c.args.statement.now in
     let mine : c.is_mine-mine.result ≡ is_mine v s.owner s.device = c.is_mine-mine.ensures ∙ (λ i. is_mine v (c.owner.ensures i) (c.device.ensures i)) in

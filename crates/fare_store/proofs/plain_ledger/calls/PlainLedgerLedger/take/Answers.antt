@@ -6,8 +6,8 @@ use Rattle.fare_store.specs.PlainLedgerWords.{plain_ledger}
 use Rattle.fare_store.proofs.PlainLemmas.{plain_call}
 use Rattle.fare_store.proofs.plain_ledger.calls.PlainLedgerLedger.take.Goals as goal
 
-pub returns-in-Ok-write_tap : goal.returns-in-Ok-write_tap
-returns-in-Ok-write_tap c =
+pub returns-in-Ok-write_tap-clause-does : goal.returns-in-Ok-write_tap-clause-does
+returns-in-Ok-write_tap-clause-does c mine =
     let v = plain_ledger c.args.self.now in
     let row = c.args.row.now in
     let day : c.day-day.result ≡ row.tap.day = c.day-day.ensures ∙ ap (λ (t : TapValue). t.day) c.tap.ensures in
