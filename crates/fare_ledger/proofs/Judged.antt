@@ -29,9 +29,6 @@ read_more a b c P Q first second = says a c None _ _ (λ v. ⊥) (λ v. ⊥) (λ
 
 -- ---- a tap
 
-pub tap_of_another : (v : LedgerValue) (r : RecordValue) (mine : Bool) → mine ≡ is_mine v r.owner r.device → mine ≡ false → take_judged v r ≡ Err tap.NotMine
-tap_of_another v r mine is not = ap (λ b. tap_judged b (length (v.taken r.device)) (is_closed v r.device r.tap.day) r.lane) (sym is ∙ not)
-
 pub tap_answer : (v : LedgerValue) (r : RecordValue) (lane : Lane) (mine closed : Bool) → mine ≡ is_mine v r.owner r.device → closed ≡ (nat_le v.start r.tap.day && nat_lt r.tap.day (v.start + lane.closed)) → HasNumbers v r.device lane
     → tap_judged mine lane.taken closed r.lane ≡ take_judged v r
 tap_answer v r lane mine closed mine_is closed_is has =
@@ -77,9 +74,6 @@ may_take v r closed judged =
     record { mine = owned v r.owner r.device it.mine_is; next = it.next; open_day = it.open_is; closed_is = judged.1 }
 
 -- ---- a statement
-
-pub statement_of_another : (v : LedgerValue) (s : StatementValue) (mine : Bool) → mine ≡ is_mine v s.owner s.device → mine ≡ false → ◌≡◌ {A = Result Unit StatementFault} (Err said.NotMine) (state_judged v s)
-statement_of_another v s mine is not = sym (ap (λ b. statement_judged b (v.stated s.device s.day) s.count) (sym is ∙ not))
 
 pub state_answer : (a d : Standing LedgerValue) (s : StatementValue) (mine : Bool) (held : Option ℕ) (answer : Result Unit StatementFault) → mine ≡ is_mine a.value s.owner s.device → answer ≡ statement_judged mine held s.count
     → Calls a d None ((d.value ≡ a.value) × (held ≡ a.value.stated s.device s.day)) (λ v. ⊥) → Calls a d None ((d.value ≡ a.value) × (answer ≡ state_judged a.value s)) (λ v. ⊥)

@@ -50,6 +50,9 @@ impl<S: Alter> Ledger for SqlLedger<S> {
     }
 
     fn take(&mut self, row: &Record) -> Result<(), Refused<TapFault>> {
+        if !self.is_mine(row.owner(), row.device()) {
+            return Err(Refused::Because(TapFault::NotMine));
+        }
         match self.judge_take(row) {
             Err(fault) => Err(Refused::Failed(fault)),
             Ok(Err(why)) => Err(Refused::Because(why)),
@@ -61,6 +64,9 @@ impl<S: Alter> Ledger for SqlLedger<S> {
     }
 
     fn state(&mut self, statement: &Statement) -> Result<(), Refused<StatementFault>> {
+        if !self.is_mine(statement.owner(), statement.device()) {
+            return Err(Refused::Because(StatementFault::NotMine));
+        }
         match self.judge_state(statement) {
             Err(fault) => Err(Refused::Failed(fault)),
             Ok(Err(why)) => Err(Refused::Because(why)),

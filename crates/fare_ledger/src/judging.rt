@@ -1,7 +1,7 @@
-ghost use Rattle.std.specs.Prelude.{◌≡◌, ◌≤◌, IfOk, OnOk};
+ghost use Rattle.std.specs.Prelude.{◌≡◌, ◌≢◌, ◌≤◌, Ok, Err, IfOk, OnOk, IsTrue};
 ghost use Rattle.sqlite.specs.Held.{state};
 ghost use Rattle.fare_store.specs.Standing.{Reads};
-ghost use Rattle.fare_store.specs.LedgerWords.{state_judged};
+ghost use Rattle.fare_store.specs.LedgerWords.{is_mine, state_judged};
 ghost use Rattle.fare_tables.specs.Asking.{IsUp};
 ghost use Rattle.fare_ledger.specs.Held.{IsWithin};
 ghost use Rattle.fare_ledger.specs.Words.{stands, JudgesTap, JudgesDay};
@@ -15,11 +15,14 @@ use fare_store::Fault;
 use sqlite::Alter;
 
 impl<S: Alter> SqlLedger<S> {
-    // What is answered to a tap before it is taken; if it may be, how many days of its device are closed.
+    // What is answered to one of the owner's taps before it is taken; if it may be, how many days of its device
+    // are closed.
     pub(crate) fn judge_take(&mut self, row: &Record) -> Result<Result<u64, TapFault>, Fault>
+        requires mine { IsTrue (is_mine (stands S.Store self.old).value row.now.owner row.now.device) }
         ensures does { Reads (stands S.Store self.old) (stands S.Store self.new) (JudgesTap (stands S.Store self.old).value row.now) result }
         ensures up { IfOk result (λ judged. OnOk judged (IsUp (state S.Store self.new.conn))) }
         ensures low { IfOk result (λ judged. IfOk judged (λ closed. closed ≤ 100001)) }
+        ensures mine { result ≢ Ok (Err TapFault.NotMine) }
     {
         let start = self.start;
         self.begin()?;
@@ -31,13 +34,15 @@ impl<S: Alter> SqlLedger<S> {
         }
     }
 
-    // What is answered to a statement before it is taken.
+    // What is answered to one of the owner's statements before it is taken.
     pub(crate) fn judge_state(
         &mut self,
         statement: &Statement,
     ) -> Result<Result<(), StatementFault>, Fault>
+        requires mine { IsTrue (is_mine (stands S.Store self.old).value statement.now.owner statement.now.device) }
         ensures does { Reads (stands S.Store self.old) (stands S.Store self.new) (λ judged. judged ≡ state_judged (stands S.Store self.old).value statement.now) result }
         ensures up { IfOk result (λ judged. OnOk judged (IsUp (state S.Store self.new.conn))) }
+        ensures mine { result ≢ Ok (Err StatementFault.NotMine) }
     {
         self.begin()?;
         let held = self.stated_of(statement.device(), statement.day())?;

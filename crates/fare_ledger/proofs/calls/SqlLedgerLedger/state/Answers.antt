@@ -8,11 +8,11 @@ use Rattle.fare_ledger.specs.Words.{stands}
 use Rattle.fare_ledger.proofs.Judged.{may_state}
 use Rattle.fare_ledger.proofs.calls.SqlLedgerLedger.state.Goals as goal
 
-pub returns-in-Err : goal.returns-in-Err
-returns-in-Err g c = says (stands g.S.Store c.args.self.now) (stands g.S.Store c.judge_state.new.self) (Some c.in-Err.fault) _ _ (λ v. ⊥) _ (λ lawful p. p.0) (λ v none. absurd none) c.in-Err.ensures.does
+pub returns-in-Err-clause-does : goal.returns-in-Err-clause-does
+returns-in-Err-clause-does g c mine = says (stands g.S.Store c.args.self.now) (stands g.S.Store c.judge_state.new.self) (Some c.in-Err.fault) _ _ (λ v. ⊥) _ (λ lawful p. p.0) (λ v none. absurd none) c.in-Err.ensures.does
 
-pub returns-in-Ok : goal.returns-in-Ok
-returns-in-Ok g c =
+pub returns-in-Ok-clause-does : goal.returns-in-Ok-clause-does
+returns-in-Ok-clause-does g c mine =
     let a = stands g.S.Store c.args.self.now in
     let b = stands g.S.Store c.judge_state.new.self in
     let d = stands g.S.Store c.put_statement.new.self in
@@ -25,8 +25,8 @@ returns-in-Ok g c =
     (λ p v is. (sym p.1, is ∙ ap (with_statement r) p.0)) first
     (given_more b d _ _ _ None _ (λ p. subst (λ (v : LedgerValue). v.stated r.device r.day ≡ None) (sym p.0) (may_state a.value r p.1)) second))
 
-pub returns-in-Err-put_statement : goal.returns-in-Err-put_statement
-returns-in-Err-put_statement g c =
+pub returns-in-Err-put_statement-clause-does : goal.returns-in-Err-put_statement-clause-does
+returns-in-Err-put_statement-clause-does g c mine =
     let a = stands g.S.Store c.args.self.now in
     let b = stands g.S.Store c.judge_state.new.self in
     let d = stands g.S.Store c.put_statement.new.self in
@@ -39,8 +39,8 @@ returns-in-Err-put_statement g c =
     (λ p v is. (sym p.1, is ∙ ap (with_statement r) p.0)) first
     (given_more b d _ _ _ (Some _) _ (λ p. subst (λ (v : LedgerValue). v.stated r.device r.day ≡ None) (sym p.0) (may_state a.value r p.1)) second))
 
-pub returns-in-Ok-Err : goal.returns-in-Ok-Err
-returns-in-Ok-Err g c =
+pub returns-in-Ok-Err-clause-does : goal.returns-in-Ok-Err-clause-does
+returns-in-Ok-Err-clause-does g c mine =
     let a = stands g.S.Store c.args.self.now in
     let b = stands g.S.Store c.judge_state.new.self in
     let r = c.args.statement.now in

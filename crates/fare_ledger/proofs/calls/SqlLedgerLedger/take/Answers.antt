@@ -7,11 +7,11 @@ use Rattle.fare_ledger.specs.Words.{stands, JudgesTap, MayTake}
 use Rattle.fare_ledger.proofs.Judged.{may_take}
 use Rattle.fare_ledger.proofs.calls.SqlLedgerLedger.take.Goals as goal
 
-pub returns-in-Err : goal.returns-in-Err
-returns-in-Err g c = says (stands g.S.Store c.args.self.now) (stands g.S.Store c.judge_take.new.self) (Some c.in-Err.fault) _ _ (λ v. ⊥) _ (λ lawful p. p.0) (λ v none. absurd none) c.in-Err.ensures.does
+pub returns-in-Err-clause-does : goal.returns-in-Err-clause-does
+returns-in-Err-clause-does g c mine = says (stands g.S.Store c.args.self.now) (stands g.S.Store c.judge_take.new.self) (Some c.in-Err.fault) _ _ (λ v. ⊥) _ (λ lawful p. p.0) (λ v none. absurd none) c.in-Err.ensures.does
 
-pub returns-in-Ok : goal.returns-in-Ok
-returns-in-Ok g c =
+pub returns-in-Ok-clause-does : goal.returns-in-Ok-clause-does
+returns-in-Ok-clause-does g c mine =
     let a = stands g.S.Store c.args.self.now in
     let b = stands g.S.Store c.judge_take.new.self in
     let d = stands g.S.Store c.put_tap.new.self in
@@ -24,8 +24,8 @@ returns-in-Ok g c =
     (λ p v is. (p.1.0, is ∙ ap (took r) p.0)) first
     (given_more b d _ _ _ None _ (λ p. subst (λ (v : LedgerValue). MayTake v r c.in-Ok-Ok.closed) (sym p.0) (may_take a.value r c.in-Ok-Ok.closed p.1)) second))
 
-pub returns-in-Err-put_tap : goal.returns-in-Err-put_tap
-returns-in-Err-put_tap g c =
+pub returns-in-Err-put_tap-clause-does : goal.returns-in-Err-put_tap-clause-does
+returns-in-Err-put_tap-clause-does g c mine =
     let a = stands g.S.Store c.args.self.now in
     let b = stands g.S.Store c.judge_take.new.self in
     let d = stands g.S.Store c.put_tap.new.self in
@@ -38,8 +38,8 @@ returns-in-Err-put_tap g c =
     (λ p v is. (p.1.0, is ∙ ap (took r) p.0)) first
     (given_more b d _ _ _ (Some _) _ (λ p. subst (λ (v : LedgerValue). MayTake v r c.in-Ok-Ok.closed) (sym p.0) (may_take a.value r c.in-Ok-Ok.closed p.1)) second))
 
-pub returns-in-Ok-Err : goal.returns-in-Ok-Err
-returns-in-Ok-Err g c =
+pub returns-in-Ok-Err-clause-does : goal.returns-in-Ok-Err-clause-does
+returns-in-Ok-Err-clause-does g c mine =
     let a = stands g.S.Store c.args.self.now in
     let b = stands g.S.Store c.judge_take.new.self in
     let r = c.args.row.now in

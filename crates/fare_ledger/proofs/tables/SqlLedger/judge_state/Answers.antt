@@ -1,7 +1,7 @@
-use Rattle.std.proofs.Common.{◌≡◌, Some, None, ap, ◌∙◌}
+use Rattle.std.proofs.Common.{◌≡◌, true, Some, None, sym, ap, ◌∙◌}
 use Rattle.fare_owner.specs.StatementJudged.{statement_judged}
 use Rattle.fare_store.specs.Standing.{Calls}
-use Rattle.fare_store.specs.LedgerWords.{LedgerValue, is_mine}
+use Rattle.fare_store.specs.LedgerWords.{LedgerValue}
 use Rattle.fare_tables.proofs.Steps.{read_then, read_failed}
 use Rattle.fare_ledger.specs.Words.{stands}
 use Rattle.fare_ledger.proofs.Judged.{read_next, state_answer}
@@ -23,7 +23,6 @@ returns-clause-does g c =
     let s = c.args.statement.now in
     let held = c.in_ok-held.held in
     let first : Calls a b None ((b.value ≡ a.value) × Unit {0}) (λ v. ⊥) = c.in_ok-begin.ensures.does in
-    let second : Calls b d None ((d.value ≡ b.value) × (held ≡ b.value.stated s.device s.day)) (λ v. ⊥) = rw (c.device-2.ensures, c.day.ensures) at c.in_ok-held.ensures.does in
-    let mine : c.is_mine-mine.result ≡ is_mine a.value s.owner s.device = rw (c.owner.ensures, c.device.ensures) at c.is_mine-mine.ensures in
-    state_answer a d s c.is_mine-mine.result held c.judge_statement.result mine (c.judge_statement.ensures.judged ∙ ap (statement_judged c.is_mine-mine.result held) c.count.ensures.value)
+    let second : Calls b d None ((d.value ≡ b.value) × (held ≡ b.value.stated s.device s.day)) (λ v. ⊥) = rw (c.device.ensures, c.day.ensures) at c.in_ok-held.ensures.does in
+    state_answer a d s true held c.judge_statement.result (sym c.requires.mine) (c.judge_statement.ensures.judged ∙ ap (statement_judged true held) c.count.ensures.value)
     (read_next a b d (λ (v : LedgerValue). held ≡ v.stated s.device s.day) first second)

@@ -1,7 +1,7 @@
-use Rattle.std.proofs.Common.{◌≡◌, ◌+◌, ◌&&◌, nat_le, nat_lt, Some, None, ap, ◌∙◌}
+use Rattle.std.proofs.Common.{◌≡◌, ◌+◌, ◌&&◌, nat_le, nat_lt, true, Some, None, sym, ap, ◌∙◌}
 use Rattle.fare_owner.specs.TapJudged.{tap_judged}
 use Rattle.fare_store.specs.Standing.{Calls}
-use Rattle.fare_store.specs.LedgerWords.{LedgerValue, is_mine}
+use Rattle.fare_store.specs.LedgerWords.{LedgerValue}
 use Rattle.fare_record.specs.Values.{TapValue}
 use Rattle.fare_tables.proofs.Steps.{read_then, read_failed}
 use Rattle.fare_ledger.specs.Words.{stands, HasNumbers}
@@ -24,10 +24,9 @@ returns-in-Ok-clause-does g c =
     let r = c.args.row.now in
     let lane = c.in_ok-lane.lane in
     let first : Calls a b None ((b.value ≡ a.value) × Unit {0}) (λ v. ⊥) = c.in_ok-begin.ensures.does in
-    let second : Calls b d None ((d.value ≡ b.value) × HasNumbers b.value r.device lane) (λ v. ⊥) = rw c.device-2.ensures at c.in_ok-lane.ensures.does in
-    let mine : c.is_mine-mine.result ≡ is_mine a.value r.owner r.device = rw (c.owner.ensures, c.device.ensures) at c.is_mine-mine.ensures in
+    let second : Calls b d None ((d.value ≡ b.value) × HasNumbers b.value r.device lane) (λ v. ⊥) = rw c.device.ensures at c.in_ok-lane.ensures.does in
     let closed : c.is_closed-closed.result ≡ (nat_le a.value.start r.tap.day && nat_lt r.tap.day (a.value.start + lane.closed)) = c.is_closed-closed.ensures ∙ ap (λ y. nat_le a.value.start y && nat_lt y (a.value.start + lane.closed)) (c.day.ensures ∙ ap (λ (t : TapValue). t.day) c.tap.ensures) in
-    judged_ok a d r lane (λ has. c.in-Ok.ensures.judged ∙ ap (tap_judged c.is_mine-mine.result lane.taken c.is_closed-closed.result) c.lane.ensures.value ∙ tap_answer a.value r lane c.is_mine-mine.result c.is_closed-closed.result mine closed has)
+    judged_ok a d r lane (λ has. c.in-Ok.ensures.judged ∙ ap (tap_judged true lane.taken c.is_closed-closed.result) c.lane.ensures.value ∙ tap_answer a.value r lane true c.is_closed-closed.result (sym c.requires.mine) closed has)
     (read_next a b d (λ (v : LedgerValue). HasNumbers v r.device lane) first second)
 
 pub returns-in-Err-clause-does : goal.returns-in-Err-clause-does
@@ -38,8 +37,7 @@ returns-in-Err-clause-does g c =
     let r = c.args.row.now in
     let lane = c.in_ok-lane.lane in
     let first : Calls a b None ((b.value ≡ a.value) × Unit {0}) (λ v. ⊥) = c.in_ok-begin.ensures.does in
-    let second : Calls b d None ((d.value ≡ b.value) × HasNumbers b.value r.device lane) (λ v. ⊥) = rw c.device-2.ensures at c.in_ok-lane.ensures.does in
-    let mine : c.is_mine-mine.result ≡ is_mine a.value r.owner r.device = rw (c.owner.ensures, c.device.ensures) at c.is_mine-mine.ensures in
+    let second : Calls b d None ((d.value ≡ b.value) × HasNumbers b.value r.device lane) (λ v. ⊥) = rw c.device.ensures at c.in_ok-lane.ensures.does in
     let closed : c.is_closed-closed.result ≡ (nat_le a.value.start r.tap.day && nat_lt r.tap.day (a.value.start + lane.closed)) = c.is_closed-closed.ensures ∙ ap (λ y. nat_le a.value.start y && nat_lt y (a.value.start + lane.closed)) (c.day.ensures ∙ ap (λ (t : TapValue). t.day) c.tap.ensures) in
-    judged_err a d r lane c.in-Err.why (λ has. c.in-Err.ensures.judged ∙ ap (tap_judged c.is_mine-mine.result lane.taken c.is_closed-closed.result) c.lane.ensures.value ∙ tap_answer a.value r lane c.is_mine-mine.result c.is_closed-closed.result mine closed has)
+    judged_err a d r lane c.in-Err.why (λ has. c.in-Err.ensures.judged ∙ ap (tap_judged true lane.taken c.is_closed-closed.result) c.lane.ensures.value ∙ tap_answer a.value r lane true c.is_closed-closed.result (sym c.requires.mine) closed has)
     (read_next a b d (λ (v : LedgerValue). HasNumbers v r.device lane) first second)
