@@ -1,4 +1,5 @@
 pub mod Places
+pub mod Foreign
 pub mod RowPlaces
 pub mod Lists
 pub mod TableLemmas

@@ -293,6 +293,13 @@ module _ {O L : Type 0} (out : O → Standing OutboxValue) (led : L → Standing
   pub same_ledgers : (old new : World O L) (a : ℕ) (x y : Owner L) → new.outbox ≡ old.outbox → y.ledger ≡ x.ledger → slice_get old.owners.items a ≡ Some x → new.owners.items ≡ set old.owners.items a y → SameStores old new
   same_ledgers old new a x y outbox same at owners = record { outbox = outbox; owners = subst (Beside (λ p q. q ≡ p) old.owners.items) (sym owners) (beside_one (λ p q. q ≡ p) old.owners.items a x y (λ p. refl) at same) }
 
+  -- a call of a ledger that is asked only for what is its own, refused by name
+  pub ledger_refused : (old new : World O L) (e : Event) (r : Reply) (a : ℕ) (x y : Owner L) (mine : Bool) (did : Type 0) (commits : LedgerValue → Type 0) → new.scheme ≡ old.scheme → new.outbox ≡ old.outbox → slice_get old.owners.items a ≡ Some x → new.owners.items ≡ set old.owners.items a y
+      → (mine ≡ true → Calls (led x.ledger) (led y.ledger) None did commits) → (mine ≡ false → (y.ledger ≡ x.ledger) × did)
+      → ((s : System) → did → Shows old.scheme (shape (seen out led old)) s → Answers old.scheme (shape (seen out led new)) (step old.scheme s e) r) → IsStepped out led old new e r
+  ledger_refused old new e r a x y true did commits same outbox at owners asked unasked f = ledger_stepped old new e r a x y did commits same outbox at owners (asked refl) f
+  ledger_refused old new e r a x y false did commits same outbox at owners asked unasked f = let is = unasked refl in steps old new e r same (same_ledgers old new a x y outbox is.0 at owners) (λ s. f s is.1)
+
   -- A READ OF A LEDGER, THEN A CALL OF THE OUTBOX
   pub both_follows : (old new : World O L) (a : ℕ) (x y : Owner L) {faulted : Option Fault} (read : Type 0) (reads : LedgerValue → Type 0) (did : Type 0) (commits : OutboxValue → Type 0) → slice_get old.owners.items a ≡ Some x → new.owners.items ≡ set old.owners.items a y
       → Calls (led x.ledger) (led y.ledger) None read reads → Calls (out old.outbox) (out new.outbox) faulted did commits → Follows out led old new faulted
