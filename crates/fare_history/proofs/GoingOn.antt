@@ -1,5 +1,5 @@
 -- What an owner's loop and the writer's loop know of what their stores may hold: one item more.
-use Rattle.std.proofs.Common.{◌≡◌, ℕ, List, [], ◌∷◌, ◌++◌, sym, ap, ◌∙◌, subst, inl, inr}
+use Rattle.std.proofs.Common.{◌≡◌, List, [], ◌∷◌, ◌++◌, sym, ap, ◌∙◌, inl, inr}
 use Rattle.std.specs.Prelude.{Result, Ok, Err, is_ok, ◌⊎◌}
 use Rattle.fare_record.specs.Values.{RecordValue, StatementValue}
 use Rattle.fare_record.specs.declared.item.Item.{Item}
@@ -16,8 +16,8 @@ use Rattle.fare_store.specs.declared.fault.StatedFault.TheVariants as stated_fau
 use Rattle.fare_store.specs.Standing.{Standing, Writes, IsSound}
 use Rattle.fare_store.specs.OutboxWords.{OutboxValue, store_judged, stored, stated_judged, stored_statement}
 use Rattle.fare_store.specs.LedgerWords.{LedgerValue, take_judged, took, state_judged, with_statement}
-use Rattle.fare_history.specs.Serving.{given, given_all}
-use Rattle.fare_history.specs.Gathering.{Entry, IsRepeated, storing, storing_all}
+use Rattle.fare_history.specs.Serving.{given}
+use Rattle.fare_history.specs.Gathering.{Entry, IsRepeated, storing}
 use Rattle.fare_history.specs.Holding.{Leads, IsGivenAll, IsStoredAll, IsFit}
 use Rattle.fare_history.proofs.Committed.{given_repeated}
 use Rattle.fare_history.proofs.Growing.{given_all-push, storing_all-push}

@@ -1,6 +1,6 @@
 -- What a store may hold after one call, by what the call answered.
 use Rattle.std.proofs.Common.{◌≡◌, ℕ, refl, sym, subst, inl, inr}
-use Rattle.std.specs.Prelude.{Option, None, Some, Result, Ok, Err, ◌⊎◌}
+use Rattle.std.specs.Prelude.{Option, None, Result, Ok, Err, ◌⊎◌}
 use Rattle.fare_store.specs.declared.fault.Fault.{Fault}
 use Rattle.fare_store.specs.declared.fault.Refused.{Refused}
 use Rattle.fare_store.specs.declared.fault.Refused.TheVariants as refused

@@ -1,6 +1,6 @@
 -- What a collector accepts of frames one after the other are the accepted links of each of its devices.
-use Rattle.std.proofs.Common.{◌≡◌, ℕ, zero, suc, ◌+◌, List, [], ◌∷◌, ◌++◌, true, false, Bool, map, Some, None, refl, sym, ap, ◌∙◌, subst, arith, inl, inr}
-use Rattle.std.specs.Prelude.{Option, Result, Ok, Err, IsSome, ◌==◌, not, if◌then◌else◌, nat_lt, option_map, slice_get, ◌⊎◌}
+use Rattle.std.proofs.Common.{◌≡◌, ℕ, ◌+◌, List, [], ◌∷◌, ◌++◌, true, false, Bool, map, Some, None, refl, sym, ap, ◌∙◌, subst, arith}
+use Rattle.std.specs.Prelude.{Option, Result, Ok, Err, ◌==◌, not, if◌then◌else◌, nat_lt, option_map}
 use Rattle.std.specs.List.{AllByRecursion}
 use Rattle.std.proofs.lemmas.Bool.Decides.{nat_tests}
 use Rattle.fare_record.specs.Values.{RecordValue, StatementValue}
@@ -15,11 +15,10 @@ use Rattle.fare_collector.specs.Collecting.{is_id, is_owned, collect_judged, cha
 use Rattle.fare_collector.specs.declared.fault.CollectRefusal.{CollectRefusal}
 use Rattle.fare_collector.specs.declared.fault.CollectRefusal.TheVariants.{Misrouted, Old, Ahead}
 use Rattle.fare_collector.specs.declared.fault.StatementRefusal.{StatementRefusal}
-use Rattle.fare_history.specs.Serving.{device_of}
-use Rattle.fare_history.specs.Gathering.{with_link, links_of, CountsFrom}
+use Rattle.fare_history.specs.Gathering.{links_of, CountsFrom}
 use Rattle.fare_history.specs.Plainly.{taps_in}
-use Rattle.fare_history.specs.AcceptedLinks.{IsLink, IsNotLink, IsFirstLink, AreAcceptedLinks, tap_judged, stating_judged, arrived_if, arrived_of, moved_if, next_links, arrivals}
-use Rattle.fare_history.proofs.Entries.{is_one, is_self, other_way, is_own_id, below, all-right}
+use Rattle.fare_history.specs.AcceptedLinks.{IsLink, IsNotLink, IsFirstLink, AreAcceptedLinks, tap_judged, stating_judged, arrived_if, moved_if, arrivals}
+use Rattle.fare_history.proofs.Entries.{is_one, is_self, other_way, is_own_id, all-right}
 
 -- ONE TAP
 -- the verdict by the owner's test, and whether the link is before or behind the next one

@@ -1,8 +1,8 @@
 ghost use Rattle.std.specs.Prelude.{◌≡◌, ◌∷◌, [], IfSome, IfNone};
 ghost use Rattle.fare_inbox_queue.specs.LinePasses.{unheard_list, IsLineEnded};
 
-use crate::ack_rule::{Drains, Told, View};
 use crate::AckLine;
+use crate::ack_rule::{Drains, Told, View};
 use crossbeam_queue::Pass;
 use fare_record::AckItem;
 use std::sync::Wait;
