@@ -4,8 +4,10 @@ use Rattle.fare_record.specs.Values.{RecordValue}
 use Rattle.fare_scheme.specs.Values.{SchemeValue}
 use Rattle.fare_scheme.specs.declared.entry.Tariff.{Tariff}
 use Rattle.fare_cap.specs.Values.{AccountValue}
+use Rattle.fare_cap.specs.declared.day_rides.DayRides.{DayRides}
 use Rattle.fare_cap.specs.declared.row.Row.{Row}
 use Rattle.fare_cap.specs.Fares.{sum_below, day_fare, week_start, fares_before, rise, tariff_or_none, amount_by, paid_on}
+use Rattle.fare_cap.specs.RidesWords.{rides_on}
 use Rattle.fare_cap.specs.Bills.{row_of}
 
 abbrev pub row_with : AccountValue → ℕ → ℕ → Row
@@ -38,10 +40,10 @@ amount_by-same scheme account f g day same =
     ap (λ b. rise tariff b (b + day_fare tariff (f day))) before ∙ ap (λ n. rise tariff (fares_before scheme tariff g day) (fares_before scheme tariff g day + day_fare tariff n)) (same day)
 
 -- the row that a table of rides gives
-pub row_same : (scheme : SchemeValue) (ordered : List RecordValue) (day : ℕ) (account : AccountValue) (table : AccountValue → ℕ → ℕ) (rides amount : ℕ)
-    → ((a : AccountValue) (d : ℕ) → table a d ≡ paid_on scheme ordered a d) → rides ≡ table account day → amount ≡ amount_by scheme account (table account) day
+pub row_same : (scheme : SchemeValue) (ordered : List RecordValue) (day : ℕ) (account : AccountValue) (table : AccountValue → ℕ → DayRides) (rides amount : ℕ)
+    → ((a : AccountValue) (d : ℕ) → table a d ≡ rides_on scheme ordered a d) → rides ≡ (table account day).taps → amount ≡ amount_by scheme account (λ d. (table account d).paid) day
     → row_with account rides amount ≡ row_of scheme ordered day account
 row_same scheme ordered day account table rides amount counts is_rides is_amount =
-    ap (λ n. row_with account n amount) (is_rides ∙ counts account day)
-    ∙ ap (row_with account (paid_on scheme ordered account day))
-    (is_amount ∙ amount_by-same scheme account (table account) (paid_on scheme ordered account) day (counts account))
+    ap (λ n. row_with account n amount) (is_rides ∙ ap (λ (r : DayRides). r.taps) (counts account day))
+    ∙ ap (row_with account (rides_on scheme ordered account day).taps)
+    (is_amount ∙ amount_by-same scheme account (λ d. (table account d).paid) (paid_on scheme ordered account) day (λ d. ap (λ (r : DayRides). r.paid) (counts account d)))

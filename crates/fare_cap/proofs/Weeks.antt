@@ -1,12 +1,13 @@
 -- A bill depends on the records of its week alone, and not on their order.
-use Rattle.std.proofs.Common.{◌≡◌, ℕ, ◌+◌, ◌-◌, ◌<◌, ◌≤◌, Bool, true, false, cond, ◌&&◌, ◌==◌, eqb-true, nat_le, leb-true, List, [], ◌∷◌, map, filter, refl, sym, ◌∙◌, ap, arith}
+use Rattle.std.proofs.Common.{◌≡◌, ℕ, ◌+◌, ◌-◌, ◌<◌, ◌≤◌, Bool, true, false, cond, ◌&&◌, ◌==◌, eqb-true, nat_le, leb-true, List, [], ◌∷◌, length, map, filter, refl, sym, ◌∙◌, ap, arith}
 use Rattle.std.proofs.lemmas.Bool.{and_parts}
 use Rattle.fare_record.specs.Values.{RecordValue}
 use Rattle.fare_scheme.specs.Values.{SchemeValue}
 use Rattle.fare_cap.specs.Values.{AccountValue}
 use Rattle.fare_cap.specs.Order.{in_order}
 use Rattle.fare_cap.specs.Accounts.{counts, counted_on, part_of, accounts_of}
-use Rattle.fare_cap.specs.Fares.{paid, paid_on, week_start, fares_before, day_fare, rise, tariff_or_none}
+use Rattle.fare_cap.specs.Windows.{paid}
+use Rattle.fare_cap.specs.Fares.{paid_on, hop_of, week_start, fares_before, day_fare, rise, tariff_or_none}
 use Rattle.fare_cap.specs.Bills.{BillValue, row_of, bill_rows, total_of}
 use Rattle.fare_cap.specs.declared.row.Row.{Row}
 use Rattle.fare_cap.specs.Spans.{KeepsWeek, OtherDaysCountNowhere}
@@ -23,15 +24,16 @@ pub fares-same_week : (scheme : SchemeValue) (day : ℕ) (xs ys : List RecordVal
     → fares_before scheme (tariff_or_none scheme account.product) (paid_on scheme xs account) day ≡ fares_before scheme (tariff_or_none scheme account.product) (paid_on scheme ys account) day
 fares-same_week scheme day xs ys same account =
     fares_before-same_week scheme (tariff_or_none scheme account.product) (paid_on scheme xs account) (paid_on scheme ys account) day
-    (λ k l. ap (λ (taps : List RecordValue). paid (part_of account taps)) (same.before k l))
+    (λ k l. ap (λ (taps : List RecordValue). paid (hop_of scheme account) (part_of account taps)) (same.before k l))
 
 row-same_week : (scheme : SchemeValue) (day : ℕ) (xs ys : List RecordValue) → HaveSameWeek scheme day xs ys → (account : AccountValue) → row_of scheme xs day account ≡ row_of scheme ys day account
 row-same_week scheme day xs ys same account =
-    ap (λ week. by week (paid_on scheme xs account day)) (fares-same_week scheme day xs ys same account)
-    ∙ ap (λ (taps : List RecordValue). by (fares_before scheme (tariff_or_none scheme account.product) (paid_on scheme ys account) day) (paid (part_of account taps))) same.now
+    ap (λ week. by week (part_of account (counted_on scheme day xs))) (fares-same_week scheme day xs ys same account)
+    ∙ ap (λ (taps : List RecordValue). by (fares_before scheme (tariff_or_none scheme account.product) (paid_on scheme ys account) day) (part_of account taps)) same.now
   where
-    by : ℕ → ℕ → Row
-    by week taps = row_with account taps (rise (tariff_or_none scheme account.product) week (week + day_fare (tariff_or_none scheme account.product) taps))
+    by : ℕ → List RecordValue → Row
+    by week taps =
+        row_with account (length taps) (rise (tariff_or_none scheme account.product) week (week + day_fare (tariff_or_none scheme account.product) (paid (hop_of scheme account) taps)))
 
 map-same : {X Y : Type 0} (f g : X → Y) → ((x : X) → f x ≡ g x) → (xs : List X) → map f xs ≡ map g xs
 map-same f g same [] = refl

@@ -1,6 +1,6 @@
 -- What an account pays: a flat fare for each paid tap, at most the daily cap on a day, and at most the weekly cap
 -- from Monday to Sunday.
-use Rattle.std.specs.Prelude.{ℕ, ◌+◌, ◌-◌, ◌*◌, zero, suc, min, max, List, length, unwrap_or}
+use Rattle.std.specs.Prelude.{ℕ, ◌+◌, ◌-◌, ◌*◌, zero, suc, min, max, List, unwrap_or}
 use Rattle.fare_record.specs.Values.{RecordValue}
 use Rattle.fare_day.specs.Week.{monday_on_or_before}
 use Rattle.fare_scheme.specs.declared.entry.Tariff.{Tariff}
@@ -8,14 +8,19 @@ use Rattle.fare_scheme.specs.Values.{SchemeValue}
 use Rattle.fare_scheme.specs.Words.{tariff_of}
 use Rattle.fare_cap.specs.Values.{AccountValue}
 use Rattle.fare_cap.specs.Accounts.{part_of, counted_on}
+use Rattle.fare_cap.specs.Windows.{paid}
 
--- how many of an account's taps of a day, which stand in order, are paid: all of them
-abbrev pub paid : List RecordValue → ℕ
-paid taps = length taps
+-- a product's tariff; no record counts whose product isn't registered
+abbrev pub tariff_or_none : SchemeValue → ℕ → Tariff
+tariff_or_none scheme product = unwrap_or (tariff_of scheme product) (record { fare = 0; daily = 0; weekly = 0; hop = 0 })
+
+-- for how many seconds after a paid tap further taps of the account are free
+abbrev pub hop_of : SchemeValue → AccountValue → ℕ
+hop_of scheme account = (tariff_or_none scheme account.product).hop
 
 -- how many taps of an account are paid on each day, the records in order
 abbrev pub paid_on : SchemeValue → List RecordValue → AccountValue → ℕ → ℕ
-paid_on scheme ordered account day = paid (part_of account (counted_on scheme day ordered))
+paid_on scheme ordered account day = paid (hop_of scheme account) (part_of account (counted_on scheme day ordered))
 
 -- the fare of a day with so many paid taps: the flat fare of each, at most the daily cap
 abbrev pub day_fare : Tariff → ℕ → ℕ
@@ -38,10 +43,6 @@ fares_before scheme tariff paid_by_day day =
 -- by how much a week's fares rise under the weekly cap
 abbrev pub rise : Tariff → ℕ → ℕ → ℕ
 rise tariff before after = min tariff.weekly after - min tariff.weekly before
-
--- a product's tariff; no record counts whose product isn't registered
-abbrev pub tariff_or_none : SchemeValue → ℕ → Tariff
-tariff_or_none scheme product = unwrap_or (tariff_of scheme product) (record { fare = 0; daily = 0; weekly = 0 })
 
 -- what an account pays for a day: by how much the day's fare raises the week's
 abbrev pub amount_by : SchemeValue → AccountValue → (ℕ → ℕ) → ℕ → ℕ

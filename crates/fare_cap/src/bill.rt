@@ -84,17 +84,17 @@ fn rows(
     for account in &accounts {
         rows.push(Row {
             account: *account,
-            rides: rides.get(*account, day),
+            rides: rides.get(*account, day).taps,
             amount: amount(scheme, &rides, *account, day),
         })?;
     }
     Ok(rows)
 }
 
-/// The bill of a day, by these records: its rows tell how many taps of each account count on the day, and by how much
-/// the day's fare, at most the daily cap, raises what the account's week comes to under the weekly cap. A tap of an
-/// unknown product or device, or of a day before the scheme's first one, counts nowhere. The one error is want of
-/// memory.
+/// The bill of a day, by these records: its rows tell how many taps of each account count on the day, free ones too,
+/// and by how much the day's fare, that of the paid ones and at most the daily cap, raises what the account's week comes
+/// to under the weekly cap. A tap of an unknown product or device, or of a day before the scheme's first one, counts
+/// nowhere. The one error is want of memory.
 pub fn day_bill(
     alloc: Global,
     scheme: &Scheme,

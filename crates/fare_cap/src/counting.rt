@@ -1,5 +1,6 @@
-ghost use Rattle.std.specs.Prelude.{◌≡◌, ◌&&◌, ◌==◌, IfOk};
-ghost use Rattle.fare_cap.specs.Accounts.{counts as is_counted, counted_on, accounts_of};
+ghost use Rattle.std.specs.Prelude.{◌≡◌, ◌&&◌, ◌==◌, is_some, IfSome, IfOk};
+ghost use Rattle.fare_cap.specs.Accounts.{account_of, counts as is_counted, counted_on, accounts_of};
+ghost use Rattle.fare_cap.specs.Fares.{hop_of};
 
 use crate::Account;
 use fare_record::{Day, Record};
@@ -7,13 +8,18 @@ use fare_scheme::Scheme;
 use std::alloc::{AllocError, Global};
 use std::collections::BTreeSet;
 
-// Whether a record counts: its product and its device are registered, and its day isn't before the first one.
-pub(crate) fn counts(scheme: &Scheme, tap: Record) -> bool
-    ensures { result ≡ is_counted scheme.now tap }
+// The window of a record's product, where the record counts: its product and its device are registered, and its day
+// isn't before the scheme's first one.
+pub(crate) fn counted_hop(scheme: &Scheme, tap: Record) -> Option<u32>
+    ensures found { is_some result ≡ is_counted scheme.now tap }
+    ensures value { IfSome result (λ hop. hop ≡ hop_of scheme.now (account_of tap)) }
 {
-    scheme.owner_of(tap.tap().product()).is_some()
-        && scheme.operator_of(tap.device()).is_some()
-        && scheme.start() <= tap.tap().day()
+    let tariff = scheme.tariff_of(tap.tap().product())?;
+    scheme.operator_of(tap.device())?;
+    if tap.tap().day() < scheme.start() {
+        return None;
+    }
+    Some(tariff.hop)
 }
 
 /// Whether a record counts on a day: it is of that day, its product and its device are registered, and the day isn't
@@ -21,7 +27,8 @@ pub(crate) fn counts(scheme: &Scheme, tap: Record) -> bool
 pub fn counts_on(scheme: &Scheme, day: Day, tap: Record) -> bool
     ensures { result ≡ (is_counted scheme.now tap && tap.tap.day == day) }
 {
-    counts(scheme, tap) && tap.tap().day() == day
+    // the day first, which is told without a look-up
+    tap.tap().day() == day && counted_hop(scheme, tap).is_some()
 }
 
 // The accounts with a tap that counts on the day, ascending.

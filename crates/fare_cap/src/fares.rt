@@ -1,6 +1,6 @@
 ghost use Rattle.std.specs.Prelude.{◌≡◌, ◌≤◌, ℕ};
 ghost use Rattle.fare_scheme.specs.Facts.{IsTariff};
-ghost use Rattle.fare_cap.specs.Fares.{day_fare as fare_of_day, week_start as start_of_week, fares_before as fares_of_week, amount_by};
+ghost use Rattle.fare_cap.specs.Fares.{day_fare as fare_of_day, week_start as start_of_week, fares_before as fares_of_week, hop_of as window_of, amount_by};
 ghost use Rattle.fare_cap.specs.RidesWords.{paid_by};
 
 use crate::{Account, Rides};
@@ -19,6 +19,18 @@ pub fn day_fare(tariff: &Tariff, taps: u64) -> Pence
     Pence::new(daily.min(rides) as u64)
 }
 
+/// For how many seconds after a paid tap further taps of an account are free on a traffic day: 0 to 7,200, and 0 for an
+/// account of a product that isn't registered.
+pub fn hop_of(scheme: &Scheme, account: Account) -> u32
+    ensures value { result ≡ window_of scheme.now account }
+    ensures small { result ≤ 7200 }
+{
+    match scheme.tariff_of(account.product()) {
+        Some(tariff) => tariff.hop,
+        None => 0,
+    }
+}
+
 /// The day on which the week of a day begins: its Monday, or the scheme's first day where that is later.
 pub fn week_start(scheme: &Scheme, day: Day) -> Day
     ensures { result ≡ start_of_week scheme.now day }
@@ -27,7 +39,7 @@ pub fn week_start(scheme: &Scheme, day: Day) -> Day
     monday_of(day).map_or(start, |monday| monday.max(start))
 }
 
-/// The day fares of an account with this tariff, summed over the days of the week before the day.
+/// The day fares of an account with this tariff, of its paid taps, summed over the days of the week before the day.
 pub fn fares_before(
     scheme: &Scheme,
     rides: &Rides,
@@ -42,7 +54,7 @@ pub fn fares_before(
     let mut fares: u64 = 0;
     for number in week_start(scheme, day).get()..day.get() {
         let earlier = Day::new(number as u64).unwrap();
-        fares += day_fare(tariff, rides.get(account, earlier)).get();
+        fares += day_fare(tariff, rides.get(account, earlier).paid).get();
     }
     Pence::new(fares)
 }
@@ -57,7 +69,7 @@ pub fn amount(scheme: &Scheme, rides: &Rides, account: Account, day: Day) -> Pen
         return Pence::new(0);
     };
     let before = fares_before(scheme, rides, &tariff, account, day).get();
-    let after = before + day_fare(&tariff, rides.get(account, day)).get();
+    let after = before + day_fare(&tariff, rides.get(account, day).paid).get();
     let weekly = tariff.weekly.get();
     Pence::new(weekly.min(after) - weekly.min(before))
 }

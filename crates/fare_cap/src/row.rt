@@ -6,7 +6,7 @@ use fare_record::Pence;
 pub struct Row {
     /// The account.
     pub account: Account,
-    /// How many of its taps count on the day.
+    /// How many of its taps count on the day, paid and free.
     pub rides: u64,
     /// At most the product's weekly cap.
     pub amount: Pence,

@@ -53,6 +53,9 @@ impl Reader {
         ensures full { IsErrOf result ReadFault.Memory → Overfills (vec_capacity frames.old) frames.old.items (self.old.held ++ piece.now) }
         ensures failed { IsErrOf result ReadFault.Failed ↔ (self.old.failed ≡ true) }
         ensures closed { IsErrOf result ReadFault.Failed → (self.new ≡ self.old) × (frames.new.items ≡ frames.old.items) }
+
+        // The list keeps its room, whatever the answer.
+        ensures room { vec_capacity frames.old ≤ vec_capacity frames.new }
     {
         if self.failed {
             return Err(ReadFault::Failed);
@@ -94,6 +97,7 @@ fn read_piece(held: &mut Vec<u8>, piece: &[u8], frames: &mut Vec<Frame>) -> Resu
     ensures open { IfErr result (λ fault. fault ≢ ReadFault.Failed) }
     ensures held { OnErr result (take (length held.old.items) held.new.items ≡ held.old.items) }
     ensures kept { take (length frames.old.items) frames.new.items ≡ frames.old.items }
+    ensures wide { vec_capacity frames.old ≤ vec_capacity frames.new }
 {
     let before = held.len();
     let room = piece.len().min(LONGEST_FRAME - before);

@@ -121,22 +121,22 @@ one_pruned x o l d p j k =
     put2_all (λ p j (f : ℕ → Option RecordValue). (f k ≡ x.rows p j k) ⊎ ((p ≡ o) × (k ≤ length (l.taken j)) × (f k ≡ None))) x.rows o d (behind (length (l.taken d)) (x.rows o d)) (λ p j. inl refl)
     (elim (behind_or_none (length (l.taken d)) (x.rows o d) k) [ inl same ↦ inl same | inr gone ↦ inr (refl, gone.0, gone.1) ]) p j
 
-all_pruned : (x : OutboxValue) (o : ℕ) (l : LedgerValue) (ds : List ℕ) (p j k : ℕ) → IsKeptOrPruned o x (pruned_to_all x o l ds) l p j k
+pub all_pruned : (x : OutboxValue) (o : ℕ) (l : LedgerValue) (ds : List ℕ) (p j k : ℕ) → IsKeptOrPruned o x (pruned_to_all x o l ds) l p j k
 all_pruned x o l [] p j k = inl refl
 all_pruned x o l (d ∷ ds) p j k = elim (all_pruned (pruned_to x o l d) o l ds p j k) [
   | inl same ↦ elim (one_pruned x o l d p j k) [ inl was ↦ inl (same ∙ was) | inr gone ↦ inr (gone.0, gone.1, same ∙ gone.2) ]
   | inr gone ↦ inr gone
 ]
 
-upto_stays : (x : OutboxValue) (o : ℕ) (l : LedgerValue) (ds : List ℕ) → (pruned_to_all x o l ds).upto ≡ x.upto
+pub upto_stays : (x : OutboxValue) (o : ℕ) (l : LedgerValue) (ds : List ℕ) → (pruned_to_all x o l ds).upto ≡ x.upto
 upto_stays x o l [] = refl
 upto_stays x o l (d ∷ ds) = upto_stays (pruned_to x o l d) o l ds
 
-stated_stays : (x : OutboxValue) (o : ℕ) (l : LedgerValue) (ds : List ℕ) → (pruned_to_all x o l ds).stated ≡ x.stated
+pub stated_stays : (x : OutboxValue) (o : ℕ) (l : LedgerValue) (ds : List ℕ) → (pruned_to_all x o l ds).stated ≡ x.stated
 stated_stays x o l [] = refl
 stated_stays x o l (d ∷ ds) = stated_stays (pruned_to x o l d) o l ds
 
-stated_count_stays : (x : OutboxValue) (o : ℕ) (l : LedgerValue) (ds : List ℕ) → (pruned_to_all x o l ds).stated_count ≡ x.stated_count
+pub stated_count_stays : (x : OutboxValue) (o : ℕ) (l : LedgerValue) (ds : List ℕ) → (pruned_to_all x o l ds).stated_count ≡ x.stated_count
 stated_count_stays x o l [] = refl
 stated_count_stays x o l (d ∷ ds) = stated_count_stays (pruned_to x o l d) o l ds
 
@@ -222,7 +222,7 @@ none_behind n rows k le = let t : nat_le k n ≡ true = grind (arith, nat_tests)
 none_stays : (x : OutboxValue) (o : ℕ) (l : LedgerValue) (ds : List ℕ) (d k : ℕ) → x.rows o d k ≡ None → (pruned_to_all x o l ds).rows o d k ≡ None
 none_stays x o l ds d k none = elim (all_pruned x o l ds o d k) [ inl same ↦ same ∙ none | inr gone ↦ gone.2 ]
 
-each_pruned : (x : OutboxValue) (o : ℕ) (l : LedgerValue) (ds : List ℕ) (d k : ℕ) → list_any (λ j. j == d) ds ≡ true → k ≤ length (l.taken d) → (pruned_to_all x o l ds).rows o d k ≡ None
+pub each_pruned : (x : OutboxValue) (o : ℕ) (l : LedgerValue) (ds : List ℕ) (d k : ℕ) → list_any (λ j. j == d) ds ≡ true → k ≤ length (l.taken d) → (pruned_to_all x o l ds).rows o d k ≡ None
 each_pruned x o l [] d k among le = absurd (cc)
 each_pruned x o l (j ∷ ds) d k among le = by (j == d) refl among (λ rest. each_pruned (pruned_to x o l j) o l ds d k rest le)
   where

@@ -1,4 +1,4 @@
--- What a store may hold after calls of which some may have failed: a failure can leave open whether its call was committed.
+-- What a store may hold after calls of which some failed: a failure leaves open whether its call was committed.
 use Rattle.std.specs.Prelude.{◌≡◌, ◌⊎◌, List}
 use Rattle.fare_record.specs.declared.item.Item.{Item}
 use Rattle.fare_store.specs.Standing.{Standing, IsSound}

@@ -1,4 +1,4 @@
-//! What stores may hold after calls of which some may have failed: while they are live, and where a stop comes.
+//! Laws of what stores may hold after calls of which some failed: while they are live, and where a stop comes.
 ghost use Rattle.std.specs.Prelude.{◌≡◌, ◌⊎◌, ℕ, length, List, [], ◌∷◌, ◌++◌, Option, Result, Ok, Err};
 ghost use Rattle.fare_record.specs.Values.{RecordValue, StatementValue};
 ghost use Rattle.fare_record.specs.declared.item.Item.{Item};
@@ -21,8 +21,10 @@ ghost use Rattle.fare_history.specs.Holding.{Leads, IsGivenAll, IsStoredAll, IsF
 
 use fare_store::{Ledger, Outbox};
 
-/// What an owner's ledger may hold as a loop of takes goes on. After calls that were answered it is all that
-/// these took and nothing less, even where a stop comes; after one that failed, that one may be in it or not.
+/// What an owner's ledger may hold as its loop of takes goes on, over any clean store. It begins with what it held
+/// (`begins`). After calls that were answered it holds what these took beside that, no less and no more, even where a
+/// stop comes (`taken`, `stated`, `repeated`); after one that failed, with that item or without it (`take_failed`,
+/// `state_failed`).
 pub fn an_owner_goes_on<L: Ledger>()
     ensures begins { (s : L) → Leads (IsGivenAll []) (L.standing s) (L.standing s) }
     ensures taken { (items : List Item) (r : RecordValue) (s t u : L) → Leads (IsGivenAll items) (L.standing s) (L.standing t) → Writes (L.standing t) (L.standing u) (take_judged (L.standing t).value r) (took r (L.standing t).value) (Ok tt) → IsFit (L.standing t) → (L.standing u).clean → Leads (IsGivenAll (items ++ Tap r ∷ [])) (L.standing s) (L.standing u) }
@@ -32,8 +34,10 @@ pub fn an_owner_goes_on<L: Ledger>()
     ensures state_failed { (items : List Item) (x : StatementValue) (s t u : L) (result : Result Unit (Refused StatementFault)) → Leads (IsGivenAll items) (L.standing s) (L.standing t) → Writes (L.standing t) (L.standing u) (state_judged (L.standing t).value x) (with_statement x (L.standing t).value) result → IsFit (L.standing t) → (L.standing u).clean → Leads (λ w v. IsGivenAll items w v ⊎ IsGivenAll (items ++ Stated x ∷ []) w v) (L.standing s) (L.standing u) }
 {}
 
-/// What the outbox may hold as the writer's loop goes on. After calls that were answered it is all that these
-/// stored and nothing less, even where a stop comes; after one that failed, that one may be in it or not.
+/// What the outbox may hold as the writer's loop goes on, over any clean store. It begins with what it held
+/// (`begins`). After calls that were answered it holds what these stored beside that, no less and no more, even where
+/// a stop comes (`stored`, `stated`, and of items that it had stored before `stored_before`, `stated_before`); after
+/// one that failed, with that item or without it (`store_failed`, `state_failed`).
 pub fn a_writer_goes_on<O: Outbox>()
     ensures begins { (s : O) → Leads (IsStoredAll []) (O.standing s) (O.standing s) }
     ensures stored { (es : List Entry) (e : Entry) (r : RecordValue) (s t u : O) → e.item ≡ Tap r → Leads (IsStoredAll es) (O.standing s) (O.standing t) → Writes (O.standing t) (O.standing u) (store_judged (O.standing t).value r) (stored r (O.standing t).value) (Ok tt) → IsFit (O.standing t) → (O.standing u).clean → Leads (IsStoredAll (es ++ e ∷ [])) (O.standing s) (O.standing u) }
@@ -45,7 +49,8 @@ pub fn a_writer_goes_on<O: Outbox>()
 {}
 
 /// What a store may hold after a session read it: what it might have held before, also where the read failed; and
-/// where it was answered, the answer is so of all that the store may hold.
+/// where the read was answered, the answer is right of whatever the store may hold. So it is of an outbox's greatest
+/// link, next row and next statement, and of a ledger's count.
 pub fn a_read_changes_nothing<O: Outbox, L: Ledger>()
     ensures upto { (device : ℕ) (result : Result ℕ Fault) (s t : O) → Reads (O.standing s) (O.standing t) (λ n. n ≡ (O.standing s).value.upto device) result → IsFit (O.standing s) → (O.standing t).clean → Leads (λ w v. v ≡ w) (O.standing s) (O.standing t) }
     ensures upto_answered { (device upto : ℕ) (s t : O) → Reads (O.standing s) (O.standing t) (λ n. n ≡ (O.standing s).value.upto device) (Ok upto) → IsFit (O.standing s) → (O.standing t).clean → Leads (λ w v. (v ≡ w) × (upto ≡ w.upto device)) (O.standing s) (O.standing t) }
@@ -57,14 +62,16 @@ pub fn a_read_changes_nothing<O: Outbox, L: Ledger>()
     ensures count_answered { (device count : ℕ) (s t : L) → Reads (L.standing s) (L.standing t) (λ n. n ≡ length ((L.standing s).value.taken device)) (Ok count) → IsFit (L.standing s) → (L.standing t).clean → Leads (λ w v. (v ≡ w) × (count ≡ length (w.taken device))) (L.standing s) (L.standing t) }
 {}
 
-/// What the outbox may hold after a lane was pruned: where the call was answered the pruned outbox and nothing
-/// else, even where a stop comes; where it failed, pruned or not.
+/// What the outbox may hold after a lane was pruned: where the call was answered, what the prune made of what it
+/// held, even where a stop comes, and the answer is how many rows went (`pruned`); where it failed, that or what it
+/// held before (`failed`).
 pub fn a_prune_goes_on<O: Outbox>()
     ensures pruned { (owner device upto removed : ℕ) (s t : O) → Removes (O.standing s) (O.standing t) (pruned owner device upto (O.standing s).value) (rows_upto upto ((O.standing s).value.rows owner device)) (Ok removed) → IsFit (O.standing s) → (O.standing t).clean → Leads (λ w v. (removed ≡ rows_upto upto (w.rows owner device)) × (v ≡ pruned owner device upto w)) (O.standing s) (O.standing t) }
     ensures failed { (owner device upto : ℕ) (result : Result ℕ Fault) (s t : O) → Removes (O.standing s) (O.standing t) (pruned owner device upto (O.standing s).value) (rows_upto upto ((O.standing s).value.rows owner device)) result → IsFit (O.standing s) → (O.standing t).clean → Leads (λ w v. (v ≡ w) ⊎ (v ≡ pruned owner device upto w)) (O.standing s) (O.standing t) }
 {}
 
-/// A store that was fit stays so by each write and each removal, whatever it answered: so a loop goes on with it.
+/// A store that keeps the laws of its kind, and what it holds fitting together, still does so after each write and
+/// each removal, whatever that answered; so a loop may go on with it.
 pub fn stores_stay_fit<O: Outbox, L: Ledger>()
     ensures store { (r : RecordValue) (result : Result Unit (Refused StoreFault)) (s t : O) → Writes (O.standing s) (O.standing t) (store_judged (O.standing s).value r) (stored r (O.standing s).value) result → IsFit (O.standing s) → IsFit (O.standing t) }
     ensures store_statement { (x : StatementValue) (result : Result Unit (Refused StatedFault)) (s t : O) → Writes (O.standing s) (O.standing t) (stated_judged (O.standing s).value x) (stored_statement x (O.standing s).value) result → IsFit (O.standing s) → IsFit (O.standing t) }

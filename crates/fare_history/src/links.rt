@@ -1,4 +1,4 @@
-//! Laws of accepted links: what a station accepts of the frames that it is given.
+//! Laws of accepted links: which taps a station accepts of the frames that it is given.
 ghost use Rattle.std.specs.Prelude.{◌≡◌, ◌+◌, ℕ, List, map, Option, Some};
 ghost use Rattle.fare_record.specs.Values.{RecordValue};
 ghost use Rattle.fare_record.specs.Lanes.{of_device};

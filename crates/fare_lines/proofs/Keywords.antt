@@ -5,7 +5,7 @@ use Rattle.std.proofs.lemmas.Bool.{eqb-true}
 use borrow.Author.Tests.{ltb-true}
 use Rattle.fare_lines.specs.declared.keyword.Keyword.{Keyword}
 use Rattle.fare_lines.specs.declared.keyword.Keyword.TheVariants.{OfScheme, OfEvent}
-use Rattle.fare_lines.specs.declared.keyword.SchemeKeyword.TheVariants.{Owner, Operator, Station, Product, Caps, Device, Inbox, Start, Seal, Demo}
+use Rattle.fare_lines.specs.declared.keyword.SchemeKeyword.TheVariants.{Owner, Operator, Station, Product, Caps, Hop, Device, Inbox, Start, Seal, Demo}
 use Rattle.fare_lines.specs.declared.keyword.EventKeyword.TheVariants.{Tap, Turn, Send, Rewind, State, Arrive, Draw, Store, Ack, DayAck, Answer, Forward, Fetch, Take, Close, Prune, Resume, RestartDevice, RestartStation, RestartWriter, RestartOwner, RestartHub, Upto, Count, Bill, Settle}
 use Rattle.fare_lines.specs.Reading.{any_keyword}
 use Rattle.fare_lines.specs.Grammar.{keyword_text}
@@ -13,7 +13,7 @@ use Rattle.fare_lines.proofs.Cuts.{Lacks}
 
 -- a row for each keyword
 abbrev pub keywords : List Keyword
-keywords = OfEvent Tap ∷ OfEvent Turn ∷ OfEvent Send ∷ OfEvent Rewind ∷ OfEvent State ∷ OfEvent Arrive ∷ OfEvent Draw ∷ OfEvent Store ∷ OfEvent Ack ∷ OfEvent DayAck ∷ OfEvent Answer ∷ OfEvent Forward ∷ OfEvent Fetch ∷ OfEvent Take ∷ OfEvent Close ∷ OfEvent Prune ∷ OfEvent Resume ∷ OfEvent RestartDevice ∷ OfEvent RestartStation ∷ OfEvent RestartWriter ∷ OfEvent RestartOwner ∷ OfEvent RestartHub ∷ OfEvent Upto ∷ OfEvent Count ∷ OfEvent Bill ∷ OfEvent Settle ∷ OfScheme Owner ∷ OfScheme Operator ∷ OfScheme Station ∷ OfScheme Product ∷ OfScheme Caps ∷ OfScheme Device ∷ OfScheme Inbox ∷ OfScheme Start ∷ OfScheme Seal ∷ OfScheme Demo ∷ []
+keywords = OfEvent Tap ∷ OfEvent Turn ∷ OfEvent Send ∷ OfEvent Rewind ∷ OfEvent State ∷ OfEvent Arrive ∷ OfEvent Draw ∷ OfEvent Store ∷ OfEvent Ack ∷ OfEvent DayAck ∷ OfEvent Answer ∷ OfEvent Forward ∷ OfEvent Fetch ∷ OfEvent Take ∷ OfEvent Close ∷ OfEvent Prune ∷ OfEvent Resume ∷ OfEvent RestartDevice ∷ OfEvent RestartStation ∷ OfEvent RestartWriter ∷ OfEvent RestartOwner ∷ OfEvent RestartHub ∷ OfEvent Upto ∷ OfEvent Count ∷ OfEvent Bill ∷ OfEvent Settle ∷ OfScheme Owner ∷ OfScheme Operator ∷ OfScheme Station ∷ OfScheme Product ∷ OfScheme Caps ∷ OfScheme Hop ∷ OfScheme Device ∷ OfScheme Inbox ∷ OfScheme Start ∷ OfScheme Seal ∷ OfScheme Demo ∷ []
 
 abbrev pub place : Keyword → ℕ
 place (OfEvent Tap) = 0
@@ -47,11 +47,12 @@ place (OfScheme Operator) = 27
 place (OfScheme Station) = 28
 place (OfScheme Product) = 29
 place (OfScheme Caps) = 30
-place (OfScheme Device) = 31
-place (OfScheme Inbox) = 32
-place (OfScheme Start) = 33
-place (OfScheme Seal) = 34
-place (OfScheme Demo) = 35
+place (OfScheme Hop) = 31
+place (OfScheme Device) = 32
+place (OfScheme Inbox) = 33
+place (OfScheme Start) = 34
+place (OfScheme Seal) = 35
+place (OfScheme Demo) = 36
 
 pub at_place : (k : Keyword) → (place k < length keywords) × (get_or keywords (place k) any_keyword ≡ k)
 at_place (OfEvent Tap) = (lit< tt, refl)
@@ -85,6 +86,7 @@ at_place (OfScheme Operator) = (lit< tt, refl)
 at_place (OfScheme Station) = (lit< tt, refl)
 at_place (OfScheme Product) = (lit< tt, refl)
 at_place (OfScheme Caps) = (lit< tt, refl)
+at_place (OfScheme Hop) = (lit< tt, refl)
 at_place (OfScheme Device) = (lit< tt, refl)
 at_place (OfScheme Inbox) = (lit< tt, refl)
 at_place (OfScheme Start) = (lit< tt, refl)

@@ -9,7 +9,7 @@ use Rattle.fare_world.specs.declared.event.Event.TheVariants as event
 use Rattle.fare_lines.specs.declared.keyword.Keyword.{Keyword}
 use Rattle.fare_lines.specs.declared.keyword.Keyword.TheVariants.{OfScheme, OfEvent}
 use Rattle.fare_lines.specs.declared.keyword.SchemeKeyword.{SchemeKeyword}
-use Rattle.fare_lines.specs.declared.keyword.SchemeKeyword.TheVariants.{Owner, Operator, Station, Product, Caps, Device, Inbox, Start, Seal, Demo}
+use Rattle.fare_lines.specs.declared.keyword.SchemeKeyword.TheVariants.{Owner, Operator, Station, Product, Caps, Hop, Device, Inbox, Start, Seal, Demo}
 use Rattle.fare_lines.specs.declared.keyword.EventKeyword.{EventKeyword}
 use Rattle.fare_lines.specs.declared.keyword.EventKeyword.TheVariants.{Tap, Turn, Send, Rewind, State, Arrive, Draw, Store, Ack, DayAck, Answer, Forward, Fetch, Take, Close, Prune, Resume, RestartDevice, RestartStation, RestartWriter, RestartOwner, RestartHub, Upto, Count, Bill, Settle}
 use Rattle.fare_lines.specs.declared.line.Line.{Line}
@@ -25,6 +25,7 @@ scheme_keyword_text Operator = codes "operator "
 scheme_keyword_text Station = codes "station "
 scheme_keyword_text Product = codes "product "
 scheme_keyword_text Caps = codes "caps "
+scheme_keyword_text Hop = codes "hop "
 scheme_keyword_text Device = codes "device "
 scheme_keyword_text Inbox = codes "inbox "
 scheme_keyword_text Start = codes "start "
@@ -105,6 +106,7 @@ scheme_keyword_kinds Operator = AnyU16 ∷ []
 scheme_keyword_kinds Station = AnyU16 ∷ AnyU16 ∷ []
 scheme_keyword_kinds Product = AnyU32 ∷ AnyU16 ∷ AnyU32 ∷ []
 scheme_keyword_kinds Caps = AnyU32 ∷ AnyU32 ∷ AnyU32 ∷ []
+scheme_keyword_kinds Hop = AnyU32 ∷ AnyU32 ∷ []
 scheme_keyword_kinds Device = AnyU32 ∷ AnyU16 ∷ AnyU32 ∷ []
 scheme_keyword_kinds Inbox = AnyU32 ∷ []
 scheme_keyword_kinds Start = AnyU32 ∷ []
@@ -161,6 +163,7 @@ line_parts (Setup (scheme.Operator operator)) = Numbered (OfScheme Operator) (op
 line_parts (Setup (scheme.Station station operator)) = Numbered (OfScheme Station) (station ∷ operator ∷ [])
 line_parts (Setup (scheme.Product product owner fare)) = Numbered (OfScheme Product) (product ∷ owner ∷ fare ∷ [])
 line_parts (Setup (scheme.Caps product daily weekly)) = Numbered (OfScheme Caps) (product ∷ daily ∷ weekly ∷ [])
+line_parts (Setup (scheme.Hop product seconds)) = Numbered (OfScheme Hop) (product ∷ seconds ∷ [])
 line_parts (Setup (scheme.Device device station buffer)) = Numbered (OfScheme Device) (device ∷ station ∷ buffer ∷ [])
 line_parts (Setup (scheme.Inbox capacity)) = Numbered (OfScheme Inbox) (capacity ∷ [])
 line_parts (Setup (scheme.Zone rule)) = Worded rule

@@ -61,6 +61,28 @@ fn build_single_setup(keyword: SchemeKeyword, number: u64) -> Option<SchemeLine>
     }
 }
 
+/// The scheme line of a keyword that these two numbers follow, if there is one.
+fn build_pair_setup(keyword: SchemeKeyword, first: u64, second: u64) -> Option<SchemeLine>
+    ensures some { IfSome result (λ line. IsBuilt (OfScheme keyword) (first ∷ second ∷ []) (Setup line)) }
+    ensures none { IfNone result (AreOf (scheme_keyword_kinds keyword) (first ∷ second ∷ []) → ⊥) }
+{
+    match keyword {
+        SchemeKeyword::Owner => Some(SchemeLine::Owner {
+            owner: u16::try_from(first).ok()?,
+            lane: u32::try_from(second).ok()?,
+        }),
+        SchemeKeyword::Station => Some(SchemeLine::Station {
+            station: u16::try_from(first).ok()?,
+            operator: u16::try_from(second).ok()?,
+        }),
+        SchemeKeyword::Hop => Some(SchemeLine::Hop {
+            product: u32::try_from(first).ok()?,
+            seconds: u32::try_from(second).ok()?,
+        }),
+        _ => None,
+    }
+}
+
 /// The scheme line of a keyword and its numbers, if there is one.
 fn build_setup(keyword: SchemeKeyword, numbers: &[u64]) -> Option<SchemeLine>
     ensures some { IfSome result (λ line. IsBuilt (OfScheme keyword) numbers.now (Setup line)) }
@@ -68,14 +90,7 @@ fn build_setup(keyword: SchemeKeyword, numbers: &[u64]) -> Option<SchemeLine>
 {
     match (keyword, numbers) {
         (_, [number]) => build_single_setup(keyword, *number),
-        (SchemeKeyword::Owner, [owner, lane]) => Some(SchemeLine::Owner {
-            owner: u16::try_from(*owner).ok()?,
-            lane: u32::try_from(*lane).ok()?,
-        }),
-        (SchemeKeyword::Station, [station, operator]) => Some(SchemeLine::Station {
-            station: u16::try_from(*station).ok()?,
-            operator: u16::try_from(*operator).ok()?,
-        }),
+        (_, [first, second]) => build_pair_setup(keyword, *first, *second),
         (SchemeKeyword::Product, [product, owner, fare]) => Some(SchemeLine::Product {
             product: u32::try_from(*product).ok()?,
             owner: u16::try_from(*owner).ok()?,

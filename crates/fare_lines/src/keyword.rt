@@ -10,6 +10,7 @@ pub enum SchemeKeyword {
     Station,
     Product,
     Caps,
+    Hop,
     Device,
     Inbox,
     Start,
@@ -66,6 +67,7 @@ impl SchemeKeyword {
             SchemeKeyword::Station => b"station ",
             SchemeKeyword::Product => b"product ",
             SchemeKeyword::Caps => b"caps ",
+            SchemeKeyword::Hop => b"hop ",
             SchemeKeyword::Device => b"device ",
             SchemeKeyword::Inbox => b"inbox ",
             SchemeKeyword::Start => b"start ",
@@ -113,7 +115,7 @@ impl EventKeyword {
 
 impl Keyword {
     /// Each keyword once, those of events first, which most lines have.
-    const ALL: [Keyword; 36] = [
+    const ALL: [Keyword; 37] = [
         Keyword::OfEvent(EventKeyword::Tap),
         Keyword::OfEvent(EventKeyword::Turn),
         Keyword::OfEvent(EventKeyword::Send),
@@ -145,6 +147,7 @@ impl Keyword {
         Keyword::OfScheme(SchemeKeyword::Station),
         Keyword::OfScheme(SchemeKeyword::Product),
         Keyword::OfScheme(SchemeKeyword::Caps),
+        Keyword::OfScheme(SchemeKeyword::Hop),
         Keyword::OfScheme(SchemeKeyword::Device),
         Keyword::OfScheme(SchemeKeyword::Inbox),
         Keyword::OfScheme(SchemeKeyword::Start),

@@ -31,6 +31,11 @@ pub enum SchemeLine {
         daily: u32,
         weekly: u32,
     },
+    /// Sets for how many seconds after a paid ride further rides with a product are free.
+    Hop {
+        product: u32,
+        seconds: u32,
+    },
     /// Registers a device at a station, with the capacity of its buffer.
     Device {
         device: u32,

@@ -14,8 +14,9 @@ use Rattle.fare_refinement.specs.ShownStores.{ShowsLedger}
 use Rattle.fare_history.specs.Serving.{given_all}
 use Rattle.fare_refinement.specs.Served.{IsBeside, service_events, IsServed}
 use Rattle.fare_history.specs.Gathering.{all_answers}
+use Rattle.fare_history.specs.Stores.{StoresValue}
 use Rattle.fare_refinement.specs.Gathered.{Given, sent_by, told_by, packet_for, IsGiven, packet_answered, HasStations, gathering_events, SameTaps, IsGathered}
-use Rattle.fare_refinement.specs.Sessions.{StoresValue, ShowsStores, Session, Collects, Serves_owner, Closes_day, stores_after, stores_after_all, IsSession, AreSessions, session_events, sessions_events, HasLaneRoom}
+use Rattle.fare_refinement.specs.Sessions.{ShowsStores, Session, Collects, Serves_owner, Closes_day, stores_after, stores_after_all, IsSession, AreSessions, session_events, sessions_events, HasLaneRoom}
 use Rattle.fare_world.specs.declared.event.Event.TheVariants as event
 use Rattle.fare_world.specs.declared.reply.Refusal.TheVariants.{UnknownDevice, UnknownOwner}
 use Rattle.fare_world.specs.declared.reply.Reply.{Reply}

@@ -1,4 +1,4 @@
 pub mod Adding
-pub mod Capping
+pub mod Changing
 pub mod Demonstrating
 pub mod Known

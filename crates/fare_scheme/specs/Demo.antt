@@ -18,9 +18,9 @@ abbrev pub demo_refusal : ℕ → ℕ → ℕ → Option DemoFault
 demo_refusal buffer inbox lane =
     first_case ((not (is_within 1 4096 buffer && is_within 1 1024 inbox && is_within 1 1024 lane), Range) ∷ [])
 
--- the one product: 175 pence a ride, at most 525 a day and 2,470 a week
+-- the one product: 175 pence a ride, at most 525 a day and 2,470 a week, and no window
 abbrev pub demo_product : Product
-demo_product = record { owner = 1; tariff = record { fare = 175; daily = 525; weekly = 2470 } }
+demo_product = record { owner = 1; tariff = record { fare = 175; daily = 525; weekly = 2470; hop = 0 } }
 
 -- a draft with its settings, and nothing registered
 abbrev pub unregistered : ℕ → Zone → DraftValue

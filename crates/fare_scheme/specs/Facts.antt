@@ -6,7 +6,7 @@ use Rattle.fare_record.specs.Limits.{IsOwnerId, IsOperatorId, IsStationId, IsPro
 use Rattle.fare_scheme.specs.declared.entry.Tariff.{Tariff}
 use Rattle.fare_scheme.specs.declared.entry.Product.{Product}
 use Rattle.fare_scheme.specs.declared.entry.Placement.{Placement}
-use Rattle.fare_scheme.specs.Ranges.{IsCapacity, IsBuffer, IsFare, IsDailyCap, IsWeeklyCap}
+use Rattle.fare_scheme.specs.Ranges.{IsCapacity, IsBuffer, IsFare, IsDailyCap, IsWeeklyCap, IsHop}
 use Rattle.fare_scheme.specs.Values.{DraftValue, SchemeValue}
 
 -- the id has an entry
@@ -17,6 +17,7 @@ pub record IsTariff (tariff : Tariff) : Type 0 where
   pub fare : IsFare tariff.fare
   pub daily : IsDailyCap tariff.daily
   pub weekly : IsWeeklyCap tariff.weekly
+  pub hop : IsHop tariff.hop
 
 pub record AreOwners (owners : List (ℕ × ℕ)) : Type 0 where
   pub distinct : IsDistinct nat_eq (keys_of owners)

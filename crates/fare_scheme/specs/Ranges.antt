@@ -18,3 +18,7 @@ IsDailyCap n = n ≤ 1000000
 
 abbrev pub IsWeeklyCap : ℕ → Type 0
 IsWeeklyCap n = n ≤ 10000000
+
+-- seconds
+abbrev pub IsHop : ℕ → Type 0
+IsHop n = n ≤ 7200

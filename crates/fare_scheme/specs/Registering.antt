@@ -7,6 +7,8 @@ use Rattle.fare_scheme.specs.declared.fault.AddFault.{AddFault}
 use Rattle.fare_scheme.specs.declared.fault.AddFault.TheVariants.{ZeroId, Taken, UnknownParent, Range, TooMany}
 use Rattle.fare_scheme.specs.declared.fault.CapsFault.{CapsFault}
 use Rattle.fare_scheme.specs.declared.fault.CapsFault.TheVariants as Caps
+use Rattle.fare_scheme.specs.declared.fault.HopFault.{HopFault}
+use Rattle.fare_scheme.specs.declared.fault.HopFault.TheVariants as Hop
 use Rattle.fare_scheme.specs.Values.{DraftValue}
 
 -- nothing is registered, and the inbox has its greatest capacity
@@ -82,6 +84,12 @@ caps_refusal draft product daily weekly = first_case (
     ∷ (not (nat_le daily 1000000 && nat_le weekly 10000000), Caps.Range)
     ∷ [])
 
+abbrev pub hop_refusal : DraftValue → ℕ → ℕ → Option HopFault
+hop_refusal draft product seconds = first_case (
+    (not (is_registered draft.products product), Hop.UnknownParent)
+    ∷ (not (nat_le seconds 7200), Hop.Range)
+    ∷ [])
+
 -- the draft with one more owner
 abbrev pub with_owner : DraftValue → ℕ → ℕ → DraftValue
 with_owner draft owner lane_capacity = record draft { owners = draft.owners ++ (owner, lane_capacity) ∷ [] }
@@ -94,9 +102,9 @@ with_operator draft operator = record draft { operators = draft.operators ++ ope
 abbrev pub with_station : DraftValue → ℕ → ℕ → DraftValue
 with_station draft station operator = record draft { stations = draft.stations ++ (station, operator) ∷ [] }
 
--- a product with the greatest caps
+-- a product with the greatest caps and no window
 abbrev pub uncapped : ℕ → ℕ → Product
-uncapped owner fare = record { owner = owner; tariff = record { fare = fare; daily = 1000000; weekly = 10000000 } }
+uncapped owner fare = record { owner = owner; tariff = record { fare = fare; daily = 1000000; weekly = 10000000; hop = 0 } }
 
 -- with one more product
 abbrev pub with_product : DraftValue → ℕ → ℕ → ℕ → DraftValue
@@ -108,11 +116,22 @@ with_device draft device station buffer =
     record draft { devices = draft.devices ++ (device, record { station = station; buffer = buffer }) ∷ [] }
 
 -- a product with other caps
-abbrev pub capped : Product → ℕ → ℕ → Product
-capped product daily weekly =
-    record product { tariff = record { fare = product.tariff.fare; daily = daily; weekly = weekly } }
+abbrev pub capped : ℕ → ℕ → Product → Product
+capped daily weekly product = record product { tariff = record product.tariff { daily = daily; weekly = weekly } }
+
+-- a product with another window
+abbrev pub windowed : ℕ → Product → Product
+windowed seconds product = record product { tariff = record product.tariff { hop = seconds } }
+
+-- with this change of the product's entry
+abbrev pub with_changed : DraftValue → ℕ → (Product → Product) → DraftValue
+with_changed draft product change =
+    record draft { products = map (λ p. if nat_eq product p.0 then (p.0, change p.1) else p) draft.products }
 
 -- with these caps of the product
 abbrev pub with_caps : DraftValue → ℕ → ℕ → ℕ → DraftValue
-with_caps draft product daily weekly =
-    record draft { products = map (λ p. if nat_eq product p.0 then (p.0, capped p.1 daily weekly) else p) draft.products }
+with_caps draft product daily weekly = with_changed draft product (capped daily weekly)
+
+-- with this window of the product
+abbrev pub with_hop : DraftValue → ℕ → ℕ → DraftValue
+with_hop draft product seconds = with_changed draft product (windowed seconds)

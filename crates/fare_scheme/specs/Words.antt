@@ -8,7 +8,7 @@ use Rattle.fare_scheme.specs.Values.{SchemeValue}
 abbrev pub owner_of : SchemeValue → ℕ → Option ℕ
 owner_of scheme product = option_map (λ p. p.owner) (lookup (nat_eq product) scheme.products)
 
--- a product's fare and caps
+-- a product's fare, caps and window
 abbrev pub tariff_of : SchemeValue → ℕ → Option Tariff
 tariff_of scheme product = option_map (λ p. p.tariff) (lookup (nat_eq product) scheme.products)
 

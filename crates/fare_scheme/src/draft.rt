@@ -2,10 +2,12 @@ ghost use Rattle.std.specs.Prelude.{◌≡◌, ◌↔◌, None, IsOk, OnOk, IfOk
 ghost use Rattle.std.specs.List.{list_any};
 ghost use Rattle.fare_record.specs.Limits.{IsDay};
 ghost use Rattle.fare_scheme.specs.Ranges.{IsBuffer, IsCapacity};
-ghost use Rattle.fare_scheme.specs.Registering.{empty_draft, is_registered, uncapped as uncapped_product, owner_refusal, operator_refusal, station_refusal, product_refusal, device_refusal, caps_refusal, with_owner, with_operator, with_station, with_product, with_device, with_caps};
+ghost use Rattle.fare_scheme.specs.Registering.{empty_draft, is_registered, uncapped as uncapped_product, owner_refusal, operator_refusal, station_refusal, product_refusal, device_refusal, caps_refusal, hop_refusal, with_owner, with_operator, with_station, with_product, with_device, with_caps, with_hop};
 ghost use Rattle.fare_scheme.specs.Sealing.{lacks_a_kind, seal_refusal, IsSealedFrom};
 
-use crate::{AddFault, CapsFault, OutOfRange, Placement, Product, Scheme, SealFault, Tariff};
+use crate::{
+    AddFault, CapsFault, HopFault, OutOfRange, Placement, Product, Scheme, SealFault, Tariff,
+};
 use fare_day::Zone;
 use fare_record::{Day, DeviceId, OperatorId, OwnerId, Pence, ProductId, StationId};
 use indexmap::{IndexMap, IndexSet};
@@ -28,6 +30,8 @@ const MOST_FARE: u32 = 100_000;
 const MOST_DAILY: u32 = 1_000_000;
 
 const MOST_WEEKLY: u32 = 10_000_000;
+
+const MOST_HOP: u32 = 7_200;
 
 const MOST_BUFFER: u32 = 4_096;
 
@@ -109,7 +113,7 @@ pub(crate) fn is_capacity(capacity: u32) -> bool
     (1..=MOST_CAPACITY).contains(&capacity)
 }
 
-// A product of this owner with this fare and the greatest caps.
+// A product of this owner with this fare, the greatest caps and no window.
 fn uncapped(owner: OwnerId, fare: u32) -> Product
     ensures { result ≡ uncapped_product owner fare }
 {
@@ -119,6 +123,7 @@ fn uncapped(owner: OwnerId, fare: u32) -> Product
             fare: Pence::new(fare as u64),
             daily: Pence::new(MOST_DAILY as u64),
             weekly: Pence::new(MOST_WEEKLY as u64),
+            hop: 0,
         },
     }
 }
@@ -219,7 +224,7 @@ impl Draft {
     }
 
     /// Registers a product of an owner, with its fare in pence: 0 to 100,000. Its caps are the greatest ones until
-    /// `set_caps`.
+    /// `set_caps`, and each of its rides is paid until `set_hop`.
     ///
     /// Refused by the first case of `AddFault` that applies; its parent is the owner.
     pub fn add_product(&mut self, product: u32, owner: u16, fare: u32) -> Result<(), AddFault>
@@ -271,6 +276,29 @@ impl Draft {
         let weekly_cap = Pence::new(weekly as u64);
         product.tariff.daily = daily_cap;
         product.tariff.weekly = weekly_cap;
+        Ok(())
+    }
+
+    /// Sets the window of a product: for how many seconds after a paid ride further rides of the same account are
+    /// free, on the same traffic day. 0 to 7,200, where at 0 each one is paid.
+    ///
+    /// Refused by the first case of `HopFault` that applies.
+    pub fn set_hop(&mut self, product: u32, seconds: u32) -> Result<(), HopFault>
+        ensures ok { IsOk result ↔ (hop_refusal self.old product seconds ≡ None) }
+        ensures set { OnOk result (self.new ≡ with_hop self.old product seconds) }
+        ensures refused { IfErr result (λ fault. hop_refusal self.old product seconds ≡ Some fault) }
+        ensures unchanged { OnErr result (self.new ≡ self.old) }
+    {
+        let Some(id) = self.registered_product(product) else {
+            return Err(HopFault::UnknownParent);
+        };
+        if seconds > MOST_HOP {
+            return Err(HopFault::Range);
+        }
+        let Some(product) = self.products.get_mut(&id) else {
+            return Err(HopFault::UnknownParent);
+        };
+        product.tariff.hop = seconds;
         Ok(())
     }
 

@@ -34,6 +34,17 @@ pub enum CapsFault {
     Range,
 }
 
+/// Why the window of a product isn't set, in the order in which this is tested.
+#[derive(Clone, Copy, PartialEq, Eq, Debug, Error)]
+pub enum HopFault {
+    /// The product isn't registered.
+    #[error("the product isn't registered")]
+    UnknownParent,
+    /// The window is out of range.
+    #[error("the window is out of range")]
+    Range,
+}
+
 /// A number that is out of range.
 #[derive(Clone, Copy, PartialEq, Eq, Debug, Error)]
 #[error("a number is out of range")]

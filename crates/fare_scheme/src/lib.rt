@@ -14,6 +14,6 @@ mod scheme;
 pub use demo::{DemoFault, DemoSize};
 pub use draft::{Draft, MOST_OWNERS};
 pub use entry::{Placement, Product, Tariff};
-pub use fault::{AddFault, CapsFault, OutOfRange, SealFault};
+pub use fault::{AddFault, CapsFault, HopFault, OutOfRange, SealFault};
 pub use laws::registered_ids_have_positions;
 pub use scheme::Scheme;

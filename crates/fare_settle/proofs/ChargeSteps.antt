@@ -1,14 +1,18 @@
 -- One more tap of a list in order: what is charged, and what has been counted.
-use Rattle.std.proofs.Common.{◌≡◌, ℕ, ◌+◌, ◌≤◌, Bool, true, false, cond, ◌&&◌, ◌==◌, List, [], ◌∷◌, ◌++◌, All, refl, sym, ◌∙◌, ap}
-use Rattle.std.proofs.lemmas.Bool.{eq-eqb}
-use Rattle.std.proofs.lemmas.List.{append_assoc, append-nil, length-append}
+use Rattle.std.proofs.Common.{◌≡◌, ℕ, ◌+◌, ◌≤◌, Bool, true, false, cond, ◌&&◌, ◌==◌, List, [], ◌∷◌, ◌++◌, All, sym, ◌∙◌, ap}
+use Rattle.std.proofs.lemmas.Bool.{and_parts}
+use Rattle.std.proofs.lemmas.List.{append_assoc, append-nil}
 use Rattle.std.proofs.lemmas.List.Elements.{filter-append, All-push}
 use Rattle.fare_record.specs.Values.{RecordValue}
 use Rattle.fare_scheme.specs.Values.{SchemeValue}
 use Rattle.fare_cap.specs.Values.{AccountValue}
 use Rattle.fare_cap.specs.Accounts.{account_of, same_account, counts, counted_on, part_of}
-use Rattle.fare_cap.specs.Fares.{paid, paid_on, day_fare, rise, tariff_or_none}
+use Rattle.fare_cap.specs.declared.day_rides.DayRides.{DayRides}
+use Rattle.fare_cap.specs.Windows.{paid, day_rides, one_more}
+use Rattle.fare_cap.specs.Fares.{paid_on, hop_of, day_fare, rise, tariff_or_none}
+use Rattle.fare_cap.specs.RidesWords.{rides_on}
 use Rattle.fare_cap.proofs.Amounts.{fares_before-same}
+use Rattle.fare_cap.proofs.CountedKeys.{rides_on-counted}
 use Rattle.fare_settle.specs.declared.charge.Charge.{Charge}
 use Rattle.fare_settle.specs.Charges.{charge_by, charge_behind, charges_behind, operator_or_none}
 use Rattle.fare_settle.proofs.Listing.{same_account_self}
@@ -34,8 +38,8 @@ charge_by-same scheme f g day tap b c d e same before after =
         record { operator = operator_or_none scheme tap.device; amount = rise tariff (week + day_fare tariff n) (week + day_fare tariff m) }
 
 -- after the taps so far
-pub record AreCharges (scheme : SchemeValue) (ordered front : List RecordValue) (day : ℕ) (table : AccountValue → ℕ → ℕ) (charges : List Charge) : Type 0 where
-  pub counted : (account : AccountValue) → table account day ≡ paid_on scheme front account day
+pub record AreCharges (scheme : SchemeValue) (ordered front : List RecordValue) (day : ℕ) (table : AccountValue → ℕ → DayRides) (charges : List Charge) : Type 0 where
+  pub counted : (account : AccountValue) → table account day ≡ rides_on scheme front account day
   pub value : charges ≡ charges_behind scheme ordered day [] (counted_on scheme day front)
   pub capped : All (λ (c : Charge). c.amount ≤ 10000000) charges
 
@@ -44,56 +48,49 @@ counted_on-push : (scheme : SchemeValue) (day : ℕ) (front : List RecordValue) 
 counted_on-push scheme day front tap b e =
     filter-append (λ r. counts scheme r && r.tap.day == day) front (tap ∷ []) ∙ ap (λ t. counted_on scheme day front ++ cond t (tap ∷ []) []) e
 
-pub charges_more_no : (scheme : SchemeValue) (ordered front : List RecordValue) (day : ℕ) (table : AccountValue → ℕ → ℕ) (charges : List Charge) (tap : RecordValue)
+pub charges_more_no : (scheme : SchemeValue) (ordered front : List RecordValue) (day : ℕ) (table : AccountValue → ℕ → DayRides) (charges : List Charge) (tap : RecordValue)
     → (counts scheme tap && tap.tap.day == day) ≡ false → AreCharges scheme ordered front day table charges → AreCharges scheme ordered (front ++ tap ∷ []) day table charges
 charges_more_no scheme ordered front day table charges tap out so_far =
     let same : counted_on scheme day front ≡ counted_on scheme day (front ++ tap ∷ []) = sym (counted_on-push scheme day front tap false out ∙ append-nil (counted_on scheme day front)) in
     record {
-      counted = λ account. so_far.counted account ∙ ap (λ (l : List RecordValue). paid (part_of account l)) same;
+      counted = λ account. so_far.counted account ∙ ap (λ (l : List RecordValue). day_rides (hop_of scheme account) (part_of account l)) same;
       value = so_far.value ∙ ap (charges_behind scheme ordered day []) same;
       capped = so_far.capped;
     }
 
--- what one more tap of a day makes of its account's count
-paid-more : (account : AccountValue) (taps : List RecordValue) (tap : RecordValue) → paid (part_of account (taps ++ tap ∷ [])) ≡ paid (part_of account taps) + cond (same_account (account_of tap) account) 1 0
-paid-more account taps tap =
-    ap paid (filter-append (λ r. same_account (account_of r) account) taps (tap ∷ [])) ∙ by (same_account (account_of tap) account)
-  where
-    by : (b : Bool) → paid (part_of account taps ++ cond b (tap ∷ []) []) ≡ paid (part_of account taps) + cond b 1 0
-    by true = length-append (part_of account taps) (tap ∷ [])
-    by false = length-append (part_of account taps) []
-
-pub charges_more_yes : (scheme : SchemeValue) (ordered front : List RecordValue) (day : ℕ) (table after : AccountValue → ℕ → ℕ) (rides : ℕ → ℕ) (charges : List Charge) (tap : RecordValue) (charge : Charge)
+pub charges_more_yes : (scheme : SchemeValue) (ordered front : List RecordValue) (day : ℕ) (table after : AccountValue → ℕ → DayRides) (rides : ℕ → ℕ) (charges : List Charge) (tap : RecordValue) (charge : Charge)
     → (counts scheme tap && tap.tap.day == day) ≡ true
     → AreCharges scheme ordered front day table charges
-    → ((other : AccountValue) (on : ℕ) → after other on ≡ table other on + cond (same_account (account_of tap) other && day == on) 1 0)
+    → ((other : AccountValue) (on : ℕ) → after other on ≡ cond (same_account (account_of tap) other && tap.tap.day == on) (one_more (hop_of scheme (account_of tap)) (table other on) tap.tap.moment) (table other on))
     → ((k : ℕ) → rides k ≡ paid_on scheme ordered (account_of tap) k)
-    → charge ≡ charge_by scheme rides day tap (table (account_of tap) day) (after (account_of tap) day)
+    → charge ≡ charge_by scheme rides day tap (table (account_of tap) day).paid (after (account_of tap) day).paid
     → charge.amount ≤ 10000000
     → AreCharges scheme ordered (front ++ tap ∷ []) day after (charges ++ charge ∷ [])
 charges_more_yes scheme ordered front day table after rides charges tap charge is_in so_far added same_rides is small =
+    let account = account_of tap in
+    let hop = hop_of scheme account in
     let pushed : counted_on scheme day (front ++ tap ∷ []) ≡ counted_on scheme day front ++ tap ∷ [] = counted_on-push scheme day front tap true is_in in
-    let earlier = part_of (account_of tap) (counted_on scheme day front) in
-    let with_it : after (account_of tap) day ≡ paid (earlier ++ tap ∷ []) =
-    now (account_of tap) ∙ ap (λ b. paid earlier + cond b 1 0) (same_account_self (account_of tap)) ∙ sym (length-append earlier (tap ∷ [])) in
+    let earlier = part_of account (counted_on scheme day front) in
+    let own : part_of account (counted_on scheme day (front ++ tap ∷ [])) ≡ earlier ++ tap ∷ [] =
+    ap (part_of account) pushed ∙ filter-append (λ r. same_account (account_of r) account) (counted_on scheme day front) (tap ∷ [])
+    ∙ ap (λ b. earlier ++ cond b (tap ∷ []) []) (same_account_self account) in
+    let before : (table account day).paid ≡ paid hop earlier = ap (λ (r : DayRides). r.paid) (so_far.counted account) in
+    let with_it : (after account day).paid ≡ paid hop (earlier ++ tap ∷ []) = ap (λ (r : DayRides). r.paid) (now account) ∙ ap (paid hop) own in
     record {
-      counted = λ account. now account ∙ sym (ap (λ (l : List RecordValue). paid (part_of account l)) pushed ∙ paid-more account (counted_on scheme day front) tap);
+      counted = now;
       value =
           ap (λ (l : List Charge). l ++ charge ∷ []) so_far.value
           ∙ ap (λ (c : Charge). charges_behind scheme ordered day [] (counted_on scheme day front) ++ c ∷ [])
-          (is ∙ charge_by-same scheme rides (paid_on scheme ordered (account_of tap)) day tap (table (account_of tap) day) (paid earlier) (after (account_of tap) day) (paid (earlier ++ tap ∷ [])) same_rides (so_far.counted (account_of tap)) with_it)
+          (is ∙ charge_by-same scheme rides (paid_on scheme ordered account) day tap (table account day).paid (paid hop earlier) (after account day).paid (paid hop (earlier ++ tap ∷ [])) same_rides before with_it)
           ∙ sym (ap (charges_behind scheme ordered day []) pushed ∙ charges_behind-push scheme ordered day [] (counted_on scheme day front) tap);
       capped = All-push (λ (c : Charge). c.amount ≤ 10000000) charges charge so_far.capped small;
     }
   where
-    test : (a : AccountValue) → (b : Bool) → same_account (account_of tap) a ≡ b → (same_account (account_of tap) a && day == day) ≡ b
-    test a b e = ap (λ t. t && day == day) e ∙ on b
-      where
-        on : (t : Bool) → (t && day == day) ≡ t
-        on true = eq-eqb day day refl
-        on false = refl
+    counts_now : counts scheme tap ≡ true
+    counts_now = (and_parts (counts scheme tap) (tap.tap.day == day) is_in).0
 
-    now : (a : AccountValue) → after a day ≡ paid (part_of a (counted_on scheme day front)) + cond (same_account (account_of tap) a) 1 0
+    now : (a : AccountValue) → after a day ≡ rides_on scheme (front ++ tap ∷ []) a day
     now a =
-        added a day ∙ ap (λ b. table a day + cond b 1 0) (test a (same_account (account_of tap) a) refl)
-        ∙ ap (λ n. n + cond (same_account (account_of tap) a) 1 0) (so_far.counted a)
+        added a day
+        ∙ ap (λ (r : DayRides). cond (same_account (account_of tap) a && tap.tap.day == day) (one_more (hop_of scheme (account_of tap)) r tap.tap.moment) r) (so_far.counted a)
+        ∙ rides_on-counted scheme front tap a day counts_now

@@ -4,7 +4,8 @@ use Rattle.fare_record.specs.Values.{RecordValue}
 use Rattle.fare_scheme.specs.Values.{SchemeValue}
 use Rattle.fare_cap.specs.Order.{in_order}
 use Rattle.fare_cap.specs.Accounts.{account_of, part_of, counted_on}
-use Rattle.fare_cap.specs.Fares.{paid, day_fare, rise, tariff_or_none}
+use Rattle.fare_cap.specs.Windows.{paid}
+use Rattle.fare_cap.specs.Fares.{hop_of, day_fare, rise, tariff_or_none}
 use Rattle.fare_cap.proofs.Ordered.{in_order_filter}
 use Rattle.fare_cap.proofs.Weeks.{HaveSameWeek, fares-same_week, week-kept}
 use Rattle.fare_cap.proofs.Permuted.{in_order-permutation}
@@ -20,8 +21,8 @@ charge-same_week scheme day xs ys same front tap = ap by (fares-same_week scheme
     by week = record {
       operator = operator_or_none scheme tap.device;
       amount =
-          rise (tariff_or_none scheme (account_of tap).product) (week + day_fare (tariff_or_none scheme (account_of tap).product) (paid (part_of (account_of tap) front)))
-          (week + day_fare (tariff_or_none scheme (account_of tap).product) (paid (part_of (account_of tap) front ++ tap ∷ [])));
+          rise (tariff_or_none scheme (account_of tap).product) (week + day_fare (tariff_or_none scheme (account_of tap).product) (paid (hop_of scheme (account_of tap)) (part_of (account_of tap) front)))
+          (week + day_fare (tariff_or_none scheme (account_of tap).product) (paid (hop_of scheme (account_of tap)) (part_of (account_of tap) front ++ tap ∷ [])));
     }
 
 charges_behind-same_week : (scheme : SchemeValue) (day : ℕ) (xs ys : List RecordValue) → HaveSameWeek scheme day xs ys → (front rest : List RecordValue)

@@ -4,7 +4,7 @@ use Rattle.std.specs.Prelude.{IfSome, IsSome}
 use Rattle.std.specs.List.{AllByRecursion, list_any}
 use Rattle.std.proofs.lemmas.Bool.{and_parts}
 use Rattle.std.proofs.lemmas.Nat.{mul-le}
-use Rattle.std.proofs.lemmas.List.{append_assoc, append-nil, length-append}
+use Rattle.std.proofs.lemmas.List.{append_assoc, append-nil}
 use Rattle.std.proofs.lemmas.List.Sums.{sum_by-cons}
 use Rattle.std.proofs.lemmas.List.Elements.{filter-append}
 use Rattle.fare_record.specs.Values.{RecordValue}
@@ -15,10 +15,12 @@ use Rattle.fare_scheme.proofs.Known.{operator_is_known, some_position}
 use Rattle.fare_cap.specs.Values.{AccountValue}
 use Rattle.fare_cap.specs.Order.{in_order}
 use Rattle.fare_cap.specs.Accounts.{account_of, same_account, counts, counted_on, part_of, accounts_of}
-use Rattle.fare_cap.specs.Fares.{paid, paid_on, fares_before, tariff_or_none, amount_by}
+use Rattle.fare_cap.specs.Windows.{paid}
+use Rattle.fare_cap.specs.Fares.{paid_on, hop_of, fares_before, tariff_or_none, amount_by}
 use Rattle.fare_cap.specs.Bills.{row_of, bill_rows, total_of}
 use Rattle.fare_cap.specs.declared.row.Row.{Row}
 use Rattle.fare_cap.proofs.CountedKeys.{same_account_is}
+use Rattle.fare_cap.proofs.Windows.{paid-grows}
 use Rattle.fare_settle.specs.declared.charge.Charge.{Charge}
 use Rattle.fare_settle.specs.Charges.{operator_or_none, paid_of_week, charge_behind, charges_behind, charges_of}
 use Rattle.fare_settle.specs.declared.settled.Settled.{Settled}
@@ -40,9 +42,6 @@ by_operator operators charges apart theirs = sum_by-keys nat_eq eqb-true (λ (c 
 abbrev worth : SchemeValue → List RecordValue → ℕ → AccountValue → ℕ → ℕ
 worth scheme ordered day account taps = min (tariff_or_none scheme account.product).weekly (paid_of_week scheme account (paid_on scheme ordered account) day taps)
 
-paid-grows : (taps : List RecordValue) (tap : RecordValue) → paid taps ≤ paid (taps ++ tap ∷ [])
-paid-grows taps tap = omega (arith, length-append taps (tap ∷ []))
-
 capped-grows : (weekly before daily fare n m : ℕ) → n ≤ m → min weekly (before + min daily (fare * n)) ≤ min weekly (before + min daily (fare * m))
 capped-grows weekly before daily fare n m more =
     let fares : fare * n ≤ fare * m = mul-le fare n fare m (omega arith) more in
@@ -55,36 +54,36 @@ worth-grows scheme ordered day account n m more =
 
 -- what a tap adds to the worth of each account: its charge to its own, nothing to another
 worth-more : (scheme : SchemeValue) (ordered : List RecordValue) (day : ℕ) (front : List RecordValue) (tap : RecordValue) (account : AccountValue)
-    → worth scheme ordered day account (paid (part_of account (front ++ tap ∷ [])))
-    ≡ cond (same_account (account_of tap) account) (charge_behind scheme ordered day front tap).amount 0 + worth scheme ordered day account (paid (part_of account front))
+    → worth scheme ordered day account (paid (hop_of scheme account) (part_of account (front ++ tap ∷ [])))
+    ≡ cond (same_account (account_of tap) account) (charge_behind scheme ordered day front tap).amount 0 + worth scheme ordered day account (paid (hop_of scheme account) (part_of account front))
 worth-more scheme ordered day front tap account =
-    ap (λ (l : List RecordValue). worth scheme ordered day account (paid l)) (filter-append (λ r. same_account (account_of r) account) front (tap ∷ []))
+    ap (λ (l : List RecordValue). worth scheme ordered day account (paid (hop_of scheme account) l)) (filter-append (λ r. same_account (account_of r) account) front (tap ∷ []))
     ∙ by (same_account (account_of tap) account) refl
   where
-    own : worth scheme ordered day (account_of tap) (paid (part_of (account_of tap) front ++ tap ∷ [])) ≡ (charge_behind scheme ordered day front tap).amount + worth scheme ordered day (account_of tap) (paid (part_of (account_of tap) front))
+    own : worth scheme ordered day (account_of tap) (paid (hop_of scheme (account_of tap)) (part_of (account_of tap) front ++ tap ∷ [])) ≡ (charge_behind scheme ordered day front tap).amount + worth scheme ordered day (account_of tap) (paid (hop_of scheme (account_of tap)) (part_of (account_of tap) front))
     own =
-        let grows = worth-grows scheme ordered day (account_of tap) (paid (part_of (account_of tap) front)) (paid (part_of (account_of tap) front ++ tap ∷ [])) (paid-grows (part_of (account_of tap) front) tap) in
+        let grows = worth-grows scheme ordered day (account_of tap) (paid (hop_of scheme (account_of tap)) (part_of (account_of tap) front)) (paid (hop_of scheme (account_of tap)) (part_of (account_of tap) front ++ tap ∷ [])) (paid-grows (hop_of scheme (account_of tap)) (part_of (account_of tap) front) tap) in
         omega (arith, grows)
 
     by : (b : Bool) → same_account (account_of tap) account ≡ b
-        → worth scheme ordered day account (paid (part_of account front ++ cond b (tap ∷ []) [])) ≡ cond b (charge_behind scheme ordered day front tap).amount 0 + worth scheme ordered day account (paid (part_of account front))
+        → worth scheme ordered day account (paid (hop_of scheme account) (part_of account front ++ cond b (tap ∷ []) [])) ≡ cond b (charge_behind scheme ordered day front tap).amount 0 + worth scheme ordered day account (paid (hop_of scheme account) (part_of account front))
     by true same =
         let is : account_of tap ≡ account = same_account_is (account_of tap) account same in
-        subst (λ (a : AccountValue). worth scheme ordered day a (paid (part_of a front ++ tap ∷ [])) ≡ (charge_behind scheme ordered day front tap).amount + worth scheme ordered day a (paid (part_of a front))) is own
-    by false other = ap (λ (l : List RecordValue). worth scheme ordered day account (paid l)) (append-nil (part_of account front)) ∙ sym (zero-add (worth scheme ordered day account (paid (part_of account front))))
+        subst (λ (a : AccountValue). worth scheme ordered day a (paid (hop_of scheme a) (part_of a front ++ tap ∷ [])) ≡ (charge_behind scheme ordered day front tap).amount + worth scheme ordered day a (paid (hop_of scheme a) (part_of a front))) is own
+    by false other = ap (λ (l : List RecordValue). worth scheme ordered day account (paid (hop_of scheme account) l)) (append-nil (part_of account front)) ∙ sym (zero-add (worth scheme ordered day account (paid (hop_of scheme account) (part_of account front))))
 
 -- the worth of all these accounts
 abbrev worths : SchemeValue → List RecordValue → ℕ → List AccountValue → List RecordValue → ℕ
-worths scheme ordered day accounts front = sum_by (λ account. worth scheme ordered day account (paid (part_of account front))) accounts
+worths scheme ordered day accounts front = sum_by (λ account. worth scheme ordered day account (paid (hop_of scheme account) (part_of account front))) accounts
 
 worths-more : (scheme : SchemeValue) (ordered : List RecordValue) (day : ℕ) (accounts : List AccountValue) (front : List RecordValue) (tap : RecordValue)
     → IsApart same_account accounts → list_any (same_account (account_of tap)) accounts ≡ true
     → worths scheme ordered day accounts (front ++ tap ∷ []) ≡ (charge_behind scheme ordered day front tap).amount + worths scheme ordered day accounts front
 worths-more scheme ordered day accounts front tap apart has =
-    sum_by-same (λ account. worth scheme ordered day account (paid (part_of account (front ++ tap ∷ []))))
-    (λ account. cond (same_account (account_of tap) account) (charge_behind scheme ordered day front tap).amount 0 + worth scheme ordered day account (paid (part_of account front)))
+    sum_by-same (λ account. worth scheme ordered day account (paid (hop_of scheme account) (part_of account (front ++ tap ∷ []))))
+    (λ account. cond (same_account (account_of tap) account) (charge_behind scheme ordered day front tap).amount 0 + worth scheme ordered day account (paid (hop_of scheme account) (part_of account front)))
     (worth-more scheme ordered day front tap) accounts
-    ∙ sum_by-plus (λ account. cond (same_account (account_of tap) account) (charge_behind scheme ordered day front tap).amount 0) (λ account. worth scheme ordered day account (paid (part_of account front))) accounts
+    ∙ sum_by-plus (λ account. cond (same_account (account_of tap) account) (charge_behind scheme ordered day front tap).amount 0) (λ account. worth scheme ordered day account (paid (hop_of scheme account) (part_of account front))) accounts
     ∙ ap (λ n. n + worths scheme ordered day accounts front) (sum_by-one_term same_account same_account_is (account_of tap) (charge_behind scheme ordered day front tap).amount accounts apart has)
 
 telescopes : (scheme : SchemeValue) (ordered : List RecordValue) (day : ℕ) (accounts : List AccountValue) → IsApart same_account accounts

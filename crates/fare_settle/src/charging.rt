@@ -5,7 +5,7 @@ ghost use Rattle.fare_cap.specs.RidesWords.{paid_by};
 ghost use Rattle.fare_settle.specs.Charges.{charge_by, charges_of};
 
 use crate::Charge;
-use fare_cap::{Account, Rides, counts_on, day_fare, fares_before, in_order};
+use fare_cap::{Account, Rides, counts_on, day_fare, fares_before, hop_of, in_order};
 use fare_record::{Day, Pence, Record};
 use fare_scheme::{Scheme, Tariff};
 use std::alloc::{AllocError, Global};
@@ -49,9 +49,9 @@ fn charges_in_order(
     for tap in ordered {
         if counts_on(scheme, day, *tap) {
             let account = Account::of(*tap);
-            let before = so_far.get(account, day);
-            so_far.add(account, day)?;
-            let after = so_far.get(account, day);
+            let before = so_far.get(account, day).paid;
+            so_far.add(*tap, hop_of(scheme, account))?;
+            let after = so_far.get(account, day).paid;
             charges.push(charge(scheme, &rides, day, *tap, before, after))?;
         }
     }
@@ -59,7 +59,7 @@ fn charges_in_order(
 }
 
 /// The charge of each tap of the day, by moment, device and lane number; those that tie keep the places that they
-/// have in the list. A tap of an unknown product or device, or of a day before the scheme's first one, is charged
+/// have in the list. A tap that is free is charged 0. One of an unknown product or device, or of a day before the scheme's first one, is charged
 /// nowhere. The one error is want of memory.
 pub fn charges(
     alloc: Global,

@@ -24,17 +24,16 @@ impl<O> FailingOutbox<O> {
     {
         FailingOutbox { outbox, left: call }
     }
+}
 
-    // Counts a call, and answers whether it is the one that fails.
-    fn fails_now(&mut self) -> bool
-        ensures outbox { self.new.outbox ≡ self.old.outbox }
-        ensures left { self.new.left ≡ self.old.left - 1 }
-        ensures now { result ≡ (self.old.left == 1) }
-    {
-        let now = self.left == 1;
-        self.left = self.left.saturating_sub(1);
-        now
-    }
+// Counts a call, and answers whether it is the one that fails.
+pub(crate) fn fails_now(left: &mut u64) -> bool
+    ensures left { left.new ≡ left.old - 1 }
+    ensures now { result ≡ (left.old == 1) }
+{
+    let now = *left == 1;
+    *left = left.saturating_sub(1);
+    now
 }
 
 impl<O: Outbox> Outbox for FailingOutbox<O> {
@@ -43,28 +42,28 @@ impl<O: Outbox> Outbox for FailingOutbox<O> {
     ghost sound = { λ s. record { clean = (O.sound s.outbox).clean; settled = (O.sound s.outbox).settled; some = (O.sound s.outbox).some } };
 
     fn is_empty(&mut self) -> Result<bool, Fault> {
-        if self.fails_now() {
+        if fails_now(&mut self.left) {
             return Err(Fault::Store);
         }
         self.outbox.is_empty()
     }
 
     fn upto(&mut self, device: DeviceId) -> Result<u64, Fault> {
-        if self.fails_now() {
+        if fails_now(&mut self.left) {
             return Err(Fault::Store);
         }
         self.outbox.upto(device)
     }
 
     fn store(&mut self, row: &Record) -> Result<(), Refused<StoreFault>> {
-        if self.fails_now() {
+        if fails_now(&mut self.left) {
             return Err(Refused::Failed(Fault::Store));
         }
         self.outbox.store(row)
     }
 
     fn store_statement(&mut self, statement: &Statement) -> Result<(), Refused<StatedFault>> {
-        if self.fails_now() {
+        if fails_now(&mut self.left) {
             return Err(Refused::Failed(Fault::Store));
         }
         self.outbox.store_statement(statement)
@@ -76,7 +75,7 @@ impl<O: Outbox> Outbox for FailingOutbox<O> {
         device: DeviceId,
         after: u64,
     ) -> Result<Option<Record>, Fault> {
-        if self.fails_now() {
+        if fails_now(&mut self.left) {
             return Err(Fault::Store);
         }
         self.outbox.next_row(owner, device, after)
@@ -88,14 +87,14 @@ impl<O: Outbox> Outbox for FailingOutbox<O> {
         device: DeviceId,
         from: Day,
     ) -> Result<Option<Statement>, Fault> {
-        if self.fails_now() {
+        if fails_now(&mut self.left) {
             return Err(Fault::Store);
         }
         self.outbox.next_statement(owner, device, from)
     }
 
     fn prune(&mut self, owner: OwnerId, device: DeviceId, upto: u64) -> Result<u64, Fault> {
-        if self.fails_now() {
+        if fails_now(&mut self.left) {
             return Err(Fault::Store);
         }
         self.outbox.prune(owner, device, upto)

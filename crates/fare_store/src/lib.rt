@@ -6,6 +6,7 @@
 #![tactic(auto)]
 
 mod failing;
+mod failing_ledger;
 mod fault;
 mod ledger;
 mod outbox;
@@ -13,6 +14,7 @@ mod plain_ledger;
 mod plain_outbox;
 
 pub use failing::FailingOutbox;
+pub use failing_ledger::FailingLedger;
 pub use fault::{Fault, LedgerFault, Refused, StatedFault, StoreFault};
 pub use ledger::Ledger;
 pub use outbox::Outbox;

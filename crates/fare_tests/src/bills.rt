@@ -68,7 +68,8 @@ fn rows(bill: &Bill) -> [Option<(u32, u64, u64, u64)>; 4] {
     [row(bill, 0), row(bill, 1), row(bill, 2), row(bill, 3)]
 }
 
-fn row(bill: &Bill, place: usize) -> Option<(u32, u64, u64, u64)> {
+/// The row at a place: product, token, rides and amount.
+pub(crate) fn row(bill: &Bill, place: usize) -> Option<(u32, u64, u64, u64)> {
     let row = bill.rows().get(place)?;
     Some((
         row.account.product().get(),
@@ -141,7 +142,8 @@ fn add_products(draft: &mut Draft) -> Option<()> {
     draft.set_caps(1, 525, 600).ok()
 }
 
-fn add_device(draft: &mut Draft) -> Option<()> {
+/// Registers device 1 at station 1 of operator 1.
+pub(crate) fn add_device(draft: &mut Draft) -> Option<()> {
     draft.add_operator(1).ok()?;
     draft.add_station(1, 1).ok()?;
     draft.add_device(1, 1, 4).ok()

@@ -6,7 +6,7 @@ use fare_record::{Ack, AckItem, Day, DayAck, DeviceId, Hello, Item};
 use std::alloc::Global;
 use std::process::Abort;
 
-const TAPPED: [u8; 49] = [
+pub(crate) const TAPPED: [u8; 49] = [
     0x00, 0x2f, 0x01, 0, 0, 0, 1, 0, 0, 0, 0, 0, 0, 0, 1, 0, 1, 0, 0, 0, 0, 0, 0, 0, 1, 0, 0, 0, 1,
     0, 0, 0, 0, 0, 0, 0, 0x4d, 0, 0, 0, 0, 0x65, 0x92, 0x80, 0xa0, 0, 0, 0x4d, 0x0b,
 ];
@@ -15,13 +15,13 @@ const STATED: [u8; 21] = [
     0x00, 0x13, 0x02, 0, 0, 0, 1, 0, 0, 0x4d, 0x0b, 0, 1, 0, 0, 0, 0, 0, 0, 0, 3,
 ];
 
-const ACKED: [u8; 15] = [0x00, 0x0d, 0x03, 0, 0, 0, 1, 0, 0, 0, 0, 0, 0, 0, 1];
+pub(crate) const ACKED: [u8; 15] = [0x00, 0x0d, 0x03, 0, 0, 0, 1, 0, 0, 0, 0, 0, 0, 0, 1];
 
 const DAY_ACKED: [u8; 11] = [0x00, 0x09, 0x04, 0, 0, 0, 1, 0, 0, 0x4d, 0x0b];
 
-const GREETED: [u8; 9] = [0x00, 0x07, 0x05, 0, 0, 0, 1, 0, 1];
+pub(crate) const GREETED: [u8; 9] = [0x00, 0x07, 0x05, 0, 0, 0, 1, 0, 1];
 
-fn tapped() -> Option<Frame> {
+pub(crate) fn tapped() -> Option<Frame> {
     Some(Frame::Tapped(record(FIRST)?))
 }
 
@@ -29,7 +29,7 @@ fn stated() -> Option<Frame> {
     Some(Frame::Stated(statement(1, 19_723, 1, 3)?))
 }
 
-fn acked() -> Option<Frame> {
+pub(crate) fn acked() -> Option<Frame> {
     Some(Frame::Acked(Ack::new(DeviceId::new(1)?, 1)))
 }
 
@@ -37,7 +37,7 @@ fn day_acked() -> Option<Frame> {
     Some(Frame::DayAcked(DayAck::new(DeviceId::new(1)?, Day::new(19_723)?)))
 }
 
-fn greeted() -> Option<Frame> {
+pub(crate) fn greeted() -> Option<Frame> {
     Some(Frame::Greeted(Hello::new(DeviceId::new(1)?, 1)))
 }
 

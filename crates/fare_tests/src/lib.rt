@@ -34,6 +34,8 @@ mod lines;
 #[cfg(test)]
 mod link;
 #[cfg(test)]
+mod net;
+#[cfg(test)]
 mod outbox_tables;
 #[cfg(test)]
 mod owner;
@@ -52,7 +54,13 @@ mod samples;
 #[cfg(test)]
 mod scheme;
 #[cfg(test)]
+mod schemes;
+#[cfg(test)]
+mod sessions;
+#[cfg(test)]
 mod settlements;
+#[cfg(test)]
+mod stations;
 #[cfg(test)]
 mod stops;
 #[cfg(test)]
@@ -63,6 +71,8 @@ mod supervisor;
 mod traces;
 #[cfg(test)]
 mod traces_of_days;
+#[cfg(test)]
+mod windows;
 #[cfg(test)]
 mod world;
 #[cfg(test)]

@@ -106,6 +106,7 @@ operator 65534
 station 1 0
 product 4294967295 2 100001
 caps 3 4 5
+hop 4294967295 4294967294
 device 6 7 8
 inbox 0
 start 4294967295
@@ -131,6 +132,10 @@ demo 2 1 2 3";
             product: 3,
             daily: 4,
             weekly: 5,
+        },
+        SchemeLine::Hop {
+            product: 4294967295,
+            seconds: 4294967294,
         },
         SchemeLine::Device {
             device: 6,

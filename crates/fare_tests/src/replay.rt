@@ -67,7 +67,7 @@ fn replays_traces(rt: HostRuntime) {
 
 #[test]
 fn replays_traces_of_days(rt: HostRuntime) {
-    let cases: [(&[u8], &[u8]); 9] = [
+    let cases: [(&[u8], &[u8]); 10] = [
         (SHORT_COUNT_THEN_CLOSE, SHORT_COUNT_THEN_CLOSE_ANSWERED),
         (DAYS_IN_ORDER, DAYS_IN_ORDER_ANSWERED),
         (EIGHT_WAITING_DAYS, EIGHT_WAITING_DAYS_ANSWERED),
@@ -80,13 +80,15 @@ fn replays_traces_of_days(rt: HostRuntime) {
         ),
         (SMALL_ROOMS, SMALL_ROOMS_ANSWERED),
         (TWO_OWNERS_A_DAY, TWO_OWNERS_A_DAY_ANSWERED),
+        (A_DAY_OF_WINDOWS, A_DAY_OF_WINDOWS_ANSWERED),
     ];
     are_answered(&rt, rt.alloc(), &cases);
 }
 
 #[test]
 fn replays_traces_of_schemes(rt: HostRuntime) {
-    let cases: [(&[u8], &[u8]); 9] = [
+    let cases: [(&[u8], &[u8]); 10] = [
+        (HOP_LINES, HOP_LINES_ANSWERED),
         (REGISTRAR_REFUSALS, REGISTRAR_REFUSALS_ANSWERED),
         (REGISTRAR_SEALS, REGISTRAR_SEALS_ANSWERED),
         (SETTINGS, SETTINGS_ANSWERED),

@@ -18,7 +18,7 @@ fn is_answered(alloc: Global, trace: &[u8], want: &[u8]) -> Result<bool, ReplayF
 
 #[test]
 fn replays_traces_over_tables(rt: HostRuntime) {
-    let cases: [(&[u8], &[u8]); 24] = [
+    let cases: [(&[u8], &[u8]); 26] = [
         (b"", b""),
         (ONE_TAP, ONE_TAP_ANSWERED),
         (FULL_BUFFER, FULL_BUFFER_ANSWERED),
@@ -42,6 +42,8 @@ fn replays_traces_over_tables(rt: HostRuntime) {
         ),
         (SMALL_ROOMS, SMALL_ROOMS_ANSWERED),
         (TWO_OWNERS_A_DAY, TWO_OWNERS_A_DAY_ANSWERED),
+        (A_DAY_OF_WINDOWS, A_DAY_OF_WINDOWS_ANSWERED),
+        (HOP_LINES, HOP_LINES_ANSWERED),
         (REGISTRAR_REFUSALS, REGISTRAR_REFUSALS_ANSWERED),
         (REGISTRAR_SEALS, REGISTRAR_SEALS_ANSWERED),
         (SETTINGS, SETTINGS_ANSWERED),

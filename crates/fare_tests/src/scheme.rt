@@ -1,6 +1,8 @@
 use fare_day::Zone;
 use fare_record::{DeviceId, OwnerId, Pence, ProductId};
-use fare_scheme::{AddFault, CapsFault, DemoFault, DemoSize, Draft, Scheme, SealFault, Tariff};
+use fare_scheme::{
+    AddFault, CapsFault, DemoFault, DemoSize, Draft, HopFault, Scheme, SealFault, Tariff,
+};
 use std::alloc::Global;
 use std::process::Abort;
 
@@ -12,6 +14,7 @@ enum Call {
     Station(u16, u16),
     Product(u32, u16, u32),
     Caps(u32, u32, u32),
+    Hop(u32, u32),
     Device(u32, u16, u32),
     Inbox(u32),
     Start(u32),
@@ -24,6 +27,7 @@ fn made(draft: &mut Draft, call: Call) -> Result<(), AddFault> {
         Call::Station(station, operator) => draft.add_station(station, operator),
         Call::Product(product, owner, fare) => draft.add_product(product, owner, fare),
         Call::Caps(product, daily, weekly) => capped(draft.set_caps(product, daily, weekly)),
+        Call::Hop(product, seconds) => windowed(draft.set_hop(product, seconds)),
         Call::Device(device, station, buffer) => draft.add_device(device, station, buffer),
         Call::Inbox(capacity) => ranged(draft.set_inbox(capacity).is_ok()),
         Call::Start(day) => ranged(draft.set_start(day).is_ok()),
@@ -44,6 +48,14 @@ fn capped(answer: Result<(), CapsFault>) -> Result<(), AddFault> {
         Ok(()) => Ok(()),
         Err(CapsFault::UnknownParent) => Err(AddFault::UnknownParent),
         Err(CapsFault::Range) => Err(AddFault::Range),
+    }
+}
+
+fn windowed(answer: Result<(), HopFault>) -> Result<(), AddFault> {
+    match answer {
+        Ok(()) => Ok(()),
+        Err(HopFault::UnknownParent) => Err(AddFault::UnknownParent),
+        Err(HopFault::Range) => Err(AddFault::Range),
     }
 }
 
@@ -140,6 +152,22 @@ fn refuses_by_the_first_case(rt: HostRuntime) {
 }
 
 #[test]
+fn refuses_windows_by_the_first_case(rt: HostRuntime) {
+    let calls = [
+        (Call::Owner(1, 4), Ok(())),
+        (Call::Product(1, 1, 175), Ok(())),
+        (Call::Hop(1, 7_201), Err(AddFault::Range)),
+        (Call::Hop(9, 60), Err(AddFault::UnknownParent)),
+        (Call::Hop(9, 7_201), Err(AddFault::UnknownParent)),
+        (Call::Hop(0, 0), Err(AddFault::UnknownParent)),
+        (Call::Hop(1, 3_600), Ok(())),
+        (Call::Hop(1, 7_200), Ok(())),
+        (Call::Hop(1, 0), Ok(())),
+    ];
+    answers(&rt, &mut Draft::new(rt.alloc()), &calls);
+}
+
+#[test]
 fn seals_what_is_whole(rt: HostRuntime) {
     let cases: [(&[Call], bool, Option<SealFault>); 6] = [
         (&[], true, Some(SealFault::NothingRegistered)),
@@ -181,6 +209,7 @@ fn reads_product_back(scheme: &Scheme, owner: OwnerId) -> bool {
         fare: Pence::new(175),
         daily: Pence::new(525),
         weekly: Pence::new(2_470),
+        hop: 0,
     };
     scheme.owner_of(product) == Some(owner) && scheme.tariff_of(product) == Some(tariff)
 }

@@ -130,6 +130,20 @@ refused Unsealed
 refused Taken
 ";
 
+pub const HOP_LINES: &[u8] = b"owner 1 4
+product 1 1 175
+hop 1 7201
+hop 9 60
+hop 1 3600
+";
+
+pub const HOP_LINES_ANSWERED: &[u8] = b"ok
+ok
+refused Range
+refused UnknownParent
+ok
+";
+
 pub const REGISTRAR_SEALS: &[u8] = b"owner 1 4
 operator 1
 station 1 1

@@ -658,3 +658,137 @@ packet 3 dayack 1 19723
 acked day 19723
 refused NotWaiting
 ";
+
+pub const A_DAY_OF_WINDOWS: &[u8] = b"hop 1 60
+owner 1 8
+operator 1
+station 1 1
+product 1 1 175
+caps 1 525 2470
+hop 1 3600
+device 1 1 8
+zone GMT0BST,M3.5.0/1,M10.5.0
+start 19723
+seal
+hop 1 60
+tap 1 1 77 1704100000
+tap 1 1 77 1704101800
+tap 1 1 77 1704103600
+tap 1 1 77 1704103601
+tap 1 1 77 1704107201
+turn 1
+send 1
+send 1
+send 1
+send 1
+send 1
+state 1 19723 1
+arrive 1
+arrive 2
+arrive 3
+arrive 4
+arrive 5
+arrive 6
+draw
+store
+draw
+store
+draw
+store
+draw
+store
+draw
+store
+draw
+store
+forward 1 1
+forward 1 1
+forward 1 1
+forward 1 1
+forward 1 1
+forward 1 1
+fetch 1
+take 1
+fetch 1
+take 1
+fetch 1
+take 1
+fetch 1
+take 1
+fetch 1
+take 1
+fetch 1
+take 1
+close 1 1 19723
+bill 1 19723
+settle 1 19723
+bill 1 19724
+";
+
+pub const A_DAY_OF_WINDOWS_ANSWERED: &[u8] = b"refused UnknownParent
+ok
+ok
+ok
+ok
+ok
+ok
+ok
+ok
+ok
+ok
+refused Sealed
+record 1 1
+record 2 2
+record 3 3
+record 4 4
+record 5 5
+open 19724
+packet 1 link 1
+packet 2 link 2
+packet 3 link 3
+packet 4 link 4
+packet 5 link 5
+packet 6 day 19723 owner 1
+accepted
+accepted
+accepted
+accepted
+accepted
+accepted
+drawn 1 link 1
+stored 1 link 1
+drawn 1 link 2
+stored 1 link 2
+drawn 1 link 3
+stored 1 link 3
+drawn 1 link 4
+stored 1 link 4
+drawn 1 link 5
+stored 1 link 5
+drawn 1 day 19723 owner 1
+stored 1 day 19723 owner 1
+forwarded lane 1
+forwarded lane 2
+forwarded lane 3
+forwarded lane 4
+forwarded lane 5
+forwarded day 19723
+fetched 1 lane 1
+taken 1 lane 1
+fetched 1 lane 2
+taken 1 lane 2
+fetched 1 lane 3
+taken 1 lane 3
+fetched 1 lane 4
+taken 1 lane 4
+fetched 1 lane 5
+taken 1 lane 5
+fetched 1 day 19723
+stated 1 day 19723 count 5
+closed 1 19723
+bill 1 19723 1 350
+account 1 77 5 350
+settlement 1 19723 1
+operator 1 5 350
+refused NotClosed 1
+";

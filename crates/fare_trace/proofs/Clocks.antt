@@ -10,7 +10,7 @@ use Rattle.fare_scheme.specs.declared.demo.DemoSize.{DemoSize}
 use Rattle.fare_scheme.specs.declared.demo.DemoSize.TheVariants.{OneDevice, TwoDevices}
 use Rattle.fare_scheme.specs.declared.fault.SealFault.{SealFault}
 use Rattle.fare_scheme.specs.Values.{DraftValue, SchemeValue}
-use Rattle.fare_scheme.specs.Registering.{with_owner, with_operator, with_station, with_product, with_caps, with_device, first_case}
+use Rattle.fare_scheme.specs.Registering.{with_owner, with_operator, with_station, with_product, with_caps, with_hop, with_device, first_case}
 use Rattle.fare_scheme.specs.Sealing.{IsSealedFrom, seal_refusal, lacks_a_kind}
 use Rattle.fare_scheme.specs.Demo.{demo_refusal, demo_rule, demo_scheme}
 use Rattle.fare_scheme.specs.declared.fault.SealFault.TheVariants.{NothingRegistered, NoStart, NoZone}
@@ -169,6 +169,7 @@ both_set_up draft used clock (scheme.Operator operator) a b same first second = 
 both_set_up draft used clock (scheme.Station station operator) a b same first second = both_entered draft (with_station draft station operator) used clock _ a b same same first second
 both_set_up draft used clock (scheme.Product product owner fare) a b same first second = both_entered draft (with_product draft product owner fare) used clock _ a b same same first second
 both_set_up draft used clock (scheme.Caps product daily weekly) a b same first second = both_entered draft (with_caps draft product daily weekly) used clock _ a b same same first second
+both_set_up draft used clock (scheme.Hop product seconds) a b same first second = both_entered draft (with_hop draft product seconds) used clock _ a b same same first second
 both_set_up draft used clock (scheme.Device device station buffer) a b same first second = both_entered draft (with_device draft device station buffer) used clock _ a b same same first second
 both_set_up draft used clock (scheme.Inbox capacity) a b same first second = both_set draft (record draft { inbox_capacity = capacity }) used clock _ a b same same first second
 both_set_up draft used clock (scheme.Zone rule) a b same first second = both_set_zone draft used clock rule a b same first second

@@ -2,3 +2,4 @@ pub mod Answering
 pub mod Clocks
 pub mod Stores
 pub mod Progress
+pub mod SchemeLines

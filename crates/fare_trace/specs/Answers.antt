@@ -9,11 +9,13 @@ use Rattle.fare_scheme.specs.declared.fault.AddFault.{AddFault}
 use Rattle.fare_scheme.specs.declared.fault.AddFault.TheVariants as add
 use Rattle.fare_scheme.specs.declared.fault.CapsFault.{CapsFault}
 use Rattle.fare_scheme.specs.declared.fault.CapsFault.TheVariants as caps
+use Rattle.fare_scheme.specs.declared.fault.HopFault.{HopFault}
+use Rattle.fare_scheme.specs.declared.fault.HopFault.TheVariants as hop
 use Rattle.fare_scheme.specs.declared.fault.SealFault.{SealFault}
 use Rattle.fare_scheme.specs.declared.fault.SealFault.TheVariants as seal
 use Rattle.fare_scheme.specs.Values.{DraftValue, SchemeValue}
 use Rattle.fare_scheme.specs.Ranges.{IsCapacity}
-use Rattle.fare_scheme.specs.Registering.{empty_draft, owner_refusal, operator_refusal, station_refusal, product_refusal, caps_refusal, device_refusal, with_owner, with_operator, with_station, with_product, with_caps, with_device}
+use Rattle.fare_scheme.specs.Registering.{empty_draft, owner_refusal, operator_refusal, station_refusal, product_refusal, caps_refusal, hop_refusal, device_refusal, with_owner, with_operator, with_station, with_product, with_caps, with_hop, with_device}
 use Rattle.fare_scheme.specs.Sealing.{IsSealedFrom, seal_refusal}
 use Rattle.fare_scheme.specs.Demo.{demo_refusal, demo_rule, demo_scheme}
 use Rattle.fare_world.specs.declared.reply.Reply.{Reply}
@@ -51,6 +53,12 @@ abbrev pub cap_refusal : Option CapsFault → Option Refusal
 cap_refusal None = None
 cap_refusal (Some caps.UnknownParent) = Some UnknownParent
 cap_refusal (Some caps.Range) = Some Range
+
+-- why a window is refused
+abbrev pub window_refusal : Option HopFault → Option Refusal
+window_refusal None = None
+window_refusal (Some hop.UnknownParent) = Some UnknownParent
+window_refusal (Some hop.Range) = Some Range
 
 -- why a draft is not sealed
 abbrev pub seal_name : SealFault → Refusal
@@ -106,6 +114,7 @@ SetsUp draft used (scheme.Operator operator) answer = answer ≡ entered draft u
 SetsUp draft used (scheme.Station station operator) answer = answer ≡ entered draft used (add_refusal (station_refusal draft station operator)) (with_station draft station operator)
 SetsUp draft used (scheme.Product product owner fare) answer = answer ≡ entered draft used (add_refusal (product_refusal draft product owner fare)) (with_product draft product owner fare)
 SetsUp draft used (scheme.Caps product daily weekly) answer = answer ≡ entered draft used (cap_refusal (caps_refusal draft product daily weekly)) (with_caps draft product daily weekly)
+SetsUp draft used (scheme.Hop product seconds) answer = answer ≡ entered draft used (window_refusal (hop_refusal draft product seconds)) (with_hop draft product seconds)
 SetsUp draft used (scheme.Device device station buffer) answer = answer ≡ entered draft used (add_refusal (device_refusal draft device station buffer)) (with_device draft device station buffer)
 SetsUp draft used (scheme.Inbox capacity) answer = Sets draft used (IsCapacity capacity) (record draft { inbox_capacity = capacity }) answer
 SetsUp draft used (scheme.Zone rule) answer = SetsZone draft used rule answer

@@ -4,3 +4,4 @@ pub mod Registration
 pub mod Stores
 pub mod Replay
 pub mod Progress
+pub mod Schemes

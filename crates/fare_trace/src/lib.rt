@@ -8,7 +8,9 @@ pub mod laws;
 mod plain_run;
 mod registering;
 mod running;
+mod schemes;
 mod sql_run;
 mod stream;
 
+pub use schemes::{SchemeFault, scheme_of};
 pub use stream::{ReplayFault, replay, replay_sql};

@@ -1,12 +1,13 @@
 ghost use Rattle.std.specs.Prelude.{◌≡◌, Some, IfOk};
+ghost use Rattle.fare_scheme.specs.Registering.{hop_refusal, with_hop};
 ghost use Rattle.fare_scheme.specs.Sealing.{seal_refusal};
 ghost use Rattle.fare_scheme.specs.Demo.{demo_refusal, demo_scheme};
-ghost use Rattle.fare_trace.specs.Answers.{Demonstrates, Seals, SetsUp, SetsZone, accepted as accepted_draft, add_refusal, refused as refused_draft, seal_name};
+ghost use Rattle.fare_trace.specs.Answers.{Demonstrates, Seals, SetsUp, SetsZone, accepted as accepted_draft, add_refusal, entered, refused as refused_draft, seal_name, window_refusal};
 ghost use Rattle.fare_trace.specs.Registration.{AddsNothing, AfterAdding, answer_of};
 
 use fare_day::Zone;
 use fare_lines::{SchemeLine, ZoneText};
-use fare_scheme::{AddFault, CapsFault, DemoFault, DemoSize, Draft, Scheme, SealFault};
+use fare_scheme::{AddFault, CapsFault, DemoFault, DemoSize, Draft, HopFault, Scheme, SealFault};
 use fare_world::{Refusal, Reply};
 use std::alloc::{AllocError, Global};
 
@@ -71,6 +72,17 @@ fn after_adding(draft: Draft, used: bool, added: Result<(), AddFault>) -> Answer
     }
 }
 
+/// The answer to the line of a product's window.
+fn set_hop(mut draft: Draft, used: bool, product: u32, seconds: u32) -> (Registration, Reply)
+    ensures { answer_of result ≡ entered draft used (window_refusal (hop_refusal draft product seconds)) (with_hop draft product seconds) }
+{
+    match draft.set_hop(product, seconds) {
+        Ok(()) => accept(draft),
+        Err(HopFault::UnknownParent) => refuse(draft, used, Refusal::UnknownParent),
+        Err(HopFault::Range) => refuse(draft, used, Refusal::Range),
+    }
+}
+
 /// The answer to a zone line.
 fn set_zone(mut draft: Draft, used: bool, rule: &ZoneText) -> (Registration, Reply)
     ensures { SetsZone draft used rule.now (answer_of result) }
@@ -131,6 +143,7 @@ fn set_or_seal(alloc: Global, mut draft: Draft, used: bool, line: &SchemeLine) -
             Err(CapsFault::UnknownParent) => Ok(refuse(draft, used, Refusal::UnknownParent)),
             Err(CapsFault::Range) => Ok(refuse(draft, used, Refusal::Range)),
         },
+        SchemeLine::Hop { product, seconds } => Ok(set_hop(draft, used, *product, *seconds)),
         SchemeLine::Inbox { capacity } => match draft.set_inbox(*capacity) {
             Ok(()) => Ok(accept(draft)),
             Err(_) => Ok(refuse(draft, used, Refusal::Range)),

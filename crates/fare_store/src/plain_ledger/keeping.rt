@@ -55,7 +55,7 @@ impl PlainLedger {
     }
 
     // Whether something of an owner and a device is this owner's, and of a device of the scheme.
-    pub(super) fn is_mine(&self, owner: OwnerId, device: DeviceId) -> bool
+    pub(crate) fn is_mine(&self, owner: OwnerId, device: DeviceId) -> bool
         ensures { result ≡ is_mine (plain_ledger self.now) owner device }
     {
         owner == self.owner && self.taken.contains_key(&device)

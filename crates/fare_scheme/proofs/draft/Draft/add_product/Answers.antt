@@ -19,7 +19,7 @@ invariant_of-self-2 c =
     let is = entries c in
     let id : IsProductId c.args.product = c.in-Some.ensures.valid.0 refl in
     let found : is_registered c.self.inside.owners.entries c.args.owner ≡ true = ap (λ (d : DraftValue). is_registered d.owners c.args.owner) c.self.view_is ∙ sym c.in-Some-registered_owner.ensures.found in
-    let tariff : IsTariff (uncapped c.args.owner c.args.fare).tariff = record { fare = omega arith; daily = omega arith; weekly = omega arith } in
+    let tariff : IsTariff (uncapped c.args.owner c.args.fare).tariff = record { fare = omega arith; daily = omega arith; weekly = omega arith; hop = omega arith } in
     let below : length c.self.inside.products.entries < 256 = omega (arith, c.len.ensures.len, c.if-len-ge-MOST_PRODUCTS.false) in
     rw is (with_product-IsDraft (the_view c.self.inside) c.args.product (uncapped c.args.owner c.args.fare) c.self.invariant id found tariff below (grown_distinct c.insert.new.self _ is c.insert.ensures.unique))
 

@@ -3,7 +3,7 @@ use Rattle.std.specs.Map.{lookup}
 use Rattle.fare_scheme.specs.Values.{DraftValue}
 use Rattle.fare_scheme.specs.Registering.{is_registered, capped}
 use Rattle.fare_scheme.specs.contracts.draft.Draft.{the_view}
-use Rattle.fare_scheme.proofs.Capping.{entry, set_value-capped, with_caps-IsDraft}
+use Rattle.fare_scheme.proofs.Changing.{entry, set_value-changed, with_caps-IsDraft}
 use Rattle.fare_scheme.proofs.draft.Draft.set_caps.Goals as goal
 
 -- the product is there, so `get_mut` finds it
@@ -13,18 +13,18 @@ returns-in_default-get_mut-clause-ok c =
     let gone : false ≡ is_registered c.self.inside.products.entries c.args.product = ap is_some c.in_default-get_mut.ensures.value ∙ ap (λ id. is_registered c.self.inside.products.entries id) c.in-Some.ensures.value in
     absurd (let h : true ≡ false = there ∙ sym gone in cc)
 
-entries : (c : goal.After-self-2-1) → (c.get_mut.follows.lender (capped c.in-Some-get_mut.product.now c.new-daily_cap.result c.new-weekly_cap.result)).entries ≡ map (entry c.args.product c.args.daily c.args.weekly) c.self.inside.products.entries
+entries : (c : goal.After-self-2-1) → (c.get_mut.follows.lender (capped c.new-daily_cap.result c.new-weekly_cap.result c.in-Some-get_mut.product.now)).entries ≡ map (entry c.args.product (capped c.args.daily c.args.weekly)) c.self.inside.products.entries
 entries c =
     let old = c.in-Some-get_mut.product.now in
     let all = c.self.inside.products.entries in
     let daily_cap = c.new-daily_cap.result in
     let weekly_cap = c.new-weekly_cap.result in
     let found : lookup (nat_eq c.in-Some.id) all ≡ Some old = sym c.in-Some-get_mut.ensures.value in
-    (c.get_mut.follows.holds (capped old daily_cap weekly_cap)).0
-    ∙ set_value-capped c.in-Some.id daily_cap weekly_cap all old c.self.invariant.products.distinct found
-    ∙ ap (λ id. map (entry id daily_cap weekly_cap) all) c.in-Some.ensures.value
-    ∙ ap (λ n. map (entry c.args.product n weekly_cap) all) c.new-daily_cap.ensures
-    ∙ ap (λ n. map (entry c.args.product c.args.daily n) all) c.new-weekly_cap.ensures
+    (c.get_mut.follows.holds (capped daily_cap weekly_cap old)).0
+    ∙ set_value-changed c.in-Some.id (capped daily_cap weekly_cap) all old c.self.invariant.products.distinct found
+    ∙ ap (λ id. map (entry id (capped daily_cap weekly_cap)) all) c.in-Some.ensures.value
+    ∙ ap (λ n. map (entry c.args.product (capped n weekly_cap)) all) c.new-daily_cap.ensures
+    ∙ ap (λ n. map (entry c.args.product (capped c.args.daily n)) all) c.new-weekly_cap.ensures
 
 pub invariant_of-self-2 : goal.invariant_of-self-2
 invariant_of-self-2 c =

@@ -3,4 +3,4 @@ use Rattle.fare_store.proofs.FailingLemmas.{passed_on}
 use Rattle.fare_store.proofs.failing.FailingOutboxOutbox.store_statement.Goals as goal
 
 pub returns : goal.returns
-returns g c = passed_on c.args.self.now.left c.fails_now.new.self.left _ _ _ _ _ c.fails_now.ensures.left (sym c.fails_now.ensures.now ∙ c.if-fails_now.false) (rw c.fails_now.ensures.outbox at c.store_statement.ensures)
+returns g c = passed_on c.args.self.now.left c.fails_now.new.left _ _ _ _ _ c.fails_now.ensures.left (sym c.fails_now.ensures.now ∙ c.if-fails_now.false) c.store_statement.ensures

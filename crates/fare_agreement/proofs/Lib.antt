@@ -1,0 +1,16 @@
+pub mod Prefixes
+pub mod Numbers
+pub mod LaneSteps
+pub mod Collecting
+pub mod Takes
+pub mod Sessions
+pub mod PlainlyLeft
+pub mod Refusals
+pub mod Orders
+pub mod Sums
+pub mod Fresh
+pub mod WeekTaken
+pub mod DevicesAgree
+pub mod Hubs
+pub mod Somethings
+pub mod WorkedSteps

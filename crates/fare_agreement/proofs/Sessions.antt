@@ -1,0 +1,231 @@
+-- Sessions, whole or stopped, keep agreement.
+use Rattle.std.proofs.Common.{◌≡◌, ℕ, ◌+◌, List, [], ◌∷◌, ◌++◌, true, refl, sym, ap, ◌∙◌, subst, arith, append_assoc, inl, inr}
+use Rattle.std.specs.Prelude.{Option, ◌==◌, ◌⊎◌}
+use Rattle.std.specs.List.{AllByRecursion}
+use Rattle.std.proofs.lemmas.List.{append-nil}
+use Rattle.fare_record.specs.Values.{RecordValue}
+use Rattle.fare_record.specs.Lanes.{day_count}
+use Rattle.fare_record.specs.declared.item.Item.{Item}
+use Rattle.fare_scheme.specs.Values.{SchemeValue}
+use Rattle.fare_store.specs.Tables.{put}
+use Rattle.fare_store.specs.OutboxWords.{OutboxValue}
+use Rattle.fare_store.specs.LedgerWords.{LedgerValue, is_closed, with_close}
+use Rattle.fare_world.specs.Knowing.{knows_owner}
+use Rattle.fare_world.specs.System as system
+use Rattle.fare_world.proofs.Lanes.{closed_later, closed_within}
+use Rattle.fare_history.specs.Serving.{behind_ledger, AreNextItems, given_all, pruned_to_all, in_hand, Service, IsService}
+use Rattle.fare_history.specs.Gathering.{Entry, Gathering, items_of, accepted_by, answers_of, all_answers, storing, storing_all, stored_hand, hand_stored, IsAnswerFrom, IsGathering}
+use Rattle.fare_history.specs.Plainly.{IsCovered}
+use Rattle.fare_history.specs.Stores.{StoresValue, Session, Collects, Serves_owner, Closes_day, MayClose, stores_after, stores_after_all}
+use Rattle.fare_history.proofs.Entries.{put_all, put_here, is_one, all-weaken, all-append, all-left, all-right}
+use Rattle.fare_history.proofs.Growing.{items_first}
+use Rattle.fare_history.proofs.ServedPlainly.{upto_stays, stated_stays}
+use Rattle.fare_agreement.specs.Agreeing.{AreNumberedLists, IsOf, lane_agrees, Agrees}
+use Rattle.fare_agreement.specs.Growing.{OutboxGrew, LedgerGrew, StoresGrew}
+use Rattle.fare_agreement.specs.Stopping.{IsSessionOf, AreSessionsOf, IsBegunOf, IsMaybeCommitted, pruned_too, IsLeftBy, AreLeft, IsStored, IsTaken, AreKept, AreAnswered}
+use Rattle.fare_agreement.proofs.Collecting.{outbox_self, outbox_trans, covered_still, stored_still, answer_covered, Gathers, entries_gather, links_left, hand_keeps}
+use Rattle.fare_agreement.proofs.LaneSteps.{close_right}
+use Rattle.fare_agreement.proofs.Takes.{ledger_self, ledger_trans, taken_still, TakesAll, items_taken, all_pruned, closes, close_grows}
+
+-- STORES THAT GREW
+pub stores_self : (h : StoresValue) → StoresGrew h h
+stores_self h = record { outbox = outbox_self h.outbox; ledgers = λ o. ledger_self (h.ledgers o) }
+
+pub stores_trans : (h k m : StoresValue) → StoresGrew h k → StoresGrew k m → StoresGrew h m
+stores_trans h k m p q = record { outbox = outbox_trans h.outbox k.outbox m.outbox p.outbox q.outbox; ledgers = λ o. ledger_trans (h.ledgers o) (k.ledgers o) (m.ledgers o) (p.ledgers o) (q.ledgers o) }
+
+pub kept_still : (sc : SchemeValue) (h k : StoresValue) → StoresGrew h k → (q : Session) → AreKept sc h q → AreKept sc k q
+kept_still sc h k grew (Collects g) is = (
+  all-weaken (IsCovered sc h.outbox) (IsCovered sc k.outbox) (covered_still sc h.outbox k.outbox grew.outbox) (all_answers g) is.0,
+  all-weaken (IsStored h.outbox) (IsStored k.outbox) (stored_still h.outbox k.outbox grew.outbox) (items_of g.entries) is.1,
+)
+kept_still sc h k grew (Serves_owner o v) is = all-weaken (IsTaken (h.ledgers o)) (IsTaken (k.ledgers o)) (taken_still (h.ledgers o) (k.ledgers o) (grew.ledgers o)) v.taken is
+kept_still sc h k grew (Closes_day o d day) is = closed_still (h.ledgers o) (k.ledgers o) (grew.ledgers o) d day is
+  where
+    closed_still : (l m : LedgerValue) → LedgerGrew l m → (d day : ℕ) → is_closed l d day ≡ true → is_closed m d day ≡ true
+    closed_still l m grew d day is =
+        let late : system.is_closed l.start (m.closed d) day ≡ true = closed_later l.start (l.closed d) (m.closed d) day (grew.closed d) is in
+        ap (λ n. system.is_closed n (m.closed d) day) grew.start ∙ late
+
+-- THE ITEM IN THE HAND
+storing_append : (x : OutboxValue) (es fs : List Entry) → storing_all x (es ++ fs) ≡ storing_all (storing_all x es) fs
+storing_append x [] fs = refl
+storing_append x (e ∷ es) fs = storing_append (storing x e.item) es fs
+
+module _ (sc : SchemeValue) (lists : ℕ → List RecordValue) (all : AreNumberedLists sc lists) where
+  -- what a session, or what is left of it, makes of the stores
+  pub record Keeps (h k : StoresValue) : Type 0 where
+    pub agrees : Agrees sc lists k
+    pub grew : StoresGrew h k
+
+  -- THE STATIONS AND THE WRITER
+  module _ (h : StoresValue) (g : Gathering) (is : Agrees sc lists h) (of : AllByRecursion (IsOf lists) (accepted_by g)) (told : IsGathering sc h.outbox g) where
+    collected : Gathers sc lists all h.ledgers h.outbox g.entries
+    collected = entries_gather sc lists all h.ledgers h.outbox g.entries (in_hand g.hand ++ g.inbox) of told.counted told.stored is
+
+    collects_keep : Keeps h (stores_after h (Collects g))
+    collects_keep = record { agrees = collected.agrees; grew = record { outbox = collected.grew; ledgers = λ o. ledger_self (h.ledgers o) } }
+
+    -- also the item in the hand was stored
+    stored_keep : Keeps (stores_after h (Collects g)) (stores_after h (Collects (hand_stored g)))
+    stored_keep = subst (λ y. Keeps (stores_after h (Collects g)) (record h { outbox = y })) (sym (storing_append h.outbox g.entries (stored_hand g.hand)))
+        (let hand = hand_keeps sc lists all h.ledgers (storing_all h.outbox g.entries) g.hand g.inbox (all-right (IsOf lists) (items_of g.entries) (in_hand g.hand ++ g.inbox) of) (links_left sc h.outbox g.entries (in_hand g.hand ++ g.inbox) told.counted told.stored) collected.agrees in
+        record { agrees = hand.agrees; grew = record { outbox = hand.grew; ledgers = λ o. ledger_self (h.ledgers o) } })
+
+    -- what was answered is in the outbox
+    collects_kept : AreKept sc (stores_after h (Collects g)) (Collects g)
+    collects_kept = (
+      all-append (IsCovered sc (storing_all h.outbox g.entries)) (answers_of g.entries) g.last collected.covered
+          (all-weaken (IsAnswerFrom sc (storing_all h.outbox g.entries)) (IsCovered sc (storing_all h.outbox g.entries)) (answer_covered sc (storing_all h.outbox g.entries)) g.last told.last),
+      collected.kept,
+    )
+
+  -- AN OWNER
+  module _ (h : StoresValue) (o : ℕ) (known : knows_owner sc o ≡ true) (is : Agrees sc lists h) where
+    abbrev l : LedgerValue
+    l = h.ledgers o
+
+    -- the ledger takes these, and then the lanes of some devices are pruned
+    serves : (items : List Item) (devices : List ℕ) → AreNextItems o h.outbox (behind_ledger sc l) items → Keeps h (record { outbox = pruned_to_all h.outbox o (given_all l items) devices; ledgers = put h.ledgers o (given_all l items) })
+    serves items devices next = record { agrees = cut; grew = record { outbox = still; ledgers = put_all (λ p m. LedgerGrew (h.ledgers p) m) h.ledgers o l2 (λ p. ledger_self (h.ledgers p)) taken.grew } }
+      where
+        taken : TakesAll lists o h.outbox (λ d. is.stated o d) l items
+        taken = items_taken lists o h.outbox (λ d. is.stated o d) l (behind_ledger sc l) items (λ d. is.lanes o d known) (λ d. refl) next
+
+        l2 : LedgerValue
+        l2 = given_all l items
+
+        ls : ℕ → LedgerValue
+        ls = put h.ledgers o l2
+
+        before : Agrees sc lists (record { outbox = h.outbox; ledgers = put h.ledgers o (given_all l items) })
+        before = record { lanes = λ p d. put_all (λ p m. (d : ℕ) → knows_owner sc p ≡ true → lane_agrees lists h.outbox m p d) h.ledgers o (given_all l items) (λ p d. is.lanes p d) (λ d known. taken.agrees d) p d; stated = is.stated }
+
+        cut : Agrees sc lists (record { outbox = pruned_to_all h.outbox o (given_all l items) devices; ledgers = put h.ledgers o (given_all l items) })
+        cut = subst (λ m. Agrees sc lists (record { outbox = pruned_to_all h.outbox o m devices; ledgers = put h.ledgers o (given_all l items) })) (put_here h.ledgers o (given_all l items)) (all_pruned sc lists (put h.ledgers o (given_all l items)) o h.outbox devices before)
+
+        still : OutboxGrew h.outbox (pruned_to_all h.outbox o (given_all l items) devices)
+        still = record {
+          upto = λ d. omega (arith, ap (λ (f : ℕ → ℕ). f d) (upto_stays h.outbox o (given_all l items) devices));
+          stated = λ p d day c e. ap (λ (f : ℕ → ℕ → ℕ → Option ℕ). f p d day) (stated_stays h.outbox o (given_all l items) devices) ∙ e;
+        }
+
+  -- ANY SESSION
+  pub session_keeps : (h : StoresValue) (q : Session) → Agrees sc lists h → IsSessionOf sc lists h q → Keeps h (stores_after h q)
+  session_keeps h (Collects g) is of = collects_keep h g is of.0 of.1
+  session_keeps h (Serves_owner o v) is of = serves h o of.0 is v.taken v.pruned (items_first o h.outbox (behind_ledger sc (h.ledgers o)) v.taken (in_hand v.hand ++ v.queue) of.1.items)
+  session_keeps h (Closes_day o d day) is of = record {
+    agrees = record {
+      lanes = λ p e known. put_all (λ p m. (e : ℕ) → knows_owner sc p ≡ true → lane_agrees lists h.outbox m p e) h.ledgers o (with_close d (h.ledgers o)) (λ p e known. is.lanes p e known)
+          (λ e known. closes lists o h.outbox (h.ledgers o) (λ e. is.lanes o e of.0) d day of.1 e) p e known;
+      stated = is.stated;
+    };
+    grew = record { outbox = outbox_self h.outbox; ledgers = put_all (λ p m. LedgerGrew (h.ledgers p) m) h.ledgers o (with_close d (h.ledgers o)) (λ p. ledger_self (h.ledgers p)) (close_grows lists o h.outbox (h.ledgers o) (λ e. is.lanes o e of.0) d day of.1) };
+  }
+
+  pub sessions_keep : (h : StoresValue) (qs : List Session) → Agrees sc lists h → AreSessionsOf sc lists h qs → Keeps h (stores_after_all h qs)
+  sessions_keep h [] is of = record { agrees = is; grew = stores_self h }
+  sessions_keep h (q ∷ qs) is of =
+      let one = session_keeps h q is of.0 in
+      let more = sessions_keep (stores_after h q) qs one.agrees of.1 in
+      record { agrees = more.agrees; grew = stores_trans h (stores_after h q) (stores_after_all (stores_after h q) qs) one.grew more.grew }
+
+  -- WHAT WAS ANSWERED
+  closed_now : (l : LedgerValue) (d day : ℕ) → MayClose l d day → is_closed (with_close d l) d day ≡ true
+  closed_now l d day judged =
+      let next : day ≡ l.start + l.closed d = is_one day (l.start + l.closed d) (close_right (l.stated d day) (is_closed l d day) (day == l.start + l.closed d) (day_count (l.taken d) day) judged).1 in
+      ap (λ n. system.is_closed l.start n day) (put_here l.closed d (l.closed d + 1)) ∙ closed_within l.start (l.closed d + 1) day (omega (arith, next)) (omega (arith, next))
+
+  pub session_kept : (h : StoresValue) (q : Session) → Agrees sc lists h → IsSessionOf sc lists h q → AreKept sc (stores_after h q) q
+  session_kept h (Collects g) is of = collects_kept h g is of.0 of.1
+  session_kept h (Serves_owner o v) is of =
+      subst (λ m. AllByRecursion (IsTaken m) v.taken) (sym (put_here h.ledgers o (given_all (h.ledgers o) v.taken)))
+      (items_taken lists o h.outbox (λ d. is.stated o d) (h.ledgers o) (behind_ledger sc (h.ledgers o)) v.taken (λ d. is.lanes o d of.0) (λ d. refl) (items_first o h.outbox (behind_ledger sc (h.ledgers o)) v.taken (in_hand v.hand ++ v.queue) of.1.items)).kept
+  session_kept h (Closes_day o d day) is of = subst (λ m. is_closed m d day ≡ true) (sym (put_here h.ledgers o (with_close d (h.ledgers o)))) (closed_now (h.ledgers o) d day of.1)
+
+  pub sessions_kept : (h : StoresValue) (qs : List Session) → Agrees sc lists h → AreSessionsOf sc lists h qs → AllByRecursion (AreKept sc (stores_after_all h qs)) qs
+  sessions_kept h [] is of = tt
+  sessions_kept h (q ∷ qs) is of =
+      let one = session_keeps h q is of.0 in
+      let more = sessions_keep (stores_after h q) qs one.agrees of.1 in
+      (kept_still sc (stores_after h q) (stores_after_all (stores_after h q) qs) more.grew q (session_kept h q is of.0), sessions_kept (stores_after h q) qs one.agrees of.1)
+
+  -- A STOP
+  answered_of : (h : StoresValue) (q : Session) → AreKept sc h q → AreAnswered sc h q
+  answered_of h (Collects g) is = is
+  answered_of h (Serves_owner o v) is = is
+  answered_of h (Closes_day o d day) is = tt
+
+  answered_still : (h k : StoresValue) → StoresGrew h k → (q : Session) → AreAnswered sc h q → AreAnswered sc k q
+  answered_still h k grew (Collects g) is = kept_still sc h k grew (Collects g) is
+  answered_still h k grew (Serves_owner o v) is = kept_still sc h k grew (Serves_owner o v) is
+  answered_still h k grew (Closes_day o d day) is = tt
+
+  -- what a stop in a session leaves agrees, and has what the session was answered
+  pub record IsSafe (h k : StoresValue) (q : Session) : Type 0 where
+    pub agrees : Agrees sc lists k
+    pub grew : StoresGrew h k
+    pub kept : AreAnswered sc k q
+
+  whole_safe : (h : StoresValue) (q : Session) → Agrees sc lists h → IsSessionOf sc lists h q → IsSafe h (stores_after h q) q
+  whole_safe h q is of = let one = session_keeps h q is of in record { agrees = one.agrees; grew = one.grew; kept = answered_of (stores_after h q) q (session_kept h q is of) }
+
+  -- one step more
+  more_safe : (h k m : StoresValue) (q : Session) → IsSafe h k q → Keeps k m → IsSafe h m q
+  more_safe h k m q safe one = record { agrees = one.agrees; grew = stores_trans h k m safe.grew one.grew; kept = answered_still k m one.grew q safe.kept }
+
+  -- the ledger took these and maybe more, and lanes were pruned
+  served_safe : (h : StoresValue) (o : ℕ) (v : Service) (more : List Item) (devices : List ℕ) → knows_owner sc o ≡ true → Agrees sc lists h → AreNextItems o h.outbox (behind_ledger sc (h.ledgers o)) (v.taken ++ more)
+      → IsSafe h (record { outbox = pruned_to_all h.outbox o (given_all (h.ledgers o) (v.taken ++ more)) devices; ledgers = put h.ledgers o (given_all (h.ledgers o) (v.taken ++ more)) }) (Serves_owner o v)
+  served_safe h o v more devices known is next = record {
+    agrees = one.agrees;
+    grew = one.grew;
+    kept = subst (λ m. AllByRecursion (IsTaken m) v.taken) (sym (put_here h.ledgers o (given_all (h.ledgers o) (v.taken ++ more)))) (all-left (IsTaken (given_all (h.ledgers o) (v.taken ++ more))) v.taken more taken.kept);
+  }
+    where
+      one : Keeps h (record { outbox = pruned_to_all h.outbox o (given_all (h.ledgers o) (v.taken ++ more)) devices; ledgers = put h.ledgers o (given_all (h.ledgers o) (v.taken ++ more)) })
+      one = serves h o known is (v.taken ++ more) devices next
+
+      taken : TakesAll lists o h.outbox (λ d. is.stated o d) (h.ledgers o) (v.taken ++ more)
+      taken = items_taken lists o h.outbox (λ d. is.stated o d) (h.ledgers o) (behind_ledger sc (h.ledgers o)) (v.taken ++ more) (λ d. is.lanes o d known) (λ d. refl) next
+
+  -- the same of no more
+  pruned_safe : (h : StoresValue) (o : ℕ) (v : Service) (devices : List ℕ) → knows_owner sc o ≡ true → Agrees sc lists h → IsService sc o h.outbox (h.ledgers o) v → IsSafe h (stores_after h (Serves_owner o (record v { pruned = devices }))) (Serves_owner o v)
+  pruned_safe h o v devices known is of =
+      subst (λ (items : List Item). IsSafe h (record { outbox = pruned_to_all h.outbox o (given_all (h.ledgers o) items) devices; ledgers = put h.ledgers o (given_all (h.ledgers o) items) }) (Serves_owner o v)) (append-nil v.taken)
+      (served_safe h o v [] devices known is (subst (AreNextItems o h.outbox (behind_ledger sc (h.ledgers o))) (sym (append-nil v.taken)) (items_first o h.outbox (behind_ledger sc (h.ledgers o)) v.taken (in_hand v.hand ++ v.queue) of.items)))
+
+  pub stop_safe : (h k : StoresValue) (q : Session) → Agrees sc lists h → IsBegunOf sc lists h q → IsLeftBy h q k → IsSafe h k q
+  stop_safe h k (Collects g) is of (inl e) = subst (λ m. IsSafe h m (Collects g)) (sym e) (whole_safe h (Collects g) is of)
+  stop_safe h k (Collects g) is of (inr e) = subst (λ m. IsSafe h m (Collects g)) (sym e) (more_safe h (stores_after h (Collects g)) (stores_after h (Collects (hand_stored g))) (Collects g) (whole_safe h (Collects g) is of) (stored_keep h g is of.0 of.1))
+  stop_safe h k (Serves_owner o v) is of left = subst (λ m. IsSafe h m (Serves_owner o v)) (sym (pruned_some left.0 left.2).1) (taken_some left.0 left.1 (pruned_some left.0 left.2).0)
+    where
+      -- the same items, and some devices
+      pruned_some : (w : Service) → (k ≡ stores_after h (Serves_owner o w)) ⊎ ((device : ℕ) × (k ≡ stores_after h (Serves_owner o (pruned_too w device)))) → (ds : List ℕ) × (k ≡ stores_after h (Serves_owner o (record w { pruned = ds })))
+      pruned_some w (inl e) = (w.pruned, e)
+      pruned_some w (inr e) = (w.pruned ++ e.0 ∷ [], e.1)
+
+      taken_some : (w : Service) → IsMaybeCommitted v w → (ds : List ℕ) → IsSafe h (stores_after h (Serves_owner o (record w { pruned = ds }))) (Serves_owner o v)
+      taken_some w (inl same) ds = subst (λ (u : Service). IsSafe h (stores_after h (Serves_owner o (record u { pruned = ds }))) (Serves_owner o v)) (sym same) (pruned_safe h o v ds of.0 is of.1)
+      taken_some w (inr same) ds = subst (λ (u : Service). IsSafe h (stores_after h (Serves_owner o (record u { pruned = ds }))) (Serves_owner o v)) (sym same)
+          (served_safe h o v (in_hand v.hand) ds of.0 is (items_first o h.outbox (behind_ledger sc (h.ledgers o)) (v.taken ++ in_hand v.hand) v.queue (subst (AreNextItems o h.outbox (behind_ledger sc (h.ledgers o))) (sym (append_assoc v.taken (in_hand v.hand) v.queue)) of.1.items)))
+  stop_safe h k (Closes_day o d day) is of (inl e) = subst (λ m. IsSafe h m (Closes_day o d day)) (sym e) (record { agrees = is; grew = stores_self h; kept = tt })
+  stop_safe h k (Closes_day o d day) is of (inr e) = subst (λ m. IsSafe h m (Closes_day o d day)) (sym e.1) (whole_safe h (Closes_day o d day) is (of, e.0))
+
+  -- ANY LIST OF SESSIONS
+  pub record AreSafe (h k : StoresValue) (qs : List Session) : Type 0 where
+    pub agrees : Agrees sc lists k
+    pub grew : StoresGrew h k
+    pub kept : AllByRecursion (AreAnswered sc k) qs
+
+  pub stops_safe : (h k : StoresValue) (qs : List Session) → Agrees sc lists h → AreLeft sc lists h qs k → AreSafe h k qs
+  stops_safe h k [] is left = record { agrees = subst (Agrees sc lists) (sym left) is; grew = subst (StoresGrew h) (sym left) (stores_self h); kept = tt }
+  stops_safe h k (q ∷ qs) is left =
+      let one = stop_safe h left.0 q is left.1 left.2 in
+      let more = stops_safe left.0 k qs one.agrees left.3 in
+      record { agrees = more.agrees; grew = stores_trans h left.0 k one.grew more.grew; kept = (answered_still left.0 k more.grew q one.kept, more.kept) }
+
+pub begun_of : (sc : SchemeValue) (lists : ℕ → List RecordValue) (h : StoresValue) (q : Session) → IsSessionOf sc lists h q → IsBegunOf sc lists h q
+begun_of sc lists h (Collects g) is = is
+begun_of sc lists h (Serves_owner o v) is = is
+begun_of sc lists h (Closes_day o d day) is = is.0

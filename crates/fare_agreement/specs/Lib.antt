@@ -1,0 +1,8 @@
+pub mod Agreeing
+pub mod Growing
+pub mod Stopping
+pub mod Told
+pub mod Totals
+pub mod Parts
+pub mod Together
+pub mod WorkedStop

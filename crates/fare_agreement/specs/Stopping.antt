@@ -1,0 +1,91 @@
+-- Sessions whose items are those of lists, what a stop in one leaves, and what stays of what a session was answered.
+use Rattle.std.specs.Prelude.{◌≡◌, ◌⊎◌, ℕ, ◌+◌, ◌-◌, ◌≤◌, Bool, true, List, [], ◌∷◌, ◌++◌, Some, slice_get}
+use Rattle.std.specs.List.{AllByRecursion}
+use Rattle.fare_record.specs.Values.{RecordValue}
+use Rattle.fare_record.specs.declared.item.Item.{Item}
+use Rattle.fare_record.specs.declared.item.Item.TheVariants as item
+use Rattle.fare_scheme.specs.Values.{SchemeValue}
+use Rattle.fare_store.specs.OutboxWords.{OutboxValue}
+use Rattle.fare_store.specs.Tables.{put, put3}
+use Rattle.fare_store.specs.LedgerWords.{LedgerValue, is_closed}
+use Rattle.fare_world.specs.Knowing.{knows_owner}
+use Rattle.fare_history.specs.Serving.{Service, IsService, committed}
+use Rattle.fare_history.specs.Gathering.{items_of, accepted_by, all_answers, hand_stored, IsGathering}
+use Rattle.fare_history.specs.Plainly.{IsCovered}
+use Rattle.fare_history.specs.Stores.{StoresValue, MayClose, Session, Collects, Serves_owner, Closes_day, stores_after}
+use Rattle.fare_agreement.specs.Agreeing.{IsOf}
+
+-- SESSIONS
+-- the item's owner is registered
+abbrev pub is_known : SchemeValue → Item → Bool
+is_known sc (item.Tap r) = knows_owner sc r.owner
+is_known sc (item.Stated v) = knows_owner sc v.owner
+
+-- a session from these stores on, of items of the lists
+abbrev pub IsSessionOf : SchemeValue → (ℕ → List RecordValue) → StoresValue → Session → Type 0
+IsSessionOf sc lists h (Collects g) = AllByRecursion (IsOf lists) (accepted_by g) × IsGathering sc h.outbox g
+IsSessionOf sc lists h (Serves_owner owner v) = (knows_owner sc owner ≡ true) × IsService sc owner h.outbox (h.ledgers owner) v
+IsSessionOf sc lists h (Closes_day owner device day) = (knows_owner sc owner ≡ true) × MayClose (h.ledgers owner) device day
+
+-- each is one from the stores that those before it left
+abbrev pub AreSessionsOf : SchemeValue → (ℕ → List RecordValue) → StoresValue → List Session → Type 0
+AreSessionsOf sc lists h [] = Unit {0}
+AreSessionsOf sc lists h (q ∷ qs) = IsSessionOf sc lists h q × AreSessionsOf sc lists (stores_after h q) qs
+
+-- A STOP
+-- the same of a session that may have been stopped: a close that failed may be one that the ledger would have refused
+abbrev pub IsBegunOf : SchemeValue → (ℕ → List RecordValue) → StoresValue → Session → Type 0
+IsBegunOf sc lists h (Collects g) = IsSessionOf sc lists h (Collects g)
+IsBegunOf sc lists h (Serves_owner owner v) = IsSessionOf sc lists h (Serves_owner owner v)
+IsBegunOf sc lists h (Closes_day owner device day) = knows_owner sc owner ≡ true
+
+-- the owner's session, or the one that took also what this one has in its hand
+abbrev pub IsMaybeCommitted : Service → Service → Type 0
+IsMaybeCommitted v w = (w ≡ v) ⊎ (w ≡ committed v)
+
+-- the owner's session that pruned one lane more
+abbrev pub pruned_too : Service → ℕ → Service
+pruned_too v device = record v { pruned = v.pruned ++ device ∷ [] }
+
+-- A stop is a store call that fails together with all calls after it. It leaves what the session had made of the stores until then, or also what that call commits: the store or the take of the item in the hand, the prune of one lane more, or the close. An owner whose take failed may go on to prune.
+abbrev pub IsLeftBy : StoresValue → Session → StoresValue → Type 0
+IsLeftBy h (Collects g) k = (k ≡ stores_after h (Collects g)) ⊎ (k ≡ stores_after h (Collects (hand_stored g)))
+IsLeftBy h (Serves_owner owner v) k = (w : Service) × IsMaybeCommitted v w × ((k ≡ stores_after h (Serves_owner owner w)) ⊎ ((device : ℕ) × (k ≡ stores_after h (Serves_owner owner (pruned_too w device)))))
+IsLeftBy h (Closes_day owner device day) k = (k ≡ h) ⊎ (MayClose (h.ledgers owner) device day × (k ≡ stores_after h (Closes_day owner device day)))
+
+-- from stores h the sessions led to stores k: each may have been stopped, and the next went on from what that left
+abbrev pub AreLeft : SchemeValue → (ℕ → List RecordValue) → StoresValue → List Session → StoresValue → Type 0
+AreLeft sc lists h [] k = k ≡ h
+AreLeft sc lists h (q ∷ qs) k = (m : StoresValue) × IsBegunOf sc lists h q × IsLeftBy h q m × AreLeft sc lists m qs k
+
+-- A TAP STORED IN TWO PARTS
+-- its link alone
+abbrev pub with_link_alone : RecordValue → OutboxValue → OutboxValue
+with_link_alone r x = record x { upto = put x.upto r.device r.link }
+
+-- its row alone
+abbrev pub with_row_alone : RecordValue → OutboxValue → OutboxValue
+with_row_alone r x = record x { rows = put3 x.rows r.owner r.device r.lane (Some r); row_count = x.row_count + 1 }
+
+-- WHAT WAS ANSWERED
+-- a stored tap's link is not above the outbox's, and a stored statement is held
+abbrev pub IsStored : OutboxValue → Item → Type 0
+IsStored x (item.Tap r) = r.link ≤ x.upto r.device
+IsStored x (item.Stated v) = x.stated v.owner v.device v.day ≡ Some v.count
+
+-- what was taken is in the ledger, a tap at the place of its lane number
+abbrev pub IsTaken : LedgerValue → Item → Type 0
+IsTaken l (item.Tap r) = slice_get (l.taken r.device) (r.lane - 1) ≡ Some r
+IsTaken l (item.Stated v) = l.stated v.device v.day ≡ Some v.count
+
+-- what the calls of a whole session were answered is in the stores
+abbrev pub AreKept : SchemeValue → StoresValue → Session → Type 0
+AreKept sc h (Collects g) = AllByRecursion (IsCovered sc h.outbox) (all_answers g) × AllByRecursion (IsStored h.outbox) (items_of g.entries)
+AreKept sc h (Serves_owner owner v) = AllByRecursion (IsTaken (h.ledgers owner)) v.taken
+AreKept sc h (Closes_day owner device day) = is_closed (h.ledgers owner) device day ≡ true
+
+-- the same of a session that may have been stopped: of a close that failed nothing is said
+abbrev pub AreAnswered : SchemeValue → StoresValue → Session → Type 0
+AreAnswered sc h (Collects g) = AreKept sc h (Collects g)
+AreAnswered sc h (Serves_owner owner v) = AreKept sc h (Serves_owner owner v)
+AreAnswered sc h (Closes_day owner device day) = Unit {0}

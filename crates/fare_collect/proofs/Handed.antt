@@ -1,0 +1,79 @@
+-- One answer more.
+use Rattle.std.proofs.Common.{◌≡◌, ◌≢◌, ℕ, ◌+◌, ◌<◌, ◌≤◌, List, [], ◌∷◌, ◌++◌, length, set, slice_index_or, arith, length-append, None, refl, sym, ap, ◌∙◌, subst, append_assoc, inl, inr}
+use Rattle.std.specs.Prelude.{Option, Ok, Err}
+use Rattle.std.proofs.lemmas.List.{append-nil, map-append, get_or_default, get_or-set_same, get_or-set_other, get_or_append_left, length-set}
+use Rattle.fare_frame.specs.declared.frame.Frame.{Frame}
+use Rattle.fare_record.specs.declared.ack_item.AckItem.{AckItem}
+use Rattle.fare_source.specs.declared.fault.SourceFault.{SourceFault}
+use Rattle.fare_source.specs.declared.fault.SourceFault.TheVariants as source
+use Rattle.fare_collect.specs.declared.fault.StationFault.{StationFault}
+use Rattle.fare_source.specs.Talking.{Talk, Hears}
+use Rattle.fare_collect.specs.Stations.{frame_for}
+use Rattle.fare_inbox_queue.specs.declared.ack_passes.HearPass.{HearPass}
+use Rattle.fare_collect.specs.declared.station.Station.{Station}
+use Rattle.fare_collect.specs.declared.station.Teller.{Teller}
+use Rattle.fare_collect.specs.Ending.{Keeps, HasHanded, IsHandedLeft, AreBeingHanded}
+use Rattle.fare_collect.proofs.Lent.{same_or_apart, last_at}
+
+pub handed_none : (t : Talk) (f : Option StationFault) → HasHanded t t [] f f
+handed_none t f = record { kept = []; keeps = refl; answered = sym (append-nil t.answered); given = refl; ended = λ e. e; first = λ n. refl; whole = λ e. (e, refl) }
+
+pub keeps_append : (xs ys : List AckItem) (fs gs : List Frame) → Keeps xs fs → Keeps ys gs → Keeps (xs ++ ys) (fs ++ gs)
+keeps_append [] ys fs gs none more = subst (λ l. Keeps ys (l ++ gs)) (sym none) more
+keeps_append (a ∷ xs) ys fs gs (inl k) more = inl (k.0 ++ gs, ap (λ l. l ++ gs) k.1, keeps_append xs ys k.0 gs k.2 more)
+keeps_append (a ∷ xs) ys fs gs (inr k) more = inr (keeps_append xs ys fs gs k more)
+
+pub handed_then : (a b c : Talk) (xs ys : List AckItem) (f g h : Option StationFault) → HasHanded a b xs f g → HasHanded b c ys g h → HasHanded a c (xs ++ ys) f h
+handed_then a b c xs ys f g h first second = record {
+  kept = first.kept ++ second.kept;
+  keeps = keeps_append xs ys first.kept second.kept first.keeps second.keeps;
+  answered = second.answered ∙ (ap (λ l. l ++ second.kept) first.answered ∙ append_assoc a.answered first.kept second.kept);
+  given = second.given ∙ first.given;
+  ended = λ e. second.ended (first.ended e);
+  first = λ n. second.first (λ e. n (sym (first.first n) ∙ e)) ∙ first.first n;
+  whole = λ e. let two = second.whole e in let one = first.whole two.0 in (one.0, (λ i. one.1 i ++ two.1 i) ∙ sym (map-append frame_for xs ys));
+}
+
+-- the source took it
+pub handed_ok : (a b : Talk) (item : AckItem) (f : Option StationFault) → Hears a b (frame_for item) (Ok tt) → HasHanded a b (item ∷ []) f f
+handed_ok a b item f h = record { kept = frame_for item ∷ []; keeps = inl ([], refl, refl); answered = h.answered; given = h.given; ended = h.ended; first = λ n. refl; whole = λ e. (e, refl) }
+
+-- or not: the first fault of the station stays, or is this
+pub handed_err : (a b : Talk) (item : AckItem) (w : SourceFault) (f g : Option StationFault) → Hears a b (frame_for item) (Err w) → (f ≢ None → g ≡ f) → (g ≡ None → ⊥) → HasHanded a b (item ∷ []) f g
+handed_err a b item source.Failed f g h first never = record { kept = frame_for item ∷ []; keeps = inl ([], refl, refl); answered = h.answered; given = h.given; ended = h.ended; first = first; whole = λ e. absurd (never e) }
+handed_err a b item source.Memory f g h first never = record { kept = []; keeps = inr refl; answered = h.answered; given = h.given; ended = h.ended; first = first; whole = λ e. absurd (never e) }
+
+-- EACH LINE
+pub handing_none : {S : Type 0} (talks : S → Talk) (ts : List Teller) (hs : List HearPass) (old : List (Station S)) → length hs ≡ length ts → length ts ≤ length old → AreBeingHanded talks ts ts hs hs old old
+handing_none talks ts hs old even room = record { few = omega arith; even = even; room = room; same = λ k t lt. refl; hears_same = λ k h lt. refl; len = refl; todo = λ k d lt. refl; done = λ k d t h le lt. absurd (omega (arith, le, lt)) }
+
+pub handing_more : {S : Type 0} (talks : S → Talk) (ts tl tl' : List Teller) (hs hl hl' : List HearPass) (old new : List (Station S)) (t : Teller) (h : HearPass) (n : ℕ) (x y : Station S)
+    → AreBeingHanded talks ts tl hs hl old new → tl ≡ tl' ++ t ∷ [] → hl ≡ hl' ++ h ∷ [] → n ≡ length tl' → x ≡ slice_index_or new n x → IsHandedLeft talks t h x y
+    → AreBeingHanded talks ts tl' hs hl' old (set new n y)
+handing_more {S} talks ts tl tl' hs hl hl' old new t h n x y was tellers hears at here one =
+    let pn : length tl ≡ length tl' + 1 = ap length tellers ∙ length-append tl' (t ∷ []) in
+    let hn : length hl ≡ length hl' + 1 = ap length hears ∙ length-append hl' (h ∷ []) in
+    let even : length hl' ≡ length tl' = let e = was.even in omega (arith, pn, hn, e) in
+    let below : n < length tl = omega (arith, pn, at) in
+    let within : n < length new = let f = was.few in let w = was.room in let l = was.len in omega (arith, below, f, w, l) in
+    record {
+      few = let f = was.few in omega (arith, f, pn);
+      even = even;
+      room = was.room;
+      same = λ k d lt. sym (ap (λ l. slice_index_or l k d) tellers ∙ get_or_append_left tl' (t ∷ []) d k lt) ∙ was.same k d (omega (arith, lt, pn));
+      hears_same = λ k d lt. sym (ap (λ l. slice_index_or l k d) hears ∙ get_or_append_left hl' (h ∷ []) d k (omega (arith, lt, even))) ∙ was.hears_same k d (omega (arith, lt, pn));
+      len = length-set new n y ∙ was.len;
+      todo = λ k d lt. get_or-set_other new n k y d (λ e. omega (arith, lt, e, at)) ∙ was.todo k d (omega (arith, lt, pn));
+      done = λ k d dt dh le lt. elim (same_or_apart k n) [
+        | inl e ↦
+            let station : x ≡ slice_index_or old k d = here ∙ (get_or_default new n x d within ∙ (was.todo n d below ∙ ap (λ j. slice_index_or old j d) (sym e))) in
+            let teller : t ≡ slice_index_or ts k dt = sym (ap (λ l. slice_index_or l k dt) tellers ∙ last_at tl' t k dt (e ∙ at)) ∙ was.same k dt (omega (arith, e, below)) in
+            let hear : h ≡ slice_index_or hs k dh = sym (ap (λ l. slice_index_or l k dh) hears ∙ last_at hl' h k dh (e ∙ (at ∙ sym even))) ∙ was.hears_same k dh (omega (arith, e, below)) in
+            let now : y ≡ slice_index_or (set new n y) k d = sym (ap (λ j. slice_index_or (set new n y) j d) e ∙ get_or-set_same new n y d within) in
+            let P : Teller × (HearPass × (Station S × Station S)) → Type 0 = λ q. IsHandedLeft talks q.0 q.1.0 q.1.1.0 q.1.1.1 in
+            subst P (λ i. (teller i, (hear i, (station i, now i)))) one
+        | inr apart ↦
+            let more : length tl ≤ k = omega (arith, le, apart, at, pn) in
+            subst (λ (s : Station S). IsHandedLeft talks (slice_index_or ts k dt) (slice_index_or hs k dh) (slice_index_or old k d) s) (sym (get_or-set_other new n k y d apart)) (was.done k d dt dh more lt)
+      ];
+    }

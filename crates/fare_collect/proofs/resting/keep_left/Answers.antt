@@ -1,0 +1,31 @@
+use Rattle.std.proofs.Common.{◌∷◌, [], Some, None, subst}
+use Rattle.std.specs.Prelude.{Option}
+use Rattle.fare_collect.specs.declared.writing.Halt.{Halt}
+use Rattle.fare_collect.specs.Resting.{HasKept}
+use Rattle.fare_collect.proofs.Rested.{keeping_none, keeping_more, keeping_halt}
+use Rattle.fare_collect.proofs.resting.keep_left.Goals as goal
+
+pub loop-init : goal.loop-init
+loop-init g c = (c.requires, keeping_none _ _ _ (g.met.O.Outbox.sound c.args.outbox.now))
+
+pub loop-preserved : goal.loop-preserved
+loop-preserved g c =
+    let inv = c.loop.invariant in
+    let a = g.O.Outbox.standing c.args.outbox.now in
+    let b = g.O.Outbox.standing c.loop.outbox in
+    let d = g.O.Outbox.standing c.keep.new.outbox in (
+      c.next-in-loop.ensures.ended.0,
+      keeping_more a b d c.args.ended.now c.loop.ended c.next-in-loop.new.self c.in_ok-item.item c.args.stored.now c.loop.stored c.keep.new.stored None inv.1 c.in_ok-item.ensures.some c.in_ok-item.ensures.fewer
+          (subst (λ (h : Option Halt). HasKept b d (c.in_ok-item.item ∷ []) c.loop.stored c.keep.new.stored h) c.in_default.is c.keep.ensures),
+    )
+
+pub returns-in-Some-keep-clause-kept : goal.returns-in-Some-keep-clause-kept
+returns-in-Some-keep-clause-kept g c =
+    let inv = c.loop.invariant in
+    let a = g.O.Outbox.standing c.args.outbox.now in
+    let b = g.O.Outbox.standing c.loop.outbox in
+    let d = g.O.Outbox.standing c.keep.new.outbox in
+    let halt = c.in-Some-keep.halt in
+    keeping_halt a d c.args.ended.now c.next-in-loop.new.self c.args.stored.now c.keep.new.stored halt
+    (keeping_more a b d c.args.ended.now c.loop.ended c.next-in-loop.new.self c.in_ok-item.item c.args.stored.now c.loop.stored c.keep.new.stored (Some halt) inv.1 c.in_ok-item.ensures.some c.in_ok-item.ensures.fewer
+    (subst (λ (h : Option Halt). HasKept b d (c.in_ok-item.item ∷ []) c.loop.stored c.keep.new.stored h) c.in-Some-keep.is c.keep.ensures))

@@ -1,0 +1,7 @@
+use Rattle.std.proofs.Common.{None}
+use Rattle.fare_inbox_queue.specs.InboxPasses.{IsInboxEnded}
+use Rattle.fare_collect.specs.Resting.{HasKeepingLeft}
+use Rattle.fare_collect.proofs.resting.keep_left.Given as goal
+
+abbrev pub invariant-loop : goal.invariant-loop
+invariant-loop g l = IsInboxEnded l.ended × HasKeepingLeft (g.O.Outbox.standing l.fn.outbox) (g.O.Outbox.standing l.outbox) l.fn.ended l.ended l.fn.stored l.stored None

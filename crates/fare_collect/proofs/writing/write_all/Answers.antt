@@ -1,0 +1,45 @@
+use Rattle.std.proofs.Common.{◌≡◌, ◌∷◌, ◌++◌, [], Some, None, List, refl, sym, subst, ◌∙◌}
+use Rattle.std.specs.Prelude.{Option}
+use Rattle.fare_inbox_queue.specs.declared.arrived.Arrived.{Arrived}
+use Rattle.fare_inbox_queue.specs.InboxPasses.{taken_list}
+use Rattle.fare_collect.specs.declared.writing.Halt.{Halt}
+use Rattle.fare_collect.specs.Stations.{HasWritten}
+use Rattle.fare_collect.proofs.Told.{written_none, written_then}
+use Rattle.fare_collect.proofs.writing.write_all.Goals as goal
+
+pub loop-init : goal.loop-init
+loop-init g c = (
+  c.requires.queue.0,
+  refl,
+  c.requires.ready,
+  subst (λ (l : List Arrived). HasWritten c.args.scheme.now (g.O.Outbox.standing c.args.outbox.now) (g.O.Outbox.standing c.args.outbox.now) l c.args.tellers.now c.args.tellers.now c.args.stored.now c.args.stored.now None) (sym c.requires.queue.1)
+      (written_none _ _ _ _ (g.met.O.Outbox.sound c.args.outbox.now)),
+)
+
+pub returns-in-Some-handle-clause-written : goal.returns-in-Some-handle-clause-written
+returns-in-Some-handle-clause-written g c =
+    let inv = c.loop.invariant in
+    let item = c.in-Some-take.item in
+    let took : taken_list c.take.new.pass ≡ taken_list c.loop.writer ++ item ∷ [] = c.in-Some-take.ensures.some in
+    let a = g.O.Outbox.standing c.args.outbox.now in
+    let b = g.O.Outbox.standing c.loop.outbox in
+    let d = g.O.Outbox.standing c.handle.new.outbox in
+    subst (λ (l : List Arrived). HasWritten c.args.scheme.now a d l c.args.tellers.now c.handle.new.tellers c.args.stored.now c.handle.new.stored (Some c.in-Some-handle.halt)) (sym took)
+    (written_then c.args.scheme.now a b d (taken_list c.loop.writer) (item ∷ []) c.args.tellers.now c.loop.tellers c.handle.new.tellers c.args.stored.now c.loop.stored c.handle.new.stored (Some c.in-Some-handle.halt) inv.3
+    (subst (λ (h : Option Halt). HasWritten c.args.scheme.now b d (item ∷ []) c.loop.tellers c.handle.new.tellers c.loop.stored c.handle.new.stored h) c.in-Some-handle.is c.handle.ensures.written))
+
+pub loop-preserved-in_default : goal.loop-preserved-in_default
+loop-preserved-in_default g c =
+    let inv = c.loop.invariant in
+    let item = c.in-Some-take.item in
+    let took : taken_list c.take.new.pass ≡ taken_list c.loop.writer ++ item ∷ [] = c.in-Some-take.ensures.some in
+    let a = g.O.Outbox.standing c.args.outbox.now in
+    let b = g.O.Outbox.standing c.loop.outbox in
+    let d = g.O.Outbox.standing c.handle.new.outbox in (
+      c.take.ensures.queue,
+      c.take.ensures.stations ∙ inv.1,
+      c.handle.ensures.ready,
+      subst (λ (l : List Arrived). HasWritten c.args.scheme.now a d l c.args.tellers.now c.handle.new.tellers c.args.stored.now c.handle.new.stored None) (sym took)
+          (written_then c.args.scheme.now a b d (taken_list c.loop.writer) (item ∷ []) c.args.tellers.now c.loop.tellers c.handle.new.tellers c.args.stored.now c.loop.stored c.handle.new.stored None inv.3
+          (subst (λ (h : Option Halt). HasWritten c.args.scheme.now b d (item ∷ []) c.loop.tellers c.handle.new.tellers c.loop.stored c.handle.new.stored h) c.in_default.is c.handle.ensures.written)),
+    )

@@ -1,0 +1,10 @@
+pub mod Arriving
+pub mod Gathering
+pub mod Writing
+pub mod Stations
+pub mod Opening
+pub mod Resting
+pub mod Ending
+pub mod Session
+pub mod Resuming
+pub mod Collected

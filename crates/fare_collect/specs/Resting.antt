@@ -1,0 +1,137 @@
+-- What the call itself did after the joins.
+use Rattle.std.specs.Prelude.{◌≡◌, ◌≢◌, ◌⊎◌, ℕ, ◌+◌, ◌<◌, true, false, List, [], ◌∷◌, ◌++◌, length, slice_index_or, Option, Some, None}
+use Rattle.fare_frame.specs.declared.frame.Frame.{Frame}
+use Rattle.fare_scheme.specs.Values.{SchemeValue}
+use Rattle.fare_collector.specs.Collecting.{next_in}
+use Rattle.fare_store.specs.Standing.{Standing}
+use Rattle.fare_store.specs.OutboxWords.{OutboxValue}
+use Rattle.fare_inbox_queue.specs.declared.arrived.Arrived.{Arrived}
+use Rattle.fare_inbox_queue.specs.declared.inbox_ended.InboxEnded.{InboxEnded}
+use Rattle.fare_inbox_queue.specs.Inbox.{of_station}
+use Rattle.fare_inbox_queue.specs.InboxPasses.{left_of}
+use Rattle.fare_collect.specs.declared.fault.StationFault.{StationFault}
+use Rattle.fare_collect.specs.declared.fault.StationFault.TheVariants.{Unexpected}
+use Rattle.fare_collect.specs.declared.station.Station.{Station}
+use Rattle.fare_collect.specs.declared.station.End.{End}
+use Rattle.fare_collect.specs.declared.station.Teller.{Teller}
+use Rattle.fare_collect.specs.declared.writing.Halt.{Halt}
+use Rattle.fare_source.specs.Talking.{Talk}
+use Rattle.fare_history.specs.AcceptedLinks.{next_links, next_links_all}
+use Rattle.fare_collect.specs.Arriving.{arrived_of, arrivals, IsUnexpected}
+use Rattle.fare_collect.specs.Stations.{held_list, SourceCounted, HasWritten}
+
+-- items were stored, or had been before, and no line was told
+pub record HasKept (old new : Standing OutboxValue) (items : List Arrived) (count_old count_new : ℕ) (halt : Option Halt) : Type 0 where
+  pub each : (sc : SchemeValue) (t : List Teller) → HasWritten sc old new items t t count_old count_new halt
+
+-- some of what was left in the inbox, from the front of each station's part
+pub record HasKeepingLeft (old new : Standing OutboxValue) (before after : InboxEnded) (count_old count_new : ℕ) (halt : Option Halt) : Type 0 where
+  pub items : List Arrived
+  pub parts : (station : ℕ) → left_of before station ≡ of_station station items ++ left_of after station
+  pub kept : HasKept old new items count_old count_new halt
+  pub count : before.left ≡ length items + after.left
+
+-- what was left in the inbox, from the front of each station's part
+pub record HasKeptLeft (old new : Standing OutboxValue) (before after : InboxEnded) (count_old count_new : ℕ) (halt : Option Halt) : Type 0 where
+  pub some : HasKeepingLeft old new before after count_old count_new halt
+  pub whole : halt ≡ None → (station : ℕ) → left_of after station ≡ []
+  pub none : halt ≡ None → after.left ≡ 0
+
+abbrev pub items_in : Option (Option Arrived) → List Arrived
+items_in None = []
+items_in (Some None) = []
+items_in (Some (Some a)) = a ∷ []
+
+-- a frame went to the collector
+pub record HasJudged {S : Type 0} (sc : SchemeValue) (id : ℕ) (frame : Frame) (old new : Station S) (result : Option (Option Arrived)) : Type 0 where
+  pub arrived : arrived_of sc id (next_in old.collector) frame ≡ items_in result
+  pub next : next_in new.collector ≡ next_links sc (next_in old.collector) frame
+  pub unexpected : result ≡ None → IsUnexpected frame
+  pub named : new.collector.station ≡ old.collector.station
+  pub source : new.source ≡ old.source
+  pub end : new.end ≡ old.end
+
+-- the frame that was held, or else one more of the source
+pub record HasNext (old new : Talk) (before after : End) (result : Option Frame) : Type 0 where
+  pub more : List Frame
+  pub given : new.given ≡ old.given ++ more
+  pub frame : held_list result ≡ held_list before.held ++ more
+  pub held : after.held ≡ None
+  pub answered : new.answered ≡ old.answered
+  pub going : before.fault ≡ None → (f : Frame) → result ≡ Some f → (after.fault ≡ None) × (after.ended ≡ before.ended)
+  pub at_end : before.fault ≡ None → result ≡ None → ((after.ended ≡ true) × new.ended × (after.fault ≡ None)) ⊎ ((f : StationFault) × (after.fault ≡ Some f) × (after.ended ≡ before.ended))
+  pub cause : before.fault ≡ None → SourceCounted old.failures new.failures after.fault
+  pub other : before.fault ≡ None → after.fault ≡ Some Unexpected → ⊥
+
+-- the rest of a station's source, first the frame that was held, was accepted and stored
+pub record HasRested {S : Type 0} (sc : SchemeValue) (talks : S → Talk) (id : ℕ) (old new : Standing OutboxValue) (count_old count_new : ℕ) (before after : Station S) (halt : Option Halt) : Type 0 where
+  pub more : List Frame
+  pub given : (talks after.source).given ≡ (talks before.source).given ++ more
+  pub held : after.end.held ≡ None
+  pub start : before.end.fault ≡ None
+  pub unended : before.end.ended ≡ false
+  pub answered : (talks after.source).answered ≡ (talks before.source).answered
+  pub items : List Arrived
+  pub arrived : items ≡ arrivals sc id (next_in before.collector) (held_list before.end.held ++ more)
+  pub next : next_in after.collector ≡ next_links_all sc (next_in before.collector) (held_list before.end.held ++ more)
+  pub named : after.collector.station ≡ before.collector.station
+  pub kept : HasKept old new items count_old count_new halt
+  pub whole : halt ≡ None → after.end.fault ≡ None → (after.end.ended ≡ true) × (talks after.source).ended
+  pub at_end : after.end.ended ≡ true → (talks after.source).ended × (after.end.fault ≡ None)
+  pub unexpected : after.end.fault ≡ Some Unexpected → (front : List Frame) × (f : Frame) × (held_list before.end.held ++ more ≡ front ++ f ∷ []) × IsUnexpected f
+  pub cause : SourceCounted (talks before.source).failures (talks after.source).failures after.end.fault
+
+-- some of that
+pub record HasResting {S : Type 0} (sc : SchemeValue) (talks : S → Talk) (id : ℕ) (old new : Standing OutboxValue) (count_old count_new : ℕ) (before after : Station S) (passed : List Frame) (halt : Option Halt) : Type 0 where
+  pub more : List Frame
+  pub given : (talks after.source).given ≡ (talks before.source).given ++ more
+  pub frames : passed ++ held_list after.end.held ≡ held_list before.end.held ++ more
+  pub start : before.end.fault ≡ None
+  pub unended : before.end.ended ≡ false
+  pub going : after.end.ended ≡ false
+  pub answered : (talks after.source).answered ≡ (talks before.source).answered
+  pub items : List Arrived
+  pub arrived : items ≡ arrivals sc id (next_in before.collector) passed
+  pub next : next_in after.collector ≡ next_links_all sc (next_in before.collector) passed
+  pub named : after.collector.station ≡ before.collector.station
+  pub kept : HasKept old new items count_old count_new halt
+  pub fault : after.end.fault ≡ None
+  pub failures : (talks after.source).failures ≡ (talks before.source).failures
+
+-- ALL STATIONS
+-- what of these items came from the station: what its collector accepts of the frames that were passed on
+pub record IsRestOf {S : Type 0} (sc : SchemeValue) (talks : S → Talk) (items : List Arrived) (before after : Station S) : Type 0 where
+  pub passed : List Frame
+  pub more : List Frame
+  pub given : (talks after.source).given ≡ (talks before.source).given ++ more
+  pub frames : passed ++ held_list after.end.held ≡ held_list before.end.held ++ more
+  pub part : of_station before.collector.station items ≡ arrivals sc before.collector.station (next_in before.collector) passed
+  pub next : next_in after.collector ≡ next_links_all sc (next_in before.collector) passed
+  pub named : after.collector.station ≡ before.collector.station
+  pub answered : (talks after.source).answered ≡ (talks before.source).answered
+  pub faulted : before.end.fault ≢ None → after.end.fault ≡ before.end.fault
+  pub idle : before.end.fault ≢ None → passed ≡ []
+  pub ended : (before.end.ended ≡ true → (talks before.source).ended × (before.end.held ≡ None) × (before.end.fault ≡ None)) → after.end.ended ≡ true → (talks after.source).ended × (after.end.held ≡ None) × (after.end.fault ≡ None)
+  pub cause : (n : ℕ) → SourceCounted n (talks before.source).failures before.end.fault → SourceCounted n (talks after.source).failures after.end.fault
+  pub unexpected : after.end.fault ≡ Some Unexpected → (before.end.fault ≡ Some Unexpected) ⊎ ((front : List Frame) × (f : Frame) × (passed ≡ front ++ f ∷ []) × IsUnexpected f)
+
+-- the sources of the stations up to a place have come to their ends, or met a fault
+pub record AreRead {S : Type 0} (stations : List (Station S)) (place : ℕ) : Type 0 where
+  pub each : (k : ℕ) (d : Station S) → k < place → k < length stations → (slice_index_or stations k d).end.fault ≡ None → (slice_index_or stations k d).end.ended ≡ true
+
+-- none of these is this station
+abbrev pub IsNoneOf : {S : Type 0} → ℕ → List (Station S) → Type 0
+IsNoneOf {S} station stations = (k : ℕ) (d : Station S) → k < length stations → station ≢ (slice_index_or stations k d).collector.station
+
+-- the rest of the sources of the stations up to a place was stored
+pub record HaveRested {S : Type 0} (sc : SchemeValue) (talks : S → Talk) (old new : Standing OutboxValue) (count_old count_new : ℕ) (before after : List (Station S)) (place : ℕ) (halt : Option Halt) : Type 0 where
+  pub read : halt ≡ None → AreRead after place
+  pub items : List Arrived
+  pub kept : HasKept old new items count_old count_new halt
+  pub len : length after ≡ length before
+  pub each : (k : ℕ) (d : Station S) → k < length before → IsRestOf sc talks items (slice_index_or before k d) (slice_index_or after k d)
+  pub others : (station : ℕ) → IsNoneOf station before → of_station station items ≡ []
+
+-- no two are of one station
+pub record AreApart {S : Type 0} (stations : List (Station S)) : Type 0 where
+  pub each : (j k : ℕ) (d : Station S) → j < length stations → k < length stations → j ≢ k → (slice_index_or stations j d).collector.station ≢ (slice_index_or stations k d).collector.station

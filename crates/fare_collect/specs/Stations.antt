@@ -1,0 +1,164 @@
+-- What the threads of a session did.
+use Rattle.std.specs.Prelude.{◌≡◌, ◌≢◌, ◌⊎◌, ℕ, ◌+◌, ◌<◌, ◌≤◌, min, true, false, Bool, List, [], ◌∷◌, ◌++◌, length, map, slice_index_or, Option, Some, None, if◌then◌else◌}
+use Rattle.fare_frame.specs.declared.frame.Frame.{Frame}
+use Rattle.fare_frame.specs.declared.frame.Frame.TheVariants.{Acked, DayAcked}
+use Rattle.fare_scheme.specs.Values.{SchemeValue}
+use Rattle.fare_collector.specs.Collecting.{is_id, next_in}
+use Rattle.fare_inbox_queue.specs.declared.arrived.Arrived.{Arrived}
+use Rattle.fare_record.specs.declared.ack_item.AckItem.{AckItem}
+use Rattle.fare_record.specs.declared.ack_item.AckItem.TheVariants.{Upto, Day}
+use Rattle.fare_inbox_queue.specs.declared.ack_line.AckLine.{AckLine}
+use Rattle.fare_inbox_queue.specs.declared.inbox.Inbox.{Inbox}
+use Rattle.fare_inbox_queue.specs.InboxPasses.{station_of, sent_list, IsStationOf}
+use Rattle.fare_inbox_queue.specs.LinePasses.{put_list, heard_list, IsAckOf, IsHearOf}
+use Rattle.fare_source.specs.declared.fault.SourceFault.{SourceFault}
+use Rattle.fare_source.specs.declared.fault.SourceFault.TheVariants as source
+use Rattle.fare_collect.specs.declared.fault.StationFault.{StationFault}
+use Rattle.fare_collect.specs.declared.fault.StationFault.TheVariants.{Source, Unexpected, Memory}
+use Rattle.fare_collect.specs.declared.station.Station.{Station}
+use Rattle.fare_collect.specs.declared.station.Seat.{Seat}
+use Rattle.fare_collect.specs.declared.station.Teller.{Teller}
+use Rattle.fare_source.specs.Talking.{Talk}
+use Rattle.fare_store.specs.Standing.{Standing}
+use Rattle.fare_store.specs.OutboxWords.{OutboxValue}
+use Rattle.fare_store.specs.declared.fault.Fault.{Fault}
+use Rattle.fare_collect.specs.declared.fault.WriterFault.{WriterFault}
+use Rattle.fare_collect.specs.declared.fault.WriterFault.TheVariants as writer
+use Rattle.fare_collect.specs.declared.writing.Halt.{Halt}
+use Rattle.fare_collect.specs.Gathering.{Entry, items_of, in_hand, told_to, storing_all, new_count, IsRefused}
+use Rattle.fare_collect.specs.Writing.{store_fault, Wrote}
+use Rattle.fare_history.specs.AcceptedLinks.{next_links, next_links_all}
+use Rattle.fare_collect.specs.Arriving.{arrived_of, arrivals, IsUnexpected}
+
+-- THE STATION
+abbrev pub frame_for : AckItem → Frame
+frame_for (Upto a) = Acked a
+frame_for (Day a) = DayAcked a
+
+abbrev pub as_station : SourceFault → StationFault
+as_station source.Failed = Source
+as_station source.Memory = Memory
+
+-- a source's count of failures rises where its station ended by it, and nowhere else
+abbrev pub SourceCounted : ℕ → ℕ → Option StationFault → Type 0
+SourceCounted old new (Some Source) = (old < new) ⊎ (18446744073709551615 ≤ old)
+SourceCounted old new (Some Unexpected) = new ≡ old
+SourceCounted old new (Some Memory) = new ≡ old
+SourceCounted old new None = new ≡ old
+
+abbrev pub held_list : Option Frame → List Frame
+held_list None = []
+held_list (Some f) = f ∷ []
+
+-- a frame went to the collector and, where that accepts it, to the inbox; or the inbox took nothing, and the
+-- collector is as it was
+pub record HasPassedOn (sc : SchemeValue) (station : ℕ) (next_old next_new : ℕ → Option ℕ) (sent_old sent_new : List Arrived) (frame : Frame) (passed : Bool) : Type 0 where
+  pub sent : passed ≡ true → sent_new ≡ sent_old ++ arrived_of sc station next_old frame
+  pub next : passed ≡ true → next_new ≡ next_links sc next_old frame
+  pub sent_held : passed ≡ false → sent_new ≡ sent_old
+  pub next_held : passed ≡ false → next_new ≡ next_old
+
+-- what was taken of the line was handed to the source, which kept it, but for the last where it had no memory
+pub record HasAnswered (old new : Talk) (heard_old heard_new : List AckItem) (fault : Option StationFault) : Type 0 where
+  pub handed : List AckItem
+  pub lost : List AckItem
+  pub took : heard_new ≡ heard_old ++ (handed ++ lost)
+  pub answered : new.answered ≡ old.answered ++ map frame_for handed
+  pub few : length lost ≤ 1
+  pub kept : fault ≢ Some Memory → lost ≡ []
+  pub given : new.given ≡ old.given
+  pub ended : old.ended → new.ended
+  pub other : fault ≢ Some Unexpected
+  pub cause : SourceCounted old.failures new.failures fault
+
+-- what came of the frames that the source gave, but for the one that is held
+pub record HasRead (sc : SchemeValue) (station : ℕ) (old new : Talk) (next_old next_new : ℕ → Option ℕ) (sent_old sent_new : List Arrived) (heard_old heard_new : List AckItem) (held : Option Frame) (at_end : Bool) (fault : Option StationFault) : Type 0 where
+  pub frames : List Frame
+  pub given : new.given ≡ old.given ++ (frames ++ held_list held)
+  pub sent : sent_new ≡ sent_old ++ arrivals sc station next_old frames
+  pub next : next_new ≡ next_links_all sc next_old frames
+  pub handed : List AckItem
+  pub lost : List AckItem
+  pub took : heard_new ≡ heard_old ++ (handed ++ lost)
+  pub answered : new.answered ≡ old.answered ++ map frame_for handed
+  pub few : length lost ≤ 1
+  pub kept : fault ≢ Some Memory → lost ≡ []
+  pub ended : at_end ≡ true → new.ended × (held ≡ None) × (fault ≡ None)
+  pub unexpected : fault ≡ Some Unexpected → (front : List Frame) × (f : Frame) × (frames ≡ front ++ f ∷ []) × IsUnexpected f
+  pub cause : SourceCounted old.failures new.failures fault
+
+-- the station at a place has a seat that was made for it
+pub record IsSeatedAt {S : Type 0} (inbox : Inbox) (lines : List AckLine) (k : ℕ) (t : Station S) : Type 0 where
+  pub place : k < length lines
+  pub seat : Seat
+  pub is : t.seat ≡ Some seat
+  pub pass : IsStationOf inbox seat.pass
+  pub hear : (l : AckLine) → IsHearOf (slice_index_or lines k l) seat.hear
+  pub held : seat.held ≡ None
+  pub ended : seat.ended ≡ false
+  pub fault : seat.fault ≡ None
+
+pub record AreSeated {S : Type 0} (inbox : Inbox) (lines : List AckLine) (stations : List (Station S)) : Type 0 where
+  pub each : (k : ℕ) (d : Station S) → k < length stations → IsSeatedAt inbox lines k (slice_index_or stations k d)
+
+-- the station's thread has run
+pub record HasRun {S : Type 0} (sc : SchemeValue) (talks : S → Talk) (inbox : Inbox) (lines : List AckLine) (k : ℕ) (old new : Station S) : Type 0 where
+  pub seat_old : Seat
+  pub seat_new : Seat
+  pub is_old : old.seat ≡ Some seat_old
+  pub is_new : new.seat ≡ Some seat_new
+  pub pass : IsStationOf inbox seat_new.pass
+  pub hear : (l : AckLine) → IsHearOf (slice_index_or lines k l) seat_new.hear
+  pub named : station_of seat_new.pass ≡ station_of seat_old.pass
+  pub station : new.collector.station ≡ old.collector.station
+  pub read : HasRead sc (station_of seat_old.pass) (talks old.source) (talks new.source) (next_in old.collector) (next_in new.collector) (sent_list seat_old.pass) (sent_list seat_new.pass) (heard_list seat_old.hear) (heard_list seat_new.hear) seat_new.held seat_new.ended seat_new.fault
+
+pub record HaveRun {S : Type 0} (sc : SchemeValue) (talks : S → Talk) (inbox : Inbox) (lines : List AckLine) (old new : List (Station S)) : Type 0 where
+  pub each : (k : ℕ) (d : Station S) → k < length old → HasRun sc talks inbox lines k (slice_index_or old k d) (slice_index_or new k d)
+
+-- THE WRITER
+-- each teller has the writer's pass of the line at its place
+pub record AreTellers (lines : List AckLine) (tellers : List Teller) : Type 0 where
+  pub len : length tellers ≡ length lines
+  pub each : (k : ℕ) (l : AckLine) (d : Teller) → k < length tellers → IsAckOf (slice_index_or lines k l) (slice_index_or tellers k d).pass
+
+-- what the line at a place was told, where it took the answer
+abbrev pub told_if : Option ℕ → ℕ → AckItem → Bool → List AckItem
+told_if place k item took = if took then (if is_id place k then item ∷ [] else []) else []
+
+pub record HasTold (place : Option ℕ) (item : AckItem) (old new : List Teller) (took : Bool) : Type 0 where
+  pub len : length new ≡ length old
+  pub each : (k : ℕ) (d : Teller) → k < length old → put_list (slice_index_or new k d).pass ≡ put_list (slice_index_or old k d).pass ++ told_if place k item took
+
+-- each line was told the answers of its station's items
+pub record HaveBeenTold (sc : SchemeValue) (es : List Entry) (old new : List Teller) : Type 0 where
+  pub len : length new ≡ length old
+  pub each : (k : ℕ) (d : Teller) → k < length old → put_list (slice_index_or new k d).pass ≡ put_list (slice_index_or old k d).pass ++ told_to sc k es
+
+abbrev pub hand_of : Option Halt → Option Arrived
+hand_of None = None
+hand_of (Some h) = h.hand
+
+abbrev pub fault_of : Option Halt → Option Fault
+fault_of None = None
+fault_of (Some h) = store_fault h.fault
+
+-- where the writer ended since the outbox refused an item, it is the one in the hand
+abbrev pub IsRefusedItem : OutboxValue → WriterFault → Option Arrived → Type 0
+IsRefusedItem x writer.Refused None = ⊥
+IsRefusedItem x writer.Refused (Some a) = IsRefused x a
+IsRefusedItem x _ hand = Unit {0}
+
+abbrev pub RefusedBy : OutboxValue → Option Halt → Type 0
+RefusedBy x None = Unit {0}
+RefusedBy x (Some h) = IsRefusedItem x h.fault h.hand
+
+-- what came of these items, one after the other: some were stored, or had been before, and told; at its end the
+-- writer may have one in its hand
+pub record HasWritten (sc : SchemeValue) (old new : Standing OutboxValue) (items : List Arrived) (tellers_old tellers_new : List Teller) (count_old count_new : ℕ) (halt : Option Halt) : Type 0 where
+  pub entries : List Entry
+  pub all : items ≡ items_of entries ++ in_hand (hand_of halt)
+  pub wrote : Wrote sc old new entries (hand_of halt) (fault_of halt)
+  pub told : HaveBeenTold sc entries tellers_old tellers_new
+  pub refused : new.live → old.lawful → RefusedBy (storing_all old.value entries) halt
+  pub counted : new.clean → old.live → old.lawful → min count_new 18446744073709551615 ≡ min (count_old + new_count old.value entries) 18446744073709551615

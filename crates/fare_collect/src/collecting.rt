@@ -1,0 +1,374 @@
+ghost use Rattle.fare_collect.specs.declared.fault.WriterFault.{WriterFault};
+ghost use Rattle.std.specs.Prelude.{◌≡◌, ◌+◌, ◌≤◌, ◌++◌, length, map, IfOk, IsErr, Option, vec_len, vec_capacity};
+ghost use Rattle.fare_collect.specs.Collected.{as_session, fault_at, faults_at, fault_of_halt, writer_faults, station_faults, HaveDevices, IsCollected};
+ghost use Rattle.fare_store.specs.Standing.{IsSound};
+ghost use Rattle.fare_collect.specs.Ending.{HaveLast};
+ghost use Rattle.fare_collect.specs.Gathering.{in_hand};
+ghost use Rattle.fare_collect.specs.Resuming.{AreStations, HaveBegun, HaveResumed};
+ghost use Rattle.fare_collect.specs.Session.{id_of, IsOpen, HasSession};
+
+use crate::ending::{hand, hand_all};
+use crate::fault::{StationFault, WriterFault};
+use crate::opening::{Lines, open_lines};
+use crate::serving::gather;
+use crate::station::{End, Station};
+use crate::storing::writer_fault;
+use crate::writing::Halt;
+use fare_inbox_queue::{Inbox, StationPass, WriterPass};
+use fare_record::{Ack, AckItem, StationId};
+use fare_scheme::Scheme;
+use fare_session::{Gate, SessionFault};
+use fare_source::Source;
+use fare_store::{Fault, Outbox};
+use std::alloc::{AllocError, Global};
+use std::sync::Wait;
+use std::thread::Threads;
+use std::time::Clock;
+
+/// What a session of the stations and the writer did.
+#[derive(Drop)]
+pub struct CollectReport {
+    /// How many items were stored, taps and statements alike; it stays at 2^64 - 1.
+    pub stored: u64,
+    /// How many items are in no store: those in the writer's hand and in the inbox.
+    pub left: u64,
+    /// What ended a part, the writer's first, then by station.
+    pub faults: Vec<SessionFault>,
+}
+
+// The outbox keeps the laws of its kind. A function that starts threads can't cite a trait's law itself.
+fn have_law<O: Outbox>(_outbox: &O)
+    ensures { IsSound (O.standing _outbox.now) }
+{}
+
+// Nothing became of any station yet.
+fn begin<S>(stations: &mut [Station<S>])
+    ensures { HaveBegun stations.old stations.new }
+{
+    for place in 0..stations.len() {
+        stations[place].end = End::new();
+    }
+}
+
+// Each station goes on behind what the outbox has had of its devices.
+fn resume<S, O: Outbox>(
+    scheme: &Scheme,
+    outbox: &mut O,
+    stations: &mut [Station<S>],
+) -> Result<(), Fault>
+    requires { AreStations scheme.now stations.old }
+    ensures { HaveResumed scheme.now (O.standing outbox.old) (O.standing outbox.new) stations.old stations.new result }
+{
+    for position in 0..scheme.device_count() {
+        let Some(device) = scheme.device_at(position) else {
+            unreachable!()
+        };
+        let upto = match outbox.upto(device) {
+            Ok(upto) => upto,
+            Err(fault) => return Err(fault),
+        };
+        let Some(id) = scheme.station_of(device) else {
+            unreachable!()
+        };
+        let Some(place) = scheme.station_position(id) else {
+            unreachable!()
+        };
+        if place < stations.len() {
+            stations[place].collector.resume(device, upto);
+        }
+    }
+    Ok(())
+}
+
+// The stations' ids, in their order.
+fn ids_of<S>(alloc: Global, stations: &[Station<S>]) -> Result<Vec<StationId>, AllocError>
+    ensures { IfOk result (λ ids. ids.items ≡ map id_of stations.now) }
+{
+    let mut ids = Vec::new(alloc);
+    for place in 0..stations.len() {
+        ids.push(stations[place].collector.station())?;
+    }
+    Ok(ids)
+}
+
+// One last acknowledgement of each device.
+fn last_all<S: Source, O: Outbox>(
+    scheme: &Scheme,
+    outbox: &mut O,
+    stations: &mut [Station<S>],
+) -> Result<(), Fault>
+    requires { AreStations scheme.now stations.old }
+    ensures { HaveLast scheme.now S.talk (O.standing outbox.old) (O.standing outbox.new) stations.old stations.new result }
+{
+    for position in 0..scheme.device_count() {
+        let Some(device) = scheme.device_at(position) else {
+            unreachable!()
+        };
+        let upto = match outbox.upto(device) {
+            Ok(upto) => upto,
+            Err(fault) => return Err(fault),
+        };
+        let Some(id) = scheme.station_of(device) else {
+            unreachable!()
+        };
+        let Some(place) = scheme.station_position(id) else {
+            unreachable!()
+        };
+        if place < stations.len() {
+            hand(&AckItem::Upto(Ack::new(device, upto)), &mut stations[place]);
+        }
+    }
+    Ok(())
+}
+
+// The queues of a session.
+struct Queues {
+    inbox: Inbox,
+    passes: Vec<StationPass>,
+    writer: WriterPass,
+    lines: Lines,
+}
+
+impl Drop for Queues {
+    fn drop(self) {
+        let Queues {
+            inbox,
+            passes,
+            writer,
+            lines,
+        } = self;
+        drop(inbox);
+        drop(passes);
+        drop(writer);
+        drop(lines);
+    }
+}
+
+fn open<S>(alloc: Global, scheme: &Scheme, stations: &[Station<S>]) -> Result<Queues, AllocError>
+    ensures { IfOk result (λ q. IsOpen scheme.now stations.now q.inbox q.passes.items q.writer q.lines.lines.items q.lines.tellers.items q.lines.hears.items) }
+{
+    let ids = ids_of(alloc, stations)?;
+    let capacity = scheme.inbox_capacity();
+    let lines = open_lines(alloc, capacity, stations.len())?;
+    let Ok((inbox, passes, writer)) = Inbox::new(alloc, capacity, &ids) else {
+        return Err(AllocError);
+    };
+    Ok(Queues {
+        inbox,
+        passes,
+        writer,
+        lines,
+    })
+}
+
+impl Queues {
+    fn into_parts(self) -> (Inbox, Vec<StationPass>, WriterPass, Lines)
+        ensures { result ≡ (self.inbox, self.passes, self.writer, self.lines) }
+    {
+        let Queues {
+            inbox,
+            passes,
+            writer,
+            lines,
+        } = self;
+        (inbox, passes, writer, lines)
+    }
+}
+
+// How many items the writer had in its hand.
+fn in_hand(halt: &Halt) -> u64
+    ensures { result ≡ length (in_hand halt.now.hand) }
+{
+    match halt.hand {
+        Some(_) => 1,
+        None => 0,
+    }
+}
+
+// All of a session behind its opening: how many items are left, and what ended the writer.
+fn run<S: Source + Send, O: Outbox + Send, G: Gate + Sync, R: Threads + Wait + Clock + Sync>(
+    rt: &R,
+    scheme: &Scheme,
+    queues: Queues,
+    gate: &G,
+    turns: u64,
+    stored: &mut u64,
+    outbox: &mut O,
+    stations: &mut [Station<S>],
+) -> (u64, Option<Halt>)
+    requires open { IsOpen scheme.now stations.old queues.inbox queues.passes.items queues.writer queues.lines.lines.items queues.lines.tellers.items queues.lines.hears.items }
+    requires order { AreStations scheme.now stations.old }
+    ensures { HasSession scheme.now S.talk (O.standing outbox.old) (O.standing outbox.new) stored.old stored.new stations.old stations.new result.0 result.1 }
+{
+    let (inbox, passes, writer, lines) = queues.into_parts();
+    let (lines, mut tellers, mut hears) = lines.into_parts();
+    let (halt, ended) = gather(
+        rt,
+        scheme,
+        inbox,
+        &lines,
+        gate,
+        turns,
+        stored,
+        outbox,
+        writer,
+        passes,
+        &mut hears,
+        &mut tellers,
+        stations,
+    );
+    let left = ended.left;
+    drop(ended);
+    hand_all(rt, lines, tellers, hears, stations);
+    if let Some(halt) = halt {
+        return (left.saturating_add(in_hand(&halt)), Some(halt));
+    }
+    match last_all(scheme, outbox, stations) {
+        Ok(()) => (left, None),
+        Err(fault) => (
+            left,
+            Some(Halt {
+                hand: None,
+                fault: writer_fault(fault),
+            }),
+        ),
+    }
+}
+
+fn of_writer(fault: WriterFault) -> SessionFault
+    ensures { result ≡ as_session fault }
+{
+    match fault {
+        WriterFault::Refused => SessionFault::Refused,
+        WriterFault::Memory => SessionFault::Memory,
+        WriterFault::Store => SessionFault::Store,
+    }
+}
+
+fn of_station(fault: StationFault, station: StationId) -> SessionFault
+    ensures { result ≡ fault_at station fault }
+{
+    match fault {
+        StationFault::Source => SessionFault::Source(station),
+        StationFault::Unexpected => SessionFault::Unexpected(station),
+        StationFault::Memory => SessionFault::Memory,
+    }
+}
+
+// What ended the writer, if it halted.
+fn fault_in(halt: Option<Halt>) -> Option<WriterFault>
+    ensures { result ≡ fault_of_halt halt }
+{
+    match halt {
+        Some(halt) => Some(halt.fault),
+        None => None,
+    }
+}
+
+// All of a session, but for its list of faults: how many items are left, and what ended the writer.
+fn session<S: Source + Send, O: Outbox + Send, G: Gate + Sync, R: Threads + Wait + Clock + Sync>(
+    rt: &R,
+    alloc: Global,
+    scheme: &Scheme,
+    gate: &G,
+    turns: u64,
+    stored: &mut u64,
+    outbox: &mut O,
+    stations: &mut [Station<S>],
+) -> (u64, Option<WriterFault>)
+    requires order { AreStations scheme.now stations.old }
+    requires devices { HaveDevices scheme.now stations.old }
+    requires none { stored.old ≡ 0 }
+    ensures { IsCollected scheme.now S.talk (O.standing outbox.old) (O.standing outbox.new) stations.old stations.new stored.new result.0 result.1 }
+{
+    have_law(outbox);
+    begin(stations);
+    if let Err(fault) = resume(scheme, outbox, stations) {
+        return (0, Some(writer_fault(fault)));
+    }
+    match open(alloc, scheme, stations) {
+        Err(_) => (0, Some(WriterFault::Memory)),
+        Ok(queues) => {
+            let (left, halt) = run(rt, scheme, queues, gate, turns, stored, outbox, stations);
+            (left, fault_in(halt))
+        }
+    }
+}
+
+// Adds a station's fault, if it met one.
+fn list_fault(
+    station: StationId,
+    fault: Option<StationFault>,
+    faults: &mut Vec<SessionFault>,
+)
+    requires { vec_len faults.old + 1 ≤ vec_capacity faults.old }
+    ensures listed { faults.new.items ≡ faults.old.items ++ faults_at station fault }
+    ensures few { vec_len faults.new ≤ vec_len faults.old + 1 }
+    ensures room { vec_capacity faults.new ≡ vec_capacity faults.old }
+{
+    if let Some(fault) = fault {
+        faults.push_reserved(of_station(fault, station));
+    }
+}
+
+// Adds the stations' faults, in their order.
+fn list_faults<S>(stations: &[Station<S>], faults: &mut Vec<SessionFault>)
+    requires { vec_len faults.old + length stations.now ≤ vec_capacity faults.old }
+    ensures { faults.new.items ≡ faults.old.items ++ station_faults stations.now }
+{
+    for place in 0..stations.len() {
+        let station = stations[place].collector.station();
+        list_fault(station, stations[place].end.fault, faults);
+    }
+}
+
+/// A session of the stations and the writer: each station's thread reads its source, its collector judges, and the inbox
+/// takes what is accepted; the writer's thread stores it, and only then tells the station's line what may be
+/// acknowledged. Once all have ended, this call stores what is left in the inbox and the rest of each source, hands each
+/// source what its line still holds, and acknowledges each device's greatest link once more.
+///
+/// The stations, 1 to 16, are those of the scheme, in its order. `Memory` where the list of faults gets no room, before
+/// anything is read; want of memory later is a fault of the report. A day is acknowledged as soon as its last statement
+/// is stored; that it is acknowledged once more at the end is still to come.
+pub fn collect<
+    S: Source + Send,
+    O: Outbox + Send,
+    G: Gate + Sync,
+    R: Threads + Wait + Clock + Sync,
+>(
+    rt: &R,
+    alloc: Global,
+    scheme: &Scheme,
+    stations: &mut [Station<S>],
+    outbox: &mut O,
+    gate: &G,
+    turns: u64,
+) -> Result<CollectReport, AllocError>
+    requires few { length stations.old ≤ 16 }
+    requires order { AreStations scheme.now stations.old }
+    requires devices { HaveDevices scheme.now stations.old }
+    ensures ok { IfOk result (λ report. (ended : Option WriterFault) × IsCollected scheme.now S.talk (O.standing outbox.old) (O.standing outbox.new) stations.old stations.new report.stored report.left ended × (report.faults.items ≡ writer_faults ended ++ station_faults stations.new)) }
+    ensures memory { IsErr result → (outbox.new ≡ outbox.old) × (stations.new ≡ stations.old) }
+{
+    let mut faults = Vec::with_capacity(alloc, stations.len() + 1)?;
+    let mut stored = 0;
+    let (left, fault) = session(
+        rt,
+        alloc,
+        scheme,
+        gate,
+        turns,
+        &mut stored,
+        outbox,
+        stations,
+    );
+    if let Some(fault) = fault {
+        faults.push_reserved(of_writer(fault));
+    }
+    list_faults(stations, &mut faults);
+    Ok(CollectReport {
+        stored,
+        left,
+        faults,
+    })
+}

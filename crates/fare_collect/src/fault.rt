@@ -1,0 +1,21 @@
+/// What ended the writer.
+#[derive(Clone, Copy, PartialEq, Eq, Debug)]
+pub(crate) enum WriterFault {
+    /// The outbox refused an item.
+    Refused,
+    /// No memory is left for it.
+    Memory,
+    /// The outbox failed.
+    Store,
+}
+
+/// What ended a station.
+#[derive(Clone, Copy, PartialEq, Eq, Debug)]
+pub(crate) enum StationFault {
+    /// Its source failed.
+    Source,
+    /// Its source gave a frame that no device sends.
+    Unexpected,
+    /// No memory is left for it.
+    Memory,
+}

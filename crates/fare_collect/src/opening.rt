@@ -1,0 +1,120 @@
+ghost use Rattle.std.specs.Prelude.{◌≡◌, ◌<◌, ◌≤◌, [], ℕ, true, false, All, length, map, Some, None, vec_len, vec_capacity, slice_index_or, IfOk, OnOk};
+ghost use Rattle.fare_inbox_queue.specs.InboxPasses.{station_of, sent_list, IsStationOf};
+ghost use Rattle.fare_inbox_queue.specs.LinePasses.{put_list, heard_list, IsAckOf, IsHearOf};
+ghost use Rattle.fare_collect.specs.declared.station.Seat.{Seat};
+ghost use Rattle.fare_collect.specs.Opening.{AreNew, AreLent, IsReturned, AreReturned, HaveSeats};
+
+use crate::station::{End, Seat, Station, Teller};
+use fare_inbox_queue::{AckLine, HearPass, StationPass};
+use std::alloc::{AllocError, Global};
+
+// The acknowledgement lines of a session, with their passes.
+pub(crate) struct Lines {
+    pub(crate) lines: Vec<AckLine>,
+    pub(crate) tellers: Vec<Teller>,
+    pub(crate) hears: Vec<HearPass>,
+}
+
+impl Drop for Lines {
+    fn drop(self) {
+        let Lines {
+            lines,
+            tellers,
+            hears,
+        } = self;
+        drop(lines);
+        drop(tellers);
+        drop(hears);
+    }
+}
+
+impl Lines {
+    pub(crate) fn into_parts(self) -> (Vec<AckLine>, Vec<Teller>, Vec<HearPass>)
+        ensures { result ≡ (self.lines, self.tellers, self.hears) }
+    {
+        let Lines {
+            lines,
+            tellers,
+            hears,
+        } = self;
+        (lines, tellers, hears)
+    }
+}
+
+// So many empty lines.
+pub(crate) fn open_lines(alloc: Global, capacity: u32, count: usize) -> Result<Lines, AllocError>
+    ensures made { IfOk result (λ made. AreNew count made.lines.items made.tellers.items made.hears.items) }
+{
+    let mut lines = Vec::with_capacity(alloc, count)?;
+    let mut tellers = Vec::with_capacity(alloc, count)?;
+    let mut hears = Vec::with_capacity(alloc, count)?;
+    for _index in 0..count {
+        let Ok((line, pass, hear)) = AckLine::new(alloc, capacity) else {
+            return Err(AllocError);
+        };
+        lines.push(line)?;
+        tellers.push(Teller { pass, told: 0 })?;
+        hears.push(hear)?;
+    }
+    Ok(Lines {
+        lines,
+        tellers,
+        hears,
+    })
+}
+
+// Lends each station its seat. The two lists stay with the room that they have.
+pub(crate) fn lend<S>(
+    stations: &mut [Station<S>],
+    passes: &mut Vec<StationPass>,
+    hears: &mut Vec<HearPass>,
+)
+    requires len { (length passes.old.items ≡ length stations.old) × (length hears.old.items ≡ length stations.old) }
+    ensures lent { AreLent passes.old.items hears.old.items stations.old stations.new }
+    ensures room { (passes.new.items ≡ []) × (hears.new.items ≡ []) × (length stations.old ≤ vec_capacity passes.new) × (length stations.old ≤ vec_capacity hears.new) }
+{
+    while let Some(pass) = passes.pop() {
+        let Some(hear) = hears.pop() else {
+            unreachable!()
+        };
+        let index = passes.len();
+        stations[index].seat = Some(Seat {
+            pass,
+            hear,
+            held: None,
+            ended: false,
+            fault: None,
+        });
+    }
+}
+
+// Takes a station's seat back.
+fn give_back<S>(station: &mut Station<S>) -> (StationPass, HearPass)
+    requires { (s : Seat) × (station.old.seat ≡ Some s) }
+    ensures { IsReturned station.old result.0 result.1 station.new }
+{
+    let Some(seat) = station.seat.take() else {
+        unreachable!()
+    };
+    let (pass, hear, end) = seat.into_parts();
+    station.end = end;
+    (pass, hear)
+}
+
+// Takes the seats back.
+pub(crate) fn take_back<S>(
+    stations: &mut [Station<S>],
+    passes: &mut Vec<StationPass>,
+    hears: &mut Vec<HearPass>,
+)
+    requires seats { HaveSeats stations.old }
+    requires empty { (passes.old.items ≡ []) × (hears.old.items ≡ []) }
+    requires room { (length stations.old ≤ vec_capacity passes.old) × (length stations.old ≤ vec_capacity hears.old) }
+    ensures { AreReturned stations.old passes.new.items hears.new.items stations.new }
+{
+    for index in 0..stations.len() {
+        let (pass, hear) = give_back(&mut stations[index]);
+        passes.push_reserved(pass);
+        hears.push_reserved(hear);
+    }
+}

@@ -1,0 +1,132 @@
+ghost use Rattle.std.specs.Prelude.{◌≡◌, ◌++◌, ◌∷◌, [], true, false, Some, None};
+ghost use Rattle.fare_inbox_queue.specs.InboxPasses.{station_of, sent_list, IsStationOf};
+ghost use Rattle.fare_inbox_queue.specs.LinePasses.{heard_list, IsHearOf};
+ghost use Rattle.fare_collector.specs.Collecting.{next_in};
+ghost use Rattle.fare_collect.specs.Stations.{HasAnswered, HasRead, frame_for, as_station};
+
+use crate::ended::Ended;
+use crate::fault::StationFault;
+use crate::putting::pass_on;
+use crate::station::Seat;
+use fare_collector::Collector;
+use fare_frame::Frame;
+use fare_inbox_queue::{AckLine, HearPass, Inbox};
+use fare_record::AckItem;
+use fare_scheme::Scheme;
+use fare_session::{Gate, Turns};
+use fare_source::{Source, SourceFault};
+use std::sync::Wait;
+use std::time::Clock;
+
+// The frame of an acknowledgement.
+pub(crate) fn frame_of(item: &AckItem) -> Frame
+    ensures { result ≡ frame_for item.now }
+{
+    match item {
+        AckItem::Upto(ack) => Frame::Acked(*ack),
+        AckItem::Day(ack) => Frame::DayAcked(*ack),
+    }
+}
+
+// The station's fault of a source's.
+pub(crate) fn fault_of(fault: SourceFault) -> StationFault
+    ensures { result ≡ as_station fault }
+{
+    match fault {
+        SourceFault::Failed => StationFault::Source,
+        SourceFault::Memory => StationFault::Memory,
+    }
+}
+
+// Hands the source what its line has.
+fn answer_all<S: Source, R: Wait + Clock>(
+    rt: &R,
+    line: &AckLine,
+    hear: &mut HearPass,
+    source: &mut S,
+) -> Option<StationFault>
+    requires { IsHearOf line.now hear.old }
+    ensures queue { IsHearOf line.now hear.new }
+    ensures answered { HasAnswered (S.talk source.old) (S.talk source.new) (heard_list hear.old) (heard_list hear.new) result }
+{
+    for _ in rt.forever() {
+        let item = line.take(rt, hear)?;
+        if let Err(fault) = source.answer(&frame_of(&item)) {
+            return Some(fault_of(fault));
+        }
+    }
+    unreachable!()
+}
+
+// The station's thread: takes the frames of its source to its collector and into the inbox, and hands the source
+// what its line has between them.
+pub(crate) fn read_all<S: Source, G: Gate, R: Wait + Clock>(
+    rt: &R,
+    scheme: &Scheme,
+    inbox: &Inbox,
+    line: &AckLine,
+    ended: &Ended,
+    gate: &G,
+    turns: u64,
+    seat: &mut Seat,
+    collector: &mut Collector,
+    source: &mut S,
+)
+    requires queue { IsStationOf inbox.now seat.old.pass × IsHearOf line.now seat.old.hear }
+    requires fresh { (seat.old.held ≡ None) × (seat.old.ended ≡ false) × (seat.old.fault ≡ None) }
+    ensures queue { IsStationOf inbox.now seat.new.pass × IsHearOf line.now seat.new.hear }
+    ensures station { (station_of seat.new.pass ≡ station_of seat.old.pass) × (collector.new.station ≡ collector.old.station) }
+    ensures read { HasRead scheme.now (station_of seat.old.pass) (S.talk source.old) (S.talk source.new) (next_in collector.old) (next_in collector.new) (sent_list seat.old.pass) (sent_list seat.new.pass) (heard_list seat.old.hear) (heard_list seat.new.hear) seat.new.held seat.new.ended seat.new.fault }
+{
+    let mut turns = Turns::new(turns);
+    for _ in rt.forever() {
+        if let Some(fault) = answer_all(rt, line, &mut seat.hear, source) {
+            seat.fault = Some(fault);
+            break;
+        }
+        if ended.has_writer_ended() {
+            break;
+        }
+        if !source.is_ready() {
+            turns.spend(rt, gate);
+            if turns.are_used_up() {
+                break;
+            }
+            continue;
+        }
+        match source.next() {
+            Err(fault) => {
+                seat.fault = Some(fault_of(fault));
+                break;
+            }
+            Ok(None) => {
+                seat.ended = true;
+                break;
+            }
+            Ok(Some(frame)) => {
+                match pass_on(
+                    rt,
+                    scheme,
+                    inbox,
+                    ended,
+                    gate,
+                    &frame,
+                    &mut turns,
+                    &mut seat.pass,
+                    collector,
+                ) {
+                    Some(true) => {}
+                    Some(false) => {
+                        seat.held = Some(frame);
+                        break;
+                    }
+                    None => {
+                        seat.fault = Some(StationFault::Unexpected);
+                        break;
+                    }
+                }
+            }
+        }
+    }
+    ended.station_ends();
+}

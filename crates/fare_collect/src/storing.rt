@@ -1,0 +1,84 @@
+ghost use Rattle.std.specs.Prelude.{◌≡◌};
+ghost use Rattle.fare_collect.specs.Gathering.{are_all_stated};
+ghost use Rattle.fare_collect.specs.Writing.{Asks, Puts, as_writer};
+ghost use Rattle.fare_inbox_queue.specs.declared.arrived.Arrived.TheVariants.{Tap, Stated};
+
+use crate::fault::WriterFault;
+use fare_inbox_queue::Arrived;
+use fare_record::{Day, DeviceId, Record, Statement};
+use fare_scheme::Scheme;
+use fare_store::{Fault, Outbox, Refused, StatedFault, StoreFault};
+
+// The writer's fault of a store's.
+pub(crate) fn writer_fault(fault: Fault) -> WriterFault
+    ensures { result ≡ as_writer fault }
+{
+    match fault {
+        Fault::Memory => WriterFault::Memory,
+        Fault::Store => WriterFault::Store,
+    }
+}
+
+// Stores an item: whether it was stored, and not before.
+pub(crate) fn put_item<O: Outbox>(outbox: &mut O, item: &Arrived) -> Result<bool, WriterFault>
+    ensures { Puts (O.standing outbox.old) (O.standing outbox.new) item.now result }
+{
+    match item {
+        Arrived::Tap(_, row) => put_row(outbox, row),
+        Arrived::Stated(_, statement) => put_statement(outbox, statement),
+    }
+}
+
+// Stores a tap.
+fn put_row<O: Outbox>(outbox: &mut O, row: &Record) -> Result<bool, WriterFault>
+    ensures { Puts (O.standing outbox.old) (O.standing outbox.new) (Tap 0 row.now) result }
+{
+    match outbox.store(row) {
+        Ok(()) => Ok(true),
+        Err(Refused::Because(why)) => match why {
+            StoreFault::Duplicate => Ok(false),
+            StoreFault::Gap => Err(WriterFault::Refused),
+            StoreFault::Conflict => Err(WriterFault::Refused),
+            StoreFault::OutboxFull => Err(WriterFault::Refused),
+        },
+        Err(Refused::Failed(fault)) => Err(writer_fault(fault)),
+    }
+}
+
+// Stores a statement.
+fn put_statement<O: Outbox>(outbox: &mut O, statement: &Statement) -> Result<bool, WriterFault>
+    ensures { Puts (O.standing outbox.old) (O.standing outbox.new) (Stated 0 statement.now) result }
+{
+    match outbox.store_statement(statement) {
+        Ok(()) => Ok(true),
+        Err(Refused::Because(why)) => match why {
+            StatedFault::Duplicate => Ok(false),
+            StatedFault::Conflict => Err(WriterFault::Refused),
+            StatedFault::OutboxFull => Err(WriterFault::Refused),
+        },
+        Err(Refused::Failed(fault)) => Err(writer_fault(fault)),
+    }
+}
+
+// Whether the outbox holds a device's statements of a day for all owners.
+pub(crate) fn are_stated<O: Outbox>(
+    scheme: &Scheme,
+    outbox: &mut O,
+    device: DeviceId,
+    day: Day,
+) -> Result<bool, Fault>
+    ensures { Asks (O.standing outbox.old) (O.standing outbox.new) (λ all. all ≡ are_all_stated scheme.now (O.standing outbox.old).value device day) result }
+{
+    for place in 0..scheme.owner_count() {
+        let Some(owner) = scheme.owner_at(place) else {
+            unreachable!()
+        };
+        let Some(statement) = outbox.next_statement(owner, device, day)? else {
+            return Ok(false);
+        };
+        if statement.day() != day {
+            return Ok(false);
+        }
+    }
+    Ok(true)
+}

@@ -1,0 +1,36 @@
+-- The stores of a hub, and what its sessions make of them.
+use Rattle.std.specs.Prelude.{◌≡◌, ℕ, Ok, List, [], ◌∷◌}
+use Rattle.fare_store.specs.Tables.{put}
+use Rattle.fare_store.specs.OutboxWords.{OutboxValue}
+use Rattle.fare_store.specs.LedgerWords.{LedgerValue, with_close, close_of}
+use Rattle.fare_history.specs.Serving.{given_all, pruned_to_all, Service}
+use Rattle.fare_history.specs.Gathering.{Gathering, storing_all}
+
+-- the outbox, and the ledger of each owner
+pub record StoresValue : Type 0 where
+  pub outbox : OutboxValue
+  pub ledgers : ℕ → LedgerValue
+
+-- the ledger refuses the close of the device's day by no name
+abbrev pub MayClose : LedgerValue → ℕ → ℕ → Type 0
+MayClose l device day = close_of l device day ≡ Ok tt
+
+-- what a hub does from session to session: a session of the stations and the writer, one of an owner, or the close of an owner's day of a device
+pub data Session : Type 0 where
+  Collects : Gathering → Session
+  Serves_owner : ℕ → Service → Session
+  Closes_day : ℕ → ℕ → ℕ → Session
+
+-- what a session makes of the stores
+abbrev pub stores_after : StoresValue → Session → StoresValue
+stores_after h (Collects g) = record h { outbox = storing_all h.outbox g.entries }
+stores_after h (Serves_owner owner v) = record {
+  outbox = pruned_to_all h.outbox owner (given_all (h.ledgers owner) v.taken) v.pruned;
+  ledgers = put h.ledgers owner (given_all (h.ledgers owner) v.taken);
+}
+stores_after h (Closes_day owner device day) = record h { ledgers = put h.ledgers owner (with_close device (h.ledgers owner)) }
+
+-- and what sessions do, one after the other
+abbrev pub stores_after_all : StoresValue → List Session → StoresValue
+stores_after_all h [] = h
+stores_after_all h (q ∷ qs) = stores_after_all (stores_after h q) qs

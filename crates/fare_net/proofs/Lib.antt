@@ -1,0 +1,3 @@
+pub mod Intakes
+pub mod Sources
+pub mod Listened

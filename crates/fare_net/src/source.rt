@@ -1,0 +1,298 @@
+ghost use Rattle.std.specs.Prelude.{◌≡◌, ◌⊎◌, true, false, IfOk, IfErr, OnOk, OnErr, IsTrue, IsFalse, ◌-◌, Err};
+ghost use Rattle.std.specs.Io.KnownBytes.{Appends};
+ghost use Rattle.fare_frame.specs.Grammar.{frame_bytes};
+ghost use Rattle.fare_source.specs.Talking.{Waits, Gives, Hears};
+ghost use Rattle.fare_net.specs.Intakes.{IsWaiting};
+ghost use Rattle.fare_net.specs.Sources.{Advances, Counts, Greets, HasGreeted, HasRead, HelloFails, IsStill, TakesOff, fresh_source, talk_of};
+
+use crate::answer::{send, spell};
+use crate::intake::{Intake, Stage};
+use crate::turn::read_once;
+use crate::{HelloFault, MOST_BYTES, Turn};
+use fare_frame::{Frame, LONGEST_FRAME};
+use fare_record::StationId;
+use fare_scheme::Scheme;
+use fare_source::{Source, SourceFault};
+use http_server::Log;
+use std::alloc::{AllocError, Global};
+use std::io::{Read, Write};
+use std::marker::Model;
+
+/// The version of the frames that is spoken.
+const VERSION: u16 = 1;
+
+/// A validator's line as a source, over a reader and a writer. It takes all its memory when it is made, and reads no
+/// oftener than it was told; a read that brought nothing counts. What it gave and was handed, proofs alone remember.
+pub struct NetSource<R: Read + Drop, W: Write + Drop> {
+    reader: R,
+    writer: W,
+    intake: Intake,
+    spelled: Vec<u8>,
+    // how many reads are left
+    turns: u64,
+    // the greeting was refused
+    refused: bool,
+    // an answer did not go out whole, so none may follow it
+    cut: bool,
+    failures: u64,
+    given: Log<Frame, ()>,
+    answered: Log<Frame, ()>,
+}
+
+impl<R: Read + Drop, W: Write + Drop> Model for NetSource<R, W> {
+    ghost use Rattle.std.specs.Prelude.{◌≡◌, ◌≤◌, vec_capacity};
+    ghost use Rattle.std.specs.Io.KnownBytes.{IsAtEnd};
+    ghost use Rattle.fare_net.specs.Histories.{frames_in};
+    ghost use Rattle.fare_net.specs.NetValue.{NetValue};
+    ghost use Rattle.fare_net.specs.declared.intake.Stage.TheVariants.{Ended};
+
+    ghost Value = { NetValue };
+
+    ghost view = { λ s. record {
+      intake = s.intake;
+      unread = R.remaining s.reader;
+      written = W.contents s.writer;
+      given = frames_in s.given.items;
+      answered = frames_in s.answered.items;
+      failures = s.failures;
+      refused = s.refused;
+      cut = s.cut;
+      turns = s.turns;
+    } };
+
+    ghost invariant = { λ s. (49 ≤ vec_capacity s.spelled) × (s.intake.stage ≡ Ended → IsAtEnd (R.remaining s.reader)) };
+}
+
+// It is written out, so that a caller doesn't prove again how each part is let go.
+impl<R: Read + Drop, W: Write + Drop> Drop for NetSource<R, W> {
+    fn drop(self) {
+        let NetSource {
+            reader,
+            writer,
+            intake,
+            spelled,
+            turns: _,
+            refused: _,
+            cut: _,
+            failures: _,
+            given,
+            answered,
+        } = self;
+        drop(reader);
+        drop(writer);
+        drop(intake);
+        drop(spelled);
+        drop(given);
+        drop(answered);
+    }
+}
+
+impl<R: Read + Drop, W: Write + Drop> NetSource<R, W> {
+    /// A source over a reader and a writer that reads at most so often. `AllocError` where it got no memory; reader and
+    /// writer are dropped then.
+    pub fn new(
+        alloc: Global,
+        reader: R,
+        writer: W,
+        turns: u64,
+    ) -> Result<NetSource<R, W>, AllocError>
+        ensures { IfOk result (λ source. source ≡ fresh_source (R.remaining reader) (W.contents writer) turns) }
+    {
+        let intake = Intake::new(alloc)?;
+        let spelled = Vec::with_capacity(alloc, LONGEST_FRAME)?;
+        Ok(NetSource {
+            reader,
+            writer,
+            intake,
+            spelled,
+            turns,
+            refused: false,
+            cut: false,
+            failures: 0,
+            given: Log::new(),
+            answered: Log::new(),
+        })
+    }
+
+    // One read, where it is waited for; the stream has failed where none is left.
+    fn advance(&mut self)
+        requires { IsWaiting self.old.intake }
+        ensures advances { Advances self.old self.new }
+        ensures turn { self.new.turns ≡ self.old.turns - 1 }
+    {
+        if self.turns == 0 {
+            self.intake.stop(false);
+            return;
+        }
+        self.turns -= 1;
+        let mut buffer = [0; MOST_BYTES];
+        match read_once(&mut self.reader, &mut buffer) {
+            Ok(Turn::Read(count)) => self.intake.feed(&buffer, count),
+            Ok(Turn::Ended) => self.intake.stop(true),
+            Ok(Turn::Waited) => {}
+            Err(_) => self.intake.stop(false),
+        }
+    }
+
+    // Reads until a frame is there, or the stream is at its end or has failed.
+    fn fill(&mut self)
+        ensures advances { Advances self.old self.new }
+        ensures ready { IsWaiting self.new.intake → ⊥ }
+        ensures still { (IsWaiting self.old.intake → ⊥) → self.new ≡ self.old }
+    {
+        if !self.intake.is_waiting() {
+            return;
+        }
+        let turns = self.turns;
+        for _ in 0..turns {
+            if !self.intake.is_waiting() {
+                return;
+            }
+            self.advance();
+        }
+        if self.intake.is_waiting() {
+            self.intake.stop(false);
+        }
+    }
+
+    // Counts a call that fails.
+    fn fails(&mut self) -> SourceFault
+        ensures failed { result ≡ SourceFault.Failed }
+        ensures counted { Counts self.old self.new }
+    {
+        self.failures = self.failures.saturating_add(1);
+        SourceFault::Failed
+    }
+
+    // The station of the greeting, which is the next frame.
+    fn greet(&mut self, scheme: &Scheme) -> Result<StationId, HelloFault>
+        ensures advances { HasGreeted self.old self.new }
+        ensures station { IfOk result (Greets scheme.now self.old self.new) }
+        ensures fails { IfErr result (HelloFails scheme.now self.old self.new) }
+        ensures refused { self.new.refused ≡ self.old.refused }
+        ensures open { OnOk result (self.old.refused ≡ false) }
+        ensures closed { self.old.refused ≡ true → (result ≡ Err HelloFault.Failed) × IsStill self.old self.new }
+    {
+        if self.refused {
+            return Err(HelloFault::Failed);
+        }
+        self.fill();
+        let stage = self.intake.stage();
+        let Some(frame) = self.intake.take() else {
+            return Err(if stage == Stage::Ended {
+                HelloFault::NoHello
+            } else {
+                HelloFault::Failed
+            });
+        };
+        let Some(hello) = frame.greeted() else {
+            return Err(HelloFault::NoHello);
+        };
+        if hello.version() != VERSION {
+            return Err(HelloFault::BadVersion);
+        }
+        let Some(station) = scheme.station_of(hello.device()) else {
+            return Err(HelloFault::UnknownDevice);
+        };
+        Ok(station)
+    }
+
+    /// The station of the device that greets, by the first frame.
+    ///
+    /// `NoHello` where that is no greeting, or the reader is at its end before it; `BadVersion` where the greeting is of
+    /// a version that isn't 1; `UnknownDevice` where the scheme hasn't its device; `Failed` where the reader failed, a
+    /// fault stands in place of the frame, or no read is left, and in each call after an error. From an error on the
+    /// source is refused: `next` and `answer` answer `Failed`.
+    pub fn hello(&mut self, scheme: &Scheme) -> Result<StationId, HelloFault>
+        ensures advances { HasGreeted self.old self.new }
+        ensures station { IfOk result (Greets scheme.now self.old self.new) }
+        ensures fails { IfErr result (HelloFails scheme.now self.old self.new) }
+        ensures refused { OnErr result (self.new.refused ≡ true) }
+        ensures open { OnOk result (self.new.refused ≡ false) }
+        ensures closed { self.old.refused ≡ true → (result ≡ Err HelloFault.Failed) × IsStill self.old self.new }
+    {
+        let greeted = self.greet(scheme);
+        if greeted.is_err() {
+            self.refused = true;
+        }
+        greeted
+    }
+}
+
+impl<R: Read + Drop, W: Write + Drop> Source for NetSource<R, W> {
+    ghost talk = { talk_of };
+
+    /// Whether `next` would answer without a read. Where a frame is waited for it reads once.
+    fn is_ready(&mut self) -> bool
+        ensures rests { Waits (talk_of self.old) (talk_of self.new) }
+        ensures advances { Advances self.old self.new }
+        ensures ready { IsTrue result → (self.new.refused ≡ true) ⊎ (IsWaiting self.new.intake → ⊥) }
+        ensures waits { IsFalse result → (self.new.refused ≡ false) × IsWaiting self.new.intake }
+        ensures closed { self.old.refused ≡ true → self.new ≡ self.old }
+    {
+        if self.refused || !self.intake.is_waiting() {
+            return true;
+        }
+        self.advance();
+        !self.intake.is_waiting()
+    }
+
+    /// The next frame of the stream; `None` where the reader is at its end and all frames were given. What stands
+    /// behind the last frame, less than a frame, is dropped then.
+    ///
+    /// `Failed` where the greeting was refused; and, once the frames before it were given, where the reader failed, a
+    /// fault of the stream came, or no read is left. It is never `Memory`.
+    fn next(&mut self) -> Result<Option<Frame>, SourceFault>
+        ensures gives { Gives (talk_of self.old) (talk_of self.new) result }
+        ensures reads { HasRead self.old self.new }
+        ensures takes { TakesOff self.old self.new result }
+
+        // Where it was ready, it reads nothing.
+        ensures still { (IsWaiting self.old.intake → ⊥) → IsStill self.old self.new }
+        ensures closed { self.old.refused ≡ true → (result ≡ Err SourceFault.Failed) × IsStill self.old self.new }
+    {
+        if self.refused {
+            return Err(self.fails());
+        }
+        self.fill();
+        let stage = self.intake.stage();
+        match self.intake.take() {
+            Some(frame) => {
+                self.given = self.given.and(&frame, &());
+                Ok(Some(frame))
+            }
+            None => {
+                if stage == Stage::Ended {
+                    Ok(None)
+                } else {
+                    Err(self.fails())
+                }
+            }
+        }
+    }
+
+    /// Sends a frame.
+    ///
+    /// `Failed` where the greeting was refused, or an answer before this one failed, and nothing is written then; or
+    /// where the writer failed: how much of the frame went out is not said, and no other follows it. It is never
+    /// `Memory`.
+    fn answer(&mut self, frame: &Frame) -> Result<(), SourceFault>
+        ensures hears { Hears (talk_of self.old) (talk_of self.new) frame.now result }
+        ensures sent { OnOk result (Appends self.old.written self.new.written (frame_bytes frame.now)) }
+        ensures whole { OnOk result (self.new.cut ≡ false) }
+        ensures stays { (self.new.intake ≡ self.old.intake) × (self.new.unread ≡ self.old.unread) × (self.new.refused ≡ self.old.refused) × (self.new.turns ≡ self.old.turns) }
+        ensures closed { (self.old.refused ≡ true) ⊎ (self.old.cut ≡ true) → (result ≡ Err SourceFault.Failed) × (self.new.written ≡ self.old.written) × (self.new.cut ≡ self.old.cut) }
+        ensures failed { IfErr result (λ fault. (fault ≡ SourceFault.Failed) × ((self.old.refused ≡ true) ⊎ (self.new.cut ≡ true))) }
+    {
+        self.answered = self.answered.and(frame, &());
+        if self.refused || self.cut {
+            return Err(self.fails());
+        }
+        spell(frame, &mut self.spelled);
+        if send(&mut self.writer, &self.spelled).is_err() {
+            self.cut = true;
+            return Err(self.fails());
+        }
+        Ok(())
+    }
+}

@@ -1,0 +1,12 @@
+pub mod StoreCalls
+pub mod Services
+pub mod Takes
+pub mod Owns
+pub mod Forwards
+pub mod Rests
+pub mod Prunes
+pub mod Asks
+pub mod Sessions
+pub mod Serves
+pub mod Holdings
+pub mod Plainly

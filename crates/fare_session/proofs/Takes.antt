@@ -1,0 +1,210 @@
+-- What an owner did, item by item.
+use Rattle.std.proofs.Common.{◌≡◌, ◌≢◌, ℕ, ◌+◌, ◌≤◌, Some, None, Bool, true, false, List, [], ◌∷◌, ◌++◌, refl, sym, ap, ◌∙◌, subst, inl, inr, arith, append_assoc}
+use Rattle.std.specs.Prelude.{◌==◌, if◌then◌else◌, min, is_none, Option, Result, Ok, Err}
+use Rattle.std.proofs.lemmas.List.{append-nil}
+use Rattle.std.proofs.lemmas.Option.{same_Some}
+use Rattle.fare_record.specs.Items.{tap_of, statement_of}
+use Rattle.fare_record.specs.Values.{RecordValue, StatementValue}
+use Rattle.fare_record.specs.declared.item.Item.{Item}
+use Rattle.fare_record.specs.declared.item.Item.TheVariants.{Tap, Stated}
+use Rattle.fare_owner.specs.StatementJudged.{statement_judged}
+use Rattle.fare_owner.specs.declared.statement.StatementFault.{StatementFault}
+use Rattle.fare_owner.specs.declared.statement.StatementFault.TheVariants.{Repeated, Conflict}
+use Rattle.fare_store.specs.declared.fault.Fault.{Fault}
+use Rattle.fare_store.specs.declared.fault.Fault.TheVariants as fault
+use Rattle.fare_store.specs.Standing.{Standing, Calls, IsSound}
+use Rattle.fare_store.specs.LedgerWords.{LedgerValue, state_judged, is_mine}
+use Rattle.fare_session.specs.declared.fault.SessionFault.{SessionFault}
+use Rattle.fare_session.specs.declared.fault.SessionFault.TheVariants.{Refused, Memory, Store}
+use Rattle.fare_history.specs.Serving.{given, given_all, AreUnrefused, in_hand}
+use Rattle.fare_session.specs.Taking.{is_added, added_by}
+use Rattle.fare_session.specs.Stores.{session_fault, stored_fault, IsOwners, Called, Keeps, Stays}
+use Rattle.fare_session.specs.Taking.{Tallied, IsRefusedHand, IsImage, IsTaken, IsTaking, IsLeftTaken, IsKept, WasKept}
+use Rattle.fare_session.proofs.StoreCalls.{leaves_done, leaves_kept, leaves_say, leaves_then, keeps_first, keeps_then, keeps_value}
+use Rattle.fare_session.proofs.Services.{unrefused-append, given_all-append, added_by-append}
+
+-- one call, in other words
+pub called_say : {V : Type 0} (a b : Standing V) (f g : Option Fault) (P Q : Type 0) (commits images : V → Type 0) → f ≡ g → (P → Q) → ((v : V) → commits v → images v) → Calls a b f P commits → Called a b g Q images
+called_say a b f g P Q commits images e say image c = subst (λ z. Called a b z Q images) e (record {
+  value = λ live lawful. let x = c.value live lawful in (x.0, say x.1);
+  stop = λ clean lawful v leaves. elim (c.stop clean lawful v leaves) [
+    | inl before ↦ inl before
+    | inr done ↦ inr (done.0, image v done.1)
+  ];
+  clean = c.clean;
+  live = c.live;
+  stays = λ e live clean. c.stays e clean;
+  cause = c.cause;
+})
+
+-- of which other images are said
+called_image : {V : Type 0} (a b : Standing V) (f : Option Fault) (did : Type 0) (P Q : V → Type 0) → ((v : V) → P v → Q v) → Called a b f did P → Called a b f did Q
+called_image a b f did P Q say c = record { value = c.value; stop = λ clean lawful v leaves. elim (c.stop clean lawful v leaves) [ inl before ↦ inl before | inr done ↦ inr (done.0, say v done.1) ]; clean = c.clean; live = c.live; stays = c.stays; cause = c.cause }
+
+pub stored_is : (f : Fault) → Some f ≡ stored_fault (Some (session_fault f))
+stored_is fault.Memory = refl
+stored_is fault.Store = refl
+
+pub stored_as : (f : Fault) (s : SessionFault) → s ≡ session_fault f → Some f ≡ stored_fault (Some s)
+stored_as f s e = stored_is f ∙ ap (λ z. stored_fault (Some z)) (sym e)
+
+pub failed_owners : (f : Fault) (s : SessionFault) → s ≡ session_fault f → IsOwners (Some s)
+failed_owners fault.Memory s e = subst (λ z. IsOwners (Some z)) (sym e) tt
+failed_owners fault.Store s e = subst (λ z. IsOwners (Some z)) (sym e) tt
+
+pub not_refused : (f : Fault) (s : SessionFault) → s ≡ session_fault f → s ≡ Refused → ⊥
+not_refused fault.Memory s e r = let x : Memory ≡ Refused = sym e ∙ r in cc
+not_refused fault.Store s e r = let x : Store ≡ Refused = sym e ∙ r in cc
+
+-- A STATEMENT THAT IS HELD
+held_by_judge : (mine : Bool) (held : Option ℕ) (count : ℕ) → statement_judged mine held count ≡ Err Repeated → is_none held ≡ false
+held_by_judge false held count e = absurd (cc)
+held_by_judge true None count e = absurd (cc)
+held_by_judge true (Some n) count e = refl
+
+free_by_judge : (mine : Bool) (held : Option ℕ) (count : ℕ) → statement_judged mine held count ≡ Ok tt → is_none held ≡ true
+free_by_judge false held count e = absurd (cc)
+free_by_judge true None count e = refl
+free_by_judge true (Some n) count e = by (n == count) e
+  where
+    by : (b : Bool) → ◌≡◌ {A = Result (Unit {0}) StatementFault} (if b then Err Repeated else Err Conflict) (Ok tt) → false ≡ true
+    by true e = absurd (cc)
+    by false e = absurd (cc)
+
+pub new_by_judge : (l : LedgerValue) (s : StatementValue) → state_judged l s ≡ Ok tt → true ≡ is_added l (Stated s)
+new_by_judge l s e = sym (free_by_judge (is_mine l s.owner s.device) (l.stated s.device s.day) s.count e)
+
+pub old_by_judge : (l : LedgerValue) (s : StatementValue) → state_judged l s ≡ Err Repeated → false ≡ is_added l (Stated s)
+old_by_judge l s e = sym (held_by_judge (is_mine l s.owner s.device) (l.stated s.device s.day) s.count e)
+
+-- ONE ITEM
+-- a counter behind an item that was added or not
+abbrev pub Counts_one : Bool → ℕ → ℕ → Type 0
+Counts_one true n m = m ≡ min (n + 1) 18446744073709551615
+Counts_one false n m = m ≡ n
+
+tallied_same : (n : ℕ) → n ≤ 18446744073709551615 → n ≡ min (n + 0) 18446744073709551615
+tallied_same n le = omega (arith, le)
+
+tallied_one : (n m : ℕ) (added new : Bool) → Counts_one added n m → added ≡ new → Tallied n m ((if new then 1 else 0) + 0)
+tallied_one n m true new is e = subst (λ b. Tallied n m ((if b then 1 else 0) + 0)) e (λ le. is)
+tallied_one n m false new is e = subst (λ b. Tallied n m ((if b then 1 else 0) + 0)) e (λ le. is ∙ tallied_same n le)
+
+pub kept_taken : (a b : Standing LedgerValue) (i : Item) (added : Bool) (n m : ℕ) → IsSound b → Counts_one added n m → IsKept a b i (Ok added) → IsTaken a b (i ∷ []) None None n m
+kept_taken a b i added n m sound is c = record {
+  leaves = leaves_say a b None (given a.value i) (λ w. w ≡ given a.value i) (IsImage a.value (i ∷ []) None) (λ w e. inl e) (leaves_done a b (WasKept a.value b.value i (Ok added)) (given a.value i) sound (called_image a b None (WasKept a.value b.value i (Ok added)) (λ w. AreUnrefused a.value (i ∷ []) × (w ≡ given a.value i)) (λ w. w ≡ given a.value i) (λ w e. e.1) c.0) (λ d. d.0));
+  tally = λ k. tallied_one n m added (is_added a.value i) is (c.0.value (c.0.stays refl k.live k.clean) k.lawful).1.1;
+  owners = tt;
+  empty = λ e. refl;
+  unrefused = λ k. ((c.0.value (c.0.stays refl k.live k.clean) k.lawful).1.2, tt);
+  refused = λ e. absurd (cc);
+}
+
+not_stored : (f : SessionFault) → f ≡ Refused → stored_fault (Some f) ≡ None
+not_stored f e = ap (λ z. stored_fault (Some z)) e
+
+pub kept_failed : (a b : Standing LedgerValue) (i : Item) (f : SessionFault) (n : ℕ) → IsSound a → IsKept a b i (Err f) → IsTaken a b [] (Some i) (Some f) n n
+kept_failed a b i f n sound c = record {
+  leaves = leaves_kept a b (stored_fault (Some f)) (WasKept a.value b.value i (Err f)) (λ w. AreUnrefused a.value (i ∷ []) × (w ≡ given a.value i)) sound c.0 (λ d. d.0);
+  tally = λ k. tallied_same n;
+  owners = c.1;
+  empty = λ e. absurd (cc);
+  unrefused = λ k. tt;
+  refused = λ e k. let is : f ≡ Refused = cc in (c.0.value (c.0.stays (not_stored f is) k.live k.clean) k.lawful).1.1 is;
+}
+
+-- nothing was taken
+pub taken_none : (a : Standing LedgerValue) (n : ℕ) → IsSound a → IsTaken a a [] None None n n
+taken_none a n sound = record {
+  leaves = record {
+    calls = record { value = λ live lawful. (lawful, refl); stop = λ clean lawful v leaves. inl leaves; clean = λ h. h; live = λ h. h; stays = λ e live clean. live; cause = refl };
+    left = λ k w leaves. inl (sound.settled k.live k.lawful w leaves);
+  };
+  tally = λ k. tallied_same n;
+  owners = tt;
+  empty = λ e. refl;
+  unrefused = λ k. tt;
+  refused = λ e. absurd (cc);
+}
+
+-- SEVERAL
+tallied_then : (n m k p q r : ℕ) → Tallied n m p → Tallied m k q → r ≡ p + q → Tallied n k r
+tallied_then n m k p q r one two is le =
+    let first = one le in
+    let second = two (omega (arith, first)) in
+    omega (arith, first, second, is)
+
+pub taken_then : (a b c : Standing LedgerValue) (xs ys : List Item) (h : Option Item) (f : Option SessionFault) (n m k : ℕ) → IsTaken a b xs None None n m → IsTaken b c ys h f m k → IsTaken a c (xs ++ ys) h f n k
+taken_then a b c xs ys h f n m k first second = record {
+  leaves = leaves_then a b c (stored_fault f) (given_all a.value xs) (given_all b.value ys) (given_all a.value (xs ++ ys)) (IsImage a.value xs None) (IsImage b.value ys h) (IsImage a.value (xs ++ ys) h) first.leaves second.leaves same
+      (λ e w x. elim x [
+        | inl is ↦ inl (is ∙ same e)
+        | inr is ↦ inr (subst (λ l. AreUnrefused l (in_hand h)) (same e) is.0, is.1 ∙ ap (λ l. given_all l (ys ++ in_hand h)) e ∙ sym (given_all-append a.value xs (ys ++ in_hand h)) ∙ ap (given_all a.value) (sym (append_assoc xs ys (in_hand h))))
+      ]);
+  tally = λ keeps. tallied_then n m k (added_by a.value xs) (added_by b.value ys) (added_by a.value (xs ++ ys)) (first.tally (before keeps)) (second.tally (behind keeps)) (added_by-append a.value xs ys ∙ ap (λ l. added_by a.value xs + added_by l ys) (sym (holds keeps)));
+  owners = second.owners;
+  empty = second.empty;
+  unrefused = λ keeps. unrefused-append a.value xs ys (first.unrefused (before keeps)) (subst (λ l. AreUnrefused l ys) (holds keeps) (second.unrefused (behind keeps)));
+  refused = λ e keeps. subst (λ l. IsRefusedHand l h) (same (holds keeps)) (second.refused e (behind keeps));
+}
+  where
+    same : b.value ≡ given_all a.value xs → given_all b.value ys ≡ given_all a.value (xs ++ ys)
+    same e = ap (λ l. given_all l ys) e ∙ sym (given_all-append a.value xs ys)
+
+    before : Keeps a c → Keeps a b
+    before keeps = keeps_first a b c (stored_fault f) (given_all b.value ys) (IsImage b.value ys h) second.leaves keeps
+
+    behind : Keeps a c → Keeps b c
+    behind keeps = keeps_then a b c (stored_fault f) (given_all b.value ys) (given_all a.value xs) (IsImage b.value ys h) (IsImage a.value xs None) first.leaves second.leaves keeps
+
+    holds : Keeps a c → b.value ≡ given_all a.value xs
+    holds keeps = keeps_value a b (given_all a.value xs) (IsImage a.value xs None) first.leaves (before keeps)
+
+-- AN ITEM IS A TAP OR A STATEMENT
+pub tap_is : (i : Item) (r : RecordValue) → tap_of i ≡ Some r → Tap r ≡ i
+tap_is (Tap q) r e = ap Tap (sym (same_Some q r e))
+tap_is (Stated s) r e = absurd (cc)
+
+pub statement_is : (i : Item) (s : StatementValue) → statement_of i ≡ Some s → Stated s ≡ i
+statement_is (Tap q) s e = absurd (cc)
+statement_is (Stated t) s e = ap Stated (sym (same_Some t s e))
+
+-- THE LAST ITEM OF A LOOP
+-- it failed
+pub more_failed : (a b c : Standing LedgerValue) (xs : List Item) (i : Item) (f : SessionFault) (n m k : ℕ) → IsTaken a b xs None None n m → IsTaken b c [] (Some i) (Some f) m k → IsTaken a c xs (Some i) (Some f) n k
+more_failed a b c xs i f n m k first second = subst (λ l. IsTaken a c l (Some i) (Some f) n k) (append-nil xs) (taken_then a b c xs [] (Some i) (Some f) n m k first second)
+
+pub taking_on : (a b c : Standing LedgerValue) (xs ys : List Item) (i : Item) (f : SessionFault) (n m k : ℕ) → IsTaken a b xs None None n m → IsTaken b c [] (Some i) (Some f) m k → ys ≡ xs ++ i ∷ [] → IsTaking a c ys (Some f) n k
+taking_on a b c xs ys i f n m k first second is = record { done = xs; hand = Some i; all = is; has = (i, refl); taken = more_failed a b c xs i f n m k first second }
+
+pub left_on : (a b c : Standing LedgerValue) (xs left rest : List Item) (i : Item) (f : SessionFault) (n m k : ℕ) → IsTaken a b xs None None n m → IsTaken b c [] (Some i) (Some f) m k → left ≡ xs ++ i ∷ rest → IsLeftTaken a c left rest (Some f) n k
+left_on a b c xs left rest i f n m k first second is = record { done = xs; hand = Some i; all = is; has = (i, refl); taken = more_failed a b c xs i f n m k first second; none = λ e. absurd (cc) }
+
+-- all were taken
+pub taking_whole : (a b : Standing LedgerValue) (xs : List Item) (n m : ℕ) → IsTaken a b xs None None n m → IsTaking a b xs None n m
+taking_whole a b xs n m all = record { done = xs; hand = None; all = sym (append-nil xs); has = refl; taken = all }
+
+pub left_whole : (a b : Standing LedgerValue) (xs left rest : List Item) (n m : ℕ) → IsTaken a b xs None None n m → left ≡ xs ++ rest → rest ≡ [] → IsLeftTaken a b left rest None n m
+left_whole a b xs left rest n m all is none = record { done = xs; hand = None; all = is; has = refl; taken = all; none = λ e. none }
+
+-- the ledger was read
+pub taken_read : (a b c : Standing LedgerValue) (xs : List Item) (n m : ℕ) → IsTaken a b xs None None n m → Stays b c None → IsTaken a c xs None None n m
+taken_read a b c xs n m first read = record {
+  leaves = leaves_then a b c None (given_all a.value xs) b.value (given_all a.value xs) (IsImage a.value xs None) (λ w. w ≡ b.value) (IsImage a.value xs None) first.leaves read (λ e. e) (λ e w is. inl (is ∙ e));
+  tally = λ k. first.tally (keeps_first a b c None b.value (λ w. w ≡ b.value) read k);
+  owners = tt;
+  empty = λ e. refl;
+  unrefused = λ k. first.unrefused (keeps_first a b c None b.value (λ w. w ≡ b.value) read k);
+  refused = λ e. absurd (cc);
+}
+
+-- a read of it failed
+pub taken_failed : (a b c : Standing LedgerValue) (xs : List Item) (f : SessionFault) (n m : ℕ) → f ≢ Refused → IsOwners (Some f) → IsTaken a b xs None None n m → Stays b c (stored_fault (Some f)) → IsTaken a c xs None (Some f) n m
+taken_failed a b c xs f n m not owners first read = record {
+  leaves = leaves_then a b c (stored_fault (Some f)) (given_all a.value xs) b.value (given_all a.value xs) (IsImage a.value xs None) (λ w. w ≡ b.value) (IsImage a.value xs None) first.leaves read (λ e. e) (λ e w is. inl (is ∙ e));
+  tally = λ k. first.tally (keeps_first a b c (stored_fault (Some f)) b.value (λ w. w ≡ b.value) read k);
+  owners = owners;
+  empty = λ e. absurd (cc);
+  unrefused = λ k. first.unrefused (keeps_first a b c (stored_fault (Some f)) b.value (λ w. w ≡ b.value) read k);
+  refused = λ e. absurd (not (same_Some f Refused e));
+}

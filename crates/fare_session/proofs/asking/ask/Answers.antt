@@ -1,0 +1,50 @@
+use Rattle.std.proofs.Common.{rules, ◌≡◌, [], ◌∷◌, ◌++◌, List, None, ℕ, ◌+◌, length, refl, sym, ap, ◌∙◌, subst, arith, length-append}
+use Rattle.std.specs.Prelude.{Option, Result, Ok, Err}
+use Rattle.fare_store.specs.declared.fault.Fault.{Fault}
+use Rattle.fare_store.specs.declared.fault.Fault.TheVariants as fault
+use Rattle.fare_session.specs.Stores.{Stays}
+use Rattle.fare_session.specs.Asking.{IsStanding, AreTold}
+use Rattle.fare_session.proofs.Asks.{told_more, asked_failed, asked_memory, asked_on}
+use Rattle.fare_session.proofs.asking.ask.Goals as goal
+
+pub returns-in-Err : goal.returns-in-Err
+returns-in-Err g c = asked_failed c.args.scheme.now (g.L.Ledger.standing c.args.ledger.now) (g.L.Ledger.standing c.loop-place.ledger) (g.L.Ledger.standing c.standing.new.ledger) c.loop-place.asked.standings.items c.loop-place.asked.bases.items c.in-Some.device c.in-Err.fault c.loop-place.invariant.stays c.in-Err.ensures
+
+pub returns-then-is_err : goal.returns-then-is_err
+returns-then-is_err g c = asked_memory c.args.scheme.now (g.L.Ledger.standing c.args.ledger.now) (g.L.Ledger.standing c.loop-place.ledger) (g.L.Ledger.standing c.standing.new.ledger) c.push.new.self.items c.loop-place.asked.bases.items c.in-Some.device c.in-Ok.told c.loop-place.invariant.stays c.in-Ok.ensures
+
+pub returns-then-is_err-2 : goal.returns-then-is_err-2
+returns-then-is_err-2 g c = asked_memory c.args.scheme.now (g.L.Ledger.standing c.args.ledger.now) (g.L.Ledger.standing c.loop-place.ledger) (g.L.Ledger.standing c.standing.new.ledger) c.push.new.self.items c.push-in-loop-place.new.self.items c.in-Some.device c.in-Ok.told c.loop-place.invariant.stays c.in-Ok.ensures
+
+pub loop-place-preserved : goal.loop-place-preserved
+loop-place-preserved g c =
+    let i = c.loop-place.invariant in
+    let sc = c.args.scheme.now in
+    let a = g.L.Ledger.standing c.args.ledger.now in
+    let b = g.L.Ledger.standing c.loop-place.ledger in
+    let d = g.L.Ledger.standing c.standing.new.ledger in
+    let p : ℕ × Option ℕ = c.in-Ok.told in
+    let now : IsStanding b d c.in-Some.device (Ok p) = c.in-Ok.ensures in
+    let ss : c.push.new.self.items ≡ c.loop-place.asked.standings.items ++ p ∷ [] = search rules in
+    let bs : c.push-in-loop-place.new.self.items ≡ c.loop-place.asked.bases.items ++ (c.in-Some.device, p.0) ∷ [] = search rules in
+    let told = told_more sc a b d c.loop-place.asked.standings.items c.loop-place.asked.bases.items c.in-Some.device c.loop-place.place p i.stays (subst (λ (z : Option Fault). Stays b d z) now.is now.stays) i.count c.in-Some.ensures.placed now.told i.told in
+    record {
+      stays = asked_on a b d c.in-Some.device p i.stays now;
+      live = λ lt clean. i.stays.calls.live (now.stays.calls.live (now.live clean));
+      told = subst (λ (z : List (ℕ × Option ℕ) × List (ℕ × ℕ)). AreTold sc a d z.0 z.1) (λ j. (sym ss j, sym bs j)) told;
+      count = ap length ss ∙ length-append c.loop-place.asked.standings.items (p ∷ []) ∙ ap (λ (n : ℕ). n + 1) i.count;
+    }
+
+pub returns : goal.returns
+returns g c =
+    let i = c.loop-place.invariant in
+    record {
+      faulted = None;
+      stays = i.stays;
+      cause = λ e. absurd (let is : ◌≡◌ {A = Result (Unit {0}) Fault} (Ok tt) (Err fault.Store) = e in cc);
+      none = refl;
+      live = i.live (omega (arith, c.device_count-place-end.ensures.value, c.device_count-place-end.ensures.valid.has_device));
+      told = i.told;
+      count = omega (arith, i.count, c.device_count-place-end.ensures.value);
+      some = c.device_count-place-end.ensures.valid.has_device;
+    }

@@ -1,0 +1,43 @@
+-- Where a ledger stands, when it was asked device by device.
+use Rattle.std.specs.Prelude.{◌≡◌, ℕ, ◌≤◌, List, length, slice_get, Option, None, Some, Result, IfOk, OnOk, IsErrOf}
+use Rattle.fare_scheme.specs.Values.{SchemeValue}
+use Rattle.fare_scheme.specs.Words.{position_of_device}
+use Rattle.fare_store.specs.declared.fault.Fault.{Fault}
+use Rattle.fare_store.specs.declared.fault.Fault.TheVariants.{Store}
+use Rattle.fare_store.specs.Standing.{Standing, fault_of}
+use Rattle.fare_store.specs.LedgerWords.{LedgerValue, closed_through}
+use Rattle.fare_session.specs.Stores.{Keeps, Stays}
+
+-- how many taps of a device it has, and its last closed day
+abbrev pub standing_of : LedgerValue → ℕ → ℕ × Option ℕ
+standing_of l device = (length (l.taken device), closed_through l device)
+
+pub record IsStanding (old new : Standing LedgerValue) (device : ℕ) (result : Result (ℕ × Option ℕ) Fault) : Type 0 where
+  pub faulted : Option Fault
+  pub stays : Stays old new faulted
+  pub is : faulted ≡ fault_of result
+  -- a clean ledger that answered is live
+  pub live : OnOk result (new.clean → new.live)
+  pub told : IfOk result (λ p. Keeps old new → p ≡ standing_of old.value device)
+
+-- the entry at a place is of the device there
+pub record IsToldAt (sc : SchemeValue) (old new : Standing LedgerValue) (bases : List (ℕ × ℕ)) (k : ℕ) (p : ℕ × Option ℕ) : Type 0 where
+  pub device : ℕ
+  pub at : position_of_device sc device ≡ Some k
+  pub base : slice_get bases k ≡ Some (device, p.0)
+  pub told : Keeps old new → p ≡ standing_of old.value device
+
+pub record AreTold (sc : SchemeValue) (old new : Standing LedgerValue) (standings : List (ℕ × Option ℕ)) (bases : List (ℕ × ℕ)) : Type 0 where
+  pub same : length bases ≡ length standings
+  pub each : (k : ℕ) (p : ℕ × Option ℕ) → slice_get standings k ≡ Some p → IsToldAt sc old new bases k p
+
+pub record IsAsked (sc : SchemeValue) (old new : Standing LedgerValue) (standings : List (ℕ × Option ℕ)) (bases : List (ℕ × ℕ)) (result : Result Unit Fault) : Type 0 where
+  pub faulted : Option Fault
+  pub stays : Stays old new faulted
+  pub cause : IsErrOf result Store → faulted ≡ Some Store
+  pub none : OnOk result (faulted ≡ None)
+  -- a clean ledger that answered was live
+  pub live : OnOk result (new.clean → old.live)
+  pub told : OnOk result (AreTold sc old new standings bases)
+  pub count : OnOk result (length standings ≡ length sc.devices)
+  pub some : OnOk result (1 ≤ length sc.devices)

@@ -1,0 +1,8 @@
+pub mod Stores
+pub mod Forwarding
+pub mod Taking
+pub mod Resting
+pub mod Asking
+pub mod Session
+pub mod Served
+pub mod Run

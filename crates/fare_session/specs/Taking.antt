@@ -1,0 +1,87 @@
+-- What an owner does with its ledger.
+use Rattle.std.specs.Prelude.{◌≡◌, ◌⊎◌, ℕ, ◌+◌, ◌≤◌, min, if◌then◌else◌, Bool, true, List, [], ◌∷◌, ◌++◌, Option, None, Some, is_none, Result, Ok, Err}
+use Rattle.fare_record.specs.declared.item.Item.{Item}
+use Rattle.fare_record.specs.declared.item.Item.TheVariants.{Tap, Stated}
+use Rattle.fare_store.specs.Standing.{Standing}
+use Rattle.fare_store.specs.LedgerWords.{LedgerValue}
+use Rattle.fare_session.specs.declared.fault.SessionFault.{SessionFault}
+use Rattle.fare_session.specs.declared.fault.SessionFault.TheVariants.{Refused}
+use Rattle.fare_history.specs.Serving.{given, given_all, IsUnrefused, AreUnrefused, in_hand}
+use Rattle.fare_history.specs.Plainly.{IsRefused}
+use Rattle.fare_session.specs.Stores.{stored_fault, IsOwners, Called, Keeps, Leaves}
+
+-- HOW MANY ARE TAKEN
+-- an item that the ledger does not hold yet
+abbrev pub is_added : LedgerValue → Item → Bool
+is_added l (Tap r) = true
+is_added l (Stated s) = is_none (l.stated s.device s.day)
+
+-- how many of the items are such, each behind those before it
+abbrev pub added_by : LedgerValue → List Item → ℕ
+added_by l [] = 0
+added_by l (i ∷ is) = (if is_added l i then 1 else 0) + added_by (given l i) is
+
+-- a counter that stays at its greatest number
+abbrev pub Tallied : ℕ → ℕ → ℕ → Type 0
+Tallied before after n = before ≤ 18446744073709551615 → after ≡ min (before + n) 18446744073709551615
+
+-- there is an item in the hand, and the ledger refuses it
+abbrev pub IsRefusedHand : LedgerValue → Option Item → Type 0
+IsRefusedHand l None = ⊥
+IsRefusedHand l (Some i) = IsRefused l i
+
+-- the ledger has these items, or also the one in the hand, which it then doesn't refuse
+abbrev pub IsImage : LedgerValue → List Item → Option Item → LedgerValue → Type 0
+IsImage l items hand w = (w ≡ given_all l items) ⊎ (AreUnrefused (given_all l items) (in_hand hand) × (w ≡ given_all l (items ++ in_hand hand)))
+
+-- no fault leaves nothing in the hand, and a fault leaves one item there
+abbrev pub InHand : Option SessionFault → Option Item → Type 0
+InHand None hand = hand ≡ None
+InHand (Some fault) hand = (i : Item) × (hand ≡ Some i)
+
+-- the ledger took these items, in order, and failed or refused at the one in the hand
+pub record IsTaken (old new : Standing LedgerValue) (items : List Item) (hand : Option Item) (fault : Option SessionFault) (before after : ℕ) : Type 0 where
+  pub leaves : Leaves old new (stored_fault fault) (given_all old.value items) (IsImage old.value items hand)
+  pub tally : Keeps old new → Tallied before after (added_by old.value items)
+  pub owners : IsOwners fault
+  pub empty : fault ≡ None → hand ≡ None
+  pub unrefused : Keeps old new → AreUnrefused old.value items
+  pub refused : fault ≡ Some Refused → Keeps old new → IsRefusedHand (given_all old.value items) hand
+
+-- of one item
+abbrev pub done_by : Item → Option SessionFault → List Item
+done_by i None = i ∷ []
+done_by i (Some fault) = []
+
+abbrev pub held_by : Item → Option SessionFault → Option Item
+held_by i None = None
+held_by i (Some fault) = Some i
+
+-- what one call on the ledger did: whether the item was new, or why it was not taken
+abbrev pub fault_kept : Result Bool SessionFault → Option SessionFault
+fault_kept (Ok added) = None
+fault_kept (Err fault) = Some fault
+
+abbrev pub WasKept : LedgerValue → LedgerValue → Item → Result Bool SessionFault → Type 0
+WasKept old new i (Ok added) = (new ≡ given old i) × (added ≡ is_added old i) × IsUnrefused old i
+WasKept old new i (Err fault) = (new ≡ old) × (fault ≡ Refused → IsRefused old i)
+
+abbrev pub IsKept : Standing LedgerValue → Standing LedgerValue → Item → Result Bool SessionFault → Type 0
+IsKept old new i result = Called old new (stored_fault (fault_kept result)) (WasKept old.value new.value i result) (λ w. AreUnrefused old.value (i ∷ []) × (w ≡ given old.value i)) × IsOwners (fault_kept result)
+
+-- of these items some were taken, in order, and one is in the hand
+pub record IsTaking (old new : Standing LedgerValue) (items : List Item) (fault : Option SessionFault) (before after : ℕ) : Type 0 where
+  pub done : List Item
+  pub hand : Option Item
+  pub all : items ≡ done ++ in_hand hand
+  pub has : InHand fault hand
+  pub taken : IsTaken old new done hand fault before after
+
+-- of what was left
+pub record IsLeftTaken (old new : Standing LedgerValue) (left rest : List Item) (fault : Option SessionFault) (before after : ℕ) : Type 0 where
+  pub done : List Item
+  pub hand : Option Item
+  pub all : left ≡ done ++ (in_hand hand ++ rest)
+  pub has : InHand fault hand
+  pub taken : IsTaken old new done hand fault before after
+  pub none : fault ≡ None → rest ≡ []

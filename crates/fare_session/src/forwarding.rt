@@ -1,0 +1,160 @@
+//! The forwarder's thread: it reads the outbox, and puts what comes next of each device into the lane queue.
+ghost use Rattle.std.specs.Prelude.{◌≡◌, ◌++◌, ◌∷◌, [], true, false};
+ghost use Rattle.fare_lane_queue.specs.Lane.{IsNext};
+ghost use Rattle.fare_lane_queue.specs.Passes.{sent_list, forward_bases, IsForwardOf};
+ghost use Rattle.fare_session.specs.Forwarding.{is_due, lane_after, IsNextDue, AreApart, Forwarded, HasCursor, HasCursors};
+
+use crate::ending::Ending;
+use crate::fault::{SessionFault, failed};
+use crate::gate::{Gate, Point};
+use crate::turns::Turns;
+use fare_lane_queue::{ForwardPass, LaneQueue};
+use fare_record::{DeviceId, Item};
+use fare_route::Forwarder;
+use fare_store::{Outbox, Refused};
+use std::sync::Wait;
+use std::time::Clock;
+
+// Puts the item, and tries again while the queue is full, turns are left and the owner has not ended. Answers whether
+// it was put.
+fn put_item<G: Gate, R: Wait + Clock>(
+    rt: &R,
+    line: &LaneQueue,
+    ending: &Ending,
+    gate: &G,
+    item: &Item,
+    turns: &mut Turns,
+    pass: &mut ForwardPass,
+) -> bool
+    requires queue { IsForwardOf line.now pass.old }
+    requires next { IsNext (forward_bases pass.old) (sent_list pass.old) item.now }
+    ensures queue { IsForwardOf line.now pass.new × (forward_bases pass.new ≡ forward_bases pass.old) }
+    ensures put { result ≡ true → sent_list pass.new ≡ sent_list pass.old ++ item.now ∷ [] }
+    ensures not_put { result ≡ false → sent_list pass.new ≡ sent_list pass.old }
+{
+    for _ in rt.forever() {
+        if line.put(rt, pass, *item).is_ok() {
+            gate.pass(Point::ForwardPut);
+            turns.found();
+            return true;
+        }
+        turns.spend(rt, gate);
+        if turns.are_used_up() || ending.has_owner_ended() {
+            return false;
+        }
+    }
+    unreachable!()
+}
+
+// Whether an item is the device's, and, where it is a tap, the next of its lane.
+pub(crate) fn is_due(item: &Item, device: DeviceId, reached: u64) -> bool
+    ensures { result ≡ is_due item.now device reached }
+{
+    if let Some(row) = item.tap() {
+        return row.device() == device && row.lane() - 1 == reached;
+    }
+    let Some(statement) = item.stated() else {
+        unreachable!()
+    };
+    statement.device() == device
+}
+
+// How far a lane is behind an item.
+pub(crate) fn lane_after(item: &Item, reached: u64) -> u64
+    ensures { result ≡ lane_after item.now reached }
+{
+    match item.tap() {
+        Some(row) => row.lane(),
+        None => reached,
+    }
+}
+
+// What comes next of a device. A row that leaves out a lane number is refused.
+pub(crate) fn next_due<O: Outbox>(
+    forwarder: &mut Forwarder,
+    outbox: &mut O,
+    device: DeviceId,
+    reached: u64,
+) -> Result<Option<Item>, SessionFault>
+    requires { HasCursor forwarder.old device }
+    ensures { IsNextDue (O.standing outbox.old) (O.standing outbox.new) forwarder.old forwarder.new device reached result }
+{
+    match forwarder.next(outbox, device) {
+        Ok(Some(item)) => {
+            if is_due(&item, device, reached) {
+                Ok(Some(item))
+            } else {
+                Err(SessionFault::Refused)
+            }
+        }
+        Ok(None) => Ok(None),
+        Err(Refused::Failed(fault)) => Err(failed(fault)),
+        Err(Refused::Because(_)) => unreachable!(),
+    }
+}
+
+// Puts what comes next of each device, first its taps and then its statements.
+fn forward_devices<O: Outbox, G: Gate, R: Wait + Clock>(
+    rt: &R,
+    line: &LaneQueue,
+    ending: &Ending,
+    gate: &G,
+    bases: &[(DeviceId, u64)],
+    turns: u64,
+    forwarder: &mut Forwarder,
+    outbox: &mut O,
+    pass: &mut ForwardPass,
+) -> Option<SessionFault>
+    requires queue { IsForwardOf line.now pass.old }
+    requires fresh { (sent_list pass.old ≡ []) × (forward_bases pass.old ≡ bases.now) }
+    requires apart { AreApart bases.now }
+    requires cursors { HasCursors bases.now forwarder.old }
+    ensures queue { IsForwardOf line.now pass.new }
+    ensures forwarded { Forwarded bases.now (O.standing outbox.old) (O.standing outbox.new) forwarder.old forwarder.new (sent_list pass.new) result }
+{
+    let mut turns = Turns::new(turns);
+    for place in 0..bases.len() {
+        let (device, base) = bases[place];
+        let mut reached = base;
+        for _ in rt.forever() {
+            let item = match next_due(forwarder, outbox, device, reached) {
+                Ok(Some(item)) => item,
+                Ok(None) => break,
+                Err(fault) => return Some(fault),
+            };
+            if !put_item(rt, line, ending, gate, &item, &mut turns, pass) {
+                forwarder.put_back(device);
+                return None;
+            }
+            reached = lane_after(&item, reached);
+        }
+    }
+    None
+}
+
+/// The forwarder's thread. It ends at a fault, where nothing comes next any more, where its turns are used up, and
+/// once the owner has ended.
+pub(crate) fn forward_all<O: Outbox, G: Gate, R: Wait + Clock>(
+    rt: &R,
+    line: &LaneQueue,
+    ending: &Ending,
+    gate: &G,
+    bases: &[(DeviceId, u64)],
+    turns: u64,
+    forwarder: &mut Forwarder,
+    outbox: &mut O,
+    pass: &mut ForwardPass,
+) -> Option<SessionFault>
+    requires queue { IsForwardOf line.now pass.old }
+    requires fresh { (sent_list pass.old ≡ []) × (forward_bases pass.old ≡ bases.now) }
+    requires apart { AreApart bases.now }
+    requires cursors { HasCursors bases.now forwarder.old }
+    ensures queue { IsForwardOf line.now pass.new }
+    ensures forwarded { Forwarded bases.now (O.standing outbox.old) (O.standing outbox.new) forwarder.old forwarder.new (sent_list pass.new) result }
+{
+    let fault = forward_devices(
+        rt, line, ending, gate, bases, turns, forwarder, outbox, pass,
+    );
+    ending.forwarder_ends();
+    fault
+}

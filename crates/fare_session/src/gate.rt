@@ -1,0 +1,25 @@
+/// A place in a session that its gate learns of, right after the thread there was answered.
+#[derive(Clone, Copy, PartialEq, Eq, Debug)]
+pub enum Point {
+    /// The forwarder put an item into the lane queue.
+    ForwardPut,
+    /// The owner took an item from the lane queue.
+    OwnerTook,
+    /// A station put an item into the inbox.
+    StationPut,
+    /// The writer stored an item.
+    WriterStored,
+}
+
+/// What the threads of a session pass: a test can hold them there, an operator can count. No contract of a session
+/// depends on what a gate does.
+pub trait Gate {
+    /// A thread passes the point.
+    fn pass(&self, point: Point);
+
+    /// Whether a thread that found nothing to do for some turns in a row naps for a millisecond after each further
+    /// one. Where it doesn't, a thread that waits keeps a processor busy until its turns are used up.
+    fn naps(&self) -> bool {
+        false
+    }
+}

@@ -1,0 +1,255 @@
+//! The session.
+ghost use Rattle.std.specs.Prelude.{◌≡◌, ◌≤◌, [], None, Some, IsSome};
+ghost use Rattle.fare_scheme.specs.Words.{position_of_owner};
+ghost use Rattle.fare_lane_queue.specs.Passes.{capacity_of, sent_list, taken_list, forward_bases, IsForwardOf, IsOwnerOf};
+ghost use Rattle.fare_store.specs.Standing.{IsSound};
+ghost use Rattle.fare_session.specs.Forwarding.{AreApart, Forwarded, HasCursors};
+ghost use Rattle.fare_session.specs.Taking.{IsTaking};
+ghost use Rattle.fare_session.specs.Session.{IsThreaded, IsSession};
+ghost use Rattle.fare_session.specs.Served.{IsServed, report_of};
+
+use crate::asking::{Asked, ask};
+use crate::ending::Ending;
+use crate::fault::{SessionFault, failed};
+use crate::forwarding::forward_all;
+use crate::gate::Gate;
+use crate::pruning::prune_all;
+use crate::report::OwnerReport;
+use crate::rest::take_rest;
+use crate::taking::{take_all, take_left};
+use fare_lane_queue::{ForwardPass, LaneQueue, LaneQueueFault, OwnerPass};
+use fare_record::{DeviceId, OwnerId};
+use fare_route::Forwarder;
+use fare_scheme::Scheme;
+use fare_store::{Ledger, Outbox};
+use std::alloc::Global;
+use std::sync::Wait;
+use std::thread::{Threads, join_mut};
+use std::time::Clock;
+
+// The two threads.
+fn run_threads<
+    O: Outbox + Send,
+    L: Ledger + Send,
+    G: Gate + Sync,
+    R: Threads + Wait + Clock + Sync,
+>(
+    rt: &R,
+    line: &LaneQueue,
+    ending: &Ending,
+    gate: &G,
+    bases: &[(DeviceId, u64)],
+    turns: u64,
+    forwarder: &mut Forwarder,
+    outbox: &mut O,
+    ledger: &mut L,
+    taken: &mut u64,
+    forward: &mut ForwardPass,
+    owner: &mut OwnerPass,
+) -> (Option<SessionFault>, Option<SessionFault>)
+    requires forward { IsForwardOf line.now forward.old × (sent_list forward.old ≡ []) × (forward_bases forward.old ≡ bases.now) }
+    requires owner { IsOwnerOf line.now owner.old × (taken_list owner.old ≡ []) }
+    requires apart { AreApart bases.now }
+    requires cursors { HasCursors bases.now forwarder.old }
+    ensures queue { IsForwardOf line.now forward.new × IsOwnerOf line.now owner.new }
+    ensures forwarded { Forwarded bases.now (O.standing outbox.old) (O.standing outbox.new) forwarder.old forwarder.new (sent_list forward.new) result.0 }
+    ensures taken { IsTaking (L.standing ledger.old) (L.standing ledger.new) (taken_list owner.new) result.1 taken.old taken.new }
+{
+    join_mut(
+        rt,
+        &mut || -> Option<SessionFault>
+            requires { IsForwardOf line.now forward.now × (sent_list forward.now ≡ []) × (forward_bases forward.now ≡ bases.now) × AreApart bases.now × HasCursors bases.now forwarder.now }
+            ensures queue { IsForwardOf line.entry.now forward.exit.now }
+            ensures forwarded { Forwarded bases.entry.now (O.standing outbox.entry.now) (O.standing outbox.exit.now) forwarder.entry.now forwarder.exit.now (sent_list forward.exit.now) result }
+        {
+            forward_all(
+                rt, line, ending, gate, bases, turns, forwarder, outbox, forward,
+            )
+        },
+        &mut || -> Option<SessionFault>
+            requires { IsOwnerOf line.now owner.now × (taken_list owner.now ≡ []) }
+            ensures queue { IsOwnerOf line.entry.now owner.exit.now }
+            ensures taken { IsTaking (L.standing ledger.entry.now) (L.standing ledger.exit.now) (taken_list owner.exit.now) result taken.entry.now taken.exit.now }
+        { take_all(rt, line, ending, gate, turns, ledger, taken, owner) },
+    )
+}
+
+// The threads over a new queue, and then what is left in it. Answers the forwarder's fault, the owner's, and how
+// many items are in the owner's hand and in the queue.
+fn run_lanes<O: Outbox + Send, L: Ledger + Send, G: Gate + Sync, R: Threads + Wait + Clock + Sync>(
+    rt: &R,
+    gate: &G,
+    bases: &[(DeviceId, u64)],
+    turns: u64,
+    forwarder: &mut Forwarder,
+    outbox: &mut O,
+    ledger: &mut L,
+    taken: &mut u64,
+    queue: LaneQueue,
+    mut forward: ForwardPass,
+    mut mine: OwnerPass,
+) -> (Option<SessionFault>, Option<SessionFault>, u64)
+    requires forward { IsForwardOf queue forward × (sent_list forward ≡ []) × (forward_bases forward ≡ bases.now) }
+    requires owner { IsOwnerOf queue mine × (taken_list mine ≡ []) }
+    requires apart { AreApart bases.now }
+    requires cursors { HasCursors bases.now forwarder.old }
+    requires room { capacity_of queue ≤ 1024 }
+    ensures { IsThreaded bases.now (capacity_of queue) (O.standing outbox.old) (O.standing outbox.new) (L.standing ledger.old) (L.standing ledger.new) forwarder.old forwarder.new result.0 result.1 taken.old taken.new result.2 }
+{
+    let ending = Ending::new();
+    let (put, took) = run_threads(
+        rt,
+        &queue,
+        &ending,
+        gate,
+        bases,
+        turns,
+        forwarder,
+        outbox,
+        ledger,
+        taken,
+        &mut forward,
+        &mut mine,
+    );
+    let mut ended = queue.finish(rt, forward, mine);
+    if let Some(fault) = took {
+        return (put, Some(fault), ended.left + 1);
+    }
+    match take_left(rt, &mut ended, ledger, taken) {
+        Some(fault) => (put, Some(fault), ended.left + 1),
+        None => (put, None, 0),
+    }
+}
+
+// A session over a queue and a forwarder that are ready.
+fn serve_lanes<
+    O: Outbox + Send,
+    L: Ledger + Send,
+    G: Gate + Sync,
+    R: Threads + Wait + Clock + Sync,
+>(
+    rt: &R,
+    owner: OwnerId,
+    gate: &G,
+    bases: &[(DeviceId, u64)],
+    turns: u64,
+    forwarder: &mut Forwarder,
+    outbox: &mut O,
+    ledger: &mut L,
+    queue: LaneQueue,
+    forward: ForwardPass,
+    mine: OwnerPass,
+) -> OwnerReport
+    requires forward { IsForwardOf queue forward × (sent_list forward ≡ []) × (forward_bases forward ≡ bases.now) }
+    requires owner { IsOwnerOf queue mine × (taken_list mine ≡ []) }
+    requires apart { AreApart bases.now }
+    requires cursors { HasCursors bases.now forwarder.old }
+    requires room { capacity_of queue ≤ 1024 }
+    requires mine { forwarder.old.owner ≡ owner }
+    ensures { IsSession bases.now (capacity_of queue) (O.standing outbox.old) (O.standing outbox.new) (L.standing ledger.old) (L.standing ledger.new) forwarder.old result }
+{
+    let mut taken = 0;
+    let (put, fault, left) = run_lanes(
+        rt, gate, bases, turns, forwarder, outbox, ledger, &mut taken, queue, forward, mine,
+    );
+    if let Some(fault) = fault {
+        return OwnerReport {
+            taken,
+            left,
+            fault: Some(fault),
+        };
+    }
+    if let Some(fault) = put {
+        return OwnerReport {
+            taken,
+            left: 0,
+            fault: Some(fault),
+        };
+    }
+    let mut hand = 0;
+    if let Some(fault) = take_rest(rt, bases, forwarder, outbox, ledger, &mut taken, &mut hand) {
+        return OwnerReport {
+            taken,
+            left: hand,
+            fault: Some(fault),
+        };
+    }
+    let fault = prune_all(owner, bases, outbox, ledger);
+    OwnerReport {
+        taken,
+        left: 0,
+        fault,
+    }
+}
+
+// The two stores keep the laws of their kind. A function that starts threads can't cite a trait's law itself.
+fn have_laws<O: Outbox, L: Ledger>(_outbox: &O, _ledger: &L)
+    ensures outbox { IsSound (O.standing _outbox.now) }
+    ensures ledger { IsSound (L.standing _ledger.now) }
+{}
+
+// A session that ends before its threads start.
+fn not_begun(fault: SessionFault) -> OwnerReport
+    ensures { result ≡ report_of 0 0 (Some fault) }
+{
+    OwnerReport {
+        taken: 0,
+        left: 0,
+        fault: Some(fault),
+    }
+}
+
+/// Serves an owner: one thread hands on what comes next in the outbox of the owner's lanes, over one lane queue,
+/// and one takes it into the ledger. What is left once both have ended this call takes, and it prunes the lanes
+/// to the ledger's counts. A thread that found the queue full or empty `turns` times ends.
+pub fn serve_owner<
+    O: Outbox + Send,
+    L: Ledger + Send,
+    G: Gate + Sync,
+    R: Threads + Wait + Clock + Sync,
+>(
+    rt: &R,
+    alloc: Global,
+    scheme: &Scheme,
+    outbox: &mut O,
+    ledger: &mut L,
+    owner: OwnerId,
+    gate: &G,
+    turns: u64,
+) -> OwnerReport
+    requires owner { IsSome (position_of_owner scheme.now owner) }
+    ensures { IsServed scheme.now owner (O.standing outbox.old) (O.standing outbox.new) (L.standing ledger.old) (L.standing ledger.new) result }
+{
+    have_laws(outbox, ledger);
+    let Some(capacity) = scheme.lane_capacity(owner) else {
+        unreachable!()
+    };
+    let mut asked = Asked {
+        standings: Vec::new(alloc),
+        bases: Vec::new(alloc),
+    };
+    if let Err(fault) = ask(scheme, ledger, &mut asked) {
+        return not_begun(failed(fault));
+    }
+    let Ok(mut forwarder) = Forwarder::start(alloc, scheme, owner, &asked.standings) else {
+        return not_begun(SessionFault::Memory);
+    };
+    let (queue, forward, mine) = match LaneQueue::new(alloc, capacity, &asked.bases) {
+        Ok(made) => made,
+        Err(LaneQueueFault::Memory) => return not_begun(SessionFault::Memory),
+        Err(LaneQueueFault::Range) => unreachable!(),
+    };
+    serve_lanes(
+        rt,
+        owner,
+        gate,
+        &asked.bases,
+        turns,
+        &mut forwarder,
+        outbox,
+        ledger,
+        queue,
+        forward,
+        mine,
+    )
+}

@@ -1,0 +1,133 @@
+//! The owner's thread: it takes from the lane queue, and alone writes the ledger.
+ghost use Rattle.std.specs.Prelude.{◌≡◌, []};
+ghost use Rattle.fare_record.specs.declared.item.Item.TheVariants.{Tap, Stated};
+ghost use Rattle.fare_lane_queue.specs.Passes.{taken_list, IsOwnerOf, left_list, IsEnded};
+ghost use Rattle.fare_session.specs.Taking.{IsKept, IsTaken, IsTaking, IsLeftTaken, done_by, held_by};
+
+use crate::ending::Ending;
+use crate::fault::{SessionFault, failed};
+use crate::gate::{Gate, Point};
+use crate::turns::Turns;
+use fare_lane_queue::{Ended, LaneQueue, OwnerPass};
+use fare_owner::StatementFault;
+use fare_record::{Item, Record, Statement};
+use fare_store::{Ledger, Refused};
+use std::sync::Wait;
+use std::time::Clock;
+
+// A tap goes to the ledger. Answers that it is new there.
+fn keep_tap<L: Ledger>(ledger: &mut L, row: &Record) -> Result<bool, SessionFault>
+    ensures { IsKept (L.standing ledger.old) (L.standing ledger.new) (Tap row.now) result }
+{
+    match ledger.take(row) {
+        Ok(()) => Ok(true),
+        Err(Refused::Failed(fault)) => Err(failed(fault)),
+        Err(Refused::Because(_)) => Err(SessionFault::Refused),
+    }
+}
+
+// A statement goes to the ledger, which may hold it already. Answers whether it is new there.
+fn keep_statement<L: Ledger>(ledger: &mut L, statement: &Statement) -> Result<bool, SessionFault>
+    ensures { IsKept (L.standing ledger.old) (L.standing ledger.new) (Stated statement.now) result }
+{
+    match ledger.state(statement) {
+        Ok(()) => Ok(true),
+        Err(Refused::Failed(fault)) => Err(failed(fault)),
+        Err(Refused::Because(StatementFault::Repeated)) => Ok(false),
+        Err(Refused::Because(_)) => Err(SessionFault::Refused),
+    }
+}
+
+// An item goes to the ledger. Answers whether it is new there.
+fn keep<L: Ledger>(ledger: &mut L, item: &Item) -> Result<bool, SessionFault>
+    ensures { IsKept (L.standing ledger.old) (L.standing ledger.new) item.now result }
+{
+    if let Some(row) = item.tap() {
+        return keep_tap(ledger, &row);
+    }
+    let Some(statement) = item.stated() else {
+        unreachable!()
+    };
+    keep_statement(ledger, &statement)
+}
+
+/// An item goes to the ledger. `taken` counts those that are new there.
+pub(crate) fn keep_item<L: Ledger>(
+    ledger: &mut L,
+    item: &Item,
+    taken: &mut u64,
+) -> Option<SessionFault>
+    ensures { IsTaken (L.standing ledger.old) (L.standing ledger.new) (done_by item.now result) (held_by item.now result) result taken.old taken.new }
+{
+    let count = *taken;
+    match keep(ledger, item) {
+        Ok(true) => {
+            *taken = count.saturating_add(1);
+            None
+        }
+        Ok(false) => None,
+        Err(fault) => Some(fault),
+    }
+}
+
+/// The owner's thread. It ends at a fault, where its turns are used up, and where the queue is empty once the
+/// forwarder has ended.
+pub(crate) fn take_all<L: Ledger, G: Gate, R: Wait + Clock>(
+    rt: &R,
+    line: &LaneQueue,
+    ending: &Ending,
+    gate: &G,
+    turns: u64,
+    ledger: &mut L,
+    taken: &mut u64,
+    pass: &mut OwnerPass,
+) -> Option<SessionFault>
+    requires queue { IsOwnerOf line.now pass.old × (taken_list pass.old ≡ []) }
+    ensures queue { IsOwnerOf line.now pass.new }
+    ensures taken { IsTaking (L.standing ledger.old) (L.standing ledger.new) (taken_list pass.new) result taken.old taken.new }
+{
+    let mut turns = Turns::new(turns);
+    for _ in rt.forever() {
+        let ended = ending.has_forwarder_ended();
+        match line.take(rt, pass) {
+            Some(item) => {
+                gate.pass(Point::OwnerTook);
+                turns.found();
+                if let Some(fault) = keep_item(ledger, &item, taken) {
+                    ending.owner_ends();
+                    return Some(fault);
+                }
+            }
+            None => {
+                turns.spend(rt, gate);
+                if ended || turns.are_used_up() {
+                    break;
+                }
+            }
+        }
+    }
+    ending.owner_ends();
+    None
+}
+
+/// Takes what the threads left in the queue.
+pub(crate) fn take_left<L: Ledger, R: Wait>(
+    rt: &R,
+    ended: &mut Ended,
+    ledger: &mut L,
+    taken: &mut u64,
+) -> Option<SessionFault>
+    requires { IsEnded ended.old }
+    ensures ended { IsEnded ended.new }
+    ensures taken { IsLeftTaken (L.standing ledger.old) (L.standing ledger.new) (left_list ended.old) (left_list ended.new) result taken.old taken.new }
+{
+    for _ in rt.forever() {
+        let Some(item) = ended.next(rt) else {
+            return None;
+        };
+        if let Some(fault) = keep_item(ledger, &item, taken) {
+            return Some(fault);
+        }
+    }
+    unreachable!()
+}

@@ -1,0 +1,385 @@
+ghost use Rattle.std.specs.Prelude.{◌≡◌, ◌≤◌, ◌+◌, ◌++◌, ◌∷◌, [], vec_len, vec_capacity};
+
+use crate::samples::{FIRST, Numbers, record, statement};
+use fare_collect::{Station, StationsFault, collect, stations_of};
+use fare_frame::Frame;
+use fare_record::{Ack, Day, DayAck, DeviceId, LAST_NUMBER};
+use fare_scheme::{DemoSize, Scheme};
+use fare_session::{Gate, Point, SessionFault};
+use fare_source::{Source, SourceFault};
+use fare_store::{FailingOutbox, Outbox, PlainOutbox};
+use std::alloc::Global;
+use std::sync::Wait;
+use std::sync::atomic::{AtomicBool, AtomicU64, Ordering};
+use std::thread::{self, Threads};
+use std::time::Clock;
+
+/// A source of frames that are written down, which keeps what it gave and what it was answered.
+#[derive(Drop)]
+struct Script {
+    // Those to come, the next one last.
+    frames: Vec<Frame>,
+    given: Vec<Frame>,
+    answered: Vec<Frame>,
+    failures: u64,
+    // How many calls there are up to the one that fails, itself included; 0 for none.
+    left: u64,
+    // It is ready at each so many asks.
+    every: u64,
+    asked: u64,
+}
+
+// Counts a call, and answers whether it is the one that fails.
+fn fails_now(left: &mut u64) -> bool {
+    let now = *left == 1;
+    *left = left.saturating_sub(1);
+    now
+}
+
+// Adds a frame to a list that has room for it.
+fn keep(frames: &mut Vec<Frame>, frame: &Frame)
+    requires { vec_len frames.old + 1 ≤ vec_capacity frames.old }
+    ensures { frames.new.items ≡ frames.old.items ++ frame.now ∷ [] }
+{
+    frames.push_reserved(*frame);
+}
+
+impl Source for Script {
+    ghost talk = { λ s. record { given = s.given.items; answered = s.answered.items; failures = s.failures; ended = s.frames.items ≡ [] } };
+
+    fn is_ready(&mut self) -> bool {
+        self.asked = self.asked.wrapping_add(1);
+        self.every == 0 || self.asked % self.every == 0
+    }
+
+    fn next(&mut self) -> Result<Option<Frame>, SourceFault> {
+        if fails_now(&mut self.left) {
+            self.failures = self.failures.saturating_add(1);
+            return Err(SourceFault::Failed);
+        }
+        if self.given.reserve(1).is_err() {
+            return Err(SourceFault::Memory);
+        }
+        let Some(frame) = self.frames.pop() else {
+            return Ok(None);
+        };
+        keep(&mut self.given, &frame);
+        Ok(Some(frame))
+    }
+
+    fn answer(&mut self, frame: &Frame) -> Result<(), SourceFault> {
+        if self.answered.push(*frame).is_err() {
+            return Err(SourceFault::Memory);
+        }
+        if fails_now(&mut self.left) {
+            self.failures = self.failures.saturating_add(1);
+            return Err(SourceFault::Failed);
+        }
+        Ok(())
+    }
+}
+
+impl Script {
+    // The frame that it was answered last, and the one before.
+    fn last_two(&self) -> (Option<Frame>, Option<Frame>) {
+        let count = self.answered.len();
+        let before = count.checked_sub(2).and_then(|place| self.answered.get(place).copied());
+        (before, self.answered.last().copied())
+    }
+}
+
+/// A gate that counts what passes, and holds the first put of a station until another and a store passed if it is asked
+/// to.
+#[derive(Drop)]
+struct Hold {
+    puts: AtomicU64,
+    stores: AtomicU64,
+    missed: AtomicBool,
+    holds: bool,
+}
+
+impl Gate for Hold {
+    fn pass(&self, point: Point) {
+        match point {
+            Point::StationPut => {
+                let first = self.puts.fetch_add(1, Ordering::SeqCst) == 0;
+                if first && self.holds {
+                    self.wait_for_others();
+                }
+            }
+            Point::WriterStored => {
+                self.stores.fetch_add(1, Ordering::SeqCst);
+            }
+            Point::ForwardPut | Point::OwnerTook => {}
+        }
+    }
+}
+
+impl Hold {
+    fn new(holds: bool) -> Hold {
+        Hold {
+            puts: AtomicU64::new(0),
+            stores: AtomicU64::new(0),
+            missed: AtomicBool::new(false),
+            holds,
+        }
+    }
+
+    // Lets others go first until they passed, and notes a miss where they don't for long.
+    fn wait_for_others(&self) {
+        for _ in 0..10_000_000 {
+            let others = self.puts.load(Ordering::SeqCst) > 1;
+            if others && self.stores.load(Ordering::SeqCst) > 0 {
+                return;
+            }
+            thread::yield_now();
+        }
+        self.missed.store(true, Ordering::SeqCst);
+    }
+}
+
+// A tap of a device that is the first with these links.
+fn tapped(device: u64, link: u64) -> Option<Frame> {
+    let tap = record(Numbers {
+        device,
+        link,
+        lane: link,
+        ..FIRST
+    })?;
+    Some(Frame::Tapped(tap))
+}
+
+fn ack(device: u64, upto: u64) -> Option<Frame> {
+    if upto > LAST_NUMBER {
+        return None;
+    }
+    Some(Frame::Acked(Ack::new(DeviceId::new(device)?, upto)))
+}
+
+// A source of a device's taps with these links.
+fn source_of(alloc: Global, device: u64, links: &[u64]) -> Option<Script> {
+    let mut frames = Vec::new(alloc);
+    for link in links {
+        frames.insert(0, tapped(device, *link)?).ok()?;
+    }
+    Some(Script {
+        frames,
+        given: Vec::new(alloc),
+        answered: Vec::new(alloc),
+        failures: 0,
+        left: 0,
+        every: 0,
+        asked: 0,
+    })
+}
+
+// A source of each of the two devices' taps with these links.
+fn scripts(alloc: Global, links: &[u64]) -> Option<Vec<Script>> {
+    let mut sources = Vec::new(alloc);
+    for device in 1..=2 {
+        sources.push(source_of(alloc, device, links)?).ok()?;
+    }
+    Some(sources)
+}
+
+// The demonstration scheme of two devices, with an inbox of one item.
+fn narrow(alloc: Global) -> Option<Scheme> {
+    Scheme::demo(alloc, DemoSize::TwoDevices, 4, 1, 4).ok()
+}
+
+/// What is to be seen after a session.
+#[derive(Clone, Copy, PartialEq, Eq, Debug)]
+struct Seen {
+    stored: u64,
+    left: u64,
+    // The first fault, if there is one.
+    fault: Option<SessionFault>,
+}
+
+// The stations' sources, in their order.
+fn sources_of(alloc: Global, stations: Vec<Station<Script>>) -> Option<Vec<Script>> {
+    let mut stations = stations;
+    let mut sources = Vec::new(alloc);
+    for _ in 0..16 {
+        let Some(station) = stations.pop() else {
+            break;
+        };
+        let (_, source) = station.into_parts();
+        sources.insert(0, source).ok()?;
+    }
+    Some(sources)
+}
+
+/// A session over these sources, what is to be seen then, and the sources again.
+fn gathered<O: Outbox + Send, R: Threads + Wait + Clock + Sync>(
+    rt: &R,
+    alloc: Global,
+    scheme: &Scheme,
+    sources: Vec<Script>,
+    outbox: &mut O,
+    gate: &Hold,
+    turns: u64,
+) -> Option<(Seen, Vec<Script>)> {
+    let mut stations = stations_of(alloc, scheme, sources).ok()?;
+    if stations.len() > 16 {
+        return None;
+    }
+    let report = collect(rt, alloc, scheme, &mut stations, outbox, gate, turns).ok()?;
+    let seen = Seen {
+        stored: report.stored,
+        left: report.left,
+        fault: report.faults.first().copied(),
+    };
+    Some((seen, sources_of(alloc, stations)?))
+}
+
+fn outcome(stored: u64, fault: Option<SessionFault>) -> Seen {
+    Seen {
+        stored,
+        left: 0,
+        fault,
+    }
+}
+
+// The last frame that each source was answered.
+fn last_of(sources: &[Script], place: usize) -> Option<Frame> {
+    sources.get(place)?.answered.last().copied()
+}
+
+// A session over two stations' sources with these links, and their last answers.
+fn two_stations<R: Threads + Wait + Clock + Sync>(
+    rt: &R,
+    alloc: Global,
+    links: &[u64],
+    gate: &Hold,
+    turns: u64,
+) -> Option<(Seen, [Option<Frame>; 2])> {
+    let scheme = narrow(alloc)?;
+    let mut outbox = PlainOutbox::new(alloc);
+    let sources = scripts(alloc, links)?;
+    let (seen, sources) = gathered(rt, alloc, &scheme, sources, &mut outbox, gate, turns)?;
+    Some((seen, [last_of(&sources, 0), last_of(&sources, 1)]))
+}
+
+// The first put waits for another station's and for a store: no session on one thread, nor one with a lock round each
+// turn, gets through.
+#[test]
+fn stations_and_a_writer_take_turns(rt: HostRuntime) {
+    let gate = Hold::new(true);
+    let got = two_stations(&rt, rt.alloc(), &[1, 2], &gate, 1_000_000).expect(&rt, "stations");
+    assert_eq!(rt; got, (outcome(4, None), [ack(1, 2), ack(2, 2)]));
+    assert_eq!(rt; gate.missed.load(Ordering::SeqCst), false);
+    assert_eq!(rt; gate.stores.load(Ordering::SeqCst), 4);
+}
+
+// Each link is accepted once and in its order, with any number of turns.
+#[test]
+fn stations_accept_link_by_link(rt: HostRuntime) {
+    let cases: [(&[u64], u64, u64); 4] = [(&[], 0, 0), (&[1, 2], 4, 2), (&[2, 1, 1, 2], 4, 2), (&[2, 1, 1], 2, 1)];
+    for (links, stored, upto) in cases {
+        for turns in [0, 1, 1_000_000] {
+            let gate = Hold::new(false);
+            let got = two_stations(&rt, rt.alloc(), links, &gate, turns).expect(&rt, "stations");
+            assert_eq!(rt; got, (outcome(stored, None), [ack(1, upto), ack(2, upto)]));
+        }
+    }
+}
+
+// A source that gives one statement is answered the day's acknowledgement, and then the number of its taps.
+#[test]
+fn a_statement_is_acknowledged(rt: HostRuntime) {
+    let alloc = rt.alloc();
+    let scheme = Scheme::demo(alloc, DemoSize::OneDevice, 4, 4, 4).expect(&rt, "scheme");
+    let mut source = source_of(alloc, 1, &[]).expect(&rt, "source");
+    let stated = statement(1, 19_723, 1, 0).expect(&rt, "statement");
+    source.frames.push(Frame::Stated(stated)).expect(&rt, "room");
+    let mut sources = Vec::new(alloc);
+    sources.push(source).expect(&rt, "room");
+    let mut outbox = PlainOutbox::new(alloc);
+    let gate = Hold::new(false);
+    let (got, sources) = gathered(&rt, alloc, &scheme, sources, &mut outbox, &gate, 1_000_000).expect(&rt, "stations");
+    let day = DayAck::new(DeviceId::new(1).expect(&rt, "device"), Day::new(19_723).expect(&rt, "day"));
+    assert_eq!(rt; got, outcome(1, None));
+    let answers = sources.first().expect(&rt, "source").last_two();
+    assert_eq!(rt; answers, (Some(Frame::DayAcked(day)), ack(1, 0)));
+}
+
+// A source that is ready at each tenth ask alone, with a hundred turns: the call reads the rest.
+#[test]
+fn a_source_may_be_seldom_ready(rt: HostRuntime) {
+    let alloc = rt.alloc();
+    let scheme = narrow(alloc).expect(&rt, "scheme");
+    for turns in [1, 100, 1_000_000] {
+        let mut sources = scripts(alloc, &[1, 2, 3]).expect(&rt, "sources");
+        for place in 0..sources.len() {
+            sources[place].every = 10;
+        }
+        let mut outbox = PlainOutbox::new(alloc);
+        let gate = Hold::new(false);
+        let (got, sources) = gathered(&rt, alloc, &scheme, sources, &mut outbox, &gate, turns).expect(&rt, "stations");
+        assert_eq!(rt; (got, last_of(&sources, 1)), (outcome(6, None), ack(2, 3)));
+    }
+}
+
+// A source that fails at each of its calls in turn, up to one that is never made: the other is served, and nothing that
+// it gave before is lost.
+#[test]
+fn a_source_may_fail_at_any_call(rt: HostRuntime) {
+    let alloc = rt.alloc();
+    let scheme = narrow(alloc).expect(&rt, "scheme");
+    let mut failed = 0_u64;
+    for call in 1..40 {
+        let mut sources = scripts(alloc, &[1, 2]).expect(&rt, "sources");
+        if let Some(source) = sources.first_mut() {
+            source.left = call;
+        }
+        let mut outbox = PlainOutbox::new(alloc);
+        let gate = Hold::new(false);
+        let (got, sources) = gathered(&rt, alloc, &scheme, sources, &mut outbox, &gate, 1_000_000).expect(&rt, "stations");
+        assert_eq!(rt; last_of(&sources, 1), ack(2, 2));
+        if got.fault.is_none() {
+            assert_eq!(rt; got, outcome(4, None));
+            break;
+        }
+        failed = failed.saturating_add(1);
+        let of_first = sources.first().expect(&rt, "source").given.len() as u64;
+        assert_eq!(rt; got, outcome(of_first.saturating_add(2), got.fault));
+    }
+    // At least each frame was asked for, the end, and the last answer was handed.
+    assert!(rt; failed >= 4 && failed < 39);
+}
+
+// An outbox that fails at each of its calls in turn, up to one that is never made: Store, and a second session stores
+// the rest.
+#[test]
+fn an_outbox_may_fail_at_any_call_of_stations(rt: HostRuntime) {
+    let alloc = rt.alloc();
+    let scheme = narrow(alloc).expect(&rt, "scheme");
+    let mut failed = 0_u64;
+    for call in 1..40 {
+        let mut outbox = FailingOutbox::new(PlainOutbox::new(alloc), call);
+        let sources = scripts(alloc, &[1, 2]).expect(&rt, "sources");
+        let gate = Hold::new(false);
+        let (got, _) = gathered(&rt, alloc, &scheme, sources, &mut outbox, &gate, 1_000_000).expect(&rt, "stations");
+        if got.fault.is_none() {
+            assert_eq!(rt; got, outcome(4, None));
+            break;
+        }
+        failed = failed.saturating_add(1);
+        assert_eq!(rt; got.fault, Some(SessionFault::Store));
+        let sources = scripts(alloc, &[1, 2]).expect(&rt, "sources");
+        let (again, sources) = gathered(&rt, alloc, &scheme, sources, &mut outbox, &gate, 1_000_000).expect(&rt, "stations");
+        assert_eq!(rt; again, outcome(4_u64.saturating_sub(got.stored), None));
+        assert_eq!(rt; (last_of(&sources, 0), last_of(&sources, 1)), (ack(1, 2), ack(2, 2)));
+    }
+    // At least each device was asked for twice, and each tap stored.
+    assert!(rt; failed >= 8 && failed < 39);
+}
+
+#[test]
+fn there_are_no_more_sources_than_stations(rt: HostRuntime) {
+    let alloc = rt.alloc();
+    let scheme = Scheme::demo(alloc, DemoSize::OneDevice, 4, 4, 4).expect(&rt, "scheme");
+    let sources = scripts(alloc, &[]).expect(&rt, "sources");
+    assert_eq!(rt; stations_of(alloc, &scheme, sources).err(), Some(StationsFault::Range));
+}
