@@ -210,10 +210,10 @@ section_says {S} sc talks a b c n1 before mid after left halt s are o begun clea
         last = subst (λ x. AllByRecursion (history.IsAnswerFrom sc x) s.last) (sym value) (s.from clean (λ live. begun.fits));
       };
       stored = (
-        let m = s.written.counted clean begun.going begun.fits in
-        let n = new_is a.value es ∙ ap (λ x. new_count x es) (sym begun.same) in
-        omega (arith, m, n)
-      );
+          let m = s.written.counted clean begun.going begun.fits in
+          let n = new_is a.value es ∙ ap (λ x. new_count x es) (sym begun.same) in
+          omega (arith, m, n)
+          );
       others = λ station none.
           let none_mid : IsNoneOf station mid = λ k d lt same. (let l = o.len in none k d (omega (arith, lt, l)) (same ∙ (o.each k d (omega (arith, lt, l))).1)) in
           let both = s.others station none_mid in
@@ -266,8 +266,8 @@ told_all {S} sc talks all left t h last told old new e put = record {
       ∙ append_assoc (talks old.source).answered (map frame_for g.handed ++ one) two);
   keeps = subst (λ (l : List AckItem). Keeps (l ++ last) ((map frame_for g.handed ++ one) ++ two)) parts
       (keeps_append (g.handed ++ (g.lost ++ e.line.items)) last (map frame_for g.handed ++ one) two
-        (keeps_append g.handed (g.lost ++ e.line.items) (map frame_for g.handed) one (keeps_all g.handed) (keeps_append g.lost e.line.items [] one (keeps_none g.lost) e.line.handed.handed.keeps))
-        e.answered.handed.keeps);
+      (keeps_append g.handed (g.lost ++ e.line.items) (map frame_for g.handed) one (keeps_all g.handed) (keeps_append g.lost e.line.items [] one (keeps_none g.lost) e.line.handed.handed.keeps))
+      e.answered.handed.keeps);
   whole = λ none.
       let last_one = e.answered.handed.whole none in
       let line_one = e.line.handed.handed.whole last_one.0 in

@@ -296,11 +296,7 @@ fn session<S: Source + Send, O: Outbox + Send, G: Gate + Sync, R: Threads + Wait
 }
 
 // Adds a station's fault, if it met one.
-fn list_fault(
-    station: StationId,
-    fault: Option<StationFault>,
-    faults: &mut Vec<SessionFault>,
-)
+fn list_fault(station: StationId, fault: Option<StationFault>, faults: &mut Vec<SessionFault>)
     requires { vec_len faults.old + 1 ≤ vec_capacity faults.old }
     ensures listed { faults.new.items ≡ faults.old.items ++ faults_at station fault }
     ensures few { vec_len faults.new ≤ vec_len faults.old + 1 }

@@ -44,10 +44,7 @@ pub fn stations_of<S: Drop>(
         let Ok(collector) = Collector::new(alloc, scheme, id) else {
             return Err(StationsFault::Memory);
         };
-        if stations
-            .insert(0, Station::new(collector, source))
-            .is_err()
-        {
+        if stations.insert(0, Station::new(collector, source)).is_err() {
             return Err(StationsFault::Memory);
         }
     }

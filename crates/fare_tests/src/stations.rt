@@ -83,7 +83,9 @@ impl Script {
     // The frame that it was answered last, and the one before.
     fn last_two(&self) -> (Option<Frame>, Option<Frame>) {
         let count = self.answered.len();
-        let before = count.checked_sub(2).and_then(|place| self.answered.get(place).copied());
+        let before = count
+            .checked_sub(2)
+            .and_then(|place| self.answered.get(place).copied());
         (before, self.answered.last().copied())
     }
 }
@@ -275,7 +277,12 @@ fn stations_and_a_writer_take_turns(rt: HostRuntime) {
 // Each link is accepted once and in its order, with any number of turns.
 #[test]
 fn stations_accept_link_by_link(rt: HostRuntime) {
-    let cases: [(&[u64], u64, u64); 4] = [(&[], 0, 0), (&[1, 2], 4, 2), (&[2, 1, 1, 2], 4, 2), (&[2, 1, 1], 2, 1)];
+    let cases: [(&[u64], u64, u64); 4] = [
+        (&[], 0, 0),
+        (&[1, 2], 4, 2),
+        (&[2, 1, 1, 2], 4, 2),
+        (&[2, 1, 1], 2, 1),
+    ];
     for (links, stored, upto) in cases {
         for turns in [0, 1, 1_000_000] {
             let gate = Hold::new(false);
@@ -292,13 +299,27 @@ fn a_statement_is_acknowledged(rt: HostRuntime) {
     let scheme = Scheme::demo(alloc, DemoSize::OneDevice, 4, 4, 4).expect(&rt, "scheme");
     let mut source = source_of(alloc, 1, &[]).expect(&rt, "source");
     let stated = statement(1, 19_723, 1, 0).expect(&rt, "statement");
-    source.frames.push(Frame::Stated(stated)).expect(&rt, "room");
+    source
+        .frames
+        .push(Frame::Stated(stated))
+        .expect(&rt, "room");
     let mut sources = Vec::new(alloc);
     sources.push(source).expect(&rt, "room");
     let mut outbox = PlainOutbox::new(alloc);
     let gate = Hold::new(false);
-    let (got, sources) = gathered(&rt, alloc, &scheme, sources, &mut outbox, &gate, 1_000_000).expect(&rt, "stations");
-    let day = DayAck::new(DeviceId::new(1).expect(&rt, "device"), Day::new(19_723).expect(&rt, "day"));
+    let (got, sources) = gathered(
+        &rt,
+        alloc,
+        &scheme,
+        sources,
+        &mut outbox,
+        &gate,
+        1_000_000,
+    ).expect(&rt, "stations");
+    let day = DayAck::new(
+        DeviceId::new(1).expect(&rt, "device"),
+        Day::new(19_723).expect(&rt, "day"),
+    );
     assert_eq!(rt; got, outcome(1, None));
     let answers = sources.first().expect(&rt, "source").last_two();
     assert_eq!(rt; answers, (Some(Frame::DayAcked(day)), ack(1, 0)));
@@ -316,7 +337,15 @@ fn a_source_may_be_seldom_ready(rt: HostRuntime) {
         }
         let mut outbox = PlainOutbox::new(alloc);
         let gate = Hold::new(false);
-        let (got, sources) = gathered(&rt, alloc, &scheme, sources, &mut outbox, &gate, turns).expect(&rt, "stations");
+        let (got, sources) = gathered(
+            &rt,
+            alloc,
+            &scheme,
+            sources,
+            &mut outbox,
+            &gate,
+            turns,
+        ).expect(&rt, "stations");
         assert_eq!(rt; (got, last_of(&sources, 1)), (outcome(6, None), ack(2, 3)));
     }
 }
@@ -335,7 +364,15 @@ fn a_source_may_fail_at_any_call(rt: HostRuntime) {
         }
         let mut outbox = PlainOutbox::new(alloc);
         let gate = Hold::new(false);
-        let (got, sources) = gathered(&rt, alloc, &scheme, sources, &mut outbox, &gate, 1_000_000).expect(&rt, "stations");
+        let (got, sources) = gathered(
+            &rt,
+            alloc,
+            &scheme,
+            sources,
+            &mut outbox,
+            &gate,
+            1_000_000,
+        ).expect(&rt, "stations");
         assert_eq!(rt; last_of(&sources, 1), ack(2, 2));
         if got.fault.is_none() {
             assert_eq!(rt; got, outcome(4, None));
@@ -360,7 +397,9 @@ fn an_outbox_may_fail_at_any_call_of_stations(rt: HostRuntime) {
         let mut outbox = FailingOutbox::new(PlainOutbox::new(alloc), call);
         let sources = scripts(alloc, &[1, 2]).expect(&rt, "sources");
         let gate = Hold::new(false);
-        let (got, _) = gathered(&rt, alloc, &scheme, sources, &mut outbox, &gate, 1_000_000).expect(&rt, "stations");
+        let (got, _) = gathered(&rt, alloc, &scheme, sources, &mut outbox, &gate, 1_000_000).expect(
+            &rt, "stations",
+        );
         if got.fault.is_none() {
             assert_eq!(rt; got, outcome(4, None));
             break;
@@ -368,9 +407,20 @@ fn an_outbox_may_fail_at_any_call_of_stations(rt: HostRuntime) {
         failed = failed.saturating_add(1);
         assert_eq!(rt; got.fault, Some(SessionFault::Store));
         let sources = scripts(alloc, &[1, 2]).expect(&rt, "sources");
-        let (again, sources) = gathered(&rt, alloc, &scheme, sources, &mut outbox, &gate, 1_000_000).expect(&rt, "stations");
+        let (again, sources) = gathered(
+            &rt,
+            alloc,
+            &scheme,
+            sources,
+            &mut outbox,
+            &gate,
+            1_000_000,
+        ).expect(&rt, "stations");
         assert_eq!(rt; again, outcome(4_u64.saturating_sub(got.stored), None));
-        assert_eq!(rt; (last_of(&sources, 0), last_of(&sources, 1)), (ack(1, 2), ack(2, 2)));
+        assert_eq!(rt;
+            (last_of(&sources, 0), last_of(&sources, 1)),
+            (ack(1, 2), ack(2, 2))
+        );
     }
     // At least each device was asked for twice, and each tap stored.
     assert!(rt; failed >= 8 && failed < 39);
@@ -381,5 +431,8 @@ fn there_are_no_more_sources_than_stations(rt: HostRuntime) {
     let alloc = rt.alloc();
     let scheme = Scheme::demo(alloc, DemoSize::OneDevice, 4, 4, 4).expect(&rt, "scheme");
     let sources = scripts(alloc, &[]).expect(&rt, "sources");
-    assert_eq!(rt; stations_of(alloc, &scheme, sources).err(), Some(StationsFault::Range));
+    assert_eq!(rt;
+        stations_of(alloc, &scheme, sources).err(),
+        Some(StationsFault::Range)
+    );
 }

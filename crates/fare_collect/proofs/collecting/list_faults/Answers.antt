@@ -19,13 +19,12 @@ loop-place-preserved g c =
     let r = inv.0 in
     let few = c.list_fault.ensures.few in
     let room = c.list_fault.ensures.room in
-    let one : faults_at c.station-station.result y.end.fault ≡ faults_at x.collector.station x.end.fault = λ i. faults_at (c.station-station.ensures i) (ap (λ (t : Station g.row.S.Denot). t.end.fault) same i) in
-    (
+    let one : faults_at c.station-station.result y.end.fault ≡ faults_at x.collector.station x.end.fault = λ i. faults_at (c.station-station.ensures i) (ap (λ (t : Station g.row.S.Denot). t.end.fault) same i) in (
       omega (arith, r, few, room),
       c.list_fault.ensures.listed
-      ∙ ((λ i. inv.1 i ++ one i)
-      ∙ (append_assoc c.args.faults.now.items (station_faults (take place all)) (faults_at x.collector.station x.end.fault)
-      ∙ ap (λ l. c.args.faults.now.items ++ l) (sym (faults_next all place x lt (ap (slice_index_or all place) c.index-stations-place.is))))),
+          ∙ ((λ i. inv.1 i ++ one i)
+          ∙ (append_assoc c.args.faults.now.items (station_faults (take place all)) (faults_at x.collector.station x.end.fault)
+          ∙ ap (λ l. c.args.faults.now.items ++ l) (sym (faults_next all place x lt (ap (slice_index_or all place) c.index-stations-place.is))))),
     )
 
 pub returns : goal.returns

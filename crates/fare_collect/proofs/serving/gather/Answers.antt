@@ -32,8 +32,8 @@ returns-clause-gathered g c =
       others = λ station none.
           let both = was.others station none in
           let more : of_station station rest.items ≡ [] = rest.others station (λ k d lt e.
-              let at : k < length c.args.stations.now = let l = was.len in omega (arith, lt, l) in
-              none k d at (e ∙ (was.each k d (element s.new.hears.items k (omega (arith, at, hn, ln))) at).named)) in
+          let at : k < length c.args.stations.now = let l = was.len in omega (arith, lt, l) in
+          none k d at (e ∙ (was.each k d (element s.new.hears.items k (omega (arith, at, hn, ln))) at).named)) in
           (filter-append _ was.all rest.items ∙ (λ i. both.0 i ++ more i), both.1);
       len = rest.len ∙ was.len;
       written = written_then sc a b d was.all rest.items c.args.tellers.now s.new.tellers s.new.tellers c.args.stored.now s.new.stored r.new.stored r.result
