@@ -14,6 +14,8 @@ use Rattle.fare_source.specs.Talking.{Talk}
 use Rattle.fare_session.specs.Served.{Rose}
 use Rattle.fare_collect.specs.declared.fault.WriterFault.{WriterFault}
 use Rattle.fare_collect.specs.declared.fault.WriterFault.TheVariants as writer
+use Rattle.fare_collect.specs.declared.fault.StationFault.{StationFault}
+use Rattle.fare_collect.specs.declared.fault.StationFault.TheVariants.{Source, Unexpected}
 use Rattle.fare_collect.specs.declared.station.Station.{Station}
 use Rattle.fare_collect.specs.Writing.{as_writer, Wrote}
 use Rattle.fare_collect.specs.Resting.{IsNoneOf}
@@ -126,6 +128,8 @@ nothing {S} sc talks a b f before after w wrote o other rose = record {
         keeps = λ fit. refl;
         whole = λ fit none. refl;
         named = e.1;
+        cause = λ is. absurd (let q : ◌≡◌ {A = Option StationFault} None (Some Source) = sym e.2 ∙ is in cc);
+        unexpected = λ is. absurd (let q : ◌≡◌ {A = Option StationFault} None (Some Unexpected) = sym e.2 ∙ is in cc);
       };
   left_is = refl;
   finished = λ e. absurd (cc);

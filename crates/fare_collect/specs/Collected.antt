@@ -9,7 +9,7 @@ use Rattle.fare_collector.specs.Collecting.{is_id, next_in}
 use Rattle.fare_store.specs.Standing.{Standing}
 use Rattle.fare_store.specs.OutboxWords.{OutboxValue}
 use Rattle.fare_history.specs.Serving.{in_hand}
-use Rattle.fare_history.specs.Gathering.{is_new, done_by, storing, storing_all, Entry, Gathering, accepted_by, all_answers, answers_to, of_station, IsGathering}
+use Rattle.fare_history.specs.Gathering.{is_new, done_by, storing, storing_all, items_of, Entry, Gathering, accepted_by, all_answers, answers_to, of_station, IsGathering}
 use Rattle.fare_history.specs.AcceptedLinks.{arrivals}
 use Rattle.fare_history.specs.Plainly.{IsRefusedByOutbox}
 use Rattle.fare_history.specs.Holding.{MayHold, Leads}
@@ -28,7 +28,9 @@ use Rattle.fare_collect.specs.declared.collecting.CollectReport.{CollectReport}
 use Rattle.fare_collect.specs.declared.writing.Halt.{Halt}
 use Rattle.fare_collect.specs.Stations.{frame_for, held_list}
 use Rattle.fare_collect.specs.Resting.{IsNoneOf}
-use Rattle.fare_collect.specs.Ending.{Keeps, last_acks}
+use Rattle.fare_collect.specs.Ending.{Keeps, last_answers}
+use Rattle.fare_collect.specs.Noting.{days_named}
+use Rattle.fare_collect.specs.Arriving.{IsUnexpected}
 
 -- THE STATIONS
 -- each station's collector knows the devices of its station, and no other
@@ -95,8 +97,8 @@ pub record SaysOf {S : Type 0} (sc : SchemeValue) (stations : List (Station S)) 
   pub others : (station : ℕ) → IsNoneOf station stations → of_station sc station (accepted_by g) ≡ []
   -- an item was refused: it is the one in the hand
   pub refused : ended ≡ Some writer.Refused → (i : Item) × (g.hand ≡ Some i) × IsRefusedByOutbox (storing_all x g.entries) i
-  -- at the end each device's greatest link was acknowledged
-  pub last : ended ≡ None → g.last ≡ last_acks sc (storing_all x g.entries)
+  -- at the end each day was acknowledged that a statement named and of which those of all owners are held, and each device's greatest link
+  pub last : ended ≡ None → g.last ≡ last_answers sc (days_named sc (items_of g.entries)) (storing_all x g.entries)
 
 -- What became of a station: of the frames that its source gave all but one that is held went to its collector, what that accepted was put into the inbox, and the source was handed its devices' acknowledgements.
 pub record HasTalked {S : Type 0} (sc : SchemeValue) (talks : S → Talk) (xo xn : Standing OutboxValue) (g : Gathering) (old new : Station S) : Type 0 where
@@ -110,6 +112,9 @@ pub record HasTalked {S : Type 0} (sc : SchemeValue) (talks : S → Talk) (xo xn
   pub keeps : IsFitting xo xn → Keeps (answers_to sc old.collector.station (all_answers g)) kept
   pub whole : IsFitting xo xn → new.end.fault ≡ None → kept ≡ map frame_for (answers_to sc old.collector.station (all_answers g))
   pub named : new.collector.station ≡ old.collector.station
+  -- its fault has its cause: its source failed, or a frame came that no device sends
+  pub cause : new.end.fault ≡ Some station.Source → Rose (talks old.source).failures (talks new.source).failures
+  pub unexpected : new.end.fault ≡ Some station.Unexpected → (front : List Frame) × (f : Frame) × (frames ≡ front ++ f ∷ []) × IsUnexpected f
 
 -- A SESSION
 pub record IsCollected {S : Type 0} (sc : SchemeValue) (talks : S → Talk) (xo xn : Standing OutboxValue) (before after : List (Station S)) (stored left : ℕ) (ended : Option WriterFault) : Type 0 where
