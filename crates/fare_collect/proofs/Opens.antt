@@ -102,6 +102,7 @@ nothing {S} sc talks a b f before after w wrote o other rose = record {
     gathering = record { counted = λ device. tt; stored = tt; room = omega arith; last = tt };
     stored = omega arith;
     others = λ station none. refl;
+    known = tt;
     refused = λ e. let is : w ≡ writer.Refused = cc in absurd (other is);
     last = λ e. absurd (cc);
   };
@@ -130,10 +131,12 @@ nothing {S} sc talks a b f before after w wrote o other rose = record {
         named = e.1;
         cause = λ is. absurd (let q : ◌≡◌ {A = Option StationFault} None (Some Source) = sym e.2 ∙ is in cc);
         unexpected = λ is. absurd (let q : ◌≡◌ {A = Option StationFault} None (Some Unexpected) = sym e.2 ∙ is in cc);
+        none_held = λ at_end. refl;
       };
   left_is = refl;
   finished = λ e. absurd (cc);
   read = λ e. absurd (cc);
+  at_end = λ e. absurd (cc);
   cause = λ e. let is : w ≡ writer.Store = cc in rose is;
   stays = λ e. absurd (cc);
   follows = record { clean = wrote.clean; live = wrote.live; lawful = λ live lawful. (wrote.value live lawful).0 };
