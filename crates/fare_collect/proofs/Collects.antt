@@ -268,7 +268,6 @@ pub record IsToldAll {S : Type 0} (sc : SchemeValue) (talks : S → Talk) (told 
   pub none_held : new.end.ended ≡ true → held ≡ None
 
 told_all : {S : Type 0} (sc : SchemeValue) (talks : S → Talk) (all : List Arrived) (left : ℕ → List Arrived) (t : Teller) (h : HearPass) (last : List AckItem) (told : List AckItem) (old new : Station S) → HasEnded sc talks all left t h last old new → put_list t.pass ≡ told → IsToldAll sc talks told last old new
-unfolding handed_then
 told_all {S} sc talks all left t h last told old new e put = record {
   frames = g.frames;
   held = e.middle.end.held;

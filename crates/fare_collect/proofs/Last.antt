@@ -31,6 +31,12 @@ use Rattle.fare_collect.proofs.Places.{apart_by_place, same_by_place}
 abbrev pub Reads_upto : Standing OutboxValue → Standing OutboxValue → ℕ → Result ℕ Fault → Type 0
 Reads_upto b c device r = Reads b c (λ u. u ≡ b.value.upto device) r
 
+pub read_ok : (sc : SchemeValue) (a b c : Standing OutboxValue) (device u : ℕ) → IsSound b → Wrote sc a b [] None None → Reads_upto b c device (Ok u) → Wrote sc a c [] None None
+read_ok sc a b c device u sound was read = wrote_then sc a b c [] [] None None was (wrote_read sc b c None (u ≡ b.value.upto device) sound (called b c None ((c.value ≡ b.value) × (u ≡ b.value.upto device)) (λ v. ⊥) read))
+
+pub read_err : (sc : SchemeValue) (a b c : Standing OutboxValue) (device : ℕ) (f : Fault) → IsSound b → Wrote sc a b [] None None → Reads_upto b c device (Err f) → Wrote sc a c [] None (Some f)
+read_err sc a b c device f sound was read = wrote_then sc a b c [] [] None (Some f) was (wrote_read sc b c (Some f) (Unit {0}) sound (called b c (Some f) ((c.value ≡ b.value) × Unit {0}) (λ v. ⊥) read))
+
 -- ANSWERS TO THE STATIONS
 pub nothing_handed : {S : Type 0} (talks : S → Talk) (s : Station S) → IsHanded talks [] s s
 nothing_handed talks s = record { handed = handed_none _ _; collector = refl; held = refl; at_end = refl }

@@ -130,7 +130,7 @@ ended_well {S} sc talks a b c lines t0 t1 h0 h1 n0 n1 s0 s1 s2 s3 left result ha
   count = let n = got.count in let e = ap (λ h. length (in_hand h ++ got.inbox)) reads.hand in omega (arith, n, e);
   from = λ clean lawful. elim last.have.began [
     | inl none ↦ subst (λ (l : List AckItem). AllByRecursion (IsAnswerFrom sc (storing_all a.value got.written.entries)) l) (sym none) tt
-    | inr live ↦ subst (λ (x : OutboxValue). AllByRecursion (IsAnswerFrom sc x) last.answers) (holds lawful (live clean)).1 (last.have.from clean (λ alive. (holds lawful alive).0))
+    | inr live ↦ subst (λ (x : OutboxValue). AllByRecursion (IsAnswerFrom sc x) last.have.answers) (holds lawful (live clean)).1 (last.have.from clean (λ alive. (holds lawful alive).0))
   ];
   whole = λ e clean lawful. last.have.whole (reads.fine e) clean (λ alive. (holds lawful alive).0) ∙ ap (last_answers sc n1.days.keys) (holds lawful (last.read (reads.fine e) clean)).1;
 }

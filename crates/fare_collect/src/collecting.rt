@@ -1,5 +1,5 @@
 ghost use Rattle.fare_collect.specs.declared.fault.WriterFault.{WriterFault};
-ghost use Rattle.std.specs.Prelude.{◌≡◌, ◌+◌, ◌≤◌, ◌++◌, length, map, IfOk, IsErr, Option, vec_len, vec_capacity};
+ghost use Rattle.std.specs.Prelude.{◌≡◌, ◌+◌, ◌≤◌, ◌++◌, [], length, map, IfOk, IsErr, Option, vec_len, vec_capacity};
 ghost use Rattle.fare_collect.specs.Collected.{as_session, fault_at, faults_at, fault_of_halt, writer_faults, station_faults, HaveDevices, IsCollected};
 ghost use Rattle.fare_store.specs.Standing.{IsSound};
 ghost use Rattle.fare_collect.specs.Gathering.{in_hand};

@@ -64,7 +64,7 @@ returns-in-Err g c =
     handed (p.ensures.tellers.len ∙ made.lines_len) (p.ensures.hears.len ∙ made.lines_len) c.in-Err.ensures (last_bad sc talks b d c.hand_all.new.stations c.answer_last.new.stations (last_answers sc p.new.tally.days.keys) c.in-Err.fault c.in-Err.ensures) (p.ensures.whole c.in_default.is).1 (p.ensures.whole c.in_default.is).0)
 
 pub answer_last-requires-clause-order : goal.answer_last-requires-clause-order
-answer_last-requires-clause-order g c κs within =
+answer_last-requires-clause-order g c =
     let p = c.gather-halt in
     let made : AreNew (length c.args.stations.now) c.deref.result.now c.deref_mut.result.now c.into_parts-lines.result.2.items = (let r = c.requires in search rules) in
     let handed : AreHandedLeft g.S.Source.talk p.new.tellers p.new.hears.items p.new.stations c.hand_all.new.stations =
@@ -74,8 +74,8 @@ answer_last-requires-clause-order g c κs within =
     _ _ _ c.requires.order made p.ensures.gathered handed (p.ensures.tellers.len ∙ made.lines_len)
 
 pub answer_last-requires-clause-noted : goal.answer_last-requires-clause-noted
-answer_last-requires-clause-noted g c κs within =
+answer_last-requires-clause-noted g c =
     let p = c.gather-halt in
     let sc = c.args.scheme.now in
     let written = p.ensures.gathered.written in
-    subst (AreNoted sc) (sym (written.noted c.in_default.is)) (noted_all sc c.args.tally.now.days.keys (map item_of p.ensures.gathered.all) (subst (AreNoted sc) (sym c.requires.unnoted) tt))
+    subst (AreNoted sc) (sym (written.noted c.in_default.is)) (noted_all sc c.args.tally.now.days.keys (map item_of p.ensures.gathered.all) (subst (AreNoted sc) (sym c.requires.unnoted) (λ j d lt. absurd (omega (arith, lt)))))
