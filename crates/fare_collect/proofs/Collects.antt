@@ -1,6 +1,6 @@
 -- A session of which the threads ran, in the words of sessions.
-use Rattle.std.proofs.Common.{◌≡◌, ℕ, ◌+◌, ◌<◌, ◌≤◌, ◌==◌, Bool, true, false, if◌then◌else◌, List, [], ◌∷◌, ◌++◌, length, map, slice_index_or, Some, None, is_some, refl, sym, ap, ◌∙◌, subst, append_assoc, inl, inr, arith}
-use Rattle.std.specs.Prelude.{◌⊎◌, ◌≢◌, min, fold, Option, option_map, Result, Ok, Err}
+use Rattle.std.proofs.Common.{◌≡◌, ℕ, ◌+◌, ◌<◌, ◌==◌, Bool, true, false, if◌then◌else◌, List, [], ◌∷◌, ◌++◌, length, map, slice_index_or, Some, None, is_some, refl, sym, ap, ◌∙◌, subst, append_assoc, inl, inr, arith}
+use Rattle.std.specs.Prelude.{◌⊎◌, fold, Option, option_map, Ok}
 use Rattle.std.specs.List.{AllByRecursion}
 use Rattle.std.proofs.lemmas.List.{append-nil, map-append, length-map}
 use Rattle.std.proofs.lemmas.List.Elements.{filter-append}
@@ -23,20 +23,20 @@ use Rattle.fare_history.proofs.Stations.{stations_count}
 use Rattle.fare_history.proofs.LinkByLink.{arrivals_count_up}
 use Rattle.fare_source.specs.Talking.{Talk}
 use Rattle.fare_session.specs.Served.{Rose}
-use Rattle.fare_inbox_queue.specs.Inbox.{station_in, of_station}
+use Rattle.fare_inbox_queue.specs.Inbox.{of_station}
 use Rattle.fare_inbox_queue.specs.declared.arrived.Arrived.{Arrived}
 use Rattle.fare_inbox_queue.specs.declared.arrived.Arrived.TheVariants as arrived
-use Rattle.fare_inbox_queue.specs.LinePasses.{put_list, heard_list}
+use Rattle.fare_inbox_queue.specs.LinePasses.{put_list}
 use Rattle.fare_collect.specs.declared.tally.Tally.{Tally}
 use Rattle.fare_collect.specs.declared.fault.WriterFault.{WriterFault}
 use Rattle.fare_collect.specs.declared.fault.WriterFault.TheVariants as writer
 use Rattle.fare_collect.specs.declared.fault.StationFault.{StationFault}
-use Rattle.fare_collect.specs.declared.fault.StationFault.TheVariants.{Source, Unexpected, Memory}
+use Rattle.fare_collect.specs.declared.fault.StationFault.TheVariants.{Source, Unexpected}
 use Rattle.fare_collect.specs.declared.station.Station.{Station}
 use Rattle.fare_collect.specs.declared.station.Teller.{Teller}
 use Rattle.fare_inbox_queue.specs.declared.ack_passes.HearPass.{HearPass}
 use Rattle.fare_collect.specs.declared.writing.Halt.{Halt}
-use Rattle.fare_collect.specs.Gathering.{item_of, device_of, is_new, done_by, IsRefused, Entry, items_of, storing_all, AreEntries, new_count, in_hand, told_to}
+use Rattle.fare_collect.specs.Gathering.{item_of, is_new, done_by, Entry, items_of, storing_all, AreEntries, new_count, in_hand, told_to}
 use Rattle.fare_collect.specs.Arriving.{arrivals, IsUnexpected}
 use Rattle.fare_collect.specs.Writing.{store_fault, Leaves}
 use Rattle.fare_collect.specs.Stations.{SourceCounted, frame_for, held_list, hand_of, fault_of, RefusedBy, IsRefusedItem}
@@ -48,7 +48,7 @@ use Rattle.fare_collect.specs.Session.{HasGathered, HasEnded, HasSession}
 use Rattle.fare_collect.specs.Collected.{fault_of_halt, HaveDevices, first_links, IsFitting, IsStoredBy, SaysOf, HasTalked, IsCollected}
 use Rattle.fare_collect.proofs.Served.{element}
 use Rattle.fare_collect.proofs.Handed.{keeps_append, handed_then}
-use Rattle.fare_collect.proofs.Named.{Knows, IsNamed, AreNamed, named_append, named_arrivals, by_parts, named_part, items_arrive}
+use Rattle.fare_collect.proofs.Named.{Knows, AreNamed, named_arrivals, by_parts, named_part, items_arrive}
 use Rattle.fare_collect.proofs.Gathers.{entry_of, items_are, storing_is, new_is, stored_is, told_is, gathering_of, accepted_is, left_length}
 use Rattle.fare_collect.proofs.Opens.{HaveOpened, opened, opened_stations, resumed_first, first_known, here_or_not}
 

@@ -1,16 +1,14 @@
 -- One answer more.
-use Rattle.std.proofs.Common.{◌≡◌, ◌≢◌, ℕ, zero, suc, Some, ◌+◌, ◌<◌, ◌≤◌, List, [], ◌∷◌, ◌++◌, length, set, slice_index_or, arith, length-append, None, refl, sym, ap, ◌∙◌, subst, append_assoc, inl, inr}
-use Rattle.std.specs.Prelude.{◌⊎◌, Option, Ok, Err}
+use Rattle.std.proofs.Common.{◌≡◌, ℕ, zero, suc, Some, ◌+◌, ◌<◌, ◌≤◌, List, [], ◌∷◌, ◌++◌, length, set, slice_index_or, arith, length-append, None, refl, sym, ap, ◌∙◌, subst, append_assoc, inl, inr}
+use Rattle.std.specs.Prelude.{◌⊎◌, Option}
 use Rattle.std.proofs.lemmas.List.{append-nil, map-append, get_or_default, get_or-set_same, get_or-set_other, get_or_append_left, length-set}
 use Rattle.fare_frame.specs.declared.frame.Frame.{Frame}
 use Rattle.fare_record.specs.declared.ack_item.AckItem.{AckItem}
-use Rattle.fare_source.specs.declared.fault.SourceFault.{SourceFault}
-use Rattle.fare_source.specs.declared.fault.SourceFault.TheVariants as source
 use Rattle.fare_collect.specs.declared.fault.StationFault.{StationFault}
-use Rattle.fare_collect.specs.declared.fault.StationFault.TheVariants.{Source, Unexpected, Memory}
-use Rattle.fare_source.specs.Talking.{Talk, Hears, FailedCounted}
+use Rattle.fare_collect.specs.declared.fault.StationFault.TheVariants.{Source, Unexpected}
+use Rattle.fare_source.specs.Talking.{Talk}
 use Rattle.fare_session.specs.Served.{Rose}
-use Rattle.fare_collect.specs.Stations.{frame_for, as_station}
+use Rattle.fare_collect.specs.Stations.{frame_for}
 use Rattle.fare_inbox_queue.specs.declared.ack_passes.HearPass.{HearPass}
 use Rattle.fare_collect.specs.declared.station.Station.{Station}
 use Rattle.fare_collect.specs.declared.station.Teller.{Teller}

@@ -1,6 +1,6 @@
 -- What is noted of the days that statements name.
 use Rattle.std.proofs.Common.{◌≡◌, ℕ, suc, List, [], ◌∷◌, Some, None, refl, arith}
-use Rattle.std.specs.Prelude.{Option, fold, All}
+use Rattle.std.specs.Prelude.{Option, fold}
 use Rattle.std.proofs.lemmas.Map.Views.{All-insert_key}
 use Rattle.fare_record.specs.Values.{StatementValue}
 use Rattle.fare_record.specs.declared.item.Item.{Item}

@@ -1,7 +1,6 @@
 -- What a session of the stations and the writer did, whatever its outbox might have held when it began.
-use Rattle.std.specs.Prelude.{◌≡◌, ◌≢◌, ◌⊎◌, ℕ, ◌+◌, ◌<◌, ◌≤◌, min, true, is_some, List, [], ◌∷◌, ◌++◌, length, map, slice_index_or, Option, Some, None, if◌then◌else◌}
+use Rattle.std.specs.Prelude.{◌≡◌, ◌⊎◌, ℕ, ◌+◌, ◌<◌, min, true, is_some, List, [], ◌∷◌, ◌++◌, length, map, slice_index_or, Option, Some, None, if◌then◌else◌}
 use Rattle.std.specs.List.{AllByRecursion}
-use Rattle.fare_record.specs.declared.ack_item.AckItem.{AckItem}
 use Rattle.fare_record.specs.declared.item.Item.{Item}
 use Rattle.fare_frame.specs.declared.frame.Frame.{Frame}
 use Rattle.fare_scheme.specs.Values.{SchemeValue}
@@ -24,8 +23,6 @@ use Rattle.fare_collect.specs.declared.fault.WriterFault.TheVariants as writer
 use Rattle.fare_collect.specs.declared.fault.StationFault.{StationFault}
 use Rattle.fare_collect.specs.declared.fault.StationFault.TheVariants as station
 use Rattle.fare_collect.specs.declared.station.Station.{Station}
-use Rattle.fare_collect.specs.declared.station.End.{End}
-use Rattle.fare_collect.specs.declared.collecting.CollectReport.{CollectReport}
 use Rattle.fare_collect.specs.declared.writing.Halt.{Halt}
 use Rattle.fare_collect.specs.Stations.{frame_for, held_list}
 use Rattle.fare_collect.specs.Resting.{IsNoneOf}

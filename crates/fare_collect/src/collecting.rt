@@ -321,16 +321,7 @@ pub fn collect<
 {
     let mut faults = Vec::with_capacity(alloc, stations.len() + 1)?;
     let mut tally = Tally::new(alloc);
-    let (left, fault) = session(
-        rt,
-        alloc,
-        scheme,
-        gate,
-        turns,
-        &mut tally,
-        outbox,
-        stations,
-    );
+    let (left, fault) = session(rt, alloc, scheme, gate, turns, &mut tally, outbox, stations);
     if let Some(fault) = fault {
         faults.push_reserved(of_writer(fault));
     }

@@ -1,9 +1,6 @@
-use Rattle.std.proofs.Common.{subst}
-use Rattle.std.specs.Prelude.{Result, Ok, Err}
-use Rattle.fare_store.specs.declared.fault.Fault.{Fault}
-use Rattle.fare_collect.specs.Ending.{last_acks, last_answers, HaveSent}
+use Rattle.fare_collect.specs.Ending.{last_acks}
 use Rattle.fare_collect.specs.Noting.{day_acks}
-use Rattle.fare_collect.proofs.Last.{have_more, no_last, stations_after}
+use Rattle.fare_collect.proofs.Last.{have_more, stations_after}
 use Rattle.fare_collect.proofs.answering.answer_last.Goals as goal
 
 pub last_all-requires : goal.last_all-requires

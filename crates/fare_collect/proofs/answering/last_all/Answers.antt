@@ -1,10 +1,8 @@
-use Rattle.std.proofs.Common.{◌≡◌, ◌+◌, List, [], ◌∷◌, Some, ap, sym, subst, ◌∙◌, refl, arith}
+use Rattle.std.proofs.Common.{◌≡◌, [], ◌∷◌, Some, sym, subst, ◌∙◌, arith}
 use Rattle.fare_scheme.specs.Words.{id_at}
-use Rattle.fare_record.specs.declared.ack_item.AckItem.{AckItem}
 use Rattle.fare_record.specs.declared.ack_item.AckItem.TheVariants.{Upto}
-use Rattle.fare_history.specs.Gathering.{device_answered}
 use Rattle.fare_collect.specs.Ending.{AreSent}
-use Rattle.fare_collect.proofs.Last.{AreAnswering, answering_none, answering_more, answering_failed, answered_all, stations_after, at_known}
+use Rattle.fare_collect.proofs.Last.{answering_none, answering_more, answering_failed, answered_all, stations_after, at_known}
 use Rattle.fare_collect.proofs.answering.last_all.Goals as goal
 
 pub loop-position-init : goal.loop-position-init

@@ -1,4 +1,3 @@
-use Rattle.fare_collect.specs.Resuming.{AreStations}
 use Rattle.fare_collect.proofs.Last.{AreAnswering}
 use Rattle.fare_collect.proofs.answering.last_all.Given as goal
 

@@ -1,4 +1,4 @@
-use Rattle.std.proofs.Common.{◌≡◌, ◌∷◌, ◌++◌, [], List, Some, None, true, false, refl, sym, ap, subst, ◌∙◌, append_assoc, rules}
+use Rattle.std.proofs.Common.{◌≡◌, ◌∷◌, ◌++◌, [], List, true, false, refl, sym, ap, subst, ◌∙◌, append_assoc, rules}
 use Rattle.std.proofs.lemmas.List.{append-nil}
 use Rattle.std.proofs.lemmas.Map.Iter.{rest_more}
 use Rattle.std.specs.Map.Iter.{deref}
@@ -50,8 +50,7 @@ loop-position-preserved-then-held g c =
     let k = c.in-Some.field-0.now in
     let rest : c.loop-position.position-iterator ≡ k ∷ c.next.new.self = rest_more deref _ _ _ _ c.in-Some.is c.next.ensures.steps in
     let asks : Asks b d (λ all. all ≡ are_all_stated sc b.value k.1 k.2) (Ok true) = subst (λ (x : Bool). Asks b d (λ all. all ≡ are_all_stated sc b.value k.1 k.2) (Ok x)) c.if-held.true c.in-Ok.ensures.asks in
-    let sent = subst (λ (v : _). AreSent sc talks (Day v ∷ []) now next) c.new.ensures c.send.ensures.sent in
-    (
+    let sent = subst (λ (v : _). AreSent sc talks (Day v ∷ []) now next) c.new.ensures c.send.ensures.sent in (
       inv.0 ++ k ∷ [],
       append_assoc inv.0 (k ∷ []) c.next.new.self ∙ (ap (λ (l : List Key). inv.0 ++ l) (sym rest) ∙ inv.1),
       noted_rest sc k c.next.new.self (subst (AreNoted sc) rest inv.2),
@@ -72,8 +71,7 @@ loop-position-preserved g c =
     let now = c.loop-position.stations in
     let k = c.in-Some.field-0.now in
     let rest : c.loop-position.position-iterator ≡ k ∷ c.next.new.self = rest_more deref _ _ _ _ c.in-Some.is c.next.ensures.steps in
-    let asks : Asks b d (λ all. all ≡ are_all_stated sc b.value k.1 k.2) (Ok false) = subst (λ (x : Bool). Asks b d (λ all. all ≡ are_all_stated sc b.value k.1 k.2) (Ok x)) c.if-held.false c.in-Ok.ensures.asks in
-    (
+    let asks : Asks b d (λ all. all ≡ are_all_stated sc b.value k.1 k.2) (Ok false) = subst (λ (x : Bool). Asks b d (λ all. all ≡ are_all_stated sc b.value k.1 k.2) (Ok x)) c.if-held.false c.in-Ok.ensures.asks in (
       inv.0 ++ k ∷ [],
       append_assoc inv.0 (k ∷ []) c.next.new.self ∙ (ap (λ (l : List Key). inv.0 ++ l) (sym rest) ∙ inv.1),
       noted_rest sc k c.next.new.self (subst (AreNoted sc) rest inv.2),

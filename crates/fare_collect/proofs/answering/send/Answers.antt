@@ -1,4 +1,4 @@
-use Rattle.std.proofs.Common.{◌≡◌, ℕ, ◌∷◌, [], Some, List, ap, sym, subst, ◌∙◌, slice_index_or, arith}
+use Rattle.std.proofs.Common.{◌≡◌, Some, ap, sym, ◌∙◌, slice_index_or, arith}
 use Rattle.fare_scheme.specs.Words.{station_of, position_of_station}
 use Rattle.fare_history.specs.Gathering.{device_answered}
 use Rattle.fare_collect.proofs.Last.{sent_past, sent_one}

@@ -1,10 +1,8 @@
-use Rattle.std.proofs.Common.{◌≡◌, ℕ, Some, None, sym, subst, arith}
-use Rattle.std.specs.Prelude.{Option, Ok, Err}
+use Rattle.std.proofs.Common.{ℕ, Some, sym, subst}
+use Rattle.std.specs.Prelude.{Option, Ok}
 use Rattle.fare_collect.specs.declared.fault.WriterFault.{WriterFault}
 use Rattle.fare_collect.specs.declared.fault.WriterFault.TheVariants.{Memory}
-use Rattle.fare_collect.specs.Writing.{as_writer}
-use Rattle.fare_collect.specs.Collected.{fault_of_halt, IsCollected}
-use Rattle.fare_collect.specs.Session.{HasSession}
+use Rattle.fare_collect.specs.Collected.{IsCollected}
 use Rattle.fare_collect.proofs.Opens.{begun_stations, opened, opened_stations, unread, no_memory}
 use Rattle.fare_collect.proofs.Collects.{ran}
 use Rattle.fare_collect.proofs.collecting.session.Goals as goal

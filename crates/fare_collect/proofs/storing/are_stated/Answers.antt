@@ -65,8 +65,9 @@ loop-place-preserved g c =
     let at : id_at owners k ≡ Some owner = sym c.owner_at.ensures.value ∙ c.in-Some.is in
     let same : found.day ≡ day = grind (arith, common_steps, nat_tests) in
     let next : suc k ≡ k + 1 = omega arith in
-    let one : Reads before now (λ n. IsNextStatement before.value.stated owner d day n) (Ok (Some found)) = subst (λ (o : Option StatementValue). Reads before now (λ n. IsNextStatement before.value.stated owner d day n) (Ok o)) c.in-Some-2.is c.in_ok-statement.ensures in
-    (reads_say first now ((before.value ≡ first.value) × so × IsNextStatement before.value.stated owner d day (Some found)) more None
-    (λ is. (is.0, subst (λ n. list_all (λ o. is_some (first.value.stated o.0 d day)) (take n owners) ≡ true) next (one_more (λ o. is_some (first.value.stated o d day)) owners k owner at (here first.value.stated owner d day found (subst (λ (v : OutboxValue). IsNextStatement v.stated owner d day (Some found)) is.1.0 is.1.2) same) is.1.1)))
-    (reads_then first before now so (IsNextStatement before.value.stated owner d day (Some found)) None c.loop-place.invariant.0 one),
-    inr (λ clean. c.loop-place.invariant.0.live (one.live (one.stays refl clean))))
+    let one : Reads before now (λ n. IsNextStatement before.value.stated owner d day n) (Ok (Some found)) = subst (λ (o : Option StatementValue). Reads before now (λ n. IsNextStatement before.value.stated owner d day n) (Ok o)) c.in-Some-2.is c.in_ok-statement.ensures in (
+      reads_say first now ((before.value ≡ first.value) × so × IsNextStatement before.value.stated owner d day (Some found)) more None
+          (λ is. (is.0, subst (λ n. list_all (λ o. is_some (first.value.stated o.0 d day)) (take n owners) ≡ true) next (one_more (λ o. is_some (first.value.stated o d day)) owners k owner at (here first.value.stated owner d day found (subst (λ (v : OutboxValue). IsNextStatement v.stated owner d day (Some found)) is.1.0 is.1.2) same) is.1.1)))
+          (reads_then first before now so (IsNextStatement before.value.stated owner d day (Some found)) None c.loop-place.invariant.0 one),
+      inr (λ clean. c.loop-place.invariant.0.live (one.live (one.stays refl clean))),
+    )

@@ -1,4 +1,4 @@
-use Rattle.std.proofs.Common.{◌≡◌, ◌∷◌, [], Some, None, List, ℕ, sym, ap, subst, ◌∙◌, inl, inr}
+use Rattle.std.proofs.Common.{◌≡◌, ◌∷◌, [], Some, None, List, ℕ, sym, ap, subst, ◌∙◌}
 use Rattle.std.specs.Prelude.{Ok, Err, Bool}
 use Rattle.fare_collect.specs.Writing.{Asks}
 use Rattle.fare_inbox_queue.specs.declared.arrived.Arrived.{Arrived}
