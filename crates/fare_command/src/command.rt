@@ -98,7 +98,9 @@ fn plain_serve_command<'a>(alloc: Global) -> Result<Command<'a>, AllocError>
     ensures { IfOk result (λ c. (app_of c ≡ plain_serve_app) × ((out-Command c).has_globals ≡ false)) }
 {
     Command::new(alloc, "serve")
-        .about("Reads a scheme, collects what its stations send over sockets, and serves the owners")
+        .about(
+            "Reads a scheme, collects what its stations send over sockets, and serves the owners",
+        )
         .arg(port_arg(alloc))?
         .arg(turns_arg(alloc))?
         .arg(outbox_arg(alloc))

@@ -19,6 +19,7 @@ const MOST_MILLIS: u32 = 60_000;
 
 /// How many milliseconds a read of a line waits, and a write, where nothing else is asked for.
 const READ_MILLIS: u32 = 10;
+
 const WRITE_MILLIS: u32 = 1_000;
 
 /// What the program is asked to do.
