@@ -36,3 +36,11 @@ no_port = refl
 no_turns : fault_of hub_app (codes "serve" ∷ codes "--port" ∷ codes "0" ∷ codes "--turns" ∷ codes "0" ∷ codes "--outbox" ∷ codes "x" ∷ []) ≡ kind.ValueValidation ∷ []
 unfolding clap_on_literals
 no_turns = refl
+
+waits : fault_of hub_app (codes "serve" ∷ codes "--port" ∷ codes "1" ∷ codes "--turns" ∷ codes "1" ∷ codes "--outbox" ∷ codes "x" ∷ codes "--read-ms" ∷ codes "5" ∷ codes "--write-ms" ∷ codes "60000" ∷ []) ≡ []
+unfolding clap_on_literals
+waits = refl
+
+no_wait : fault_of hub_app (codes "serve" ∷ codes "--port" ∷ codes "1" ∷ codes "--turns" ∷ codes "1" ∷ codes "--outbox" ∷ codes "x" ∷ codes "--read-ms" ∷ codes "0" ∷ []) ≡ kind.ValueValidation ∷ []
+unfolding clap_on_literals
+no_wait = refl

@@ -26,12 +26,18 @@ IsNumber bits (Some text) n = ParsesUnsigned {E = ℕ} bits 10 text (Ok n)
 abbrev pub IsTurns : Option Text → ℕ → Type 0
 IsTurns text n = IsNumber 32 text n × (1 ≤ n) × (n ≤ 1000000000)
 
+-- a number of milliseconds, 1 to 60,000; this one where none is given
+abbrev pub IsMillis : ℕ → Option Text → ℕ → Type 0
+IsMillis default None n = n ≡ default
+IsMillis default (Some text) n = ParsesUnsigned {E = ℕ} 32 10 text (Ok n) × (1 ≤ n) × (n ≤ 60000)
+
 -- the job of a subcommand with these matches
 abbrev pub JobIn : Text → List Row → Job → Type 0
 JobIn name rows (Replay sql) = (name ≡ codes "replay") × IsStore (first_of (codes "store") rows) sql
-JobIn name rows (Serve port turns path) = (name ≡ codes "serve")
+JobIn name rows (Serve port turns path read_millis write_millis) = (name ≡ codes "serve")
     × IsNumber 16 (first_of (codes "port") rows) port × IsTurns (first_of (codes "turns") rows) turns
     × (first_of (codes "outbox") rows ≡ Some path.now)
+    × IsMillis 10 (first_of (codes "read-ms") rows) read_millis × IsMillis 1000 (first_of (codes "write-ms") rows) write_millis
 
 -- the job of the matches of the words
 abbrev pub JobOf : Option (Text × List Row) → Job → Type 0

@@ -1,7 +1,7 @@
 ghost use Rattle.std.specs.Prelude.{◌≡◌, IfOk, false};
 ghost use Rattle.clap.specs.Words.{app_of, rule_of, with_subcommand};
 ghost use Rattle.clap.specs.declared.builder.command.Command.TheViews.{out-Command};
-ghost use Rattle.fare_command.specs.CommandLine.{base_app, hub_app, replay_app, serve_app, store_rule, port_rule, turns_rule, outbox_rule};
+ghost use Rattle.fare_command.specs.CommandLine.{base_app, hub_app, plain_serve_app, replay_app, serve_app, store_rule, port_rule, turns_rule, outbox_rule, read_rule, write_rule};
 
 use clap::{Arg, ArgAction, Command};
 use std::alloc::{AllocError, Global};
@@ -59,6 +59,32 @@ fn outbox_arg<'a>(alloc: Global) -> Arg<'a>
         .help("The database of the outbox; owner O's ledger lies at PATH.O")
 }
 
+/// `--read-ms MILLIS`
+fn read_arg<'a>(alloc: Global) -> Arg<'a>
+    ensures rule { rule_of result ≡ read_rule }
+    ensures local { result.global ≡ false }
+{
+    Arg::new(alloc, "read-ms")
+        .long("read-ms")
+        .value_name("MILLIS")
+        .action(ArgAction::Set)
+        .value_parser(clap::value_parser!(u32).range(1..=60_000))
+        .help("How long a read of a line waits, 1 to 60,000 (10 if not given)")
+}
+
+/// `--write-ms MILLIS`
+fn write_arg<'a>(alloc: Global) -> Arg<'a>
+    ensures rule { rule_of result ≡ write_rule }
+    ensures local { result.global ≡ false }
+{
+    Arg::new(alloc, "write-ms")
+        .long("write-ms")
+        .value_name("MILLIS")
+        .action(ArgAction::Set)
+        .value_parser(clap::value_parser!(u32).range(1..=60_000))
+        .help("How long a write to a line waits, 1 to 60,000 (1,000 if not given)")
+}
+
 fn replay_command<'a>(alloc: Global) -> Result<Command<'a>, AllocError>
     ensures { IfOk result (λ c. (app_of c ≡ replay_app) × ((out-Command c).has_globals ≡ false)) }
 {
@@ -67,14 +93,25 @@ fn replay_command<'a>(alloc: Global) -> Result<Command<'a>, AllocError>
         .arg(store_arg(alloc))
 }
 
-fn serve_command<'a>(alloc: Global) -> Result<Command<'a>, AllocError>
-    ensures { IfOk result (λ c. (app_of c ≡ serve_app) × ((out-Command c).has_globals ≡ false)) }
+/// `serve`, with what it has to be told.
+fn plain_serve_command<'a>(alloc: Global) -> Result<Command<'a>, AllocError>
+    ensures { IfOk result (λ c. (app_of c ≡ plain_serve_app) × ((out-Command c).has_globals ≡ false)) }
 {
     Command::new(alloc, "serve")
-        .about("Collects the frames of stations over sockets and forwards them to the owners")
+        .about(
+            "Reads a scheme, collects what its stations send over sockets, and serves the owners",
+        )
         .arg(port_arg(alloc))?
         .arg(turns_arg(alloc))?
         .arg(outbox_arg(alloc))
+}
+
+fn serve_command<'a>(alloc: Global) -> Result<Command<'a>, AllocError>
+    ensures { IfOk result (λ c. (app_of c ≡ serve_app) × ((out-Command c).has_globals ≡ false)) }
+{
+    plain_serve_command(alloc)?
+        .arg(read_arg(alloc))?
+        .arg(write_arg(alloc))
 }
 
 /// The program, with no subcommand yet.

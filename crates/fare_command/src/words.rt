@@ -2,7 +2,7 @@ ghost use Rattle.std.specs.Prelude.{◌≡◌, ℕ, Bool, None, IfOk, IfErr, map
 ghost use Rattle.clap.specs.Words.{rows_of, found_of, first_of, subcommand_of, subcommand_rows_of};
 ghost use Rattle.clap.specs.Values.{kind_of};
 ghost use Rattle.fare_command.specs.CommandLine.{hub_app};
-ghost use Rattle.fare_command.specs.Jobs.{IsStore, IsNumber, IsTurns, JobIn, JobOf, RefusedFor, FailsOn, IsSound, Tells};
+ghost use Rattle.fare_command.specs.Jobs.{IsStore, IsMillis, IsNumber, IsTurns, JobIn, JobOf, RefusedFor, FailsOn, IsSound, Tells};
 ghost use Rattle.fare_command.specs.declared.words.WordsFault.TheVariants.{Memory};
 
 use crate::command::hub_command;
@@ -14,6 +14,14 @@ use thiserror::Error;
 /// The most turns that may be asked for.
 const MOST_TURNS: u32 = 1_000_000_000;
 
+/// The most milliseconds that a read or a write of a line may wait.
+const MOST_MILLIS: u32 = 60_000;
+
+/// How many milliseconds a read of a line waits, and a write, where nothing else is asked for.
+const READ_MILLIS: u32 = 10;
+
+const WRITE_MILLIS: u32 = 1_000;
+
 /// What the program is asked to do.
 #[derive(Debug, Drop)]
 pub enum Job<'a> {
@@ -21,11 +29,14 @@ pub enum Job<'a> {
     Replay {
         sql: bool,
     },
-    /// Serve stations on a port of 127.0.0.1, for a number of turns, with the outbox's database at a path.
+    /// Serve stations on a port of 127.0.0.1, for a number of turns, with the outbox's database at a path; a read of
+    /// a line and a write wait so many milliseconds.
     Serve {
         port: u16,
         turns: u32,
         path: &'a str,
+        read_millis: u32,
+        write_millis: u32,
     },
 }
 
@@ -129,6 +140,27 @@ fn turns_of(alloc: Global, matches: &ArgMatches<'_>) -> Result<u32, WordsFault>
     }
 }
 
+/// The milliseconds of this option, or the default where it is not given.
+fn millis_of(
+    alloc: Global,
+    matches: &ArgMatches<'_>,
+    option: &str,
+    default: u32,
+) -> Result<u32, WordsFault>
+    ensures ok { IfOk result (IsMillis default (first_of option.now (rows_of (found_of matches.now)))) }
+    ensures err { IfErr result (RefusedFor ((n : ℕ) → IsMillis default (first_of option.now (rows_of (found_of matches.now))) n → ⊥)) }
+{
+    let Some(millis) = text_of(matches, option) else {
+        return Ok(default);
+    };
+    match millis.parse::<u32>() {
+        Ok(millis) if millis >= 1 && millis <= MOST_MILLIS => Ok(millis),
+        _ => Err(WordsFault::Refused(format!(in alloc;
+            "error: the milliseconds of --{option} are a number from 1 to 60,000\n"
+        )?)),
+    }
+}
+
 /// The path of the outbox's database.
 fn path_of<'a>(alloc: Global, matches: &ArgMatches<'a>) -> Result<&'a str, WordsFault>
     ensures ok { IfOk result (λ path. first_of (codes "outbox") (rows_of (found_of matches.now)) ≡ Some path.now) }
@@ -160,7 +192,15 @@ fn serve_job<'a>(alloc: Global, matches: &ArgMatches<'a>) -> Result<Job<'a>, Wor
     let port = port_of(alloc, matches)?;
     let turns = turns_of(alloc, matches)?;
     let path = path_of(alloc, matches)?;
-    Ok(Job::Serve { port, turns, path })
+    let read_millis = millis_of(alloc, matches, "read-ms", READ_MILLIS)?;
+    let write_millis = millis_of(alloc, matches, "write-ms", WRITE_MILLIS)?;
+    Ok(Job::Serve {
+        port,
+        turns,
+        path,
+        read_millis,
+        write_millis,
+    })
 }
 
 /// The job that clap's matches ask for.

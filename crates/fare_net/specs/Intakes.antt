@@ -15,6 +15,11 @@ pub record IsWaiting (v : IntakeValue) : Type 0 where
   pub pending : v.pending ≡ []
   pub live : v.stage ≡ Live
 
+-- no frame is there, and the stream is not read on
+pub record IsOver (v : IntakeValue) : Type 0 where
+  pub pending : v.pending ≡ []
+  pub stopped : v.stage ≢ Live
+
 -- what is behind the frames, at each stage
 abbrev pub IsBehind : Stage → List ℕ → Type 0
 IsBehind Live rest = IsRest rest

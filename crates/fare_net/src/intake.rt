@@ -1,5 +1,5 @@
 ghost use Rattle.std.specs.Prelude.{◌≡◌, ◌≤◌, take, length, IfOk, IsTrue, ◌↔◌};
-ghost use Rattle.fare_net.specs.Intakes.{fresh_intake, HasTaken, IsWaiting, Holds, Takes, stopped};
+ghost use Rattle.fare_net.specs.Intakes.{fresh_intake, HasTaken, IsOver, IsWaiting, Holds, Takes, stopped};
 
 use crate::MOST_BYTES;
 use crate::turn::feed_piece;
@@ -70,6 +70,13 @@ impl Intake {
         ensures holds { Holds self.now }
     {
         self.place >= self.frames.len() && self.stage == Stage::Live
+    }
+
+    // Whether nothing more can be taken off: the stream is not read on, and no frame is there.
+    pub(crate) fn is_over(&self) -> bool
+        ensures over { IsTrue result ↔ IsOver self.now }
+    {
+        self.place >= self.frames.len() && self.stage != Stage::Live
     }
 
     // How far it is.

@@ -1,8 +1,8 @@
-ghost use Rattle.std.specs.Prelude.{◌≡◌, ◌⊎◌, true, false, IfOk, IfErr, OnOk, OnErr, IsTrue, IsFalse, ◌-◌, Err};
+ghost use Rattle.std.specs.Prelude.{◌≡◌, ◌⊎◌, ◌↔◌, true, false, IfOk, IfErr, OnOk, OnErr, IsTrue, IsFalse, ◌-◌, Err};
 ghost use Rattle.std.specs.Io.KnownBytes.{Appends};
 ghost use Rattle.fare_frame.specs.Grammar.{frame_bytes};
 ghost use Rattle.fare_source.specs.Talking.{Waits, Gives, Hears};
-ghost use Rattle.fare_net.specs.Intakes.{IsWaiting};
+ghost use Rattle.fare_net.specs.Intakes.{IsOver, IsWaiting};
 ghost use Rattle.fare_net.specs.Sources.{Advances, Counts, Greets, HasGreeted, HasRead, HelloFails, IsStill, TakesOff, fresh_source, talk_of};
 
 use crate::answer::{send, spell};
@@ -112,6 +112,14 @@ impl<R: Read + Drop, W: Write + Drop> NetSource<R, W> {
             given: Log::new(),
             answered: Log::new(),
         })
+    }
+
+    /// Whether it gives no frame any more: its greeting was refused; or the stream is at its end or has failed, and all
+    /// frames before that were given.
+    pub fn is_over(&self) -> bool
+        ensures { IsTrue result ↔ (self.now.refused ≡ true) ⊎ IsOver self.now.intake }
+    {
+        self.refused || self.intake.is_over()
     }
 
     // One read, where it is waited for; the stream has failed where none is left.

@@ -6,6 +6,7 @@ use Rattle.fare_world.specs.declared.reply.Reply.{Reply}
 use Rattle.fare_lines.specs.declared.line.Line.{Line}
 use Rattle.fare_trace.specs.declared.stream.ReplayFault.{ReplayFault}
 use Rattle.fare_trace.specs.declared.stream.ReplayFault.TheVariants.{Read, BadLine, Memory, Store, Write}
+use Rattle.fare_lines.specs.declared.text.ParseFault.{ParseFault}
 use Rattle.fare_lines.specs.declared.text.ParseFault.TheVariants as parse
 use Rattle.fare_trace.specs.declared.running.RunFault.{RunFault}
 use Rattle.fare_trace.specs.declared.running.RunFault.TheVariants as run
@@ -37,11 +38,27 @@ pub record Replays (old new : Option (List ℕ)) (input : List ℕ) : Type 0 whe
   pub output : IsOutput lines text
   pub written : Appends old new text
 
+-- the fault of an input that is no trace
+abbrev pub fault_of_parse : ParseFault → ReplayFault
+fault_of_parse (parse.BadLine line) = BadLine line
+fault_of_parse parse.Memory = Memory
+
 -- the fault of a replay whose run was not answered
 abbrev pub fault_of_run : RunFault → ReplayFault
-fault_of_run (run.Text (parse.BadLine line)) = BadLine line
-fault_of_run (run.Text parse.Memory) = Memory
+fault_of_run (run.Text fault) = fault_of_parse fault
 fault_of_run run.Store = Store
+
+-- the input spells these lines
+abbrev pub ReadsLines : List Line → List ℕ → Type 0
+ReadsLines lines input = IsShort input × Spells lines input
+
+-- why the lines of an input were not read
+abbrev pub FailsToRead : Option (List ℕ) → ReplayFault → Type 0
+FailsToRead known Read = Unit {0}
+FailsToRead known (BadLine number) = IfSome known (λ input. IsShort input × FirstBadLine input number)
+FailsToRead known Memory = Unit {0}
+FailsToRead known Store = ⊥
+FailsToRead known Write = ⊥
 
 -- what each fault says: a store fails and a writer does only where all lines are good; only after Write may something have been written
 abbrev pub ReplayFails : Option (List ℕ) → Option (List ℕ) → Option (List ℕ) → ReplayFault → Type 0

@@ -13,4 +13,4 @@ mod sql_run;
 mod stream;
 
 pub use schemes::{SchemeFault, scheme_of};
-pub use stream::{ReplayFault, replay, replay_sql};
+pub use stream::{ReplayFault, read_lines, replay, replay_sql};

@@ -1,9 +1,9 @@
-ghost use Rattle.std.specs.Prelude.{◌≡◌, ◌≢◌, Err, OnOk, IfErr, IfSome};
-ghost use Rattle.fare_trace.specs.Replay.{ReadsAll, ReplayFails, Replays, fault_of_run};
+ghost use Rattle.std.specs.Prelude.{◌≡◌, ◌≢◌, Err, OnOk, IfOk, IfErr, IfSome};
+ghost use Rattle.fare_trace.specs.Replay.{ReadsAll, ReadsLines, ReplayFails, Replays, FailsToRead, fault_of_parse, fault_of_run};
 
 use crate::answers::{Stores, answer_text};
 use crate::running::RunFault;
-use fare_lines::ParseFault;
+use fare_lines::{Line, ParseFault, parse};
 use std::alloc::Global;
 use std::io::{ErrorKind, Read, Write};
 use thiserror::Error;
@@ -34,13 +34,22 @@ pub enum ReplayFault {
     Write,
 }
 
+/// The fault of an input that is no trace.
+fn input_fault(fault: ParseFault) -> ReplayFault
+    ensures { result ≡ fault_of_parse fault }
+{
+    match fault {
+        ParseFault::BadLine { line } => ReplayFault::BadLine { line },
+        ParseFault::Memory => ReplayFault::Memory,
+    }
+}
+
 /// The fault of a replay whose run was not answered.
 fn replay_fault(fault: RunFault) -> ReplayFault
     ensures { result ≡ fault_of_run fault }
 {
     match fault {
-        RunFault::Text(ParseFault::BadLine { line }) => ReplayFault::BadLine { line },
-        RunFault::Text(ParseFault::Memory) => ReplayFault::Memory,
+        RunFault::Text(fault) => input_fault(fault),
         RunFault::Store => ReplayFault::Store,
     }
 }
@@ -70,6 +79,17 @@ fn read_all<R: Read>(alloc: Global, reader: &mut R) -> Result<Vec<u8>, ReplayFau
         }
     }
     Err(ReplayFault::Read)
+}
+
+/// Reads the lines of a trace to its end. `Read` where the reader fails or has no end within 16,777,216 bytes and
+/// 16,777,217 reads; `BadLine` with the first line that is none; `Memory` where there was none; never `Store` or
+/// `Write`.
+pub fn read_lines<R: Read>(alloc: Global, reader: &mut R) -> Result<Vec<Line>, ReplayFault>
+    ensures lines { IfOk result (λ lines. IfSome (R.remaining reader.old) (ReadsLines lines.items)) }
+    ensures fails { IfErr result (FailsToRead (R.remaining reader.old)) }
+{
+    let bytes = read_all(alloc, reader)?;
+    parse(alloc, &bytes).map_err(input_fault)
 }
 
 /// Reads a trace to its end, runs it over stores of a kind, and then writes the replies to its lines.

@@ -1,0 +1,79 @@
+ghost use Rattle.std.specs.Prelude.{◌≡◌};
+
+use crate::limits::Limits;
+use crate::line::{Line, LineSource};
+use fare_net::NetSource;
+use fare_source::Source;
+use std::alloc::Global;
+use std::io;
+use std::net::{TcpListener, TcpStream};
+use std::time::Duration;
+
+/// How many connections may wait for their greeting at once.
+pub(crate) const MOST_GUESTS: usize = 16;
+
+/// How often each of them is read for it.
+const MOST_READS: u32 = 100;
+
+/// A connection that has not greeted yet.
+#[derive(Drop)]
+pub(crate) struct Guest {
+    source: LineSource,
+    reads: u32,
+}
+
+impl Guest {
+    // One that has not been read.
+    pub(crate) fn new(source: LineSource) -> Guest {
+        Guest { source, reads: 0 }
+    }
+
+    // Reads it once; whether its greeting, or that there is none, is known now.
+    pub(crate) fn is_heard(&mut self) -> bool {
+        self.reads = self.reads.saturating_add(1);
+        self.source.is_ready()
+    }
+
+    // Whether it was read as often as a guest may be.
+    pub(crate) fn is_overdue(&self) -> bool {
+        self.reads >= MOST_READS
+    }
+
+    pub(crate) fn into_source(self) -> LineSource
+        ensures { result ≡ self.source }
+    {
+        let Guest { source, reads: _ } = self;
+        source
+    }
+}
+
+// A connection as a source, whose reads and writes don't wait for long.
+fn open(alloc: Global, stream: TcpStream, limits: Limits) -> io::Result<LineSource> {
+    stream.set_nodelay(true)?;
+    stream.set_nonblocking(false)?;
+    stream.set_read_timeout(Some(Duration::from_millis(u64::from(limits.read_millis))))?;
+    stream.set_write_timeout(Some(Duration::from_millis(u64::from(limits.write_millis))))?;
+    let writer = Line::Open(stream.try_clone()?);
+    let turns = u64::from(limits.turns);
+    Ok(NetSource::new(alloc, Line::Open(stream), writer, turns)?)
+}
+
+// Takes the connections that wait, as far as there is room. One that can't be taken is let go.
+pub(crate) fn welcome(
+    alloc: Global,
+    listener: &TcpListener,
+    limits: Limits,
+    guests: &mut Vec<Guest>,
+) {
+    for _ in 0..MOST_GUESTS {
+        if guests.len() >= MOST_GUESTS {
+            return;
+        }
+        let Ok((stream, _)) = listener.accept() else {
+            return;
+        };
+        if let Ok(source) = open(alloc, stream, limits) {
+            let _ = guests.push(Guest::new(source));
+        }
+    }
+}

@@ -1,0 +1,50 @@
+//! What standard error gets of lines. No contract speaks of it.
+use fare_net::HelloFault;
+use fare_record::StationId;
+use fare_session::SessionFault;
+
+// A guest is no station's.
+pub(crate) fn tell_refused<R: Eprint>(rt: &R, fault: HelloFault) {
+    let _ = eprintln!(rt; "line refused: {fault}");
+}
+
+// A guest did not greet in time, or all stations had a line before it did.
+pub(crate) fn tell_unheard<R: Eprint>(rt: &R) {
+    let _ = eprintln!(rt; "line refused: no greeting in time");
+}
+
+// A line came for a station that has one.
+pub(crate) fn tell_second<R: Eprint>(rt: &R, station: StationId) {
+    let number = station.get();
+    let _ = eprintln!(rt; "station {number}: line refused: it has one");
+}
+
+// A line came in place of one that was over.
+pub(crate) fn tell_replaced<R: Eprint>(rt: &R, station: StationId) {
+    let number = station.get();
+    let _ = eprintln!(rt; "station {number}: line replaced: it was over");
+}
+
+// No line came for a station.
+pub(crate) fn tell_absent<R: Eprint>(rt: &R, station: StationId) {
+    let number = station.get();
+    let _ = eprintln!(rt; "station {number}: no line came");
+}
+
+// A station's line broke.
+fn tell_broken<R: Eprint>(rt: &R, station: StationId, fault: &SessionFault) {
+    let number = station.get();
+    let _ = eprintln!(rt; "station {number}: line broken: {fault}");
+}
+
+// Tells which lines broke.
+pub(crate) fn tell_faults<R: Eprint>(rt: &R, faults: &[SessionFault]) {
+    for fault in faults {
+        match fault {
+            SessionFault::Source(station) | SessionFault::Unexpected(station) => {
+                tell_broken(rt, *station, fault);
+            }
+            SessionFault::Refused | SessionFault::Memory | SessionFault::Store => {}
+        }
+    }
+}
