@@ -26,6 +26,8 @@ mod making;
 mod restarting;
 mod tapping;
 
+pub use billing::taps_of_week;
+
 /// Why no world was made, in the order in which this is tested.
 #[derive(Clone, Copy, PartialEq, Eq, Debug, Error)]
 pub enum WorldFault {

@@ -127,9 +127,12 @@ fn first_open<L: Ledger>(
     Ok(None)
 }
 
-// The taps that a ledger holds from where the week of a day begins to the day, where it has closed the day of
-// each device.
-fn taps_of_week<L: Ledger>(
+/// The taps that a ledger holds from where the week of a day begins to the day, by day, moment, device and lane
+/// number, where it has closed the day of each device of the scheme.
+///
+/// `NotClosed` with the first device, in order of registration, whose day the ledger has not closed; then `Memory`
+/// where there was none for it, and `Store` where the ledger failed.
+pub fn taps_of_week<L: Ledger>(
     scheme: &Scheme,
     ledger: &mut L,
     day: Day,
