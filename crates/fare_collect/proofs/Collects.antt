@@ -218,6 +218,7 @@ section_says {S} sc talks a b c n1 before mid after left halt s are o begun clea
           let none_mid : IsNoneOf station mid = λ k d lt same. (let l = o.len in none k d (omega (arith, lt, l)) (same ∙ (o.each k d (omega (arith, lt, l))).1)) in
           let both = s.others station none_mid in
           ap (history.of_station sc station) accepted ∙ no_part sc station (s.all ++ s.inbox) named (filter-append _ s.all s.inbox ∙ λ i. both.0 i ++ both.1 i);
+      known = subst (AllByRecursion (λ i. is_some (station_of sc (serving.device_of i)) ≡ true)) (sym accepted) (have_stations sc (s.all ++ s.inbox) named);
       refused = λ e.
           let live = s.written.wrote.stays (no_fault halt e) begun.going clean in
           let r = refused_in (storing_all b.value es) halt e (s.written.refused live begun.fits) in
@@ -253,6 +254,7 @@ pub record IsToldAll {S : Type 0} (sc : SchemeValue) (talks : S → Talk) (told 
   pub whole : new.end.fault ≡ None → kept ≡ map frame_for (told ++ last)
   pub named : new.collector.station ≡ old.collector.station
   pub ended : new.end.fault ≡ None → new.end.ended ≡ true → (talks new.source).ended
+  pub none_held : new.end.ended ≡ true → held ≡ None
 
 told_all : {S : Type 0} (sc : SchemeValue) (talks : S → Talk) (all : List Arrived) (left : ℕ → List Arrived) (t : Teller) (h : HearPass) (last : List AckItem) (told : List AckItem) (old new : Station S) → HasEnded sc talks all left t h last old new → put_list t.pass ≡ told → IsToldAll sc talks told last old new
 told_all {S} sc talks all left t h last told old new e put = record {
@@ -280,6 +282,7 @@ told_all {S} sc talks all left t h last told old new e put = record {
   ended = λ none at_end.
       let mid : e.middle.end.ended ≡ true = sym (e.answered.at_end ∙ e.line.handed.at_end) ∙ at_end in
       e.answered.handed.ended (e.line.handed.handed.ended (g.ended mid).0);
+  none_held = λ at_end. (g.ended (sym (e.answered.at_end ∙ e.line.handed.at_end) ∙ at_end)).1;
 }
   where
     g : HasGathered sc talks all left h old e.middle
@@ -324,6 +327,7 @@ station_talks {S} sc talks a b c n1 before begun mid after left halt s sound are
   keeps = λ fit. subst (λ (l : List AckItem). Keeps l w.kept) (sym (answers fit)) w.keeps;
   whole = λ fit none. w.whole none ∙ ap (map frame_for) (sym (answers fit));
   named = w.named ∙ (o.each k d lt).1;
+  none_held = w.none_held;
 }
   where
     id : ℕ
@@ -371,6 +375,9 @@ ran {S} sc talks a b c n1 before begun mid after left halt sound are devices fir
   read = λ e k d lt none.
       let within : k < length mid = (let l = o.len in omega (arith, lt, l)) in
       (station_told sc talks b c 0 n1 mid after left halt s k d within).0.ended none ((s.read (no_halt halt e)).each k d within (let l = s.len in omega (arith, within, l)) none);
+  at_end = λ e k d lt none.
+      let within : k < length mid = (let l = o.len in omega (arith, lt, l)) in
+      (s.read (no_halt halt e)).each k d within (let l = s.len in omega (arith, within, l)) none;
   cause = λ e. subst (λ n. Rose n c.failures) then_.wrote.cause (subst (Counted b.failures c.failures) (store_halt halt e) s.written.wrote.cause);
   stays = λ e clean. s.written.wrote.stays (ap fault_of (no_halt halt e)) (then_.begun refl (s.written.wrote.clean clean)) clean;
   follows = record {

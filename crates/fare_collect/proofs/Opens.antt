@@ -100,6 +100,7 @@ nothing {S} sc talks a b f before after w wrote o other rose = record {
     gathering = record { counted = λ device. tt; stored = tt; room = omega arith; last = tt };
     stored = omega arith;
     others = λ station none. refl;
+    known = tt;
     refused = λ e. let is : w ≡ writer.Refused = cc in absurd (other is);
     last = λ e. absurd (cc);
   };
@@ -126,10 +127,12 @@ nothing {S} sc talks a b f before after w wrote o other rose = record {
         keeps = λ fit. refl;
         whole = λ fit none. refl;
         named = e.1;
+        none_held = λ at_end. refl;
       };
   left_is = refl;
   finished = λ e. absurd (cc);
   read = λ e. absurd (cc);
+  at_end = λ e. absurd (cc);
   cause = λ e. let is : w ≡ writer.Store = cc in rose is;
   stays = λ e. absurd (cc);
   follows = record { clean = wrote.clean; live = wrote.live; lawful = λ live lawful. (wrote.value live lawful).0 };

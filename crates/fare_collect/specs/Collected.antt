@@ -1,5 +1,6 @@
 -- What a session of the stations and the writer did, whatever its outbox might have held when it began.
 use Rattle.std.specs.Prelude.{◌≡◌, ◌≢◌, ◌⊎◌, ℕ, ◌+◌, ◌<◌, ◌≤◌, min, true, is_some, List, [], ◌∷◌, ◌++◌, length, map, slice_index_or, Option, Some, None, if◌then◌else◌}
+use Rattle.std.specs.List.{AllByRecursion}
 use Rattle.fare_record.specs.declared.ack_item.AckItem.{AckItem}
 use Rattle.fare_record.specs.declared.item.Item.{Item}
 use Rattle.fare_frame.specs.declared.frame.Frame.{Frame}
@@ -8,7 +9,7 @@ use Rattle.fare_scheme.specs.Words.{station_of}
 use Rattle.fare_collector.specs.Collecting.{is_id, next_in}
 use Rattle.fare_store.specs.Standing.{Standing}
 use Rattle.fare_store.specs.OutboxWords.{OutboxValue}
-use Rattle.fare_history.specs.Serving.{in_hand}
+use Rattle.fare_history.specs.Serving.{in_hand, device_of}
 use Rattle.fare_history.specs.Gathering.{is_new, done_by, storing, storing_all, Entry, Gathering, accepted_by, all_answers, answers_to, of_station, IsGathering}
 use Rattle.fare_history.specs.AcceptedLinks.{arrivals}
 use Rattle.fare_history.specs.Plainly.{IsRefusedByOutbox}
@@ -93,6 +94,8 @@ pub record SaysOf {S : Type 0} (sc : SchemeValue) (stations : List (Station S)) 
   pub stored : min count 18446744073709551615 ≡ min (new_items x g.entries) 18446744073709551615
   -- nothing is of a station that isn't here
   pub others : (station : ℕ) → IsNoneOf station stations → of_station sc station (accepted_by g) ≡ []
+  -- each item is of a registered device
+  pub known : AllByRecursion (λ i. is_some (station_of sc (device_of i)) ≡ true) (accepted_by g)
   -- an item was refused: it is the one in the hand
   pub refused : ended ≡ Some writer.Refused → (i : Item) × (g.hand ≡ Some i) × IsRefusedByOutbox (storing_all x g.entries) i
   -- at the end each device's greatest link was acknowledged
@@ -110,6 +113,8 @@ pub record HasTalked {S : Type 0} (sc : SchemeValue) (talks : S → Talk) (xo xn
   pub keeps : IsFitting xo xn → Keeps (answers_to sc old.collector.station (all_answers g)) kept
   pub whole : IsFitting xo xn → new.end.fault ≡ None → kept ≡ map frame_for (answers_to sc old.collector.station (all_answers g))
   pub named : new.collector.station ≡ old.collector.station
+  -- where it came to its end no frame is held
+  pub none_held : new.end.ended ≡ true → held ≡ None
 
 -- A SESSION
 pub record IsCollected {S : Type 0} (sc : SchemeValue) (talks : S → Talk) (xo xn : Standing OutboxValue) (before after : List (Station S)) (stored left : ℕ) (ended : Option WriterFault) : Type 0 where
@@ -126,6 +131,7 @@ pub record IsCollected {S : Type 0} (sc : SchemeValue) (talks : S → Talk) (xo 
   -- a writer without a fault has handled all, and each station's source without one has come to its end
   pub finished : ended ≡ None → (g.hand ≡ None) × (g.inbox ≡ [])
   pub read : ended ≡ None → (k : ℕ) (d : Station S) → k < length before → (slice_index_or after k d).end.fault ≡ None → (talks (slice_index_or after k d).source).ended
+  pub at_end : ended ≡ None → (k : ℕ) (d : Station S) → k < length before → (slice_index_or after k d).end.fault ≡ None → (slice_index_or after k d).end.ended ≡ true
   pub cause : ended ≡ Some writer.Store → Rose xo.failures xn.failures
   pub stays : ended ≡ None → xn.clean → xn.live
   pub follows : Follows xo xn
