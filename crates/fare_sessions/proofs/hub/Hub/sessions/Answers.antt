@@ -1,0 +1,71 @@
+use Rattle.std.proofs.Common.{◌≡◌, ◌+◌, ◌<◌, ◌≤◌, ℕ, [], List, length, sym, ap, ◌∙◌, subst, refl}
+use Rattle.fare_sessions.specs.declared.report.SessionsReport.{SessionsReport}
+use Rattle.fare_sessions.specs.Running.{HaveAllRun}
+use Rattle.fare_sessions.proofs.Follow.{run_scheme, run_follow, run_sound}
+use Rattle.fare_sessions.proofs.Reported.{gave_up_exactly, faults_in_order, rest_untouched, none_left, stored_is, taken_is, agrees, grows, covered, came}
+use Rattle.fare_sessions.proofs.hub.Hub.sessions.Goals as goal
+
+pub returns-clause-scheme : goal.returns-clause-scheme
+returns-clause-scheme g c =
+    let a = subst (HaveAllRun g.S.Source.talk g.O.Outbox.standing g.L.Ledger.standing c.args.supervisor c.args.self.now c.run_all.new.self c.args.sessions.now c.run_all.new.sessions) (sym c.into_report.ensures) (c.run_all.ensures c.args.supervisor c.new-course.ensures.shows) in
+    run_scheme g.S.Source.talk g.O.Outbox.standing g.L.Ledger.standing c.args.self.now c.args.sessions.now c.run_all.new.sessions a.count c.run_all.new.self a.tally a.ran
+
+pub returns-clause-follow : goal.returns-clause-follow
+returns-clause-follow g c =
+    let a = subst (HaveAllRun g.S.Source.talk g.O.Outbox.standing g.L.Ledger.standing c.args.supervisor c.args.self.now c.run_all.new.self c.args.sessions.now c.run_all.new.sessions) (sym c.into_report.ensures) (c.run_all.ensures c.args.supervisor c.new-course.ensures.shows) in
+    run_follow g.S.Source.talk g.O.Outbox.standing g.L.Ledger.standing c.args.self.now c.args.sessions.now c.run_all.new.sessions a.count c.run_all.new.self a.tally a.ran
+
+pub returns-clause-sound : goal.returns-clause-sound
+returns-clause-sound g c =
+    let a = subst (HaveAllRun g.S.Source.talk g.O.Outbox.standing g.L.Ledger.standing c.args.supervisor c.args.self.now c.run_all.new.self c.args.sessions.now c.run_all.new.sessions) (sym c.into_report.ensures) (c.run_all.ensures c.args.supervisor c.new-course.ensures.shows) in
+    λ clean sound. run_sound g.S.Source.talk g.O.Outbox.standing g.L.Ledger.standing c.args.self.now c.args.sessions.now c.run_all.new.sessions a.count c.run_all.new.self a.tally a.ran clean sound
+
+pub returns-clause-agrees : goal.returns-clause-agrees
+returns-clause-agrees g c =
+    let a = subst (HaveAllRun g.S.Source.talk g.O.Outbox.standing g.L.Ledger.standing c.args.supervisor c.args.self.now c.run_all.new.self c.args.sessions.now c.run_all.new.sessions) (sym c.into_report.ensures) (c.run_all.ensures c.args.supervisor c.new-course.ensures.shows) in
+    λ clean sound. agrees g.S.Source.talk g.O.Outbox.standing g.L.Ledger.standing c.args.supervisor c.args.self.now c.run_all.new.self c.args.sessions.now c.run_all.new.sessions c.into_report.result a c.requires.can clean sound
+
+pub returns-clause-grows : goal.returns-clause-grows
+returns-clause-grows g c =
+    let a = subst (HaveAllRun g.S.Source.talk g.O.Outbox.standing g.L.Ledger.standing c.args.supervisor c.args.self.now c.run_all.new.self c.args.sessions.now c.run_all.new.sessions) (sym c.into_report.ensures) (c.run_all.ensures c.args.supervisor c.new-course.ensures.shows) in
+    λ clean sound. grows g.S.Source.talk g.O.Outbox.standing g.L.Ledger.standing c.args.supervisor c.args.self.now c.run_all.new.self c.args.sessions.now c.run_all.new.sessions c.into_report.result a c.requires.can clean sound
+
+pub returns-clause-covered : goal.returns-clause-covered
+returns-clause-covered g c =
+    let a = subst (HaveAllRun g.S.Source.talk g.O.Outbox.standing g.L.Ledger.standing c.args.supervisor c.args.self.now c.run_all.new.self c.args.sessions.now c.run_all.new.sessions) (sym c.into_report.ensures) (c.run_all.ensures c.args.supervisor c.new-course.ensures.shows) in
+    λ clean sound. covered g.S.Source.talk g.O.Outbox.standing g.L.Ledger.standing c.args.supervisor c.args.self.now c.run_all.new.self c.args.sessions.now c.run_all.new.sessions c.into_report.result a c.requires.can clean sound
+
+pub returns-clause-boundaries : goal.returns-clause-boundaries
+returns-clause-boundaries g c =
+    let a = subst (HaveAllRun g.S.Source.talk g.O.Outbox.standing g.L.Ledger.standing c.args.supervisor c.args.self.now c.run_all.new.self c.args.sessions.now c.run_all.new.sessions) (sym c.into_report.ensures) (c.run_all.ensures c.args.supervisor c.new-course.ensures.shows) in
+    λ clean sound. came g.S.Source.talk g.O.Outbox.standing g.L.Ledger.standing c.args.supervisor c.args.self.now c.run_all.new.self c.args.sessions.now c.run_all.new.sessions c.into_report.result a c.requires.can clean sound
+
+pub returns-clause-stored : goal.returns-clause-stored
+returns-clause-stored g c =
+    let a = subst (HaveAllRun g.S.Source.talk g.O.Outbox.standing g.L.Ledger.standing c.args.supervisor c.args.self.now c.run_all.new.self c.args.sessions.now c.run_all.new.sessions) (sym c.into_report.ensures) (c.run_all.ensures c.args.supervisor c.new-course.ensures.shows) in
+    λ live sound. stored_is g.S.Source.talk g.O.Outbox.standing g.L.Ledger.standing c.args.supervisor c.args.self.now c.run_all.new.self c.args.sessions.now c.run_all.new.sessions c.into_report.result a c.have_laws.ensures.outbox c.have_laws.ensures.ledger c.owner_count-owners.ensures.valid live sound
+
+pub returns-clause-taken : goal.returns-clause-taken
+returns-clause-taken g c =
+    let a = subst (HaveAllRun g.S.Source.talk g.O.Outbox.standing g.L.Ledger.standing c.args.supervisor c.args.self.now c.run_all.new.self c.args.sessions.now c.run_all.new.sessions) (sym c.into_report.ensures) (c.run_all.ensures c.args.supervisor c.new-course.ensures.shows) in
+    λ live sound days. taken_is g.S.Source.talk g.O.Outbox.standing g.L.Ledger.standing c.args.supervisor c.args.self.now c.run_all.new.self c.args.sessions.now c.run_all.new.sessions c.into_report.result a c.have_laws.ensures.outbox c.have_laws.ensures.ledger c.owner_count-owners.ensures.valid live sound days
+
+pub returns-clause-left : goal.returns-clause-left
+returns-clause-left g c =
+    let a = subst (HaveAllRun g.S.Source.talk g.O.Outbox.standing g.L.Ledger.standing c.args.supervisor c.args.self.now c.run_all.new.self c.args.sessions.now c.run_all.new.sessions) (sym c.into_report.ensures) (c.run_all.ensures c.args.supervisor c.new-course.ensures.shows) in
+    λ clean sound none. none_left g.S.Source.talk g.O.Outbox.standing g.L.Ledger.standing c.args.supervisor c.args.self.now c.run_all.new.self c.args.sessions.now c.run_all.new.sessions c.into_report.result a clean sound none
+
+pub returns-clause-gave_up : goal.returns-clause-gave_up
+returns-clause-gave_up g c =
+    let a = subst (HaveAllRun g.S.Source.talk g.O.Outbox.standing g.L.Ledger.standing c.args.supervisor c.args.self.now c.run_all.new.self c.args.sessions.now c.run_all.new.sessions) (sym c.into_report.ensures) (c.run_all.ensures c.args.supervisor c.new-course.ensures.shows) in
+    gave_up_exactly g.S.Source.talk g.O.Outbox.standing g.L.Ledger.standing c.args.supervisor c.args.self.now c.run_all.new.self c.args.sessions.now c.run_all.new.sessions c.into_report.result a
+
+pub returns-clause-in_order : goal.returns-clause-in_order
+returns-clause-in_order g c =
+    let a = subst (HaveAllRun g.S.Source.talk g.O.Outbox.standing g.L.Ledger.standing c.args.supervisor c.args.self.now c.run_all.new.self c.args.sessions.now c.run_all.new.sessions) (sym c.into_report.ensures) (c.run_all.ensures c.args.supervisor c.new-course.ensures.shows) in
+    faults_in_order g.S.Source.talk g.O.Outbox.standing g.L.Ledger.standing c.args.supervisor c.args.self.now c.run_all.new.self c.args.sessions.now c.run_all.new.sessions c.into_report.result a
+
+pub returns-clause-untouched : goal.returns-clause-untouched
+returns-clause-untouched g c =
+    let a = subst (HaveAllRun g.S.Source.talk g.O.Outbox.standing g.L.Ledger.standing c.args.supervisor c.args.self.now c.run_all.new.self c.args.sessions.now c.run_all.new.sessions) (sym c.into_report.ensures) (c.run_all.ensures c.args.supervisor c.new-course.ensures.shows) in
+    rest_untouched g.S.Source.talk g.O.Outbox.standing g.L.Ledger.standing c.args.supervisor c.args.self.now c.run_all.new.self c.args.sessions.now c.run_all.new.sessions c.into_report.result a

@@ -1,0 +1,5 @@
+pub mod Course
+pub mod Stores
+pub mod Running
+pub mod Boundaries
+pub mod Promises

@@ -1,0 +1,16 @@
+//! The hub over its stores: an outbox, and a ledger for each owner. It runs a list of sessions, one after the other,
+//! each of the stations and the writer or of one owner, and asks a supervisor after each fault whether to go on.
+//! Whatever ends a session, and whatever a stop would leave of the stores, the promise is the same: where the rows
+//! agreed with the lists of taps that the devices numbered, they do afterwards, no number fell, and all that a
+//! session was answered, a tap taken as well as an acknowledgement, is in the stores.
+#![tactic(auto)]
+
+mod course;
+mod hub;
+mod report;
+mod running;
+mod session;
+
+pub use hub::Hub;
+pub use report::SessionsReport;
+pub use session::Session;
