@@ -4,4 +4,6 @@ pub mod Listed
 pub mod Agreeing
 pub mod Sums
 pub mod Reported
+pub mod Billed
+pub mod Closed
 pub mod Going

@@ -3,3 +3,4 @@ pub mod Stores
 pub mod Running
 pub mod Boundaries
 pub mod Promises
+pub mod Billing

@@ -5,12 +5,15 @@
 //! session was answered, a tap taken as well as an acknowledgement, is in the stores.
 #![tactic(auto)]
 
+mod billing;
+mod closing;
 mod course;
 mod hub;
 mod report;
 mod running;
 mod session;
 
+pub use closing::ClosingFault;
 pub use hub::Hub;
 pub use report::SessionsReport;
 pub use session::Session;

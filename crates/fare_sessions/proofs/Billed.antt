@@ -1,0 +1,216 @@
+-- What is asked of one ledger, and what a bill and a settlement are of.
+use Rattle.std.proofs.Common.{◌≡◌, ℕ, ◌<◌, ◌≤◌, List, [], ◌∷◌, ◌++◌, Some, None, Bool, true, false, refl, sym, ap, ◌∙◌, subst, arith, inl, inr}
+use Rattle.std.specs.Prelude.{◌⊎◌, ◌≢◌, ◌↔◌, ◌==◌, ◌&&◌, nat_le, nat_lt, max, Option, Result, Ok, Err, MatchResult, IfOk, if◌then◌else◌, filter, map, is_some}
+use Rattle.std.specs.List.{flat_map}
+use Rattle.std.specs.Ordering.{nat_cmp, is_lt}
+use Rattle.std.proofs.lemmas.Bool.{and_from, cases_lt}
+use Rattle.std.proofs.lemmas.Bool.Decides.{nat_tests}
+use Rattle.std.proofs.lemmas.List.Elements.{filter-append}
+use Rattle.fare_record.specs.Values.{RecordValue}
+use Rattle.fare_record.specs.Lanes.{part}
+use Rattle.fare_day.specs.Week.{monday_on_or_before}
+use Rattle.fare_scheme.specs.declared.entry.Placement.{Placement}
+use Rattle.fare_scheme.specs.Facts.{IsScheme}
+use Rattle.fare_scheme.specs.Values.{SchemeValue}
+use Rattle.fare_scheme.specs.Words.{position_of_owner}
+use Rattle.fare_cap.specs.Bills.{bill_of}
+use Rattle.fare_cap.specs.Fares.{week_start}
+use Rattle.fare_cap.specs.Order.{in_order}
+use Rattle.fare_settle.specs.declared.settled.Settled.{Settled}
+use Rattle.fare_settle.specs.Charges.{charges_of}
+use Rattle.fare_settle.specs.Settling.{settlement_of, share_of}
+use Rattle.fare_settle.proofs.SettledWeeks.{other_days_settle_nothing}
+use Rattle.fare_store.specs.declared.fault.Fault.{Fault}
+use Rattle.fare_store.specs.declared.fault.Refused.{Refused}
+use Rattle.fare_store.specs.declared.fault.Refused.TheVariants.{Because, Failed}
+use Rattle.fare_store.specs.Standing.{Standing, Calls, IsSound, fault_in}
+use Rattle.fare_store.specs.Tables.{put}
+use Rattle.fare_store.specs.OutboxWords.{OutboxValue}
+use Rattle.fare_store.specs.LedgerWords.{LedgerValue, IsOfScheme, AreTapsBetween}
+use Rattle.fare_world.specs.declared.bill_fault.BillFault.{BillFault}
+use Rattle.fare_world.specs.declared.bill_fault.BillFault.TheVariants.{UnknownOwner, BeforeStart, NotClosed}
+use Rattle.fare_world.specs.Billing.{first_open, where_open}
+use Rattle.fare_world.specs.Headline.{of_days}
+use Rattle.fare_world.specs.Knowing.{knows_owner}
+use Rattle.fare_world.specs.Whole.{Answered}
+use Rattle.fare_history.specs.Holding.{MayHold}
+use Rattle.fare_history.specs.Stores.{StoresValue}
+use Rattle.fare_history.proofs.Entries.{is_one}
+use Rattle.fare_session.specs.Stores.{Follows}
+use Rattle.fare_agreement.specs.Agreeing.{AreNumberedLists, had, Agrees}
+use Rattle.fare_agreement.specs.Parts.{parts_of}
+use Rattle.fare_agreement.proofs.Prefixes.{prefix_trans, part_front}
+use Rattle.fare_agreement.proofs.WeekTaken.{week_in_order, bill_is}
+use Rattle.fare_sessions.specs.declared.hub.Hub.{Hub}
+use Rattle.fare_sessions.specs.Billing.{refusal_of, HasBasis, OnlyReads, IsBillRefusal}
+use Rattle.fare_sessions.specs.Stores.{IsLedgerOf, ReplacesLedger, AreClean, AreSound, StoresFollow, MayStandAs}
+use Rattle.fare_sessions.proofs.Follow.{follow_self, replaced_follow, replaced_sound, IsOwn}
+use Rattle.fare_sessions.proofs.Steps.{stood_before, own_stands}
+
+-- a table with the value that it has
+pub put_self : {A : Type 0} (f : ℕ → A) (k : ℕ) → put f k (f k) ≡ f
+put_self f k = λ i j. by j (j == k) refl i
+  where
+    by : (j : ℕ) (b : Bool) → (j == k) ≡ b → (if b then f k else f j) ≡ f j
+    by j true e = ap f (sym (is_one j k e))
+    by j false e = refl
+
+-- what a live and lawful store may hold is what it holds
+pub holds_value : {V : Type 0} (s : Standing V) → IsSound s → s.live → s.lawful → (v : V) → MayHold s v → v ≡ s.value
+holds_value s sound live lawful v (inl now) = now.1
+holds_value s sound live lawful v (inr leaves) = sound.settled live lawful v leaves
+
+pub from_not_less : (a b : ℕ) → is_lt (nat_cmp a b) ≡ false → b ≤ a
+from_not_less a b e = grind (arith, nat_tests)
+
+-- WHAT A SETTLEMENT IS OF
+filter_flat : {X : Type 0} (p : RecordValue → Bool) (f : X → List RecordValue) (xs : List X) → filter p (flat_map f xs) ≡ flat_map (λ x. filter p (f x)) xs
+filter_flat p f [] = refl
+filter_flat p f (x ∷ xs) = filter-append p (f x) (flat_map f xs) ∙ ap (λ l. filter p (f x) ++ l) (filter_flat p f xs)
+
+not_before : (a b : ℕ) → b ≤ max a b
+not_before a b = omega arith
+
+module _ (sc : SchemeValue) (lists : ℕ → List RecordValue) (all : AreNumberedLists sc lists) (h : StoresValue) (is : Agrees sc lists h) (owner : ℕ) (known : knows_owner sc owner ≡ true) (day : ℕ) (rows : List RecordValue) (b : HasBasis sc (h.ledgers owner) day rows) where
+  none_open : first_open (h.ledgers owner).start (h.ledgers owner).closed day sc.devices ≡ None
+  none_open = ap (λ start. first_open start (h.ledgers owner).closed day sc.devices) b.start ∙ b.closed
+
+  pub bill_of_lists : bill_of sc rows day ≡ bill_of sc (parts_of sc lists owner) day
+  bill_of_lists = bill_is sc lists all owner (h.ledgers owner)
+      (λ d. prefix_trans ((h.ledgers owner).taken d) (had lists h.outbox owner d) (part owner (lists d)) (is.lanes owner d known).taken_is (part_front owner (h.outbox.upto d) (lists d)))
+      (λ d. (is.lanes owner d known).stated_are) (λ d. (is.lanes owner d known).closed_are) day rows b.valid b.start none_open b.taps
+
+  pub settlement_of_lists : settlement_of sc rows day ≡ settlement_of sc (parts_of sc lists owner) day
+  settlement_of_lists =
+      ap (λ ordered. map_shares ordered) (week_in_order sc lists all owner (h.ledgers owner)
+      (λ d. prefix_trans ((h.ledgers owner).taken d) (had lists h.outbox owner d) (part owner (lists d)) (is.lanes owner d known).taken_is (part_front owner (h.outbox.upto d) (lists d)))
+      (λ d. (is.lanes owner d known).stated_are) (λ d. (is.lanes owner d known).closed_are) (week_start sc day) day rows b.taps b.valid
+      (subst (λ n. n ≤ week_start sc day) (sym b.start) (not_before (monday_on_or_before day) sc.start)) none_open)
+      ∙ (ap (λ (records : List RecordValue). settlement_of sc records day) (sym (filter_flat among (λ (d : ℕ × Placement). part owner (lists d.0)) sc.devices))
+      ∙ other_days_settle_nothing sc day among (parts_of sc lists owner) (record { kept = λ r first last. and_from (nat_le (week_start sc day) r.tap.day) (nat_le r.tap.day day) (within first) (within last) }))
+    where
+      map_shares : List RecordValue → List Settled
+      map_shares ordered = map (share_of (charges_of sc ordered day)) sc.operators
+
+      among : RecordValue → Bool
+      among r = nat_le (week_start sc day) r.tap.day && nat_le r.tap.day day
+
+      within : {a b : ℕ} → a ≤ b → nat_le a b ≡ true
+      within le = grind (arith, nat_tests)
+
+module _ {O L : Type 0} (outbox : O → Standing OutboxValue) (ledger : L → Standing LedgerValue) where
+  -- ONE LEDGER ASKED
+  module _ {V : Type 0} (old new : Hub O L) (owner day : ℕ) (r : ReplacesLedger old new owner) (same_outbox : new.outbox ≡ old.outbox) (sound_ledger : IsSound (ledger r.own_old)) (late : old.scheme.start ≤ day) (tells : LedgerValue → Result V BillFault → Type 0) (result : Result V (Refused BillFault))
+      (call : Calls (ledger r.own_old) (ledger r.own_new) (fault_in result) (((ledger r.own_new).value ≡ (ledger r.own_old).value) × ((ledger r.own_old).value.start ≤ day → Answered (tells (ledger r.own_old).value) result)) (λ v. ⊥)) where
+    follows : StoresFollow outbox ledger old new
+    follows = replaced_follow outbox ledger old new owner r (subst (λ x. Follows (outbox old.outbox) (outbox x)) (sym same_outbox) same) (record { clean = call.clean; live = call.live; lawful = λ live lawful. (call.value live lawful).0 })
+      where
+        same : Follows (outbox old.outbox) (outbox old.outbox)
+        same = record { clean = λ c. c; live = λ l. l; lawful = λ l is. is }
+
+    -- what it may hold it might have held
+    read : (ledger r.own_new).clean → ((ledger r.own_old).live → (ledger r.own_old).lawful) → (v : LedgerValue) → MayHold (ledger r.own_new) v → MayHold (ledger r.own_old) v
+    read clean lawful v (inl now) = let before = call.live now.0 in inl (before, now.1 ∙ (call.value now.0 (lawful before)).1.0)
+    read clean lawful v (inr leaves) = elim (call.stop clean lawful v leaves) [
+      | inl was ↦ inr was
+      | inr is ↦ absurd is.1
+    ]
+
+    lawful_old : AreSound outbox ledger old → (ledger r.own_old).live → (ledger r.own_old).lawful
+    lawful_old sound = sound.lawful.ledgers_are r.place r.own_old r.was
+
+    pub reads_one : OnlyReads outbox ledger old new
+    reads_one = record {
+      scheme = r.scheme;
+      outbox_same = same_outbox;
+      follow = follows;
+      sound = λ sound. replaced_sound outbox ledger old new owner r follows sound (λ other live was. subst (IsOwn old.scheme other) (sym (call.value live (lawful_old sound (call.live live))).1.0) was);
+      same = λ clean sound k may.
+          let l = read (clean.ledgers_are r.place r.own_new r.is) (lawful_old sound) (k.ledgers owner) (own_stands outbox ledger old new owner r k may) in
+          let x = subst (λ z. MayHold (outbox z) k.outbox) same_outbox may.outbox_may in
+          subst (λ (f : ℕ → LedgerValue). MayStandAs outbox ledger old (record { outbox = k.outbox; ledgers = f })) (put_self k.ledgers owner) (stood_before outbox ledger old new owner r k may k.outbox x (k.ledgers owner) l);
+    }
+
+    -- it answered, or refused by name
+    told_now : fault_in result ≡ None → AreClean outbox ledger new → AreSound outbox ledger old → (ledger r.own_old).live × (ledger r.own_old).lawful × ((ledger r.own_old).value.start ≡ old.scheme.start) × Answered (tells (ledger r.own_old).value) result
+    told_now none clean sound =
+        let live = call.stays none (clean.ledgers_are r.place r.own_new r.is) in
+        let before = call.live live in
+        let lawful = lawful_old sound before in
+        let start = (sound.own owner r.own_old (r.place, r.at, r.was) before).1.start in
+        (before, lawful, start, (call.value live lawful).1.1 (omega (arith, start, late)))
+
+    told : fault_in result ≡ None → AreClean outbox ledger new → AreSound outbox ledger old → (h : StoresValue) → MayStandAs outbox ledger old h → ((h.ledgers owner).start ≡ old.scheme.start) × Answered (tells (h.ledgers owner)) result
+    told none clean sound h may =
+        let now = told_now none clean sound in
+        let is = holds_value (ledger r.own_old) sound_ledger now.0 now.1 (h.ledgers owner) (may.ledgers_may owner r.own_old (r.place, r.at, r.was)) in
+        subst (λ (l : LedgerValue). (l.start ≡ old.scheme.start) × Answered (tells l) result) (sym is) (now.2, now.3)
+
+-- THE TAPS OF A WEEK
+is_closed : (o : Option ℕ) → where_open o ≡ Ok tt → o ≡ None
+is_closed None e = refl
+is_closed (Some d) e = absurd (cc)
+
+is_open : (o : Option ℕ) (why : BillFault) → where_open o ≡ Err why → (d : ℕ) × (o ≡ Some d) × (why ≡ NotClosed d)
+is_open None why e = absurd (cc)
+is_open (Some d) why e = let is : NotClosed d ≡ why = cc in (d, refl, sym is)
+
+-- what a ledger tells of a week: the taps, or the first device whose day is open
+abbrev pub TellsWeek : {V : Type 0} → SchemeValue → (V → List RecordValue) → ℕ → LedgerValue → Result V BillFault → Type 0
+TellsWeek sc rows day l r = MatchResult r (λ v. (where_open (first_open l.start l.closed day sc.devices) ≡ Ok tt) × AreTapsBetween l (week_start sc day) day (rows v)) (λ why. where_open (first_open l.start l.closed day sc.devices) ≡ Err why)
+
+module _ {O L V : Type 0} (outbox : O → Standing OutboxValue) (ledger : L → Standing LedgerValue) (old new : Hub O L) (owner day : ℕ) (r : ReplacesLedger old new owner) (same_outbox : new.outbox ≡ old.outbox) (sound_ledger : IsSound (ledger r.own_old)) (late : old.scheme.start ≤ day) (rows : V → List RecordValue) (result : Result V (Refused BillFault))
+    (call : Calls (ledger r.own_old) (ledger r.own_new) (fault_in result) (((ledger r.own_new).value ≡ (ledger r.own_old).value) × ((ledger r.own_old).value.start ≤ day → Answered (TellsWeek old.scheme rows day (ledger r.own_old).value) result)) (λ v. ⊥)) where
+  week_now : AreClean outbox ledger new → AreSound outbox ledger old → fault_in result ≡ None → (ledger r.own_old).live × (ledger r.own_old).lawful × ((ledger r.own_old).value.start ≡ old.scheme.start) × Answered (TellsWeek old.scheme rows day (ledger r.own_old).value) result
+  week_now clean sound none = told_now outbox ledger old new owner day r same_outbox sound_ledger late (TellsWeek old.scheme rows day) result call none clean sound
+
+  week_told : AreClean outbox ledger new → AreSound outbox ledger old → fault_in result ≡ None → (h : StoresValue) → MayStandAs outbox ledger old h → ((h.ledgers owner).start ≡ old.scheme.start) × Answered (TellsWeek old.scheme rows day (h.ledgers owner)) result
+  week_told clean sound none = told outbox ledger old new owner day r same_outbox sound_ledger late (TellsWeek old.scheme rows day) result call none clean sound
+
+  known_place : position_of_owner old.scheme owner ≡ None → ⊥
+  known_place none = let both : ◌≡◌ {A = Option ℕ} (Some r.place) None = sym r.at ∙ none in absurd (cc)
+
+  not_early : day < old.scheme.start → ⊥
+  not_early lt = absurd (omega (arith, lt, late))
+
+  -- refused by neither of the first two names
+  later_refusal : (refused : Option BillFault) → (refused ≡ Some UnknownOwner → ⊥) → (refused ≡ Some BeforeStart → ⊥)
+      → ((device : ℕ) → refused ≡ Some (NotClosed device) → (h : StoresValue) → MayStandAs outbox ledger old h → first_open old.scheme.start (h.ledgers owner).closed day old.scheme.devices ≡ Some device) → IsBillRefusal outbox ledger old owner day refused
+  later_refusal refused unknown early open_is = record {
+    unknown = ((λ e. absurd (unknown e)), (λ none. absurd (known_place none)));
+    early = ((λ e. absurd (early e)), (λ is. absurd (not_early is.1)));
+    not_closed = open_is;
+  }
+
+  pub week_refused : AreClean outbox ledger new → AreSound outbox ledger old → IsBillRefusal outbox ledger old owner day (refusal_of result)
+  week_refused clean sound = by result refl
+    where
+      by : (q : Result V (Refused BillFault)) → result ≡ q → IsBillRefusal outbox ledger old owner day (refusal_of q)
+      by (Ok v) e = later_refusal None (λ e. absurd (cc)) (λ e. absurd (cc)) (λ device e. absurd (cc))
+      by (Err (Failed f)) e = later_refusal None (λ e. absurd (cc)) (λ e. absurd (cc)) (λ device e. absurd (cc))
+      by (Err (Because why)) e =
+          let none : fault_in result ≡ None = ap fault_in e in
+          let v = (ledger r.own_old).value in
+          let now : where_open (first_open v.start v.closed day old.scheme.devices) ≡ Err why = subst (Answered (TellsWeek old.scheme rows day v)) e (week_now clean sound none).3 in
+          let is = is_open (first_open v.start v.closed day old.scheme.devices) why now in
+          let named = is.2 in
+          later_refusal (Some why) (λ f. let both : ◌≡◌ {A = Option BillFault} (Some (NotClosed is.0)) (Some UnknownOwner) = ap Some (sym named) ∙ f in absurd (cc)) (λ f. let both : ◌≡◌ {A = Option BillFault} (Some (NotClosed is.0)) (Some BeforeStart) = ap Some (sym named) ∙ f in absurd (cc))
+          (λ device f h may.
+          let here = week_told clean sound none h may in
+          let l = h.ledgers owner in
+          let found : where_open (first_open l.start l.closed day old.scheme.devices) ≡ Err why = subst (Answered (TellsWeek old.scheme rows day l)) e here.1 in
+          let there = is_open (first_open l.start l.closed day old.scheme.devices) why found in
+          let same : ◌≡◌ {A = Option BillFault} (Some (NotClosed there.0)) (Some (NotClosed device)) = ap Some (sym there.2) ∙ f in
+          let one : there.0 ≡ device = cc in
+          ap (λ start. first_open start l.closed day old.scheme.devices) (sym here.0) ∙ (there.1 ∙ ap Some one))
+
+  pub week_basis : IsScheme old.scheme → AreClean outbox ledger new → AreSound outbox ledger old → IfOk result (λ v. (h : StoresValue) → MayStandAs outbox ledger old h → HasBasis old.scheme (h.ledgers owner) day (rows v))
+  week_basis valid clean sound = by result refl
+    where
+      by : (q : Result V (Refused BillFault)) → result ≡ q → IfOk q (λ v. (h : StoresValue) → MayStandAs outbox ledger old h → HasBasis old.scheme (h.ledgers owner) day (rows v))
+      by (Err why) e = tt
+      by (Ok v) e = λ h may.
+          let here = week_told clean sound (ap fault_in e) h may in
+          let l = h.ledgers owner in
+          let tells = subst (Answered (TellsWeek old.scheme rows day l)) e here.1 in
+          record { valid = valid; start = here.0; closed = ap (λ start. first_open start l.closed day old.scheme.devices) (sym here.0) ∙ is_closed (first_open l.start l.closed day old.scheme.devices) tells.0; taps = tells.1 }

@@ -1,0 +1,63 @@
+-- What a hub answers of an owner's day, and what a close makes of its ledger.
+use Rattle.std.specs.Prelude.{◌≡◌, ◌≢◌, ◌↔◌, ◌<◌, ℕ, List, Option, None, Some, Result, Ok, Err}
+use Rattle.fare_record.specs.Values.{RecordValue}
+use Rattle.fare_scheme.specs.Facts.{IsScheme}
+use Rattle.fare_scheme.specs.Values.{SchemeValue}
+use Rattle.fare_scheme.specs.Words.{position_of_owner}
+use Rattle.fare_cap.specs.Fares.{week_start}
+use Rattle.fare_owner.specs.declared.closing.CloseFault.{CloseFault}
+use Rattle.fare_store.specs.declared.fault.Refused.{Refused}
+use Rattle.fare_store.specs.declared.fault.Refused.TheVariants.{Because, Failed}
+use Rattle.fare_store.specs.Standing.{Standing, Writes}
+use Rattle.fare_store.specs.OutboxWords.{OutboxValue}
+use Rattle.fare_store.specs.LedgerWords.{LedgerValue, AreTapsBetween, close_of, with_close}
+use Rattle.fare_world.specs.declared.bill_fault.BillFault.{BillFault}
+use Rattle.fare_world.specs.declared.bill_fault.BillFault.TheVariants.{UnknownOwner, BeforeStart, NotClosed}
+use Rattle.fare_world.specs.Billing.{first_open}
+use Rattle.fare_history.specs.Stores.{StoresValue}
+use Rattle.fare_sessions.specs.declared.closing.ClosingFault.{ClosingFault}
+use Rattle.fare_sessions.specs.declared.closing.ClosingFault.TheVariants as closing
+use Rattle.fare_sessions.specs.declared.hub.Hub.{Hub}
+use Rattle.fare_sessions.specs.Stores.{ReplacesLedger, AreClean, AreSound, StoresFollow, MayStandAs}
+
+-- why it was refused by name, if it was
+abbrev pub refusal_of : {V R : Type 0} → Result V (Refused R) → Option R
+refusal_of (Ok v) = None
+refusal_of (Err (Because why)) = Some why
+refusal_of (Err (Failed f)) = None
+
+-- what a bill of a day is of, in an owner's ledger: the day is closed of each device, and these are the taps from where its week begins to the day
+pub record HasBasis (sc : SchemeValue) (l : LedgerValue) (day : ℕ) (rows : List RecordValue) : Type 0 where
+  pub valid : IsScheme sc
+  pub start : l.start ≡ sc.start
+  pub closed : first_open sc.start l.closed day sc.devices ≡ None
+  pub taps : AreTapsBetween l (week_start sc day) day rows
+
+-- the refusal of a close
+abbrev pub as_hub : Result Unit (Refused CloseFault) → Result Unit (Refused ClosingFault)
+as_hub (Ok _) = Ok tt
+as_hub (Err (Because why)) = Err (Because (closing.Ledger why))
+as_hub (Err (Failed f)) = Err (Failed f)
+
+-- the owner's ledger was asked to close a day of a device
+pub record HasClosed {O L : Type 0} (ledger : L → Standing LedgerValue) (old new : Hub O L) (owner device day : ℕ) (result : Result Unit (Refused ClosingFault)) : Type 0 where
+  pub one : ReplacesLedger old new owner
+  pub outbox_same : new.outbox ≡ old.outbox
+  pub answer : Result Unit (Refused CloseFault)
+  pub writes : Writes (ledger one.own_old) (ledger one.own_new) (close_of (ledger one.own_old).value device day) (with_close device (ledger one.own_old).value) answer
+  pub told : result ≡ as_hub answer
+
+module _ {O L : Type 0} (outbox : O → Standing OutboxValue) (ledger : L → Standing LedgerValue) where
+  -- one ledger was read, at most: what may stand now might have stood before
+  pub record OnlyReads (old new : Hub O L) : Type 0 where
+    pub scheme : new.scheme ≡ old.scheme
+    pub outbox_same : new.outbox ≡ old.outbox
+    pub follow : StoresFollow outbox ledger old new
+    pub sound : AreSound outbox ledger old → AreSound outbox ledger new
+    pub same : AreClean outbox ledger new → AreSound outbox ledger old → (k : StoresValue) → MayStandAs outbox ledger new k → MayStandAs outbox ledger old k
+
+  -- the first of these refusals that applies: the owner is not registered, the day is before the first one, or it is not closed of this device, the first such one
+  pub record IsBillRefusal (old : Hub O L) (owner day : ℕ) (refused : Option BillFault) : Type 0 where
+    pub unknown : (refused ≡ Some UnknownOwner) ↔ (position_of_owner old.scheme owner ≡ None)
+    pub early : (refused ≡ Some BeforeStart) ↔ ((position_of_owner old.scheme owner ≢ None) × (day < old.scheme.start))
+    pub not_closed : (device : ℕ) → refused ≡ Some (NotClosed device) → (h : StoresValue) → MayStandAs outbox ledger old h → first_open old.scheme.start (h.ledgers owner).closed day old.scheme.devices ≡ Some device

@@ -1,0 +1,91 @@
+//! What an owner is charged for a day, and what each operator gets of it, by the hub's ledgers.
+ghost use Rattle.std.specs.Prelude.{◌≡◌, ℕ, None, true, List, IfOk};
+ghost use Rattle.fare_cap.specs.Bills.{bill_of};
+ghost use Rattle.fare_cap.specs.Fares.{week_start};
+ghost use Rattle.fare_record.specs.Values.{RecordValue};
+ghost use Rattle.fare_settle.specs.Settling.{settlement_of};
+ghost use Rattle.fare_store.specs.LedgerWords.{AreTapsBetween};
+ghost use Rattle.fare_world.specs.Billing.{first_open};
+ghost use Rattle.fare_world.specs.Knowing.{knows_owner};
+ghost use Rattle.fare_history.specs.Stores.{StoresValue};
+ghost use Rattle.fare_agreement.specs.Agreeing.{AreNumberedLists, Agrees};
+ghost use Rattle.fare_agreement.specs.Parts.{parts_of};
+ghost use Rattle.fare_sessions.specs.Billing.{refusal_of, HasBasis, OnlyReads, IsBillRefusal};
+ghost use Rattle.fare_sessions.specs.Stores.{HasLedgers, AreClean, AreSound, MayStandAs};
+
+use crate::hub::Hub;
+use fare_cap::{Bill, day_bill};
+use fare_record::{Day, OwnerId, Record};
+use fare_settle::{Settlement, settle};
+use fare_store::{Fault, Ledger, Outbox, Refused};
+use fare_world::{BillFault, taps_of_week};
+use std::alloc::Global;
+
+impl<O: Outbox, L: Ledger> Hub<O, L> {
+    /// An owner's bill of a day: the capped fare, account by account, of the taps that its ledger has from where the
+    /// day's week begins to the day; where the rows agree with the lists of what the devices numbered, of exactly the
+    /// owner's parts of these. There is one only once the owner has closed the day of each device.
+    ///
+    /// Refused by the first case of `BillFault` that applies; then `Memory` where there was none for it, and
+    /// `Store` where the owner's ledger failed. The stores hold what they held.
+    pub fn bill(
+        &mut self,
+        alloc: Global,
+        owner: OwnerId,
+        day: Day,
+    ) -> Result<Bill, Refused<BillFault>>
+        requires ledgers { HasLedgers self.old }
+        ensures reads { OnlyReads O.standing L.standing self.old self.new }
+        ensures refused { AreClean O.standing L.standing self.new → AreSound O.standing L.standing self.old → IsBillRefusal O.standing L.standing self.old owner day (refusal_of result) }
+        ensures closed { AreClean O.standing L.standing self.new → AreSound O.standing L.standing self.old → IfOk result (λ _. (h : StoresValue) → MayStandAs O.standing L.standing self.old h → first_open self.old.scheme.start (h.ledgers owner).closed day self.old.scheme.devices ≡ None) }
+        ensures taken { AreClean O.standing L.standing self.new → AreSound O.standing L.standing self.old → IfOk result (λ bill. (rows : List RecordValue) × ((h : StoresValue) → MayStandAs O.standing L.standing self.old h → AreTapsBetween (h.ledgers owner) (week_start self.old.scheme day) day rows) × (bill ≡ bill_of self.old.scheme rows day)) }
+        ensures value { AreClean O.standing L.standing self.new → AreSound O.standing L.standing self.old → IfOk result (λ bill. (lists : ℕ → List RecordValue) (h : StoresValue) → AreNumberedLists self.old.scheme lists → MayStandAs O.standing L.standing self.old h → Agrees self.old.scheme lists h → bill ≡ bill_of self.old.scheme (parts_of self.old.scheme lists owner) day) }
+    {
+        let taps = self.basis(owner, day)?;
+        match day_bill(alloc, &self.scheme, &taps, day) {
+            Ok(bill) => Ok(bill),
+            Err(_) => Err(Refused::Failed(Fault::Memory)),
+        }
+    }
+
+    /// What each operator gets of an owner's bill of a day, in order of registration.
+    ///
+    /// Refused and failed as `bill`. The stores hold what they held.
+    pub fn settlement(
+        &mut self,
+        alloc: Global,
+        owner: OwnerId,
+        day: Day,
+    ) -> Result<Settlement, Refused<BillFault>>
+        requires ledgers { HasLedgers self.old }
+        ensures reads { OnlyReads O.standing L.standing self.old self.new }
+        ensures refused { AreClean O.standing L.standing self.new → AreSound O.standing L.standing self.old → IsBillRefusal O.standing L.standing self.old owner day (refusal_of result) }
+        ensures closed { AreClean O.standing L.standing self.new → AreSound O.standing L.standing self.old → IfOk result (λ _. (h : StoresValue) → MayStandAs O.standing L.standing self.old h → first_open self.old.scheme.start (h.ledgers owner).closed day self.old.scheme.devices ≡ None) }
+        ensures taken { AreClean O.standing L.standing self.new → AreSound O.standing L.standing self.old → IfOk result (λ shares. (rows : List RecordValue) × ((h : StoresValue) → MayStandAs O.standing L.standing self.old h → AreTapsBetween (h.ledgers owner) (week_start self.old.scheme day) day rows) × (shares ≡ settlement_of self.old.scheme rows day)) }
+        ensures value { AreClean O.standing L.standing self.new → AreSound O.standing L.standing self.old → IfOk result (λ shares. (lists : ℕ → List RecordValue) (h : StoresValue) → AreNumberedLists self.old.scheme lists → MayStandAs O.standing L.standing self.old h → Agrees self.old.scheme lists h → shares ≡ settlement_of self.old.scheme (parts_of self.old.scheme lists owner) day) }
+    {
+        let taps = self.basis(owner, day)?;
+        match settle(alloc, &self.scheme, &taps, day) {
+            Ok(settlement) => Ok(settlement),
+            Err(_) => Err(Refused::Failed(Fault::Memory)),
+        }
+    }
+
+    // The taps that an owner has taken from where the week of a day begins to the day, once it has closed the day of
+    // each device.
+    fn basis(&mut self, owner: OwnerId, day: Day) -> Result<Vec<Record>, Refused<BillFault>>
+        requires ledgers { HasLedgers self.old }
+        ensures reads { OnlyReads O.standing L.standing self.old self.new }
+        ensures refused { AreClean O.standing L.standing self.new → AreSound O.standing L.standing self.old → IsBillRefusal O.standing L.standing self.old owner day (refusal_of result) }
+        ensures known { IfOk result (λ _. knows_owner self.old.scheme owner ≡ true) }
+        ensures basis { AreClean O.standing L.standing self.new → AreSound O.standing L.standing self.old → IfOk result (λ taps. (h : StoresValue) → MayStandAs O.standing L.standing self.old h → HasBasis self.old.scheme (h.ledgers owner) day taps.items) }
+    {
+        let Some(at) = self.scheme.owner_position(owner) else {
+            return Err(Refused::Because(BillFault::UnknownOwner));
+        };
+        if day < self.scheme.start() {
+            return Err(Refused::Because(BillFault::BeforeStart));
+        }
+        taps_of_week(&self.scheme, &mut self.ledgers[at], day)
+    }
+}
