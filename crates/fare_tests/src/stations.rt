@@ -401,6 +401,18 @@ fn strange(place: u64) -> Option<Frame> {
     }
 }
 
+// A source of two taps with such a frame between them, and one of the other device's taps.
+fn strange_sources(alloc: Global, place: u64) -> Option<Vec<Script>> {
+    let mut source = source_of(alloc, 1, &[])?;
+    for frame in [tapped(1, 2)?, strange(place)?, tapped(1, 1)?] {
+        source.frames.push(frame).ok()?;
+    }
+    let mut sources = Vec::new(alloc);
+    sources.push(source).ok()?;
+    sources.push(source_of(alloc, 2, &[1, 2])?).ok()?;
+    Some(sources)
+}
+
 // Each of them ends its station, what came before it is stored, and the other station goes on.
 #[test]
 fn frames_that_no_device_sends(rt: HostRuntime) {
@@ -408,11 +420,7 @@ fn frames_that_no_device_sends(rt: HostRuntime) {
     let scheme = narrow(alloc).expect(&rt, "scheme");
     let station = StationId::new(1).expect(&rt, "station");
     for place in 0..3 {
-        let mut sources = scripts(alloc, &[1, 2]).expect(&rt, "sources");
-        if let Some(source) = sources.first_mut() {
-            let frame = strange(place).expect(&rt, "frame");
-            source.frames.insert(1, frame).expect(&rt, "room");
-        }
+        let sources = strange_sources(alloc, place).expect(&rt, "sources");
         let mut outbox = PlainOutbox::new(alloc);
         let gate = Hold::new(false);
         let (got, sources) = gathered(
