@@ -1,6 +1,6 @@
 -- A session of which the threads ran, in the words of sessions.
-use Rattle.std.proofs.Common.{◌≡◌, ℕ, ◌+◌, ◌<◌, ◌≤◌, ◌==◌, Bool, true, false, if◌then◌else◌, List, [], ◌∷◌, ◌++◌, length, map, slice_index_or, Some, None, is_some, refl, sym, ap, ◌∙◌, subst, append_assoc, inl, inr, arith}
-use Rattle.std.specs.Prelude.{◌⊎◌, ◌≢◌, min, Option, option_map, Result, Ok, Err}
+use Rattle.std.proofs.Common.{◌≡◌, ℕ, ◌+◌, ◌<◌, ◌==◌, Bool, true, false, if◌then◌else◌, List, [], ◌∷◌, ◌++◌, length, map, slice_index_or, Some, None, is_some, refl, sym, ap, ◌∙◌, subst, append_assoc, inl, inr, arith}
+use Rattle.std.specs.Prelude.{◌⊎◌, fold, Option, option_map, Ok}
 use Rattle.std.specs.List.{AllByRecursion}
 use Rattle.std.proofs.lemmas.List.{append-nil, map-append, length-map}
 use Rattle.std.proofs.lemmas.List.Elements.{filter-append}
@@ -23,29 +23,32 @@ use Rattle.fare_history.proofs.Stations.{stations_count}
 use Rattle.fare_history.proofs.LinkByLink.{arrivals_count_up}
 use Rattle.fare_source.specs.Talking.{Talk}
 use Rattle.fare_session.specs.Served.{Rose}
-use Rattle.fare_inbox_queue.specs.Inbox.{station_in, of_station}
+use Rattle.fare_inbox_queue.specs.Inbox.{of_station}
 use Rattle.fare_inbox_queue.specs.declared.arrived.Arrived.{Arrived}
 use Rattle.fare_inbox_queue.specs.declared.arrived.Arrived.TheVariants as arrived
-use Rattle.fare_inbox_queue.specs.LinePasses.{put_list, heard_list}
+use Rattle.fare_inbox_queue.specs.LinePasses.{put_list}
+use Rattle.fare_collect.specs.declared.tally.Tally.{Tally}
 use Rattle.fare_collect.specs.declared.fault.WriterFault.{WriterFault}
 use Rattle.fare_collect.specs.declared.fault.WriterFault.TheVariants as writer
-use Rattle.fare_collect.specs.declared.fault.StationFault.TheVariants.{Memory}
+use Rattle.fare_collect.specs.declared.fault.StationFault.{StationFault}
+use Rattle.fare_collect.specs.declared.fault.StationFault.TheVariants.{Source, Unexpected}
 use Rattle.fare_collect.specs.declared.station.Station.{Station}
 use Rattle.fare_collect.specs.declared.station.Teller.{Teller}
 use Rattle.fare_inbox_queue.specs.declared.ack_passes.HearPass.{HearPass}
 use Rattle.fare_collect.specs.declared.writing.Halt.{Halt}
-use Rattle.fare_collect.specs.Gathering.{item_of, device_of, is_new, done_by, IsRefused, Entry, items_of, storing_all, AreEntries, new_count, in_hand, told_to}
-use Rattle.fare_collect.specs.Arriving.{arrivals}
+use Rattle.fare_collect.specs.Gathering.{item_of, is_new, done_by, Entry, items_of, storing_all, AreEntries, new_count, in_hand, told_to}
+use Rattle.fare_collect.specs.Arriving.{arrivals, IsUnexpected}
 use Rattle.fare_collect.specs.Writing.{store_fault, Leaves}
-use Rattle.fare_collect.specs.Stations.{frame_for, held_list, hand_of, fault_of, RefusedBy, IsRefusedItem}
+use Rattle.fare_collect.specs.Stations.{SourceCounted, frame_for, held_list, hand_of, fault_of, RefusedBy, IsRefusedItem}
 use Rattle.fare_collect.specs.Resting.{IsNoneOf}
-use Rattle.fare_collect.specs.Ending.{Keeps, last_acks}
+use Rattle.fare_collect.specs.Ending.{Keeps, HasHanded, last_answers}
+use Rattle.fare_collect.specs.Noting.{noting, days_named}
 use Rattle.fare_collect.specs.Resuming.{AreStations, resumed_next, HaveBegun, HaveResumed}
 use Rattle.fare_collect.specs.Session.{HasGathered, HasEnded, HasSession}
 use Rattle.fare_collect.specs.Collected.{fault_of_halt, HaveDevices, first_links, IsFitting, IsStoredBy, SaysOf, HasTalked, IsCollected}
 use Rattle.fare_collect.proofs.Served.{element}
-use Rattle.fare_collect.proofs.Handed.{keeps_append}
-use Rattle.fare_collect.proofs.Named.{Knows, IsNamed, AreNamed, named_append, named_arrivals, by_parts, named_part, items_arrive}
+use Rattle.fare_collect.proofs.Handed.{keeps_append, handed_then}
+use Rattle.fare_collect.proofs.Named.{Knows, AreNamed, named_arrivals, by_parts, named_part, items_arrive}
 use Rattle.fare_collect.proofs.Gathers.{entry_of, items_are, storing_is, new_is, stored_is, told_is, gathering_of, accepted_is, left_length}
 use Rattle.fare_collect.proofs.Opens.{HaveOpened, opened, opened_stations, resumed_first, first_known, here_or_not}
 
@@ -97,7 +100,7 @@ has_begun {S} sc a b before begun after devices first then_ clean lawful =
     }
 
 -- ALL ITEMS
-section_part : {S : Type 0} (sc : SchemeValue) (talks : S → Talk) (b c : Standing OutboxValue) (n0 n1 : ℕ) (mid after : List (Station S)) (left : ℕ) (halt : Option Halt) (s : HasSession sc talks b c n0 n1 mid after left halt) (k : ℕ) (d : Station S) → k < length mid
+section_part : {S : Type 0} (sc : SchemeValue) (talks : S → Talk) (b c : Standing OutboxValue) (n0 n1 : Tally) (mid after : List (Station S)) (left : ℕ) (halt : Option Halt) (s : HasSession sc talks b c n0 n1 mid after left halt) (k : ℕ) (d : Station S) → k < length mid
     → (fs : List Frame) × (of_station (slice_index_or mid k d).collector.station (s.all ++ s.inbox) ≡ arrivals sc (slice_index_or mid k d).collector.station (next_in (slice_index_or mid k d).collector) fs)
 section_part sc talks b c n0 n1 mid after left halt s k d lt =
     let t = element s.tellers_new k (let e = s.even.1 in omega (arith, lt, e)) in
@@ -105,7 +108,7 @@ section_part sc talks b c n0 n1 mid after left halt s k d lt =
     let got = (s.each k d t h lt).gathered in
     (got.frames, filter-append _ s.all s.inbox ∙ got.part)
 
-pub all_named : {S : Type 0} (sc : SchemeValue) (talks : S → Talk) (a b c : Standing OutboxValue) (n0 n1 : ℕ) (before mid after : List (Station S)) (left : ℕ) (halt : Option Halt) (s : HasSession sc talks b c n0 n1 mid after left halt)
+pub all_named : {S : Type 0} (sc : SchemeValue) (talks : S → Talk) (a b c : Standing OutboxValue) (n0 n1 : Tally) (before mid after : List (Station S)) (left : ℕ) (halt : Option Halt) (s : HasSession sc talks b c n0 n1 mid after left halt)
     → AreStations sc mid → HaveOpened sc a b before mid → HasBegun sc a b before mid → AreNamed sc (s.all ++ s.inbox)
 all_named {S} sc talks a b c n0 n1 before mid after left halt s are o begun = by_parts sc (s.all ++ s.inbox) (λ station. part station (here_or_not sc mid station are))
   where
@@ -124,7 +127,7 @@ all_named {S} sc talks a b c n0 n1 before mid after left halt s are o begun = by
         subst (AreNamed sc) (sym (filter-append _ s.all s.inbox ∙ λ i. both.0 i ++ both.1 i)) tt
 
 -- of a station here, those of its devices are what it accepts of its frames
-part_accepted : {S : Type 0} (sc : SchemeValue) (talks : S → Talk) (a b c : Standing OutboxValue) (n0 n1 : ℕ) (before mid after : List (Station S)) (left : ℕ) (halt : Option Halt) (s : HasSession sc talks b c n0 n1 mid after left halt)
+part_accepted : {S : Type 0} (sc : SchemeValue) (talks : S → Talk) (a b c : Standing OutboxValue) (n0 n1 : Tally) (before mid after : List (Station S)) (left : ℕ) (halt : Option Halt) (s : HasSession sc talks b c n0 n1 mid after left halt)
     → HaveOpened sc a b before mid → HasBegun sc a b before mid → AreNamed sc (s.all ++ s.inbox) → (k : ℕ) (d : Station S) → k < length before → (fs : List Frame)
     → (of_station (slice_index_or mid k d).collector.station (s.all ++ s.inbox) ≡ arrivals sc (slice_index_or mid k d).collector.station (next_in (slice_index_or mid k d).collector) fs)
     → history.of_station sc (slice_index_or before k d).collector.station (map item_of (s.all ++ s.inbox)) ≡ links.arrivals sc (first_links sc a.value (slice_index_or before k d).collector.station) fs
@@ -145,7 +148,7 @@ own_first sc x station device of =
     ap (λ (b : Bool). if b then Some (x.upto device + 1) else None) (ap (λ (o : Option ℕ). is_id o station) of ∙ own)
 
 -- the links that were accepted follow the outbox's
-all_counted : {S : Type 0} (sc : SchemeValue) (talks : S → Talk) (a b c : Standing OutboxValue) (n0 n1 : ℕ) (before mid after : List (Station S)) (left : ℕ) (halt : Option Halt) (s : HasSession sc talks b c n0 n1 mid after left halt)
+all_counted : {S : Type 0} (sc : SchemeValue) (talks : S → Talk) (a b c : Standing OutboxValue) (n0 n1 : Tally) (before mid after : List (Station S)) (left : ℕ) (halt : Option Halt) (s : HasSession sc talks b c n0 n1 mid after left halt)
     → AreStations sc before → AreStations sc mid → HaveOpened sc a b before mid → HasBegun sc a b before mid → AreNamed sc (s.all ++ s.inbox) → (device : ℕ) → history.CountsFrom (a.value.upto device + 1) (history.links_of device (map item_of (s.all ++ s.inbox)))
 all_counted {S} sc talks a b c n0 n1 before mid after left halt s are are_mid o begun named =
     stations_count sc (λ device. a.value.upto device + 1) (map item_of (s.all ++ s.inbox)) (have_stations sc (s.all ++ s.inbox) named) (λ device station of. part device station of (here_or_not sc before station are))
@@ -192,19 +195,19 @@ store_halt : (halt : Option Halt) → fault_of_halt halt ≡ Some writer.Store �
 store_halt None e = absurd (cc)
 store_halt (Some h) e = let is : h.fault ≡ writer.Store = cc in ap store_fault is
 
-pub section_says : {S : Type 0} (sc : SchemeValue) (talks : S → Talk) (a b c : Standing OutboxValue) (n1 : ℕ) (before mid after : List (Station S)) (left : ℕ) (halt : Option Halt) (s : HasSession sc talks b c 0 n1 mid after left halt)
-    → AreStations sc before → HaveOpened sc a b before mid → HasBegun sc a b before mid → c.clean → SaysOf sc before (gathering_of s.written.entries (hand_of halt) s.inbox s.last) n1 (fault_of_halt halt) a.value
-section_says {S} sc talks a b c n1 before mid after left halt s are o begun clean =
+pub section_says : {S : Type 0} (sc : SchemeValue) (talks : S → Talk) (a b c : Standing OutboxValue) (n0 n1 : Tally) → n0.stored ≡ 0 → n0.days.keys ≡ [] → (before mid after : List (Station S)) (left : ℕ) (halt : Option Halt) (s : HasSession sc talks b c n0 n1 mid after left halt)
+    → AreStations sc before → HaveOpened sc a b before mid → HasBegun sc a b before mid → c.clean → SaysOf sc before (gathering_of s.written.entries (hand_of halt) s.inbox s.last) n1.stored (fault_of_halt halt) a.value
+section_says {S} sc talks a b c n0 n1 zero_count unnoted before mid after left halt s are o begun clean =
     let es = s.written.entries in
     let are_mid = opened_stations sc a b before mid are o in
-    let named = all_named sc talks a b c 0 n1 before mid after left halt s are_mid o begun in
+    let named = all_named sc talks a b c n0 n1 before mid after left halt s are_mid o begun in
     let accepted = accepted_is es (hand_of halt) s.all s.inbox s.last s.written.all in
     let in_all : AreNamed sc s.all = named_front sc s.all s.inbox named in
     let in_entries : AreNamed sc (items_of es) = named_front sc (items_of es) (in_hand (hand_of halt)) (subst (AreNamed sc) s.written.all in_all) in
     let value : history.storing_all a.value (map entry_of es) ≡ storing_all b.value es = storing_is a.value es ∙ ap (λ x. storing_all x es) (sym begun.same) in
     record {
       gathering = record {
-        counted = λ device. subst (λ (l : List Item). history.CountsFrom (a.value.upto device + 1) (history.links_of device l)) (sym accepted) (all_counted sc talks a b c 0 n1 before mid after left halt s are are_mid o begun named device);
+        counted = λ device. subst (λ (l : List Item). history.CountsFrom (a.value.upto device + 1) (history.links_of device l)) (sym accepted) (all_counted sc talks a b c n0 n1 before mid after left halt s are are_mid o begun named device);
         stored = stored_is sc a.value es in_entries (subst (λ x. AreEntries sc x es) begun.same (s.written.wrote.known clean begun.going begun.fits));
         room = (let f = s.few in let l = length-map s.inbox item_of in omega (arith, f, l));
         last = subst (λ x. AllByRecursion (history.IsAnswerFrom sc x) s.last) (sym value) (s.from clean (λ live. begun.fits));
@@ -212,7 +215,7 @@ section_says {S} sc talks a b c n1 before mid after left halt s are o begun clea
       stored = (
           let m = s.written.counted clean begun.going begun.fits in
           let n = new_is a.value es ∙ ap (λ x. new_count x es) (sym begun.same) in
-          omega (arith, m, n)
+          omega (arith, m, n, zero_count)
           );
       others = λ station none.
           let none_mid : IsNoneOf station mid = λ k d lt same. (let l = o.len in none k d (omega (arith, lt, l)) (same ∙ (o.each k d (omega (arith, lt, l))).1)) in
@@ -223,8 +226,14 @@ section_says {S} sc talks a b c n1 before mid after left halt s are o begun clea
           let live = s.written.wrote.stays (no_fault halt e) begun.going clean in
           let r = refused_in (storing_all b.value es) halt e (s.written.refused live begun.fits) in
           (r.0, r.1, subst (λ x. IsRefusedByOutbox x r.0) (sym value) r.2);
-      last = λ e. s.whole (no_halt halt e) clean (λ live. begun.fits) ∙ ap (last_acks sc) (sym value);
+      last = λ e. s.whole (no_halt halt e) clean (λ live. begun.fits) ∙ λ i. last_answers sc (days (no_halt halt e) i) (sym value i);
     }
+  where
+    -- what is noted are the days of the items that were handled
+    days : halt ≡ None → n1.days.keys ≡ days_named sc (history.items_of (map entry_of s.written.entries))
+    days none =
+        s.written.noted none
+        ∙ λ i. fold (noting sc) (unnoted i) ((ap (map item_of) (s.written.all ∙ (ap (λ h. items_of s.written.entries ++ in_hand (hand_of h)) none ∙ append-nil (items_of s.written.entries))) ∙ sym (items_are s.written.entries)) i)
 
 -- WHAT IT LEAVES
 leaves_by : (x : OutboxValue) (es : List Entry) (hand : Option Arrived) (inbox : List Arrived) (last : List AckItem) (v : OutboxValue) → Leaves x es hand v → IsStoredBy (gathering_of es hand inbox last) x v
@@ -254,6 +263,8 @@ pub record IsToldAll {S : Type 0} (sc : SchemeValue) (talks : S → Talk) (told 
   pub whole : new.end.fault ≡ None → kept ≡ map frame_for (told ++ last)
   pub named : new.collector.station ≡ old.collector.station
   pub ended : new.end.fault ≡ None → new.end.ended ≡ true → (talks new.source).ended
+  pub cause : new.end.fault ≡ Some Source → Rose (talks old.source).failures (talks new.source).failures
+  pub unexpected : new.end.fault ≡ Some Unexpected → (front : List Frame) × (f : Frame) × (frames ≡ front ++ f ∷ []) × IsUnexpected f
   pub none_held : new.end.ended ≡ true → held ≡ None
 
 told_all : {S : Type 0} (sc : SchemeValue) (talks : S → Talk) (all : List Arrived) (left : ℕ → List Arrived) (t : Teller) (h : HearPass) (last : List AckItem) (told : List AckItem) (old new : Station S) → HasEnded sc talks all left t h last old new → put_list t.pass ≡ told → IsToldAll sc talks told last old new
@@ -282,6 +293,8 @@ told_all {S} sc talks all left t h last told old new e put = record {
   ended = λ none at_end.
       let mid : e.middle.end.ended ≡ true = sym (e.answered.at_end ∙ e.line.handed.at_end) ∙ at_end in
       e.answered.handed.ended (e.line.handed.handed.ended (g.ended mid).0);
+  cause = λ is. rose e.middle.end.fault refl is;
+  unexpected = λ is. g.unexpected (unexpected_at e.middle.end.fault refl is);
   none_held = λ at_end. (g.ended (sym (e.answered.at_end ∙ e.line.handed.at_end) ∙ at_end)).1;
 }
   where
@@ -294,10 +307,31 @@ told_all {S} sc talks all left t h last told old new e put = record {
     two : List Frame
     two = e.answered.handed.kept
 
+    both : HasHanded (talks e.middle.source) (talks new.source) (e.line.items ++ last) e.middle.end.fault new.end.fault
+    both = handed_then (talks e.middle.source) (talks e.closed.source) (talks new.source) e.line.items last e.middle.end.fault e.closed.end.fault new.end.fault e.line.handed.handed e.answered.handed
+
+    -- a fault that the threads met stays
+    kept : (w : StationFault) → e.middle.end.fault ≡ Some w → new.end.fault ≡ e.middle.end.fault
+    kept w is = both.first (λ none. let q : ◌≡◌ {A = Option StationFault} (Some w) None = sym is ∙ none in absurd (cc))
+
+    rose : (m : Option StationFault) → e.middle.end.fault ≡ m → new.end.fault ≡ Some Source → Rose (talks old.source).failures (talks new.source).failures
+    rose None is end =
+        let same : (talks e.middle.source).failures ≡ (talks old.source).failures = subst (λ (w : Option StationFault). SourceCounted (talks old.source).failures (talks e.middle.source).failures w) is g.cause in
+        subst (λ (n : ℕ). Rose n (talks new.source).failures) same (both.cause is end)
+    rose (Some w) is end = grown (subst (λ (v : Option StationFault). SourceCounted (talks old.source).failures (talks e.middle.source).failures v) (sym (kept w is) ∙ end) g.cause)
+      where
+        grown : SourceCounted (talks old.source).failures (talks e.middle.source).failures (Some Source) → Rose (talks old.source).failures (talks new.source).failures
+        grown (inl lt) = let more = both.rises in inl (omega (arith, lt, more))
+        grown (inr full) = inr full
+
+    unexpected_at : (m : Option StationFault) → e.middle.end.fault ≡ m → new.end.fault ≡ Some Unexpected → e.middle.end.fault ≡ Some Unexpected
+    unexpected_at None is end = absurd (both.other is end)
+    unexpected_at (Some w) is end = sym (kept w is) ∙ end
+
     parts : g.handed ++ (g.lost ++ e.line.items) ≡ told
     parts = sym (append_assoc g.handed g.lost e.line.items) ∙ (ap (λ l. l ++ e.line.items) (sym g.took) ∙ (e.line.all ∙ put))
 
-pub station_told : {S : Type 0} (sc : SchemeValue) (talks : S → Talk) (b c : Standing OutboxValue) (n0 n1 : ℕ) (mid after : List (Station S)) (left : ℕ) (halt : Option Halt) (s : HasSession sc talks b c n0 n1 mid after left halt) (k : ℕ) (d : Station S) → k < length mid
+pub station_told : {S : Type 0} (sc : SchemeValue) (talks : S → Talk) (b c : Standing OutboxValue) (n0 n1 : Tally) (mid after : List (Station S)) (left : ℕ) (halt : Option Halt) (s : HasSession sc talks b c n0 n1 mid after left halt) (k : ℕ) (d : Station S) → k < length mid
     → (w : IsToldAll sc talks (told_to sc k s.written.entries) (history.answers_to sc (slice_index_or mid k d).collector.station s.last) (slice_index_or mid k d) (slice_index_or after k d))
     × (of_station (slice_index_or mid k d).collector.station (s.all ++ s.inbox) ≡ arrivals sc (slice_index_or mid k d).collector.station (next_in (slice_index_or mid k d).collector) w.frames)
 unfolding told_all
@@ -308,25 +342,27 @@ station_told sc talks b c n0 n1 mid after left halt s k d lt =
     let put = s.written.told.each k t (let n = s.even.0 in omega (arith, lt, n)) ∙ ap (λ l. l ++ told_to sc k s.written.entries) (s.untold k t lt) in
     (told_all sc talks s.all (λ station. of_station station s.inbox) (slice_index_or s.tellers_new k t) (slice_index_or s.hears k h) (history.answers_to sc (slice_index_or mid k d).collector.station s.last) (told_to sc k s.written.entries) (slice_index_or mid k d) (slice_index_or after k d) e put, filter-append _ s.all s.inbox ∙ e.gathered.part)
 
-station_talks : {S : Type 0} (sc : SchemeValue) (talks : S → Talk) (a b c : Standing OutboxValue) (n1 : ℕ) (before begun mid after : List (Station S)) (left : ℕ) (halt : Option Halt) (s : HasSession sc talks b c 0 n1 mid after left halt)
+station_talks : {S : Type 0} (sc : SchemeValue) (talks : S → Talk) (a b c : Standing OutboxValue) (n0 n1 : Tally) (before begun mid after : List (Station S)) (left : ℕ) (halt : Option Halt) (s : HasSession sc talks b c n0 n1 mid after left halt)
     → IsSound a → AreStations sc before → HaveDevices sc before → HaveBegun before begun → HaveResumed sc a b begun mid (Ok tt) → HaveOpened sc a b before mid → (k : ℕ) (d : Station S) → k < length before
     → (w : IsToldAll sc talks (told_to sc k s.written.entries) (history.answers_to sc (slice_index_or mid k d).collector.station s.last) (slice_index_or mid k d) (slice_index_or after k d))
     → of_station (slice_index_or mid k d).collector.station (s.all ++ s.inbox) ≡ arrivals sc (slice_index_or mid k d).collector.station (next_in (slice_index_or mid k d).collector) w.frames
     → HasTalked sc talks a c (gathering_of s.written.entries (hand_of halt) s.inbox s.last) (slice_index_or before k d) (slice_index_or after k d)
-station_talks {S} sc talks a b c n1 before begun mid after left halt s sound are devices first then_ o k d lt w part = record {
+station_talks {S} sc talks a b c n0 n1 before begun mid after left halt s sound are devices first then_ o k d lt w part = record {
   frames = w.frames;
   held = w.held;
   given = w.given ∙ ap (λ (q : S). (talks q).given ++ (w.frames ++ held_list w.held)) (o.each k d lt).0;
   accepted = λ fit x may.
       let start = starts fit in
       ap (history.of_station sc id) (accepted_is s.written.entries (hand_of halt) s.all s.inbox s.last s.written.all)
-      ∙ (part_accepted sc talks a b c 0 n1 before mid after left halt s o start (named fit) k d lt w.frames part
+      ∙ (part_accepted sc talks a b c n0 n1 before mid after left halt s o start (named fit) k d lt w.frames part
       ∙ ap (λ y. links.arrivals sc (first_links sc y id) w.frames) (sym (held_is a sound start.live start.lawful x may)));
   kept = w.kept;
   answered = w.answered ∙ ap (λ (q : S). (talks q).answered ++ w.kept) (o.each k d lt).0;
   keeps = λ fit. subst (λ (l : List AckItem). Keeps l w.kept) (sym (answers fit)) w.keeps;
   whole = λ fit none. w.whole none ∙ ap (map frame_for) (sym (answers fit));
   named = w.named ∙ (o.each k d lt).1;
+  cause = λ is. subst (λ (q : S). Rose (talks q).failures (talks (slice_index_or after k d).source).failures) (o.each k d lt).0 (w.cause is);
+  unexpected = w.unexpected;
   none_held = w.none_held;
 }
   where
@@ -337,7 +373,7 @@ station_talks {S} sc talks a b c n1 before begun mid after left halt s sound are
     starts fit = has_begun sc a b before begun mid devices first then_ (s.written.wrote.clean fit.clean) fit.lawful
 
     named : IsFitting a c → AreNamed sc (s.all ++ s.inbox)
-    named fit = all_named sc talks a b c 0 n1 before mid after left halt s (opened_stations sc a b before mid are o) o (starts fit)
+    named fit = all_named sc talks a b c n0 n1 before mid after left halt s (opened_stations sc a b before mid are o) o (starts fit)
 
     answers : IsFitting a c → history.answers_to sc id (history.all_answers (gathering_of s.written.entries (hand_of halt) s.inbox s.last)) ≡ told_to sc k s.written.entries ++ history.answers_to sc (slice_index_or mid k d).collector.station s.last
     answers fit =
@@ -346,22 +382,22 @@ station_talks {S} sc talks a b c n1 before begun mid after left halt s sound are
         answers_are sc b.value es (hand_of halt) s.inbox s.last id k (are.each k d lt) in_entries (s.written.wrote.known fit.clean (starts fit).going (starts fit).fits)
         ∙ ap (λ (n : ℕ). told_to sc k es ++ history.answers_to sc n s.last) (sym (o.each k d lt).1)
 
-station_talked : {S : Type 0} (sc : SchemeValue) (talks : S → Talk) (a b c : Standing OutboxValue) (n1 : ℕ) (before begun mid after : List (Station S)) (left : ℕ) (halt : Option Halt) (s : HasSession sc talks b c 0 n1 mid after left halt)
+station_talked : {S : Type 0} (sc : SchemeValue) (talks : S → Talk) (a b c : Standing OutboxValue) (n0 n1 : Tally) (before begun mid after : List (Station S)) (left : ℕ) (halt : Option Halt) (s : HasSession sc talks b c n0 n1 mid after left halt)
     → IsSound a → AreStations sc before → HaveDevices sc before → HaveBegun before begun → HaveResumed sc a b begun mid (Ok tt) → (k : ℕ) (d : Station S) → k < length before
     → HasTalked sc talks a c (gathering_of s.written.entries (hand_of halt) s.inbox s.last) (slice_index_or before k d) (slice_index_or after k d)
-station_talked {S} sc talks a b c n1 before begun mid after left halt s sound are devices first then_ k d lt =
+station_talked {S} sc talks a b c n0 n1 before begun mid after left halt s sound are devices first then_ k d lt =
     let o = opened sc a b before begun mid (Ok tt) first then_ in
-    let both = station_told sc talks b c 0 n1 mid after left halt s k d (let l = o.len in omega (arith, lt, l)) in
-    station_talks sc talks a b c n1 before begun mid after left halt s sound are devices first then_ o k d lt both.0 both.1
+    let both = station_told sc talks b c n0 n1 mid after left halt s k d (let l = o.len in omega (arith, lt, l)) in
+    station_talks sc talks a b c n0 n1 before begun mid after left halt s sound are devices first then_ o k d lt both.0 both.1
 
 -- ALL OF IT
-pub ran : {S : Type 0} (sc : SchemeValue) (talks : S → Talk) (a b c : Standing OutboxValue) (n1 : ℕ) (before begun mid after : List (Station S)) (left : ℕ) (halt : Option Halt) → IsSound a → AreStations sc before → HaveDevices sc before
-    → HaveBegun before begun → HaveResumed sc a b begun mid (Ok tt) → HasSession sc talks b c 0 n1 mid after left halt → IsCollected sc talks a c before after n1 left (fault_of_halt halt)
-ran {S} sc talks a b c n1 before begun mid after left halt sound are devices first then_ s = record {
+pub ran : {S : Type 0} (sc : SchemeValue) (talks : S → Talk) (a b c : Standing OutboxValue) (n0 n1 : Tally) → n0.stored ≡ 0 → n0.days.keys ≡ [] → (before begun mid after : List (Station S)) (left : ℕ) (halt : Option Halt) → IsSound a → AreStations sc before → HaveDevices sc before
+    → HaveBegun before begun → HaveResumed sc a b begun mid (Ok tt) → HasSession sc talks b c n0 n1 mid after left halt → IsCollected sc talks a c before after n1.stored left (fault_of_halt halt)
+ran {S} sc talks a b c n0 n1 zero_count unnoted before begun mid after left halt sound are devices first then_ s = record {
   g = gathering_of es hand s.inbox s.last;
   says = λ fit x may.
       let start = starts fit.clean fit.lawful in
-      subst (SaysOf sc before (gathering_of es hand s.inbox s.last) n1 (fault_of_halt halt)) (sym (held_is a sound start.live start.lawful x may)) (section_says sc talks a b c n1 before mid after left halt s are o start fit.clean);
+      subst (SaysOf sc before (gathering_of es hand s.inbox s.last) n1.stored (fault_of_halt halt)) (sym (held_is a sound start.live start.lawful x may)) (section_says sc talks a b c n0 n1 zero_count unnoted before mid after left halt s are o start fit.clean);
   outbox = λ fit. record {
     leads = λ v may.
         let start = starts fit.clean fit.lawful in
@@ -369,12 +405,12 @@ ran {S} sc talks a b c n1 before begun mid after left halt sound are devices fir
   };
   holds = λ fit live. let start = starts fit.clean fit.lawful in (s.written.wrote.value live start.fits).1 ∙ value start;
   len = s.len ∙ o.len;
-  each = station_talked sc talks a b c n1 before begun mid after left halt s sound are devices first then_;
+  each = station_talked sc talks a b c n0 n1 before begun mid after left halt s sound are devices first then_;
   left_is = s.count ∙ sym (left_length hand s.inbox);
   finished = λ e. (ap (λ (h : Option Halt). option_map item_of (hand_of h)) (no_halt halt e), ap (map item_of) (s.empty (no_halt halt e)));
   read = λ e k d lt none.
       let within : k < length mid = (let l = o.len in omega (arith, lt, l)) in
-      (station_told sc talks b c 0 n1 mid after left halt s k d within).0.ended none ((s.read (no_halt halt e)).each k d within (let l = s.len in omega (arith, within, l)) none);
+      (station_told sc talks b c n0 n1 mid after left halt s k d within).0.ended none ((s.read (no_halt halt e)).each k d within (let l = s.len in omega (arith, within, l)) none);
   at_end = λ e k d lt none.
       let within : k < length mid = (let l = o.len in omega (arith, lt, l)) in
       (s.read (no_halt halt e)).each k d within (let l = s.len in omega (arith, within, l)) none;

@@ -1,11 +1,10 @@
 -- What the threads did, in the words of sessions.
-use Rattle.std.proofs.Common.{◌≡◌, ℕ, ◌+◌, ◌<◌, ◌==◌, Bool, true, false, if◌then◌else◌, List, [], ◌∷◌, ◌++◌, length, map, slice_index_or, Some, None, is_some, refl, sym, ap, ◌∙◌, subst, append_assoc, inl, inr, arith}
-use Rattle.std.specs.Prelude.{Option, option_map, filter, ◌⊎◌}
+use Rattle.std.proofs.Common.{◌≡◌, ℕ, ◌+◌, ◌==◌, Bool, true, false, if◌then◌else◌, List, [], ◌∷◌, ◌++◌, length, map, Some, None, is_some, refl, sym, ap, ◌∙◌, append_assoc, arith}
+use Rattle.std.specs.Prelude.{Option, option_map}
 use Rattle.std.specs.List.{AllByRecursion}
-use Rattle.std.proofs.lemmas.List.{append-nil, map-append, length-map}
+use Rattle.std.proofs.lemmas.List.{map-append, length-map}
 use Rattle.std.proofs.lemmas.List.Elements.{filter-append}
 use Rattle.std.proofs.lemmas.Bool.Decides.{nat_tests}
-use Rattle.fare_record.specs.declared.item.Item.{Item}
 use Rattle.fare_record.specs.declared.ack_item.AckItem.{AckItem}
 use Rattle.fare_record.specs.declared.ack_item.AckItem.TheVariants.{Upto, Day}
 use Rattle.fare_scheme.specs.Values.{SchemeValue}
@@ -16,9 +15,8 @@ use Rattle.fare_store.specs.OutboxWords.{OutboxValue}
 use Rattle.fare_history.specs.Serving as serving
 use Rattle.fare_history.specs.Gathering as history
 use Rattle.fare_inbox_queue.specs.Inbox.{station_in}
-use Rattle.fare_inbox_queue.specs.Line.{device_in}
 use Rattle.fare_inbox_queue.specs.declared.arrived.Arrived.{Arrived}
-use Rattle.fare_collect.specs.Gathering.{item_of, device_of, is_new, storing, IsAnswerFrom, IsAnswerTo, Entry, items_of, storing_all, IsEntry, AreEntries, new_count, in_hand, told_of, told_to}
+use Rattle.fare_collect.specs.Gathering.{item_of, device_of, is_new, storing, IsAnswerTo, Entry, items_of, storing_all, AreEntries, new_count, in_hand, told_of, told_to}
 use Rattle.fare_collect.specs.Collected.{new_items}
 use Rattle.fare_collect.proofs.Named.{IsNamed, AreNamed}
 

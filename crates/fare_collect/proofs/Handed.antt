@@ -1,13 +1,13 @@
 -- One answer more.
-use Rattle.std.proofs.Common.{◌≡◌, ◌≢◌, ℕ, ◌+◌, ◌<◌, ◌≤◌, List, [], ◌∷◌, ◌++◌, length, set, slice_index_or, arith, length-append, None, refl, sym, ap, ◌∙◌, subst, append_assoc, inl, inr}
-use Rattle.std.specs.Prelude.{Option, Ok, Err}
+use Rattle.std.proofs.Common.{◌≡◌, ℕ, zero, suc, Some, ◌+◌, ◌<◌, ◌≤◌, List, [], ◌∷◌, ◌++◌, length, set, slice_index_or, arith, length-append, None, refl, sym, ap, ◌∙◌, subst, append_assoc, inl, inr}
+use Rattle.std.specs.Prelude.{◌⊎◌, Option}
 use Rattle.std.proofs.lemmas.List.{append-nil, map-append, get_or_default, get_or-set_same, get_or-set_other, get_or_append_left, length-set}
 use Rattle.fare_frame.specs.declared.frame.Frame.{Frame}
 use Rattle.fare_record.specs.declared.ack_item.AckItem.{AckItem}
-use Rattle.fare_source.specs.declared.fault.SourceFault.{SourceFault}
-use Rattle.fare_source.specs.declared.fault.SourceFault.TheVariants as source
 use Rattle.fare_collect.specs.declared.fault.StationFault.{StationFault}
-use Rattle.fare_source.specs.Talking.{Talk, Hears}
+use Rattle.fare_collect.specs.declared.fault.StationFault.TheVariants.{Source, Unexpected}
+use Rattle.fare_source.specs.Talking.{Talk}
+use Rattle.fare_session.specs.Served.{Rose}
 use Rattle.fare_collect.specs.Stations.{frame_for}
 use Rattle.fare_inbox_queue.specs.declared.ack_passes.HearPass.{HearPass}
 use Rattle.fare_collect.specs.declared.station.Station.{Station}
@@ -16,12 +16,25 @@ use Rattle.fare_collect.specs.Ending.{Keeps, HasHanded, IsHandedLeft, AreBeingHa
 use Rattle.fare_collect.proofs.Lent.{same_or_apart, last_at}
 
 pub handed_none : (t : Talk) (f : Option StationFault) → HasHanded t t [] f f
-handed_none t f = record { kept = []; keeps = refl; answered = sym (append-nil t.answered); given = refl; ended = λ e. e; first = λ n. refl; whole = λ e. (e, refl) }
+handed_none t f = record { kept = []; keeps = refl; answered = sym (append-nil t.answered); given = refl; ended = λ e. e; first = λ n. refl; whole = λ e. (e, refl); rises = omega arith; cause = λ e z. absurd (let q : ◌≡◌ {A = Option StationFault} None (Some Source) = sym e ∙ z in cc); other = λ e z. absurd (let q : ◌≡◌ {A = Option StationFault} None (Some Unexpected) = sym e ∙ z in cc) }
 
 pub keeps_append : (xs ys : List AckItem) (fs gs : List Frame) → Keeps xs fs → Keeps ys gs → Keeps (xs ++ ys) (fs ++ gs)
 keeps_append [] ys fs gs none more = subst (λ l. Keeps ys (l ++ gs)) (sym none) more
 keeps_append (a ∷ xs) ys fs gs (inl k) more = inl (k.0 ++ gs, ap (λ l. l ++ gs) k.1, keeps_append xs ys k.0 gs k.2 more)
 keeps_append (a ∷ xs) ys fs gs (inr k) more = inr (keeps_append xs ys fs gs k more)
+
+-- a count that rises from or to the greatest, or stands there
+rose_or_full : (a c b : ℕ) → a ≤ b → b ≤ c → 18446744073709551615 ≤ b → Rose a c
+rose_or_full a c b le more full = elim (less_or_same a b le) [
+  | inl lt ↦ inl (omega (arith, lt, more))
+  | inr same ↦ inr (omega (arith, same, full))
+]
+  where
+    less_or_same : (a b : ℕ) → a ≤ b → (a < b) ⊎ (a ≡ b)
+    less_or_same zero zero le = inr refl
+    less_or_same zero (suc b) le = inl (omega arith)
+    less_or_same (suc a) zero le = absurd (omega (arith, le))
+    less_or_same (suc a) (suc b) le = elim (less_or_same a b (omega (arith, le))) [ inl lt ↦ inl (omega (arith, lt)) | inr same ↦ inr (ap suc same) ]
 
 pub handed_then : (a b c : Talk) (xs ys : List AckItem) (f g h : Option StationFault) → HasHanded a b xs f g → HasHanded b c ys g h → HasHanded a c (xs ++ ys) f h
 handed_then a b c xs ys f g h first second = record {
@@ -32,16 +45,28 @@ handed_then a b c xs ys f g h first second = record {
   ended = λ e. second.ended (first.ended e);
   first = λ n. second.first (λ e. n (sym (first.first n) ∙ e)) ∙ first.first n;
   whole = λ e. let two = second.whole e in let one = first.whole two.0 in (one.0, (λ i. one.1 i ++ two.1 i) ∙ sym (map-append frame_for xs ys));
+  rises = let a = first.rises in let b = second.rises in omega (arith, a, b);
+  cause = λ e z. by g refl e z;
+  other = λ e z. not_by g refl e z;
 }
+  where
+    by : (m : Option StationFault) → g ≡ m → f ≡ None → h ≡ Some Source → Rose a.failures c.failures
+    by None is e z = later first.rises (second.cause is z)
+      where
+        later : a.failures ≤ b.failures → Rose b.failures c.failures → Rose a.failures c.failures
+        later le (inl lt) = inl (omega (arith, le, lt))
+        later le (inr full) = let more = second.rises in rose_or_full a.failures c.failures b.failures le more full
+    by (Some w) is e z =
+        let same : g ≡ Some Source = sym (second.first (λ n. let q : ◌≡◌ {A = Option StationFault} (Some w) None = sym is ∙ n in absurd (cc))) ∙ z in
+        grown (first.cause e same)
+      where
+        grown : Rose a.failures b.failures → Rose a.failures c.failures
+        grown (inl lt) = let more = second.rises in inl (omega (arith, lt, more))
+        grown (inr full) = inr full
 
--- the source took it
-pub handed_ok : (a b : Talk) (item : AckItem) (f : Option StationFault) → Hears a b (frame_for item) (Ok tt) → HasHanded a b (item ∷ []) f f
-handed_ok a b item f h = record { kept = frame_for item ∷ []; keeps = inl ([], refl, refl); answered = h.answered; given = h.given; ended = h.ended; first = λ n. refl; whole = λ e. (e, refl) }
-
--- or not: the first fault of the station stays, or is this
-pub handed_err : (a b : Talk) (item : AckItem) (w : SourceFault) (f g : Option StationFault) → Hears a b (frame_for item) (Err w) → (f ≢ None → g ≡ f) → (g ≡ None → ⊥) → HasHanded a b (item ∷ []) f g
-handed_err a b item source.Failed f g h first never = record { kept = frame_for item ∷ []; keeps = inl ([], refl, refl); answered = h.answered; given = h.given; ended = h.ended; first = first; whole = λ e. absurd (never e) }
-handed_err a b item source.Memory f g h first never = record { kept = []; keeps = inr refl; answered = h.answered; given = h.given; ended = h.ended; first = first; whole = λ e. absurd (never e) }
+    not_by : (m : Option StationFault) → g ≡ m → f ≡ None → h ≡ Some Unexpected → ⊥
+    not_by None is e z = second.other is z
+    not_by (Some w) is e z = first.other e (sym (second.first (λ n. let q : ◌≡◌ {A = Option StationFault} (Some w) None = sym is ∙ n in absurd (cc))) ∙ z)
 
 -- EACH LINE
 pub handing_none : {S : Type 0} (talks : S → Talk) (ts : List Teller) (hs : List HearPass) (old : List (Station S)) → length hs ≡ length ts → length ts ≤ length old → AreBeingHanded talks ts ts hs hs old old

@@ -1,15 +1,15 @@
--- The last acknowledgements, one device more.
+-- The last acknowledgements, one more.
 use Rattle.std.proofs.Common.{◌≡◌, ℕ, zero, suc, ◌+◌, ◌<◌, ◌≤◌, ◌==◌, Bool, true, false, List, [], ◌∷◌, ◌++◌, length, set, take, slice_index_or, Some, None, is_some, refl, sym, ap, ◌∙◌, subst, inl, inr, arith}
-use Rattle.std.specs.Prelude.{◌≢◌, ◌⊎◌, Option, Result, Ok, Err, if◌then◌else◌}
+use Rattle.std.specs.Prelude.{◌≢◌, ◌⊎◌, Option, Result, Ok, Err, if◌then◌else◌, map, filter}
 use Rattle.std.specs.List.{AllByRecursion}
-use Rattle.std.proofs.lemmas.List.{get_or_default, get_or-set_same, get_or-set_other, length-set, take_all}
+use Rattle.std.proofs.lemmas.List.{get_or_default, get_or-set_same, get_or-set_other, length-set, take_all, map-append}
 use Rattle.std.proofs.lemmas.List.Elements.{filter-append}
 use Rattle.std.proofs.lemmas.Bool.Decides.{nat_tests}
 use Rattle.fare_scheme.specs.Values.{SchemeValue}
 use Rattle.fare_scheme.specs.Words.{id_at, station_of, position_of_station}
 use Rattle.fare_collector.specs.Collecting.{is_id}
 use Rattle.fare_store.specs.declared.fault.Fault.{Fault}
-use Rattle.fare_store.specs.Standing.{Standing, IsSound, Reads}
+use Rattle.fare_store.specs.Standing.{Standing, IsSound, Reads, fault_of}
 use Rattle.fare_session.proofs.StoreCalls.{called}
 use Rattle.fare_store.specs.OutboxWords.{OutboxValue}
 use Rattle.fare_record.specs.declared.ack_item.AckItem.{AckItem}
@@ -17,9 +17,12 @@ use Rattle.fare_record.specs.declared.ack_item.AckItem.TheVariants.{Upto}
 use Rattle.fare_history.specs.Gathering.{device_answered, answers_to, IsAnswerFrom}
 use Rattle.fare_collect.specs.declared.station.Station.{Station}
 use Rattle.fare_source.specs.Talking.{Talk}
-use Rattle.fare_collect.specs.Writing.{Wrote}
+use Rattle.fare_collect.specs.Writing.{Wrote, Asks}
 use Rattle.fare_collect.specs.Resuming.{AreStations}
-use Rattle.fare_collect.specs.Ending.{IsHanded, last_ack, acks_of, last_acks, AreSent, HaveLast}
+use Rattle.fare_store.specs.Keys.{Key}
+use Rattle.fare_collect.specs.Gathering.{are_all_stated}
+use Rattle.fare_collect.specs.Noting.{day_ack, day_acks}
+use Rattle.fare_collect.specs.Ending.{IsHanded, last_ack, acks_of, last_acks, AreSent, HaveSent, HaveLast}
 use Rattle.fare_collect.proofs.Wrote.{wrote_none, wrote_then, wrote_read}
 use Rattle.fare_collect.proofs.Handed.{handed_none, handed_then}
 use Rattle.fare_collect.proofs.Lent.{same_or_apart}
@@ -106,75 +109,166 @@ stations_after sc talks answers first now are sent = record {
       ap (λ c. position_of_station sc c.station) (sent.each k d at).collector ∙ are.each k d at;
 }
 
--- EACH DEVICE
-acks_next : {P : Type 0} (x : OutboxValue) (ds : List (ℕ × P)) (n device : ℕ) → id_at ds n ≡ Some device → acks_of x (take (suc n) ds) ≡ acks_of x (take n ds) ++ last_ack x device ∷ []
-acks_next x [] n device e = absurd (cc)
-acks_next x (d ∷ ds) zero device e = let same : d.0 ≡ device = cc in ap (λ n. last_ack x n ∷ []) same
-acks_next x (d ∷ ds) (suc n) device e = ap (λ l. last_ack x d.0 ∷ l) (acks_next x ds n device e)
-
+-- WHAT IS SENT
 all_append : (sc : SchemeValue) (x : OutboxValue) (xs ys : List AckItem) → AllByRecursion (IsAnswerFrom sc x) xs → AllByRecursion (IsAnswerFrom sc x) ys → AllByRecursion (IsAnswerFrom sc x) (xs ++ ys)
 all_append sc x [] ys first second = second
 all_append sc x (a ∷ xs) ys first second = (first.0, all_append sc x xs ys first.1 second)
 
--- those of the devices before a position were sent
-pub record AreAnswering {S : Type 0} (sc : SchemeValue) (talks : S → Talk) (old new : Standing OutboxValue) (before after : List (Station S)) (position : ℕ) : Type 0 where
-  pub wrote : Wrote sc old new [] None None
-  pub answers : List AckItem
-  pub sent : AreSent sc talks answers before after
-  pub none : position ≡ 0 → answers ≡ []
-  pub began : 0 < position → new.clean → old.live
-  pub is : new.clean → (old.live → old.lawful) → answers ≡ acks_of old.value (take position sc.devices)
-  pub from : new.clean → (old.live → old.lawful) → AllByRecursion (IsAnswerFrom sc old.value) answers
+pub have_none : {S : Type 0} (sc : SchemeValue) (talks : S → Talk) (s : Standing OutboxValue) (stations : List (Station S)) → IsSound s → HaveSent sc talks s s stations stations (λ x. []) (Ok tt)
+have_none sc talks s stations sound = record { wrote = wrote_none sc s sound; answers = []; sent = sent_none sc talks stations; began = inl refl; from = λ clean lawful. tt; whole = λ e clean lawful. refl }
 
-pub answering_none : {S : Type 0} (sc : SchemeValue) (talks : S → Talk) (s : Standing OutboxValue) (stations : List (Station S)) → IsSound s → AreAnswering sc talks s s stations stations 0
-answering_none sc talks s stations sound = record { wrote = wrote_none sc s sound; answers = []; sent = sent_none sc talks stations; none = λ e. refl; began = λ lt. absurd (omega (arith, lt)); is = λ clean lawful. refl; from = λ clean lawful. tt }
-
-pub answering_more : {S : Type 0} (sc : SchemeValue) (talks : S → Talk) (a b c : Standing OutboxValue) (first now next : List (Station S)) (position device u id : ℕ) → IsSound b → AreAnswering sc talks a b first now position → Reads_upto b c device (Ok u)
-    → id_at sc.devices position ≡ Some device → station_of sc device ≡ Some id → AreSent sc talks (Upto (record { device = device; upto = u }) ∷ []) now next → AreAnswering sc talks a c first next (position + 1)
-answering_more {S} sc talks a b c first now next position device u id sound was read at of sent = record {
-  wrote = read_ok sc a b c device u sound was.wrote read;
-  answers = was.answers ++ Upto (record { device = device; upto = u }) ∷ [];
-  sent = sent_then sc talks was.answers (Upto (record { device = device; upto = u }) ∷ []) first now next was.sent sent;
-  none = λ e. absurd (omega (arith, e));
-  began = λ lt clean. was.wrote.live (read.live (read.stays refl clean));
-  is = λ clean lawful.
-      let ack : Upto (record { device = device; upto = u }) ≡ last_ack a.value device = ap (λ (n : ℕ). Upto (record { device = device; upto = n })) (answer clean lawful) in
-      let n : position + 1 ≡ suc position = omega arith in
-      (λ i. was.is (read.clean clean) lawful i ++ ack i ∷ []) ∙ (sym (acks_next a.value sc.devices position device at) ∙ ap (λ m. acks_of a.value (take m sc.devices)) (sym n));
-  from = λ clean lawful. all_append sc a.value was.answers (Upto (record { device = device; upto = u }) ∷ []) (was.from (read.clean clean) lawful) ((ap is_some of, answer clean lawful), tt);
+-- what was due, and then more
+pub have_more : {S : Type 0} (sc : SchemeValue) (talks : S → Talk) (a b c : Standing OutboxValue) (first now next : List (Station S)) (due more : OutboxValue → List AckItem) (result : Result Unit Fault)
+    → HaveSent sc talks a b first now due (Ok tt) → HaveLast sc talks b c now next more result → HaveLast sc talks a c first next (λ x. due x ++ more x) result
+have_more {S} sc talks a b c first now next due more result was then_ = record {
+  have = record {
+    wrote = wrote_then sc a b c [] [] None (fault_of result) was.wrote then_.have.wrote;
+    answers = was.answers ++ then_.have.answers;
+    sent = sent_then sc talks was.answers then_.have.answers first now next was.sent then_.have.sent;
+    began = elim then_.have.began [
+      | inl none ↦ elim was.began [
+        | inl nothing ↦ inl (λ i. nothing i ++ none i)
+        | inr live ↦ inr (λ clean. live (then_.have.wrote.clean clean))
+      ]
+      | inr live ↦ inr (λ clean. was.wrote.live (live clean))
+    ];
+    from = λ clean lawful. all_append sc a.value was.answers then_.have.answers (was.from (then_.have.wrote.clean clean) lawful) (later clean lawful then_.have.began);
+    whole = λ e clean lawful.
+        (λ i. was.whole refl (then_.have.wrote.clean clean) lawful i ++ then_.have.whole e clean (λ live. (same lawful live).0) i)
+        ∙ ap (λ x. due a.value ++ more x) (same lawful (then_.read e clean)).1;
+  };
+  read = λ e clean. was.wrote.live (then_.read e clean);
 }
   where
-    answer : c.clean → (a.live → a.lawful) → u ≡ a.value.upto device
-    answer clean lawful =
-        let live = read.stays refl clean in
-        let alive = read.live live in
-        let before = was.wrote.value alive (lawful (was.wrote.live alive)) in
-        (read.value live before.0).1.1 ∙ ap (λ (v : OutboxValue). v.upto device) before.1
+    same : (a.live → a.lawful) → b.live → b.lawful × (b.value ≡ a.value)
+    same lawful live = was.wrote.value live (lawful (was.wrote.live live))
 
-pub answering_failed : {S : Type 0} (sc : SchemeValue) (talks : S → Talk) (a b c : Standing OutboxValue) (first now : List (Station S)) (position device : ℕ) (f : Fault) → IsSound b → AreAnswering sc talks a b first now position → Reads_upto b c device (Err f) → HaveLast sc talks a c first now (Err f)
-answering_failed sc talks a b c first now position device f sound was read = record {
-  wrote = read_err sc a b c device f sound was.wrote read;
+    later : c.clean → (a.live → a.lawful) → (then_.have.answers ≡ []) ⊎ (c.clean → b.live) → AllByRecursion (IsAnswerFrom sc a.value) then_.have.answers
+    later clean lawful (inl none) = subst (λ (l : List AckItem). AllByRecursion (IsAnswerFrom sc a.value) l) (sym none) tt
+    later clean lawful (inr live) = subst (λ (x : OutboxValue). AllByRecursion (IsAnswerFrom sc x) then_.have.answers) (same lawful (live clean)).1 (then_.have.from clean (λ alive. (same lawful alive).0))
+
+-- the same, said otherwise
+pub have_same : {S : Type 0} (sc : SchemeValue) (talks : S → Talk) (a b : Standing OutboxValue) (first now : List (Station S)) (due more : OutboxValue → List AckItem) (result : Result Unit Fault)
+    → ((x : OutboxValue) → due x ≡ more x) → HaveSent sc talks a b first now due result → HaveSent sc talks a b first now more result
+have_same sc talks a b first now due more result same was = record { wrote = was.wrote; answers = was.answers; sent = was.sent; began = was.began; from = was.from; whole = λ e clean lawful. was.whole e clean lawful ∙ same a.value }
+
+-- and then the outbox failed
+pub have_failed : {S : Type 0} (sc : SchemeValue) (talks : S → Talk) (a b c : Standing OutboxValue) (first now : List (Station S)) (due more : OutboxValue → List AckItem) (f : Fault)
+    → HaveSent sc talks a b first now due (Ok tt) → Wrote sc b c [] None (Some f) → HaveSent sc talks a c first now more (Err f)
+have_failed sc talks a b c first now due more f was reads = record {
+  wrote = wrote_then sc a b c [] [] None (Some f) was.wrote reads;
   answers = was.answers;
   sent = was.sent;
-  began = by position refl;
-  read = λ e. absurd (cc);
-  from = λ clean lawful. was.from (read.clean clean) lawful;
+  began = elim was.began [ inl none ↦ inl none | inr live ↦ inr (λ clean. live (reads.clean clean)) ];
+  from = λ clean lawful. was.from (reads.clean clean) lawful;
   whole = λ e. absurd (cc);
 }
-  where
-    by : (n : ℕ) → position ≡ n → (was.answers ≡ []) ⊎ (c.clean → a.live)
-    by zero e = inl (was.none e)
-    by (suc n) e = inr (λ clean. was.began (omega (arith, e)) (read.clean clean))
 
-pub answered_all : {S : Type 0} (sc : SchemeValue) (talks : S → Talk) (a b : Standing OutboxValue) (first now : List (Station S)) (position : ℕ) → 1 ≤ length sc.devices → length sc.devices ≤ position → AreAnswering sc talks a b first now position → HaveLast sc talks a b first now (Ok tt)
+pub no_last : {S : Type 0} (sc : SchemeValue) (talks : S → Talk) (a b : Standing OutboxValue) (first now : List (Station S)) (due : OutboxValue → List AckItem) (f : Fault) → HaveSent sc talks a b first now due (Err f) → HaveLast sc talks a b first now due (Err f)
+no_last sc talks a b first now due f have = record { have = have; read = λ e. absurd (cc) }
+
+-- EACH DAY
+asked_read : (sc : SchemeValue) (b c : Standing OutboxValue) (k : Key) (held : Bool) → IsSound b → Asks b c (λ all. all ≡ are_all_stated sc b.value k.1 k.2) (Ok held) → Wrote sc b c [] None None
+asked_read sc b c k held sound asks = wrote_read sc b c None (held ≡ are_all_stated sc b.value k.1 k.2) sound asks
+
+pub asked_failed : (sc : SchemeValue) (b c : Standing OutboxValue) (k : Key) (f : Fault) → IsSound b → Asks b c (λ all. all ≡ are_all_stated sc b.value k.1 k.2) (Err f) → Wrote sc b c [] None (Some f)
+asked_failed sc b c k f sound asks = wrote_read sc b c (Some f) (Unit {0}) sound asks
+
+-- its acknowledgement, where the outbox holds the statements of all owners
+one_day : (sc : SchemeValue) (x : OutboxValue) (k : Key) (held : Bool) → are_all_stated sc x k.1 k.2 ≡ held → day_acks sc x (k ∷ []) ≡ (if held then day_ack k ∷ [] else [])
+one_day sc x k true e = ap (λ (b : Bool). map day_ack (if b then k ∷ [] else [])) e
+one_day sc x k false e = ap (λ (b : Bool). map day_ack (if b then k ∷ [] else [])) e
+
+pub day_told : {S : Type 0} (sc : SchemeValue) (talks : S → Talk) (b c : Standing OutboxValue) (now next : List (Station S)) (k : Key) → IsSound b → Asks b c (λ all. all ≡ are_all_stated sc b.value k.1 k.2) (Ok true) → (c.clean → b.live)
+    → is_some (station_of sc k.1) ≡ true → AreSent sc talks (day_ack k ∷ []) now next → HaveLast sc talks b c now next (λ x. day_acks sc x (k ∷ [])) (Ok tt)
+day_told sc talks b c now next k sound asks live known sent = record {
+  have = record {
+    wrote = asked_read sc b c k true sound asks;
+    answers = day_ack k ∷ [];
+    sent = sent;
+    began = inr live;
+    from = λ clean lawful. ((known, held clean lawful), tt);
+    whole = λ e clean lawful. sym (one_day sc b.value k true (held clean lawful));
+  };
+  read = λ e. live;
+}
+  where
+    held : c.clean → (b.live → b.lawful) → are_all_stated sc b.value k.1 k.2 ≡ true
+    held clean lawful = let on = live clean in sym (asks.value (asks.stays refl on clean) (lawful on)).1.1
+
+pub day_untold : {S : Type 0} (sc : SchemeValue) (talks : S → Talk) (b c : Standing OutboxValue) (now : List (Station S)) (k : Key) → IsSound b → Asks b c (λ all. all ≡ are_all_stated sc b.value k.1 k.2) (Ok false) → (c.clean → b.live)
+    → HaveLast sc talks b c now now (λ x. day_acks sc x (k ∷ [])) (Ok tt)
+day_untold sc talks b c now k sound asks live = record {
+  have = record {
+    wrote = asked_read sc b c k false sound asks;
+    answers = [];
+    sent = sent_none sc talks now;
+    began = inl refl;
+    from = λ clean lawful. tt;
+    whole = λ e clean lawful. let on = live clean in sym (one_day sc b.value k false (sym (asks.value (asks.stays refl on clean) (lawful on)).1.1));
+  };
+  read = λ e. live;
+}
+
+pub days_append : (sc : SchemeValue) (x : OutboxValue) (days more : List Key) → day_acks sc x days ++ day_acks sc x more ≡ day_acks sc x (days ++ more)
+days_append sc x days more = sym (map-append day_ack (filter (λ k. are_all_stated sc x k.1 k.2) days) (filter (λ k. are_all_stated sc x k.1 k.2) more)) ∙ ap (map day_ack) (sym (filter-append _ days more))
+
+-- EACH DEVICE
+acks_next : {P : Type 0} (x : OutboxValue) (ds : List (ℕ × P)) (n device : ℕ) → id_at ds n ≡ Some device → acks_of x (take n ds) ++ last_ack x device ∷ [] ≡ acks_of x (take (suc n) ds)
+acks_next x [] n device e = absurd (cc)
+acks_next x (d ∷ ds) zero device e = let same : d.0 ≡ device = cc in ap (λ n. last_ack x n ∷ []) (sym same)
+acks_next x (d ∷ ds) (suc n) device e = ap (λ l. last_ack x d.0 ∷ l) (acks_next x ds n device e)
+
+-- those of the devices before a position were sent
+pub record AreAnswering {S : Type 0} (sc : SchemeValue) (talks : S → Talk) (old new : Standing OutboxValue) (before after : List (Station S)) (position : ℕ) : Type 0 where
+  pub have : HaveSent sc talks old new before after (λ x. acks_of x (take position sc.devices)) (Ok tt)
+  pub read : 0 < position → new.clean → old.live
+
+pub answering_none : {S : Type 0} (sc : SchemeValue) (talks : S → Talk) (s : Standing OutboxValue) (stations : List (Station S)) → IsSound s → AreAnswering sc talks s s stations stations 0
+answering_none sc talks s stations sound = record { have = have_none sc talks s stations sound; read = λ lt. absurd (omega (arith, lt)) }
+
+device_told : {S : Type 0} (sc : SchemeValue) (talks : S → Talk) (b c : Standing OutboxValue) (now next : List (Station S)) (device u : ℕ) → IsSound b → Reads_upto b c device (Ok u)
+    → is_some (station_of sc device) ≡ true → AreSent sc talks (Upto (record { device = device; upto = u }) ∷ []) now next → HaveLast sc talks b c now next (λ x. last_ack x device ∷ []) (Ok tt)
+device_told sc talks b c now next device u sound read known sent = record {
+  have = record {
+    wrote = wrote_read sc b c None (u ≡ b.value.upto device) sound (called b c None ((c.value ≡ b.value) × (u ≡ b.value.upto device)) (λ v. ⊥) read);
+    answers = Upto (record { device = device; upto = u }) ∷ [];
+    sent = sent;
+    began = inr live;
+    from = λ clean lawful. ((known, answer clean lawful), tt);
+    whole = λ e clean lawful. ap (λ (n : ℕ). Upto (record { device = device; upto = n }) ∷ []) (answer clean lawful);
+  };
+  read = λ e. live;
+}
+  where
+    live : c.clean → b.live
+    live clean = read.live (read.stays refl clean)
+
+    answer : c.clean → (b.live → b.lawful) → u ≡ b.value.upto device
+    answer clean lawful = (read.value (read.stays refl clean) (lawful (live clean))).1.1
+
+pub answering_more : {S : Type 0} (sc : SchemeValue) (talks : S → Talk) (a b c : Standing OutboxValue) (first now next : List (Station S)) (position device u : ℕ) → IsSound b → AreAnswering sc talks a b first now position → Reads_upto b c device (Ok u)
+    → id_at sc.devices position ≡ Some device → is_some (station_of sc device) ≡ true → AreSent sc talks (Upto (record { device = device; upto = u }) ∷ []) now next → AreAnswering sc talks a c first next (position + 1)
+unfolding have_more
+answering_more {S} sc talks a b c first now next position device u sound was read at known sent = record {
+  have = have_same sc talks a c first next (λ x. acks_of x (take position sc.devices) ++ last_ack x device ∷ []) (λ x. acks_of x (take (position + 1) sc.devices)) (Ok tt) (λ x. acks_next x sc.devices position device at ∙ ap (λ m. acks_of x (take m sc.devices)) next_is) both.have;
+  read = λ lt. both.read refl;
+}
+  where
+    next_is : suc position ≡ position + 1
+    next_is = omega arith
+
+    both : HaveLast sc talks a c first next (λ x. acks_of x (take position sc.devices) ++ last_ack x device ∷ []) (Ok tt)
+    both = have_more sc talks a b c first now next (λ x. acks_of x (take position sc.devices)) (λ x. last_ack x device ∷ []) (Ok tt) was.have (device_told sc talks b c now next device u sound read known sent)
+
+pub answering_failed : {S : Type 0} (sc : SchemeValue) (talks : S → Talk) (a b c : Standing OutboxValue) (first now : List (Station S)) (position device : ℕ) (f : Fault) → IsSound b → AreAnswering sc talks a b first now position → Reads_upto b c device (Err f) → HaveLast sc talks a c first now (last_acks sc) (Err f)
+answering_failed sc talks a b c first now position device f sound was read = no_last sc talks a c first now (last_acks sc) f (have_failed sc talks a b c first now (λ x. acks_of x (take position sc.devices)) (last_acks sc) f was.have
+    (wrote_read sc b c (Some f) (Unit {0}) sound (called b c (Some f) ((c.value ≡ b.value) × Unit {0}) (λ v. ⊥) read)))
+
+pub answered_all : {S : Type 0} (sc : SchemeValue) (talks : S → Talk) (a b : Standing OutboxValue) (first now : List (Station S)) (position : ℕ) → 1 ≤ length sc.devices → length sc.devices ≤ position → AreAnswering sc talks a b first now position → HaveLast sc talks a b first now (last_acks sc) (Ok tt)
 answered_all sc talks a b first now position some le was = record {
-  wrote = was.wrote;
-  answers = was.answers;
-  sent = was.sent;
-  began = inr (was.began (omega (arith, some, le)));
-  read = λ e. was.began (omega (arith, some, le));
-  from = was.from;
-  whole = λ e clean lawful. was.is clean lawful ∙ ap (acks_of a.value) (take_all position sc.devices le);
+  have = have_same sc talks a b first now (λ x. acks_of x (take position sc.devices)) (last_acks sc) (Ok tt) (λ x. ap (acks_of x) (take_all position sc.devices le)) was.have;
+  read = λ e. was.read (omega (arith, some, le));
 }
 
 pub at_known : {X : Type 0} (xs : List (ℕ × X)) (k : ℕ) → k < length xs → id_at xs k ≡ None → ⊥

@@ -10,6 +10,7 @@ pub mod Served
 pub mod RestedAll
 pub mod Opened
 pub mod Handed
+pub mod Noted
 pub mod Places
 pub mod Last
 pub mod Sessioned

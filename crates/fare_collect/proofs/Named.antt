@@ -4,9 +4,6 @@ use Rattle.std.specs.Prelude.{Option, option_map, Result, Ok, Err}
 use Rattle.std.specs.List.{AllByRecursion}
 use Rattle.std.proofs.lemmas.List.{map-append}
 use Rattle.std.proofs.lemmas.Bool.Decides.{nat_tests}
-use Rattle.fare_record.specs.Values.{RecordValue, StatementValue}
-use Rattle.fare_record.specs.declared.item.Item.{Item}
-use Rattle.fare_record.specs.declared.item.Item.TheVariants as item
 use Rattle.fare_frame.specs.declared.frame.Frame.{Frame}
 use Rattle.fare_frame.specs.declared.frame.Frame.TheVariants.{Tapped, Stated, Acked, DayAcked, Greeted}
 use Rattle.fare_scheme.specs.Values.{SchemeValue}

@@ -1,24 +1,26 @@
 -- How a session begins.
-use Rattle.std.proofs.Common.{◌≡◌, ℕ, ◌+◌, ◌<◌, Bool, true, false, if◌then◌else◌, List, [], ◌++◌, length, slice_index_or, Some, None, is_some, refl, sym, ap, ◌∙◌, subst, inl, inr, arith}
+use Rattle.std.proofs.Common.{◌≡◌, ℕ, ◌+◌, ◌<◌, Bool, true, false, if◌then◌else◌, List, [], length, slice_index_or, Some, None, is_some, refl, sym, ap, ◌∙◌, inl, inr, arith}
 use Rattle.std.specs.Prelude.{◌⊎◌, ◌≢◌, nat_lt, Option, option_map, Result, Ok, Err}
 use Rattle.std.proofs.lemmas.List.{append-nil}
 use Rattle.std.proofs.lemmas.Bool.Decides.{nat_tests}
 use Rattle.fare_scheme.specs.Values.{SchemeValue}
 use Rattle.fare_scheme.specs.Words.{station_of, position_of_station}
-use Rattle.fare_collector.specs.Collecting.{is_id, next_in}
+use Rattle.fare_collector.specs.Collecting.{is_id}
 use Rattle.fare_store.specs.declared.fault.Fault.{Fault}
 use Rattle.fare_store.specs.declared.fault.Fault.TheVariants as fault
-use Rattle.fare_store.specs.Standing.{Standing, IsSound}
+use Rattle.fare_store.specs.Standing.{Standing}
 use Rattle.fare_store.specs.OutboxWords.{OutboxValue}
 use Rattle.fare_source.specs.Talking.{Talk}
 use Rattle.fare_session.specs.Served.{Rose}
 use Rattle.fare_collect.specs.declared.fault.WriterFault.{WriterFault}
 use Rattle.fare_collect.specs.declared.fault.WriterFault.TheVariants as writer
+use Rattle.fare_collect.specs.declared.fault.StationFault.{StationFault}
+use Rattle.fare_collect.specs.declared.fault.StationFault.TheVariants.{Source, Unexpected}
 use Rattle.fare_collect.specs.declared.station.Station.{Station}
 use Rattle.fare_collect.specs.Writing.{as_writer, Wrote}
 use Rattle.fare_collect.specs.Resting.{IsNoneOf}
-use Rattle.fare_collect.specs.Resuming.{AreStations, resumed_next, anew, HaveBegun, HaveResumed}
-use Rattle.fare_collect.specs.Collected.{HaveDevices, first_links, IsFitting, HasTalked, IsCollected}
+use Rattle.fare_collect.specs.Resuming.{AreStations, resumed_next, HaveBegun, HaveResumed}
+use Rattle.fare_collect.specs.Collected.{first_links, IsCollected}
 use Rattle.fare_collect.proofs.Places.{same_by_place}
 use Rattle.fare_collect.proofs.Gathers.{gathering_of}
 
@@ -127,6 +129,8 @@ nothing {S} sc talks a b f before after w wrote o other rose = record {
         keeps = λ fit. refl;
         whole = λ fit none. refl;
         named = e.1;
+        cause = λ is. absurd (let q : ◌≡◌ {A = Option StationFault} None (Some Source) = sym e.2 ∙ is in cc);
+        unexpected = λ is. absurd (let q : ◌≡◌ {A = Option StationFault} None (Some Unexpected) = sym e.2 ∙ is in cc);
         none_held = λ at_end. refl;
       };
   left_is = refl;

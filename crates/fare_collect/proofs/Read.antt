@@ -1,5 +1,5 @@
 -- What a station's thread did, one step more.
-use Rattle.std.proofs.Common.{◌≡◌, ◌≢◌, ℕ, List, [], ◌∷◌, ◌++◌, map, Some, None, true, false, refl, sym, ap, ◌∙◌, subst, append_assoc, arith}
+use Rattle.std.proofs.Common.{◌≡◌, ◌≢◌, ℕ, List, [], ◌∷◌, ◌++◌, map, Some, None, true, false, refl, sym, ap, ◌∙◌, subst, append_assoc, inl, inr, arith}
 use Rattle.std.specs.Prelude.{Option, Bool, Ok, Err}
 use Rattle.std.proofs.lemmas.List.{append-nil, map-append}
 use Rattle.fare_frame.specs.declared.frame.Frame.{Frame}
@@ -63,6 +63,11 @@ answered_more a b c h0 h1 h2 item was took heard =
       cause = heard.cause ∙ was.cause;
     }
 
+-- the count of a source that failed
+source_rose : {old new : ℕ} → Rattle.fare_source.specs.Talking.FailedCounted old new (Some source.Failed) → SourceCounted old new (Some Source)
+source_rose (inl lt) = inl lt
+source_rose (inr full) = inr full.0
+
 pub answered_failed : (a b c : Talk) (h0 h1 h2 : List AckItem) (item : AckItem) (f : SourceFault) → HasAnswered a b h0 h1 None → h2 ≡ h1 ++ item ∷ [] → Hears b c (frame_for item) (Err f) → HasAnswered a c h0 h2 (Some (as_station f))
 answered_failed a b c h0 h1 h2 item source.Failed was took heard =
     let none = was.kept not_memory in
@@ -77,7 +82,7 @@ answered_failed a b c h0 h1 h2 item source.Failed was took heard =
       given = heard.given ∙ was.given;
       ended = λ e. heard.ended (was.ended e);
       other = λ e. absurd (cc);
-      cause = subst (λ n. SourceCounted n c.failures (Some Source)) was.cause heard.cause;
+      cause = subst (λ n. SourceCounted n c.failures (Some Source)) was.cause (source_rose heard.cause);
     }
 answered_failed a b c h0 h1 h2 item source.Memory was took heard =
     let none = was.kept not_memory in
@@ -196,7 +201,7 @@ read_failed sc station a b c n0 n1 s0 s1 h0 h1 f was gives = record {
     never source.Memory e = absurd (cc)
 
     counts : (f : SourceFault) → Rattle.fare_source.specs.Talking.FailedCounted b.failures c.failures (Some f) → SourceCounted a.failures c.failures (Some (as_station f))
-    counts source.Failed x = subst (λ n. SourceCounted n c.failures (Some Source)) was.cause x
+    counts source.Failed x = subst (λ n. SourceCounted n c.failures (Some Source)) was.cause (source_rose x)
     counts source.Memory x = x ∙ was.cause
 
 -- a frame was given and passed on

@@ -12,6 +12,7 @@ use Rattle.fare_inbox_queue.specs.declared.arrived.Arrived.{Arrived}
 use Rattle.fare_inbox_queue.specs.declared.inbox_ended.InboxEnded.{InboxEnded}
 use Rattle.fare_inbox_queue.specs.Inbox.{of_station}
 use Rattle.fare_inbox_queue.specs.InboxPasses.{left_of}
+use Rattle.fare_collect.specs.declared.tally.Tally.{Tally}
 use Rattle.fare_collect.specs.declared.fault.StationFault.{StationFault}
 use Rattle.fare_collect.specs.declared.fault.StationFault.TheVariants.{Unexpected}
 use Rattle.fare_collect.specs.declared.station.Station.{Station}
@@ -25,31 +26,31 @@ use Rattle.fare_collect.specs.Resting.{HasKept, HasKeepingLeft, HasKeptLeft, ite
 use Rattle.fare_collect.proofs.Told.{written_none, written_then}
 use Rattle.fare_collect.proofs.Read.{arrivals_append, next_append}
 
-pub kept_none : (s : Standing OutboxValue) (n : ℕ) → IsSound s → HasKept s s [] n n None
-kept_none s n sound = record { each = λ sc t. written_none sc s t n sound }
+pub kept_none : (sc : SchemeValue) (s : Standing OutboxValue) (n : Tally) → IsSound s → HasKept sc s s [] n n None
+kept_none sc s n sound = record { each = λ t. written_none sc s t n sound }
 
-pub kept_then : (a b c : Standing OutboxValue) (xs ys : List Arrived) (n0 n1 n2 : ℕ) (halt : Option Halt) → HasKept a b xs n0 n1 None → HasKept b c ys n1 n2 halt → HasKept a c (xs ++ ys) n0 n2 halt
-kept_then a b c xs ys n0 n1 n2 halt first second = record { each = λ sc t. written_then sc a b c xs ys t t t n0 n1 n2 halt (first.each sc t) (second.each sc t) }
+pub kept_then : (sc : SchemeValue) (a b c : Standing OutboxValue) (xs ys : List Arrived) (n0 n1 n2 : Tally) (halt : Option Halt) → HasKept sc a b xs n0 n1 None → HasKept sc b c ys n1 n2 halt → HasKept sc a c (xs ++ ys) n0 n2 halt
+kept_then sc a b c xs ys n0 n1 n2 halt first second = record { each = λ t. written_then sc a b c xs ys t t t n0 n1 n2 halt (first.each t) (second.each t) }
 
 -- WHAT WAS LEFT
-pub keeping_none : (s : Standing OutboxValue) (e : InboxEnded) (n : ℕ) → IsSound s → HasKeepingLeft s s e e n n None
-keeping_none s e n sound = record { items = []; parts = λ station. refl; kept = kept_none s n sound; count = omega arith }
+pub keeping_none : (sc : SchemeValue) (s : Standing OutboxValue) (e : InboxEnded) (n : Tally) → IsSound s → HasKeepingLeft sc s s e e n n None
+keeping_none sc s e n sound = record { items = []; parts = λ station. refl; kept = kept_none sc s n sound; count = omega arith }
 
-pub keeping_more : (a b c : Standing OutboxValue) (e0 e1 e2 : InboxEnded) (item : Arrived) (n0 n1 n2 : ℕ) (halt : Option Halt) → HasKeepingLeft a b e0 e1 n0 n1 None
-    → ((station : ℕ) → left_of e1 station ≡ of_station station (item ∷ []) ++ left_of e2 station) → e1.left ≡ e2.left + 1 → HasKept b c (item ∷ []) n1 n2 halt → HasKeepingLeft a c e0 e2 n0 n2 halt
-keeping_more a b c e0 e1 e2 item n0 n1 n2 halt was next fewer kept = record {
+pub keeping_more : (sc : SchemeValue) (a b c : Standing OutboxValue) (e0 e1 e2 : InboxEnded) (item : Arrived) (n0 n1 n2 : Tally) (halt : Option Halt) → HasKeepingLeft sc a b e0 e1 n0 n1 None
+    → ((station : ℕ) → left_of e1 station ≡ of_station station (item ∷ []) ++ left_of e2 station) → e1.left ≡ e2.left + 1 → HasKept sc b c (item ∷ []) n1 n2 halt → HasKeepingLeft sc a c e0 e2 n0 n2 halt
+keeping_more sc a b c e0 e1 e2 item n0 n1 n2 halt was next fewer kept = record {
   items = was.items ++ item ∷ [];
   parts = λ station.
       was.parts station ∙ (ap (λ l. of_station station was.items ++ l) (next station)
       ∙ (sym (append_assoc (of_station station was.items) (of_station station (item ∷ [])) (left_of e2 station))
       ∙ ap (λ l. l ++ left_of e2 station) (sym (filter-append _ was.items (item ∷ [])))));
-  kept = kept_then a b c was.items (item ∷ []) n0 n1 n2 halt was.kept kept;
+  kept = kept_then sc a b c was.items (item ∷ []) n0 n1 n2 halt was.kept kept;
   count = let l = length-append was.items (item ∷ []) in let w = was.count in omega (arith, l, w, fewer);
 }
 
-pub keeping_end : (a b : Standing OutboxValue) (e0 e1 e2 : InboxEnded) (n0 n1 : ℕ) → HasKeepingLeft a b e0 e1 n0 n1 None
-    → ((station : ℕ) → (left_of e1 station ≡ []) × (left_of e2 station ≡ [])) → (e1.left ≡ 0) × (e2.left ≡ 0) → HasKeptLeft a b e0 e2 n0 n1 None
-keeping_end a b e0 e1 e2 n0 n1 was none zero = record {
+pub keeping_end : (sc : SchemeValue) (a b : Standing OutboxValue) (e0 e1 e2 : InboxEnded) (n0 n1 : Tally) → HasKeepingLeft sc a b e0 e1 n0 n1 None
+    → ((station : ℕ) → (left_of e1 station ≡ []) × (left_of e2 station ≡ [])) → (e1.left ≡ 0) × (e2.left ≡ 0) → HasKeptLeft sc a b e0 e2 n0 n1 None
+keeping_end sc a b e0 e1 e2 n0 n1 was none zero = record {
   some = record {
     items = was.items;
     parts = λ station. was.parts station ∙ ap (λ l. of_station station was.items ++ l) ((none station).0 ∙ sym (none station).1);
@@ -60,11 +61,11 @@ keeping_end a b e0 e1 e2 n0 n1 was none zero = record {
   none = λ h. zero.1;
 }
 
-pub keeping_halt : (a b : Standing OutboxValue) (e0 e1 : InboxEnded) (n0 n1 : ℕ) (halt : Halt) → HasKeepingLeft a b e0 e1 n0 n1 (Some halt) → HasKeptLeft a b e0 e1 n0 n1 (Some halt)
-keeping_halt a b e0 e1 n0 n1 halt was = record { some = was; whole = λ h. absurd (cc); none = λ h. absurd (cc) }
+pub keeping_halt : (sc : SchemeValue) (a b : Standing OutboxValue) (e0 e1 : InboxEnded) (n0 n1 : Tally) (halt : Halt) → HasKeepingLeft sc a b e0 e1 n0 n1 (Some halt) → HasKeptLeft sc a b e0 e1 n0 n1 (Some halt)
+keeping_halt sc a b e0 e1 n0 n1 halt was = record { some = was; whole = λ h. absurd (cc); none = λ h. absurd (cc) }
 
 -- THE REST OF A SOURCE
-pub resting_none : {S : Type 0} (sc : SchemeValue) (talks : S → Talk) (id : ℕ) (s : Standing OutboxValue) (n : ℕ) (t : Station S) → IsSound s → t.end.fault ≡ None → t.end.ended ≡ false → HasResting sc talks id s s n n t t [] None
+pub resting_none : {S : Type 0} (sc : SchemeValue) (talks : S → Talk) (id : ℕ) (s : Standing OutboxValue) (n : Tally) (t : Station S) → IsSound s → t.end.fault ≡ None → t.end.ended ≡ false → HasResting sc talks id s s n n t t [] None
 resting_none sc talks id s n t sound fault unended = record {
   more = [];
   given = sym (append-nil (talks t.source).given);
@@ -77,14 +78,14 @@ resting_none sc talks id s n t sound fault unended = record {
   arrived = refl;
   next = refl;
   named = refl;
-  kept = kept_none s n sound;
+  kept = kept_none sc s n sound;
   fault = fault;
   failures = refl;
 }
 
-pub resting_more : {S : Type 0} (sc : SchemeValue) (talks : S → Talk) (id : ℕ) (a b c : Standing OutboxValue) (n0 n1 n2 : ℕ) (t0 t1 t2 t3 : Station S) (passed : List Frame) (f : Frame) (result : Option (Option Arrived)) (halt : Option Halt)
+pub resting_more : {S : Type 0} (sc : SchemeValue) (talks : S → Talk) (id : ℕ) (a b c : Standing OutboxValue) (n0 n1 n2 : Tally) (t0 t1 t2 t3 : Station S) (passed : List Frame) (f : Frame) (result : Option (Option Arrived)) (halt : Option Halt)
     → HasResting sc talks id a b n0 n1 t0 t1 passed None → HasNext (talks t1.source) (talks t2.source) t1.end t2.end (Some f) → t2.collector ≡ t1.collector → HasJudged sc id f t2 t3 result
-    → HasKept b c (items_in result) n1 n2 halt → HasResting sc talks id a c n0 n2 t0 t3 (passed ++ f ∷ []) halt
+    → HasKept sc b c (items_in result) n1 n2 halt → HasResting sc talks id a c n0 n2 t0 t3 (passed ++ f ∷ []) halt
 resting_more sc talks id a b c n0 n1 n2 t0 t1 t2 t3 passed f result halt was next coll judged kept =
     let same : talks t3.source ≡ talks t2.source = ap talks judged.source in
     let nexts : next_in t2.collector ≡ next_links_all sc (next_in t0.collector) passed = ap next_in coll ∙ was.next in
@@ -110,13 +111,13 @@ resting_more sc talks id a b c n0 n1 n2 t0 t1 t2 t3 passed f result halt was nex
           ∙ sym (arrivals_append sc id (next_in t0.collector) passed (f ∷ [])));
       next = judged.next ∙ (ap (λ (n : ℕ → Option ℕ). next_links sc n f) nexts ∙ sym (next_append sc (next_in t0.collector) passed (f ∷ [])));
       named = judged.named ∙ (ap (λ c. c.station) coll ∙ was.named);
-      kept = kept_then a b c was.items (items_in result) n0 n1 n2 halt was.kept kept;
+      kept = kept_then sc a b c was.items (items_in result) n0 n1 n2 halt was.kept kept;
       fault = ap (λ (e : End). e.fault) judged.end ∙ (next.going was.fault f refl).0;
       failures = ap (λ (t : Talk). t.failures) same ∙ (subst (λ (k : Option StationFault). SourceCounted (talks t1.source).failures (talks t2.source).failures k) (next.going was.fault f refl).0 (next.cause was.fault) ∙ was.failures);
     }
 
 -- the source gave no frame more
-pub rested_end : {S : Type 0} (sc : SchemeValue) (talks : S → Talk) (id : ℕ) (a b : Standing OutboxValue) (n0 n1 : ℕ) (t0 t1 t2 : Station S) (passed : List Frame)
+pub rested_end : {S : Type 0} (sc : SchemeValue) (talks : S → Talk) (id : ℕ) (a b : Standing OutboxValue) (n0 n1 : Tally) (t0 t1 t2 : Station S) (passed : List Frame)
     → HasResting sc talks id a b n0 n1 t0 t1 passed None → HasNext (talks t1.source) (talks t2.source) t1.end t2.end None → t2.collector ≡ t1.collector
     → HasRested sc talks id a b n0 n1 t0 t2 None
 rested_end sc talks id a b n0 n1 t0 t1 t2 passed was next coll =
@@ -153,7 +154,7 @@ rested_end sc talks id a b n0 n1 t0 t1 t2 passed was next coll =
     ends (inr is) fault = let e = sym is.1 ∙ fault in absurd (cc e)
 
 -- the writer halted
-pub rested_halt : {S : Type 0} (sc : SchemeValue) (talks : S → Talk) (id : ℕ) (a b : Standing OutboxValue) (n0 n1 : ℕ) (t0 t1 : Station S) (passed : List Frame) (halt : Halt)
+pub rested_halt : {S : Type 0} (sc : SchemeValue) (talks : S → Talk) (id : ℕ) (a b : Standing OutboxValue) (n0 n1 : Tally) (t0 t1 : Station S) (passed : List Frame) (halt : Halt)
     → HasResting sc talks id a b n0 n1 t0 t1 passed (Some halt) → t1.end.held ≡ None → HasRested sc talks id a b n0 n1 t0 t1 (Some halt)
 rested_halt sc talks id a b n0 n1 t0 t1 passed halt was held =
     let all : held_list t0.end.held ++ was.more ≡ passed = sym was.frames ∙ (ap (λ (h : Option Frame). passed ++ held_list h) held ∙ append-nil passed) in
@@ -176,7 +177,7 @@ rested_halt sc talks id a b n0 n1 t0 t1 passed halt was held =
     }
 
 -- a frame came that no device sends
-pub rested_unexpected : {S : Type 0} (sc : SchemeValue) (talks : S → Talk) (id : ℕ) (a b : Standing OutboxValue) (n0 n1 : ℕ) (t0 t1 t2 : Station S) (passed : List Frame)
+pub rested_unexpected : {S : Type 0} (sc : SchemeValue) (talks : S → Talk) (id : ℕ) (a b : Standing OutboxValue) (n0 n1 : Tally) (t0 t1 t2 : Station S) (passed : List Frame)
     → HasResting sc talks id a b n0 n1 t0 t1 passed None → t1.end.held ≡ None → t2.source ≡ t1.source → t2.collector ≡ t1.collector → t2.end.held ≡ None → t2.end.fault ≡ Some Unexpected → t2.end.ended ≡ t1.end.ended → (front : List Frame) (f : Frame) → passed ≡ front ++ f ∷ [] → IsUnexpected f
     → HasRested sc talks id a b n0 n1 t0 t2 None
 rested_unexpected sc talks id a b n0 n1 t0 t1 t2 passed was held source coll held2 fault stays front f is wrong =

@@ -13,6 +13,7 @@ use Rattle.fare_store.specs.OutboxWords.{OutboxValue}
 use Rattle.fare_inbox_queue.specs.declared.arrived.Arrived.{Arrived}
 use Rattle.fare_inbox_queue.specs.declared.arrived.Arrived.TheVariants as arrived
 use Rattle.fare_inbox_queue.specs.Inbox.{station_in, of_station}
+use Rattle.fare_collect.specs.declared.tally.Tally.{Tally}
 use Rattle.fare_collect.specs.declared.station.Station.{Station}
 use Rattle.fare_inbox_queue.specs.declared.ack_passes.HearPass.{HearPass}
 use Rattle.fare_collect.specs.declared.fault.StationFault.TheVariants.{Memory}
@@ -101,7 +102,7 @@ rest_then sc talks xs ys s t u first second =
       ];
     }
 
-rest_own : {S : Type 0} (sc : SchemeValue) (talks : S → Talk) (a b : Standing OutboxValue) (n0 n1 : ℕ) (s t : Station S) (halt : Option Halt) (r : HasRested sc talks s.collector.station a b n0 n1 s t halt) → IsRestOf sc talks r.items s t
+rest_own : {S : Type 0} (sc : SchemeValue) (talks : S → Talk) (a b : Standing OutboxValue) (n0 n1 : Tally) (s t : Station S) (halt : Option Halt) (r : HasRested sc talks s.collector.station a b n0 n1 s t halt) → IsRestOf sc talks r.items s t
 rest_own sc talks a b n0 n1 s t halt r = record {
   passed = held_list s.end.held ++ r.more;
   more = r.more;
@@ -119,11 +120,11 @@ rest_own sc talks a b n0 n1 s t halt r = record {
 }
 
 -- ALL
-pub have_none : {S : Type 0} (sc : SchemeValue) (talks : S → Talk) (s : Standing OutboxValue) (n : ℕ) (stations : List (Station S)) → IsSound s → HaveRested sc talks s s n n stations stations 0 None
-have_none sc talks s n stations sound = record { read = λ e. record { each = λ k d lt. absurd (omega (arith, lt)) }; items = []; kept = kept_none s n sound; len = refl; each = λ k d lt. rest_same sc talks [] (slice_index_or stations k d) refl; others = λ m none. refl }
+pub have_none : {S : Type 0} (sc : SchemeValue) (talks : S → Talk) (s : Standing OutboxValue) (n : Tally) (stations : List (Station S)) → IsSound s → HaveRested sc talks s s n n stations stations 0 None
+have_none sc talks s n stations sound = record { read = λ e. record { each = λ k d lt. absurd (omega (arith, lt)) }; items = []; kept = kept_none sc s n sound; len = refl; each = λ k d lt. rest_same sc talks [] (slice_index_or stations k d) refl; others = λ m none. refl }
 
 -- one station more
-pub have_more : {S : Type 0} (sc : SchemeValue) (talks : S → Talk) (a b c : Standing OutboxValue) (n0 n1 n2 : ℕ) (first now : List (Station S)) (place : ℕ) (x y : Station S) (halt : Option Halt)
+pub have_more : {S : Type 0} (sc : SchemeValue) (talks : S → Talk) (a b c : Standing OutboxValue) (n0 n1 n2 : Tally) (first now : List (Station S)) (place : ℕ) (x y : Station S) (halt : Option Halt)
     → AreApart first → HaveRested sc talks a b n0 n1 first now place None → place < length now → x ≡ slice_index_or now place x → HasRested sc talks x.collector.station b c n1 n2 x y halt
     → HaveRested sc talks a c n0 n2 first (set now place y) (place + 1) halt
 have_more {S} sc talks a b c n0 n1 n2 first now place x y halt apart was lt here r = record {
@@ -138,7 +139,7 @@ have_more {S} sc talks a b c n0 n1 n2 first now place x y halt apart was lt here
     ];
   };
   items = was.items ++ r.items;
-  kept = kept_then a b c was.items r.items n0 n1 n2 halt was.kept r.kept;
+  kept = kept_then sc a b c was.items r.items n0 n1 n2 halt was.kept r.kept;
   len = length-set now place y ∙ was.len;
   each = λ k d below. elim (same_or_apart k place) [
     | inl e ↦
@@ -167,7 +168,7 @@ have_more {S} sc talks a b c n0 n1 n2 first now place x y halt apart was lt here
 }
 
 -- a station whose source is at its end, or that met a fault
-pub have_skip : {S : Type 0} (sc : SchemeValue) (talks : S → Talk) (a b : Standing OutboxValue) (n0 n1 : ℕ) (first now : List (Station S)) (place : ℕ) → HaveRested sc talks a b n0 n1 first now place None
+pub have_skip : {S : Type 0} (sc : SchemeValue) (talks : S → Talk) (a b : Standing OutboxValue) (n0 n1 : Tally) (first now : List (Station S)) (place : ℕ) → HaveRested sc talks a b n0 n1 first now place None
     → ((d : Station S) → (slice_index_or now place d).end.fault ≡ None → (slice_index_or now place d).end.ended ≡ true) → HaveRested sc talks a b n0 n1 first now (place + 1) None
 have_skip {S} sc talks a b n0 n1 first now place was skips = record {
   read = λ none. record {
@@ -184,11 +185,11 @@ have_skip {S} sc talks a b n0 n1 first now place was skips = record {
 }
 
 -- all of them
-pub have_all : {S : Type 0} (sc : SchemeValue) (talks : S → Talk) (a b : Standing OutboxValue) (n0 n1 : ℕ) (first now : List (Station S)) (p q : ℕ) (halt : Option Halt) → p ≡ q → HaveRested sc talks a b n0 n1 first now p halt → HaveRested sc talks a b n0 n1 first now q halt
+pub have_all : {S : Type 0} (sc : SchemeValue) (talks : S → Talk) (a b : Standing OutboxValue) (n0 n1 : Tally) (first now : List (Station S)) (p q : ℕ) (halt : Option Halt) → p ≡ q → HaveRested sc talks a b n0 n1 first now p halt → HaveRested sc talks a b n0 n1 first now q halt
 have_all sc talks a b n0 n1 first now p q halt e was = subst (λ (n : ℕ). HaveRested sc talks a b n0 n1 first now n halt) e was
 
 -- where the writer halted
-pub have_halted : {S : Type 0} (sc : SchemeValue) (talks : S → Talk) (a b : Standing OutboxValue) (n0 n1 : ℕ) (first now : List (Station S)) (p q : ℕ) (halt : Halt) → HaveRested sc talks a b n0 n1 first now p (Some halt) → HaveRested sc talks a b n0 n1 first now q (Some halt)
+pub have_halted : {S : Type 0} (sc : SchemeValue) (talks : S → Talk) (a b : Standing OutboxValue) (n0 n1 : Tally) (first now : List (Station S)) (p q : ℕ) (halt : Halt) → HaveRested sc talks a b n0 n1 first now p (Some halt) → HaveRested sc talks a b n0 n1 first now q (Some halt)
 have_halted sc talks a b n0 n1 first now p q halt was = record { read = λ e. absurd (cc); items = was.items; kept = was.kept; len = was.len; each = was.each; others = was.others }
 
 -- and so all of a station is gathered

@@ -4,6 +4,7 @@ use Rattle.std.specs.Prelude.{Option, Bool, Ok, Err}
 use Rattle.std.specs.List.{AllByRecursion}
 use Rattle.fare_scheme.specs.Values.{SchemeValue}
 use Rattle.fare_store.specs.declared.fault.Fault.{Fault}
+use Rattle.fare_store.specs.declared.fault.Fault.TheVariants as fault
 use Rattle.fare_store.specs.Standing.{Standing, Counted, IsSound}
 use Rattle.fare_session.specs.Stores.{Called}
 use Rattle.fare_store.specs.OutboxWords.{OutboxValue}
@@ -133,6 +134,19 @@ wrote_halt sc s t a f sound c = record {
   live = c.live;
   stays = c.stays;
   cause = c.cause;
+}
+
+-- one that was not given to it
+pub wrote_full : (sc : SchemeValue) (s : Standing OutboxValue) (a : Arrived) → IsSound s → Wrote sc s s [] (Some a) (Some fault.Memory)
+wrote_full sc s a sound = record {
+  value = λ live lawful. (lawful, refl);
+  known = λ clean live lawful. tt;
+  stop = λ clean live lawful v leaves. inl (sound.settled live lawful v leaves);
+  shut = λ clean lawful v leaves. inl leaves;
+  clean = λ h. h;
+  live = λ h. h;
+  stays = λ e. absurd (cc);
+  cause = refl;
 }
 
 -- the same item with what was answered

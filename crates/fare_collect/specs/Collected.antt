@@ -1,7 +1,6 @@
 -- What a session of the stations and the writer did, whatever its outbox might have held when it began.
-use Rattle.std.specs.Prelude.{◌≡◌, ◌≢◌, ◌⊎◌, ℕ, ◌+◌, ◌<◌, ◌≤◌, min, true, is_some, List, [], ◌∷◌, ◌++◌, length, map, slice_index_or, Option, Some, None, if◌then◌else◌}
+use Rattle.std.specs.Prelude.{◌≡◌, ◌⊎◌, ℕ, ◌+◌, ◌<◌, min, true, is_some, List, [], ◌∷◌, ◌++◌, length, map, slice_index_or, Option, Some, None, if◌then◌else◌}
 use Rattle.std.specs.List.{AllByRecursion}
-use Rattle.fare_record.specs.declared.ack_item.AckItem.{AckItem}
 use Rattle.fare_record.specs.declared.item.Item.{Item}
 use Rattle.fare_frame.specs.declared.frame.Frame.{Frame}
 use Rattle.fare_scheme.specs.Values.{SchemeValue}
@@ -10,7 +9,7 @@ use Rattle.fare_collector.specs.Collecting.{is_id, next_in}
 use Rattle.fare_store.specs.Standing.{Standing}
 use Rattle.fare_store.specs.OutboxWords.{OutboxValue}
 use Rattle.fare_history.specs.Serving.{in_hand, device_of}
-use Rattle.fare_history.specs.Gathering.{is_new, done_by, storing, storing_all, Entry, Gathering, accepted_by, all_answers, answers_to, of_station, IsGathering}
+use Rattle.fare_history.specs.Gathering.{is_new, done_by, storing, storing_all, items_of, Entry, Gathering, accepted_by, all_answers, answers_to, of_station, IsGathering}
 use Rattle.fare_history.specs.AcceptedLinks.{arrivals}
 use Rattle.fare_history.specs.Plainly.{IsRefusedByOutbox}
 use Rattle.fare_history.specs.Holding.{MayHold, Leads}
@@ -24,12 +23,12 @@ use Rattle.fare_collect.specs.declared.fault.WriterFault.TheVariants as writer
 use Rattle.fare_collect.specs.declared.fault.StationFault.{StationFault}
 use Rattle.fare_collect.specs.declared.fault.StationFault.TheVariants as station
 use Rattle.fare_collect.specs.declared.station.Station.{Station}
-use Rattle.fare_collect.specs.declared.station.End.{End}
-use Rattle.fare_collect.specs.declared.collecting.CollectReport.{CollectReport}
 use Rattle.fare_collect.specs.declared.writing.Halt.{Halt}
 use Rattle.fare_collect.specs.Stations.{frame_for, held_list}
 use Rattle.fare_collect.specs.Resting.{IsNoneOf}
-use Rattle.fare_collect.specs.Ending.{Keeps, last_acks}
+use Rattle.fare_collect.specs.Ending.{Keeps, last_answers}
+use Rattle.fare_collect.specs.Noting.{days_named}
+use Rattle.fare_collect.specs.Arriving.{IsUnexpected}
 
 -- THE STATIONS
 -- each station's collector knows the devices of its station, and no other
@@ -98,8 +97,8 @@ pub record SaysOf {S : Type 0} (sc : SchemeValue) (stations : List (Station S)) 
   pub known : AllByRecursion (λ i. is_some (station_of sc (device_of i)) ≡ true) (accepted_by g)
   -- an item was refused: it is the one in the hand
   pub refused : ended ≡ Some writer.Refused → (i : Item) × (g.hand ≡ Some i) × IsRefusedByOutbox (storing_all x g.entries) i
-  -- at the end each device's greatest link was acknowledged
-  pub last : ended ≡ None → g.last ≡ last_acks sc (storing_all x g.entries)
+  -- at the end each day was acknowledged that a statement named and of which those of all owners are held, and each device's greatest link
+  pub last : ended ≡ None → g.last ≡ last_answers sc (days_named sc (items_of g.entries)) (storing_all x g.entries)
 
 -- What became of a station: of the frames that its source gave all but one that is held went to its collector, what that accepted was put into the inbox, and the source was handed its devices' acknowledgements.
 pub record HasTalked {S : Type 0} (sc : SchemeValue) (talks : S → Talk) (xo xn : Standing OutboxValue) (g : Gathering) (old new : Station S) : Type 0 where
@@ -113,6 +112,9 @@ pub record HasTalked {S : Type 0} (sc : SchemeValue) (talks : S → Talk) (xo xn
   pub keeps : IsFitting xo xn → Keeps (answers_to sc old.collector.station (all_answers g)) kept
   pub whole : IsFitting xo xn → new.end.fault ≡ None → kept ≡ map frame_for (answers_to sc old.collector.station (all_answers g))
   pub named : new.collector.station ≡ old.collector.station
+  -- its fault has its cause: its source failed, or a frame came that no device sends
+  pub cause : new.end.fault ≡ Some station.Source → Rose (talks old.source).failures (talks new.source).failures
+  pub unexpected : new.end.fault ≡ Some station.Unexpected → (front : List Frame) × (f : Frame) × (frames ≡ front ++ f ∷ []) × IsUnexpected f
   -- where it came to its end no frame is held
   pub none_held : new.end.ended ≡ true → held ≡ None
 

@@ -1,5 +1,5 @@
 -- The answers after the joins.
-use Rattle.std.specs.Prelude.{◌≡◌, ◌≢◌, ◌⊎◌, ℕ, ◌<◌, ◌≤◌, List, [], ◌∷◌, ◌++◌, length, map, slice_index_or, Option, None, Result, Ok}
+use Rattle.std.specs.Prelude.{◌≡◌, ◌≢◌, ◌⊎◌, ℕ, ◌<◌, ◌≤◌, List, [], ◌∷◌, ◌++◌, length, map, slice_index_or, Option, Some, None, Result, Ok}
 use Rattle.std.specs.List.{AllByRecursion}
 use Rattle.fare_scheme.specs.Values.{SchemeValue}
 use Rattle.fare_store.specs.declared.fault.Fault.{Fault}
@@ -13,10 +13,14 @@ use Rattle.fare_record.specs.declared.ack_item.AckItem.TheVariants.{Upto}
 use Rattle.fare_inbox_queue.specs.declared.ack_passes.HearPass.{HearPass}
 use Rattle.fare_inbox_queue.specs.LinePasses.{put_list, heard_list}
 use Rattle.fare_collect.specs.declared.fault.StationFault.{StationFault}
+use Rattle.fare_collect.specs.declared.fault.StationFault.TheVariants.{Source, Unexpected}
 use Rattle.fare_collect.specs.declared.station.Station.{Station}
 use Rattle.fare_collect.specs.declared.station.Teller.{Teller}
 use Rattle.fare_source.specs.Talking.{Talk}
+use Rattle.fare_store.specs.Keys.{Key}
+use Rattle.fare_collect.specs.Noting.{day_acks}
 use Rattle.fare_collect.specs.Stations.{frame_for}
+use Rattle.fare_session.specs.Served.{Rose}
 
 -- some of the answers, in their order
 abbrev pub Keeps : List AckItem → List Frame → Type 0
@@ -32,6 +36,9 @@ pub record HasHanded (old new : Talk) (items : List AckItem) (f g : Option Stati
   pub ended : old.ended → new.ended
   pub first : f ≢ None → g ≡ f
   pub whole : g ≡ None → (f ≡ None) × (kept ≡ map frame_for items)
+  pub rises : old.failures ≤ new.failures
+  pub cause : f ≡ None → g ≡ Some Source → Rose old.failures new.failures
+  pub other : f ≡ None → g ≢ Some Unexpected
 
 pub record IsHanded {S : Type 0} (talks : S → Talk) (items : List AckItem) (old new : Station S) : Type 0 where
   pub handed : HasHanded (talks old.source) (talks new.source) items old.end.fault new.end.fault
@@ -74,18 +81,26 @@ acks_of x devices = map (λ d. last_ack x d.0) devices
 abbrev pub last_acks : SchemeValue → OutboxValue → List AckItem
 last_acks sc x = acks_of x sc.devices
 
+-- before them one for each of these days that is held of all owners
+abbrev pub last_answers : SchemeValue → List Key → OutboxValue → List AckItem
+last_answers sc days x = day_acks sc x days ++ last_acks sc x
+
 -- each station's source was handed those of its devices, in their order
 pub record AreSent {S : Type 0} (sc : SchemeValue) (talks : S → Talk) (answers : List AckItem) (before after : List (Station S)) : Type 0 where
   pub len : length after ≡ length before
   pub each : (k : ℕ) (d : Station S) → k < length before → IsHanded talks (answers_to sc (slice_index_or before k d).collector.station answers) (slice_index_or before k d) (slice_index_or after k d)
 
--- the last acknowledgements were sent: each is true of the outbox, and where no read failed there is one for each device
-pub record HaveLast {S : Type 0} (sc : SchemeValue) (talks : S → Talk) (old new : Standing OutboxValue) (before after : List (Station S)) (result : Result Unit Fault) : Type 0 where
+-- What is due was sent: each acknowledgement is true of the outbox, and where no read failed none is missing.
+pub record HaveSent {S : Type 0} (sc : SchemeValue) (talks : S → Talk) (old new : Standing OutboxValue) (before after : List (Station S)) (due : OutboxValue → List AckItem) (result : Result Unit Fault) : Type 0 where
   pub wrote : Wrote sc old new [] None (fault_of result)
   pub answers : List AckItem
   pub sent : AreSent sc talks answers before after
   -- where the outbox answered and has kept what was committed, it was live
   pub began : (answers ≡ []) ⊎ (new.clean → old.live)
-  pub read : result ≡ Ok tt → new.clean → old.live
   pub from : new.clean → (old.live → old.lawful) → AllByRecursion (IsAnswerFrom sc old.value) answers
-  pub whole : result ≡ Ok tt → new.clean → (old.live → old.lawful) → answers ≡ last_acks sc old.value
+  pub whole : result ≡ Ok tt → new.clean → (old.live → old.lawful) → answers ≡ due old.value
+
+-- the same, of at least one read
+pub record HaveLast {S : Type 0} (sc : SchemeValue) (talks : S → Talk) (old new : Standing OutboxValue) (before after : List (Station S)) (due : OutboxValue → List AckItem) (result : Result Unit Fault) : Type 0 where
+  pub have : HaveSent sc talks old new before after due result
+  pub read : result ≡ Ok tt → new.clean → old.live

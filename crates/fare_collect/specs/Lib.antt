@@ -1,5 +1,6 @@
 pub mod Arriving
 pub mod Gathering
+pub mod Noting
 pub mod Writing
 pub mod Stations
 pub mod Opening

@@ -15,25 +15,26 @@ use Rattle.fare_collect.specs.declared.station.Station.{Station}
 use Rattle.fare_collect.specs.declared.station.End.{End}
 use Rattle.fare_collect.specs.declared.station.Teller.{Teller}
 use Rattle.fare_collect.specs.declared.writing.Halt.{Halt}
+use Rattle.fare_collect.specs.declared.tally.Tally.{Tally}
 use Rattle.fare_source.specs.Talking.{Talk}
 use Rattle.fare_history.specs.AcceptedLinks.{next_links, next_links_all}
 use Rattle.fare_collect.specs.Arriving.{arrived_of, arrivals, IsUnexpected}
 use Rattle.fare_collect.specs.Stations.{held_list, SourceCounted, HasWritten}
 
 -- items were stored, or had been before, and no line was told
-pub record HasKept (old new : Standing OutboxValue) (items : List Arrived) (count_old count_new : ℕ) (halt : Option Halt) : Type 0 where
-  pub each : (sc : SchemeValue) (t : List Teller) → HasWritten sc old new items t t count_old count_new halt
+pub record HasKept (sc : SchemeValue) (old new : Standing OutboxValue) (items : List Arrived) (tally_old tally_new : Tally) (halt : Option Halt) : Type 0 where
+  pub each : (t : List Teller) → HasWritten sc old new items t t tally_old tally_new halt
 
 -- some of what was left in the inbox, from the front of each station's part
-pub record HasKeepingLeft (old new : Standing OutboxValue) (before after : InboxEnded) (count_old count_new : ℕ) (halt : Option Halt) : Type 0 where
+pub record HasKeepingLeft (sc : SchemeValue) (old new : Standing OutboxValue) (before after : InboxEnded) (tally_old tally_new : Tally) (halt : Option Halt) : Type 0 where
   pub items : List Arrived
   pub parts : (station : ℕ) → left_of before station ≡ of_station station items ++ left_of after station
-  pub kept : HasKept old new items count_old count_new halt
+  pub kept : HasKept sc old new items tally_old tally_new halt
   pub count : before.left ≡ length items + after.left
 
 -- what was left in the inbox, from the front of each station's part
-pub record HasKeptLeft (old new : Standing OutboxValue) (before after : InboxEnded) (count_old count_new : ℕ) (halt : Option Halt) : Type 0 where
-  pub some : HasKeepingLeft old new before after count_old count_new halt
+pub record HasKeptLeft (sc : SchemeValue) (old new : Standing OutboxValue) (before after : InboxEnded) (tally_old tally_new : Tally) (halt : Option Halt) : Type 0 where
+  pub some : HasKeepingLeft sc old new before after tally_old tally_new halt
   pub whole : halt ≡ None → (station : ℕ) → left_of after station ≡ []
   pub none : halt ≡ None → after.left ≡ 0
 
@@ -64,7 +65,7 @@ pub record HasNext (old new : Talk) (before after : End) (result : Option Frame)
   pub other : before.fault ≡ None → after.fault ≡ Some Unexpected → ⊥
 
 -- the rest of a station's source, first the frame that was held, was accepted and stored
-pub record HasRested {S : Type 0} (sc : SchemeValue) (talks : S → Talk) (id : ℕ) (old new : Standing OutboxValue) (count_old count_new : ℕ) (before after : Station S) (halt : Option Halt) : Type 0 where
+pub record HasRested {S : Type 0} (sc : SchemeValue) (talks : S → Talk) (id : ℕ) (old new : Standing OutboxValue) (tally_old tally_new : Tally) (before after : Station S) (halt : Option Halt) : Type 0 where
   pub more : List Frame
   pub given : (talks after.source).given ≡ (talks before.source).given ++ more
   pub held : after.end.held ≡ None
@@ -75,14 +76,14 @@ pub record HasRested {S : Type 0} (sc : SchemeValue) (talks : S → Talk) (id : 
   pub arrived : items ≡ arrivals sc id (next_in before.collector) (held_list before.end.held ++ more)
   pub next : next_in after.collector ≡ next_links_all sc (next_in before.collector) (held_list before.end.held ++ more)
   pub named : after.collector.station ≡ before.collector.station
-  pub kept : HasKept old new items count_old count_new halt
+  pub kept : HasKept sc old new items tally_old tally_new halt
   pub whole : halt ≡ None → after.end.fault ≡ None → (after.end.ended ≡ true) × (talks after.source).ended
   pub at_end : after.end.ended ≡ true → (talks after.source).ended × (after.end.fault ≡ None)
   pub unexpected : after.end.fault ≡ Some Unexpected → (front : List Frame) × (f : Frame) × (held_list before.end.held ++ more ≡ front ++ f ∷ []) × IsUnexpected f
   pub cause : SourceCounted (talks before.source).failures (talks after.source).failures after.end.fault
 
 -- some of that
-pub record HasResting {S : Type 0} (sc : SchemeValue) (talks : S → Talk) (id : ℕ) (old new : Standing OutboxValue) (count_old count_new : ℕ) (before after : Station S) (passed : List Frame) (halt : Option Halt) : Type 0 where
+pub record HasResting {S : Type 0} (sc : SchemeValue) (talks : S → Talk) (id : ℕ) (old new : Standing OutboxValue) (tally_old tally_new : Tally) (before after : Station S) (passed : List Frame) (halt : Option Halt) : Type 0 where
   pub more : List Frame
   pub given : (talks after.source).given ≡ (talks before.source).given ++ more
   pub frames : passed ++ held_list after.end.held ≡ held_list before.end.held ++ more
@@ -94,7 +95,7 @@ pub record HasResting {S : Type 0} (sc : SchemeValue) (talks : S → Talk) (id :
   pub arrived : items ≡ arrivals sc id (next_in before.collector) passed
   pub next : next_in after.collector ≡ next_links_all sc (next_in before.collector) passed
   pub named : after.collector.station ≡ before.collector.station
-  pub kept : HasKept old new items count_old count_new halt
+  pub kept : HasKept sc old new items tally_old tally_new halt
   pub fault : after.end.fault ≡ None
   pub failures : (talks after.source).failures ≡ (talks before.source).failures
 
@@ -124,10 +125,10 @@ abbrev pub IsNoneOf : {S : Type 0} → ℕ → List (Station S) → Type 0
 IsNoneOf {S} station stations = (k : ℕ) (d : Station S) → k < length stations → station ≢ (slice_index_or stations k d).collector.station
 
 -- the rest of the sources of the stations up to a place was stored
-pub record HaveRested {S : Type 0} (sc : SchemeValue) (talks : S → Talk) (old new : Standing OutboxValue) (count_old count_new : ℕ) (before after : List (Station S)) (place : ℕ) (halt : Option Halt) : Type 0 where
+pub record HaveRested {S : Type 0} (sc : SchemeValue) (talks : S → Talk) (old new : Standing OutboxValue) (tally_old tally_new : Tally) (before after : List (Station S)) (place : ℕ) (halt : Option Halt) : Type 0 where
   pub read : halt ≡ None → AreRead after place
   pub items : List Arrived
-  pub kept : HasKept old new items count_old count_new halt
+  pub kept : HasKept sc old new items tally_old tally_new halt
   pub len : length after ≡ length before
   pub each : (k : ℕ) (d : Station S) → k < length before → IsRestOf sc talks items (slice_index_or before k d) (slice_index_or after k d)
   pub others : (station : ℕ) → IsNoneOf station before → of_station station items ≡ []

@@ -19,10 +19,11 @@ use Rattle.fare_store.specs.OutboxWords.{OutboxValue}
 use Rattle.fare_collect.specs.declared.station.Station.{Station}
 use Rattle.fare_collect.specs.declared.station.Teller.{Teller}
 use Rattle.fare_collect.specs.declared.writing.Halt.{Halt}
+use Rattle.fare_collect.specs.declared.tally.Tally.{Tally}
 use Rattle.fare_source.specs.Talking.{Talk}
 use Rattle.fare_collect.specs.Opening.{AreNew}
 use Rattle.fare_collect.specs.Gathering.{in_hand, storing_all}
-use Rattle.fare_collect.specs.Ending.{IsHanded, IsHandedLeft, last_acks}
+use Rattle.fare_collect.specs.Ending.{IsHanded, IsHandedLeft, last_answers}
 use Rattle.fare_collect.specs.Resting.{AreApart, AreRead, IsNoneOf}
 use Rattle.fare_history.specs.AcceptedLinks.{next_links_all}
 use Rattle.fare_collect.specs.Arriving.{arrivals, IsUnexpected}
@@ -70,14 +71,14 @@ pub record HasGathered {S : Type 0} (sc : SchemeValue) (talks : S → Talk) (all
   pub unexpected : new.end.fault ≡ Some Unexpected → (front : List Frame) × (f : Frame) × (frames ≡ front ++ f ∷ []) × IsUnexpected f
 
 -- the whole: what the writer had, in its order, and what is left in the inbox, the stations in some order
-pub record HaveGathered {S : Type 0} (sc : SchemeValue) (talks : S → Talk) (old new : Standing OutboxValue) (tellers_old tellers_new : List Teller) (count_old count_new : ℕ) (before after : List (Station S)) (hears : List HearPass) (room left : ℕ) (halt : Option Halt) : Type 0 where
+pub record HaveGathered {S : Type 0} (sc : SchemeValue) (talks : S → Talk) (old new : Standing OutboxValue) (tellers_old tellers_new : List Teller) (tally_old tally_new : Tally) (before after : List (Station S)) (hears : List HearPass) (room left : ℕ) (halt : Option Halt) : Type 0 where
   pub all : List Arrived
   pub inbox : List Arrived
   pub few : length inbox ≤ room
   pub count : left ≡ length inbox
   pub others : (station : ℕ) → IsNoneOf station before → (of_station station all ≡ []) × (of_station station inbox ≡ [])
   pub len : length after ≡ length before
-  pub written : HasWritten sc old new all tellers_old tellers_new count_old count_new halt
+  pub written : HasWritten sc old new all tellers_old tellers_new tally_old tally_new halt
   pub each : (k : ℕ) (d : Station S) (h : HearPass) → k < length before → HasGathered sc talks all (λ station. of_station station inbox) (slice_index_or hears k h) (slice_index_or before k d) (slice_index_or after k d)
 
 abbrev pub id_of : {S : Type 0} → Station S → ℕ
@@ -104,7 +105,7 @@ pub record HasEnded {S : Type 0} (sc : SchemeValue) (talks : S → Talk) (all : 
   pub answered : IsHanded talks last closed new
 
 -- the whole session, of the opening outbox and of the stations
-pub record HasSession {S : Type 0} (sc : SchemeValue) (talks : S → Talk) (old new : Standing OutboxValue) (count_old count_new : ℕ) (before after : List (Station S)) (left : ℕ) (halt : Option Halt) : Type 0 where
+pub record HasSession {S : Type 0} (sc : SchemeValue) (talks : S → Talk) (old new : Standing OutboxValue) (tally_old tally_new : Tally) (before after : List (Station S)) (left : ℕ) (halt : Option Halt) : Type 0 where
   pub all : List Arrived
   -- what is left in the inbox, the stations in some order
   pub inbox : List Arrived
@@ -115,7 +116,7 @@ pub record HasSession {S : Type 0} (sc : SchemeValue) (talks : S → Talk) (old 
   pub hears : List HearPass
   pub even : (length tellers_old ≡ length before) × (length tellers_new ≡ length before) × (length hears ≡ length before)
   pub len : length after ≡ length before
-  pub written : HasWritten sc old new all tellers_old tellers_new count_old count_new halt
+  pub written : HasWritten sc old new all tellers_old tellers_new tally_old tally_new halt
   -- without a halt of the writer each station's source has come to its end, but for those that met a fault
   pub read : halt ≡ None → AreRead after (length before)
   pub untold : (k : ℕ) (d : Teller) → k < length before → put_list (slice_index_or tellers_old k d).pass ≡ []
@@ -125,6 +126,6 @@ pub record HasSession {S : Type 0} (sc : SchemeValue) (talks : S → Talk) (old 
   pub few : length inbox ≤ sc.inbox_capacity
   pub empty : halt ≡ None → inbox ≡ []
   pub count : left ≡ length (in_hand (hand_of halt) ++ inbox)
-  -- each of the last acknowledgements is true of the outbox; without a halt of the writer there is one for each device
+  -- each of the last acknowledgements is true of the outbox; without a halt of the writer none is missing
   pub from : new.clean → (old.live → old.lawful) → AllByRecursion (IsAnswerFrom sc (storing_all old.value written.entries)) last
-  pub whole : halt ≡ None → new.clean → (old.live → old.lawful) → last ≡ last_acks sc (storing_all old.value written.entries)
+  pub whole : halt ≡ None → new.clean → (old.live → old.lawful) → last ≡ last_answers sc tally_new.days.keys (storing_all old.value written.entries)

@@ -1,5 +1,5 @@
 -- What the threads of a session did.
-use Rattle.std.specs.Prelude.{◌≡◌, ◌≢◌, ◌⊎◌, ℕ, ◌+◌, ◌<◌, ◌≤◌, min, true, false, Bool, List, [], ◌∷◌, ◌++◌, length, map, slice_index_or, Option, Some, None, if◌then◌else◌}
+use Rattle.std.specs.Prelude.{◌≡◌, ◌≢◌, ◌⊎◌, ℕ, ◌+◌, ◌<◌, ◌≤◌, min, true, false, Bool, List, [], ◌∷◌, ◌++◌, length, map, slice_index_or, Option, Some, None, if◌then◌else◌, fold}
 use Rattle.fare_frame.specs.declared.frame.Frame.{Frame}
 use Rattle.fare_frame.specs.declared.frame.Frame.TheVariants.{Acked, DayAcked}
 use Rattle.fare_scheme.specs.Values.{SchemeValue}
@@ -25,7 +25,10 @@ use Rattle.fare_store.specs.declared.fault.Fault.{Fault}
 use Rattle.fare_collect.specs.declared.fault.WriterFault.{WriterFault}
 use Rattle.fare_collect.specs.declared.fault.WriterFault.TheVariants as writer
 use Rattle.fare_collect.specs.declared.writing.Halt.{Halt}
-use Rattle.fare_collect.specs.Gathering.{Entry, items_of, in_hand, told_to, storing_all, new_count, IsRefused}
+use Rattle.fare_store.specs.Keys.{Key}
+use Rattle.fare_collect.specs.declared.tally.Tally.{Tally}
+use Rattle.fare_collect.specs.Noting.{noting}
+use Rattle.fare_collect.specs.Gathering.{item_of, Entry, items_of, in_hand, told_to, storing_all, new_count, IsRefused}
 use Rattle.fare_collect.specs.Writing.{store_fault, Wrote}
 use Rattle.fare_history.specs.AcceptedLinks.{next_links, next_links_all}
 use Rattle.fare_collect.specs.Arriving.{arrived_of, arrivals, IsUnexpected}
@@ -153,12 +156,17 @@ abbrev pub RefusedBy : OutboxValue → Option Halt → Type 0
 RefusedBy x None = Unit {0}
 RefusedBy x (Some h) = IsRefusedItem x h.fault h.hand
 
+-- the days, with those that these items name
+abbrev pub noting_all : SchemeValue → List Key → List Arrived → List Key
+noting_all sc days items = fold (noting sc) days (map item_of items)
+
 -- what came of these items, one after the other: some were stored, or had been before, and told; at its end the
 -- writer may have one in its hand
-pub record HasWritten (sc : SchemeValue) (old new : Standing OutboxValue) (items : List Arrived) (tellers_old tellers_new : List Teller) (count_old count_new : ℕ) (halt : Option Halt) : Type 0 where
+pub record HasWritten (sc : SchemeValue) (old new : Standing OutboxValue) (items : List Arrived) (tellers_old tellers_new : List Teller) (tally_old tally_new : Tally) (halt : Option Halt) : Type 0 where
   pub entries : List Entry
   pub all : items ≡ items_of entries ++ in_hand (hand_of halt)
   pub wrote : Wrote sc old new entries (hand_of halt) (fault_of halt)
   pub told : HaveBeenTold sc entries tellers_old tellers_new
   pub refused : new.live → old.lawful → RefusedBy (storing_all old.value entries) halt
-  pub counted : new.clean → old.live → old.lawful → min count_new 18446744073709551615 ≡ min (count_old + new_count old.value entries) 18446744073709551615
+  pub counted : new.clean → old.live → old.lawful → min tally_new.stored 18446744073709551615 ≡ min (tally_old.stored + new_count old.value entries) 18446744073709551615
+  pub noted : halt ≡ None → tally_new.days.keys ≡ noting_all sc tally_old.days.keys items

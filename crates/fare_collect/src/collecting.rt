@@ -1,21 +1,22 @@
 ghost use Rattle.fare_collect.specs.declared.fault.WriterFault.{WriterFault};
-ghost use Rattle.std.specs.Prelude.{◌≡◌, ◌+◌, ◌≤◌, ◌++◌, length, map, IfOk, IsErr, Option, vec_len, vec_capacity};
+ghost use Rattle.std.specs.Prelude.{◌≡◌, ◌+◌, ◌≤◌, ◌++◌, [], length, map, IfOk, IsErr, Option, vec_len, vec_capacity};
 ghost use Rattle.fare_collect.specs.Collected.{as_session, fault_at, faults_at, fault_of_halt, writer_faults, station_faults, HaveDevices, IsCollected};
 ghost use Rattle.fare_store.specs.Standing.{IsSound};
-ghost use Rattle.fare_collect.specs.Ending.{HaveLast};
 ghost use Rattle.fare_collect.specs.Gathering.{in_hand};
 ghost use Rattle.fare_collect.specs.Resuming.{AreStations, HaveBegun, HaveResumed};
 ghost use Rattle.fare_collect.specs.Session.{id_of, IsOpen, HasSession};
 
-use crate::ending::{hand, hand_all};
+use crate::answering::answer_last;
+use crate::ending::hand_all;
 use crate::fault::{StationFault, WriterFault};
 use crate::opening::{Lines, open_lines};
 use crate::serving::gather;
 use crate::station::{End, Station};
 use crate::storing::writer_fault;
+use crate::tally::Tally;
 use crate::writing::Halt;
 use fare_inbox_queue::{Inbox, StationPass, WriterPass};
-use fare_record::{Ack, AckItem, StationId};
+use fare_record::StationId;
 use fare_scheme::Scheme;
 use fare_session::{Gate, SessionFault};
 use fare_source::Source;
@@ -91,36 +92,6 @@ fn ids_of<S>(alloc: Global, stations: &[Station<S>]) -> Result<Vec<StationId>, A
     Ok(ids)
 }
 
-// One last acknowledgement of each device.
-fn last_all<S: Source, O: Outbox>(
-    scheme: &Scheme,
-    outbox: &mut O,
-    stations: &mut [Station<S>],
-) -> Result<(), Fault>
-    requires { AreStations scheme.now stations.old }
-    ensures { HaveLast scheme.now S.talk (O.standing outbox.old) (O.standing outbox.new) stations.old stations.new result }
-{
-    for position in 0..scheme.device_count() {
-        let Some(device) = scheme.device_at(position) else {
-            unreachable!()
-        };
-        let upto = match outbox.upto(device) {
-            Ok(upto) => upto,
-            Err(fault) => return Err(fault),
-        };
-        let Some(id) = scheme.station_of(device) else {
-            unreachable!()
-        };
-        let Some(place) = scheme.station_position(id) else {
-            unreachable!()
-        };
-        if place < stations.len() {
-            hand(&AckItem::Upto(Ack::new(device, upto)), &mut stations[place]);
-        }
-    }
-    Ok(())
-}
-
 // The queues of a session.
 struct Queues {
     inbox: Inbox,
@@ -192,13 +163,14 @@ fn run<S: Source + Send, O: Outbox + Send, G: Gate + Sync, R: Threads + Wait + C
     queues: Queues,
     gate: &G,
     turns: u64,
-    stored: &mut u64,
+    tally: &mut Tally,
     outbox: &mut O,
     stations: &mut [Station<S>],
 ) -> (u64, Option<Halt>)
     requires open { IsOpen scheme.now stations.old queues.inbox queues.passes.items queues.writer queues.lines.lines.items queues.lines.tellers.items queues.lines.hears.items }
     requires order { AreStations scheme.now stations.old }
-    ensures { HasSession scheme.now S.talk (O.standing outbox.old) (O.standing outbox.new) stored.old stored.new stations.old stations.new result.0 result.1 }
+    requires unnoted { tally.old.days.keys ≡ [] }
+    ensures { HasSession scheme.now S.talk (O.standing outbox.old) (O.standing outbox.new) tally.old tally.new stations.old stations.new result.0 result.1 }
 {
     let (inbox, passes, writer, lines) = queues.into_parts();
     let (lines, mut tellers, mut hears) = lines.into_parts();
@@ -209,7 +181,7 @@ fn run<S: Source + Send, O: Outbox + Send, G: Gate + Sync, R: Threads + Wait + C
         &lines,
         gate,
         turns,
-        stored,
+        tally,
         outbox,
         writer,
         passes,
@@ -223,7 +195,7 @@ fn run<S: Source + Send, O: Outbox + Send, G: Gate + Sync, R: Threads + Wait + C
     if let Some(halt) = halt {
         return (left.saturating_add(in_hand(&halt)), Some(halt));
     }
-    match last_all(scheme, outbox, stations) {
+    match answer_last(scheme, &tally.days, outbox, stations) {
         Ok(()) => (left, None),
         Err(fault) => (
             left,
@@ -272,14 +244,15 @@ fn session<S: Source + Send, O: Outbox + Send, G: Gate + Sync, R: Threads + Wait
     scheme: &Scheme,
     gate: &G,
     turns: u64,
-    stored: &mut u64,
+    tally: &mut Tally,
     outbox: &mut O,
     stations: &mut [Station<S>],
 ) -> (u64, Option<WriterFault>)
     requires order { AreStations scheme.now stations.old }
     requires devices { HaveDevices scheme.now stations.old }
-    requires none { stored.old ≡ 0 }
-    ensures { IsCollected scheme.now S.talk (O.standing outbox.old) (O.standing outbox.new) stations.old stations.new stored.new result.0 result.1 }
+    requires none { tally.old.stored ≡ 0 }
+    requires unnoted { tally.old.days.keys ≡ [] }
+    ensures { IsCollected scheme.now S.talk (O.standing outbox.old) (O.standing outbox.new) stations.old stations.new tally.new.stored result.0 result.1 }
 {
     have_law(outbox);
     begin(stations);
@@ -289,7 +262,7 @@ fn session<S: Source + Send, O: Outbox + Send, G: Gate + Sync, R: Threads + Wait
     match open(alloc, scheme, stations) {
         Err(_) => (0, Some(WriterFault::Memory)),
         Ok(queues) => {
-            let (left, halt) = run(rt, scheme, queues, gate, turns, stored, outbox, stations);
+            let (left, halt) = run(rt, scheme, queues, gate, turns, tally, outbox, stations);
             (left, fault_in(halt))
         }
     }
@@ -321,11 +294,11 @@ fn list_faults<S>(stations: &[Station<S>], faults: &mut Vec<SessionFault>)
 /// A session of the stations and the writer: each station's thread reads its source, its collector judges, and the inbox
 /// takes what is accepted; the writer's thread stores it, and only then tells the station's line what may be
 /// acknowledged. Once all have ended, this call stores what is left in the inbox and the rest of each source, hands each
-/// source what its line still holds, and acknowledges each device's greatest link once more.
+/// source what its line still holds, and then the last acknowledgements: of each day that a statement among these items
+/// names, where the outbox holds the statements of all owners, and then of each device's greatest link.
 ///
 /// The stations, 1 to 16, are those of the scheme, in its order. `Memory` where the list of faults gets no room, before
-/// anything is read; want of memory later is a fault of the report. A day is acknowledged as soon as its last statement
-/// is stored; that it is acknowledged once more at the end is still to come.
+/// anything is read; want of memory later is a fault of the report.
 pub fn collect<
     S: Source + Send,
     O: Outbox + Send,
@@ -347,23 +320,14 @@ pub fn collect<
     ensures memory { IsErr result → (outbox.new ≡ outbox.old) × (stations.new ≡ stations.old) }
 {
     let mut faults = Vec::with_capacity(alloc, stations.len() + 1)?;
-    let mut stored = 0;
-    let (left, fault) = session(
-        rt,
-        alloc,
-        scheme,
-        gate,
-        turns,
-        &mut stored,
-        outbox,
-        stations,
-    );
+    let mut tally = Tally::new(alloc);
+    let (left, fault) = session(rt, alloc, scheme, gate, turns, &mut tally, outbox, stations);
     if let Some(fault) = fault {
         faults.push_reserved(of_writer(fault));
     }
     list_faults(stations, &mut faults);
     Ok(CollectReport {
-        stored,
+        stored: tally.stored,
         left,
         faults,
     })

@@ -3,6 +3,7 @@
 //! then tells the station's line what its source may be acknowledged.
 #![tactic(auto)]
 
+mod answering;
 mod collecting;
 mod ended;
 mod ending;
@@ -15,6 +16,7 @@ mod resting;
 mod serving;
 mod station;
 mod storing;
+mod tally;
 mod threads;
 mod writing;
 

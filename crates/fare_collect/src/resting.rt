@@ -4,10 +4,11 @@ ghost use Rattle.fare_inbox_queue.specs.InboxPasses.{IsInboxEnded};
 ghost use Rattle.fare_collector.specs.Collecting.{next_in};
 ghost use Rattle.fare_collect.specs.Resting.{HasKept, HasKeptLeft, HasJudged, HasNext, HasRested, HaveRested, AreApart};
 
-use crate::fault::StationFault;
+use crate::fault::{StationFault, WriterFault};
 use crate::reading::fault_of;
 use crate::station::Station;
 use crate::storing::put_item;
+use crate::tally::Tally;
 use crate::writing::Halt;
 use fare_frame::Frame;
 use fare_inbox_queue::{Arrived, InboxEnded};
@@ -19,13 +20,24 @@ use std::sync::Wait;
 use std::time::Clock;
 
 // Stores an item, and tells no line.
-fn keep<O: Outbox>(item: Arrived, stored: &mut u64, outbox: &mut O) -> Option<Halt>
-    ensures { HasKept (O.standing outbox.old) (O.standing outbox.new) (item ∷ []) stored.old stored.new result }
+fn keep<O: Outbox>(
+    scheme: &Scheme,
+    item: Arrived,
+    tally: &mut Tally,
+    outbox: &mut O,
+) -> Option<Halt>
+    ensures { HasKept scheme.now (O.standing outbox.old) (O.standing outbox.new) (item ∷ []) tally.old tally.new result }
 {
+    if tally.note(scheme, &item).is_err() {
+        return Some(Halt {
+            hand: Some(item),
+            fault: WriterFault::Memory,
+        });
+    }
     match put_item(outbox, &item) {
         Ok(new) => {
             if new {
-                *stored = stored.saturating_add(1);
+                tally.count();
             }
             None
         }
@@ -39,17 +51,18 @@ fn keep<O: Outbox>(item: Arrived, stored: &mut u64, outbox: &mut O) -> Option<Ha
 // Stores what is left in the inbox.
 pub(crate) fn keep_left<O: Outbox, R: Wait + Clock>(
     rt: &R,
+    scheme: &Scheme,
     ended: &mut InboxEnded,
-    stored: &mut u64,
+    tally: &mut Tally,
     outbox: &mut O,
 ) -> Option<Halt>
     requires { IsInboxEnded ended.old }
     ensures ended { IsInboxEnded ended.new }
-    ensures kept { HasKeptLeft (O.standing outbox.old) (O.standing outbox.new) ended.old ended.new stored.old stored.new result }
+    ensures kept { HasKeptLeft scheme.now (O.standing outbox.old) (O.standing outbox.new) ended.old ended.new tally.old tally.new result }
 {
     for _ in rt.forever() {
         let item = ended.next(rt)?;
-        if let Some(halt) = keep(item, stored, outbox) {
+        if let Some(halt) = keep(scheme, item, tally, outbox) {
             return Some(halt);
         }
     }
@@ -107,12 +120,12 @@ pub(crate) fn rest<S: Source, O: Outbox, R: Wait + Clock>(
     rt: &R,
     scheme: &Scheme,
     id: StationId,
-    stored: &mut u64,
+    tally: &mut Tally,
     outbox: &mut O,
     station: &mut Station<S>,
 ) -> Option<Halt>
     requires { (station.old.end.fault ≡ None) × (station.old.end.ended ≡ false) }
-    ensures { HasRested scheme.now S.talk id (O.standing outbox.old) (O.standing outbox.new) stored.old stored.new station.old station.new result }
+    ensures { HasRested scheme.now S.talk id (O.standing outbox.old) (O.standing outbox.new) tally.old tally.new station.old station.new result }
 {
     for _ in rt.forever() {
         let frame = next_frame(station)?;
@@ -123,7 +136,7 @@ pub(crate) fn rest<S: Source, O: Outbox, R: Wait + Clock>(
             }
             Some(None) => {}
             Some(Some(item)) => {
-                if let Some(halt) = keep(item, stored, outbox) {
+                if let Some(halt) = keep(scheme, item, tally, outbox) {
                     return Some(halt);
                 }
             }
@@ -136,19 +149,19 @@ pub(crate) fn rest<S: Source, O: Outbox, R: Wait + Clock>(
 pub(crate) fn rest_all<S: Source, O: Outbox, R: Wait + Clock>(
     rt: &R,
     scheme: &Scheme,
-    stored: &mut u64,
+    tally: &mut Tally,
     outbox: &mut O,
     stations: &mut [Station<S>],
 ) -> Option<Halt>
     requires { AreApart stations.old }
-    ensures { HaveRested scheme.now S.talk (O.standing outbox.old) (O.standing outbox.new) stored.old stored.new stations.old stations.new (length stations.old) result }
+    ensures { HaveRested scheme.now S.talk (O.standing outbox.old) (O.standing outbox.new) tally.old tally.new stations.old stations.new (length stations.old) result }
 {
     for place in 0..stations.len() {
         if stations[place].end.fault.is_some() || stations[place].end.ended {
             continue;
         }
         let id = stations[place].collector.station();
-        if let Some(halt) = rest(rt, scheme, id, stored, outbox, &mut stations[place]) {
+        if let Some(halt) = rest(rt, scheme, id, tally, outbox, &mut stations[place]) {
             return Some(halt);
         }
     }

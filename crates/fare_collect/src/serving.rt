@@ -10,6 +10,7 @@ use crate::ended::Ended;
 use crate::opening::{lend, take_back};
 use crate::resting::{keep_left, rest_all};
 use crate::station::{Station, Teller};
+use crate::tally::Tally;
 use crate::threads::run_threads;
 use crate::writing::Halt;
 use fare_inbox_queue::{AckLine, HearPass, Inbox, InboxEnded, StationPass, WriterPass};
@@ -34,7 +35,7 @@ fn serve_stations<
     lines: &[AckLine],
     gate: &G,
     turns: u64,
-    stored: &mut u64,
+    tally: &mut Tally,
     outbox: &mut O,
     writer: &mut WriterPass,
     passes: &mut Vec<StationPass>,
@@ -50,12 +51,12 @@ fn serve_stations<
     ensures queue { IsWriterOf inbox.now writer.new × (stations_of writer.new ≡ stations_of writer.old) }
     ensures tellers { AreTellers lines.now tellers.new }
     ensures hears { AreHears lines.now hears.new.items }
-    ensures written { HasWritten scheme.now (O.standing outbox.old) (O.standing outbox.new) (taken_list writer.new) tellers.old tellers.new stored.old stored.new result }
+    ensures written { HasWritten scheme.now (O.standing outbox.old) (O.standing outbox.new) (taken_list writer.new) tellers.old tellers.new tally.old tally.new result }
 {
     lend(stations, passes, hears);
     let ended = Ended::new();
     let halt = run_threads(
-        rt, scheme, inbox, lines, &ended, gate, turns, stored, outbox, writer, tellers, stations,
+        rt, scheme, inbox, lines, &ended, gate, turns, tally, outbox, writer, tellers, stations,
     );
     take_back(stations, passes, hears);
     halt
@@ -74,7 +75,7 @@ pub(crate) fn serve<
     lines: &[AckLine],
     gate: &G,
     turns: u64,
-    stored: &mut u64,
+    tally: &mut Tally,
     outbox: &mut O,
     mut writer: WriterPass,
     mut passes: Vec<StationPass>,
@@ -90,7 +91,7 @@ pub(crate) fn serve<
     ensures ended { IsInboxEnded result.1 }
     ensures tellers { AreTellers lines.now tellers.new }
     ensures hears { AreHears lines.now hears.new.items }
-    ensures gathered { HaveGathered scheme.now S.talk (O.standing outbox.old) (O.standing outbox.new) tellers.old tellers.new stored.old stored.new stations.old stations.new hears.new.items (capacity_of inbox) result.1.left result.0 }
+    ensures gathered { HaveGathered scheme.now S.talk (O.standing outbox.old) (O.standing outbox.new) tellers.old tellers.new tally.old tally.new stations.old stations.new hears.new.items (capacity_of inbox) result.1.left result.0 }
 
     // Where the writer met no fault nothing is left.
     ensures whole { result.0 ≡ None → ((station : ℕ) → left_of result.1 station ≡ []) × (result.1.left ≡ 0) }
@@ -102,7 +103,7 @@ pub(crate) fn serve<
         lines,
         gate,
         turns,
-        stored,
+        tally,
         outbox,
         &mut writer,
         &mut passes,
@@ -114,7 +115,7 @@ pub(crate) fn serve<
     if let Some(halt) = halt {
         return (Some(halt), ended);
     }
-    let halt = keep_left(rt, &mut ended, stored, outbox);
+    let halt = keep_left(rt, scheme, &mut ended, tally, outbox);
     (halt, ended)
 }
 
@@ -131,7 +132,7 @@ pub(crate) fn gather<
     lines: &[AckLine],
     gate: &G,
     turns: u64,
-    stored: &mut u64,
+    tally: &mut Tally,
     outbox: &mut O,
     writer: WriterPass,
     passes: Vec<StationPass>,
@@ -147,16 +148,16 @@ pub(crate) fn gather<
     requires queue { IsWriterOf inbox writer × (taken_list writer ≡ []) }
     ensures tellers { AreTellers lines.now tellers.new }
     ensures hears { AreHears lines.now hears.new.items }
-    ensures gathered { HaveGathered scheme.now S.talk (O.standing outbox.old) (O.standing outbox.new) tellers.old tellers.new stored.old stored.new stations.old stations.new hears.new.items (capacity_of inbox) result.1.left result.0 }
+    ensures gathered { HaveGathered scheme.now S.talk (O.standing outbox.old) (O.standing outbox.new) tellers.old tellers.new tally.old tally.new stations.old stations.new hears.new.items (capacity_of inbox) result.1.left result.0 }
     ensures whole { result.0 ≡ None → (result.1.left ≡ 0) × AreRead stations.new (length stations.old) }
 {
     let (halt, ended) = serve(
-        rt, scheme, inbox, lines, gate, turns, stored, outbox, writer, passes, hears, tellers,
+        rt, scheme, inbox, lines, gate, turns, tally, outbox, writer, passes, hears, tellers,
         stations,
     );
     if let Some(halt) = halt {
         return (Some(halt), ended);
     }
-    let halt = rest_all(rt, scheme, stored, outbox, stations);
+    let halt = rest_all(rt, scheme, tally, outbox, stations);
     (halt, ended)
 }

@@ -1,4 +1,4 @@
-ghost use Rattle.std.specs.Prelude.{◌≡◌};
+ghost use Rattle.std.specs.Prelude.{◌≡◌, IsOk};
 ghost use Rattle.fare_collect.specs.Gathering.{are_all_stated};
 ghost use Rattle.fare_collect.specs.Writing.{Asks, Puts, as_writer};
 ghost use Rattle.fare_inbox_queue.specs.declared.arrived.Arrived.TheVariants.{Tap, Stated};
@@ -67,7 +67,10 @@ pub(crate) fn are_stated<O: Outbox>(
     device: DeviceId,
     day: Day,
 ) -> Result<bool, Fault>
-    ensures { Asks (O.standing outbox.old) (O.standing outbox.new) (λ all. all ≡ are_all_stated scheme.now (O.standing outbox.old).value device day) result }
+    ensures asks { Asks (O.standing outbox.old) (O.standing outbox.new) (λ all. all ≡ are_all_stated scheme.now (O.standing outbox.old).value device day) result }
+
+    // There is an owner to ask of: an outbox that answers and has kept what was committed was live.
+    ensures live { IsOk result → (O.standing outbox.new).clean → (O.standing outbox.old).live }
 {
     for place in 0..scheme.owner_count() {
         let Some(owner) = scheme.owner_at(place) else {

@@ -6,6 +6,7 @@ ghost use Rattle.fare_collect.specs.Stations.{IsSeatedAt, AreSeated, HasRun, Hav
 use crate::ended::Ended;
 use crate::reading::read_all;
 use crate::station::{Station, Teller};
+use crate::tally::Tally;
 use crate::writing::{Halt, write_all};
 use fare_inbox_queue::{AckLine, Inbox, WriterPass};
 use fare_scheme::Scheme;
@@ -90,7 +91,7 @@ pub(crate) fn run_threads<
     ended: &Ended,
     gate: &G,
     turns: u64,
-    stored: &mut u64,
+    tally: &mut Tally,
     outbox: &mut O,
     writer: &mut WriterPass,
     tellers: &mut [Teller],
@@ -103,7 +104,7 @@ pub(crate) fn run_threads<
     ensures ran { HaveRun scheme.now S.talk inbox.now lines.now stations.old stations.new }
     ensures queue { IsWriterOf inbox.now writer.new × (stations_of writer.new ≡ stations_of writer.old) }
     ensures tellers { AreTellers lines.now tellers.new }
-    ensures written { HasWritten scheme.now (O.standing outbox.old) (O.standing outbox.new) (taken_list writer.new) tellers.old tellers.new stored.old stored.new result }
+    ensures written { HasWritten scheme.now (O.standing outbox.old) (O.standing outbox.new) (taken_list writer.new) tellers.old tellers.new tally.old tally.new result }
 {
     let (_, halt) = join_mut(
         rt,
@@ -115,10 +116,10 @@ pub(crate) fn run_threads<
             requires { IsWriterOf inbox.now writer.now × (taken_list writer.now ≡ []) × AreTellers lines.now tellers.now }
             ensures queue { IsWriterOf inbox.entry.now writer.exit.now × (stations_of writer.exit.now ≡ stations_of writer.entry.now) }
             ensures tellers { AreTellers lines.entry.now tellers.exit.now }
-            ensures written { HasWritten scheme.entry.now (O.standing outbox.entry.now) (O.standing outbox.exit.now) (taken_list writer.exit.now) tellers.entry.now tellers.exit.now stored.entry.now stored.exit.now result }
+            ensures written { HasWritten scheme.entry.now (O.standing outbox.entry.now) (O.standing outbox.exit.now) (taken_list writer.exit.now) tellers.entry.now tellers.exit.now tally.entry.now tally.exit.now result }
         {
             write_all(
-                rt, scheme, inbox, lines, ended, gate, turns, stored, outbox, writer, tellers,
+                rt, scheme, inbox, lines, ended, gate, turns, tally, outbox, writer, tellers,
             )
         },
     );

@@ -9,6 +9,7 @@ use crate::ended::Ended;
 use crate::fault::WriterFault;
 use crate::station::Teller;
 use crate::storing::{are_stated, put_item, writer_fault};
+use crate::tally::Tally;
 use fare_inbox_queue::{AckLine, Arrived, Inbox, WriterPass};
 use fare_record::{Ack, AckItem, DayAck};
 use fare_scheme::Scheme;
@@ -62,14 +63,20 @@ fn handle<O: Outbox, G: Gate, R: Wait + Clock>(
     lines: &[AckLine],
     gate: &G,
     item: Arrived,
-    stored: &mut u64,
+    tally: &mut Tally,
     outbox: &mut O,
     tellers: &mut [Teller],
 ) -> Option<Halt>
     requires ready { AreTellers lines.now tellers.old }
     ensures ready { AreTellers lines.now tellers.new }
-    ensures written { HasWritten scheme.now (O.standing outbox.old) (O.standing outbox.new) (item ∷ []) tellers.old tellers.new stored.old stored.new result }
+    ensures written { HasWritten scheme.now (O.standing outbox.old) (O.standing outbox.new) (item ∷ []) tellers.old tellers.new tally.old tally.new result }
 {
+    if tally.note(scheme, &item).is_err() {
+        return Some(Halt {
+            hand: Some(item),
+            fault: WriterFault::Memory,
+        });
+    }
     let new = match put_item(outbox, &item) {
         Ok(new) => new,
         Err(fault) => {
@@ -80,7 +87,7 @@ fn handle<O: Outbox, G: Gate, R: Wait + Clock>(
         }
     };
     if new {
-        *stored = stored.saturating_add(1);
+        tally.count();
         gate.pass(Point::WriterStored);
     }
     match item {
@@ -122,7 +129,7 @@ pub(crate) fn write_all<O: Outbox, G: Gate, R: Wait + Clock>(
     ended: &Ended,
     gate: &G,
     turns: u64,
-    stored: &mut u64,
+    tally: &mut Tally,
     outbox: &mut O,
     writer: &mut WriterPass,
     tellers: &mut [Teller],
@@ -131,7 +138,7 @@ pub(crate) fn write_all<O: Outbox, G: Gate, R: Wait + Clock>(
     requires ready { AreTellers lines.now tellers.old }
     ensures queue { IsWriterOf inbox.now writer.new × (stations_of writer.new ≡ stations_of writer.old) }
     ensures ready { AreTellers lines.now tellers.new }
-    ensures written { HasWritten scheme.now (O.standing outbox.old) (O.standing outbox.new) (taken_list writer.new) tellers.old tellers.new stored.old stored.new result }
+    ensures written { HasWritten scheme.now (O.standing outbox.old) (O.standing outbox.new) (taken_list writer.new) tellers.old tellers.new tally.old tally.new result }
 {
     let mut turns = Turns::new(turns);
     for _ in rt.forever() {
@@ -139,7 +146,7 @@ pub(crate) fn write_all<O: Outbox, G: Gate, R: Wait + Clock>(
         match inbox.take(rt, writer) {
             Some(item) => {
                 turns.found();
-                if let Some(halt) = handle(rt, scheme, lines, gate, item, stored, outbox, tellers) {
+                if let Some(halt) = handle(rt, scheme, lines, gate, item, tally, outbox, tellers) {
                     ended.writer_ends();
                     return Some(halt);
                 }

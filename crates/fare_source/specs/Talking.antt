@@ -14,9 +14,9 @@ pub record Talk : Type 1 where
   -- it has come to its end: there is no frame more
   pub ended : Type 0
 
--- the count rises where the answer is Failed, up to the greatest count, and nowhere else
+-- the count rises where the answer is Failed, up to the greatest count, at which it stays, and nowhere else
 abbrev pub FailedCounted : ℕ → ℕ → Option SourceFault → Type 0
-FailedCounted old new (Some Failed) = (old < new) ⊎ (18446744073709551615 ≤ old)
+FailedCounted old new (Some Failed) = (old < new) ⊎ ((18446744073709551615 ≤ old) × (new ≡ old))
 FailedCounted old new (Some Memory) = new ≡ old
 FailedCounted old new None = new ≡ old
 

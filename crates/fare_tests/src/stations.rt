@@ -2,9 +2,10 @@ ghost use Rattle.std.specs.Prelude.{◌≡◌, ◌≤◌, ◌+◌, ◌++◌, ◌
 
 use crate::samples::{FIRST, Numbers, record, statement};
 use fare_collect::{Station, StationsFault, collect, stations_of};
+use fare_day::Zone;
 use fare_frame::Frame;
-use fare_record::{Ack, Day, DayAck, DeviceId, LAST_NUMBER};
-use fare_scheme::{DemoSize, Scheme};
+use fare_record::{Ack, Day, DayAck, DeviceId, Hello, LAST_NUMBER, StationId};
+use fare_scheme::{DemoSize, Draft, Scheme};
 use fare_session::{Gate, Point, SessionFault};
 use fare_source::{Source, SourceFault};
 use fare_store::{FailingOutbox, Outbox, PlainOutbox};
@@ -175,13 +176,18 @@ fn source_of(alloc: Global, device: u64, links: &[u64]) -> Option<Script> {
     })
 }
 
-// A source of each of the two devices' taps with these links.
-fn scripts(alloc: Global, links: &[u64]) -> Option<Vec<Script>> {
+// A source for each of the devices up to a number, of its taps with these links.
+fn scripts_of(alloc: Global, devices: u64, links: &[u64]) -> Option<Vec<Script>> {
     let mut sources = Vec::new(alloc);
-    for device in 1..=2 {
+    for device in 1..=devices {
         sources.push(source_of(alloc, device, links)?).ok()?;
     }
     Some(sources)
+}
+
+// A source of each of the two devices' taps with these links.
+fn scripts(alloc: Global, links: &[u64]) -> Option<Vec<Script>> {
+    scripts_of(alloc, 2, links)
 }
 
 // The demonstration scheme of two devices, with an inbox of one item.
@@ -277,8 +283,9 @@ fn stations_and_a_writer_take_turns(rt: HostRuntime) {
 // Each link is accepted once and in its order, with any number of turns.
 #[test]
 fn stations_accept_link_by_link(rt: HostRuntime) {
-    let cases: [(&[u64], u64, u64); 4] = [
+    let cases: [(&[u64], u64, u64); 5] = [
         (&[], 0, 0),
+        (&[LAST_NUMBER], 0, 0),
         (&[1, 2], 4, 2),
         (&[2, 1, 1, 2], 4, 2),
         (&[2, 1, 1], 2, 1),
@@ -292,19 +299,84 @@ fn stations_accept_link_by_link(rt: HostRuntime) {
     }
 }
 
-// A source that gives one statement is answered the day's acknowledgement, and then the number of its taps.
+// A source that gives one statement of its device.
+fn stating(alloc: Global) -> Option<Script> {
+    let mut source = source_of(alloc, 1, &[])?;
+    source
+        .frames
+        .push(Frame::Stated(statement(1, 19_723, 1, 0)?))
+        .ok()?;
+    Some(source)
+}
+
+fn day_ack(device: u64, day: u64) -> Option<Frame> {
+    Some(Frame::DayAcked(DayAck::new(DeviceId::new(device)?, Day::new(day)?)))
+}
+
+// Such a source is answered the day's acknowledgement at the end, and then the number of its taps, also where no thread
+// had a turn in which to answer.
 #[test]
 fn a_statement_is_acknowledged(rt: HostRuntime) {
     let alloc = rt.alloc();
     let scheme = Scheme::demo(alloc, DemoSize::OneDevice, 4, 4, 4).expect(&rt, "scheme");
-    let mut source = source_of(alloc, 1, &[]).expect(&rt, "source");
-    let stated = statement(1, 19_723, 1, 0).expect(&rt, "statement");
-    source
-        .frames
-        .push(Frame::Stated(stated))
-        .expect(&rt, "room");
-    let mut sources = Vec::new(alloc);
-    sources.push(source).expect(&rt, "room");
+    for turns in [0, 1_000_000] {
+        let mut sources = Vec::new(alloc);
+        sources
+            .push(stating(alloc).expect(&rt, "source"))
+            .expect(&rt, "room");
+        let mut outbox = PlainOutbox::new(alloc);
+        let gate = Hold::new(false);
+        let (got, sources) = gathered(
+            &rt,
+            alloc,
+            &scheme,
+            sources,
+            &mut outbox,
+            &gate,
+            turns,
+        ).expect(&rt, "stations");
+        assert_eq!(rt; got, outcome(1, None));
+        let answers = sources.first().expect(&rt, "source").last_two();
+        assert_eq!(rt; answers, (day_ack(1, 19_723), ack(1, 0)));
+    }
+}
+
+// Registers sixteen stations, each with one device.
+fn add_stations(draft: &mut Draft) -> Option<()> {
+    draft.add_owner(1, 64).ok()?;
+    draft.add_operator(1).ok()?;
+    draft.add_product(1, 1, 175).ok()?;
+    for station in 1..=16_u16 {
+        draft.add_station(station, 1).ok()?;
+        draft.add_device(station as u32, station, 64).ok()?;
+    }
+    draft.set_inbox(4).ok()
+}
+
+fn sixteen(alloc: Global) -> Option<Scheme> {
+    let zone = Zone::read("GMT0BST,M3.5.0/1,M10.5.0").ok()?;
+    let mut draft = Draft::new(alloc);
+    draft.set_zone(zone);
+    draft.set_start(19_723).ok()?;
+    add_stations(&mut draft)?;
+    draft.seal().ok()
+}
+
+// Whether each source was answered this number of its device last.
+fn end_with(sources: &[Script], upto: u64) -> bool {
+    for place in 0..sources.len() {
+        if last_of(sources, place) != ack(place as u64 + 1, upto) {
+            return false;
+        }
+    }
+    true
+}
+
+#[test]
+fn sixteen_stations_at_once(rt: HostRuntime) {
+    let alloc = rt.alloc();
+    let scheme = sixteen(alloc).expect(&rt, "scheme");
+    let sources = scripts_of(alloc, 16, &[1, 2]).expect(&rt, "sources");
     let mut outbox = PlainOutbox::new(alloc);
     let gate = Hold::new(false);
     let (got, sources) = gathered(
@@ -316,13 +388,48 @@ fn a_statement_is_acknowledged(rt: HostRuntime) {
         &gate,
         1_000_000,
     ).expect(&rt, "stations");
-    let day = DayAck::new(
-        DeviceId::new(1).expect(&rt, "device"),
-        Day::new(19_723).expect(&rt, "day"),
-    );
-    assert_eq!(rt; got, outcome(1, None));
-    let answers = sources.first().expect(&rt, "source").last_two();
-    assert_eq!(rt; answers, (Some(Frame::DayAcked(day)), ack(1, 0)));
+    assert_eq!(rt; (got, sources.len()), (outcome(32, None), 16));
+    assert!(rt; end_with(&sources, 2));
+}
+
+// The frames that no device sends in a session.
+fn strange(place: u64) -> Option<Frame> {
+    match place {
+        0 => ack(1, 1),
+        1 => day_ack(1, 19_723),
+        _ => Some(Frame::Greeted(Hello::new(DeviceId::new(1)?, 1))),
+    }
+}
+
+// Each of them ends its station, what came before it is stored, and the other station goes on.
+#[test]
+fn frames_that_no_device_sends(rt: HostRuntime) {
+    let alloc = rt.alloc();
+    let scheme = narrow(alloc).expect(&rt, "scheme");
+    let station = StationId::new(1).expect(&rt, "station");
+    for place in 0..3 {
+        let mut sources = scripts(alloc, &[1, 2]).expect(&rt, "sources");
+        if let Some(source) = sources.first_mut() {
+            let frame = strange(place).expect(&rt, "frame");
+            source.frames.insert(1, frame).expect(&rt, "room");
+        }
+        let mut outbox = PlainOutbox::new(alloc);
+        let gate = Hold::new(false);
+        let (got, sources) = gathered(
+            &rt,
+            alloc,
+            &scheme,
+            sources,
+            &mut outbox,
+            &gate,
+            1_000_000,
+        ).expect(&rt, "stations");
+        assert_eq!(rt; got, outcome(3, Some(SessionFault::Unexpected(station))));
+        assert_eq!(rt;
+            (last_of(&sources, 0), last_of(&sources, 1)),
+            (ack(1, 1), ack(2, 2))
+        );
+    }
 }
 
 // A source that is ready at each tenth ask alone, with a hundred turns: the call reads the rest.

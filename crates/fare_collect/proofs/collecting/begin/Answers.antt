@@ -1,6 +1,5 @@
 use Rattle.std.proofs.Common.{ap, arith, slice_index_or}
 use Rattle.fare_collect.specs.declared.station.End.{End}
-use Rattle.fare_collect.specs.declared.station.Station.{Station}
 use Rattle.fare_collect.proofs.Begins.{beginning_none, beginning_more, beginning_all}
 use Rattle.fare_collect.proofs.collecting.begin.Goals as goal
 

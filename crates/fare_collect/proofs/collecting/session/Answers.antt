@@ -1,10 +1,8 @@
-use Rattle.std.proofs.Common.{◌≡◌, ℕ, Some, None, sym, subst, arith}
-use Rattle.std.specs.Prelude.{Option, Ok, Err}
+use Rattle.std.proofs.Common.{ℕ, Some, sym, subst}
+use Rattle.std.specs.Prelude.{Option, Ok}
 use Rattle.fare_collect.specs.declared.fault.WriterFault.{WriterFault}
 use Rattle.fare_collect.specs.declared.fault.WriterFault.TheVariants.{Memory}
-use Rattle.fare_collect.specs.Writing.{as_writer}
-use Rattle.fare_collect.specs.Collected.{fault_of_halt, IsCollected}
-use Rattle.fare_collect.specs.Session.{HasSession}
+use Rattle.fare_collect.specs.Collected.{IsCollected}
 use Rattle.fare_collect.proofs.Opens.{begun_stations, opened, opened_stations, unread, no_memory}
 use Rattle.fare_collect.proofs.Collects.{ran}
 use Rattle.fare_collect.proofs.collecting.session.Goals as goal
@@ -37,9 +35,9 @@ returns-in-Ok g c =
     let b = g.O.Outbox.standing c.resume.new.outbox in
     let d = g.O.Outbox.standing c.run-left.new.outbox in
     let r = c.run-left in
-    subst (λ (w : Option WriterFault). IsCollected sc talks a d c.args.stations.now r.new.stations r.new.stored r.result.0 w) (sym c.fault_in.ensures)
-    (ran sc talks a b d r.new.stored c.args.stations.now c.begin.new.stations c.resume.new.stations r.new.stations r.result.0 r.result.1 c.have_law.ensures c.requires.order c.requires.devices c.begin.ensures c.in_default.ensures
-    (subst (λ (n : ℕ). HasSession sc talks b d n r.new.stored c.resume.new.stations r.new.stations r.result.0 r.result.1) c.requires.none r.ensures))
+    subst (λ (w : Option WriterFault). IsCollected sc talks a d c.args.stations.now r.new.stations r.new.tally.stored r.result.0 w) (sym c.fault_in.ensures)
+    (ran sc talks a b d c.args.tally.now r.new.tally c.requires.none c.requires.unnoted c.args.stations.now c.begin.new.stations c.resume.new.stations r.new.stations r.result.0 r.result.1 c.have_law.ensures c.requires.order c.requires.devices c.begin.ensures c.in_default.ensures
+    r.ensures)
 
 pub run-left-requires-clause-order : goal.run-left-requires-clause-order
 run-left-requires-clause-order g c κs within =

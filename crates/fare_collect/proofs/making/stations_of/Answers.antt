@@ -4,7 +4,7 @@ use Rattle.fare_scheme.specs.Words.{position_of_station}
 use Rattle.fare_collector.specs.Collecting.{next_in, first_link}
 use Rattle.fare_collector.specs.declared.collector.Collector.{Collector}
 use Rattle.fare_collect.specs.declared.station.Station.{Station}
-use Rattle.fare_collect.proofs.Makes.{AreMade, made_none, made_more, made_all, made_sources, ok_of}
+use Rattle.fare_collect.proofs.Makes.{AreMade, made_more, made_all, made_sources, ok_of}
 use Rattle.fare_collect.proofs.making.stations_of.Goals as goal
 
 pub loop-source-preserved : goal.loop-source-preserved

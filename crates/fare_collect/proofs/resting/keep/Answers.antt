@@ -1,17 +1,20 @@
-use Rattle.std.proofs.Common.{◌∙◌, inl, inr}
-use Rattle.fare_collect.proofs.Told.{written_halt}
-use Rattle.fare_collect.proofs.Handling.{Counts, written_untold}
+use Rattle.std.proofs.Common.{◌∙◌, sym}
+use Rattle.fare_collect.proofs.Told.{written_halt, written_full}
+use Rattle.fare_collect.proofs.Handling.{Counts, when_noted, counted_new, counted_old, written_untold}
 use Rattle.fare_collect.proofs.resting.keep.Goals.{then-new, else-new}
 use Rattle.fare_collect.proofs.resting.keep.Goals as goal
 
 pub returns-after-new : goal.returns-after-new
 returns-after-new g c =
-    let n0 = c.args.stored.now in
-    let n1 = c.if-new.stored in
+    let n0 = c.args.tally.now in
+    let n1 = c.if-new.tally in
     let new = c.in-Ok.new in
-    let step : Counts n0 n1 new = elim c.if-new.branch [ then-new w ↦ inl (w.if-new.true, w.stored-is ∙ w.saturating_add.ensures) | else-new w ↦ inr (w.if-new.false, w.stored-is) ] in
-    record { each = λ sc t. written_untold sc (g.O.Outbox.standing c.args.outbox.now) (g.O.Outbox.standing c.put_item.new.outbox) c.args.item new t n0 n1 (g.met.O.Outbox.sound c.put_item.new.outbox) c.in-Ok.ensures step }
+    let step : Counts c.args.scheme.now c.args.item n0 n1 new = elim c.if-new.branch [ then-new w ↦ counted_new c.args.scheme.now c.args.item n0 c.note.new.self w.count.new.self n1 new (when_noted c.note.result _ (sym c.is_err.ensures.value ∙ c.if-is_err.false) c.note.ensures.ok) c.note.ensures.stored w.if-new.true w.count.ensures.stored w.count.ensures.days w.tally-is | else-new w ↦ counted_old c.args.scheme.now c.args.item n0 c.note.new.self n1 new (when_noted c.note.result _ (sym c.is_err.ensures.value ∙ c.if-is_err.false) c.note.ensures.ok) c.note.ensures.stored w.if-new.false w.tally-is ] in
+    record { each = λ t. written_untold c.args.scheme.now (g.O.Outbox.standing c.args.outbox.now) (g.O.Outbox.standing c.put_item.new.outbox) c.args.item new t n0 n1 (g.met.O.Outbox.sound c.put_item.new.outbox) c.in-Ok.ensures step }
 
 pub returns-in-Err : goal.returns-in-Err
 returns-in-Err g c =
-    record { each = λ sc t. written_halt sc (g.O.Outbox.standing c.args.outbox.now) (g.O.Outbox.standing c.put_item.new.outbox) c.args.item t c.args.stored.now c.in-Err.fault (g.met.O.Outbox.sound c.args.outbox.now) c.in-Err.ensures }
+    record { each = λ t. written_halt c.args.scheme.now (g.O.Outbox.standing c.args.outbox.now) (g.O.Outbox.standing c.put_item.new.outbox) c.args.item t c.args.tally.now c.note.new.self c.in-Err.fault c.note.ensures.stored (g.met.O.Outbox.sound c.args.outbox.now) c.in-Err.ensures }
+
+pub returns-then-is_err : goal.returns-then-is_err
+returns-then-is_err g c = record { each = λ t. written_full c.args.scheme.now (g.O.Outbox.standing c.args.outbox.now) c.args.item t c.args.tally.now c.note.new.self c.note.ensures.stored (g.met.O.Outbox.sound c.args.outbox.now) }

@@ -6,7 +6,7 @@ use Rattle.fare_collect.proofs.Rested.{keeping_none, keeping_more, keeping_halt}
 use Rattle.fare_collect.proofs.resting.keep_left.Goals as goal
 
 pub loop-init : goal.loop-init
-loop-init g c = (c.requires, keeping_none _ _ _ (g.met.O.Outbox.sound c.args.outbox.now))
+loop-init g c = (c.requires, keeping_none _ _ _ _ (g.met.O.Outbox.sound c.args.outbox.now))
 
 pub loop-preserved : goal.loop-preserved
 loop-preserved g c =
@@ -15,8 +15,8 @@ loop-preserved g c =
     let b = g.O.Outbox.standing c.loop.outbox in
     let d = g.O.Outbox.standing c.keep.new.outbox in (
       c.next-in-loop.ensures.ended.0,
-      keeping_more a b d c.args.ended.now c.loop.ended c.next-in-loop.new.self c.in_ok-item.item c.args.stored.now c.loop.stored c.keep.new.stored None inv.1 c.in_ok-item.ensures.some c.in_ok-item.ensures.fewer
-          (subst (λ (h : Option Halt). HasKept b d (c.in_ok-item.item ∷ []) c.loop.stored c.keep.new.stored h) c.in_default.is c.keep.ensures),
+      keeping_more c.args.scheme.now a b d c.args.ended.now c.loop.ended c.next-in-loop.new.self c.in_ok-item.item c.args.tally.now c.loop.tally c.keep.new.tally None inv.1 c.in_ok-item.ensures.some c.in_ok-item.ensures.fewer
+          (subst (λ (h : Option Halt). HasKept c.args.scheme.now b d (c.in_ok-item.item ∷ []) c.loop.tally c.keep.new.tally h) c.in_default.is c.keep.ensures),
     )
 
 pub returns-in-Some-keep-clause-kept : goal.returns-in-Some-keep-clause-kept
@@ -26,6 +26,6 @@ returns-in-Some-keep-clause-kept g c =
     let b = g.O.Outbox.standing c.loop.outbox in
     let d = g.O.Outbox.standing c.keep.new.outbox in
     let halt = c.in-Some-keep.halt in
-    keeping_halt a d c.args.ended.now c.next-in-loop.new.self c.args.stored.now c.keep.new.stored halt
-    (keeping_more a b d c.args.ended.now c.loop.ended c.next-in-loop.new.self c.in_ok-item.item c.args.stored.now c.loop.stored c.keep.new.stored (Some halt) inv.1 c.in_ok-item.ensures.some c.in_ok-item.ensures.fewer
-    (subst (λ (h : Option Halt). HasKept b d (c.in_ok-item.item ∷ []) c.loop.stored c.keep.new.stored h) c.in-Some-keep.is c.keep.ensures))
+    keeping_halt c.args.scheme.now a d c.args.ended.now c.next-in-loop.new.self c.args.tally.now c.keep.new.tally halt
+    (keeping_more c.args.scheme.now a b d c.args.ended.now c.loop.ended c.next-in-loop.new.self c.in_ok-item.item c.args.tally.now c.loop.tally c.keep.new.tally (Some halt) inv.1 c.in_ok-item.ensures.some c.in_ok-item.ensures.fewer
+    (subst (λ (h : Option Halt). HasKept c.args.scheme.now b d (c.in_ok-item.item ∷ []) c.loop.tally c.keep.new.tally h) c.in-Some-keep.is c.keep.ensures))

@@ -9,7 +9,7 @@ use Rattle.fare_collect.proofs.Rested.{kept_none, resting_none, resting_more, re
 use Rattle.fare_collect.proofs.resting.rest.Goals as goal
 
 pub loop-init : goal.loop-init
-loop-init g c = ([], resting_none c.args.scheme.now g.S.Source.talk c.args.id (g.O.Outbox.standing c.args.outbox.now) c.args.stored.now c.args.station.now (g.met.O.Outbox.sound c.args.outbox.now) c.requires.0 c.requires.1)
+loop-init g c = ([], resting_none c.args.scheme.now g.S.Source.talk c.args.id (g.O.Outbox.standing c.args.outbox.now) c.args.tally.now c.args.station.now (g.met.O.Outbox.sound c.args.outbox.now) c.requires.0 c.requires.1)
 
 pub loop-preserved-in-Some-None : goal.loop-preserved-in-Some-None
 loop-preserved-in-Some-None g c =
@@ -24,8 +24,8 @@ loop-preserved-in-Some-None g c =
     let next : HasNext (talks t1.source) (talks t2.source) t1.end t2.end (Some frame) = subst (λ (r : Option Frame). HasNext (talks t1.source) (talks t2.source) t1.end t2.end r) c.in_ok-frame.was c.next_frame.ensures.0 in
     let judged : HasJudged c.args.scheme.now c.args.id frame t2 t3 (Some None) = subst (λ (r : Option (Option Arrived)). HasJudged c.args.scheme.now c.args.id frame t2 t3 r) (c.in-Some-None.is ∙ ap Some c.in-Some-None.field-0-is) c.judge.ensures in (
       inv.0 ++ frame ∷ [],
-      resting_more c.args.scheme.now talks c.args.id a b b c.args.stored.now c.loop.stored c.loop.stored c.args.station.now t1 t2 t3 inv.0 frame (Some None) None inv.1 next c.next_frame.ensures.1 judged
-          (kept_none b c.loop.stored (g.met.O.Outbox.sound c.loop.outbox)),
+      resting_more c.args.scheme.now talks c.args.id a b b c.args.tally.now c.loop.tally c.loop.tally c.args.station.now t1 t2 t3 inv.0 frame (Some None) None inv.1 next c.next_frame.ensures.1 judged
+          (kept_none c.args.scheme.now b c.loop.tally (g.met.O.Outbox.sound c.loop.outbox)),
     )
 
 pub loop-preserved : goal.loop-preserved
@@ -42,9 +42,9 @@ loop-preserved g c =
     let d = g.O.Outbox.standing c.keep.new.outbox in
     let next : HasNext (talks t1.source) (talks t2.source) t1.end t2.end (Some frame) = subst (λ (r : Option Frame). HasNext (talks t1.source) (talks t2.source) t1.end t2.end r) c.in_ok-frame.was c.next_frame.ensures.0 in
     let judged : HasJudged c.args.scheme.now c.args.id frame t2 t3 (Some (Some item)) = subst (λ (r : Option (Option Arrived)). HasJudged c.args.scheme.now c.args.id frame t2 t3 r) (c.in-Some-Some.is ∙ ap Some c.in-Some-Some.field-0-is) c.judge.ensures in
-    let kept : HasKept b d (item ∷ []) c.loop.stored c.keep.new.stored None = subst (λ (h : Option Halt). HasKept b d (item ∷ []) c.loop.stored c.keep.new.stored h) c.in_default.is c.keep.ensures in (
+    let kept : HasKept c.args.scheme.now b d (item ∷ []) c.loop.tally c.keep.new.tally None = subst (λ (h : Option Halt). HasKept c.args.scheme.now b d (item ∷ []) c.loop.tally c.keep.new.tally h) c.in_default.is c.keep.ensures in (
       inv.0 ++ frame ∷ [],
-      resting_more c.args.scheme.now talks c.args.id a b d c.args.stored.now c.loop.stored c.keep.new.stored c.args.station.now t1 t2 t3 inv.0 frame (Some (Some item)) None inv.1 next c.next_frame.ensures.1 judged kept,
+      resting_more c.args.scheme.now talks c.args.id a b d c.args.tally.now c.loop.tally c.keep.new.tally c.args.station.now t1 t2 t3 inv.0 frame (Some (Some item)) None inv.1 next c.next_frame.ensures.1 judged kept,
     )
 
 pub returns-in-Some-keep : goal.returns-in-Some-keep
@@ -62,9 +62,9 @@ returns-in-Some-keep g c =
     let d = g.O.Outbox.standing c.keep.new.outbox in
     let next : HasNext (talks t1.source) (talks t2.source) t1.end t2.end (Some frame) = subst (λ (r : Option Frame). HasNext (talks t1.source) (talks t2.source) t1.end t2.end r) c.in_ok-frame.was c.next_frame.ensures.0 in
     let judged : HasJudged c.args.scheme.now c.args.id frame t2 t3 (Some (Some item)) = subst (λ (r : Option (Option Arrived)). HasJudged c.args.scheme.now c.args.id frame t2 t3 r) (c.in-Some-Some.is ∙ ap Some c.in-Some-Some.field-0-is) c.judge.ensures in
-    let kept : HasKept b d (item ∷ []) c.loop.stored c.keep.new.stored (Some halt) = subst (λ (h : Option Halt). HasKept b d (item ∷ []) c.loop.stored c.keep.new.stored h) c.in-Some-keep.is c.keep.ensures in
-    rested_halt c.args.scheme.now talks c.args.id a d c.args.stored.now c.keep.new.stored c.args.station.now t3 (inv.0 ++ frame ∷ []) halt
-    (resting_more c.args.scheme.now talks c.args.id a b d c.args.stored.now c.loop.stored c.keep.new.stored c.args.station.now t1 t2 t3 inv.0 frame (Some (Some item)) (Some halt) inv.1 next c.next_frame.ensures.1 judged kept)
+    let kept : HasKept c.args.scheme.now b d (item ∷ []) c.loop.tally c.keep.new.tally (Some halt) = subst (λ (h : Option Halt). HasKept c.args.scheme.now b d (item ∷ []) c.loop.tally c.keep.new.tally h) c.in-Some-keep.is c.keep.ensures in
+    rested_halt c.args.scheme.now talks c.args.id a d c.args.tally.now c.keep.new.tally c.args.station.now t3 (inv.0 ++ frame ∷ []) halt
+    (resting_more c.args.scheme.now talks c.args.id a b d c.args.tally.now c.loop.tally c.keep.new.tally c.args.station.now t1 t2 t3 inv.0 frame (Some (Some item)) (Some halt) inv.1 next c.next_frame.ensures.1 judged kept)
     (ap (λ (e : End). e.held) judged.end ∙ next.held)
 
 pub returns-in-None-judge : goal.returns-in-None-judge
@@ -80,7 +80,7 @@ returns-in-None-judge g c =
     let next : HasNext (talks t1.source) (talks t2.source) t1.end t2.end (Some frame) = subst (λ (r : Option Frame). HasNext (talks t1.source) (talks t2.source) t1.end t2.end r) c.in_ok-frame.was c.next_frame.ensures.0 in
     let judged : HasJudged c.args.scheme.now c.args.id frame t2 t3 None = subst (λ (r : Option (Option Arrived)). HasJudged c.args.scheme.now c.args.id frame t2 t3 r) c.in-None-judge.is c.judge.ensures in
     let held : t3.end.held ≡ None = ap (λ (e : End). e.held) judged.end ∙ next.held in
-    rested_unexpected c.args.scheme.now talks c.args.id a b c.args.stored.now c.loop.stored c.args.station.now t3 _ (inv.0 ++ frame ∷ [])
-    (resting_more c.args.scheme.now talks c.args.id a b b c.args.stored.now c.loop.stored c.loop.stored c.args.station.now t1 t2 t3 inv.0 frame None None inv.1 next c.next_frame.ensures.1 judged
-    (kept_none b c.loop.stored (g.met.O.Outbox.sound c.loop.outbox)))
+    rested_unexpected c.args.scheme.now talks c.args.id a b c.args.tally.now c.loop.tally c.args.station.now t3 _ (inv.0 ++ frame ∷ [])
+    (resting_more c.args.scheme.now talks c.args.id a b b c.args.tally.now c.loop.tally c.loop.tally c.args.station.now t1 t2 t3 inv.0 frame None None inv.1 next c.next_frame.ensures.1 judged
+    (kept_none c.args.scheme.now b c.loop.tally (g.met.O.Outbox.sound c.loop.outbox)))
     held refl refl held refl refl inv.0 frame refl (judged.unexpected refl)

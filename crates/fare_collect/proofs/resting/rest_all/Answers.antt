@@ -8,7 +8,7 @@ use Rattle.fare_collect.proofs.RestedAll.{have_none, have_more, have_all, have_h
 use Rattle.fare_collect.proofs.resting.rest_all.Goals as goal
 
 pub loop-place-init : goal.loop-place-init
-loop-place-init g c = have_none c.args.scheme.now g.S.Source.talk (g.O.Outbox.standing c.args.outbox.now) c.args.stored.now c.args.stations.now (g.met.O.Outbox.sound c.args.outbox.now)
+loop-place-init g c = have_none c.args.scheme.now g.S.Source.talk (g.O.Outbox.standing c.args.outbox.now) c.args.tally.now c.args.stations.now (g.met.O.Outbox.sound c.args.outbox.now)
 
 pub loop-place-preserved : goal.loop-place-preserved
 loop-place-preserved g c =
@@ -26,8 +26,8 @@ loop-place-preserved g c =
     let d = g.O.Outbox.standing c.rest.new.outbox in
     let lt = c.loop-place-test.true in
     let id : c.station-id.result ≡ x.collector.station = c.station-id.ensures ∙ ap (λ (t : Station g.row.S.Denot). t.collector.station) (get_or_default all place d1 d2 (let l = inv.len in omega (arith, l))) in
-    have_more sc talks a b d c.args.stored.now c.loop-place.stored c.rest.new.stored c.args.stations.now all place x y None c.requires inv (let l = inv.len in omega (arith, l)) (ap (slice_index_or all place) c.index-stations-place-in-loop-place-2.is)
-    (subst (λ (z : ℕ × Option Halt). HasRested sc talks z.0 b d c.loop-place.stored c.rest.new.stored x y z.1) (λ i. (id i, c.in_default.is i)) c.rest.ensures)
+    have_more sc talks a b d c.args.tally.now c.loop-place.tally c.rest.new.tally c.args.stations.now all place x y None c.requires inv (let l = inv.len in omega (arith, l)) (ap (slice_index_or all place) c.index-stations-place-in-loop-place-2.is)
+    (subst (λ (z : ℕ × Option Halt). HasRested sc talks z.0 b d c.loop-place.tally c.rest.new.tally x y z.1) (λ i. (id i, c.in_default.is i)) c.rest.ensures)
 
 pub returns-in-Some : goal.returns-in-Some
 returns-in-Some g c =
@@ -44,11 +44,11 @@ returns-in-Some g c =
     let b = g.O.Outbox.standing c.loop-place.outbox in
     let d = g.O.Outbox.standing c.rest.new.outbox in
     let id : c.station-id.result ≡ x.collector.station = c.station-id.ensures ∙ ap (λ (t : Station g.row.S.Denot). t.collector.station) (get_or_default all place d1 d2 (let l = inv.len in omega (arith, l))) in
-    have_halted sc talks a d c.args.stored.now c.rest.new.stored c.args.stations.now _ (place + 1) (length c.args.stations.now) c.in-Some.halt
-    (have_more sc talks a b d c.args.stored.now c.loop-place.stored c.rest.new.stored c.args.stations.now all place x y (Some c.in-Some.halt) c.requires inv (let l = inv.len in omega (arith, l)) (ap (slice_index_or all place) c.index-stations-place-in-loop-place-2.is)
-    (subst (λ (z : ℕ × Option Halt). HasRested sc talks z.0 b d c.loop-place.stored c.rest.new.stored x y z.1) (λ i. (id i, c.in-Some.is i)) c.rest.ensures))
+    have_halted sc talks a d c.args.tally.now c.rest.new.tally c.args.stations.now _ (place + 1) (length c.args.stations.now) c.in-Some.halt
+    (have_more sc talks a b d c.args.tally.now c.loop-place.tally c.rest.new.tally c.args.stations.now all place x y (Some c.in-Some.halt) c.requires inv (let l = inv.len in omega (arith, l)) (ap (slice_index_or all place) c.index-stations-place-in-loop-place-2.is)
+    (subst (λ (z : ℕ × Option Halt). HasRested sc talks z.0 b d c.loop-place.tally c.rest.new.tally x y z.1) (λ i. (id i, c.in-Some.is i)) c.rest.ensures))
 
 pub returns : goal.returns
 returns g c =
     let inv = c.loop-place.invariant in
-    have_all c.args.scheme.now g.S.Source.talk (g.O.Outbox.standing c.args.outbox.now) (g.O.Outbox.standing c.loop-place.outbox) c.args.stored.now c.loop-place.stored c.args.stations.now c.loop-place.stations c.loop-place.place (length c.args.stations.now) None (let l = inv.len in omega (arith, l)) inv
+    have_all c.args.scheme.now g.S.Source.talk (g.O.Outbox.standing c.args.outbox.now) (g.O.Outbox.standing c.loop-place.outbox) c.args.tally.now c.loop-place.tally c.args.stations.now c.loop-place.stations c.loop-place.place (length c.args.stations.now) None (let l = inv.len in omega (arith, l)) inv

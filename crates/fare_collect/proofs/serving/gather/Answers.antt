@@ -36,9 +36,9 @@ returns-clause-gathered g c =
           none k d at (e ∙ (was.each k d (element s.new.hears.items k (omega (arith, at, hn, ln))) at).named)) in
           (filter-append _ was.all rest.items ∙ (λ i. both.0 i ++ more i), both.1);
       len = rest.len ∙ was.len;
-      written = written_then sc a b d was.all rest.items c.args.tellers.now s.new.tellers s.new.tellers c.args.stored.now s.new.stored r.new.stored r.result
-          (subst (λ (h : Option Halt). HasWritten sc a b was.all c.args.tellers.now s.new.tellers c.args.stored.now s.new.stored h) c.in_default.is was.written)
-          (rest.kept.each sc s.new.tellers);
+      written = written_then sc a b d was.all rest.items c.args.tellers.now s.new.tellers s.new.tellers c.args.tally.now s.new.tally r.new.tally r.result
+          (subst (λ (h : Option Halt). HasWritten sc a b was.all c.args.tellers.now s.new.tellers c.args.tally.now s.new.tally h) c.in_default.is was.written)
+          (rest.kept.each s.new.tellers);
       each = λ k x h lt. gathered_rest sc g.S.Source.talk was.all rest.items (λ station. of_station station was.inbox) (slice_index_or s.new.hears.items k h) (slice_index_or c.args.stations.now k x) (slice_index_or s.new.stations k x) (slice_index_or r.new.stations k x)
           (was.each k x h lt) (rest.each k x (let l = was.len in omega (arith, lt, l))) (ap (of_station (slice_index_or c.args.stations.now k x).collector.station) empty);
     }

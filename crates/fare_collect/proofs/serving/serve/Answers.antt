@@ -38,7 +38,7 @@ returns-in-Some-clause-gathered g c =
           let both = f.ensures.others station (unnamed c.args.scheme.now g.S.Source.talk c.args.inbox c.args.lines.now c.args.tellers.now c.args.passes.items s.new.passes.items c.args.hears.now.items s.new.hears.items c.args.stations.now s.new.stations (stations_of s.new.writer) station c.requires.passes c.requires.lines c.requires.some s.ensures.served (c.requires.all ∙ sym s.ensures.queue.1) none) in
           (both.0, inbox.2 station ∙ both.1);
       len = s.ensures.served.len;
-      written = subst (λ (h : Option Halt). HasWritten c.args.scheme.now a b taken c.args.tellers.now s.new.tellers c.args.stored.now s.new.stored h) c.in-Some.is s.ensures.written;
+      written = subst (λ (h : Option Halt). HasWritten c.args.scheme.now a b taken c.args.tellers.now s.new.tellers c.args.tally.now s.new.tally h) c.in-Some.is s.ensures.written;
       each = gathered_all c.args.scheme.now g.S.Source.talk c.args.inbox c.args.lines.now c.args.tellers.now c.args.passes.items s.new.passes.items c.args.hears.now.items s.new.hears.items c.args.stations.now s.new.stations taken (λ station. of_station station inbox.0)
           c.requires.passes c.requires.lines s.ensures.served (parts_are taken (left_of f.result) inbox.0 s.new.passes.items inbox.2 f.ensures.each);
     }
@@ -65,9 +65,9 @@ returns-clause-gathered g c =
           let split = both_nil (of_station station kept.some.items) (left_of k.new.ended station) (sym (kept.some.parts station) ∙ both.1) in
           (filter-append _ taken kept.some.items ∙ (λ i. both.0 i ++ split.0 i), sym (parts station) ∙ split.1);
       len = s.ensures.served.len;
-      written = written_then c.args.scheme.now a b d taken kept.some.items c.args.tellers.now s.new.tellers s.new.tellers c.args.stored.now s.new.stored k.new.stored k.result
-          (subst (λ (h : Option Halt). HasWritten c.args.scheme.now a b taken c.args.tellers.now s.new.tellers c.args.stored.now s.new.stored h) c.in_default.is s.ensures.written)
-          (kept.some.kept.each c.args.scheme.now s.new.tellers);
+      written = written_then c.args.scheme.now a b d taken kept.some.items c.args.tellers.now s.new.tellers s.new.tellers c.args.tally.now s.new.tally k.new.tally k.result
+          (subst (λ (h : Option Halt). HasWritten c.args.scheme.now a b taken c.args.tellers.now s.new.tellers c.args.tally.now s.new.tally h) c.in_default.is s.ensures.written)
+          (kept.some.kept.each s.new.tellers);
       each = λ j x h lt. gathered_more c.args.scheme.now g.S.Source.talk taken kept.some.items (left_of c.finish-ended.result) (λ station. of_station station inbox.0) _ _ _
           (gathered_all c.args.scheme.now g.S.Source.talk c.args.inbox c.args.lines.now c.args.tellers.now c.args.passes.items s.new.passes.items c.args.hears.now.items s.new.hears.items c.args.stations.now s.new.stations taken (left_of c.finish-ended.result)
           c.requires.passes c.requires.lines s.ensures.served c.finish-ended.ensures.each j x h lt) (λ station. kept.some.parts station ∙ ap (λ l. of_station station kept.some.items ++ l) (parts station));

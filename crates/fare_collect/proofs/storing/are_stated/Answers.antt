@@ -1,6 +1,6 @@
 use Rattle.std.proofs.lemmas.Grind.{common_steps}
 use Rattle.fare_scheme.specs.Words.{id_at}
-use Rattle.std.proofs.Common.{◌≡◌, ◌+◌, Some, None, true, false, take, refl, sym, ◌∙◌, subst, arith, suc}
+use Rattle.std.proofs.Common.{◌≡◌, ◌+◌, Some, None, true, false, take, inl, inr, refl, sym, ◌∙◌, subst, arith, suc}
 use Rattle.std.specs.Prelude.{◌==◌, Ok, Option, is_some}
 use Rattle.std.specs.List.{list_all}
 use Rattle.std.proofs.lemmas.Bool.Decides.{nat_tests}
@@ -13,10 +13,10 @@ use Rattle.fare_collect.proofs.Stating.{here, later, missing, one_more, none_of_
 use Rattle.fare_collect.proofs.storing.are_stated.Goals as goal
 
 pub loop-place-init : goal.loop-place-init
-loop-place-init g c = reads_none (g.O.Outbox.standing c.args.outbox.now) _ refl
+loop-place-init g c = (reads_none (g.O.Outbox.standing c.args.outbox.now) _ refl, inl refl)
 
-pub returns-in_default-2 : goal.returns-in_default-2
-returns-in_default-2 g c =
+pub returns-in_default-2-clause-asks : goal.returns-in_default-2-clause-asks
+returns-in_default-2-clause-asks g c =
     let d = c.args.device in
     let day = c.args.day in
     let first = g.O.Outbox.standing c.args.outbox.now in
@@ -29,10 +29,10 @@ returns-in_default-2 g c =
     let one : Reads before now (λ n. IsNextStatement before.value.stated owner d day n) (Ok None) = subst (λ (o : Option StatementValue). Reads before now (λ n. IsNextStatement before.value.stated owner d day n) (Ok o)) c.in_default-2.is c.in_ok-statement.ensures in
     reads_say first now ((before.value ≡ first.value) × so × IsNextStatement before.value.stated owner d day None) (false ≡ are_all_stated c.args.scheme.now first.value d day) None
     (λ is. (is.0, sym (none_of_all (λ o. is_some (first.value.stated o d day)) owners c.loop-place.place owner at (missing first.value.stated owner d day (subst (λ (v : OutboxValue). IsNextStatement v.stated owner d day None) is.1.0 is.1.2)))))
-    (reads_then first before now so (IsNextStatement before.value.stated owner d day None) None c.loop-place.invariant one)
+    (reads_then first before now so (IsNextStatement before.value.stated owner d day None) None c.loop-place.invariant.0 one)
 
-pub returns-then-ne : goal.returns-then-ne
-returns-then-ne g c =
+pub returns-then-ne-clause-asks : goal.returns-then-ne-clause-asks
+returns-then-ne-clause-asks g c =
     let d = c.args.device in
     let day = c.args.day in
     let first = g.O.Outbox.standing c.args.outbox.now in
@@ -47,7 +47,7 @@ returns-then-ne g c =
     let one : Reads before now (λ n. IsNextStatement before.value.stated owner d day n) (Ok (Some found)) = subst (λ (o : Option StatementValue). Reads before now (λ n. IsNextStatement before.value.stated owner d day n) (Ok o)) c.in-Some-2.is c.in_ok-statement.ensures in
     reads_say first now ((before.value ≡ first.value) × so × IsNextStatement before.value.stated owner d day (Some found)) (false ≡ are_all_stated c.args.scheme.now first.value d day) None
     (λ is. (is.0, sym (none_of_all (λ o. is_some (first.value.stated o d day)) owners c.loop-place.place owner at (later first.value.stated owner d day found (subst (λ (v : OutboxValue). IsNextStatement v.stated owner d day (Some found)) is.1.0 is.1.2) differ))))
-    (reads_then first before now so (IsNextStatement before.value.stated owner d day (Some found)) None c.loop-place.invariant one)
+    (reads_then first before now so (IsNextStatement before.value.stated owner d day (Some found)) None c.loop-place.invariant.0 one)
 
 pub loop-place-preserved : goal.loop-place-preserved
 loop-place-preserved g c =
@@ -65,7 +65,9 @@ loop-place-preserved g c =
     let at : id_at owners k ≡ Some owner = sym c.owner_at.ensures.value ∙ c.in-Some.is in
     let same : found.day ≡ day = grind (arith, common_steps, nat_tests) in
     let next : suc k ≡ k + 1 = omega arith in
-    let one : Reads before now (λ n. IsNextStatement before.value.stated owner d day n) (Ok (Some found)) = subst (λ (o : Option StatementValue). Reads before now (λ n. IsNextStatement before.value.stated owner d day n) (Ok o)) c.in-Some-2.is c.in_ok-statement.ensures in
-    reads_say first now ((before.value ≡ first.value) × so × IsNextStatement before.value.stated owner d day (Some found)) more None
-    (λ is. (is.0, subst (λ n. list_all (λ o. is_some (first.value.stated o.0 d day)) (take n owners) ≡ true) next (one_more (λ o. is_some (first.value.stated o d day)) owners k owner at (here first.value.stated owner d day found (subst (λ (v : OutboxValue). IsNextStatement v.stated owner d day (Some found)) is.1.0 is.1.2) same) is.1.1)))
-    (reads_then first before now so (IsNextStatement before.value.stated owner d day (Some found)) None c.loop-place.invariant one)
+    let one : Reads before now (λ n. IsNextStatement before.value.stated owner d day n) (Ok (Some found)) = subst (λ (o : Option StatementValue). Reads before now (λ n. IsNextStatement before.value.stated owner d day n) (Ok o)) c.in-Some-2.is c.in_ok-statement.ensures in (
+      reads_say first now ((before.value ≡ first.value) × so × IsNextStatement before.value.stated owner d day (Some found)) more None
+          (λ is. (is.0, subst (λ n. list_all (λ o. is_some (first.value.stated o.0 d day)) (take n owners) ≡ true) next (one_more (λ o. is_some (first.value.stated o d day)) owners k owner at (here first.value.stated owner d day found (subst (λ (v : OutboxValue). IsNextStatement v.stated owner d day (Some found)) is.1.0 is.1.2) same) is.1.1)))
+          (reads_then first before now so (IsNextStatement before.value.stated owner d day (Some found)) None c.loop-place.invariant.0 one),
+      inr (λ clean. c.loop-place.invariant.0.live (one.live (one.stays refl clean))),
+    )
