@@ -17,7 +17,7 @@ IsJob words job = JobOf (subcommand_of hub_app words) job
 
 abbrev pub IsServe : Job → Type 0
 IsServe (job.Replay sql) = ⊥
-IsServe (job.Serve port turns path) = Unit {0}
+IsServe (job.Serve port turns path read_millis write_millis) = Unit {0}
 
 -- clap has nothing to say of the words, and this is their job
 abbrev pub AsksFor : List Text → Job → Type 0

@@ -23,21 +23,32 @@ fn reads_jobs(rt: HostRuntime) -> Result<(), Fail> {
         "1000000000",
         "--outbox",
         "out box",
+        "--read-ms",
+        "1",
+        "--write-ms",
+        "60000",
     ];
-    match read_words(rt.alloc(), &words)? {
-        Job::Serve { port, turns, path } => {
-            assert_eq!(rt; port, 65535);
-            assert_eq!(rt; turns, 1_000_000_000);
-            assert_eq!(rt; path, "out box");
+    for (count, read, write) in [(7, 10, 1_000), (9, 1, 1_000), (11, 1, 60_000)] {
+        match read_words(rt.alloc(), &words[..count])? {
+            Job::Serve {
+                port,
+                turns,
+                path,
+                read_millis,
+                write_millis,
+            } => {
+                assert_eq!(rt; (port, turns, path), (65535, 1_000_000_000, "out box"));
+                assert_eq!(rt; (read_millis, write_millis), (read, write));
+            }
+            Job::Replay { .. } => panic!(rt; "not a server"),
         }
-        Job::Replay { .. } => panic!(rt; "not a server"),
     }
     Ok(())
 }
 
 #[test]
 fn refuses_words(rt: HostRuntime) -> Result<(), Fail> {
-    let cases: [(&[&str], &str); 12] = [
+    let cases: [(&[&str], &str); 14] = [
         (&[], "requires a subcommand"),
         (&["play"], "unrecognized subcommand 'play'"),
         (&["replay", "now"], "unexpected argument 'now' found"),
@@ -79,6 +90,34 @@ fn refuses_words(rt: HostRuntime) -> Result<(), Fail> {
             ],
             "1000000001 is not in 1..=1000000000",
         ),
+        (
+            &[
+                "serve",
+                "--port",
+                "1",
+                "--turns",
+                "1",
+                "--outbox",
+                "x",
+                "--read-ms",
+                "0",
+            ],
+            "0 is not in 1..=60000",
+        ),
+        (
+            &[
+                "serve",
+                "--port",
+                "1",
+                "--turns",
+                "1",
+                "--outbox",
+                "x",
+                "--write-ms",
+                "60001",
+            ],
+            "60001 is not in 1..=60000",
+        ),
     ];
     for (words, want) in cases {
         match read_words(rt.alloc(), words) {
@@ -101,7 +140,7 @@ fn shows_help_and_version(rt: HostRuntime) -> Result<(), Fail> {
         (&["replay", "--help"], "Usage: fare_hub replay [OPTIONS]"),
         (
             &["help", "serve"],
-            "Usage: fare_hub serve --port <PORT> --turns <TURNS> --outbox <PATH>",
+            "Usage: fare_hub serve [OPTIONS] --port <PORT> --turns <TURNS> --outbox <PATH>",
         ),
     ];
     for (words, want) in cases {
