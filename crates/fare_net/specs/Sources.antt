@@ -82,7 +82,7 @@ pub record Counts (old new : NetValue) : Type 0 where
   pub refused : new.refused ≡ old.refused
   pub cut : new.cut ≡ old.cut
   pub turns : new.turns ≡ old.turns
-  pub failures : (old.failures < new.failures) ⊎ (18446744073709551615 ≤ old.failures)
+  pub failures : (old.failures < new.failures) ⊎ ((18446744073709551615 ≤ old.failures) × (new.failures ≡ old.failures))
 
 -- FRAMES
 -- the frames that were taken off stand at the front of the bytes that were read
