@@ -56,6 +56,8 @@ mod scheme;
 #[cfg(test)]
 mod schemes;
 #[cfg(test)]
+mod serving;
+#[cfg(test)]
 mod sessions;
 #[cfg(test)]
 mod settlements;
