@@ -1,11 +1,11 @@
-ghost use Rattle.std.specs.Prelude.{◌≡◌, length, OnOk, IfErr, IfSome};
+ghost use Rattle.std.specs.Prelude.{◌≡◌, length, vec_len, OnOk, IfErr, IfSome};
 ghost use Rattle.std.specs.Io.KnownBytes.{Appends};
 ghost use Rattle.fare_run.specs.Serving.{FailsOver, IsUntold, ServeEnds, ServeFails, WritesCounts, listening_line};
 ghost use Rattle.fare_run.specs.declared.serve_failure.ServeFailure.TheVariants.{Network};
 
 use crate::scheming::read_scheme;
 use crate::serve_failure::{ServeFailure, of_serving};
-use crate::stores::open_stores;
+use crate::stores::{StoresInFiles, open_stores};
 use fare_scheme::Scheme;
 use fare_serve::{Limits, serve_on};
 use fare_store::{Ledger, Outbox};
@@ -78,6 +78,35 @@ fn serve_over<
     }
 }
 
+// The same over stores in files.
+fn serve_in<
+    O: Write,
+    R: Net<Listener = TcpListener, Stream = TcpStream> + Threads + Wait + Clock + Eprint + Sync,
+>(
+    rt: &HostRuntime,
+    handles: &R,
+    port: u16,
+    scheme: &Scheme,
+    stores: &mut StoresInFiles,
+    limits: Limits,
+    output: &mut O,
+) -> Result<(), ServeFailure>
+    requires owners { vec_len stores.old.ledgers ≡ length scheme.now.owners }
+    ensures served { OnOk result (WritesCounts scheme.now (O.contents output.old) (O.contents output.new)) }
+    ensures fails { IfErr result (FailsOver (O.contents output.old) (O.contents output.new)) }
+{
+    serve_over(
+        rt,
+        handles,
+        port,
+        scheme,
+        &mut stores.outbox,
+        &mut stores.ledgers,
+        limits,
+        output,
+    )
+}
+
 /// Serves the stations of the scheme that the input's lines make, over a port of 127.0.0.1, with the outbox in a file at
 /// the path and each owner's ledger in one beside it, and writes `listening PORT` and then the counts.
 ///
@@ -101,16 +130,7 @@ pub fn serve<
 {
     let scheme = read_scheme(rt.alloc(), input)?;
     let mut stores = open_stores(rt, path, &scheme)?;
-    let served = serve_over(
-        rt,
-        handles,
-        port,
-        &scheme,
-        &mut stores.outbox,
-        &mut stores.ledgers,
-        limits,
-        output,
-    );
+    let served = serve_in(rt, handles, port, &scheme, &mut stores, limits, output);
     stores.close();
     served
 }

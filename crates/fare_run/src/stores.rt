@@ -80,10 +80,17 @@ fn open_ledger(
 }
 
 /// The outbox and the owners' ledgers of a hub that serves, in files.
-#[derive(Drop)]
 pub(crate) struct StoresInFiles {
     pub(crate) outbox: SqlOutbox<InFile>,
     pub(crate) ledgers: Vec<SqlLedger<InFile>>,
+}
+
+impl Drop for StoresInFiles {
+    fn drop(self) {
+        let StoresInFiles { outbox, ledgers } = self;
+        drop(outbox);
+        drop(ledgers);
+    }
 }
 
 // The outbox at a path, and each owner's ledger beside it, in their order.
