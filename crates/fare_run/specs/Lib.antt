@@ -1,2 +1,5 @@
 pub mod Failures
 pub mod Runs
+pub mod Scheming
+pub mod Serving
+pub mod Stores

@@ -7,8 +7,15 @@
 mod failure;
 mod replaying;
 mod running;
+mod scheming;
+mod serve_failure;
+mod serving;
+mod stores;
 mod telling;
 
 pub use failure::Failure;
 pub use running::run;
+pub use scheming::read_scheme;
+pub use serve_failure::ServeFailure;
+pub use serving::serve;
 pub use telling::tell;

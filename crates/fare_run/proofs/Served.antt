@@ -1,0 +1,107 @@
+-- How serving ends, by how its parts do.
+use Rattle.std.proofs.Common.{◌≡◌, ◌≢◌, ◌⊎◌, ℕ, ◌≤◌, List, [], ◌++◌, length, map, take, Option, Some, None, IfSome, refl, sym, ap, ◌∙◌, append_assoc, subst, inl, inr, arith}
+use Rattle.std.specs.Io.KnownBytes.{Appends, Keeps}
+use Rattle.std.specs.Map.{keys_of}
+use Rattle.std.proofs.lemmas.List.{length-map, take_all}
+use Rattle.fare_scheme.specs.Values.{SchemeValue}
+use Rattle.fare_store.specs.Standing.{Standing}
+use Rattle.fare_store.specs.OutboxWords.{OutboxValue}
+use Rattle.fare_store.specs.LedgerWords.{LedgerValue}
+use Rattle.fare_serve.specs.Counting.{IsCountsOf, counts_text}
+use Rattle.fare_serve.specs.Serving.{HasServedLines}
+use Rattle.fare_serve.specs.declared.counts.Counts.{Counts}
+use Rattle.fare_serve.specs.declared.fault.ServeFault.{ServeFault}
+use Rattle.fare_serve.specs.declared.fault.ServeFault.TheVariants as serve
+use Rattle.fare_run.specs.Scheming.{MakesNoScheme, SpellsScheme}
+use Rattle.fare_run.specs.Serving.{FailsOver, HasScheme, IsUntold, MayListen, ServeEnds, ServeFails, WritesCounts, listening_line, serving_failure}
+use Rattle.fare_run.specs.Stores.{IsOfStores}
+use Rattle.fare_run.specs.declared.serve_failure.ServeFailure.{ServeFailure}
+use Rattle.fare_run.specs.declared.serve_failure.ServeFailure.TheVariants.{Lines, Refused, NoScheme, Memory, Store, Network, Write}
+
+-- KNOWN BYTES
+keeps_same : (a : Option (List ℕ)) → Keeps a a
+keeps_same None = tt
+keeps_same (Some xs) = refl
+
+appends_then : (a b c : Option (List ℕ)) (xs ys : List ℕ) → Appends a b xs → Appends b c ys → Appends a c (xs ++ ys)
+appends_then None b c xs ys first next = tt
+appends_then (Some x) None c xs ys first next = absurd first
+appends_then (Some x) (Some y) None xs ys first next = absurd next
+appends_then (Some x) (Some y) (Some z) xs ys first next = next ∙ (ap (λ (l : List ℕ). l ++ ys) first ∙ append_assoc x xs ys)
+
+appends_kept : (a b c : Option (List ℕ)) (xs : List ℕ) → Appends a b xs → Keeps b c → Appends a c xs
+appends_kept None b c xs first next = tt
+appends_kept (Some x) None c xs first next = absurd first
+appends_kept (Some x) (Some y) None xs first next = absurd next
+appends_kept (Some x) (Some y) (Some z) xs first next = next ∙ first
+
+-- THE SCHEME
+has_scheme : (known : Option (List ℕ)) (sc : SchemeValue) → IfSome known (SpellsScheme sc) → HasScheme known
+has_scheme None sc spelled = tt
+has_scheme (Some input) sc spelled = (sc, spelled)
+
+-- counts have a line for each owner
+named : {O L : Type 0} (sc : SchemeValue) (outbox : O → Standing OutboxValue) (ledger : L → Standing LedgerValue) (xo xn : O) (before after : List L) (old new : Option (List ℕ)) → (h : HasServedLines sc outbox ledger xo xn before after old new) → IsCountsOf sc h.counts
+named sc outbox ledger xo xn before after old new h =
+    let few : length (keys_of sc.owners) ≤ length sc.owners = (let n = length-map sc.owners (λ e. e.0) in omega (arith, n)) in
+    h.served.counted.owners ∙ take_all (length sc.owners) (keys_of sc.owners) few
+
+-- ENDS
+pub writes : {O L : Type 0} (sc : SchemeValue) (outbox : O → Standing OutboxValue) (ledger : L → Standing LedgerValue) (xo xn : O) (before after : List L) (old mid new : Option (List ℕ)) (port : ℕ)
+    → Appends old mid (listening_line port) → HasServedLines sc outbox ledger xo xn before after mid new → WritesCounts sc old new
+writes sc outbox ledger xo xn before after old mid new port told h = record {
+  port = port;
+  counts = counts_text h.counts;
+  are = (h.counts, named sc outbox ledger xo xn before after mid new h, refl);
+  written = appends_then old mid new (listening_line port) (counts_text h.counts) told h.written;
+}
+
+pub ends : (known : Option (List ℕ)) (sc : SchemeValue) (old new : Option (List ℕ)) → IfSome known (SpellsScheme sc) → WritesCounts sc old new → IfSome known (ServeEnds old new)
+ends None sc old new spelled done = tt
+ends (Some input) sc old new spelled done = record { sc = sc; spelled = spelled; writes = done }
+
+-- FAILURES
+pub fails_scheme : (known old : Option (List ℕ)) (failure : ServeFailure) → MakesNoScheme known failure → ServeFails known old old failure
+fails_scheme known old (Lines fault) makes = (keeps_same old, makes)
+fails_scheme known old (Refused why) makes = (keeps_same old, makes)
+fails_scheme known old NoScheme makes = (keeps_same old, makes)
+fails_scheme known old Memory makes = inl (keeps_same old)
+fails_scheme known old Store makes = absurd makes
+fails_scheme known old Network makes = absurd makes
+fails_scheme known old Write makes = absurd makes
+
+pub fails_stores : (known old : Option (List ℕ)) (sc : SchemeValue) (failure : ServeFailure) → IfSome known (SpellsScheme sc) → IsOfStores failure → ServeFails known old old failure
+fails_stores known old sc (Lines fault) spelled is = absurd is
+fails_stores known old sc (Refused why) spelled is = absurd is
+fails_stores known old sc NoScheme spelled is = absurd is
+fails_stores known old sc Memory spelled is = inl (keeps_same old)
+fails_stores known old sc Store spelled is = (inl (keeps_same old), has_scheme known sc spelled)
+fails_stores known old sc Network spelled is = absurd is
+fails_stores known old sc Write spelled is = absurd is
+
+pub fails_over : (known old new : Option (List ℕ)) (sc : SchemeValue) (failure : ServeFailure) → IfSome known (SpellsScheme sc) → FailsOver old new failure → ServeFails known old new failure
+fails_over known old new sc (Lines fault) spelled is = absurd is
+fails_over known old new sc (Refused why) spelled is = absurd is
+fails_over known old new sc NoScheme spelled is = absurd is
+fails_over known old new sc Memory spelled is = is
+fails_over known old new sc Store spelled is = (is, has_scheme known sc spelled)
+fails_over known old new sc Network spelled is = (is, has_scheme known sc spelled)
+fails_over known old new sc Write spelled is = has_scheme known sc spelled
+
+-- over stores
+pub over_network : (old : Option (List ℕ)) (failure : ServeFailure) → failure ≡ Network → FailsOver old old failure
+over_network old failure is = subst (FailsOver old old) (sym is) (keeps_same old)
+
+pub over_told : (old new : Option (List ℕ)) (failure : ServeFailure) → IsUntold old new failure → FailsOver old new failure
+over_told old new (Lines fault) is = absurd is
+over_told old new (Refused why) is = absurd is
+over_told old new NoScheme is = absurd is
+over_told old new Memory is = inl is
+over_told old new Store is = absurd is
+over_told old new Network is = absurd is
+over_told old new Write is = tt
+
+pub over_serving : (old mid new : Option (List ℕ)) (port : ℕ) (fault : ServeFault) → Appends old mid (listening_line port) → (fault ≢ serve.Write → Keeps mid new) → FailsOver old new (serving_failure fault)
+over_serving old mid new port serve.Memory told kept = inr (port, appends_kept old mid new (listening_line port) told (kept (λ e. grind (arith, e))))
+over_serving old mid new port serve.Store told kept = inr (port, appends_kept old mid new (listening_line port) told (kept (λ e. grind (arith, e))))
+over_serving old mid new port serve.Write told kept = tt

@@ -1,0 +1,67 @@
+-- How serving ends, by what is known of the input before, and of the output before and after.
+use Rattle.std.specs.Prelude.{◌≡◌, ◌⊎◌, ℕ, ◌++◌, List, Option, IfSome, codes}
+use Rattle.std.specs.Fmt.{decimal}
+use Rattle.std.specs.Io.KnownBytes.{Appends, Keeps}
+use Rattle.fare_scheme.specs.Values.{SchemeValue}
+use Rattle.fare_serve.specs.Counting.{IsCountsText}
+use Rattle.fare_serve.specs.declared.fault.ServeFault.{ServeFault}
+use Rattle.fare_serve.specs.declared.fault.ServeFault.TheVariants as serve
+use Rattle.fare_run.specs.Scheming.{MakesNoScheme, SpellsScheme}
+use Rattle.fare_run.specs.declared.serve_failure.ServeFailure.{ServeFailure}
+use Rattle.fare_run.specs.declared.serve_failure.ServeFailure.TheVariants.{Lines, Refused, NoScheme, Memory, Store, Network, Write}
+
+-- the failure of serving that wrote no counts
+abbrev pub serving_failure : ServeFault → ServeFailure
+serving_failure serve.Memory = Memory
+serving_failure serve.Store = Store
+serving_failure serve.Write = Write
+
+-- the line that says which port is listened on
+abbrev pub listening_line : ℕ → List ℕ
+listening_line port = codes "listening " ++ (decimal port ++ codes "\n")
+
+-- why the port was not told
+abbrev pub IsUntold : Option (List ℕ) → Option (List ℕ) → ServeFailure → Type 0
+IsUntold old new Memory = Keeps old new
+IsUntold old new Write = Unit {0}
+IsUntold old new _ = ⊥
+
+-- nothing was written, or which port is listened on and nothing else
+abbrev pub MayListen : Option (List ℕ) → Option (List ℕ) → Type 0
+MayListen old new = Keeps old new ⊎ ((port : ℕ) × Appends old new (listening_line port))
+
+-- the input makes a scheme
+abbrev pub HasScheme : Option (List ℕ) → Type 0
+HasScheme known = IfSome known (λ input. (sc : SchemeValue) × SpellsScheme sc input)
+
+-- what was written is the port and then counts for the owners of a scheme
+pub record WritesCounts (sc : SchemeValue) (old new : Option (List ℕ)) : Type 0 where
+  pub port : ℕ
+  pub counts : List ℕ
+  pub are : IsCountsText sc counts
+  pub written : Appends old new (listening_line port ++ counts)
+
+-- how far serving over stores came at each failure
+abbrev pub FailsOver : Option (List ℕ) → Option (List ℕ) → ServeFailure → Type 0
+FailsOver old new Memory = MayListen old new
+FailsOver old new Store = MayListen old new
+FailsOver old new Network = Keeps old new
+FailsOver old new Write = Unit {0}
+FailsOver old new _ = ⊥
+
+-- served to the end: the input makes a scheme, and what was written is the port and then counts for its owners
+pub record ServeEnds (old new : Option (List ℕ)) (input : List ℕ) : Type 0 where
+  pub sc : SchemeValue
+  pub spelled : SpellsScheme sc input
+  pub writes : WritesCounts sc old new
+
+-- What each failure says: one of the lines or of their scheme comes before anything is written, one of the network
+-- before the port is told, and one of memory or of a store before any count.
+abbrev pub ServeFails : Option (List ℕ) → Option (List ℕ) → Option (List ℕ) → ServeFailure → Type 0
+ServeFails known old new (Lines fault) = Keeps old new × MakesNoScheme known (Lines fault)
+ServeFails known old new (Refused why) = Keeps old new × MakesNoScheme known (Refused why)
+ServeFails known old new NoScheme = Keeps old new × MakesNoScheme known NoScheme
+ServeFails known old new Memory = MayListen old new
+ServeFails known old new Store = MayListen old new × HasScheme known
+ServeFails known old new Network = Keeps old new × HasScheme known
+ServeFails known old new Write = HasScheme known

@@ -1,0 +1,9 @@
+-- Why stores in files were not opened.
+use Rattle.fare_run.specs.declared.serve_failure.ServeFailure.{ServeFailure}
+use Rattle.fare_run.specs.declared.serve_failure.ServeFailure.TheVariants.{Memory, Store}
+
+-- want of memory, or a store
+abbrev pub IsOfStores : ServeFailure → Type 0
+IsOfStores Memory = Unit {0}
+IsOfStores Store = Unit {0}
+IsOfStores _ = ⊥

@@ -1,0 +1,66 @@
+ghost use Rattle.std.specs.Prelude.{◌≡◌};
+ghost use Rattle.fare_run.specs.Scheming.{scheme_failure};
+ghost use Rattle.fare_run.specs.Serving.{serving_failure};
+ghost use Rattle.fare_run.specs.declared.serve_failure.ServeFailure.TheVariants.{Memory};
+
+use fare_serve::ServeFault;
+use fare_trace::{ReplayFault, SchemeFault};
+use fare_world::Refusal;
+use std::alloc::AllocError;
+use thiserror::Error;
+
+/// Why the program did not serve to its end, in the order in which this is found.
+#[derive(Clone, Copy, PartialEq, Eq, Debug, Error)]
+pub enum ServeFailure {
+    /// The input could not be read, is no trace, or there was no memory for it.
+    #[error("{0}")]
+    Lines(ReplayFault),
+    /// A scheme line was refused before the scheme was sealed.
+    #[error("scheme refused {0:?}")]
+    Refused(Refusal),
+    /// The lines make no scheme: an event or their end came before the seal.
+    #[error("no scheme")]
+    NoScheme,
+    /// There was no memory.
+    #[error("no memory")]
+    Memory,
+    /// A store could not be opened, holds something else, or failed.
+    #[error("store failed")]
+    Store,
+    /// The port could not be listened on.
+    #[error("network failed")]
+    Network,
+    /// The writer failed. How much it took is not said.
+    #[error("write failed")]
+    Write,
+}
+
+impl From<AllocError> for ServeFailure {
+    ghost from_gives = { λ _ e. e ≡ Memory };
+
+    fn from(_error: AllocError) -> ServeFailure {
+        ServeFailure::Memory
+    }
+}
+
+// Why the lines make no scheme.
+pub(crate) fn of_scheme(fault: SchemeFault) -> ServeFailure
+    ensures { result ≡ scheme_failure fault }
+{
+    match fault {
+        SchemeFault::Refused(refusal) => ServeFailure::Refused(refusal),
+        SchemeFault::NoScheme => ServeFailure::NoScheme,
+        SchemeFault::Memory => ServeFailure::Memory,
+    }
+}
+
+// Why no counts were written.
+pub(crate) fn of_serving(fault: ServeFault) -> ServeFailure
+    ensures { result ≡ serving_failure fault }
+{
+    match fault {
+        ServeFault::Memory => ServeFailure::Memory,
+        ServeFault::Store => ServeFailure::Store,
+        ServeFault::Write => ServeFailure::Write,
+    }
+}
