@@ -8,11 +8,7 @@
 
 use fare_run::{Failure, run, tell};
 use std::alloc::Global;
-use std::net::{Net, TcpListener, TcpStream};
 use std::process::ExitCode;
-use std::sync::Wait;
-use std::thread::Threads;
-use std::time::Clock;
 use std::{env, io};
 
 /// Why the system did not give the words.
@@ -27,9 +23,7 @@ fn without_words(alloc: Global, error: &io::Error) -> Failure {
 }
 
 /// Does what the program was started for.
-fn start<
-    R: Net<Listener = TcpListener, Stream = TcpStream> + Threads + Wait + Clock + Eprint + Sync,
->(rt: &HostRuntime, handles: &R) -> Result<(), Failure> {
+fn start(rt: &HostRuntime) -> Result<(), Failure> {
     let alloc = rt.alloc();
     let args = env::args(rt).map_err(|error| without_words(alloc, &error))?;
     let args = args
@@ -39,11 +33,11 @@ fn start<
     for arg in args.iter().skip(1) {
         words.push(arg.as_str()).map_err(|_| Failure::Memory)?;
     }
-    run(rt, handles, &words, &mut rt.reader(), &mut io::writer(rt))
+    run(alloc, &words, &mut rt.reader(), &mut io::writer(rt))
 }
 
 fn main(rt: HostRuntime) -> ExitCode {
-    match start(&rt, &rt) {
+    match start(&rt) {
         Ok(()) => ExitCode::SUCCESS,
         Err(failure) => {
             tell(&rt, &failure);

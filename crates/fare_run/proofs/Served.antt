@@ -1,5 +1,6 @@
 -- How serving ends, by how its parts do.
 use Rattle.std.proofs.Common.{◌≡◌, ◌≢◌, ◌⊎◌, ℕ, ◌≤◌, List, [], ◌++◌, length, map, take, Option, Some, None, IfSome, refl, sym, ap, ◌∙◌, append_assoc, subst, inl, inr, arith}
+use Rattle.std.specs.Prelude.{Result, Ok, Err, OnOk, IfErr}
 use Rattle.std.specs.Io.KnownBytes.{Appends, Keeps}
 use Rattle.std.specs.Map.{keys_of}
 use Rattle.std.proofs.lemmas.List.{length-map, take_all}

@@ -1,16 +1,15 @@
 -- How a run ends, by what is known of the input before, and of the output before and after.
-use Rattle.std.specs.Prelude.{◌≡◌, ◌⊎◌, ℕ, Bool, true, List, Option, IfSome}
+use Rattle.std.specs.Prelude.{◌≡◌, ◌⊎◌, ℕ, Bool, true, List, Option, Result, Err, IfSome}
 use Rattle.std.specs.Io.KnownBytes.{Appends}
-use Rattle.clap.specs.Words.{Text, subcommand_of}
+use Rattle.clap.specs.Words.{Text, subcommand_of, takes}
 use Rattle.fare_command.specs.CommandLine.{hub_app}
 use Rattle.fare_command.specs.Jobs.{AsksForText, IsMistaken, IsSound, JobOf, SaysNoJob}
 use Rattle.fare_command.specs.declared.words.Job.{Job}
 use Rattle.fare_command.specs.declared.words.Job.TheVariants as job
 use Rattle.fare_trace.specs.Replay.{ReplayFails, Replays}
 use Rattle.fare_trace.specs.declared.stream.ReplayFault.TheVariants as fault
-use Rattle.fare_run.specs.Serving.{ServeEnds, ServeFails}
 use Rattle.fare_run.specs.declared.failure.Failure.{Failure}
-use Rattle.fare_run.specs.declared.failure.Failure.TheVariants.{Replay, Serve, Write, Memory, Refused}
+use Rattle.fare_run.specs.declared.failure.Failure.TheVariants.{Replay, Write, Memory, NoServer, Refused}
 
 -- the job of the words
 abbrev pub IsJob : List Text → Job → Type 0
@@ -28,6 +27,10 @@ AsksFor words job = IsSound words × IsJob words job
 abbrev pub IsToServe : List Text → Type 0
 IsToServe words = (job : Job) × AsksFor words job × IsServe job
 
+-- clap takes the words, and their job is to serve
+abbrev pub AsksToServe : List Text → Type 0
+AsksToServe words = (takes hub_app words ≡ true) × ((job : Job) × IsJob words job × IsServe job)
+
 -- the words ask for a text of clap's, and a text was written
 abbrev pub Shows : List Text → Option (List ℕ) → Option (List ℕ) → Type 0
 Shows words old new = AsksForText words × ((text : List ℕ) × Appends old new text)
@@ -36,20 +39,16 @@ Shows words old new = AsksForText words × ((text : List ℕ) × Appends old new
 abbrev pub EndsReplay : List Text → Option (List ℕ) → Option (List ℕ) → Option (List ℕ) → Type 0
 EndsReplay words known old new = ((sql : Bool) × AsksFor words (job.Replay sql)) × IfSome known (Replays old new)
 
--- the words ask to serve, and the port and then counts are written
-abbrev pub EndsServing : List Text → Option (List ℕ) → Option (List ℕ) → Option (List ℕ) → Type 0
-EndsServing words known old new = IsToServe words × IfSome known (ServeEnds old new)
-
--- the job is done: a replay was asked for and its replies are written, or serving and its counts are, or a text is shown
+-- the job is done: a replay was asked for and its replies are written, or a text is shown
 abbrev pub RunEnds : List Text → Option (List ℕ) → Option (List ℕ) → Option (List ℕ) → Type 0
-RunEnds words known old new = EndsReplay words known old new ⊎ (EndsServing words known old new ⊎ Shows words old new)
+RunEnds words known old new = EndsReplay words known old new ⊎ Shows words old new
 
 -- what each failure says; a store fails only where the words ask for tables
 abbrev pub RunFails : List Text → Option (List ℕ) → Option (List ℕ) → Option (List ℕ) → Failure → Type 0
 RunFails words known old new (Replay why) = ((sql : Bool) × AsksFor words (job.Replay sql) × (why ≡ fault.Store → sql ≡ true)) × ReplayFails known old new why
 RunFails words known old new Write = AsksForText words
 RunFails words known old new Memory = Unit {0}
-RunFails words known old new (Serve why) = IsToServe words × ServeFails known old new why
+RunFails words known old new NoServer = IsToServe words
 RunFails words known old new (Refused text) = IsMistaken words ⊎ SaysNoJob words
 
 -- the failures that come before anything is read or written
@@ -57,5 +56,9 @@ abbrev pub IsBefore : Failure → Type 0
 IsBefore (Replay why) = ⊥
 IsBefore Write = ⊥
 IsBefore Memory = Unit {0}
-IsBefore (Serve why) = ⊥
+IsBefore NoServer = Unit {0}
 IsBefore (Refused text) = Unit {0}
+
+-- what is answered where the words ask to serve
+abbrev pub Serves : {A : Type 0} → Result A Failure → Type 0
+Serves result = (result ≡ Err NoServer) ⊎ (result ≡ Err Memory)

@@ -1,18 +1,13 @@
 ghost use Rattle.std.specs.Prelude.{◌≡◌, map, OnOk, IfErr};
 ghost use Rattle.std.specs.Io.KnownBytes.{Appends};
-ghost use Rattle.fare_run.specs.Runs.{IsBefore, RunEnds, RunFails};
+ghost use Rattle.fare_run.specs.Runs.{AsksToServe, IsBefore, RunEnds, RunFails, Serves};
 
 use crate::failure::Failure;
 use crate::replaying::replay_over;
-use crate::serving::serve;
 use fare_command::{Job, WordsFault, read_words};
-use fare_serve::Limits;
+use std::alloc::Global;
 use std::io;
 use std::io::{Read, Write};
-use std::net::{Net, TcpListener, TcpStream};
-use std::sync::Wait;
-use std::thread::Threads;
-use std::time::Clock;
 
 /// Writes a text to its end.
 fn write_text<O: Write>(output: &mut O, text: &str) -> io::Result<()>
@@ -22,20 +17,12 @@ fn write_text<O: Write>(output: &mut O, text: &str) -> io::Result<()>
     output.flush()
 }
 
-/// Does what the words after the program's name ask for: replays what the reader gives to the writer, serves the
-/// stations of the scheme that it gives, or shows the help or the version on the writer. Files are made and opened by
-/// the first runtime, and the second gives leave for threads, for waiting and for sockets.
-///
-/// `Refused` where the words are no job, and `Memory` where there is none for the words; nothing was read or written
-/// then. `Replay` where a replay was asked for and stopped, `Serve` where serving was, and `Write` where a text could not
-/// be shown.
-pub fn run<
-    I: Read,
-    O: Write,
-    R: Net<Listener = TcpListener, Stream = TcpStream> + Threads + Wait + Clock + Eprint + Sync,
->(
-    rt: &HostRuntime,
-    handles: &R,
+/// Does what the words after the program's name ask for: replays what the reader gives to the writer, or shows
+/// the help or the version on the writer. `Refused` where the words are no job, `NoServer` where they ask to
+/// serve and `Memory` where there is none for the words; nothing was read or written then. `Replay` where a replay
+/// was asked for and stopped, and `Write` where a text could not be shown.
+pub fn run<I: Read, O: Write>(
+    alloc: Global,
     words: &[&str],
     input: &mut I,
     output: &mut O,
@@ -43,28 +30,13 @@ pub fn run<
     ensures done { OnOk result (RunEnds (map (λ word. word.now) words.now) (I.remaining input.old) (O.contents output.old) (O.contents output.new)) }
     ensures failure { IfErr result (RunFails (map (λ word. word.now) words.now) (I.remaining input.old) (O.contents output.old) (O.contents output.new)) }
     ensures untouched { IfErr result (λ failure. IsBefore failure → (input.new ≡ input.old) × (output.new ≡ output.old)) }
+    ensures serve { AsksToServe (map (λ word. word.now) words.now) → Serves result }
 {
-    let alloc = rt.alloc();
     match read_words(alloc, words) {
         Ok(Job::Replay { sql }) => {
             replay_over(alloc, sql, input, output).map_err(Failure::Replay)
         }
-        Ok(
-            Job::Serve {
-                port,
-                turns,
-                path,
-                read_millis,
-                write_millis,
-            },
-        ) => {
-            let limits = Limits {
-                turns,
-                read_millis,
-                write_millis,
-            };
-            serve(rt, handles, port, path, limits, input, output).map_err(Failure::Serve)
-        }
+        Ok(Job::Serve { .. }) => Err(Failure::NoServer),
         Err(WordsFault::Asked(text)) => write_text(output, &text).map_err(|_| Failure::Write),
         Err(WordsFault::Refused(text)) => Err(Failure::Refused(text)),
         Err(WordsFault::Memory) => Err(Failure::Memory),

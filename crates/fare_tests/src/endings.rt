@@ -1,16 +1,8 @@
 use crate::readers::{Closed, Lossy};
-use fare_run::{Failure, ServeFailure, run};
+use fare_run::{Failure, run};
 use fare_trace::ReplayFault;
-use fare_world::Refusal;
 use std::alloc::Global;
 use std::io::Write;
-use std::net::{Net, TcpListener, TcpStream};
-use std::sync::Wait;
-use std::thread::Threads;
-use std::time::Clock;
-
-/// Words that ask to serve, for one turn.
-const SERVE: [&str; 7] = ["serve", "--port", "0", "--turns", "1", "--outbox", "x"];
 
 /// The status of a run, and whether this is what standard error gets of it: the whole line of a failure, or the
 /// begin of what refused words are told.
@@ -29,27 +21,16 @@ fn told(alloc: Global, ended: &Result<(), Failure>, said: &str) -> Option<(u8, b
 #[test]
 fn words_and_traces_decide_the_ending(rt: HostRuntime) {
     // The words, the trace, the status, what standard error gets, and how the output begins.
-    let cases: [(&[&str], &[u8], u8, &str, &[u8]); 17] = [
+    let cases: [(&[&str], &[u8], u8, &str, &[u8]); 12] = [
         (&["--version"], b"", 0, "", b"fare_hub 0.1.0\n"),
         (&["replay", "--help"], b"tap 1", 0, "", b"Reads a trace"),
-        (&SERVE, b"", 1, "no scheme", b""),
         (
-            &SERVE,
-            b"owner 0 4\nseal\n",
+            &["serve", "--port", "0", "--turns", "1", "--outbox", "x"],
+            b"",
             1,
-            "scheme refused ZeroId",
+            "this build has no server",
             b"",
         ),
-        (&SERVE, b"owner 1 4\ndraw\n", 1, "no scheme", b""),
-        (&SERVE, b"owner 0 4\ntap 1", 1, "bad line 2", b""),
-        (
-            &["serve", "--port", "0", "--turns", "1", "--outbox", "no/x"],
-            b"demo 1 4 4 4\n",
-            1,
-            "store failed",
-            b"",
-        ),
-        (&SERVE, b"demo 1 4 4 4\n", 0, "", b"listening "),
         (&[], b"", 2, "error: ", b""),
         (&["play"], b"", 2, "error: ", b""),
         (&["replay", "--store", "disk"], b"", 2, "error: ", b""),
@@ -75,7 +56,7 @@ fn words_and_traces_decide_the_ending(rt: HostRuntime) {
     for (words, trace, status, said, begin) in cases {
         let mut input = trace;
         let mut output = Vec::new(rt.alloc());
-        let ended = run(&rt, &rt, words, &mut input, &mut output);
+        let ended = run(rt.alloc(), words, &mut input, &mut output);
         assert_eq!(rt;
             (
                 told(rt.alloc(), &ended, said),
@@ -92,19 +73,7 @@ fn each_failure_has_its_line(rt: HostRuntime) {
         (Failure::Replay(ReplayFault::Store), "store failed"),
         (Failure::Write, "write failed"),
         (Failure::Memory, "no memory"),
-        (
-            Failure::Serve(ServeFailure::Lines(ReplayFault::Read)),
-            "read failed",
-        ),
-        (
-            Failure::Serve(ServeFailure::Refused(Refusal::NoStart)),
-            "scheme refused NoStart",
-        ),
-        (Failure::Serve(ServeFailure::NoScheme), "no scheme"),
-        (Failure::Serve(ServeFailure::Memory), "no memory"),
-        (Failure::Serve(ServeFailure::Store), "store failed"),
-        (Failure::Serve(ServeFailure::Network), "network failed"),
-        (Failure::Serve(ServeFailure::Write), "write failed"),
+        (Failure::NoServer, "this build has no server"),
     ];
     for (failure, line) in cases {
         assert_eq!(rt; told(rt.alloc(), &Err(failure), line), Some((1, true)));
@@ -112,27 +81,17 @@ fn each_failure_has_its_line(rt: HostRuntime) {
 }
 
 /// A run that shows the version, or replays a line, to this writer.
-fn written_to<W: Write>(
-    rt: &HostRuntime,
-    handles: &(impl Net<Listener = TcpListener, Stream = TcpStream>
-        + Threads
-        + Wait
-        + Clock
-        + Eprint
-        + Sync),
-    word: &str,
-    writer: &mut W,
-) -> Result<(), Failure> {
+fn written_to<W: Write>(alloc: Global, word: &str, writer: &mut W) -> Result<(), Failure> {
     let mut input: &[u8] = b"draw\n";
-    run(rt, handles, &[word], &mut input, writer)
+    run(alloc, &[word], &mut input, writer)
 }
 
 #[test]
 fn a_writer_fails(rt: HostRuntime) {
     let alloc = rt.alloc();
     for word in ["--version", "replay"] {
-        let closed = written_to(&rt, &rt, word, &mut Closed);
-        let lossy = written_to(&rt, &rt, word, &mut Lossy);
+        let closed = written_to(alloc, word, &mut Closed);
+        let lossy = written_to(alloc, word, &mut Lossy);
         assert_eq!(rt;
             (
                 told(alloc, &closed, "write failed"),
@@ -141,27 +100,4 @@ fn a_writer_fails(rt: HostRuntime) {
             (Some((1, true)), Some((1, true)))
         );
     }
-}
-
-#[test]
-fn a_port_in_use_is_refused_before_anything_is_written(rt: HostRuntime) {
-    let taken = TcpListener::bind(&rt, "127.0.0.1:0").expect(&rt, "listener");
-    let address = taken.local_addr().expect(&rt, "address");
-    let port = format!(in rt.alloc(); "{}", address.port()).expect(&rt, "memory");
-    let words = [
-        "serve",
-        "--port",
-        port.as_str(),
-        "--turns",
-        "1",
-        "--outbox",
-        "taken.db",
-    ];
-    let mut input: &[u8] = b"demo 1 4 4 4\n";
-    let mut output = Vec::new(rt.alloc());
-    let ended = run(&rt, &rt, &words, &mut input, &mut output);
-    assert_eq!(rt;
-        (told(rt.alloc(), &ended, "network failed"), output.len()),
-        (Some((1, true)), 0)
-    );
 }
