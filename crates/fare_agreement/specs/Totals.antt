@@ -1,6 +1,5 @@
 -- How much the stores have had, and how much of a session was new to them.
 use Rattle.std.specs.Prelude.{ℕ, zero, suc, ◌+◌, Bool, true, List, [], ◌∷◌, length, Option, is_some, is_none, if◌then◌else◌}
-use Rattle.fare_record.specs.Limits.{IsDay}
 use Rattle.fare_record.specs.declared.item.Item.{Item}
 use Rattle.fare_record.specs.declared.item.Item.TheVariants as item
 use Rattle.fare_scheme.specs.declared.entry.Placement.{Placement}
@@ -44,8 +43,3 @@ is_taken_new l (item.Stated v) = is_none (l.stated v.device v.day)
 abbrev pub taken_new : LedgerValue → List Item → ℕ
 taken_new l [] = 0
 taken_new l (i ∷ is) = (if is_taken_new l i then 1 else 0) + taken_new (given l i) is
-
--- a statement is of a day that there is
-abbrev pub IsDated : Item → Type 0
-IsDated (item.Tap r) = Unit {0}
-IsDated (item.Stated v) = IsDay v.day

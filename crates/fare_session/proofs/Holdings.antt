@@ -213,6 +213,7 @@ served_by sc owner xo xn lo ln report sx sl r = record {
   outbox = λ fit m may. outbox_leads sc owner xo xn lo ln report sx sl r fit r.opened m may;
   ledger_holds = λ fit live. (r.ledger.calls.value live (fit.lists (r.ledger.calls.live live))).1;
   outbox_holds = λ fit ledger live. outbox_holds sc owner xo xn lo ln report sx sl r fit r.opened ledger live;
+  dated = r.dated;
   order = r.unpruned;
   left = r.left;
   kinds = r.owners;

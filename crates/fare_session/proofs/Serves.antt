@@ -175,6 +175,7 @@ served_none sc owner x lo ln f e rests stays cause not owners = record {
   stays = λ is. absurd (cc);
   taken = λ kl. omega arith;
   unrefused = λ kl. tt;
+  dated = tt;
   left = refl;
   cause = λ is. inr (subst (Counted lo.failures ln.failures) (cause (same_Some e Store is)) stays.calls.cause);
   refused = λ is ready. absurd (not (same_Some e Refused is));
@@ -259,6 +260,7 @@ module _ (sc : SchemeValue) (owner room : ℕ) (xo xn : Standing OutboxValue) (l
     stays = s.stays;
     taken = λ kl. s.taken (k_then kl) ∙ ap (λ (l : LedgerValue). min (added_by l s.v.taken) 18446744073709551615) (same kl);
     unrefused = λ kl. subst (λ (l : LedgerValue). AreUnrefused l s.v.taken) (same kl) (s.unrefused (k_then kl));
+    dated = s.dated;
     left = s.left;
     cause = λ is. elim (s.cause is) [
       | inl fx ↦ inl (subst (Counted xo.failures xn.failures) fx s.counted)

@@ -4,6 +4,7 @@ use Rattle.std.specs.Prelude.{◌==◌, if◌then◌else◌, min, is_none, Optio
 use Rattle.std.proofs.lemmas.List.{append-nil}
 use Rattle.std.proofs.lemmas.Option.{same_Some}
 use Rattle.fare_record.specs.Items.{tap_of, statement_of}
+use Rattle.fare_record.specs.Limits.{IsDay}
 use Rattle.fare_record.specs.Values.{RecordValue, StatementValue}
 use Rattle.fare_record.specs.declared.item.Item.{Item}
 use Rattle.fare_record.specs.declared.item.Item.TheVariants.{Tap, Stated}
@@ -16,12 +17,12 @@ use Rattle.fare_store.specs.Standing.{Standing, Calls, IsSound}
 use Rattle.fare_store.specs.LedgerWords.{LedgerValue, state_judged, is_mine}
 use Rattle.fare_session.specs.declared.fault.SessionFault.{SessionFault}
 use Rattle.fare_session.specs.declared.fault.SessionFault.TheVariants.{Refused, Memory, Store}
-use Rattle.fare_history.specs.Serving.{given, given_all, AreUnrefused, in_hand}
+use Rattle.fare_history.specs.Serving.{given, given_all, AreUnrefused, in_hand, IsDated}
 use Rattle.fare_session.specs.Taking.{is_added, added_by}
 use Rattle.fare_session.specs.Stores.{session_fault, stored_fault, IsOwners, Called, Keeps, Stays}
 use Rattle.fare_session.specs.Taking.{Tallied, IsRefusedHand, IsImage, IsTaken, IsTaking, IsLeftTaken, IsKept, WasKept}
 use Rattle.fare_session.proofs.StoreCalls.{leaves_done, leaves_kept, leaves_say, leaves_then, keeps_first, keeps_then, keeps_value}
-use Rattle.fare_session.proofs.Services.{unrefused-append, given_all-append, added_by-append}
+use Rattle.fare_session.proofs.Services.{unrefused-append, given_all-append, added_by-append, all-append}
 
 -- one call, in other words
 pub called_say : {V : Type 0} (a b : Standing V) (f g : Option Fault) (P Q : Type 0) (commits images : V → Type 0) → f ≡ g → (P → Q) → ((v : V) → commits v → images v) → Calls a b f P commits → Called a b g Q images
@@ -90,13 +91,14 @@ tallied_one : (n m : ℕ) (added new : Bool) → Counts_one added n m → added 
 tallied_one n m true new is e = subst (λ b. Tallied n m ((if b then 1 else 0) + 0)) e (λ le. is)
 tallied_one n m false new is e = subst (λ b. Tallied n m ((if b then 1 else 0) + 0)) e (λ le. is ∙ tallied_same n le)
 
-pub kept_taken : (a b : Standing LedgerValue) (i : Item) (added : Bool) (n m : ℕ) → IsSound b → Counts_one added n m → IsKept a b i (Ok added) → IsTaken a b (i ∷ []) None None n m
-kept_taken a b i added n m sound is c = record {
+pub kept_taken : (a b : Standing LedgerValue) (i : Item) (added : Bool) (n m : ℕ) → IsSound b → Counts_one added n m → IsKept a b i (Ok added) → IsDated i → IsTaken a b (i ∷ []) None None n m
+kept_taken a b i added n m sound is c day = record {
   leaves = leaves_say a b None (given a.value i) (λ w. w ≡ given a.value i) (IsImage a.value (i ∷ []) None) (λ w e. inl e) (leaves_done a b (WasKept a.value b.value i (Ok added)) (given a.value i) sound (called_image a b None (WasKept a.value b.value i (Ok added)) (λ w. AreUnrefused a.value (i ∷ []) × (w ≡ given a.value i)) (λ w. w ≡ given a.value i) (λ w e. e.1) c.0) (λ d. d.0));
   tally = λ k. tallied_one n m added (is_added a.value i) is (c.0.value (c.0.stays refl k.live k.clean) k.lawful).1.1;
   owners = tt;
   empty = λ e. refl;
   unrefused = λ k. ((c.0.value (c.0.stays refl k.live k.clean) k.lawful).1.2, tt);
+  dated = (day, tt);
   refused = λ e. absurd (cc);
 }
 
@@ -110,6 +112,7 @@ kept_failed a b i f n sound c = record {
   owners = c.1;
   empty = λ e. absurd (cc);
   unrefused = λ k. tt;
+  dated = tt;
   refused = λ e k. let is : f ≡ Refused = cc in (c.0.value (c.0.stays (not_stored f is) k.live k.clean) k.lawful).1.1 is;
 }
 
@@ -124,6 +127,7 @@ taken_none a n sound = record {
   owners = tt;
   empty = λ e. refl;
   unrefused = λ k. tt;
+  dated = tt;
   refused = λ e. absurd (cc);
 }
 
@@ -145,6 +149,7 @@ taken_then a b c xs ys h f n m k first second = record {
   owners = second.owners;
   empty = second.empty;
   unrefused = λ keeps. unrefused-append a.value xs ys (first.unrefused (before keeps)) (subst (λ l. AreUnrefused l ys) (holds keeps) (second.unrefused (behind keeps)));
+  dated = all-append IsDated xs ys first.dated second.dated;
   refused = λ e keeps. subst (λ l. IsRefusedHand l h) (same (holds keeps)) (second.refused e (behind keeps));
 }
   where
@@ -168,6 +173,14 @@ tap_is (Stated s) r e = absurd (cc)
 pub statement_is : (i : Item) (s : StatementValue) → statement_of i ≡ Some s → Stated s ≡ i
 statement_is (Tap q) s e = absurd (cc)
 statement_is (Stated t) s e = ap Stated (sym (same_Some t s e))
+
+pub tap_dated : (i : Item) (r : RecordValue) → tap_of i ≡ Some r → IsDated i
+tap_dated (Tap q) r e = tt
+tap_dated (Stated s) r e = absurd (cc)
+
+pub statement_dated : (i : Item) (s : StatementValue) → statement_of i ≡ Some s → IsDay s.day → IsDated i
+statement_dated (Tap q) s e day = absurd (cc)
+statement_dated (Stated t) s e day = subst (λ (v : StatementValue). IsDay v.day) (sym (same_Some t s e)) day
 
 -- THE LAST ITEM OF A LOOP
 -- it failed
@@ -195,6 +208,7 @@ taken_read a b c xs n m first read = record {
   owners = tt;
   empty = λ e. refl;
   unrefused = λ k. first.unrefused (keeps_first a b c None b.value (λ w. w ≡ b.value) read k);
+  dated = first.dated;
   refused = λ e. absurd (cc);
 }
 
@@ -206,5 +220,6 @@ taken_failed a b c xs f n m not owners first read = record {
   owners = owners;
   empty = λ e. absurd (cc);
   unrefused = λ k. first.unrefused (keeps_first a b c (stored_fault (Some f)) b.value (λ w. w ≡ b.value) read k);
+  dated = first.dated;
   refused = λ e. absurd (not (same_Some f Refused e));
 }

@@ -9,7 +9,7 @@ use Rattle.fare_store.specs.OutboxWords.{OutboxValue}
 use Rattle.fare_store.specs.LedgerWords.{LedgerValue, IsOfScheme}
 use Rattle.fare_session.specs.declared.fault.SessionFault.TheVariants.{Refused, Store}
 use Rattle.fare_session.specs.declared.report.OwnerReport.{OwnerReport}
-use Rattle.fare_history.specs.Serving.{behind_ledger, moved_by_all, AreUnrefused, given_all, in_hand, Service, put_by, pruned_to_all, lane_room, IsOfDevice, IsService}
+use Rattle.fare_history.specs.Serving.{behind_ledger, moved_by_all, AreUnrefused, given_all, in_hand, Service, put_by, pruned_to_all, lane_room, IsOfDevice, IsDated, IsService}
 use Rattle.fare_history.specs.Holding.{MayHold}
 use Rattle.fare_session.specs.Stores.{IsOwners, Follows, Keeps, Leaves}
 use Rattle.fare_session.specs.Taking.{added_by, IsImage, IsRefusedHand}
@@ -64,6 +64,7 @@ pub record IsRun (sc : SchemeValue) (owner : ℕ) (xo xn : Standing OutboxValue)
   pub stays : report.fault ≡ None → (fx ≡ None) × (fl ≡ None)
   pub taken : Keeps lo ln → report.taken ≡ min (added_by lo.value v.taken) 18446744073709551615
   pub unrefused : Keeps lo ln → AreUnrefused lo.value v.taken
+  pub dated : AllByRecursion IsDated v.taken
   pub left : report.left ≡ length (in_hand v.hand ++ v.queue)
   pub cause : report.fault ≡ Some Store → Rose xo.failures xn.failures ⊎ Rose lo.failures ln.failures
   pub refused : report.fault ≡ Some Refused → IsReady sc owner xo xn lo ln → HasGap sc owner xo.value (given_all lo.value v.taken) ⊎ IsRefusedHand (given_all lo.value v.taken) v.hand

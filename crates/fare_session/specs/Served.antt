@@ -1,11 +1,12 @@
 -- What a session of an owner did, whatever its stores might have held when it began.
 use Rattle.std.specs.Prelude.{◌≡◌, ◌⊎◌, ℕ, ◌<◌, ◌≤◌, ◌+◌, min, [], ◌∷◌, ◌++◌, length, Option, None, Some}
+use Rattle.std.specs.List.{AllByRecursion}
 use Rattle.fare_scheme.specs.Values.{SchemeValue}
 use Rattle.fare_store.specs.Standing.{Standing}
 use Rattle.fare_store.specs.OutboxWords.{OutboxValue}
 use Rattle.fare_store.specs.LedgerWords.{LedgerValue, IsOfScheme}
 use Rattle.fare_record.specs.declared.item.Item.{Item}
-use Rattle.fare_history.specs.Serving.{AreUnrefused, given_all, in_hand, Service, pruned_to_all, IsOfDevice, IsService}
+use Rattle.fare_history.specs.Serving.{AreUnrefused, given_all, in_hand, Service, pruned_to_all, IsOfDevice, IsDated, IsService}
 use Rattle.fare_history.specs.Plainly.{IsFinished, ServesPlainly, IsWholeService, ShowsWhy}
 use Rattle.fare_history.specs.Holding.{MayHold, Leads}
 use Rattle.fare_session.specs.declared.fault.SessionFault.{SessionFault}
@@ -69,6 +70,8 @@ pub record IsServed (sc : SchemeValue) (owner : ℕ) (xo xn : Standing OutboxVal
   -- while they are live they hold exactly that
   pub ledger_holds : AreFit sc owner xo xn lo ln → ln.live → ln.value ≡ given_all lo.value v.taken
   pub outbox_holds : AreFit sc owner xo xn lo ln → ln.live → xn.live → xn.value ≡ pruned_to_all xo.value owner ln.value v.pruned
+  -- each statement that was taken is of a day that there is
+  pub dated : AllByRecursion IsDated v.taken
   -- nothing is pruned before all is taken
   pub order : (i : Item) → v.hand ≡ Some i → v.pruned ≡ []
   pub left : report.left ≡ length (in_hand v.hand ++ v.queue)

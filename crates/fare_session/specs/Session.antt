@@ -12,7 +12,7 @@ use Rattle.fare_store.specs.LedgerWords.{LedgerValue}
 use Rattle.fare_session.specs.declared.fault.SessionFault.{SessionFault}
 use Rattle.fare_session.specs.declared.fault.SessionFault.TheVariants.{Refused, Store}
 use Rattle.fare_session.specs.declared.report.OwnerReport.{OwnerReport}
-use Rattle.fare_history.specs.Serving.{Cursors, device_of, moved_by_all, AreNextItems, AreUnrefused, given_all, in_hand, Service, put_by, pruned_to_all}
+use Rattle.fare_history.specs.Serving.{Cursors, device_of, moved_by_all, AreNextItems, AreUnrefused, given_all, in_hand, Service, put_by, pruned_to_all, IsDated}
 use Rattle.fare_session.specs.Taking.{added_by}
 use Rattle.fare_session.specs.Stores.{IsOwners, Follows, Keeps, Leaves}
 use Rattle.fare_session.specs.Forwarding.{IsBased, IsAsFar, AreBases, Skips, Forwarded}
@@ -69,6 +69,7 @@ pub record IsSession (bases : List (ℕ × ℕ)) (room : ℕ) (xo xn : Standing 
   pub stays : report.fault ≡ None → (fx ≡ None) × (fl ≡ None)
   pub taken : Keeps lo ln → report.taken ≡ min (added_by lo.value v.taken) 18446744073709551615
   pub unrefused : Keeps lo ln → AreUnrefused lo.value v.taken
+  pub dated : AllByRecursion IsDated v.taken
   pub left : report.left ≡ length (in_hand v.hand ++ v.queue)
   pub cause : report.fault ≡ Some Store → (fx ≡ Some fault.Store) ⊎ (fl ≡ Some fault.Store)
   pub refused : report.fault ≡ Some Refused → (c : Cursors) → IsAsFar bases f c → MeetsLedger bases lo.value c → AreBases bases c → Keeps xo xn → Keeps lo ln → IsRefusal bases f.owner xo.value lo.value c v

@@ -1,12 +1,13 @@
 -- What an owner does with its ledger.
 use Rattle.std.specs.Prelude.{◌≡◌, ◌⊎◌, ℕ, ◌+◌, ◌≤◌, min, if◌then◌else◌, Bool, true, List, [], ◌∷◌, ◌++◌, Option, None, Some, is_none, Result, Ok, Err}
+use Rattle.std.specs.List.{AllByRecursion}
 use Rattle.fare_record.specs.declared.item.Item.{Item}
 use Rattle.fare_record.specs.declared.item.Item.TheVariants.{Tap, Stated}
 use Rattle.fare_store.specs.Standing.{Standing}
 use Rattle.fare_store.specs.LedgerWords.{LedgerValue}
 use Rattle.fare_session.specs.declared.fault.SessionFault.{SessionFault}
 use Rattle.fare_session.specs.declared.fault.SessionFault.TheVariants.{Refused}
-use Rattle.fare_history.specs.Serving.{given, given_all, IsUnrefused, AreUnrefused, in_hand}
+use Rattle.fare_history.specs.Serving.{given, given_all, IsUnrefused, AreUnrefused, in_hand, IsDated}
 use Rattle.fare_history.specs.Plainly.{IsRefused}
 use Rattle.fare_session.specs.Stores.{stored_fault, IsOwners, Called, Keeps, Leaves}
 
@@ -46,6 +47,7 @@ pub record IsTaken (old new : Standing LedgerValue) (items : List Item) (hand : 
   pub owners : IsOwners fault
   pub empty : fault ≡ None → hand ≡ None
   pub unrefused : Keeps old new → AreUnrefused old.value items
+  pub dated : AllByRecursion IsDated items
   pub refused : fault ≡ Some Refused → Keeps old new → IsRefusedHand (given_all old.value items) hand
 
 -- of one item

@@ -1,7 +1,9 @@
 //! The owner's thread: it takes from the lane queue, and alone writes the ledger.
 ghost use Rattle.std.specs.Prelude.{◌≡◌, []};
+ghost use Rattle.fare_record.specs.Limits.{IsDay};
 ghost use Rattle.fare_record.specs.declared.item.Item.TheVariants.{Tap, Stated};
 ghost use Rattle.fare_lane_queue.specs.Passes.{taken_list, IsOwnerOf, left_list, IsEnded};
+ghost use Rattle.fare_history.specs.Serving.{IsDated};
 ghost use Rattle.fare_session.specs.Taking.{IsKept, IsTaken, IsTaking, IsLeftTaken, done_by, held_by};
 
 use crate::ending::Ending;
@@ -28,8 +30,10 @@ fn keep_tap<L: Ledger>(ledger: &mut L, row: &Record) -> Result<bool, SessionFaul
 
 // A statement goes to the ledger, which may hold it already. Answers whether it is new there.
 fn keep_statement<L: Ledger>(ledger: &mut L, statement: &Statement) -> Result<bool, SessionFault>
-    ensures { IsKept (L.standing ledger.old) (L.standing ledger.new) (Stated statement.now) result }
+    ensures kept { IsKept (L.standing ledger.old) (L.standing ledger.new) (Stated statement.now) result }
+    ensures dated { IsDay statement.now.day }
 {
+    prove!(statement.day().get() <= 100_000);
     match ledger.state(statement) {
         Ok(()) => Ok(true),
         Err(Refused::Failed(fault)) => Err(failed(fault)),
@@ -40,7 +44,8 @@ fn keep_statement<L: Ledger>(ledger: &mut L, statement: &Statement) -> Result<bo
 
 // An item goes to the ledger. Answers whether it is new there.
 fn keep<L: Ledger>(ledger: &mut L, item: &Item) -> Result<bool, SessionFault>
-    ensures { IsKept (L.standing ledger.old) (L.standing ledger.new) item.now result }
+    ensures kept { IsKept (L.standing ledger.old) (L.standing ledger.new) item.now result }
+    ensures dated { IsDated item.now }
 {
     if let Some(row) = item.tap() {
         return keep_tap(ledger, &row);

@@ -1,25 +1,19 @@
 -- Agreement through a list of sessions, by way of the stores at each boundary.
-use Rattle.std.proofs.Common.{◌≡◌, ℕ, zero, suc, ◌+◌, ◌<◌, ◌≤◌, List, [], ◌∷◌, ◌++◌, length, slice_index_or, Some, None, Bool, true, false, refl, sym, ap, ◌∙◌, subst, arith, inl, inr}
+use Rattle.std.proofs.Common.{◌≡◌, ℕ, zero, suc, ◌<◌, ◌≤◌, List, [], ◌∷◌, ◌++◌, length, slice_index_or, Some, sym, ap, ◌∙◌, subst, arith, inl, inr}
 use Rattle.std.specs.Prelude.{◌⊎◌, slice_get, Option, Vec, is_some}
 use Rattle.std.specs.Global.{Global}
 use Rattle.std.specs.List.{AllByRecursion}
 use Rattle.std.proofs.lemmas.List.{append-nil}
 use Rattle.std.proofs.lemmas.Bool.{cases_lt}
 use Rattle.fare_record.specs.Values.{RecordValue}
-use Rattle.fare_record.specs.declared.ack_item.AckItem.{AckItem}
 use Rattle.fare_record.specs.declared.ack_item.AckItem.TheVariants as ack
-use Rattle.fare_record.specs.declared.item.Item.{Item}
 use Rattle.fare_frame.specs.declared.frame.Frame.{Frame}
 use Rattle.fare_frame.specs.declared.frame.Frame.TheVariants as frame
 use Rattle.fare_scheme.specs.Values.{SchemeValue}
-use Rattle.fare_scheme.specs.Words.{position_of_owner}
 use Rattle.fare_source.specs.Talking.{Talk}
 use Rattle.fare_store.specs.OutboxWords.{OutboxValue}
-use Rattle.fare_world.specs.Knowing.{knows_owner}
-use Rattle.fare_history.specs.AcceptedLinks.{arrivals}
-use Rattle.fare_history.specs.Gathering.{Gathering, accepted_by, all_answers, answers_to, device_answered, of_station}
+use Rattle.fare_history.specs.Gathering.{accepted_by, all_answers, answers_to, of_station}
 use Rattle.fare_history.specs.Plainly.{IsCovered}
-use Rattle.fare_history.specs.Serving.{Service}
 use Rattle.fare_history.specs.Stores as history
 use Rattle.fare_history.specs.Stores.{StoresValue}
 use Rattle.fare_history.proofs.Entries.{all-append, all-left, all-weaken}
@@ -32,17 +26,17 @@ use Rattle.fare_collect.specs.declared.station.Station.{Station}
 use Rattle.fare_collect.proofs.Opens.{here_or_not}
 use Rattle.fare_agreement.specs.Agreeing.{AreNumberedLists, IsOf, Agrees}
 use Rattle.fare_agreement.specs.Growing.{OutboxGrew, StoresGrew}
-use Rattle.fare_agreement.specs.Stopping.{AreAnswered, IsBegunOf}
+use Rattle.fare_agreement.specs.Stopping.{AreAnswered}
 use Rattle.fare_agreement.proofs.Collecting.{covered_still}
 use Rattle.fare_agreement.proofs.Sessions.{stores_self, stores_trans, kept_still, IsSafe, stop_safe}
 use Rattle.fare_sessions.specs.declared.session.Session.{Session}
 use Rattle.fare_sessions.specs.declared.session.Session.TheVariants.{Collect, Serve}
 use Rattle.fare_sessions.specs.Course.{Counts, Tally}
 use Rattle.fare_sessions.specs.Running.{IsRunnable, AreRunnable}
-use Rattle.fare_sessions.specs.Boundaries.{HasTalkedBetween, CollectedBetween, NotBegun, ServedBetween, LedBetween, HasLedAt, HaveLed}
-use Rattle.fare_sessions.specs.Promises.{IsFrameOf, IsFrameCovered, OfEachSource, GaveOf, AreCovered}
+use Rattle.fare_sessions.specs.Boundaries.{CollectedBetween, LedBetween, HasLedAt, HaveLed}
+use Rattle.fare_sessions.specs.Promises.{IsFrameOf, IsFrameCovered, GaveOf}
 use Rattle.fare_sessions.proofs.Follow.{all_at}
-use Rattle.fare_sessions.proofs.Listed.{HasStation, IsOfIfKnown, arrivals_are, by_station, all_known, all-filter, kept_covered}
+use Rattle.fare_sessions.proofs.Listed.{IsOfIfKnown, arrivals_are, by_station, all_known, all-filter, kept_covered}
 
 -- what is covered stays so
 frame_still : (sc : SchemeValue) (x y : OutboxValue) → OutboxGrew x y → (f : Frame) → IsFrameCovered sc x f → IsFrameCovered sc y f

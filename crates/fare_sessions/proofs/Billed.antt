@@ -1,9 +1,9 @@
 -- What is asked of one ledger, and what a bill and a settlement are of.
 use Rattle.std.proofs.Common.{◌≡◌, ℕ, ◌<◌, ◌≤◌, List, [], ◌∷◌, ◌++◌, Some, None, Bool, true, false, refl, sym, ap, ◌∙◌, subst, arith, inl, inr}
-use Rattle.std.specs.Prelude.{◌⊎◌, ◌≢◌, ◌↔◌, ◌==◌, ◌&&◌, nat_le, nat_lt, max, Option, Result, Ok, Err, MatchResult, IfOk, if◌then◌else◌, filter, map, is_some}
+use Rattle.std.specs.Prelude.{◌==◌, ◌&&◌, nat_le, max, Option, Result, Ok, Err, MatchResult, IfOk, if◌then◌else◌, filter, map}
 use Rattle.std.specs.List.{flat_map}
 use Rattle.std.specs.Ordering.{nat_cmp, is_lt}
-use Rattle.std.proofs.lemmas.Bool.{and_from, cases_lt}
+use Rattle.std.proofs.lemmas.Bool.{and_from}
 use Rattle.std.proofs.lemmas.Bool.Decides.{nat_tests}
 use Rattle.std.proofs.lemmas.List.Elements.{filter-append}
 use Rattle.fare_record.specs.Values.{RecordValue}
@@ -15,22 +15,19 @@ use Rattle.fare_scheme.specs.Values.{SchemeValue}
 use Rattle.fare_scheme.specs.Words.{position_of_owner}
 use Rattle.fare_cap.specs.Bills.{bill_of}
 use Rattle.fare_cap.specs.Fares.{week_start}
-use Rattle.fare_cap.specs.Order.{in_order}
 use Rattle.fare_settle.specs.declared.settled.Settled.{Settled}
 use Rattle.fare_settle.specs.Charges.{charges_of}
 use Rattle.fare_settle.specs.Settling.{settlement_of, share_of}
 use Rattle.fare_settle.proofs.SettledWeeks.{other_days_settle_nothing}
-use Rattle.fare_store.specs.declared.fault.Fault.{Fault}
 use Rattle.fare_store.specs.declared.fault.Refused.{Refused}
 use Rattle.fare_store.specs.declared.fault.Refused.TheVariants.{Because, Failed}
 use Rattle.fare_store.specs.Standing.{Standing, Calls, IsSound, fault_in}
 use Rattle.fare_store.specs.Tables.{put}
 use Rattle.fare_store.specs.OutboxWords.{OutboxValue}
-use Rattle.fare_store.specs.LedgerWords.{LedgerValue, IsOfScheme, AreTapsBetween}
+use Rattle.fare_store.specs.LedgerWords.{LedgerValue, AreTapsBetween}
 use Rattle.fare_world.specs.declared.bill_fault.BillFault.{BillFault}
 use Rattle.fare_world.specs.declared.bill_fault.BillFault.TheVariants.{UnknownOwner, BeforeStart, NotClosed}
 use Rattle.fare_world.specs.Billing.{first_open, where_open}
-use Rattle.fare_world.specs.Headline.{of_days}
 use Rattle.fare_world.specs.Knowing.{knows_owner}
 use Rattle.fare_world.specs.Whole.{Answered}
 use Rattle.fare_history.specs.Holding.{MayHold}
@@ -43,8 +40,8 @@ use Rattle.fare_agreement.proofs.Prefixes.{prefix_trans, part_front}
 use Rattle.fare_agreement.proofs.WeekTaken.{week_in_order, bill_is}
 use Rattle.fare_sessions.specs.declared.hub.Hub.{Hub}
 use Rattle.fare_sessions.specs.Billing.{refusal_of, HasBasis, OnlyReads, IsBillRefusal}
-use Rattle.fare_sessions.specs.Stores.{IsLedgerOf, ReplacesLedger, AreClean, AreSound, StoresFollow, MayStandAs}
-use Rattle.fare_sessions.proofs.Follow.{follow_self, replaced_follow, replaced_sound, IsOwn}
+use Rattle.fare_sessions.specs.Stores.{ReplacesLedger, AreClean, AreSound, StoresFollow, MayStandAs}
+use Rattle.fare_sessions.proofs.Follow.{replaced_follow, replaced_sound, IsOwn}
 use Rattle.fare_sessions.proofs.Steps.{stood_before, own_stands}
 
 -- a table with the value that it has

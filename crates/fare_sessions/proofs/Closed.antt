@@ -1,17 +1,15 @@
 -- A close keeps agreement.
-use Rattle.std.proofs.Common.{◌≡◌, ℕ, List, [], ◌∷◌, Some, None, refl, sym, ap, ◌∙◌, subst, inl, inr}
-use Rattle.std.specs.Prelude.{◌⊎◌, Result, Ok, Err, is_some}
+use Rattle.std.proofs.Common.{◌≡◌, ℕ, List, sym, ap, ◌∙◌, subst, inl, inr}
+use Rattle.std.specs.Prelude.{Result, Ok, Err, is_some}
 use Rattle.fare_owner.specs.declared.closing.CloseFault.{CloseFault}
 use Rattle.fare_record.specs.Values.{RecordValue}
-use Rattle.fare_scheme.specs.Values.{SchemeValue}
 use Rattle.fare_store.specs.declared.fault.Refused.{Refused}
 use Rattle.fare_store.specs.declared.fault.Refused.TheVariants as refused
 use Rattle.fare_sessions.specs.declared.closing.ClosingFault.{ClosingFault}
-use Rattle.fare_store.specs.Standing.{Standing, IsSound, Does, Writes}
+use Rattle.fare_store.specs.Standing.{Standing, IsSound, Does}
 use Rattle.fare_store.specs.Tables.{put}
 use Rattle.fare_store.specs.OutboxWords.{OutboxValue}
 use Rattle.fare_store.specs.LedgerWords.{LedgerValue, close_of, with_close}
-use Rattle.fare_world.specs.Knowing.{knows_owner}
 use Rattle.fare_history.specs.Holding.{MayHold, Leads}
 use Rattle.fare_history.specs.Stores as history
 use Rattle.fare_history.specs.Stores.{StoresValue, MayClose, stores_after}
@@ -24,7 +22,7 @@ use Rattle.fare_agreement.specs.Together.{IsClosedFrom}
 use Rattle.fare_agreement.proofs.Sessions.{IsSafe, stop_safe}
 use Rattle.fare_sessions.specs.declared.hub.Hub.{Hub}
 use Rattle.fare_sessions.specs.Billing.{HasClosed}
-use Rattle.fare_sessions.specs.Stores.{ReplacesLedger, AreClean, AreSound, StoresFollow, MayStandAs, IsAgreed, HasGrown}
+use Rattle.fare_sessions.specs.Stores.{AreClean, AreSound, StoresFollow, MayStandAs, IsAgreed, HasGrown}
 use Rattle.fare_sessions.proofs.Follow.{replaced_follow, replaced_sound, IsOwn}
 use Rattle.fare_sessions.proofs.Steps.{put_back, stood_before, own_stands}
 use Rattle.fare_sessions.proofs.Billed.{put_self}

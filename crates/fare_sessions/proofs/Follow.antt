@@ -1,5 +1,5 @@
 -- What stays of a hub's stores from session to session.
-use Rattle.std.proofs.Common.{◌≡◌, ℕ, zero, suc, ◌+◌, ◌<◌, ◌≤◌, List, [], ◌∷◌, ◌++◌, length, Some, None, Bool, true, false, refl, sym, ap, ◌∙◌, subst, arith, inl, inr}
+use Rattle.std.proofs.Common.{◌≡◌, ℕ, zero, suc, ◌<◌, List, [], ◌∷◌, length, Some, Bool, true, false, refl, sym, ap, ◌∙◌, subst, arith, inl, inr}
 use Rattle.std.specs.Prelude.{◌⊎◌, ◌≢◌, ◌==◌, slice_get, Option, Vec}
 use Rattle.std.specs.Global.{Global}
 use Rattle.std.specs.List.{AllByRecursion}
@@ -8,21 +8,21 @@ use Rattle.fare_record.specs.declared.item.Item.TheVariants as item
 use Rattle.fare_scheme.specs.Values.{SchemeValue}
 use Rattle.fare_scheme.specs.Words.{position_of_owner}
 use Rattle.fare_source.specs.Talking.{Talk}
-use Rattle.fare_store.specs.Standing.{Standing, IsSound}
+use Rattle.fare_store.specs.Standing.{Standing}
 use Rattle.fare_store.specs.OutboxWords.{OutboxValue}
 use Rattle.fare_store.specs.LedgerWords.{LedgerValue, IsOfScheme, took, with_statement}
 use Rattle.fare_history.specs.Serving.{given_all}
 use Rattle.fare_history.proofs.Entries.{is_one, is_self, element_at}
 use Rattle.fare_session.specs.Stores.{Follows}
-use Rattle.fare_session.specs.Served.{AreFit, IsServed}
+use Rattle.fare_session.specs.Served.{AreFit}
 use Rattle.fare_collect.specs.declared.station.Station.{Station}
-use Rattle.fare_collect.specs.Collected.{IsCollected, IsFitting}
+use Rattle.fare_collect.specs.Collected.{IsFitting}
 use Rattle.fare_sessions.specs.declared.hub.Hub.{Hub}
 use Rattle.fare_sessions.specs.declared.session.Session.{Session}
 use Rattle.fare_sessions.specs.declared.session.Session.TheVariants.{Collect, Serve}
 use Rattle.fare_sessions.specs.Course.{Counts, Tally}
 use Rattle.fare_sessions.specs.Stores.{IsLedgerOf, ReplacesLedger, EachStore, AreClean, AreLive, AreSound, StoresFollow}
-use Rattle.fare_sessions.specs.Running.{HasCollected, HasServed, HasRun, HasRunAt, HaveRun}
+use Rattle.fare_sessions.specs.Running.{HasCollected, HasServed, HasRun, HaveRun}
 
 -- PLACES
 pub same_at : {X : Type 0} (xs ys : List X) (place : ℕ) (x y : X) → slice_get xs place ≡ Some x → slice_get ys place ≡ Some y → slice_get ys place ≡ slice_get xs place → y ≡ x

@@ -1,5 +1,5 @@
 -- The walk over a list of sessions.
-use Rattle.std.proofs.Common.{◌≡◌, ℕ, zero, suc, ◌+◌, ◌-◌, ◌*◌, ◌<◌, ◌≤◌, List, [], ◌∷◌, ◌++◌, length, map, slice_index_or, slice_set, Some, None, Bool, true, false, refl, sym, ap, ◌∙◌, subst, arith, append_assoc, length-append}
+use Rattle.std.proofs.Common.{◌≡◌, ℕ, zero, suc, ◌+◌, ◌*◌, ◌<◌, ◌≤◌, List, [], ◌∷◌, ◌++◌, length, slice_index_or, slice_set, Some, None, true, false, refl, sym, ap, ◌∙◌, subst, arith, append_assoc, length-append}
 use Rattle.std.specs.Prelude.{◌≢◌, nat_lt, slice_get, Option, option_map, vec_len, vec_capacity}
 use Rattle.std.proofs.lemmas.Bool.Decides.{nat_tests}
 use Rattle.std.proofs.lemmas.List.{length-set}
@@ -19,7 +19,7 @@ use Rattle.fare_sessions.specs.Course.{Counts, Tally, no_tally, numbered, with_f
 use Rattle.fare_sessions.specs.Stores.{HasLedgers, ReplacesLedger}
 use Rattle.fare_scheme.specs.Words.{place_of, position_of_owner}
 use Rattle.fare_scheme.proofs.Known.{id_at_place}
-use Rattle.fare_sessions.specs.Running.{HasRun, HasRunAt, HaveRun, HaveAllRun}
+use Rattle.fare_sessions.specs.Running.{HasRun, HaveRun, HaveAllRun}
 use Rattle.fare_sessions.proofs.Follow.{run_scheme, run_follow}
 
 -- PLACES

@@ -1,6 +1,6 @@
 -- Items of a session, and its acknowledgements: what is said of each frame is said of each item, and what is said of each acknowledgement of each frame that was answered.
-use Rattle.std.proofs.Common.{◌≡◌, ℕ, ◌<◌, List, [], ◌∷◌, ◌++◌, length, filter, slice_index_or, Some, None, Bool, true, false, refl, sym, ap, ◌∙◌, subst, inl, inr}
-use Rattle.std.specs.Prelude.{◌⊎◌, Option, is_some, Result, Ok, Err, if◌then◌else◌}
+use Rattle.std.proofs.Common.{◌≡◌, ℕ, List, [], ◌∷◌, filter, Some, None, Bool, true, false, refl, sym, ap, ◌∙◌, subst, inl, inr}
+use Rattle.std.specs.Prelude.{Option, is_some, Result, Ok, Err, if◌then◌else◌}
 use Rattle.std.specs.List.{AllByRecursion}
 use Rattle.fare_record.specs.Values.{RecordValue}
 use Rattle.fare_record.specs.declared.ack_item.AckItem.{AckItem}
@@ -14,10 +14,10 @@ use Rattle.fare_scheme.specs.Words.{station_of}
 use Rattle.fare_collector.specs.Collecting.{is_id}
 use Rattle.fare_store.specs.OutboxWords.{OutboxValue}
 use Rattle.fare_history.specs.AcceptedLinks.{arrived_if, arrived_of, next_links, arrivals, tap_judged, stating_judged}
-use Rattle.fare_history.specs.Gathering.{of_station, answers_to, device_answered}
+use Rattle.fare_history.specs.Gathering.{of_station}
 use Rattle.fare_history.specs.Plainly.{IsCovered}
 use Rattle.fare_history.specs.Serving.{device_of}
-use Rattle.fare_history.proofs.Entries.{all-append, all-weaken, is_own_id}
+use Rattle.fare_history.proofs.Entries.{all-append, is_own_id}
 use Rattle.fare_collect.specs.Ending.{Keeps}
 use Rattle.fare_collect.specs.Stations.{frame_for}
 use Rattle.fare_agreement.specs.Agreeing.{IsOf}

@@ -1,5 +1,5 @@
 -- What the report of a list of sessions says, and what the list promises.
-use Rattle.std.proofs.Common.{◌≡◌, ℕ, zero, suc, ◌+◌, ◌<◌, ◌≤◌, List, [], ◌∷◌, ◌++◌, length, map, slice_index_or, Some, None, Bool, true, false, refl, sym, ap, ◌∙◌, subst, arith, inl, inr}
+use Rattle.std.proofs.Common.{◌≡◌, ℕ, zero, suc, ◌+◌, ◌<◌, ◌≤◌, List, [], ◌∷◌, ◌++◌, length, slice_index_or, Some, Bool, true, false, refl, sym, ap, ◌∙◌, subst, arith, inl, inr}
 use Rattle.std.specs.Prelude.{◌⊎◌, min, nat_lt, slice_get, Option, Vec, IsTrue, ◌↔◌, option_map, unwrap_or, if◌then◌else◌}
 use Rattle.std.specs.Global.{Global}
 use Rattle.std.specs.List.{AllByRecursion}
@@ -8,12 +8,10 @@ use Rattle.std.proofs.lemmas.Bool.Decides.{nat_tests}
 use Rattle.std.proofs.lemmas.List.{append-nil}
 use Rattle.fare_record.specs.Values.{RecordValue}
 use Rattle.fare_scheme.specs.Facts.{IsScheme}
-use Rattle.fare_scheme.specs.Values.{SchemeValue}
 use Rattle.fare_source.specs.Talking.{Talk}
 use Rattle.fare_store.specs.Standing.{Standing, IsSound}
 use Rattle.fare_store.specs.OutboxWords.{OutboxValue}
 use Rattle.fare_store.specs.LedgerWords.{LedgerValue}
-use Rattle.fare_world.specs.Knowing.{knows_owner}
 use Rattle.fare_history.specs.Stores as history
 use Rattle.fare_history.specs.Stores.{StoresValue}
 use Rattle.fare_history.specs.Serving.{in_hand}
@@ -21,19 +19,17 @@ use Rattle.fare_session.specs.declared.fault.SessionFault.{SessionFault}
 use Rattle.fare_collect.specs.declared.station.Station.{Station}
 use Rattle.fare_collect.specs.Collected.{source_of, station_faults}
 use Rattle.fare_agreement.specs.Agreeing.{AreNumberedLists, Agrees}
-use Rattle.fare_agreement.specs.Growing.{OutboxGrew, LedgerGrew}
-use Rattle.fare_agreement.specs.Stopping.{AreAnswered}
 use Rattle.fare_agreement.specs.Totals.{had_by}
 use Rattle.fare_sessions.specs.declared.hub.Hub.{Hub}
 use Rattle.fare_sessions.specs.declared.report.SessionsReport.{SessionsReport}
 use Rattle.fare_sessions.specs.declared.session.Session.{Session}
 use Rattle.fare_sessions.specs.declared.session.Session.TheVariants.{Collect, Serve}
-use Rattle.fare_sessions.specs.Course.{Counts, Tally, no_tally, with_session, numbered, last_place, Reports}
-use Rattle.fare_sessions.specs.Stores.{AreClean, AreLive, AreSound, AreDated, MayStandAs, IsAgreed, HasGrown, held_by_all}
+use Rattle.fare_sessions.specs.Course.{Counts, Tally, numbered, last_place}
+use Rattle.fare_sessions.specs.Stores.{AreClean, AreLive, AreSound, MayStandAs, IsAgreed, HasGrown, held_by_all}
 use Rattle.fare_sessions.specs.Running.{AreRunnable, HasCollected, HasServed, HasRun, HaveRun, HaveAllRun}
 use Rattle.fare_sessions.specs.Boundaries.{HaveLed}
 use Rattle.fare_sessions.specs.Promises.{IsFrameCovered, GaveOf, AreCovered, ran, AreInOrder, AreUntouched, IsAdded, CameOf}
-use Rattle.fare_sessions.proofs.Follow.{fit, ran_follow, ran_scheme, run_scheme, run_follow, run_sound, clean_back}
+use Rattle.fare_sessions.proofs.Follow.{fit, ran_follow, run_scheme, run_sound, clean_back}
 use Rattle.fare_sessions.proofs.Steps.{no_writer, no_first, no_owner, run_led}
 use Rattle.fare_sessions.proofs.Agreeing.{list_kept}
 use Rattle.fare_sessions.proofs.Sums.{Grew, run_stored, run_taken}
@@ -131,8 +127,8 @@ module _ {S O L : Type 0} (talks : S → Talk) (outbox : O → Standing OutboxVa
       pub stored_is : AreLive outbox ledger new → AreSound outbox ledger old → IsAdded (had_by old.scheme (outbox old.outbox).value) (had_by old.scheme (outbox new.outbox).value) report.stored
       stored_is live sound = added _ _ a.tally.stored report.stored (run_stored talks outbox ledger sound_outbox sound_ledger old olds news a.count new a.tally a.ran valid live sound) a.shows.stored
 
-      pub taken_is : AreLive outbox ledger new → AreSound outbox ledger old → AreDated outbox ledger new → IsAdded (held_by_all ledger old.scheme old.ledgers.items) (held_by_all ledger old.scheme new.ledgers.items) report.taken
-      taken_is live sound days = added _ _ a.tally.taken report.taken (run_taken talks outbox ledger sound_outbox sound_ledger old olds news a.count new a.tally a.ran valid live sound days) a.shows.taken
+      pub taken_is : AreLive outbox ledger new → AreSound outbox ledger old → IsAdded (held_by_all ledger old.scheme old.ledgers.items) (held_by_all ledger old.scheme new.ledgers.items) report.taken
+      taken_is live sound = added _ _ a.tally.taken report.taken (run_taken talks outbox ledger sound_outbox sound_ledger old olds news a.count new a.tally a.ran valid live sound) a.shows.taken
 
     -- AGREEMENT
     module _ (can : AreRunnable old.scheme olds) (clean : AreClean outbox ledger new) (sound : AreSound outbox ledger old) where

@@ -1,10 +1,10 @@
 -- What one session made of whatever the stores may hold.
-use Rattle.std.proofs.Common.{◌≡◌, ℕ, zero, suc, ◌+◌, ◌<◌, ◌≤◌, List, [], ◌∷◌, ◌++◌, length, map, slice_index_or, Some, None, Bool, true, false, refl, sym, ap, ◌∙◌, subst, arith, inl, inr}
+use Rattle.std.proofs.Common.{◌≡◌, ℕ, zero, suc, ◌<◌, List, [], ◌∷◌, ◌++◌, length, slice_index_or, Some, None, Bool, true, false, refl, sym, ap, ◌∙◌, subst, arith, inl, inr}
 use Rattle.std.specs.Prelude.{◌⊎◌, ◌≢◌, ◌==◌, slice_get, Option, Vec, if◌then◌else◌}
 use Rattle.std.specs.Global.{Global}
 use Rattle.fare_record.specs.declared.item.Item.{Item}
 use Rattle.fare_scheme.specs.Values.{SchemeValue}
-use Rattle.fare_scheme.specs.Words.{position_of_owner, id_at}
+use Rattle.fare_scheme.specs.Words.{position_of_owner}
 use Rattle.fare_scheme.proofs.Known.{id_at_place}
 use Rattle.fare_source.specs.Talking.{Talk}
 use Rattle.fare_store.specs.Standing.{Standing}
@@ -16,22 +16,22 @@ use Rattle.fare_history.specs.Holding.{MayHold}
 use Rattle.fare_history.specs.Serving.{Service, committed, given_all, in_hand, pruned_to_all}
 use Rattle.fare_history.specs.Stores as history
 use Rattle.fare_history.specs.Stores.{StoresValue, stores_after}
-use Rattle.fare_history.proofs.Entries.{is_one, is_self, put_here}
+use Rattle.fare_history.proofs.Entries.{is_one, put_here}
 use Rattle.fare_session.specs.declared.fault.SessionFault.{SessionFault}
 use Rattle.fare_session.specs.Served.{AreFit, IsServed, IsTakenBy, IsPrunedBy}
 use Rattle.fare_session.specs.Served as served
 use Rattle.fare_collect.specs.declared.station.Station.{Station}
 use Rattle.fare_collect.specs.Collected.{IsCollected, IsFitting, IsStoredBy, HasTalked, writer_faults, faults_at, station_faults}
-use Rattle.fare_agreement.specs.Stopping.{IsLeftBy, IsMaybeCommitted, pruned_too}
+use Rattle.fare_agreement.specs.Stopping.{IsLeftBy, pruned_too}
 use Rattle.fare_agreement.proofs.PlainlyLeft.{served_left, whole_left, others_left, gathered_left}
 use Rattle.fare_sessions.specs.declared.hub.Hub.{Hub}
 use Rattle.fare_sessions.specs.declared.session.Session.{Session}
 use Rattle.fare_sessions.specs.declared.session.Session.TheVariants.{Collect, Serve}
-use Rattle.fare_sessions.specs.Course.{Counts, Tally, no_tally, with_session, owner_faults}
+use Rattle.fare_sessions.specs.Course.{Counts, Tally, owner_faults}
 use Rattle.fare_sessions.specs.Stores.{IsLedgerOf, ReplacesLedger, AreClean, AreSound, MayStandAs}
 use Rattle.fare_sessions.specs.Running.{HasCollected, HasServed, HasRun, HaveRun}
 use Rattle.fare_sessions.specs.Boundaries.{HasTalkedBetween, CollectedBetween, NotBegun, ServedBetween, LedBetween, HaveLed}
-use Rattle.fare_sessions.proofs.Follow.{same_at, not_one, fitting, fit, ran_scheme, ran_follow, run_scheme, run_sound, clean_back}
+use Rattle.fare_sessions.proofs.Follow.{same_at, not_one, fitting, fit, ran_follow, run_scheme, run_sound, clean_back}
 
 -- NO FAULT
 pub no_writer : (e : _) (fs : List SessionFault) → writer_faults e ++ fs ≡ [] → (e ≡ None) × (fs ≡ [])

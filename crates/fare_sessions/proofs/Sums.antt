@@ -1,11 +1,7 @@
 -- How much a list of sessions added to stores that are live.
-use Rattle.std.proofs.Common.{◌≡◌, ℕ, zero, suc, ◌+◌, ◌<◌, ◌≤◌, List, [], ◌∷◌, ◌++◌, length, Some, None, Bool, true, false, refl, sym, ap, ◌∙◌, subst, arith, inl, inr}
-use Rattle.std.specs.Prelude.{◌⊎◌, ◌≢◌, ◌==◌, min, slice_get, Option, Vec, is_some, is_none, if◌then◌else◌}
+use Rattle.std.proofs.Common.{◌≡◌, ℕ, zero, suc, ◌+◌, List, [], ◌∷◌, ◌++◌, length, Some, true, refl, sym, ap, ◌∙◌, subst, arith, inl, inr}
+use Rattle.std.specs.Prelude.{◌≢◌, min, slice_get, Option, Vec, is_some, if◌then◌else◌}
 use Rattle.std.specs.Global.{Global}
-use Rattle.std.specs.List.{AllByRecursion}
-use Rattle.std.proofs.lemmas.Bool.{cases_lt}
-use Rattle.fare_record.specs.Limits.{IsDay}
-use Rattle.fare_record.specs.Values.{StatementValue}
 use Rattle.fare_record.specs.declared.item.Item.{Item}
 use Rattle.fare_record.specs.declared.item.Item.TheVariants as item
 use Rattle.fare_scheme.specs.Facts.{IsScheme}
@@ -13,26 +9,24 @@ use Rattle.fare_scheme.specs.Values.{SchemeValue}
 use Rattle.fare_scheme.specs.Words.{station_of}
 use Rattle.fare_source.specs.Talking.{Talk}
 use Rattle.fare_store.specs.Standing.{Standing, IsSound}
-use Rattle.fare_store.specs.Tables.{put, put2}
 use Rattle.fare_store.specs.OutboxWords.{OutboxValue}
-use Rattle.fare_store.specs.LedgerWords.{LedgerValue, took, with_statement}
+use Rattle.fare_store.specs.LedgerWords.{LedgerValue}
 use Rattle.fare_world.proofs.Known.{station_where_placed}
-use Rattle.fare_history.specs.Gathering.{Entry, is_new, storing, storing_all, items_of, accepted_by}
-use Rattle.fare_history.specs.Serving.{device_of, IsOfDevice, given, given_all, in_hand, pruned_to, pruned_to_all, put_by}
-use Rattle.fare_history.proofs.Entries.{all-left, all-weaken, is_one, is_self}
-use Rattle.fare_session.specs.Served.{IsServed}
+use Rattle.fare_history.specs.Gathering.{Entry, is_new, storing, items_of, accepted_by}
+use Rattle.fare_history.specs.Serving.{device_of, IsOfDevice, given, in_hand, pruned_to, pruned_to_all}
+use Rattle.fare_history.proofs.Entries.{all-left, all-weaken}
 use Rattle.fare_session.specs.Taking.{is_added, added_by}
 use Rattle.fare_collect.specs.declared.station.Station.{Station}
-use Rattle.fare_collect.specs.Collected.{new_items, IsCollected}
-use Rattle.fare_agreement.specs.Totals.{had_by, held_by, stored_new, is_taken_new, taken_new, IsDated}
+use Rattle.fare_collect.specs.Collected.{new_items}
+use Rattle.fare_agreement.specs.Totals.{had_by, held_by, stored_new, is_taken_new, taken_new}
 use Rattle.fare_agreement.proofs.Sums.{entries_had, items_held}
 use Rattle.fare_sessions.specs.declared.hub.Hub.{Hub}
 use Rattle.fare_sessions.specs.declared.session.Session.{Session}
 use Rattle.fare_sessions.specs.declared.session.Session.TheVariants.{Collect, Serve}
 use Rattle.fare_sessions.specs.Course.{Counts, Tally}
-use Rattle.fare_sessions.specs.Stores.{EachStore, AreClean, AreLive, AreSound, AreDated, held_by_all}
+use Rattle.fare_sessions.specs.Stores.{AreClean, AreLive, AreSound, held_by_all}
 use Rattle.fare_sessions.specs.Running.{HasCollected, HasServed, HasRun, HaveRun}
-use Rattle.fare_sessions.proofs.Follow.{same_at, not_one, fitting, fit, ran_follow, ran_scheme, run_scheme, run_sound, live_back}
+use Rattle.fare_sessions.proofs.Follow.{fitting, fit, ran_follow, run_scheme, run_sound, live_back}
 
 -- COUNTS
 new_items_are : (x : OutboxValue) (es : List Entry) → new_items x es ≡ stored_new x es
@@ -65,51 +59,6 @@ grew_join a b c m n f g =
     let g1 = g.1 in
     let g2 = g.2 in
     (f.0 + g.0, omega (arith, f1, g1), omega (arith, f2, g2))
-
--- STATEMENTS
--- a statement of the day is held
-abbrev IsHeld : LedgerValue → ℕ → ℕ → Type 0
-IsHeld l device day = is_some (l.stated device day) ≡ true
-
-held_with : (l : LedgerValue) (v : StatementValue) (device day : ℕ) → IsHeld l device day → is_some (put2 l.stated v.device v.day (Some v.count) device day) ≡ true
-held_with l v device day is = by (device == v.device) refl
-  where
-    day_of : (b : Bool) → is_some (l.stated v.device day) ≡ true → is_some (if b then Some v.count else l.stated v.device day) ≡ true
-    day_of true e = refl
-    day_of false e = e
-
-    by : (a : Bool) → (device == v.device) ≡ a → is_some ((if a then put (l.stated v.device) v.day (Some v.count) else l.stated device) day) ≡ true
-    by true e = day_of (day == v.day) (ap (λ d. is_some (l.stated d day)) (sym (is_one device v.device e)) ∙ is)
-    by false e = is
-
-held_still : (l : LedgerValue) (items : List Item) (device day : ℕ) → IsHeld l device day → IsHeld (given_all l items) device day
-held_still l [] device day is = is
-held_still l (item.Tap r ∷ is) device day held = held_still (took r l) is device day held
-held_still l (item.Stated v ∷ is) device day held = held_still (with_statement v l) is device day (held_with l v device day held)
-
-held_now : (l : LedgerValue) (v : StatementValue) → is_some (put2 l.stated v.device v.day (Some v.count) v.device v.day) ≡ true
-held_now l v = by (v.device == v.device) (is_self v.device)
-  where
-    day_of : (b : Bool) → b ≡ true → is_some (if b then Some v.count else l.stated v.device v.day) ≡ true
-    day_of true e = refl
-    day_of false e = absurd (cc)
-
-    by : (a : Bool) → a ≡ true → is_some ((if a then put (l.stated v.device) v.day (Some v.count) else l.stated v.device) v.day) ≡ true
-    by true e = day_of (v.day == v.day) (is_self v.day)
-    by false e = absurd (cc)
-
--- what was taken is of days that there are, where the ledger has no statement of another
-dated : (l : LedgerValue) (items : List Item) → ((device day : ℕ) → 100000 < day → (given_all l items).stated device day ≡ None) → AllByRecursion IsDated items
-dated l [] days = tt
-dated l (item.Tap r ∷ is) days = (tt, dated (took r l) is days)
-dated l (item.Stated v ∷ is) days = (by (cases_lt 100000 v.day), dated (with_statement v l) is days)
-  where
-    by : (100000 < v.day) ⊎ (v.day ≤ 100000) → IsDay v.day
-    by (inr le) = le
-    by (inl lt) =
-        let held = held_still (with_statement v l) is v.device v.day (held_now l v) in
-        let both : false ≡ true = sym (ap is_some (days v.device v.day lt)) ∙ held in
-        absurd (cc)
 
 -- SUMS
 module _ {L : Type 0} (ledger : L → Standing LedgerValue) (sc : SchemeValue) where
@@ -174,8 +123,8 @@ module _ {S O L : Type 0} (talks : S → Talk) (outbox : O → Standing OutboxVa
       let is = ap (had_by old.scheme) (h.served.outbox_holds fits own live.outbox_is) ∙ had_pruned old.scheme (outbox old.outbox).value owner (ledger h.one.own_new).value h.served.v.pruned in
       (0, is ∙ omega arith, ap (λ n. min n 18446744073709551615) h.stored)
 
-  serve_taken : (old new : Hub O L) (owner : ℕ) (c : Counts) → HasServed outbox ledger old new owner c → IsScheme old.scheme → AreLive outbox ledger new → AreLive outbox ledger old → AreSound outbox ledger old → AreDated outbox ledger new → Grew (held old.scheme old) (held old.scheme new) c.taken
-  serve_taken old new owner c h valid live live_before sound days =
+  serve_taken : (old new : Hub O L) (owner : ℕ) (c : Counts) → HasServed outbox ledger old new owner c → IsScheme old.scheme → AreLive outbox ledger new → AreLive outbox ledger old → AreSound outbox ledger old → Grew (held old.scheme old) (held old.scheme new) c.taken
+  serve_taken old new owner c h valid live live_before sound =
       let fits = fit talks outbox ledger old new owner c h (live_is_clean new live) sound in
       let own = live.ledgers_are h.one.place h.one.own_new h.one.is in
       let x = (outbox old.outbox).value in
@@ -184,8 +133,7 @@ module _ {S O L : Type 0} (talks : S → Talk) (outbox : O → Standing OutboxVa
       let m = h.served.ledger_holds fits own in
       let says = h.served.says fits x l (inl (live_before.outbox_is, refl)) (inl (live_before.ledgers_are h.one.place h.one.own_old h.one.was, refl)) in
       let known = all-left (λ i. IsOfDevice old.scheme (device_of i)) v.taken (in_hand v.hand ++ v.queue) says.service.known in
-      let of_days = dated l v.taken (λ device day lt. ap (λ (z : LedgerValue). z.stated device day) (sym m) ∙ days.dated h.one.place h.one.own_new h.one.is device day lt) in
-      let grew = ap (held_by old.scheme) m ∙ items_held old.scheme valid l v.taken known of_days in
+      let grew = ap (held_by old.scheme) m ∙ items_held old.scheme valid l v.taken known h.served.dated in
       let count = says.taken in
       let same = added_are l v.taken in
       let counted = h.taken in
@@ -193,42 +141,17 @@ module _ {S O L : Type 0} (talks : S → Talk) (outbox : O → Standing OutboxVa
       let told : c.taken ≡ min n 18446744073709551615 = counted ∙ (count ∙ ap (λ k. min k 18446744073709551615) same) in
       (n, held_all ledger old.scheme old.ledgers.items new.ledgers.items h.one.place h.one.own_old h.one.own_new n h.one.was h.one.is h.one.count h.one.others grew, omega (arith, told))
 
-  -- statements stay
-  dated_back : (old new : Hub O L) (s r : Session S) (c : Counts) → HasRun talks outbox ledger old new s r c → AreLive outbox ledger new → AreSound outbox ledger old → AreDated outbox ledger new → AreDated outbox ledger old
-  dated_back old new (Collect before) (Collect after) c h live sound days = record { dated = λ place x at. days.dated place x (ap (λ (v : Vec L Global). slice_get v.items place) h.ledgers ∙ at) }
-  dated_back old new (Collect before) (Serve owner) c h live sound days = absurd h
-  dated_back old new (Serve owner) (Collect after) c h live sound days = absurd h
-  dated_back old new (Serve owner) (Serve other) c h live sound days = record { dated = λ place x at. by place x at (place == s.one.place) refl }
-    where
-      s : HasServed outbox ledger old new owner c
-      s = h.1
-
-      none : (o : Option ℕ) → (is_some o ≡ true → ⊥) → o ≡ None
-      none None not = refl
-      none (Some n) not = absurd (not refl)
-
-      by : (place : ℕ) (x : L) → slice_get old.ledgers.items place ≡ Some x → (b : Bool) → (place == s.one.place) ≡ b → (device day : ℕ) → 100000 < day → (ledger x).value.stated device day ≡ None
-      by place x at false e device day lt = days.dated place x (s.one.others place (not_one place s.one.place e) ∙ at) device day lt
-      by place x at true e device day lt =
-          let here = is_one place s.one.place e in
-          let is : s.one.own_old ≡ x = same_at old.ledgers.items old.ledgers.items place x s.one.own_old at (ap (slice_get old.ledgers.items) here ∙ s.one.was) refl in
-          let fits = fit talks outbox ledger old new owner c s (live_is_clean new live) sound in
-          let m = s.served.ledger_holds fits (live.ledgers_are s.one.place s.one.own_new s.one.is) in
-          let later = ap (λ (z : LedgerValue). z.stated device day) (sym m) ∙ days.dated s.one.place s.one.own_new s.one.is device day lt in
-          ap (λ z. (ledger z).value.stated device day) (sym is)
-          ∙ none ((ledger s.one.own_old).value.stated device day) (λ held. let both : false ≡ true = sym (ap is_some later) ∙ held_still (ledger s.one.own_old).value s.served.v.taken device day held in absurd (cc))
-
   ran_stored : (old new : Hub O L) (s r : Session S) (c : Counts) → HasRun talks outbox ledger old new s r c → IsScheme old.scheme → AreLive outbox ledger new → AreSound outbox ledger old → Grew (had old.scheme old) (had old.scheme new) c.stored
   ran_stored old new (Collect before) (Collect after) c h valid live sound = collect_stored old new before.items after.items c h valid live (live_back outbox ledger old new (ran_follow talks outbox ledger old new (Collect before) (Collect after) c h) live) sound
   ran_stored old new (Collect before) (Serve owner) c h valid live sound = absurd h
   ran_stored old new (Serve owner) (Collect after) c h valid live sound = absurd h
   ran_stored old new (Serve owner) (Serve other) c h valid live sound = serve_stored old new owner c h.1 live sound
 
-  ran_taken : (old new : Hub O L) (s r : Session S) (c : Counts) → HasRun talks outbox ledger old new s r c → IsScheme old.scheme → AreLive outbox ledger new → AreSound outbox ledger old → AreDated outbox ledger new → Grew (held old.scheme old) (held old.scheme new) c.taken
-  ran_taken old new (Collect before) (Collect after) c h valid live sound days = (0, ap (λ (v : Vec L Global). held_by_all ledger old.scheme v.items) h.ledgers ∙ omega arith, ap (λ n. min n 18446744073709551615) h.taken)
-  ran_taken old new (Collect before) (Serve owner) c h valid live sound days = absurd h
-  ran_taken old new (Serve owner) (Collect after) c h valid live sound days = absurd h
-  ran_taken old new (Serve owner) (Serve other) c h valid live sound days = serve_taken old new owner c h.1 valid live (live_back outbox ledger old new (ran_follow talks outbox ledger old new (Serve owner) (Serve other) c h) live) sound days
+  ran_taken : (old new : Hub O L) (s r : Session S) (c : Counts) → HasRun talks outbox ledger old new s r c → IsScheme old.scheme → AreLive outbox ledger new → AreSound outbox ledger old → Grew (held old.scheme old) (held old.scheme new) c.taken
+  ran_taken old new (Collect before) (Collect after) c h valid live sound = (0, ap (λ (v : Vec L Global). held_by_all ledger old.scheme v.items) h.ledgers ∙ omega arith, ap (λ n. min n 18446744073709551615) h.taken)
+  ran_taken old new (Collect before) (Serve owner) c h valid live sound = absurd h
+  ran_taken old new (Serve owner) (Collect after) c h valid live sound = absurd h
+  ran_taken old new (Serve owner) (Serve other) c h valid live sound = serve_taken old new owner c h.1 valid live (live_back outbox ledger old new (ran_follow talks outbox ledger old new (Serve owner) (Serve other) c h) live) sound
 
   -- A LIST OF SESSIONS
   pub run_stored : (start : Hub O L) (olds news : List (Session S)) (n : ℕ) (now : Hub O L) (t : Tally) → HaveRun talks outbox ledger start olds news n now t → IsScheme start.scheme → AreLive outbox ledger now → AreSound outbox ledger start → Grew (had start.scheme start) (had start.scheme now) t.stored
@@ -242,14 +165,14 @@ module _ {S O L : Type 0} (talks : S → Talk) (outbox : O → Standing OutboxVa
       subst (λ (u : Tally). Grew (had start.scheme start) (had start.scheme now) u.stored) (sym h.5)
       (grew_join (had start.scheme start) (had start.scheme h.0) (had start.scheme now) h.1.stored h.2.stored first (subst (λ sc. Grew (had sc h.0) (had sc now) h.2.stored) same one))
 
-  pub run_taken : (start : Hub O L) (olds news : List (Session S)) (n : ℕ) (now : Hub O L) (t : Tally) → HaveRun talks outbox ledger start olds news n now t → IsScheme start.scheme → AreLive outbox ledger now → AreSound outbox ledger start → AreDated outbox ledger now → Grew (held start.scheme start) (held start.scheme now) t.taken
-  run_taken start olds news zero now t h valid live sound days = (0, ap (held start.scheme) h.0 ∙ omega arith, ap (λ (u : Tally). min u.taken 18446744073709551615) h.1)
-  run_taken start olds news (suc n) now t h valid live sound days =
+  pub run_taken : (start : Hub O L) (olds news : List (Session S)) (n : ℕ) (now : Hub O L) (t : Tally) → HaveRun talks outbox ledger start olds news n now t → IsScheme start.scheme → AreLive outbox ledger now → AreSound outbox ledger start → Grew (held start.scheme start) (held start.scheme now) t.taken
+  run_taken start olds news zero now t h valid live sound = (0, ap (held start.scheme) h.0 ∙ omega arith, ap (λ (u : Tally). min u.taken 18446744073709551615) h.1)
+  run_taken start olds news (suc n) now t h valid live sound =
       let f = ran_follow talks outbox ledger h.0 now h.4.before h.4.after h.2 h.4.ran in
       let before = live_back outbox ledger h.0 now f live in
       let same = run_scheme talks outbox ledger start olds news n h.0 h.1 h.3 in
       let sound_before = run_sound talks outbox ledger start olds news n h.0 h.1 h.3 (live_is_clean h.0 before) sound in
-      let first = run_taken start olds news n h.0 h.1 h.3 valid before sound (dated_back h.0 now h.4.before h.4.after h.2 h.4.ran live sound_before days) in
-      let one = ran_taken h.0 now h.4.before h.4.after h.2 h.4.ran (subst IsScheme (sym same) valid) live sound_before days in
+      let first = run_taken start olds news n h.0 h.1 h.3 valid before sound in
+      let one = ran_taken h.0 now h.4.before h.4.after h.2 h.4.ran (subst IsScheme (sym same) valid) live sound_before in
       subst (λ (u : Tally). Grew (held start.scheme start) (held start.scheme now) u.taken) (sym h.5)
       (grew_join (held start.scheme start) (held start.scheme h.0) (held start.scheme now) h.1.taken h.2.taken first (subst (λ sc. Grew (held sc h.0) (held sc now) h.2.taken) same one))

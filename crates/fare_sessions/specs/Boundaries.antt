@@ -1,7 +1,5 @@
 -- What the sessions of a list did, told of stores at each boundary between them: what the stores of the hub may have held there.
 use Rattle.std.specs.Prelude.{◌≡◌, ◌⊎◌, ℕ, suc, zero, ◌<◌, ◌==◌, false, List, [], ◌∷◌, ◌++◌, length, map, slice_get, slice_index_or, Option, None, Some}
-use Rattle.std.specs.List.{AllByRecursion}
-use Rattle.fare_record.specs.Values.{RecordValue}
 use Rattle.fare_frame.specs.declared.frame.Frame.{Frame}
 use Rattle.fare_scheme.specs.Values.{SchemeValue}
 use Rattle.fare_source.specs.Talking.{Talk}

@@ -1,5 +1,5 @@
 -- What a list of sessions promises of lists of taps, and of its report.
-use Rattle.std.specs.Prelude.{◌≡◌, ◌≤◌, ◌<◌, ◌+◌, ◌⊎◌, ℕ, min, true, is_some, List, [], ◌∷◌, ◌++◌, length, slice_get, slice_index_or, Some, Vec, Bool, if◌then◌else◌, unwrap_or, option_map}
+use Rattle.std.specs.Prelude.{◌≡◌, ◌≤◌, ◌<◌, ◌+◌, ℕ, min, true, is_some, List, [], ◌∷◌, ◌++◌, length, slice_get, slice_index_or, Some, Vec, if◌then◌else◌, unwrap_or, option_map}
 use Rattle.std.specs.Global.{Global}
 use Rattle.std.specs.List.{AllByRecursion, list_all}
 use Rattle.fare_record.specs.Values.{RecordValue}
@@ -23,7 +23,7 @@ use Rattle.fare_sessions.specs.declared.hub.Hub.{Hub}
 use Rattle.fare_sessions.specs.declared.session.Session.{Session}
 use Rattle.fare_sessions.specs.declared.session.Session.TheVariants.{Collect}
 use Rattle.fare_sessions.specs.declared.report.SessionsReport.{SessionsReport}
-use Rattle.fare_sessions.specs.Course.{Tally, Reports, last_place}
+use Rattle.fare_sessions.specs.Course.{Tally, last_place}
 use Rattle.fare_sessions.specs.Stores.{MayStandAs}
 use Rattle.fare_sessions.specs.Boundaries.{HaveLed}
 

@@ -1,5 +1,5 @@
 -- The stores of a hub.
-use Rattle.std.specs.Prelude.{◌≡◌, ◌≢◌, ℕ, ◌+◌, ◌<◌, true, None, List, [], ◌∷◌, length, slice_get, Some}
+use Rattle.std.specs.Prelude.{◌≡◌, ◌≢◌, ℕ, ◌+◌, true, List, [], ◌∷◌, length, slice_get, Some}
 use Rattle.fare_record.specs.Values.{RecordValue}
 use Rattle.fare_scheme.specs.Values.{SchemeValue}
 use Rattle.fare_scheme.specs.Words.{position_of_owner}
@@ -58,10 +58,6 @@ module _ {O L : Type 0} (outbox : O → Standing OutboxValue) (ledger : L → St
   pub record AreSound (hub : Hub O L) : Type 0 where
     pub lawful : EachStore (λ s. s.live → s.lawful) (λ s. s.live → s.lawful) hub
     pub own : (owner : ℕ) (x : L) → IsLedgerOf hub owner x → (ledger x).live → ((ledger x).value.owner ≡ owner) × IsOfScheme hub.scheme (ledger x).value
-
-  -- no ledger holds a statement of a day past 100,000, the last one that there is
-  pub record AreDated (hub : Hub O L) : Type 0 where
-    pub dated : (place : ℕ) (x : L) → slice_get hub.ledgers.items place ≡ Some x → (device day : ℕ) → 100000 < day → (ledger x).value.stated device day ≡ None
 
   -- each store followed from one: what is spoiled or shut stays so, and what fits together stays so
   pub record StoresFollow (old new : Hub O L) : Type 0 where

@@ -6,7 +6,7 @@ ghost use Rattle.fare_agreement.specs.Totals.{had_by};
 ghost use Rattle.fare_history.specs.Stores.{StoresValue};
 ghost use Rattle.fare_store.specs.Standing.{IsSound};
 ghost use Rattle.fare_sessions.specs.Course.{Shows, no_tally};
-ghost use Rattle.fare_sessions.specs.Stores.{HasLedgers, AreClean, AreLive, AreSound, StoresFollow, MayStandAs, IsAgreed, HasGrown, held_by_all, AreDated};
+ghost use Rattle.fare_sessions.specs.Stores.{HasLedgers, AreClean, AreLive, AreSound, StoresFollow, MayStandAs, IsAgreed, HasGrown, held_by_all};
 ghost use Rattle.fare_sessions.specs.Running.{AreRunnable, HaveAllRun};
 ghost use Rattle.fare_sessions.specs.Promises.{GaveOf, AreCovered, ran, AreInOrder, AreUntouched, IsAdded, CameOf};
 
@@ -68,7 +68,7 @@ impl<O: Outbox + Send, L: Ledger + Send> Hub<O, L> {
         ensures covered { AreClean O.standing L.standing self.new → AreSound O.standing L.standing self.old → (lists : ℕ → List RecordValue) → AreNumberedLists self.old.scheme lists → GaveOf S.talk self.old.scheme lists sessions.old sessions.new → IsAgreed O.standing L.standing lists self.old → (k : StoresValue) → MayStandAs O.standing L.standing self.new k → AreCovered S.talk self.old.scheme k.outbox sessions.old sessions.new }
         ensures boundaries { AreClean O.standing L.standing self.new → AreSound O.standing L.standing self.old → IfOk result (λ report. (k : StoresValue) → MayStandAs O.standing L.standing self.new k → CameOf S.talk O.standing L.standing self.old sessions.old sessions.new report k) }
         ensures stored { AreLive O.standing L.standing self.new → AreSound O.standing L.standing self.old → IfOk result (λ report. IsAdded (had_by self.old.scheme (O.standing self.old.outbox).value) (had_by self.old.scheme (O.standing self.new.outbox).value) report.stored) }
-        ensures taken { AreLive O.standing L.standing self.new → AreSound O.standing L.standing self.old → AreDated O.standing L.standing self.new → IfOk result (λ report. IsAdded (held_by_all L.standing self.old.scheme self.old.ledgers.items) (held_by_all L.standing self.old.scheme self.new.ledgers.items) report.taken) }
+        ensures taken { AreLive O.standing L.standing self.new → AreSound O.standing L.standing self.old → IfOk result (λ report. IsAdded (held_by_all L.standing self.old.scheme self.old.ledgers.items) (held_by_all L.standing self.old.scheme self.new.ledgers.items) report.taken) }
         ensures left { AreClean O.standing L.standing self.new → AreSound O.standing L.standing self.old → IfOk result (λ report. report.faults.items ≡ [] → report.left ≡ 0) }
         ensures gave_up { IfOk result (λ report. IsTrue report.gave_up ↔ (supervisor < length report.faults.items)) }
         ensures in_order { IfOk result (λ report. AreInOrder 0 report.faults.items (ran report (length sessions.old))) }

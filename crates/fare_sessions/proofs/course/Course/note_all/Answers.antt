@@ -1,4 +1,4 @@
-use Rattle.std.proofs.Common.{◌≡◌, ◌+◌, ◌<◌, ◌≤◌, ℕ, [], ◌∷◌, ◌++◌, List, length, take, sym, ap, ◌∙◌, subst, slice_index_or, vec_len, vec_capacity, arith, refl}
+use Rattle.std.proofs.Common.{◌≡◌, ◌+◌, [], ◌∷◌, ◌++◌, List, take, sym, ap, ◌∙◌, subst, arith, refl}
 use Rattle.std.proofs.lemmas.List.{take_more, take_all}
 use Rattle.fare_session.specs.declared.fault.SessionFault.{SessionFault}
 use Rattle.fare_sessions.specs.Course.{Tally, Shows, with_faults}

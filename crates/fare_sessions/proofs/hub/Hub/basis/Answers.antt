@@ -1,7 +1,5 @@
-use Rattle.std.proofs.Common.{◌≡◌, ◌<◌, ◌≤◌, ℕ, List, sym, ap, ◌∙◌, subst, refl, arith, false}
+use Rattle.std.proofs.Common.{◌≤◌, sym, ◌∙◌, subst, refl}
 use Rattle.std.specs.Vec.{with_item}
-use Rattle.std.specs.Ordering.{nat_cmp, is_lt}
-use Rattle.fare_world.specs.Whole.{Answered}
 use Rattle.fare_sessions.specs.declared.hub.Hub.{Hub}
 use Rattle.fare_sessions.proofs.Going.{one_replaced}
 use Rattle.fare_sessions.proofs.Billed.{TellsWeek, reads_one, week_refused, week_basis, from_not_less}

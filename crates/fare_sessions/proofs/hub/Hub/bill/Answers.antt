@@ -1,4 +1,4 @@
-use Rattle.std.proofs.Common.{◌≡◌, ◌∙◌, sym}
+use Rattle.std.proofs.Common.{◌≡◌, ◌∙◌}
 use Rattle.fare_cap.specs.Bills.{bill_of}
 use Rattle.fare_sessions.proofs.Billed.{bill_of_lists}
 use Rattle.fare_sessions.proofs.hub.Hub.bill.Goals as goal

@@ -1,9 +1,7 @@
-use Rattle.std.proofs.Common.{◌≡◌, ℕ, sym, ap, ◌∙◌, refl}
-use Rattle.std.specs.Prelude.{Ok, Err, Result}
+use Rattle.std.proofs.Common.{sym, ap, ◌∙◌, refl}
+use Rattle.std.specs.Prelude.{Ok, Err}
 use Rattle.std.specs.Vec.{with_item}
-use Rattle.fare_store.specs.declared.fault.Refused.{Refused}
 use Rattle.fare_store.specs.declared.fault.Refused.TheVariants.{Because, Failed}
-use Rattle.fare_sessions.specs.declared.closing.ClosingFault.{ClosingFault}
 use Rattle.fare_sessions.specs.declared.closing.ClosingFault.TheVariants.{Ledger}
 use Rattle.fare_sessions.specs.Billing.{as_hub, HasClosed}
 use Rattle.fare_sessions.specs.declared.hub.Hub.{Hub}

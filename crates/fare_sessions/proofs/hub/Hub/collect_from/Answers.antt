@@ -1,12 +1,11 @@
-use Rattle.std.proofs.Common.{◌≡◌, ◌+◌, ◌≤◌, ℕ, [], ◌∷◌, ◌++◌, List, length, Some, sym, ap, ◌∙◌, subst, refl, inl, inr, arith, vec_len, vec_capacity, length-append}
-use Rattle.std.specs.Prelude.{Ok, Err}
+use Rattle.std.proofs.Common.{◌≡◌, [], ◌∷◌, List, length, sym, ap, ◌∙◌, subst, refl, inl, inr, arith, vec_len, vec_capacity, length-append}
 use Rattle.std.specs.Vec.{with_items}
 use Rattle.std.proofs.lemmas.List.{with_items_is}
 use Rattle.fare_collect.specs.declared.station.Station.{Station}
 use Rattle.fare_collect.specs.Collected.{writer_faults, station_faults}
 use Rattle.fare_session.specs.declared.fault.SessionFault.{SessionFault}
 use Rattle.fare_session.specs.declared.fault.SessionFault.TheVariants.{Memory}
-use Rattle.fare_sessions.specs.Course.{Counts, Tally, Shows, with_faults, with_numbers, with_session}
+use Rattle.fare_sessions.specs.Course.{Tally, Shows, with_faults, with_numbers}
 use Rattle.fare_sessions.specs.Running.{HasCollected}
 use Rattle.fare_sessions.proofs.Going.{few_faults, few_writer, no_numbers}
 use Rattle.fare_sessions.proofs.hub.Hub.collect_from.Goals as goal

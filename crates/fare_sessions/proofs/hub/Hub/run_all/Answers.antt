@@ -1,4 +1,4 @@
-use Rattle.std.proofs.Common.{◌≡◌, ◌+◌, ◌<◌, ◌≤◌, ℕ, length, sym, subst, slice_index_or, vec_len, vec_capacity, arith}
+use Rattle.std.proofs.Common.{sym, subst, slice_index_or, arith}
 use Rattle.fare_sessions.specs.Running.{IsRunnable}
 use Rattle.fare_sessions.proofs.Follow.{all_at}
 use Rattle.fare_sessions.proofs.Going.{begins, still_scheme, still_ledgers, still_there, still_room, goes_on, gives_up, ends}

@@ -1,4 +1,4 @@
-use Rattle.std.proofs.Common.{◌≡◌, ℕ, List, sym, subst, refl}
+use Rattle.std.proofs.Common.{sym, refl}
 use Rattle.std.specs.Vec.{with_item}
 use Rattle.fare_sessions.specs.Course.{with_numbers, owner_faults}
 use Rattle.fare_sessions.proofs.Going.{one_replaced}

@@ -1,5 +1,4 @@
-use Rattle.std.proofs.Common.{◌≡◌, ◌+◌, ◌<◌, ◌≤◌, ℕ, [], List, length, sym, ap, ◌∙◌, subst, refl}
-use Rattle.fare_sessions.specs.declared.report.SessionsReport.{SessionsReport}
+use Rattle.std.proofs.Common.{sym, subst}
 use Rattle.fare_sessions.specs.Running.{HaveAllRun}
 use Rattle.fare_sessions.proofs.Follow.{run_scheme, run_follow, run_sound}
 use Rattle.fare_sessions.proofs.Reported.{gave_up_exactly, faults_in_order, rest_untouched, none_left, stored_is, taken_is, agrees, grows, covered, came}
@@ -48,7 +47,7 @@ returns-clause-stored g c =
 pub returns-clause-taken : goal.returns-clause-taken
 returns-clause-taken g c =
     let a = subst (HaveAllRun g.S.Source.talk g.O.Outbox.standing g.L.Ledger.standing c.args.supervisor c.args.self.now c.run_all.new.self c.args.sessions.now c.run_all.new.sessions) (sym c.into_report.ensures) (c.run_all.ensures c.args.supervisor c.new-course.ensures.shows) in
-    λ live sound days. taken_is g.S.Source.talk g.O.Outbox.standing g.L.Ledger.standing c.args.supervisor c.args.self.now c.run_all.new.self c.args.sessions.now c.run_all.new.sessions c.into_report.result a c.have_laws.ensures.outbox c.have_laws.ensures.ledger c.owner_count-owners.ensures.valid live sound days
+    λ live sound. taken_is g.S.Source.talk g.O.Outbox.standing g.L.Ledger.standing c.args.supervisor c.args.self.now c.run_all.new.self c.args.sessions.now c.run_all.new.sessions c.into_report.result a c.have_laws.ensures.outbox c.have_laws.ensures.ledger c.owner_count-owners.ensures.valid live sound
 
 pub returns-clause-left : goal.returns-clause-left
 returns-clause-left g c =

@@ -1,4 +1,4 @@
-use Rattle.std.proofs.Common.{◌≡◌, ◌∙◌, sym}
+use Rattle.std.proofs.Common.{◌≡◌, ◌∙◌}
 use Rattle.fare_settle.specs.Settling.{settlement_of}
 use Rattle.fare_sessions.proofs.Billed.{settlement_of_lists}
 use Rattle.fare_sessions.proofs.hub.Hub.settlement.Goals as goal
