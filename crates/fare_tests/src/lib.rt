@@ -22,6 +22,8 @@ mod files;
 #[cfg(test)]
 mod frame;
 #[cfg(test)]
+mod hub_sessions;
+#[cfg(test)]
 mod inbox_queue;
 #[cfg(test)]
 mod lane_queue;
@@ -55,6 +57,8 @@ mod samples;
 mod scheme;
 #[cfg(test)]
 mod schemes;
+#[cfg(test)]
+mod scripts;
 #[cfg(test)]
 mod serving;
 #[cfg(test)]

@@ -1,95 +1,18 @@
-ghost use Rattle.std.specs.Prelude.{◌≡◌, ◌≤◌, ◌+◌, ◌++◌, ◌∷◌, [], vec_len, vec_capacity};
-
-use crate::samples::{FIRST, Numbers, record, statement};
-use fare_collect::{Station, StationsFault, collect, stations_of};
-use fare_day::Zone;
+use crate::samples::statement;
+use crate::scripts::{
+    Script, ack, day_ack, narrow, scripts_of, sixteen, source_of, sources_of, tapped,
+};
+use fare_collect::{StationsFault, collect, stations_of};
 use fare_frame::Frame;
-use fare_record::{Ack, Day, DayAck, DeviceId, Hello, LAST_NUMBER, StationId};
-use fare_scheme::{DemoSize, Draft, Scheme};
+use fare_record::{DeviceId, Hello, LAST_NUMBER, StationId};
+use fare_scheme::{DemoSize, Scheme};
 use fare_session::{Gate, Point, SessionFault};
-use fare_source::{Source, SourceFault};
 use fare_store::{FailingOutbox, Outbox, PlainOutbox};
 use std::alloc::Global;
 use std::sync::Wait;
 use std::sync::atomic::{AtomicBool, AtomicU64, Ordering};
 use std::thread::{self, Threads};
 use std::time::Clock;
-
-/// A source of frames that are written down, which keeps what it gave and what it was answered.
-#[derive(Drop)]
-struct Script {
-    // Those to come, the next one last.
-    frames: Vec<Frame>,
-    given: Vec<Frame>,
-    answered: Vec<Frame>,
-    failures: u64,
-    // How many calls there are up to the one that fails, itself included; 0 for none.
-    left: u64,
-    // It is ready at each so many asks.
-    every: u64,
-    asked: u64,
-}
-
-// Counts a call, and answers whether it is the one that fails.
-fn fails_now(left: &mut u64) -> bool {
-    let now = *left == 1;
-    *left = left.saturating_sub(1);
-    now
-}
-
-// Adds a frame to a list that has room for it.
-fn keep(frames: &mut Vec<Frame>, frame: &Frame)
-    requires { vec_len frames.old + 1 ≤ vec_capacity frames.old }
-    ensures { frames.new.items ≡ frames.old.items ++ frame.now ∷ [] }
-{
-    frames.push_reserved(*frame);
-}
-
-impl Source for Script {
-    ghost talk = { λ s. record { given = s.given.items; answered = s.answered.items; failures = s.failures; ended = s.frames.items ≡ [] } };
-
-    fn is_ready(&mut self) -> bool {
-        self.asked = self.asked.wrapping_add(1);
-        self.every == 0 || self.asked % self.every == 0
-    }
-
-    fn next(&mut self) -> Result<Option<Frame>, SourceFault> {
-        if fails_now(&mut self.left) {
-            self.failures = self.failures.saturating_add(1);
-            return Err(SourceFault::Failed);
-        }
-        if self.given.reserve(1).is_err() {
-            return Err(SourceFault::Memory);
-        }
-        let Some(frame) = self.frames.pop() else {
-            return Ok(None);
-        };
-        keep(&mut self.given, &frame);
-        Ok(Some(frame))
-    }
-
-    fn answer(&mut self, frame: &Frame) -> Result<(), SourceFault> {
-        if self.answered.push(*frame).is_err() {
-            return Err(SourceFault::Memory);
-        }
-        if fails_now(&mut self.left) {
-            self.failures = self.failures.saturating_add(1);
-            return Err(SourceFault::Failed);
-        }
-        Ok(())
-    }
-}
-
-impl Script {
-    // The frame that it was answered last, and the one before.
-    fn last_two(&self) -> (Option<Frame>, Option<Frame>) {
-        let count = self.answered.len();
-        let before = count
-            .checked_sub(2)
-            .and_then(|place| self.answered.get(place).copied());
-        (before, self.answered.last().copied())
-    }
-}
 
 /// A gate that counts what passes, and holds the first put of a station until another and a store passed if it is asked
 /// to.
@@ -141,58 +64,9 @@ impl Hold {
     }
 }
 
-// A tap of a device that is the first with these links.
-fn tapped(device: u64, link: u64) -> Option<Frame> {
-    let tap = record(Numbers {
-        device,
-        link,
-        lane: link,
-        ..FIRST
-    })?;
-    Some(Frame::Tapped(tap))
-}
-
-fn ack(device: u64, upto: u64) -> Option<Frame> {
-    if upto > LAST_NUMBER {
-        return None;
-    }
-    Some(Frame::Acked(Ack::new(DeviceId::new(device)?, upto)))
-}
-
-// A source of a device's taps with these links.
-fn source_of(alloc: Global, device: u64, links: &[u64]) -> Option<Script> {
-    let mut frames = Vec::new(alloc);
-    for link in links {
-        frames.insert(0, tapped(device, *link)?).ok()?;
-    }
-    Some(Script {
-        frames,
-        given: Vec::new(alloc),
-        answered: Vec::new(alloc),
-        failures: 0,
-        left: 0,
-        every: 0,
-        asked: 0,
-    })
-}
-
-// A source for each of the devices up to a number, of its taps with these links.
-fn scripts_of(alloc: Global, devices: u64, links: &[u64]) -> Option<Vec<Script>> {
-    let mut sources = Vec::new(alloc);
-    for device in 1..=devices {
-        sources.push(source_of(alloc, device, links)?).ok()?;
-    }
-    Some(sources)
-}
-
 // A source of each of the two devices' taps with these links.
 fn scripts(alloc: Global, links: &[u64]) -> Option<Vec<Script>> {
     scripts_of(alloc, 2, links)
-}
-
-// The demonstration scheme of two devices, with an inbox of one item.
-fn narrow(alloc: Global) -> Option<Scheme> {
-    Scheme::demo(alloc, DemoSize::TwoDevices, 4, 1, 4).ok()
 }
 
 /// What is to be seen after a session.
@@ -202,20 +76,6 @@ struct Seen {
     left: u64,
     // The first fault, if there is one.
     fault: Option<SessionFault>,
-}
-
-// The stations' sources, in their order.
-fn sources_of(alloc: Global, stations: Vec<Station<Script>>) -> Option<Vec<Script>> {
-    let mut stations = stations;
-    let mut sources = Vec::new(alloc);
-    for _ in 0..16 {
-        let Some(station) = stations.pop() else {
-            break;
-        };
-        let (_, source) = station.into_parts();
-        sources.insert(0, source).ok()?;
-    }
-    Some(sources)
 }
 
 /// A session over these sources, what is to be seen then, and the sources again.
@@ -309,10 +169,6 @@ fn stating(alloc: Global) -> Option<Script> {
     Some(source)
 }
 
-fn day_ack(device: u64, day: u64) -> Option<Frame> {
-    Some(Frame::DayAcked(DayAck::new(DeviceId::new(device)?, Day::new(day)?)))
-}
-
 // Such a source is answered the day's acknowledgement at the end, and then the number of its taps, also where no thread
 // had a turn in which to answer.
 #[test]
@@ -339,27 +195,6 @@ fn a_statement_is_acknowledged(rt: HostRuntime) {
         let answers = sources.first().expect(&rt, "source").last_two();
         assert_eq!(rt; answers, (day_ack(1, 19_723), ack(1, 0)));
     }
-}
-
-// Registers sixteen stations, each with one device.
-fn add_stations(draft: &mut Draft) -> Option<()> {
-    draft.add_owner(1, 64).ok()?;
-    draft.add_operator(1).ok()?;
-    draft.add_product(1, 1, 175).ok()?;
-    for station in 1..=16_u16 {
-        draft.add_station(station, 1).ok()?;
-        draft.add_device(station as u32, station, 64).ok()?;
-    }
-    draft.set_inbox(4).ok()
-}
-
-fn sixteen(alloc: Global) -> Option<Scheme> {
-    let zone = Zone::read("GMT0BST,M3.5.0/1,M10.5.0").ok()?;
-    let mut draft = Draft::new(alloc);
-    draft.set_zone(zone);
-    draft.set_start(19_723).ok()?;
-    add_stations(&mut draft)?;
-    draft.seal().ok()
 }
 
 // Whether each source was answered this number of its device last.
