@@ -24,6 +24,8 @@ mod frame;
 #[cfg(test)]
 mod hub_sessions;
 #[cfg(test)]
+mod hub_stops;
+#[cfg(test)]
 mod inbox_queue;
 #[cfg(test)]
 mod lane_queue;

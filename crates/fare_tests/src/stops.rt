@@ -103,7 +103,10 @@ fn held_in<L: Ledger>(ledger: &mut L) -> Option<(u64, bool)> {
 }
 
 // The database after the machine stopped and came back.
-fn reopened<S: Alter + Reopen + Drop>(alloc: Global, conn: Connection<S>) -> Option<Connection<S>> {
+pub(crate) fn reopened<S: Alter + Reopen + Drop>(
+    alloc: Global,
+    conn: Connection<S>,
+) -> Option<Connection<S>> {
     let mut store = conn.into_store();
     store.crash_and_reopen().ok()?;
     Connection::over(alloc, store).ok()
