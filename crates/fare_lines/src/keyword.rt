@@ -1,6 +1,7 @@
-ghost use Rattle.std.specs.Prelude.{◌≡◌, ◌<◌, ℕ, IfSome, IfNone, length, slice_index, slice_index_or};
+ghost use Rattle.std.specs.Prelude.{◌≡◌, ◌<◌, ◌++◌, ℕ, List, IfSome, IfNone, length, slice_index, slice_index_or};
 ghost use Rattle.fare_lines.specs.Grammar.{event_keyword_text, keyword_text, scheme_keyword_text};
-ghost use Rattle.fare_lines.specs.Reading.{HasKeyword, any_keyword};
+ghost use Rattle.fare_lines.specs.Reading.{BeginsWith, CutsAt, HasKeyword, any_keyword};
+ghost use Rattle.std.specs.Char.{is_ascii_digit};
 
 /// What a scheme line begins with, but for that of a zone.
 #[derive(Clone, Copy, PartialEq, Eq, Debug)]
@@ -215,24 +216,37 @@ impl Keyword {
         }
     }
 
-    /// The keyword of this text, if there is one.
-    pub fn read(text: &[u8]) -> Option<Keyword>
-        ensures found { IfSome result (λ k. text.now ≡ keyword_text k) }
-        ensures none { IfNone result ((k : Keyword) → text.now ≡ keyword_text k → ⊥) }
+    /// The keyword at the front of a text that nothing or a digit follows, and the text behind it; None where there
+    /// is no such keyword.
+    pub fn cut(text: &[u8]) -> Option<(Keyword, &[u8])>
+        ensures found { IfSome result (λ cut. CutsAt is_ascii_digit text.now (keyword_text cut.0) cut.1.now) }
+        ensures none { IfNone result ((k : Keyword) (rest : List ℕ) → BeginsWith is_ascii_digit rest → text.now ≡ keyword_text k ++ rest → ⊥) }
     {
         let letter = text.first()?;
         find_keyword(Keyword::of_letter(*letter), text)
     }
+
+    // What stands behind this keyword at the front of a text, if that is nothing or begins with a digit.
+    fn behind(self, text: &[u8]) -> Option<&[u8]>
+        ensures found { IfSome result (λ rest. CutsAt is_ascii_digit text.now (keyword_text self) rest.now) }
+        ensures none { IfNone result ((rest : List ℕ) → BeginsWith is_ascii_digit rest → text.now ≡ keyword_text self ++ rest → ⊥) }
+    {
+        let rest = text.strip_prefix(self.text())?;
+        match rest.first() {
+            Some(byte) if !byte.is_ascii_digit() => None,
+            _ => Some(rest),
+        }
+    }
 }
 
-/// The first of the keywords that has this text.
-fn find_keyword(keywords: &[Keyword], text: &[u8]) -> Option<Keyword>
-    ensures found { IfSome result (λ k. text.now ≡ keyword_text k) }
-    ensures none { IfNone result ((i : ℕ) → i < length keywords.now → text.now ≡ keyword_text (slice_index_or keywords.now i any_keyword) → ⊥) }
+// The first of the keywords that stands so at the front of the text, and the text behind it.
+fn find_keyword<'a>(keywords: &[Keyword], text: &'a [u8]) -> Option<(Keyword, &'a [u8])>
+    ensures found { IfSome result (λ cut. CutsAt is_ascii_digit text.now (keyword_text cut.0) cut.1.now) }
+    ensures none { IfNone result ((i : ℕ) (rest : List ℕ) → i < length keywords.now → BeginsWith is_ascii_digit rest → text.now ≡ keyword_text (slice_index_or keywords.now i any_keyword) ++ rest → ⊥) }
 {
     for keyword in keywords {
-        if keyword.text() == text {
-            return Some(*keyword);
+        if let Some(rest) = keyword.behind(text) {
+            return Some((*keyword, rest));
         }
     }
     None
