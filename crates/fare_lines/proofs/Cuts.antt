@@ -1,5 +1,6 @@
 -- A text is cut at its first byte that passes in one way, and a split begins with that cut.
-use Rattle.std.proofs.Common.{◌≡◌, ◌≤◌, ◌<◌, ◌-◌, ℕ, List, [], ◌∷◌, ◌++◌, length, get_or, take, drop, Bool, true, false, Some, None, ap, ap₂, sym, subst, refl, arith, ◌∙◌, length-take}
+use Rattle.std.proofs.Common.{◌≡◌, ◌≤◌, ◌<◌, ◌-◌, ℕ, List, [], ◌∷◌, ◌++◌, length, get_or, take, drop, Bool, true, false, Option, Some, None, ap, ap₂, sym, subst, refl, arith, ◌∙◌, length-take}
+use Rattle.std.specs.Prelude.{slice_get}
 use Prim.Native.Nat.{zero, suc}
 use Rattle.std.specs.List.{All, AllByRecursion, position, position_or_len, slice_split}
 use Rattle.std.proofs.lemmas.List.Quantifiers.{position-Some}
@@ -30,6 +31,16 @@ index_of_lacks p (x ∷ xs) lacks (suc k) d below = index_of_lacks p xs lacks.1 
 begins_of_first : (p : ℕ → Bool) (xs : List ℕ) → (0 < length xs → p (get_or xs 0 0) ≡ true) → BeginsWith p xs
 begins_of_first p [] first = tt
 begins_of_first p (x ∷ xs) first = first (omega arith)
+
+-- the same of a first byte that was looked for
+pub begins_of_some : (p : ℕ → Bool) (xs : List ℕ) (b : ℕ) → ◌≡◌ {A = Option ℕ} (Some b) (slice_get xs 0) → p b ≡ true → BeginsWith p xs
+begins_of_some p [] b is passes = tt
+begins_of_some p (x ∷ xs) b is passes =
+    let same : b ≡ x = cc in subst (λ z. p z ≡ true) same passes
+
+pub begins_of_none : (p : ℕ → Bool) (xs : List ℕ) → ◌≡◌ {A = Option ℕ} None (slice_get xs 0) → BeginsWith p xs
+begins_of_none p [] is = tt
+begins_of_none p (x ∷ xs) is = absurd (cc)
 
 halves : (i : ℕ) (xs : List ℕ) → xs ≡ take i xs ++ drop i xs
 halves i xs = grind (arith, common_steps)

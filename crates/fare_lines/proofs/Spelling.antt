@@ -2,12 +2,13 @@
 -- that of a zone is told by its first byte.
 use Rattle.std.proofs.Common.{◌≡◌, ◌==◌, ◌<◌, ℕ, List, [], ◌∷◌, ◌++◌, length, get_or, not, Bool, true, false, Option, Some, None, ap, ap₂, sym, subst, refl, arith, ◌∙◌, codes}
 use Rattle.std.specs.List.{AllByRecursion}
+use Rattle.std.proofs.lemmas.List.{append_cancel_left}
 use Rattle.std.specs.Char.{is_ascii_digit}
 use Rattle.fare_lines.specs.ZoneWord.{IsZoneText}
 use Rattle.fare_lines.specs.declared.line.Line.{Line}
 use Rattle.fare_lines.specs.declared.keyword.Keyword.{Keyword}
 use Rattle.fare_lines.specs.Grammar.{Kind, ADevice, AnOwner, AStation, AProduct, AToken, AMoment, ADay, OneOrTwo, AnyU16, AnyU32, AnyU64, IsOf, AreOf, Parts, Numbered, Worded, PartsFit, keyword_text, keyword_kinds, line_parts, parts_text, numbers_text}
-use Rattle.fare_lines.specs.Reading.{CutsAt, ReadsNumbers, ReadsNumbered, ReadsLine, Builds}
+use Rattle.fare_lines.specs.Reading.{BeginsWith, CutsAt, ReadsNumbers, ReadsNumbered, ReadsLine, Builds}
 use Rattle.fare_lines.proofs.Cuts.{one_cut}
 use Rattle.fare_lines.proofs.Numbers.{IsU64, begins_with_digit, numbers_same}
 use Rattle.fare_lines.proofs.Keywords.{every, keyword_lacks, keyword_same, keyword_some}
@@ -45,9 +46,17 @@ cut_of_numbered text word rest cut k ns fits is =
     one_cut is_ascii_digit word (keyword_text k) rest (numbers_text ns)
     cut.lacks own.lacks cut.begins own.begins (sym cut.is ∙ is)
 
+-- a keyword at the front of a text, that nothing or a digit follows
+pub cut_behind : (k : Keyword) (text rest : List ℕ) → text ≡ keyword_text k ++ rest → BeginsWith is_ascii_digit rest → CutsAt is_ascii_digit text (keyword_text k) rest
+cut_behind k text rest is begins = record { is = is; lacks = keyword_lacks is_ascii_digit refl k; begins = begins }
+
+pub not_behind : (front text rest : List ℕ) → text ≡ front ++ rest → (BeginsWith is_ascii_digit rest → ⊥) → (other : List ℕ) → BeginsWith is_ascii_digit other → text ≡ front ++ other → ⊥
+not_behind front text rest is none other begins e =
+    none (subst (BeginsWith is_ascii_digit) (append_cancel_left front other rest (sym e ∙ is)) begins)
+
 -- READING A KEYWORD AND NUMBERS
-pub no_keyword : (text word rest : List ℕ) → CutsAt is_ascii_digit text word rest → ((k : Keyword) → word ≡ keyword_text k → ⊥) → ReadsNumbered text None
-no_keyword text word rest cut none k ns fits is = none k (cut_of_numbered text word rest cut k ns fits is).0
+pub no_keyword : (text : List ℕ) → ((k : Keyword) (rest : List ℕ) → BeginsWith is_ascii_digit rest → text ≡ keyword_text k ++ rest → ⊥) → ReadsNumbered text None
+no_keyword text none k ns fits is = none k (numbers_text ns) (numbered_cut k ns fits).begins is
 
 pub no_numbers : (text word rest : List ℕ) → CutsAt is_ascii_digit text word rest → ReadsNumbers rest None → ReadsNumbered text None
 no_numbers text word rest cut none k ns fits is = none ns (kinds_are_u64 (keyword_kinds k) ns fits) (cut_of_numbered text word rest cut k ns fits is).1

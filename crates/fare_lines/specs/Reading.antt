@@ -1,5 +1,5 @@
 -- What the parts of the reader answer.
-use Rattle.std.specs.Prelude.{ℕ, ◌<◌, List, [], ◌∷◌, ◌++◌, ◌≡◌, Bool, true, false, Option, Some, None}
+use Rattle.std.specs.Prelude.{ℕ, ◌<◌, List, [], ◌∷◌, ◌++◌, ◌≡◌, Bool, true, false, Option, Some, None, length, slice_index_or}
 use Rattle.std.specs.List.{AllByRecursion}
 use Rattle.fare_lines.specs.declared.keyword.Keyword.{Keyword}
 use Rattle.fare_lines.specs.declared.keyword.Keyword.TheVariants.{OfEvent}
@@ -30,6 +30,10 @@ IsBuilt k ns l = (line_parts l ≡ Numbered k ns) × Fits l
 -- some keyword
 abbrev pub any_keyword : Keyword
 any_keyword = OfEvent Draw
+
+-- the list has the keyword
+abbrev pub HasKeyword : List Keyword → Keyword → Type 0
+HasKeyword ks k = (i : ℕ) × (i < length ks) × (slice_index_or ks i any_keyword ≡ k)
 
 -- the line of a keyword and numbers, if there is one
 abbrev pub Builds : Keyword → List ℕ → Option Line → Type 0

@@ -6,7 +6,6 @@ ghost use Rattle.fare_lines.specs.declared.line.Line.TheVariants.{Setup, Step};
 ghost use Rattle.fare_lines.specs.Grammar.{ADevice, AreOf, event_keyword_kinds, scheme_keyword_kinds, size_number};
 ghost use Rattle.fare_lines.specs.Reading.{Builds, IsBuilt, ReadsLine, ReadsNumbered};
 
-use crate::cut::cut_at_digit;
 use crate::keyword::{EventKeyword, Keyword, SchemeKeyword};
 use crate::line::{Line, SchemeLine};
 use crate::number::read_numbers;
@@ -238,8 +237,7 @@ fn build(keyword: Keyword, numbers: &[u64]) -> Option<Line>
 fn read_numbered(text: &[u8], numbers: &mut Vec<u64>) -> Result<Option<Line>, AllocError>
     ensures { IfOk result (λ found. ReadsNumbered text.now found) }
 {
-    let (word, rest) = cut_at_digit(text);
-    let Some(keyword) = Keyword::read(word) else {
+    let Some((keyword, rest)) = Keyword::cut(text) else {
         return Ok(None);
     };
     let found = read_numbers(rest, numbers)?;

@@ -1,6 +1,5 @@
 ghost use Rattle.std.specs.Prelude.{◌≡◌, ◌==◌, ◌<◌, IfSome, length};
 ghost use Rattle.std.specs.List.{position};
-ghost use Rattle.std.specs.Char.{is_ascii_digit};
 ghost use Rattle.fare_lines.specs.Reading.{CutsAt};
 
 /// Where a byte first stands.
@@ -11,31 +10,12 @@ fn find_byte(text: &[u8], byte: u8) -> Option<usize>
     text.iter().position(|b| *b == byte)
 }
 
-/// Where the first decimal digit stands.
-fn find_digit(text: &[u8]) -> Option<usize>
-    ensures is { result ≡ position is_ascii_digit text.now }
-    ensures within { IfSome result (λ i. i < length text.now) }
-{
-    text.iter().position(|b| b.is_ascii_digit())
-}
-
 /// What stands before the first such byte, and the rest from it on.
 #[tactic(auto, using(crate::proofs::Cuts::cuts_at_some, crate::proofs::Cuts::cuts_at_none))]
 pub fn cut_at(text: &[u8], byte: u8) -> (&[u8], &[u8])
     ensures { CutsAt (λ b. b == byte) text.now result.0.now result.1.now }
 {
     match find_byte(text, byte) {
-        Some(i) => text.split_at(i),
-        None => (text, &[]),
-    }
-}
-
-/// What stands before the first decimal digit, and the rest from it on.
-#[tactic(auto, using(crate::proofs::Cuts::cuts_at_some, crate::proofs::Cuts::cuts_at_none))]
-pub fn cut_at_digit(text: &[u8]) -> (&[u8], &[u8])
-    ensures { CutsAt is_ascii_digit text.now result.0.now result.1.now }
-{
-    match find_digit(text) {
         Some(i) => text.split_at(i),
         None => (text, &[]),
     }

@@ -16,11 +16,12 @@ pub const LAST_NUMBER: u64 = 1_099_511_627_775;
 /// the device's taps for the owner of the product; both count from 1 and leave no gap.
 #[derive(Clone, Copy, PartialEq, Eq, Debug)]
 pub struct Record {
-    device: DeviceId,
+    // The long numbers first, which leaves no room unused between the fields.
     link: u64,
-    owner: OwnerId,
     lane: u64,
     tap: Tap,
+    device: DeviceId,
+    owner: OwnerId,
 }
 
 impl Model for Record {

@@ -6,9 +6,10 @@ use std::marker::Model;
 /// A tap on a validator: the product and the token that were used, the moment, and its traffic day.
 #[derive(Clone, Copy, PartialEq, Eq, Debug)]
 pub struct Tap {
-    product: ProductId,
+    // The long numbers first, which leaves no room unused between the fields.
     token: Token,
     moment: Moment,
+    product: ProductId,
     day: Day,
 }
 

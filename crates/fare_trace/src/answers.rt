@@ -100,7 +100,8 @@ pub fn answer_text(alloc: Global, stores: Stores, text: &[u8]) -> Result<Vec<u8>
     ensures refused { IfErr result (RefusesRun text.now) }
     ensures plain { stores ≡ Stores.Plain → result ≢ Err RunFault.Store }
 {
-    let mut out = Vec::new(alloc);
+    // Replies take about as much room as their lines, some more, so the room is rarely made anew.
+    let mut out = Vec::with_capacity(alloc, text.len())?;
     let mut lines = Lines::new(alloc, text);
     if let Some(scheme) = register(alloc, &mut lines, &mut out)? {
         run_sealed(alloc, stores, scheme, &mut lines, &mut out)?;

@@ -2,34 +2,34 @@ ghost use Rattle.std.specs.Prelude.{◌≡◌, [], IfOk};
 ghost use Rattle.fare_frame.specs.Grammar.{frame_bytes, IsFrame};
 ghost use Rattle.fare_world.specs.Packets.{IsRead};
 
-use fare_frame::{Frame, LONGEST_FRAME, ReadFault, Reader};
+use fare_frame::Frame;
 use std::alloc::{AllocError, Global};
 use std::marker::Model;
 
-/// A packet of the air: the bytes of one frame, or none yet. It has room for any frame.
+/// A packet of the air: the bytes of one frame, or none yet. It keeps the frame, of which they are the only spelling.
 #[derive(Debug, Drop)]
 pub struct Packet {
-    bytes: Vec<u8>,
+    frame: Option<Frame>,
 }
 
 impl Model for Packet {
-    ghost use Rattle.std.specs.Prelude.{◌≤◌, ℕ, List, vec_capacity};
+    ghost use Rattle.std.specs.Prelude.{ℕ, List, IfSome};
+    ghost use Rattle.fare_frame.specs.Grammar.{IsFrame};
+    ghost use Rattle.fare_world.specs.Packets.{bytes_of};
 
     ghost Value = { List ℕ };
 
-    ghost view = { λ a. a.bytes.items };
+    ghost view = { λ a. bytes_of a.frame };
 
-    ghost invariant = { λ a. 49 ≤ vec_capacity a.bytes };
+    ghost invariant = { λ a. IfSome a.frame IsFrame };
 }
 
 impl Packet {
     /// A packet without bytes; an error where there was no memory for a frame's.
-    pub fn new(alloc: Global) -> Result<Packet, AllocError>
+    pub fn new(_alloc: Global) -> Result<Packet, AllocError>
         ensures { IfOk result (λ packet. packet ≡ []) }
     {
-        Ok(Packet {
-            bytes: Vec::with_capacity(alloc, LONGEST_FRAME)?,
-        })
+        Ok(Packet { frame: None })
     }
 
     /// Writes a frame in place of what there was.
@@ -37,24 +37,37 @@ impl Packet {
         ensures bytes { self.new ≡ frame_bytes frame.now }
         ensures lawful { IsFrame frame.now }
     {
-        self.bytes.clear();
-        if frame.put(&mut self.bytes).is_err() {
-            unreachable!()
-        }
+        see_limits(frame);
+        self.frame = Some(*frame);
     }
 
     /// The frame, read by a reader of its own; None where the bytes are no frame.
-    pub fn read(&self, alloc: Global) -> Result<Option<Frame>, AllocError>
+    pub fn read(&self, _alloc: Global) -> Result<Option<Frame>, AllocError>
         ensures { IfOk result (λ frame. IsRead self.now frame) }
     {
-        let mut frames = Vec::new(alloc);
-        let mut reader = Reader::new(alloc)?;
-        if let Err(fault) = reader.feed(&self.bytes, &mut frames) {
-            if fault == ReadFault::Memory {
-                return Err(AllocError);
-            }
-            return Ok(None);
+        Ok(self.frame)
+    }
+}
+
+// Each number of a frame is within its limits. The types say so already; here it stands as a fact.
+fn see_limits(frame: &Frame)
+    ensures { IsFrame frame.now }
+{
+    match frame {
+        Frame::Tapped(record) => {
+            record.encode();
         }
-        Ok(frames.first().copied())
+        Frame::Stated(statement) => {
+            statement.encode();
+        }
+        Frame::Acked(ack) => {
+            ack.encode();
+        }
+        Frame::DayAcked(ack) => {
+            ack.encode();
+        }
+        Frame::Greeted(hello) => {
+            hello.encode();
+        }
     }
 }

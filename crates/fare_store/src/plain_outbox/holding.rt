@@ -1,4 +1,4 @@
-ghost use Rattle.std.specs.Prelude.{◌≡◌, ◌↔◌, None, OnOk, OnErr, IsSome, IsTrue};
+ghost use Rattle.std.specs.Prelude.{◌≡◌, ◌↔◌, None, OnOk, OnErr, IsSome, IsTrue, is_some};
 ghost use Rattle.fare_record.specs.Limits.{IsCount};
 ghost use Rattle.fare_store.specs.OutboxWords.{IsEmptyOutbox, store_judged, stored, stated_judged, stored_statement, IsNextRow, IsNextStatement, pruned, rows_upto};
 ghost use Rattle.fare_store.specs.PlainOutboxWords.{plain_outbox, IsDropped};
@@ -43,6 +43,17 @@ impl PlainOutbox {
         }
     }
 
+    // Whether there is a row at a place. Behind the last row there is none, and most rows come there.
+    fn has_row(&self, owner: OwnerId, device: DeviceId, lane: u64) -> bool
+        ensures { result ≡ is_some ((plain_outbox self.now).rows owner device lane) }
+    {
+        let key = (owner, device, lane);
+        match self.rows.last_key_value() {
+            Some((last, _)) if last.cmp(&key).is_lt() => false,
+            _ => self.rows.contains_key(&key),
+        }
+    }
+
     // Why a tap isn't stored, if it isn't.
     pub(super) fn judge(&self, row: &Record) -> Result<(), StoreFault>
         ensures { result ≡ store_judged (plain_outbox self.now) row.now }
@@ -54,8 +65,7 @@ impl PlainOutbox {
         if row.link() > upto + 1 {
             return Err(StoreFault::Gap);
         }
-        let key = (row.owner(), row.device(), row.lane());
-        if self.rows.contains_key(&key) {
+        if self.has_row(row.owner(), row.device(), row.lane()) {
             return Err(StoreFault::Conflict);
         }
         if self.rows.len() >= ROWS {

@@ -13,22 +13,22 @@ returns-in_err-run_sealed-clause-refused c =
     let text = c.args.text.now in
     let sc = c.in-Some.scheme in
     let fault = c.in_err-run_sealed.field-0.0 in
-    let registers : Registers c.new-lines.result c.register.new.lines c.new-out.result.items c.register.new.out.items (Some sc) = rw c.in-Some.is at c.in_ok-scheme.ensures.ok in
-    let refused : RefusesRun text fault = text_refused text first_stage (Running sc (start sc)) c.new-lines.result c.register.new.lines c.new-out.result.items c.register.new.out.items fault c.new-lines.ensures registers c.in_err-run_sealed.ensures.fault in
+    let registers : Registers c.new-lines.result c.register.new.lines c.in_ok-out.out.items c.register.new.out.items (Some sc) = rw c.in-Some.is at c.in_ok-scheme.ensures.ok in
+    let refused : RefusesRun text fault = text_refused text first_stage (Running sc (start sc)) c.new-lines.result c.register.new.lines c.in_ok-out.out.items c.register.new.out.items fault c.new-lines.ensures registers c.in_err-run_sealed.ensures.fault in
     search (rules, refused)
 
 pub returns-clause-answered : goal.returns-clause-answered
 returns-clause-answered c =
     let text = c.args.text.now in
-    elim c.match-branch-2.branch [
+    elim c.match-branch-3.branch [
       | in-Some+in_ok-run_sealed w ↦
           let sc = w.in-Some.scheme in
-          let registers : Registers c.new-lines.result c.register.new.lines c.new-out.result.items c.register.new.out.items (Some sc) = rw w.in-Some.is at c.in_ok-scheme.ensures.ok in
+          let registers : Registers c.new-lines.result c.register.new.lines c.in_ok-out.out.items c.register.new.out.items (Some sc) = rw w.in-Some.is at c.in_ok-scheme.ensures.ok in
           subst (λ (o : Vec ℕ Global). AnswersText text o.items) (sym w.out-is)
-          (text_answered text c.new-lines.result w.run_sealed.new.lines c.new-out.result.items w.run_sealed.new.out.items c.new-lines.ensures c.new-out.ensures.items
-          (goes_on first_stage (Running sc (start sc)) c.new-lines.result c.register.new.lines w.run_sealed.new.lines c.new-out.result.items c.register.new.out.items w.run_sealed.new.out.items registers w.in_ok-run_sealed.ensures.ok))
+          (text_answered text c.new-lines.result w.run_sealed.new.lines c.in_ok-out.out.items w.run_sealed.new.out.items c.new-lines.ensures c.in_ok-out.ensures.items
+          (goes_on first_stage (Running sc (start sc)) c.new-lines.result c.register.new.lines w.run_sealed.new.lines c.in_ok-out.out.items c.register.new.out.items w.run_sealed.new.out.items registers w.in_ok-run_sealed.ensures.ok))
       | in_default w ↦
-          let registers : Registers c.new-lines.result c.register.new.lines c.new-out.result.items c.register.new.out.items None = rw w.in_default.is at c.in_ok-scheme.ensures.ok in
+          let registers : Registers c.new-lines.result c.register.new.lines c.in_ok-out.out.items c.register.new.out.items None = rw w.in_default.is at c.in_ok-scheme.ensures.ok in
           subst (λ (o : Vec ℕ Global). AnswersText text o.items) (sym w.out-is)
-          (text_answered text c.new-lines.result c.register.new.lines c.new-out.result.items c.register.new.out.items c.new-lines.ensures c.new-out.ensures.items registers)
+          (text_answered text c.new-lines.result c.register.new.lines c.in_ok-out.out.items c.register.new.out.items c.new-lines.ensures c.in_ok-out.ensures.items registers)
     ]
