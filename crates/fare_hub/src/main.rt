@@ -7,7 +7,6 @@
 //! job failed, and 2 with a text on standard error where the words were refused.
 #![tactic(auto)]
 
-use fare_databases::Files;
 use fare_run::{Failure, run, serve, tell};
 use std::alloc::Global;
 use std::net::{Net, TcpListener, TcpStream};
@@ -29,10 +28,9 @@ fn without_words(alloc: Global, error: &io::Error) -> Failure {
 }
 
 /// Does what the program was started for.
-fn start<R: Net<Listener = TcpListener, Stream = TcpStream> + Threads + Wait + Clock + Eprint + Sync>(
-    rt: &HostRuntime,
-    handles: &R,
-) -> Result<(), Failure> {
+fn start<
+    R: Net<Listener = TcpListener, Stream = TcpStream> + Threads + Wait + Clock + Eprint + Sync,
+>(rt: &HostRuntime, handles: &R) -> Result<(), Failure> {
     let alloc = rt.alloc();
     let args = env::args(rt).map_err(|error| without_words(alloc, &error))?;
     let args = args
@@ -46,8 +44,7 @@ fn start<R: Net<Listener = TcpListener, Stream = TcpStream> + Threads + Wait + C
     let Some(options) = run(alloc, &words, &mut input, &mut output)? else {
         return Ok(());
     };
-    let mut files = Files::new(rt);
-    match serve(rt, handles, &mut files, &options, &mut input, &mut output) {
+    match serve(rt, handles, &options, &mut input, &mut output) {
         Ok(()) => Ok(()),
         Err(failure) => Err(Failure::Serve(failure)),
     }

@@ -1,25 +1,18 @@
 use crate::frame::{GREETED, TAPPED};
-use fare_databases::{Databases, Files};
 use fare_run::{ServeFailure, ServeOptions, serve};
 use fare_serve::Limits;
-use fare_store::Fault;
 use fare_trace::ReplayFault;
 use fare_world::Refusal;
-use sqlite::{Connection, MemStore};
 use std::io::{self, ErrorKind, Write};
 use std::net::{Ipv4Addr, Net, Shutdown, TcpListener, TcpStream};
 use std::sync::Wait;
 use std::thread::Threads;
 use std::time::Clock;
 
-const OPTIONS: ServeOptions<'static> = ServeOptions {
-    port: 0,
-    path: "served.db",
-    limits: Limits {
-        turns: 2_000,
-        read_millis: 5,
-        write_millis: 1_000,
-    },
+const LIMITS: Limits = Limits {
+    turns: 2_000,
+    read_millis: 5,
+    write_millis: 1_000,
 };
 
 /// Takes what is written, and once it learns the port connects to it, sends a validator's bytes, and ends that side.
@@ -66,21 +59,20 @@ impl<'a, R: Net<Listener = TcpListener, Stream = TcpStream>> Write for Dialler<'
 
 // How serving a scheme with one tap at the door ended, and what was written behind the port.
 fn served<
-    D: Databases,
     R: Net<Listener = TcpListener, Stream = TcpStream> + Threads + Wait + Clock + Eprint + Sync,
->(
-    rt: &HostRuntime,
-    handles: &R,
-    databases: &mut D,
-    scheme: &[u8],
-) -> (Result<(), ServeFailure>, Vec<u8>) {
+>(rt: &HostRuntime, handles: &R, path: &str, scheme: &[u8]) -> (Result<(), ServeFailure>, Vec<u8>) {
     let mut input = scheme;
     let mut output = Dialler {
         rt: handles,
         said: Vec::new(rt.alloc()),
         line: None,
     };
-    let ended = serve(rt, handles, databases, &OPTIONS, &mut input, &mut output);
+    let options = ServeOptions {
+        port: 0,
+        path,
+        limits: LIMITS,
+    };
+    let ended = serve(rt, handles, &options, &mut input, &mut output);
     let Dialler { said, line, .. } = output;
     drop(line);
     (ended, said)
@@ -88,62 +80,29 @@ fn served<
 
 #[test]
 fn a_tap_that_is_sent_again_is_stored_and_taken_once(rt: HostRuntime) {
-    let mut files = Files::new(&rt);
     for counts in [
         b"stored 1\ntaken 1 1\nleft 0\n".as_slice(),
         b"stored 0\ntaken 1 0\nleft 0\n",
     ] {
-        let (ended, said) = served(&rt, &rt, &mut files, b"demo 1 4 4 4\n");
+        let (ended, said) = served(&rt, &rt, "served.db", b"demo 1 4 4 4\n");
         assert_eq!(rt; (ended, said.as_slice()), (Ok(()), counts));
     }
 }
 
-/// Databases in memory, of which one can't be opened.
-#[derive(Drop)]
-struct Scarce {
-    // How many more can be opened.
-    left: u32,
-    fault: Fault,
-}
-
-impl Databases for Scarce {
-    type Store = MemStore;
-
-    fn connect(&mut self, _path: &str) -> Result<Connection<MemStore>, Fault> {
-        if self.left == 0 {
-            return Err(self.fault);
-        }
-        self.left -= 1;
-        Ok(Connection::open_in_memory(std::alloc::Global)?)
-    }
-
-    fn close(&mut self, _database: Connection<MemStore>) {}
-}
-
 #[test]
 fn what_comes_before_serving_writes_nothing(rt: HostRuntime) {
-    let cases: [(&[u8], u32, Fault, ServeFailure); 7] = [
+    let cases: [(&[u8], ServeFailure); 5] = [
         (
             b"tap",
-            0,
-            Fault::Store,
             ServeFailure::Lines(ReplayFault::BadLine { line: 1 }),
         ),
-        (
-            b"owner 0 4\n",
-            0,
-            Fault::Store,
-            ServeFailure::Refused(Refusal::ZeroId),
-        ),
-        (b"owner 1 4\n", 0, Fault::Store, ServeFailure::NoScheme),
-        (b"", 0, Fault::Store, ServeFailure::NoScheme),
-        (b"demo 1 4 4 4\n", 0, Fault::Store, ServeFailure::Store),
-        (b"demo 1 4 4 4\n", 1, Fault::Store, ServeFailure::Store),
-        (b"demo 1 4 4 4\n", 1, Fault::Memory, ServeFailure::Memory),
+        (b"owner 0 4\n", ServeFailure::Refused(Refusal::ZeroId)),
+        (b"owner 1 4\n", ServeFailure::NoScheme),
+        (b"", ServeFailure::NoScheme),
+        (b"demo 1 4 4 4\n", ServeFailure::Store),
     ];
-    for (scheme, left, fault, failure) in cases {
-        let mut databases = Scarce { left, fault };
-        let (ended, said) = served(&rt, &rt, &mut databases, scheme);
+    for (scheme, failure) in cases {
+        let (ended, said) = served(&rt, &rt, "no-such-folder/served.db", scheme);
         assert_eq!(rt; (ended, said.len()), (Err(failure), 0));
     }
 }
