@@ -1,14 +1,19 @@
 //! The program of the fare hub. `replay` reads a trace from standard input and writes the replies to its lines
-//! to standard output. What it promises is the contract of `fare_run::run`, for the words after its name, standard
-//! input and standard output.
+//! to standard output; `serve` reads a scheme from there, collects what its stations send over sockets into stores in
+//! files, and serves the owners. What it promises are the contracts of `fare_run::run` and `fare_run::serve`, for the
+//! words after its name, standard input and standard output.
 //!
 //! Its status is 0 where the job was done or help was asked for, 1 with one line on standard error where the
 //! job failed, and 2 with a text on standard error where the words were refused.
 #![tactic(auto)]
 
-use fare_run::{Failure, run, tell};
+use fare_run::{Failure, run, serve, tell};
 use std::alloc::Global;
+use std::net::{Net, TcpListener, TcpStream};
 use std::process::ExitCode;
+use std::sync::Wait;
+use std::thread::Threads;
+use std::time::Clock;
 use std::{env, io};
 
 /// Why the system did not give the words.
@@ -23,7 +28,9 @@ fn without_words(alloc: Global, error: &io::Error) -> Failure {
 }
 
 /// Does what the program was started for.
-fn start(rt: &HostRuntime) -> Result<(), Failure> {
+fn start<
+    R: Net<Listener = TcpListener, Stream = TcpStream> + Threads + Wait + Clock + Eprint + Sync,
+>(rt: &HostRuntime, handles: &R) -> Result<(), Failure> {
     let alloc = rt.alloc();
     let args = env::args(rt).map_err(|error| without_words(alloc, &error))?;
     let args = args
@@ -33,11 +40,18 @@ fn start(rt: &HostRuntime) -> Result<(), Failure> {
     for arg in args.iter().skip(1) {
         words.push(arg.as_str()).map_err(|_| Failure::Memory)?;
     }
-    run(alloc, &words, &mut rt.reader(), &mut io::writer(rt))
+    let (mut input, mut output) = (rt.reader(), io::writer(rt));
+    let Some(options) = run(alloc, &words, &mut input, &mut output)? else {
+        return Ok(());
+    };
+    match serve(rt, handles, &options, &mut input, &mut output) {
+        Ok(()) => Ok(()),
+        Err(failure) => Err(Failure::Serve(failure)),
+    }
 }
 
 fn main(rt: HostRuntime) -> ExitCode {
-    match start(&rt) {
+    match start(&rt, &rt) {
         Ok(()) => ExitCode::SUCCESS,
         Err(failure) => {
             tell(&rt, &failure);

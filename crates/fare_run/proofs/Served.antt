@@ -89,6 +89,15 @@ fails_over known old new sc Store spelled is = (is, has_scheme known sc spelled)
 fails_over known old new sc Network spelled is = (is, has_scheme known sc spelled)
 fails_over known old new sc Write spelled is = has_scheme known sc spelled
 
+-- however it ended
+pub done_over : (r : Result (Unit {0}) ServeFailure) (known old new : Option (List ℕ)) (sc own : SchemeValue) → own ≡ sc → IfSome known (SpellsScheme sc) → OnOk r (WritesCounts own old new) → OnOk r (IfSome known (ServeEnds old new))
+done_over (Ok u) known old new sc own same spelled done = ends known sc old new spelled (subst (λ (x : SchemeValue). WritesCounts x old new) same done)
+done_over (Err failure) known old new sc own same spelled done = tt
+
+pub failed_over : (r : Result (Unit {0}) ServeFailure) (known old new : Option (List ℕ)) (sc : SchemeValue) → IfSome known (SpellsScheme sc) → IfErr r (FailsOver old new) → IfErr r (ServeFails known old new)
+failed_over (Ok u) known old new sc spelled is = tt
+failed_over (Err failure) known old new sc spelled is = fails_over known old new sc failure spelled is
+
 -- over stores
 pub over_network : (old : Option (List ℕ)) (failure : ServeFailure) → failure ≡ Network → FailsOver old old failure
 over_network old failure is = subst (FailsOver old old) (sym is) (keeps_same old)

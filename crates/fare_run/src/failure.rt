@@ -2,6 +2,7 @@ ghost use Rattle.std.specs.Prelude.{◌≡◌};
 ghost use Rattle.fare_run.specs.Failures.{status_of};
 ghost use Rattle.fare_run.specs.declared.failure.Failure.TheVariants.{Memory};
 
+use crate::serve_failure::ServeFailure;
 use fare_trace::ReplayFault;
 use std::alloc::AllocError;
 use thiserror::Error;
@@ -18,9 +19,9 @@ pub enum Failure {
     /// There was no memory for the words.
     #[error("no memory")]
     Memory,
-    /// The words ask to serve, and this build has no server.
-    #[error("this build has no server")]
-    NoServer,
+    /// Serving did not come to its end.
+    #[error("{0}")]
+    Serve(ServeFailure),
     /// The words are no job: this text, which ends its own last line, says why.
     #[error("{0}")]
     Refused(String),
@@ -41,7 +42,7 @@ impl Failure {
     {
         match self {
             Failure::Refused(_) => 2,
-            Failure::Replay(_) | Failure::Write | Failure::Memory | Failure::NoServer => 1,
+            Failure::Replay(_) | Failure::Write | Failure::Memory | Failure::Serve(_) => 1,
         }
     }
 }

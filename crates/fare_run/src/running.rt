@@ -1,10 +1,12 @@
-ghost use Rattle.std.specs.Prelude.{◌≡◌, map, OnOk, IfErr};
+ghost use Rattle.std.specs.Prelude.{◌≡◌, ◌≢◌, None, map, OnOk, IfOk, IfErr, IfSome};
 ghost use Rattle.std.specs.Io.KnownBytes.{Appends};
-ghost use Rattle.fare_run.specs.Runs.{AsksToServe, IsBefore, RunEnds, RunFails, Serves};
+ghost use Rattle.fare_run.specs.Runs.{AsksToServe, IsBefore, LeavesToServe, RunEnds, RunFails, Serves};
 
 use crate::failure::Failure;
 use crate::replaying::replay_over;
+use crate::serve_options::ServeOptions;
 use fare_command::{Job, WordsFault, read_words};
+use fare_serve::Limits;
 use std::alloc::Global;
 use std::io;
 use std::io::{Read, Write};
@@ -18,26 +20,51 @@ fn write_text<O: Write>(output: &mut O, text: &str) -> io::Result<()>
 }
 
 /// Does what the words after the program's name ask for: replays what the reader gives to the writer, or shows
-/// the help or the version on the writer. `Refused` where the words are no job, `NoServer` where they ask to
-/// serve and `Memory` where there is none for the words; nothing was read or written then. `Replay` where a replay
-/// was asked for and stopped, and `Write` where a text could not be shown.
-pub fn run<I: Read, O: Write>(
+/// the help or the version on the writer. Where they ask to serve, answers the options, and that is left to do with
+/// `serve`.
+///
+/// `Refused` where the words are no job, and `Memory` where there is none for the words; nothing was read or written
+/// then, nor where serving is left to do. `Replay` where a replay was asked for and stopped, and `Write` where a text
+/// could not be shown.
+pub fn run<'a, I: Read, O: Write>(
     alloc: Global,
-    words: &[&str],
+    words: &'a [&'a str],
     input: &mut I,
     output: &mut O,
-) -> Result<(), Failure>
-    ensures done { OnOk result (RunEnds (map (λ word. word.now) words.now) (I.remaining input.old) (O.contents output.old) (O.contents output.new)) }
+) -> Result<Option<ServeOptions<'a>>, Failure>
+    ensures done { IfOk result (λ left. left ≡ None → RunEnds (map (λ word. word.now) words.now) (I.remaining input.old) (O.contents output.old) (O.contents output.new)) }
+    ensures left { IfOk result (λ left. IfSome left (LeavesToServe (map (λ word. word.now) words.now))) }
     ensures failure { IfErr result (RunFails (map (λ word. word.now) words.now) (I.remaining input.old) (O.contents output.old) (O.contents output.new)) }
     ensures untouched { IfErr result (λ failure. IsBefore failure → (input.new ≡ input.old) × (output.new ≡ output.old)) }
+    ensures waits { IfOk result (λ left. left ≢ None → (input.new ≡ input.old) × (output.new ≡ output.old)) }
     ensures serve { AsksToServe (map (λ word. word.now) words.now) → Serves result }
 {
     match read_words(alloc, words) {
-        Ok(Job::Replay { sql }) => {
-            replay_over(alloc, sql, input, output).map_err(Failure::Replay)
-        }
-        Ok(Job::Serve { .. }) => Err(Failure::NoServer),
-        Err(WordsFault::Asked(text)) => write_text(output, &text).map_err(|_| Failure::Write),
+        Ok(Job::Replay { sql }) => match replay_over(alloc, sql, input, output) {
+            Ok(()) => Ok(None),
+            Err(fault) => Err(Failure::Replay(fault)),
+        },
+        Ok(
+            Job::Serve {
+                port,
+                turns,
+                path,
+                read_millis,
+                write_millis,
+            },
+        ) => Ok(Some(ServeOptions {
+            port,
+            path,
+            limits: Limits {
+                turns,
+                read_millis,
+                write_millis,
+            },
+        })),
+        Err(WordsFault::Asked(text)) => match write_text(output, &text) {
+            Ok(()) => Ok(None),
+            Err(_) => Err(Failure::Write),
+        },
         Err(WordsFault::Refused(text)) => Err(Failure::Refused(text)),
         Err(WordsFault::Memory) => Err(Failure::Memory),
     }

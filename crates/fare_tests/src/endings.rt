@@ -1,6 +1,8 @@
 use crate::readers::{Closed, Lossy};
-use fare_run::{Failure, run};
+use fare_run::{Failure, ServeFailure, ServeOptions, run};
+use fare_serve::Limits;
 use fare_trace::ReplayFault;
+use fare_world::Refusal;
 use std::alloc::Global;
 use std::io::Write;
 
@@ -21,16 +23,9 @@ fn told(alloc: Global, ended: &Result<(), Failure>, said: &str) -> Option<(u8, b
 #[test]
 fn words_and_traces_decide_the_ending(rt: HostRuntime) {
     // The words, the trace, the status, what standard error gets, and how the output begins.
-    let cases: [(&[&str], &[u8], u8, &str, &[u8]); 12] = [
+    let cases: [(&[&str], &[u8], u8, &str, &[u8]); 11] = [
         (&["--version"], b"", 0, "", b"fare_hub 0.1.0\n"),
         (&["replay", "--help"], b"tap 1", 0, "", b"Reads a trace"),
-        (
-            &["serve", "--port", "0", "--turns", "1", "--outbox", "x"],
-            b"",
-            1,
-            "this build has no server",
-            b"",
-        ),
         (&[], b"", 2, "error: ", b""),
         (&["play"], b"", 2, "error: ", b""),
         (&["replay", "--store", "disk"], b"", 2, "error: ", b""),
@@ -57,6 +52,7 @@ fn words_and_traces_decide_the_ending(rt: HostRuntime) {
         let mut input = trace;
         let mut output = Vec::new(rt.alloc());
         let ended = run(rt.alloc(), words, &mut input, &mut output);
+        let ended = ended.map(|left| assert!(rt; left.is_none()));
         assert_eq!(rt;
             (
                 told(rt.alloc(), &ended, said),
@@ -73,17 +69,59 @@ fn each_failure_has_its_line(rt: HostRuntime) {
         (Failure::Replay(ReplayFault::Store), "store failed"),
         (Failure::Write, "write failed"),
         (Failure::Memory, "no memory"),
-        (Failure::NoServer, "this build has no server"),
+        (
+            Failure::Serve(ServeFailure::Lines(ReplayFault::BadLine { line: 2 })),
+            "bad line 2",
+        ),
+        (
+            Failure::Serve(ServeFailure::Refused(Refusal::Taken)),
+            "scheme refused Taken",
+        ),
+        (Failure::Serve(ServeFailure::NoScheme), "no scheme"),
+        (Failure::Serve(ServeFailure::Memory), "no memory"),
+        (Failure::Serve(ServeFailure::Store), "store failed"),
+        (Failure::Serve(ServeFailure::Network), "network failed"),
+        (Failure::Serve(ServeFailure::Write), "write failed"),
     ];
     for (failure, line) in cases {
         assert_eq!(rt; told(rt.alloc(), &Err(failure), line), Some((1, true)));
     }
 }
 
+#[test]
+fn words_that_ask_to_serve_leave_it_to_do(rt: HostRuntime) {
+    let words = [
+        "serve",
+        "--port",
+        "7000",
+        "--turns",
+        "9",
+        "--outbox",
+        "x",
+        "--read-ms",
+        "20",
+    ];
+    let (mut input, mut output) = (b"draw\n".as_slice(), Vec::new(rt.alloc()));
+    let left = run(rt.alloc(), &words, &mut input, &mut output).expect(&rt, "words");
+    let options = ServeOptions {
+        port: 7_000,
+        path: "x",
+        limits: Limits {
+            turns: 9,
+            read_millis: 20,
+            write_millis: 1_000,
+        },
+    };
+    assert_eq!(rt; (left, input.len(), output.len()), (Some(options), 5, 0));
+}
+
 /// A run that shows the version, or replays a line, to this writer.
 fn written_to<W: Write>(alloc: Global, word: &str, writer: &mut W) -> Result<(), Failure> {
     let mut input: &[u8] = b"draw\n";
-    run(alloc, &[word], &mut input, writer)
+    match run(alloc, &[word], &mut input, writer) {
+        Ok(_) => Ok(()),
+        Err(failure) => Err(failure),
+    }
 }
 
 #[test]

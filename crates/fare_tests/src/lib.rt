@@ -74,6 +74,8 @@ mod stops;
 #[cfg(test)]
 mod stores;
 #[cfg(test)]
+mod stores_in_files;
+#[cfg(test)]
 mod supervisor;
 #[cfg(test)]
 mod traces;

@@ -1,0 +1,80 @@
+ghost use Rattle.std.specs.Prelude.{◌≡◌, length, IfOk};
+ghost use Rattle.fare_sessions.specs.Stores.{HasLedgers};
+
+use crate::opening::open_hub;
+use fare_files::make_file;
+use fare_ledger::SqlLedger;
+use fare_outbox::SqlOutbox;
+use fare_scheme::Scheme;
+use fare_sessions::Hub;
+use fare_store::Fault;
+use fare_tables::fault_of;
+use sqlite::Connection;
+use sqlite_std_file::File;
+use sqlite_store::FileStore;
+use std::io::ErrorKind;
+
+/// A hub with its stores in files of this machine.
+pub type FileHub = Hub<SqlOutbox<FileStore<File>>, SqlLedger<FileStore<File>>>;
+
+// A connection to the database at a path, which is made if there is none.
+fn connect(rt: &HostRuntime, path: &str) -> Result<Connection<FileStore<File>>, Fault> {
+    match make_file(rt, path) {
+        Ok(_) => {}
+        Err(error) if error.kind() == ErrorKind::OutOfMemory => return Err(Fault::Memory),
+        Err(_) => return Err(Fault::Store),
+    }
+    match Connection::open(rt, path) {
+        Ok(connection) => Ok(connection),
+        Err(error) => Err(fault_of(error)),
+    }
+}
+
+// A connection to the database of each owner of a scheme, in its order.
+fn connect_owners(
+    rt: &HostRuntime,
+    scheme: &Scheme,
+    path: &str,
+) -> Result<Vec<Connection<FileStore<File>>>, Fault>
+    ensures { IfOk result (λ databases. length databases.items ≡ length scheme.now.owners) }
+{
+    let mut databases = Vec::new(rt.alloc());
+    for place in 0..scheme.owner_count() {
+        let Some(owner) = scheme.owner_at(place) else {
+            unreachable!()
+        };
+        let number = owner.get();
+        let path = format!(in rt.alloc(); "{path}.{number}")?;
+        databases.push(connect(rt, path.as_str())?)?;
+    }
+    Ok(databases)
+}
+
+/// Opens the stores of a scheme in files: the outbox at a path, and the ledger of each owner, in the scheme's order, at
+/// that path, a dot and the owner's number. What isn't there is made.
+///
+/// `Memory` where there was none for it, and `Store` where a file can't be made or opened, among others since another
+/// program has it open, or holds something else, in the order in which they are opened; what was made before stays.
+pub fn open_files(rt: &HostRuntime, scheme: Scheme, path: &str) -> Result<FileHub, Fault>
+    ensures scheme { IfOk result (λ hub. hub.scheme ≡ scheme) }
+    ensures owners { IfOk result HasLedgers }
+{
+    let outbox = connect(rt, path)?;
+    let ledgers = connect_owners(rt, &scheme, path)?;
+    open_hub(rt.alloc(), scheme, outbox, ledgers)
+}
+
+/// Closes the stores of a hub, so that all rows of each are in the one file that its path names. Where that fails no row
+/// is lost: they are also in the log beside the file, from which the next open takes them.
+pub fn close_files(hub: FileHub) {
+    let Hub {
+        scheme,
+        outbox,
+        ledgers,
+    } = hub;
+    drop(scheme);
+    let _ = outbox.into_connection().close();
+    for ledger in ledgers {
+        let _ = ledger.into_connection().close();
+    }
+}

@@ -1,0 +1,91 @@
+ghost use Rattle.std.specs.Prelude.{◌≡◌, length, IfOk};
+ghost use Rattle.fare_ledger.specs.Words.{stands};
+ghost use Rattle.fare_store.specs.LedgerWords.{IsOfScheme};
+ghost use Rattle.fare_databases.specs.Owned.{AreOwned};
+
+use fare_ledger::{LedgerOpenFault, SqlLedger};
+use fare_outbox::SqlOutbox;
+use fare_record::OwnerId;
+use fare_scheme::Scheme;
+use fare_sessions::Hub;
+use fare_store::Fault;
+use fare_tables::OpenFault;
+use sqlite::{Alter, Connection};
+use std::alloc::Global;
+
+// The outbox in a database.
+fn outbox_in<S: Alter + Drop>(
+    alloc: Global,
+    database: Connection<S>,
+) -> Result<SqlOutbox<S>, Fault> {
+    match SqlOutbox::open(alloc, database) {
+        Ok(outbox) => Ok(outbox),
+        Err((_database, OpenFault::Memory)) => Err(Fault::Memory),
+        Err((_database, OpenFault::Foreign | OpenFault::Store)) => Err(Fault::Store),
+    }
+}
+
+// The ledger of an owner of a scheme in a database.
+fn ledger_in<S: Alter + Drop>(
+    alloc: Global,
+    scheme: &Scheme,
+    owner: OwnerId,
+    database: Connection<S>,
+) -> Result<SqlLedger<S>, Fault>
+    ensures owner { IfOk result (λ ledger. (stands S.Store ledger).value.owner ≡ owner) }
+    ensures made { IfOk result (λ ledger. IsOfScheme scheme.now (stands S.Store ledger).value) }
+{
+    match SqlLedger::open(alloc, scheme, owner, database) {
+        Ok(ledger) => Ok(ledger),
+        Err((_database, LedgerOpenFault::Memory)) => Err(Fault::Memory),
+        Err(
+            (
+                _database,
+                LedgerOpenFault::UnknownOwner | LedgerOpenFault::Foreign | LedgerOpenFault::Store,
+            ),
+        ) => Err(Fault::Store),
+    }
+}
+
+// The ledger of each owner of a scheme, in its order, in these databases.
+fn ledgers_in<S: Alter + Drop>(
+    alloc: Global,
+    scheme: &Scheme,
+    databases: Vec<Connection<S>>,
+) -> Result<Vec<SqlLedger<S>>, Fault>
+    requires owners { length databases.items ≡ length scheme.now.owners }
+    ensures { IfOk result (λ ledgers. AreOwned (λ l. stands S.Store l) scheme.now ledgers.items) }
+{
+    let mut ledgers = Vec::new(alloc);
+    for database in databases {
+        let Some(owner) = scheme.owner_at(ledgers.len()) else {
+            unreachable!()
+        };
+        ledgers.push(ledger_in(alloc, scheme, owner, database)?)?;
+    }
+    Ok(ledgers)
+}
+
+/// Opens the stores of a scheme in these databases: one for its outbox, and one for the ledger of each owner, in the
+/// scheme's order. Tables that aren't there are made.
+///
+/// `Memory` where there was none for it, and `Store` where a database fails or holds something else, in that order;
+/// what was made before stays.
+pub fn open_hub<S: Alter + Drop>(
+    alloc: Global,
+    scheme: Scheme,
+    outbox: Connection<S>,
+    ledgers: Vec<Connection<S>>,
+) -> Result<Hub<SqlOutbox<S>, SqlLedger<S>>, Fault>
+    requires owners { length ledgers.items ≡ length scheme.owners }
+    ensures scheme { IfOk result (λ hub. hub.scheme ≡ scheme) }
+    ensures owned { IfOk result (λ hub. AreOwned (λ l. stands S.Store l) scheme hub.ledgers.items) }
+{
+    let outbox = outbox_in(alloc, outbox)?;
+    let ledgers = ledgers_in(alloc, &scheme, ledgers)?;
+    Ok(Hub {
+        scheme,
+        outbox,
+        ledgers,
+    })
+}
