@@ -25,7 +25,7 @@ impl Model for Packet {
 }
 
 impl Packet {
-    /// A packet without bytes; an error where there was no memory for a frame's.
+    /// A packet without bytes. It takes no memory, and so is never refused any.
     pub fn new(_alloc: Global) -> Result<Packet, AllocError>
         ensures { IfOk result (λ packet. packet ≡ []) }
     {
@@ -41,7 +41,7 @@ impl Packet {
         self.frame = Some(*frame);
     }
 
-    /// The frame, read by a reader of its own; None where the bytes are no frame.
+    /// The frame of which the bytes are the spelling; None where there are none yet. It takes no memory either.
     pub fn read(&self, _alloc: Global) -> Result<Option<Frame>, AllocError>
         ensures { IfOk result (λ frame. IsRead self.now frame) }
     {
