@@ -12,17 +12,48 @@ use fare_tables::fault_of;
 use sqlite::Connection;
 use sqlite_std_file::File;
 use sqlite_store::FileStore;
+use std::fs;
 use std::io::ErrorKind;
 
 /// A hub with its stores in files of this machine.
 pub type FileHub = Hub<SqlOutbox<FileStore<File>>, SqlLedger<FileStore<File>>>;
 
-// A connection to the database at a path, which is made if there is none.
-fn connect(rt: &HostRuntime, path: &str) -> Result<Connection<FileStore<File>>, Fault> {
+/// What comes of a database that isn't there.
+#[derive(Clone, Copy, PartialEq, Eq, Debug)]
+pub enum Absent {
+    /// It is made.
+    Made,
+    /// The store failed.
+    Refused,
+}
+
+// Makes the file of a database, if there is none.
+fn make(rt: &HostRuntime, path: &str) -> Result<(), Fault> {
     match make_file(rt, path) {
-        Ok(_) => {}
-        Err(error) if error.kind() == ErrorKind::OutOfMemory => return Err(Fault::Memory),
-        Err(_) => return Err(Fault::Store),
+        Ok(_) => Ok(()),
+        Err(error) if error.kind() == ErrorKind::OutOfMemory => Err(Fault::Memory),
+        Err(_) => Err(Fault::Store),
+    }
+}
+
+// Whether the file of a database is there, which opening it would make.
+fn find(rt: &HostRuntime, path: &str) -> Result<(), Fault> {
+    if fs::exists(rt, path).unwrap_or(false) {
+        Ok(())
+    } else {
+        Err(Fault::Store)
+    }
+}
+
+// A connection to the database at a path.
+fn connect(
+    rt: &HostRuntime,
+    path: &str,
+    absent: Absent,
+) -> Result<Connection<FileStore<File>>, Fault> {
+    match absent {
+        Absent::Made => make(rt, path)?,
+        Absent::Refused => find(rt, path)?,
     }
     match Connection::open(rt, path) {
         Ok(connection) => Ok(connection),
@@ -35,6 +66,7 @@ fn connect_owners(
     rt: &HostRuntime,
     scheme: &Scheme,
     path: &str,
+    absent: Absent,
 ) -> Result<Vec<Connection<FileStore<File>>>, Fault>
     ensures { IfOk result (λ databases. length databases.items ≡ length scheme.now.owners) }
 {
@@ -45,22 +77,27 @@ fn connect_owners(
         };
         let number = owner.get();
         let path = format!(in rt.alloc(); "{path}.{number}")?;
-        databases.push(connect(rt, path.as_str())?)?;
+        databases.push(connect(rt, path.as_str(), absent)?)?;
     }
     Ok(databases)
 }
 
 /// Opens the stores of a scheme in files: the outbox at a path, and the ledger of each owner, in the scheme's order, at
-/// that path, a dot and the owner's number. What isn't there is made.
+/// that path, a dot and the owner's number. What isn't there is made, or refused.
 ///
 /// `Memory` where there was none for it, and `Store` where a file can't be made or opened, among others since another
 /// program has it open, or holds something else, in the order in which they are opened; what was made before stays.
-pub fn open_files(rt: &HostRuntime, scheme: Scheme, path: &str) -> Result<FileHub, Fault>
+pub fn open_files(
+    rt: &HostRuntime,
+    scheme: Scheme,
+    path: &str,
+    absent: Absent,
+) -> Result<FileHub, Fault>
     ensures scheme { IfOk result (λ hub. hub.scheme ≡ scheme) }
     ensures owners { IfOk result HasLedgers }
 {
-    let outbox = connect(rt, path)?;
-    let ledgers = connect_owners(rt, &scheme, path)?;
+    let outbox = connect(rt, path, absent)?;
+    let ledgers = connect_owners(rt, &scheme, path, absent)?;
     open_hub(rt.alloc(), scheme, outbox, ledgers)
 }
 

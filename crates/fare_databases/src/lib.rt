@@ -1,11 +1,12 @@
 //! Where the stores of a hub lie: its outbox in a database at a path, and the ledger of each owner in one at that
 //! path, a dot and the owner's number. It promises that a hub is made only with one ledger for each owner of its
-//! scheme, in the scheme's order, each of which is that owner's and made with that scheme; what its tables hold is as
-//! the two `open`s say. A file that isn't there is made; one that holds something else is left alone.
+//! scheme, in the scheme's order, each of which is that owner's and made with that scheme; and that each store holds
+//! what its database held: nothing where it had none of the store's tables, and what a lawful one held. A file that
+//! isn't there is made, or refused; one that holds something else is left alone.
 #![tactic(auto)]
 
 mod files;
 mod opening;
 
-pub use files::{FileHub, close_files, open_files};
+pub use files::{Absent, FileHub, close_files, open_files};
 pub use opening::open_hub;

@@ -1,7 +1,8 @@
 ghost use Rattle.std.specs.Prelude.{◌≡◌, length, IfOk};
+ghost use Rattle.sqlite.specs.Held.{state};
+ghost use Rattle.fare_outbox.specs.Words as outbox_words;
 ghost use Rattle.fare_ledger.specs.Words.{stands};
-ghost use Rattle.fare_store.specs.LedgerWords.{IsOfScheme};
-ghost use Rattle.fare_databases.specs.Owned.{AreOwned};
+ghost use Rattle.fare_databases.specs.Opened.{AreOpened, IsOpenedLedger, IsOpenedOutbox};
 
 use fare_ledger::{LedgerOpenFault, SqlLedger};
 use fare_outbox::SqlOutbox;
@@ -14,10 +15,9 @@ use sqlite::{Alter, Connection};
 use std::alloc::Global;
 
 // The outbox in a database.
-fn outbox_in<S: Alter + Drop>(
-    alloc: Global,
-    database: Connection<S>,
-) -> Result<SqlOutbox<S>, Fault> {
+fn outbox_in<S: Alter + Drop>(alloc: Global, database: Connection<S>) -> Result<SqlOutbox<S>, Fault>
+    ensures { IfOk result (λ opened. IsOpenedOutbox (state S.Store database) (outbox_words.stands S.Store opened)) }
+{
     match SqlOutbox::open(alloc, database) {
         Ok(outbox) => Ok(outbox),
         Err((_database, OpenFault::Memory)) => Err(Fault::Memory),
@@ -32,8 +32,7 @@ fn ledger_in<S: Alter + Drop>(
     owner: OwnerId,
     database: Connection<S>,
 ) -> Result<SqlLedger<S>, Fault>
-    ensures owner { IfOk result (λ ledger. (stands S.Store ledger).value.owner ≡ owner) }
-    ensures made { IfOk result (λ ledger. IsOfScheme scheme.now (stands S.Store ledger).value) }
+    ensures { IfOk result (λ opened. IsOpenedLedger scheme.now owner (state S.Store database) (stands S.Store opened)) }
 {
     match SqlLedger::open(alloc, scheme, owner, database) {
         Ok(ledger) => Ok(ledger),
@@ -54,7 +53,7 @@ fn ledgers_in<S: Alter + Drop>(
     databases: Vec<Connection<S>>,
 ) -> Result<Vec<SqlLedger<S>>, Fault>
     requires owners { length databases.items ≡ length scheme.now.owners }
-    ensures { IfOk result (λ ledgers. AreOwned (λ l. stands S.Store l) scheme.now ledgers.items) }
+    ensures { IfOk result (λ ledgers. AreOpened (λ d. state S.Store d) (λ l. stands S.Store l) scheme.now databases.items ledgers.items) }
 {
     let mut ledgers = Vec::new(alloc);
     for database in databases {
@@ -79,7 +78,8 @@ pub fn open_hub<S: Alter + Drop>(
 ) -> Result<Hub<SqlOutbox<S>, SqlLedger<S>>, Fault>
     requires owners { length ledgers.items ≡ length scheme.owners }
     ensures scheme { IfOk result (λ hub. hub.scheme ≡ scheme) }
-    ensures owned { IfOk result (λ hub. AreOwned (λ l. stands S.Store l) scheme hub.ledgers.items) }
+    ensures outbox { IfOk result (λ hub. IsOpenedOutbox (state S.Store outbox) (outbox_words.stands S.Store hub.outbox)) }
+    ensures ledgers { IfOk result (λ hub. AreOpened (λ d. state S.Store d) (λ l. stands S.Store l) scheme ledgers.items hub.ledgers.items) }
 {
     let outbox = outbox_in(alloc, outbox)?;
     let ledgers = ledgers_in(alloc, &scheme, ledgers)?;

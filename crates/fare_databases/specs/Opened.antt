@@ -1,0 +1,39 @@
+-- What an opened store holds of its database, and the stores of a hub of theirs.
+use Rattle.std.specs.Prelude.{◌≡◌, ◌⊎◌, ℕ, List, Some, length, slice_get}
+use Rattle.sqlite.specs.State.{State}
+use Rattle.fare_scheme.specs.Values.{SchemeValue}
+use Rattle.fare_scheme.specs.Words.{id_at}
+use Rattle.fare_tables.specs.Tabled.{IsFit}
+use Rattle.fare_store.specs.Standing.{Standing}
+use Rattle.fare_store.specs.OutboxWords.{OutboxValue, IsEmptyOutbox}
+use Rattle.fare_store.specs.LedgerWords.{LedgerValue, IsEmptyLedger, IsOfScheme}
+use Rattle.fare_outbox.specs.declared.layout.Layout as outbox_layout
+use Rattle.fare_outbox.specs.Layouts as outbox_layouts
+use Rattle.fare_outbox.specs.Opening as outbox_opening
+use Rattle.fare_outbox.specs.Words as outbox_words
+use Rattle.fare_ledger.specs.declared.layout.Layout as ledger_layout
+use Rattle.fare_ledger.specs.Layouts as ledger_layouts
+use Rattle.fare_ledger.specs.Opening as ledger_opening
+use Rattle.fare_ledger.specs.Words as ledger_words
+
+-- Of a database that had no name of the outbox's tables, the empty outbox; of one that had a lawful outbox, that one.
+-- There is no third.
+pub record IsOpenedOutbox (was : State) (x : Standing OutboxValue) : Type 0 where
+  pub made : x.live → outbox_opening.IsVacant was → x.lawful × IsEmptyOutbox x.value
+  pub kept : x.live → (w : outbox_layout.Layout) → IsFit (outbox_layouts.schema_in w) (outbox_words.IsLawful w) was → x.lawful × (x.value ≡ outbox_words.value_at w was.now.trees)
+  pub ours : x.live → outbox_opening.IsVacant was ⊎ outbox_opening.IsOutbox was
+  pub failures : x.failures ≡ 0
+
+-- The same of an owner's ledger, which is that owner's, and made with this scheme.
+pub record IsOpenedLedger (sc : SchemeValue) (owner : ℕ) (was : State) (x : Standing LedgerValue) : Type 0 where
+  pub own : x.value.owner ≡ owner
+  pub scheme : IsOfScheme sc x.value
+  pub made : x.live → ledger_opening.IsVacant was → x.lawful × IsEmptyLedger x.value
+  pub kept : x.live → (w : ledger_layout.Layout) → IsFit (ledger_layouts.schema_in w) (ledger_words.IsLawful w owner sc.start) was → x.lawful × (x.value ≡ ledger_words.value_at w owner sc.start x.value.knows was.now.trees)
+  pub ours : x.live → ledger_opening.IsVacant was ⊎ ledger_opening.IsLedger owner was
+  pub failures : x.failures ≡ 0
+
+-- The ledgers of a scheme's owners, in its order, each opened in the database at its place.
+pub record AreOpened {D L : Type 0} (was : D → State) (ledger : L → Standing LedgerValue) (sc : SchemeValue) (databases : List D) (ledgers : List L) : Type 0 where
+  pub count : length ledgers ≡ length sc.owners
+  pub each : (place : ℕ) (x : L) (owner : ℕ) (d : D) → slice_get ledgers place ≡ Some x → id_at sc.owners place ≡ Some owner → slice_get databases place ≡ Some d → IsOpenedLedger sc owner (was d) (ledger x)
