@@ -1,22 +1,32 @@
--- One owner's session more, and what is counted of it.
-use Rattle.std.proofs.Common.{◌≡◌, ◌≢◌, ◌⊎◌, ℕ, zero, suc, ◌+◌, ◌<◌, ◌≤◌, min, List, [], ◌∷◌, ◌++◌, length, map, set, take, slice_index_or, slice_get, Option, Some, None, option_map, refl, sym, ap, ◌∙◌, subst, inl, inr, arith}
+-- Sessions and rounds, one more, and what is counted of them.
+use Rattle.std.proofs.Common.{◌≡◌, ◌≢◌, ◌⊎◌, ℕ, zero, suc, ◌+◌, ◌<◌, ◌≤◌, List, [], ◌∷◌, ◌++◌, length, map, take, slice_index_or, slice_get, Option, Some, None, option_map, refl, sym, ap, ◌∙◌, subst, inl, inr, arith}
+use Rattle.std.specs.Prelude.{unwrap_or, Vec, Result, Ok, Err, IfOk}
+use Rattle.std.specs.Global.{Global}
 use Rattle.std.specs.List.{sum_by}
-use Rattle.std.proofs.Math.Nat.{min-eq_left, min-le_right}
-use Rattle.std.proofs.Math.Seq.{get_or-append_seam}
-use Rattle.std.proofs.lemmas.List.{get_or_append_left, get_or_default, get_or-set_same, get_or-set_other, length-append, length-set, map-append}
-use Rattle.std.proofs.lemmas.List.Sums.{sum_by-append}
+use Rattle.std.specs.Map.{keys_of}
+use Rattle.std.proofs.Math.Nat.{min-eq_left}
+use Rattle.std.proofs.lemmas.List.{length-append, length-map, map-append, take_all}
+use Rattle.std.proofs.lemmas.List.Sums.{sum_by-append, sum_by-cons}
 use Rattle.std.proofs.lemmas.Option.{slice_get-map}
 use Rattle.fare_scheme.specs.Values.{SchemeValue}
-use Rattle.std.specs.Map.{keys_of}
 use Rattle.fare_scheme.specs.Words.{id_at}
 use Rattle.fare_store.specs.Standing.{Standing}
 use Rattle.fare_store.specs.OutboxWords.{OutboxValue}
 use Rattle.fare_store.specs.LedgerWords.{LedgerValue}
-use Rattle.fare_session.specs.Served.{IsServed}
-use Rattle.fare_session.specs.declared.report.OwnerReport.{OwnerReport}
-use Rattle.fare_serve.specs.Counting.{count_in, owner_in}
-use Rattle.fare_serve.specs.Sessions.{AreServed, HaveCounted, ending_in, kept_count, left_in, taken_in}
+use Rattle.fare_source.specs.Talking.{Talk}
+use Rattle.fare_collect.specs.Resuming.{AreStations}
+use Rattle.fare_collect.specs.declared.station.Station.{Station}
+use Rattle.fare_sessions.specs.declared.hub.Hub.{Hub}
+use Rattle.fare_sessions.specs.declared.report.SessionsReport.{SessionsReport}
+use Rattle.fare_sessions.specs.declared.session.Session.{Session}
+use Rattle.fare_sessions.specs.declared.session.Session.TheVariants.{Serve}
+use Rattle.fare_serve.specs.Calls.{Call, HasCollected, HasHeld, HasServed}
+use Rattle.fare_serve.specs.declared.fault.ServeFault.{ServeFault}
+use Rattle.fare_serve.specs.Counting.{AddsOwner, AddsStations, AreNoCounts, IsCountsOf, kept_count, owner_in}
+use Rattle.fare_serve.specs.Rounds.{AddsRound, AreCountsOf, HasServedRound, HaveServedOwners, Round, left_in, left_over, olds_of, serving_of, stored_in, taken_at, taken_in}
+use Rattle.fare_serve.specs.declared.counts.Counts.{Counts}
 use Rattle.fare_serve.specs.declared.counts.Taken.{Taken}
+use Rattle.fare_serve.proofs.Chained.{held_none, held_then}
 
 -- two numbers are the same, or they differ
 same_or_apart : (k place : ℕ) → (k ≡ place) ⊎ (k ≢ place)
@@ -28,82 +38,14 @@ same_or_apart (suc k) (suc place) = elim (same_or_apart k place) [
   | inr differ ↦ inr (λ e. differ (omega (arith, e)))
 ]
 
--- no session yet
-pub served_none : {O L : Type 0} (sc : SchemeValue) (outbox : O → Standing OutboxValue) (ledger : L → Standing LedgerValue) (xo : O) (ledgers : List L) → AreServed sc outbox ledger xo xo ledgers ledgers []
-served_none sc outbox ledger xo ledgers = record {
-  outboxes = xo ∷ [];
-  states = refl;
-  first = λ x. refl;
-  last = λ x. refl;
-  len = refl;
-  each = λ k d x r owner lt at. absurd (omega (arith, lt));
-  rest = λ k d le. refl;
-}
-
-pub counted_none : {O L : Type 0} (sc : SchemeValue) (outbox : O → Standing OutboxValue) (ledger : L → Standing LedgerValue) (xo : O) (ledgers : List L) (left : ℕ) → left ≤ 18446744073709551615 → HaveCounted sc outbox ledger xo xo ledgers ledgers left left [] 0
-counted_none sc outbox ledger xo ledgers left few = record {
-  reports = [];
-  many = refl;
-  served = served_none sc outbox ledger xo ledgers;
-  unended = λ k r lt. absurd (omega (arith, lt));
-  owners = refl;
-  taken_is = refl;
-  left = sym (min-eq_left (omega (arith, few))) ∙ ap kept_count (omega arith);
-}
-
--- the same session, of the same things
-served_as : {O L : Type 0} (sc : SchemeValue) (outbox : O → Standing OutboxValue) (ledger : L → Standing LedgerValue) (o o' : ℕ) (a a' b b' : O) (x x' y y' : L) (r r' : OwnerReport)
-    → o ≡ o' → a ≡ a' → b ≡ b' → x ≡ x' → y ≡ y' → r ≡ r' → IsServed sc o (outbox a) (outbox b) (ledger x) (ledger y) r → IsServed sc o' (outbox a') (outbox b') (ledger x') (ledger y') r'
-served_as {O = O} {L = L} sc outbox ledger o o' a a' b b' x x' y y' r r' so sa sb sx sy sr one =
-    subst (λ (w : ℕ). IsServed sc w (outbox a') (outbox b') (ledger x') (ledger y') r') so
-    (subst (λ (w : O). IsServed sc o (outbox w) (outbox b') (ledger x') (ledger y') r') sa
-    (subst (λ (w : O). IsServed sc o (outbox a) (outbox w) (ledger x') (ledger y') r') sb
-    (subst (λ (w : L). IsServed sc o (outbox a) (outbox b) (ledger w) (ledger y') r') sx
-    (subst (λ (w : L). IsServed sc o (outbox a) (outbox b) (ledger x) (ledger w) r') sy
-    (subst (λ (w : OwnerReport). IsServed sc o (outbox a) (outbox b) (ledger x) (ledger y) w) sr one)))))
-
--- one more
-pub served_more : {O L : Type 0} (sc : SchemeValue) (outbox : O → Standing OutboxValue) (ledger : L → Standing LedgerValue) (xo xm xn : O) (before now : List L) (reports : List OwnerReport) (owner : ℕ) (report : OwnerReport) (x y : L)
-    → AreServed sc outbox ledger xo xm before now reports → length reports < length now → x ≡ slice_index_or now (length reports) x → id_at sc.owners (length reports) ≡ Some owner → IsServed sc owner (outbox xm) (outbox xn) (ledger x) (ledger y) report
-    → AreServed sc outbox ledger xo xn before (set now (length reports) y) (reports ++ report ∷ [])
-served_more {O = O} {L = L} sc outbox ledger xo xm xn before now reports owner report x y was lt here at one =
-    let place = length reports in
-    let n : length (reports ++ report ∷ []) ≡ place + 1 = length-append reports (report ∷ []) in
-    let m = was.states in
-    record {
-      outboxes = was.outboxes ++ xn ∷ [];
-      states = length-append was.outboxes (xn ∷ []) ∙ omega (arith, m, n);
-      first = λ z. get_or_append_left was.outboxes (xn ∷ []) z 0 (omega (arith, m)) ∙ was.first z;
-      last = λ z. ap (λ j. slice_index_or (was.outboxes ++ xn ∷ []) j z) (n ∙ sym m) ∙ get_or-append_seam was.outboxes xn [] z;
-      len = length-set now place y ∙ was.len;
-      each = λ k d z r o below known. elim (same_or_apart k place) [
-        | inl e ↦
-            let named : ◌≡◌ {A = Option ℕ} (Some owner) (Some o) = sym at ∙ (ap (id_at sc.owners) (sym e) ∙ known) in
-            let same : owner ≡ o = cc in
-            let first : slice_index_or (was.outboxes ++ xn ∷ []) k z ≡ xm = get_or_append_left was.outboxes (xn ∷ []) z k (omega (arith, m, e)) ∙ (ap (λ j. slice_index_or was.outboxes j z) e ∙ was.last z) in
-            let next : slice_index_or (was.outboxes ++ xn ∷ []) (k + 1) z ≡ xn = ap (λ j. slice_index_or (was.outboxes ++ xn ∷ []) j z) (ap (λ j. j + 1) e ∙ sym m) ∙ get_or-append_seam was.outboxes xn [] z in
-            let old : x ≡ slice_index_or before k d = here ∙ (get_or_default now place x d lt ∙ (was.rest place d (omega arith) ∙ ap (λ j. slice_index_or before j d) (sym e))) in
-            let new : slice_index_or (set now place y) k d ≡ y = ap (λ j. slice_index_or (set now place y) j d) e ∙ get_or-set_same now place y d lt in
-            let told : slice_index_or (reports ++ report ∷ []) k r ≡ report = ap (λ j. slice_index_or (reports ++ report ∷ []) j r) e ∙ get_or-append_seam reports report [] r in
-            served_as sc outbox ledger owner o xm (slice_index_or (was.outboxes ++ xn ∷ []) k z) xn (slice_index_or (was.outboxes ++ xn ∷ []) (k + 1) z) x (slice_index_or before k d) y (slice_index_or (set now place y) k d) report (slice_index_or (reports ++ report ∷ []) k r)
-            same (sym first) (sym next) old (sym new) (sym told) one
-        | inr differ ↦
-            let less : k < place = omega (arith, below, n, differ) in
-            let first = get_or_append_left was.outboxes (xn ∷ []) z k (omega (arith, m, less)) in
-            let next = get_or_append_left was.outboxes (xn ∷ []) z (k + 1) (omega (arith, m, less)) in
-            let new = get_or-set_other now place k y d differ in
-            let told = get_or_append_left reports (report ∷ []) r k less in
-            served_as sc outbox ledger o o (slice_index_or was.outboxes k z) (slice_index_or (was.outboxes ++ xn ∷ []) k z) (slice_index_or was.outboxes (k + 1) z) (slice_index_or (was.outboxes ++ xn ∷ []) (k + 1) z) (slice_index_or before k d) (slice_index_or before k d) (slice_index_or now k d) (slice_index_or (set now place y) k d) (slice_index_or reports k r) (slice_index_or (reports ++ report ∷ []) k r)
-            refl (sym first) (sym next) refl (sym new) (sym told) (was.each k d z r o less known)
-      ];
-      rest = λ k d le. get_or-set_other now place k y d (λ e. omega (arith, e, le, n)) ∙ was.rest k d (omega (arith, le, n));
-    }
-
 -- the first so many of a list, one more
-take_next : (ks : List ℕ) (place x : ℕ) → slice_get ks place ≡ Some x → take (suc place) ks ≡ take place ks ++ x ∷ []
-take_next [] place x at = grind (arith, at)
-take_next (k ∷ ks) zero x at = let same : k ≡ x = cc in ap (λ (y : ℕ). y ∷ []) same
-take_next (k ∷ ks) (suc place) x at = ap (λ (l : List ℕ). k ∷ l) (take_next ks place x at)
+take_after : (ks : List ℕ) (place x : ℕ) → slice_get ks place ≡ Some x → take (suc place) ks ≡ take place ks ++ x ∷ []
+take_after [] place x at = grind (arith, at)
+take_after (k ∷ ks) zero x at = let same : k ≡ x = cc in ap (λ (y : ℕ). y ∷ []) same
+take_after (k ∷ ks) (suc place) x at = ap (λ (l : List ℕ). k ∷ l) (take_after ks place x at)
+
+pub take_next : (ks : List ℕ) (place x : ℕ) → slice_get ks place ≡ Some x → take (place + 1) ks ≡ take place ks ++ x ∷ []
+take_next ks place x at = let next : place + 1 ≡ suc place = omega arith in ap (λ n. take n ks) next ∙ take_after ks place x at
 
 -- a place within a list has an id
 pub id_within : {X : Type 0} (entries : List (ℕ × X)) (place : ℕ) → place < length entries → id_at entries place ≡ None → ⊥
@@ -111,30 +53,179 @@ id_within [] place lt none = absurd (omega (arith, lt))
 id_within (e ∷ es) zero lt none = grind (arith, none)
 id_within (e ∷ es) (suc place) lt none = id_within es place (omega (arith, lt)) none
 
+-- all ids of a list
+pub all_ids : {X : Type 0} (entries : List (ℕ × X)) → take (length entries) (keys_of entries) ≡ keys_of entries
+all_ids entries = take_all (length entries) (keys_of entries) (let n = length-map entries (λ e. e.0) in omega (arith, n))
+
 -- counts that stay at the greatest add up
-kept_then : (a b c : ℕ) → kept_count (kept_count (a + b) + c) ≡ kept_count (a + (b + c))
+pub kept_then : (a b c : ℕ) → kept_count (kept_count (a + b) + c) ≡ kept_count (a + (b + c))
 kept_then a b c = omega arith
 
-pub counted_more : {O L : Type 0} (sc : SchemeValue) (outbox : O → Standing OutboxValue) (ledger : L → Standing LedgerValue) (xo xm xn : O) (before now : List L) (left0 left1 left2 : ℕ) (taken : List Taken) (place owner : ℕ) (report : OwnerReport) (x y : L)
-    → HaveCounted sc outbox ledger xo xm before now left0 left1 taken place → place < length now → x ≡ slice_index_or now place x → id_at sc.owners place ≡ Some owner
-    → IsServed sc owner (outbox xm) (outbox xn) (ledger x) (ledger y) report → ending_in report.fault ≡ None → left2 ≡ kept_count (left1 + report.left)
-    → HaveCounted sc outbox ledger xo xn before (set now place y) left0 left2 (taken ++ record { owner = owner; count = report.taken } ∷ []) (place + 1)
-counted_more sc outbox ledger xo xm xn before now left0 left1 left2 taken place owner report x y was lt here at one fine left =
-    let reports = was.reports in
-    let m = was.many in
-    let t : Taken = record { owner = owner; count = report.taken } in
-    let next : suc place ≡ place + 1 = omega arith in
-    let one_left : sum_by left_in (report ∷ []) ≡ report.left = omega arith in
+kept_sum : (a b : ℕ) → kept_count (kept_count a + b) ≡ kept_count (a + b)
+kept_sum a b = omega arith
+
+zero_sum : (n : ℕ) → 0 + n ≡ n
+zero_sum n = omega arith
+
+pub kept_small : (n : ℕ) → kept_count n ≤ 18446744073709551615
+kept_small n = omega arith
+
+-- NO ROUND
+abbrev pub zero_of : ℕ → Taken
+zero_of owner = record { owner = owner; count = 0 }
+
+owners_of_zeros : (ks : List ℕ) → map owner_in (map zero_of ks) ≡ ks
+owners_of_zeros [] = refl
+owners_of_zeros (k ∷ ks) = ap (λ (l : List ℕ). k ∷ l) (owners_of_zeros ks)
+
+zero_at : (ks : List ℕ) (place : ℕ) (d : Taken) → place < length (map zero_of ks) → (slice_index_or (map zero_of ks) place d).count ≡ 0
+zero_at [] place d lt = absurd (omega (arith, lt))
+zero_at (k ∷ ks) zero d lt = refl
+zero_at (k ∷ ks) (suc place) d lt = zero_at ks place d (omega (arith, lt))
+
+pub zeros_more : (ks : List ℕ) (place x : ℕ) (taken : List Taken) → slice_get ks place ≡ Some x → taken ≡ map zero_of (take place ks) → taken ++ zero_of x ∷ [] ≡ map zero_of (take (place + 1) ks)
+zeros_more ks place x taken at is = ap (λ (l : List Taken). l ++ zero_of x ∷ []) is ∙ (sym (map-append zero_of (take place ks) (x ∷ [])) ∙ ap (map zero_of) (sym (take_next ks place x at)))
+
+pub no_counts : (sc : SchemeValue) (c : Counts) → c.stored ≡ 0 → c.left ≡ 0 → c.taken.items ≡ map zero_of (take (length sc.owners) (keys_of sc.owners)) → AreNoCounts sc c
+no_counts sc c stored left is =
+    let all = is ∙ ap (map zero_of) (all_ids sc.owners) in
     record {
-      reports = reports ++ report ∷ [];
-      many = length-append reports (report ∷ []) ∙ ap (λ n. n + 1) m;
-      served = subst (λ p. AreServed sc outbox ledger xo xn before (set now p y) (reports ++ report ∷ [])) m
-          (served_more sc outbox ledger xo xm xn before now reports owner report x y was.served (omega (arith, m, lt)) (here ∙ ap (λ p. slice_index_or now p x) (sym m)) (ap (id_at sc.owners) m ∙ at) one);
-      unended = λ k r below. elim (same_or_apart k place) [
-        | inl e ↦ ap (λ (w : OwnerReport). ending_in w.fault) (ap (λ p. slice_index_or (reports ++ report ∷ []) p r) (e ∙ sym m) ∙ get_or-append_seam reports report [] r) ∙ fine
-        | inr differ ↦ ap (λ (w : OwnerReport). ending_in w.fault) (get_or_append_left reports (report ∷ []) r k (omega (arith, below, m, differ))) ∙ was.unended k r (omega (arith, below, differ))
-      ];
-      owners = map-append owner_in taken (t ∷ []) ∙ (ap (λ (l : List ℕ). l ++ owner ∷ []) was.owners ∙ (sym (take_next (keys_of sc.owners) place owner (slice_get-map _ sc.owners place ∙ at)) ∙ ap (λ n. take n (keys_of sc.owners)) next));
-      taken_is = map-append count_in taken (t ∷ []) ∙ (ap (λ (l : List ℕ). l ++ report.taken ∷ []) was.taken_is ∙ sym (map-append taken_in reports (report ∷ [])));
-      left = left ∙ (ap (λ n. kept_count (n + report.left)) was.left ∙ (kept_then left0 (sum_by left_in reports) report.left ∙ ap (λ n. kept_count (left0 + n)) (sym (sum_by-append left_in reports (report ∷ []) ∙ ap (λ n. sum_by left_in reports + n) one_left))));
+      owners = ap (map owner_in) all ∙ owners_of_zeros (keys_of sc.owners);
+      stored = stored;
+      taken = λ place d lt. ap (λ (l : List Taken). (slice_index_or l place d).count) all ∙ zero_at (keys_of sc.owners) place d (subst (λ (l : List Taken). place < length l) all lt);
+      left = left;
     }
+
+pub counts_none : {S : Type 0} (sc : SchemeValue) (c : Counts) → AreNoCounts sc c → AreCountsOf {S = S} sc [] c
+counts_none sc c none = record {
+  owners = none.owners;
+  stored = none.stored;
+  taken = λ place d lt. none.taken place d lt;
+  left = none.left;
+}
+
+-- the counts have an entry for each owner
+pub entries_of : (sc : SchemeValue) (c : Counts) → IsCountsOf sc c → length c.taken.items ≡ length sc.owners
+entries_of sc c owners = sym (length-map c.taken.items owner_in) ∙ (ap length owners ∙ length-map sc.owners (λ e. e.0))
+
+pub entries_kept : (c d : Counts) → map owner_in d.taken.items ≡ map owner_in c.taken.items → length d.taken.items ≡ length c.taken.items
+entries_kept c d same = sym (length-map d.taken.items owner_in) ∙ (ap length same ∙ length-map c.taken.items owner_in)
+
+-- ONE OWNER MORE
+-- the entry at a place of a list with one more
+at_end : {X : Type 0} (xs : List X) (x : X) → slice_get (xs ++ x ∷ []) (length xs) ≡ Some x
+at_end [] x = refl
+at_end (y ∷ xs) x = at_end xs x
+
+before_end : {X : Type 0} (xs : List X) (x : X) (k : ℕ) → k < length xs → slice_get (xs ++ x ∷ []) k ≡ slice_get xs k
+before_end [] x k lt = absurd (omega (arith, lt))
+before_end (y ∷ xs) x zero lt = refl
+before_end (y ∷ xs) x (suc k) lt = before_end xs x k (omega (arith, lt))
+
+module _ {S O L : Type 0} (talks : S → Talk) (outbox : O → Standing OutboxValue) (ledger : L → Standing LedgerValue) where
+  -- however a call of an owner's session ended
+  pub served_result : (old new : Hub O L) (owner : ℕ) (news : List (Session S)) (r : Result SessionsReport ServeFault) → IfOk r (HasHeld talks outbox ledger old new (Serve owner ∷ []) news) → IfOk r (HasServed talks outbox ledger old new owner)
+  served_result old new owner news (Ok report) held = record { call = record { olds = Serve owner ∷ []; news = news; report = report }; olds = refl; told = refl; held = held }
+  served_result old new owner news (Err fault) held = tt
+
+  pub owners_none : (hub : Hub O L) (c : Counts) → HaveServedOwners talks outbox ledger hub hub 0 c c
+  owners_none hub c = record {
+    calls = [];
+    many = refl;
+    serves = refl;
+    held = held_none talks outbox ledger hub;
+    owners = refl;
+    stored = refl;
+    taken = λ k d lt. absurd (omega (arith, lt));
+    rest = λ k d le. refl;
+    left = λ fits. sym (min-eq_left (omega (arith, fits))) ∙ ap kept_count (omega arith);
+  }
+
+  pub owners_more : (old now next : Hub O L) (place owner : ℕ) (report : SessionsReport) (c0 c1 c2 : Counts)
+      → HaveServedOwners talks outbox ledger old now place c0 c1 → id_at old.scheme.owners place ≡ Some owner → HasServed talks outbox ledger now next owner report → AddsOwner c1 c2 place report
+      → HaveServedOwners talks outbox ledger old next (place + 1) c0 c2
+  owners_more old now next place owner report c0 c1 c2 was at one adds = record {
+    calls = was.calls ++ one.call ∷ [];
+    many = length-append was.calls (one.call ∷ []) ∙ ap (λ n. n + 1) was.many;
+    serves = serves;
+    held = held_then talks outbox ledger old now next was.calls (one.call ∷ []) was.held (next, one.held, refl);
+    owners = adds.owners ∙ was.owners;
+    stored = adds.stored ∙ was.stored;
+    taken = λ k d lt. by k d lt (same_or_apart k place);
+    rest = λ k d le. adds.others k d (λ e. omega (arith, e, le)) ∙ was.rest k d (omega (arith, le));
+    left = λ fits. adds.left ∙ (ap (λ n. kept_count (n + report.left)) (was.left fits) ∙ (kept_then c0.left (sum_by left_in was.calls) report.left ∙ ap (λ n. kept_count (c0.left + n)) (sym left_more)));
+  }
+    where
+      serves : map olds_of (was.calls ++ one.call ∷ []) ≡ map (serving_of {S = S}) (take (place + 1) (keys_of old.scheme.owners))
+      serves =
+          map-append olds_of was.calls (one.call ∷ []) ∙
+          ((λ i. was.serves i ++ one.olds i ∷ []) ∙
+          (sym (map-append (serving_of {S = S}) (take place (keys_of old.scheme.owners)) (owner ∷ [])) ∙ ap (map (serving_of {S = S})) (sym (take_next (keys_of old.scheme.owners) place owner (slice_get-map _ old.scheme.owners place ∙ at)))))
+
+      left_more : sum_by left_in (was.calls ++ one.call ∷ []) ≡ sum_by left_in was.calls + report.left
+      left_more = sum_by-append left_in was.calls (one.call ∷ []) ∙ (ap (λ n. sum_by left_in was.calls + n) (zero_sum one.call.report.left) ∙ ap (λ (r : SessionsReport). sum_by left_in was.calls + r.left) one.told)
+
+      here : slice_get (was.calls ++ one.call ∷ []) place ≡ Some one.call
+      here = ap (slice_get (was.calls ++ one.call ∷ [])) (sym was.many) ∙ at_end was.calls one.call
+
+      told : report.taken ≡ unwrap_or (option_map taken_in (slice_get (was.calls ++ one.call ∷ []) place)) 0
+      told = ap (λ (r : SessionsReport). r.taken) (sym one.told) ∙ ap (λ (o : Option (Call S)). unwrap_or (option_map taken_in o) 0) (sym here)
+
+      by : (k : ℕ) (d : Taken) → k < place + 1 → (k ≡ place) ⊎ (k ≢ place) → (slice_index_or c2.taken.items k d).count ≡ kept_count ((slice_index_or c0.taken.items k d).count + unwrap_or (option_map taken_in (slice_get (was.calls ++ one.call ∷ []) k)) 0)
+      by k d lt (inl e) = subst (λ n. (slice_index_or c2.taken.items n d).count ≡ kept_count ((slice_index_or c0.taken.items n d).count + unwrap_or (option_map taken_in (slice_get (was.calls ++ one.call ∷ []) n)) 0)) (sym e)
+          (adds.here d ∙ (ap (λ (t : Taken). kept_count (t.count + report.taken)) (was.rest place d (omega arith)) ∙ ap (λ n. kept_count ((slice_index_or c0.taken.items place d).count + n)) told))
+      by k d lt (inr differ) =
+          let less : k < place = omega (arith, lt, differ) in
+          let m = was.many in
+          let below : k < length was.calls = omega (arith, less, m) in
+          ap (λ (t : Taken). t.count) (adds.others k d differ) ∙ (was.taken k d less ∙ ap (λ (o : Option (Call S)). kept_count ((slice_index_or c0.taken.items k d).count + unwrap_or (option_map taken_in o) 0)) (sym (before_end was.calls one.call k below)))
+
+  -- whose ledgers and entries are still there
+  pub owner_ledgers : (now next : Hub O L) (owner : ℕ) (report : SessionsReport) → HasServed talks outbox ledger now next owner report → length now.ledgers.items ≡ length now.scheme.owners → length next.ledgers.items ≡ length next.scheme.owners
+  owner_ledgers now next owner report one has = one.held.follow.count ∙ (has ∙ ap (λ (sc : SchemeValue). length sc.owners) (sym one.held.scheme))
+
+  -- A ROUND
+  abbrev round_from : Call S → List (Call S) → Round S
+  round_from c os = record { stations = c; owners = os }
+
+  pub round_of : (old middle new : Hub O L) (stations : Vec (Station S) Global) (report : SessionsReport) (c0 c1 c2 : Counts)
+      → HasCollected talks outbox ledger old middle stations report → AddsStations c0 c1 report → HaveServedOwners talks outbox ledger middle new (length middle.scheme.owners) c1 c2
+      → AreStations old.scheme stations.items → length stations.items ≡ length old.scheme.stations → length c0.taken.items ≡ length old.scheme.owners
+      → HasServedRound talks outbox ledger old new stations.items c0 c2
+  round_of old middle new stations report c0 c1 c2 one adds owners are all entries = record {
+    round = round_from one.call owners.calls;
+    is = record {
+      sessions = stations;
+      collects = one.olds;
+      stations_are = refl;
+      stations = are;
+      all = all;
+      serves = owners.serves ∙ ap (map (serving_of {S = S})) (all_ids middle.scheme.owners ∙ ap (λ (sc : SchemeValue). keys_of sc.owners) one.held.scheme);
+    };
+    held = (middle, one.held, owners.held);
+    counted = record {
+      owners = owners.owners ∙ ap (λ (v : Vec Taken Global). map owner_in v.items) adds.taken;
+      stored = owners.stored ∙ (adds.stored ∙ ap (λ (r : SessionsReport). kept_count (c0.stored + r.stored)) (sym one.told));
+      taken = λ place d lt. owners.taken place d (subst (λ n. place < n) many lt) ∙ ap (λ (v : Vec Taken Global). kept_count ((slice_index_or v.items place d).count + taken_at place (round_from one.call owners.calls))) adds.taken;
+      left = owners.left (subst (λ n. n ≤ 18446744073709551615) (sym adds.left) (kept_small (c0.left + report.left))) ∙
+          (ap (λ n. kept_count (n + sum_by left_in owners.calls)) adds.left ∙
+          (kept_then c0.left report.left (sum_by left_in owners.calls) ∙ (ap (λ (r : SessionsReport). kept_count (c0.left + (r.left + sum_by left_in owners.calls))) (sym one.told) ∙ ap (λ n. kept_count (c0.left + n)) (sym (sum_by-cons left_in one.call owners.calls)))));
+    };
+  }
+    where
+      many : length c0.taken.items ≡ length middle.scheme.owners
+      many = entries ∙ ap (λ (sc : SchemeValue). length sc.owners) (sym one.held.scheme)
+
+-- ROUNDS
+pub counts_more : {S : Type 0} (sc : SchemeValue) (rounds : List (Round S)) (r : Round S) (c d : Counts) → AreCountsOf sc rounds c → AddsRound c d r → AreCountsOf sc (rounds ++ r ∷ []) d
+counts_more {S} sc rounds r c d was adds = record {
+  owners = adds.owners ∙ was.owners;
+  stored = adds.stored ∙ more c.stored stored_in was.stored;
+  taken = λ place t lt.
+      let within : place < length c.taken.items = subst (λ n. place < n) (entries_kept c d adds.owners) lt in
+      adds.taken place t within ∙ more (slice_index_or c.taken.items place t).count (taken_at place) (was.taken place t within);
+  left = adds.left ∙ more c.left left_over was.left;
+}
+  where
+    more : (n : ℕ) (f : Round S → ℕ) → n ≡ kept_count (sum_by f rounds) → kept_count (n + f r) ≡ kept_count (sum_by f (rounds ++ r ∷ []))
+    more n f is = ap (λ m. kept_count (m + f r)) is ∙ (kept_sum (sum_by f rounds) (f r) ∙ ap kept_count (sym (sum_by-append f rounds (r ∷ []) ∙ ap (λ m. sum_by f rounds + m) (zero_sum (f r)))))

@@ -1,1 +1,3 @@
-mod Counted
+pub mod Chained
+pub mod Counted
+pub mod Held

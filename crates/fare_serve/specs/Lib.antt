@@ -1,4 +1,5 @@
 pub mod Counting
 pub mod Lines
+pub mod Calls
+pub mod Rounds
 pub mod Serving
-pub mod Sessions

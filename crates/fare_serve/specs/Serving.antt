@@ -1,24 +1,69 @@
 -- What serving over a listener did, and what was written of it.
-use Rattle.std.specs.Prelude.{◌≡◌, ℕ, List, Option}
+use Rattle.std.specs.Prelude.{◌≡◌, ◌<◌, ◌≤◌, ℕ, ◌&&◌, nat_le, max, Bool, true, List, length, map, Option}
 use Rattle.std.specs.Io.KnownBytes.{Appends}
-use Rattle.fare_scheme.specs.Values.{SchemeValue}
+use Rattle.std.specs.List.{AllByRecursion}
+use Rattle.fare_record.specs.Values.{RecordValue}
 use Rattle.fare_store.specs.Standing.{Standing}
 use Rattle.fare_store.specs.OutboxWords.{OutboxValue}
 use Rattle.fare_store.specs.LedgerWords.{LedgerValue}
-use Rattle.fare_collect.specs.Resuming.{AreStations}
+use Rattle.fare_source.specs.Talking.{Talk}
+use Rattle.fare_source.specs.Shifts.{in_shift}
+use Rattle.fare_source.specs.declared.shift.Shift.{Shift}
+use Rattle.fare_collect.specs.Collected.{source_of}
 use Rattle.fare_collect.specs.declared.station.Station.{Station}
 use Rattle.fare_net.specs.NetValue.{NetValue}
 use Rattle.fare_net.specs.Sources.{talk_of}
+use Rattle.fare_agreement.specs.Agreeing.{AreNumberedLists}
+use Rattle.fare_sessions.specs.declared.hub.Hub.{Hub}
+use Rattle.fare_sessions.specs.Stores.{AreClean, AreSound, IsAgreed, HasGrown}
 use Rattle.fare_serve.specs.Counting.{counts_text}
-use Rattle.fare_serve.specs.Sessions.{HaveServed}
+use Rattle.fare_scheme.specs.Values.{SchemeValue}
+use Rattle.fare_serve.specs.Rounds.{Round, IsRound, AreCountsOf, AreServed, HasServedRound, HaveGiven}
 use Rattle.fare_serve.specs.declared.counts.Counts.{Counts}
 
--- Lines were gathered for the scheme's stations, a session of them and then of each owner was held, and what was written
--- is the counts of their reports.
-pub record HasServedLines {O L : Type 0} (sc : SchemeValue) (outbox : O → Standing OutboxValue) (ledger : L → Standing LedgerValue) (xo xn : O) (ledgers_old ledgers_new : List L) (old new : Option (List ℕ)) : Type 0 where
-  pub before : List (Station NetValue)
-  pub after : List (Station NetValue)
+-- what a shift of a line tells: it has come to its end where the shift is over, and a whole one only at the line's end
+abbrev pub shift_talk : Shift NetValue → Talk
+shift_talk s = in_shift s.whole s.over (talk_of s.source)
+
+-- each of these shifts is a whole one
+abbrev pub AreWhole : List (Shift NetValue) → Type 0
+AreWhole shifts = AllByRecursion (λ s. s.whole ≡ true) shifts
+
+-- One round over the scheme's lines, and what was counted of it; where lines are read to their ends, the shifts of all are
+-- whole ones.
+pub record HasHeldRound {O L : Type 0} (outbox : O → Standing OutboxValue) (ledger : L → Standing LedgerValue) (old new : Hub O L) (whole : Bool) (counts_old counts_new : Counts) : Type 0 where
+  pub before : List (Station (Shift NetValue))
+  pub served : HasServedRound shift_talk outbox ledger old new before counts_old counts_new
+  pub to_ends : whole ≡ true → AreWhole (map source_of before)
+
+-- lines are read to their ends where there is one round, which no file ends
+abbrev pub reads_to_ends : ℕ → Bool → Bool
+reads_to_ends most untold = nat_le most 1 && untold
+
+-- the stations of a round, all of the scheme's, over whole shifts of their lines
+abbrev pub IsReadToEnds : SchemeValue → Round (Shift NetValue) → Type 0
+IsReadToEnds sc r = (before : List (Station (Shift NetValue))) × IsRound sc r before × AreWhole (map source_of before)
+
+-- So many rounds were held, one after the other; these are the counts of all.
+pub record HaveBeenHeld {O L : Type 0} (outbox : O → Standing OutboxValue) (ledger : L → Standing LedgerValue) (old new : Hub O L) (whole : Bool) (count : ℕ) (counts : Counts) : Type 0 where
+  pub rounds : List (Round (Shift NetValue))
+  pub many : length rounds ≡ count
+  pub served : AreServed shift_talk outbox ledger old new rounds
+  pub counted : AreCountsOf old.scheme rounds counts
+  pub to_ends : whole ≡ true → AllByRecursion (IsReadToEnds old.scheme) rounds
+
+-- At least one, at most so many, and exactly so many where no file could end them.
+pub record HasHeldRounds {O L : Type 0} (outbox : O → Standing OutboxValue) (ledger : L → Standing LedgerValue) (old new : Hub O L) (most : ℕ) (untold : Bool) (counts : Counts) : Type 0 where
+  pub count : ℕ
+  pub some : 0 < count
+  pub few : count ≤ max most 1
+  pub all : untold ≡ true → count ≡ max most 1
+  pub held : HaveBeenHeld outbox ledger old new (reads_to_ends most untold) count counts
+
+-- What was written is the counts of the sessions' reports in rounds over lines; and where the stores agreed with lists of
+-- taps of which the lines' frames are, they do afterwards, and nothing fell.
+pub record HasServedLines {O L : Type 0} (outbox : O → Standing OutboxValue) (ledger : L → Standing LedgerValue) (old new : Hub O L) (most : ℕ) (untold : Bool) (written_old written_new : Option (List ℕ)) : Type 0 where
   pub counts : Counts
-  pub stations : AreStations sc before
-  pub served : HaveServed sc talk_of outbox ledger xo xn before after ledgers_old ledgers_new counts
-  pub written : Appends old new (counts_text counts)
+  pub held : HasHeldRounds outbox ledger old new most untold counts
+  pub written : Appends written_old written_new (counts_text counts)
+  pub agrees : AreClean outbox ledger new → AreSound outbox ledger old → (lists : ℕ → List RecordValue) → AreNumberedLists old.scheme lists → HaveGiven shift_talk outbox ledger old.scheme lists held.held.rounds → IsAgreed outbox ledger lists old → IsAgreed outbox ledger lists new × HasGrown outbox ledger old new

@@ -1,9 +1,11 @@
-ghost use Rattle.std.specs.Prelude.{◌≡◌, ◌≢◌, ◌++◌, IfOk, IfErr, OnOk, string_bytes};
+ghost use Rattle.std.specs.Prelude.{◌≡◌, ◌≢◌, ◌<◌, ◌++◌, length, IfOk, IfErr, OnOk, string_bytes};
 ghost use Rattle.std.specs.Io.KnownBytes.{Appends, Keeps};
-ghost use Rattle.fare_serve.specs.Counting.{counts_text, taken_line, taken_lines};
+ghost use Rattle.fare_serve.specs.Counting.{AddsOwner, AddsStations, AreNoCounts, counts_text, taken_line, taken_lines};
 
 use crate::fault::ServeFault;
 use fare_record::OwnerId;
+use fare_scheme::Scheme;
+use fare_sessions::SessionsReport;
 use std::alloc::{AllocError, Global};
 use std::io::Write;
 
@@ -14,15 +16,54 @@ pub struct Taken {
     pub count: u64,
 }
 
-/// What came of serving all stations and owners once.
+/// What came of rounds of serving all stations and owners.
 #[derive(Drop)]
 pub struct Counts {
     /// How many items the outbox stored; it stays at 2^64 - 1.
     pub stored: u64,
     /// What each owner took, in the order of registration.
     pub taken: Vec<Taken>,
-    /// How many items are left in hands and queues; it stays at 2^64 - 1.
+    /// How many items were left in hands and queues at the ends of sessions; it stays at 2^64 - 1. One that was left in a
+    /// round and in the next one again is counted twice.
     pub left: u64,
+}
+
+impl Counts {
+    // Those of no round.
+    pub(crate) fn none(alloc: Global, scheme: &Scheme) -> Result<Counts, AllocError>
+        ensures { IfOk result (AreNoCounts scheme.now) }
+    {
+        let mut taken = Vec::with_capacity(alloc, scheme.owner_count())?;
+        for place in 0..scheme.owner_count() {
+            let Some(owner) = scheme.owner_at(place) else {
+                unreachable!()
+            };
+            taken.push(Taken { owner, count: 0 })?;
+        }
+        Ok(Counts {
+            stored: 0,
+            taken,
+            left: 0,
+        })
+    }
+
+    // Adds what a session of the stations stored, and what it left.
+    pub(crate) fn add_stations(&mut self, report: &SessionsReport)
+        ensures { AddsStations self.old self.new report.now }
+    {
+        self.stored = self.stored.saturating_add(report.stored);
+        self.left = self.left.saturating_add(report.left);
+    }
+
+    // Adds what a session of the owner at a place took, and what it left.
+    pub(crate) fn add_owner(&mut self, place: usize, report: &SessionsReport)
+        requires { place < length self.old.taken.items }
+        ensures { AddsOwner self.old self.new place report.now }
+    {
+        let count = self.taken[place].count;
+        self.taken[place].count = count.saturating_add(report.taken);
+        self.left = self.left.saturating_add(report.left);
+    }
 }
 
 // Adds the line of an owner.

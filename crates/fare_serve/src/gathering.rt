@@ -1,9 +1,9 @@
 ghost use Rattle.std.specs.Prelude.{◌≡◌, ◌≤◌, IfOk, length, vec_len};
 
-use crate::guest::{MOST_GUESTS, welcome};
+use crate::guest::{Guest, MOST_GUESTS, welcome};
 use crate::limits::Limits;
-use crate::line::LineSource;
-use crate::seats::{are_taken, seat_guests, sources_of};
+use crate::seats::{Rule, Seat, are_taken, free_seats, is_one_taken, seat_guests};
+use crate::telling::tell_absent;
 use fare_scheme::Scheme;
 use std::alloc::{AllocError, Global};
 use std::net::TcpListener;
@@ -13,35 +13,95 @@ use std::time::{Clock, Duration};
 /// How many milliseconds an attempt that found no guest waits for one.
 const NAP: u64 = 1;
 
-/// The sources of a scheme's stations, in the order of registration. The listener must not block. Connections are
-/// taken until each station has one, in at most so many attempts as there are turns; a station that has none then has
-/// a source that is at its end and whose answers go nowhere. At most 16 connections wait for their greeting at once,
-/// each for at most 100 reads. One that doesn't greet, or not as a device of the scheme, is let go, and so is one for a
-/// station that has a line already, unless that is at its end or has failed, with nothing left to give.
-pub fn gather<R: Clock + Eprint>(
-    rt: &R,
-    alloc: Global,
-    listener: &TcpListener,
-    scheme: &Scheme,
-    limits: Limits,
-) -> Result<Vec<LineSource>, AllocError>
-    ensures each { IfOk result (λ sources. vec_len sources ≡ length scheme.now.stations) }
-    ensures few { IfOk result (λ sources. vec_len sources ≤ 16) }
-{
-    let mut seats: Vec<Option<LineSource>> = Vec::with_capacity(alloc, scheme.station_count())?;
-    for _ in 0..scheme.station_count() {
-        seats.push(None)?;
+/// How many attempts a round behind the first makes where no station has a line.
+const MOST_ATTEMPTS: u32 = 200;
+
+/// The lines of a scheme's stations: a seat for each, in the order of registration, and the connections that have not
+/// greeted yet.
+#[derive(Drop)]
+pub(crate) struct Lines {
+    pub(crate) seats: Vec<Seat>,
+    guests: Vec<Guest>,
+    // how often a line may be read
+    reads: u64,
+}
+
+impl Lines {
+    // No line came yet.
+    pub(crate) fn new(alloc: Global, scheme: &Scheme, reads: u64) -> Result<Lines, AllocError>
+        ensures each { IfOk result (λ lines. vec_len lines.seats ≡ length scheme.now.stations) }
+        ensures few { IfOk result (λ lines. vec_len lines.seats ≤ 16) }
+    {
+        Ok(Lines {
+            seats: free_seats(alloc, scheme)?,
+            guests: Vec::with_capacity(alloc, MOST_GUESTS)?,
+            reads,
+        })
     }
-    let mut guests = Vec::with_capacity(alloc, MOST_GUESTS)?;
-    for _ in 0..limits.turns {
-        welcome(alloc, listener, limits, &mut guests);
-        seat_guests(rt, scheme, &mut guests, &mut seats);
-        if are_taken(&seats) {
-            break;
-        }
-        if guests.is_empty() {
-            thread::sleep(rt, Duration::from_millis(NAP));
+
+    // One attempt: takes the connections that wait, as far as there is room, and hears each guest once.
+    fn attempt<R: Eprint>(
+        &mut self,
+        rt: &R,
+        alloc: Global,
+        listener: &TcpListener,
+        scheme: &Scheme,
+        limits: Limits,
+        rule: Rule,
+    )
+        ensures { vec_len self.new.seats ≡ vec_len self.old.seats }
+    {
+        welcome(alloc, listener, limits, self.reads, &mut self.guests);
+        seat_guests(rt, scheme, rule, &mut self.guests, &mut self.seats);
+    }
+
+    // Whether a round may begin: the first one when each station has a line, another when one has.
+    fn are_enough(&self, rule: Rule) -> bool {
+        match rule {
+            Rule::First => are_taken(&self.seats),
+            Rule::Last => is_one_taken(&self.seats),
         }
     }
-    sources_of(rt, alloc, scheme, seats)
+
+    // Tells of each station that has no line.
+    fn tell_absent<R: Eprint>(&self, rt: &R, scheme: &Scheme) {
+        for place in 0..self.seats.len() {
+            if !self.seats[place].taken {
+                if let Some(station) = scheme.station_at(place) {
+                    tell_absent(rt, station);
+                }
+            }
+        }
+    }
+
+    // Takes lines for a round. For the first one until each station has one, in at most so many attempts as there are
+    // turns; for another those that have come, and where no station has one it waits a short while.
+    pub(crate) fn gather<R: Clock + Eprint>(
+        &mut self,
+        rt: &R,
+        alloc: Global,
+        listener: &TcpListener,
+        scheme: &Scheme,
+        limits: Limits,
+        rule: Rule,
+    )
+        ensures { vec_len self.new.seats ≡ vec_len self.old.seats }
+    {
+        let attempts = match rule {
+            Rule::First => limits.turns,
+            Rule::Last => MOST_ATTEMPTS,
+        };
+        for _ in 0..attempts {
+            self.attempt(rt, alloc, listener, scheme, limits, rule);
+            if self.are_enough(rule) {
+                break;
+            }
+            if self.guests.is_empty() {
+                thread::sleep(rt, Duration::from_millis(NAP));
+            }
+        }
+        if rule == Rule::First {
+            self.tell_absent(rt, scheme);
+        }
+    }
 }

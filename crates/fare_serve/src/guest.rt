@@ -47,15 +47,14 @@ impl Guest {
     }
 }
 
-// A connection as a source, whose reads and writes don't wait for long.
-fn open(alloc: Global, stream: TcpStream, limits: Limits) -> io::Result<LineSource> {
+// A connection as a source, whose reads and writes don't wait for long, and which is read at most so often.
+fn open(alloc: Global, stream: TcpStream, limits: Limits, reads: u64) -> io::Result<LineSource> {
     stream.set_nodelay(true)?;
     stream.set_nonblocking(false)?;
     stream.set_read_timeout(Some(Duration::from_millis(u64::from(limits.read_millis))))?;
     stream.set_write_timeout(Some(Duration::from_millis(u64::from(limits.write_millis))))?;
     let writer = Line::Open(stream.try_clone()?);
-    let turns = u64::from(limits.turns);
-    Ok(NetSource::new(alloc, Line::Open(stream), writer, turns)?)
+    Ok(NetSource::new(alloc, Line::Open(stream), writer, reads)?)
 }
 
 // Takes the connections that wait, as far as there is room. One that can't be taken is let go.
@@ -63,6 +62,7 @@ pub(crate) fn welcome(
     alloc: Global,
     listener: &TcpListener,
     limits: Limits,
+    reads: u64,
     guests: &mut Vec<Guest>,
 ) {
     for _ in 0..MOST_GUESTS {
@@ -72,7 +72,7 @@ pub(crate) fn welcome(
         let Ok((stream, _)) = listener.accept() else {
             return;
         };
-        if let Ok(source) = open(alloc, stream, limits) {
+        if let Ok(source) = open(alloc, stream, limits, reads) {
             let _ = guests.push(Guest::new(source));
         }
     }

@@ -1,16 +1,20 @@
-//! The hub serves its stations over sockets: it gathers one line for each station, collects what they send into the
-//! outbox, hands each owner what is theirs, and writes what came of it. It promises that accepting never waits for one
-//! guest, that a station for which no validator came keeps no other from being served, and that nothing is written
-//! before all of it is done: what is written are then the counts of the sessions' reports, and where a report tells of
-//! want of memory or of a store that failed, nothing is.
+//! The hub serves its stations over sockets, in rounds: it takes the lines that came, collects what they send into the
+//! outbox, hands each owner what is theirs, and at the end writes what came of all rounds. It promises that accepting
+//! never waits for one guest, that a station for which no validator came, or whose line was lost, keeps no other from
+//! being served, and that nothing is written before all of it is done: what is written are then the sums of the sessions'
+//! reports, and where a report tells of want of memory or of a store that failed, nothing is. Each session is one of
+//! `Hub::sessions`, so that where the rows agreed with the lists of taps that the devices numbered, they do after any
+//! number of rounds.
 #![tactic(auto)]
 
 mod counts;
 mod fault;
 mod gathering;
 mod guest;
+mod lending;
 mod limits;
 mod line;
+mod rounds;
 mod seats;
 mod serving;
 mod sessions;
@@ -18,8 +22,7 @@ mod telling;
 
 pub use counts::{Counts, Taken, write_counts};
 pub use fault::ServeFault;
-pub use gathering::gather;
 pub use limits::Limits;
 pub use line::{Line, LineSource};
-pub use serving::serve_on;
-pub use sessions::serve_all;
+pub use rounds::serve_round;
+pub use serving::serve_rounds;

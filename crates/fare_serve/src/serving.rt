@@ -1,17 +1,22 @@
-ghost use Rattle.std.specs.Prelude.{◌≡◌, ◌≢◌, length, OnOk, IfErr};
+ghost use Rattle.std.specs.Prelude.{◌≡◌, ◌≢◌, ◌≤◌, false, length, vec_len, is_none, IsTrue, OnOk, IfErr};
 ghost use Rattle.std.specs.Io.KnownBytes.{Keeps};
-ghost use Rattle.fare_serve.specs.Serving.{HasServedLines};
+ghost use Rattle.fare_sessions.specs.Stores.{HasLedgers};
+ghost use Rattle.fare_serve.specs.Counting.{AreNoCounts};
+ghost use Rattle.fare_serve.specs.Serving.{HasHeldRound, HasHeldRounds, HasServedLines, reads_to_ends};
 
-use crate::counts::write_counts;
+use crate::counts::{Counts, write_counts};
 use crate::fault::ServeFault;
-use crate::gathering::gather;
+use crate::gathering::Lines;
+use crate::lending::{lend_all, take_all_back};
 use crate::limits::Limits;
-use crate::sessions::serve_all;
+use crate::rounds::serve_round;
+use crate::seats::Rule;
 use fare_collect::{StationsFault, stations_of};
-use fare_scheme::Scheme;
 use fare_session::{Gate, Point};
+use fare_sessions::Hub;
 use fare_store::{Ledger, Outbox};
 use std::alloc::Global;
+use std::fs;
 use std::io::Write;
 use std::net::TcpListener;
 use std::sync::Wait;
@@ -29,48 +34,133 @@ impl Gate for Open {
     }
 }
 
-/// Serves the stations that come to a listener, which must not block, and then the owners, once; and writes what came
-/// of it: `stored N`, `taken OWNER N` for each owner, and `left N`. The ledgers are those of the scheme's owners, in its
-/// order.
-///
-/// `Memory` where there was none for the lines, or as `serve_all` says, as `Store` does; nothing was written then, nor
-/// where there was none for the text. `Write` where the writer failed.
-pub fn serve_on<
-    O: Outbox + Send,
-    L: Ledger + Send,
-    W: Write,
-    R: Threads + Wait + Clock + Eprint + Sync,
->(
+// Whether the file is there whose presence ends serving. Where the system doesn't say, it isn't.
+fn is_told(rt: &HostRuntime, until: Option<&str>) -> bool
+    ensures { IsTrue result → is_none until.entry ≡ false }
+{
+    match until {
+        Some(path) => fs::exists(rt, path).unwrap_or(false),
+        None => false,
+    }
+}
+
+// Whether lines are read to their ends: in one round, which no file ends.
+fn reads_to_ends(limits: Limits, until: Option<&str>) -> bool
+    ensures { result ≡ reads_to_ends limits.rounds (is_none until.entry) }
+{
+    limits.rounds <= 1 && until.is_none()
+}
+
+// How often a line may be read: in shifts, as long as it stands.
+fn reads_of(limits: Limits, whole: bool) -> u64 {
+    if whole {
+        u64::from(limits.turns)
+    } else {
+        u64::MAX
+    }
+}
+
+// Which of two lines of a station has the seat in a round.
+fn rule_of(round: u32) -> Rule {
+    if round == 0 { Rule::First } else { Rule::Last }
+}
+
+// One round over the lines that are there.
+fn hold_round<O: Outbox + Send, L: Ledger + Send, R: Threads + Wait + Clock + Eprint + Sync>(
     rt: &R,
     alloc: Global,
-    listener: &TcpListener,
-    scheme: &Scheme,
-    outbox: &mut O,
-    ledgers: &mut [L],
+    hub: &mut Hub<O, L>,
     limits: Limits,
-    output: &mut W,
+    whole: bool,
+    lines: &mut Lines,
+    counts: &mut Counts,
 ) -> Result<(), ServeFault>
-    requires owners { length ledgers.old ≡ length scheme.now.owners }
-    ensures served { OnOk result (HasServedLines scheme.now O.standing L.standing outbox.old outbox.new ledgers.old ledgers.new (W.contents output.old) (W.contents output.new)) }
-    ensures kept { IfErr result (λ fault. fault ≢ ServeFault.Write → Keeps (W.contents output.old) (W.contents output.new)) }
+    requires ledgers { HasLedgers hub.old }
+    requires seats { vec_len lines.old.seats ≡ length hub.old.scheme.stations }
+    requires few { vec_len lines.old.seats ≤ 16 }
+    requires owners { length counts.old.taken.items ≡ length hub.old.scheme.owners }
+    ensures held { OnOk result (HasHeldRound O.standing L.standing hub.old hub.new whole counts.old counts.new) }
+    ensures seats { vec_len lines.new.seats ≡ vec_len lines.old.seats }
+    ensures fault { IfErr result (λ fault. fault ≢ ServeFault.Write) }
 {
-    let sources = gather(rt, alloc, listener, scheme, limits)?;
-    let mut stations = match stations_of(alloc, scheme, sources) {
+    let shifts = lend_all(alloc, whole, limits.patience, &mut lines.seats)?;
+    let stations = match stations_of(alloc, &hub.scheme, shifts) {
         Ok(stations) => stations,
         Err(StationsFault::Memory) => return Err(ServeFault::Memory),
         Err(StationsFault::Range) => unreachable!(),
     };
     let turns = u64::from(limits.turns);
-    let counts = serve_all(
-        rt,
-        alloc,
-        scheme,
-        &Open,
-        turns,
-        &mut stations,
-        outbox,
-        ledgers,
-    )?;
+    let (report, stations) = serve_round(rt, alloc, &Open, turns, hub, stations, counts)?;
+    take_all_back(rt, whole, stations, &report.faults, &mut lines.seats);
+    Ok(())
+}
+
+// Rounds, one after the other: at most so many as the limits say, or to the one after which the file is there.
+fn hold_rounds<O: Outbox + Send, L: Ledger + Send, R: Threads + Wait + Clock + Eprint + Sync>(
+    rt: &HostRuntime,
+    handles: &R,
+    listener: &TcpListener,
+    hub: &mut Hub<O, L>,
+    limits: Limits,
+    until: Option<&str>,
+    counts: &mut Counts,
+) -> Result<(), ServeFault>
+    requires ledgers { HasLedgers hub.old }
+    requires none { AreNoCounts hub.old.scheme counts.old }
+    ensures held { OnOk result (HasHeldRounds O.standing L.standing hub.old hub.new limits.rounds (is_none until.entry) counts.new) }
+    ensures fault { IfErr result (λ fault. fault ≢ ServeFault.Write) }
+{
+    let alloc = rt.alloc();
+    let whole = reads_to_ends(limits, until);
+    let mut lines = Lines::new(alloc, &hub.scheme, reads_of(limits, whole))?;
+    for round in 0..limits.rounds.max(1) {
+        let rule = rule_of(round);
+        lines.gather(handles, alloc, listener, &hub.scheme, limits, rule);
+        hold_round(handles, alloc, hub, limits, whole, &mut lines, counts)?;
+        if is_told(rt, until) {
+            return Ok(());
+        }
+    }
+    Ok(())
+}
+
+/// Serves the stations that come to a listener, which must not block, and the owners, in rounds; and writes what came of
+/// them: `stored N`, `taken OWNER N` for each owner, and `left N`, each the sum over all sessions.
+///
+/// A round is a session of all stations and then one of each owner. There are as many as the limits say, at least one;
+/// fewer where a file is named, and is there when a round has ended. Where there is but one round, and no file is named,
+/// each line is read to its end; else in shifts, one a round, and a line that is quiet waits for the next round. Before
+/// the first round connections are taken until each station has one, in at most so many attempts as there are turns;
+/// before each other those that have come, and where no station has a line, a short while is waited for one. At most 16
+/// connections wait for their greeting at once, each for at most 100 reads. One that doesn't greet, or not as a device of
+/// the scheme, is let go, and so is a second one of a station before the first round, unless the first is over. Between
+/// rounds the newer line of a station replaces the older one. A station that has no line takes part in a round with one
+/// that is at its end; one whose line has ended or broken has none till its validator comes again.
+///
+/// `Memory` or `Store` where that is the first such fault of a session, in their order, and none follows it then; `Memory`
+/// also where there is none for a line's seat, a station or a session's list of faults, or for the text; nothing was
+/// written then. `Write` where the writer failed.
+pub fn serve_rounds<
+    O: Outbox + Send,
+    L: Ledger + Send,
+    W: Write,
+    R: Threads + Wait + Clock + Eprint + Sync,
+>(
+    rt: &HostRuntime,
+    handles: &R,
+    listener: &TcpListener,
+    hub: &mut Hub<O, L>,
+    limits: Limits,
+    until: Option<&str>,
+    output: &mut W,
+) -> Result<(), ServeFault>
+    requires ledgers { HasLedgers hub.old }
+    ensures served { OnOk result (HasServedLines O.standing L.standing hub.old hub.new limits.rounds (is_none until.entry) (W.contents output.old) (W.contents output.new)) }
+    ensures kept { IfErr result (λ fault. fault ≢ ServeFault.Write → Keeps (W.contents output.old) (W.contents output.new)) }
+{
+    let alloc = rt.alloc();
+    let mut counts = Counts::none(alloc, &hub.scheme)?;
+    hold_rounds(rt, handles, listener, hub, limits, until, &mut counts)?;
     write_counts(alloc, &counts, output)?;
     Ok(())
 }

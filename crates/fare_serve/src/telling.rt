@@ -25,26 +25,32 @@ pub(crate) fn tell_replaced<R: Eprint>(rt: &R, station: StationId) {
     let _ = eprintln!(rt; "station {number}: line replaced: it was over");
 }
 
+// A line came in place of an older one.
+pub(crate) fn tell_newer<R: Eprint>(rt: &R, station: StationId) {
+    let number = station.get();
+    let _ = eprintln!(rt; "station {number}: line replaced: a newer one came");
+}
+
+// A line came for a station that had none in the round before.
+pub(crate) fn tell_came<R: Eprint>(rt: &R, station: StationId) {
+    let number = station.get();
+    let _ = eprintln!(rt; "station {number}: a line came");
+}
+
 // No line came for a station.
 pub(crate) fn tell_absent<R: Eprint>(rt: &R, station: StationId) {
     let number = station.get();
     let _ = eprintln!(rt; "station {number}: no line came");
 }
 
-// A station's line broke.
-fn tell_broken<R: Eprint>(rt: &R, station: StationId, fault: &SessionFault) {
+// A station's line is at its end.
+pub(crate) fn tell_ended<R: Eprint>(rt: &R, station: StationId) {
     let number = station.get();
-    let _ = eprintln!(rt; "station {number}: line broken: {fault}");
+    let _ = eprintln!(rt; "station {number}: line ended");
 }
 
-// Tells which lines broke.
-pub(crate) fn tell_faults<R: Eprint>(rt: &R, faults: &[SessionFault]) {
-    for fault in faults {
-        match fault {
-            SessionFault::Source(station) | SessionFault::Unexpected(station) => {
-                tell_broken(rt, *station, fault);
-            }
-            SessionFault::Refused | SessionFault::Memory | SessionFault::Store => {}
-        }
-    }
+// A station's line broke.
+pub(crate) fn tell_broken<R: Eprint>(rt: &R, station: StationId, fault: &SessionFault) {
+    let number = station.get();
+    let _ = eprintln!(rt; "station {number}: line broken: {fault}");
 }

@@ -3,7 +3,9 @@
 #![tactic(auto)]
 
 mod fault;
+mod shift;
 mod source;
 
 pub use fault::SourceFault;
+pub use shift::Shift;
 pub use source::Source;

@@ -1,5 +1,5 @@
 use Rattle.std.proofs.Common.{◌≡◌, drop}
-use Rattle.fare_serve.specs.Sessions.{first_ending}
+use Rattle.fare_serve.specs.Calls.{first_ending}
 use Rattle.fare_serve.proofs.sessions.first_ending_of.Given as goal
 
 abbrev pub invariant-loop-fault : goal.invariant-loop-fault

@@ -1,0 +1,11 @@
+use Rattle.std.proofs.Common.{◌≡◌, ◌≤◌, true, length, vec_len, vec_capacity}
+use Rattle.fare_serve.specs.Serving.{AreWhole}
+use Rattle.fare_serve.proofs.lending.lend_all.Given as goal
+
+abbrev pub invariant-loop-place : goal.invariant-loop-place
+invariant-loop-place l = record {
+  made : vec_len l.shifts ≡ l.place;
+  room : length l.fn.seats ≤ vec_capacity l.shifts;
+  seats : length l.seats ≡ length l.fn.seats;
+  whole : l.whole ≡ true → AreWhole l.shifts.items;
+}

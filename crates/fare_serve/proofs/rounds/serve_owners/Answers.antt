@@ -1,0 +1,42 @@
+use Rattle.std.proofs.Common.{◌≡◌, ◌∙◌, Some, ap, sym, subst, refl, length, arith}
+use Rattle.fare_scheme.specs.Values.{SchemeValue}
+use Rattle.fare_scheme.specs.Words.{id_at}
+use Rattle.fare_serve.specs.Rounds.{HaveServedOwners}
+use Rattle.fare_serve.proofs.Counted.{entries_kept, id_within, owner_ledgers, owners_more, owners_none}
+use Rattle.fare_serve.proofs.rounds.serve_owners.Goals as goal
+
+pub loop-place-init : goal.loop-place-init
+loop-place-init g c = record {
+  served = owners_none g.S.Source.talk g.O.Outbox.standing g.L.Ledger.standing c.args.hub.now c.args.counts.now;
+  scheme = refl;
+  ledgers = c.requires.ledgers;
+  entries = c.requires.owners;
+}
+
+pub unreachable-requires : goal.unreachable-requires
+unreachable-requires g c =
+    let lt = c.loop-place-test.true in
+    let all = c.owner_count-place-end.ensures.value in
+    let same : length c.loop-place.hub.scheme.owners ≡ length c.args.hub.now.scheme.owners = ap (λ (sc : SchemeValue). length sc.owners) c.loop-place.invariant.scheme in
+    id_within c.loop-place.hub.scheme.owners c.loop-place.place (omega (arith, lt, all, same)) (sym c.owner_at.ensures.value ∙ c.in_default.is)
+
+pub loop-place-preserved : goal.loop-place-preserved
+loop-place-preserved g c =
+    let inv = c.loop-place.invariant in
+    let one = c.in_ok-report.ensures.held in
+    let place = c.loop-place.place in
+    let at : id_at c.args.hub.now.scheme.owners place ≡ Some c.in-Some.owner = ap (λ (sc : SchemeValue). id_at sc.owners place) (sym inv.scheme) ∙ sym c.in-Some.ensures.value in
+    record {
+      served = owners_more g.S.Source.talk g.O.Outbox.standing g.L.Ledger.standing c.args.hub.now c.loop-place.hub c.serve_once.new.hub place c.in-Some.owner c.in_ok-report.report c.args.counts.now c.loop-place.counts c.add_owner.new.self inv.served at one c.add_owner.ensures;
+      scheme = one.held.scheme ∙ inv.scheme;
+      ledgers = owner_ledgers g.S.Source.talk g.O.Outbox.standing g.L.Ledger.standing c.loop-place.hub c.serve_once.new.hub c.in-Some.owner c.in_ok-report.report one inv.ledgers;
+      entries = entries_kept c.loop-place.counts c.add_owner.new.self c.add_owner.ensures.owners ∙ inv.entries;
+    }
+
+pub returns-clause-served : goal.returns-clause-served
+returns-clause-served g c =
+    let past = c.loop-place-test.false in
+    let within = c.loop-place.auto.place-end in
+    let value = c.owner_count-place-end.ensures.value in
+    let all : c.loop-place.place ≡ length c.args.hub.now.scheme.owners = omega (arith, past, within, value) in
+    subst (λ n. HaveServedOwners g.S.Source.talk g.O.Outbox.standing g.L.Ledger.standing c.args.hub.now c.loop-place.hub n c.args.counts.now c.loop-place.counts) all c.loop-place.invariant.served

@@ -1,0 +1,59 @@
+use Rattle.std.proofs.Common.{◌≡◌, ◌∙◌, ◌+◌, true, false, ap, sym, refl, subst, length, arith}
+use Rattle.std.specs.Prelude.{is_none}
+use Rattle.fare_scheme.specs.Values.{SchemeValue}
+use Rattle.fare_serve.specs.Serving.{HaveBeenHeld}
+use Rattle.fare_serve.proofs.Held.{been_entries, been_more, been_none, round_ledgers, round_scheme}
+use Rattle.fare_serve.proofs.serving.hold_rounds.Goals as goal
+
+pub loop-round-init : goal.loop-round-init
+loop-round-init g c = record {
+  held = been_none g.O.Outbox.standing g.L.Ledger.standing c.args.hub.now c.reads_to_ends-whole.result c.args.counts.now c.requires.none;
+  ledgers = c.requires.ledgers;
+  seats = c.in_ok-lines.ensures.each;
+  few = c.in_ok-lines.ensures.few;
+}
+
+pub loop-round-preserved : goal.loop-round-preserved
+loop-round-preserved g c =
+    let inv = c.loop-round.invariant in
+    let one = c.in_ok-hold_round.ensures.held in
+    let same = round_scheme g.O.Outbox.standing g.L.Ledger.standing c.loop-round.hub c.hold_round.new.hub c.reads_to_ends-whole.result c.loop-round.counts c.hold_round.new.counts one in
+    record {
+      held = been_more g.O.Outbox.standing g.L.Ledger.standing c.args.hub.now c.loop-round.hub c.hold_round.new.hub c.reads_to_ends-whole.result c.loop-round.round c.loop-round.counts c.hold_round.new.counts inv.held one;
+      ledgers = round_ledgers g.O.Outbox.standing g.L.Ledger.standing c.loop-round.hub c.hold_round.new.hub c.reads_to_ends-whole.result c.loop-round.counts c.hold_round.new.counts one inv.ledgers;
+      seats = c.in_ok-hold_round.ensures.seats ∙ (c.gather.ensures ∙ (inv.seats ∙ ap (λ (sc : SchemeValue). length sc.stations) (sym same)));
+      few = (let a = c.in_ok-hold_round.ensures.seats in let b = c.gather.ensures in let f = inv.few in omega (arith, a, b, f));
+    }
+
+pub hold_round-requires-clause-seats : goal.hold_round-requires-clause-seats
+hold_round-requires-clause-seats g c κs within = c.gather.ensures ∙ c.loop-round.invariant.seats
+
+pub hold_round-requires-clause-owners : goal.hold_round-requires-clause-owners
+hold_round-requires-clause-owners g c κs within = been_entries g.O.Outbox.standing g.L.Ledger.standing c.args.hub.now c.loop-round.hub c.reads_to_ends-whole.result c.loop-round.round c.loop-round.counts c.loop-round.invariant.held
+
+pub returns-then-is_told-clause-held : goal.returns-then-is_told-clause-held
+returns-then-is_told-clause-held g c =
+    let lt = c.loop-round-test.true in
+    let most = c.max-round-end.ensures in
+    let told : is_none c.args.until ≡ false = c.if-is_told.ensures refl in
+    let held = been_more g.O.Outbox.standing g.L.Ledger.standing c.args.hub.now c.loop-round.hub c.hold_round.new.hub c.reads_to_ends-whole.result c.loop-round.round c.loop-round.counts c.hold_round.new.counts c.loop-round.invariant.held c.in_ok-hold_round.ensures.held in
+    record {
+      count = c.loop-round.round + 1;
+      some = omega arith;
+      few = omega (arith, lt, most);
+      all = λ untold. (let both : true ≡ false = sym untold ∙ told in absurd (cc));
+      held = subst (λ b. HaveBeenHeld g.O.Outbox.standing g.L.Ledger.standing c.args.hub.now c.hold_round.new.hub b (c.loop-round.round + 1) c.hold_round.new.counts) c.reads_to_ends-whole.ensures held;
+    }
+
+pub returns-clause-held : goal.returns-clause-held
+returns-clause-held g c =
+    let past = c.loop-round-test.false in
+    let within = c.loop-round.auto.round-end in
+    let most = c.max-round-end.ensures in
+    record {
+      count = c.loop-round.round;
+      some = omega (arith, past, most);
+      few = omega (arith, within, most);
+      all = λ untold. omega (arith, past, within, most);
+      held = subst (λ b. HaveBeenHeld g.O.Outbox.standing g.L.Ledger.standing c.args.hub.now c.loop-round.hub b c.loop-round.round c.loop-round.counts) c.reads_to_ends-whole.ensures c.loop-round.invariant.held;
+    }

@@ -1,0 +1,91 @@
+-- What the calls of a hub's sessions promise, one after the other, and which of their faults end all.
+use Rattle.std.specs.Prelude.{◌≡◌, ◌<◌, ◌↔◌, ℕ, List, [], ◌∷◌, length, Option, Some, None, IsTrue, Vec}
+use Rattle.std.specs.Global.{Global}
+use Rattle.fare_record.specs.Values.{RecordValue}
+use Rattle.fare_store.specs.Standing.{Standing}
+use Rattle.fare_store.specs.OutboxWords.{OutboxValue}
+use Rattle.fare_store.specs.LedgerWords.{LedgerValue}
+use Rattle.fare_session.specs.declared.fault.SessionFault.{SessionFault}
+use Rattle.fare_session.specs.declared.fault.SessionFault.TheVariants as session
+use Rattle.fare_source.specs.Talking.{Talk}
+use Rattle.fare_collect.specs.declared.station.Station.{Station}
+use Rattle.fare_history.specs.Stores.{StoresValue}
+use Rattle.fare_agreement.specs.Agreeing.{AreNumberedLists}
+use Rattle.fare_agreement.specs.Totals.{had_by}
+use Rattle.fare_sessions.specs.declared.hub.Hub.{Hub}
+use Rattle.fare_sessions.specs.declared.report.SessionsReport.{SessionsReport}
+use Rattle.fare_sessions.specs.declared.session.Session.{Session}
+use Rattle.fare_sessions.specs.declared.session.Session.TheVariants.{Collect, Serve}
+use Rattle.fare_sessions.specs.Stores.{AreClean, AreLive, AreSound, StoresFollow, MayStandAs, IsAgreed, HasGrown, held_by_all}
+use Rattle.fare_sessions.specs.Promises.{GaveOf, AreCovered, ran, AreInOrder, AreUntouched, IsAdded, CameOf}
+use Rattle.fare_serve.specs.declared.fault.ServeFault.{ServeFault}
+use Rattle.fare_serve.specs.declared.fault.ServeFault.TheVariants as serve
+
+-- FAULTS
+-- a session's fault of memory or of a store ends all, another none
+abbrev pub ending_of : SessionFault → Option ServeFault
+ending_of session.Memory = Some serve.Memory
+ending_of session.Store = Some serve.Store
+ending_of session.Refused = None
+ending_of (session.Source station) = None
+ending_of (session.Unexpected station) = None
+
+abbrev pub first_of : Option ServeFault → Option ServeFault → Option ServeFault
+first_of (Some fault) next = Some fault
+first_of None next = next
+
+-- the first of a report's faults that ends all
+abbrev pub first_ending : List (ℕ × SessionFault) → Option ServeFault
+first_ending [] = None
+first_ending (f ∷ fs) = first_of (ending_of f.1) (first_ending fs)
+
+-- A CALL
+-- the sessions of one call, before and after it, and its report
+pub record Call (S : Type 0) : Type 0 where
+  pub olds : List (Session S)
+  pub news : List (Session S)
+  pub report : SessionsReport
+
+module _ {S O L : Type 0} (talks : S → Talk) (outbox : O → Standing OutboxValue) (ledger : L → Standing LedgerValue) where
+  -- What a hub promises of a call, as its sessions do; and no fault of memory or of a store ended one of them.
+  pub record IsHeld (old new : Hub O L) (c : Call S) : Type 0 where
+    pub scheme : new.scheme ≡ old.scheme
+    pub follow : StoresFollow outbox ledger old new
+    pub sound : AreClean outbox ledger new → AreSound outbox ledger old → AreSound outbox ledger new
+    -- where the stores agreed with lists of taps of which the sources' frames are, they do afterwards, and nothing fell
+    pub agrees : AreClean outbox ledger new → AreSound outbox ledger old → (lists : ℕ → List RecordValue) → AreNumberedLists old.scheme lists → GaveOf talks old.scheme lists c.olds c.news → IsAgreed outbox ledger lists old → IsAgreed outbox ledger lists new
+    pub grows : AreClean outbox ledger new → AreSound outbox ledger old → (lists : ℕ → List RecordValue) → AreNumberedLists old.scheme lists → GaveOf talks old.scheme lists c.olds c.news → IsAgreed outbox ledger lists old → HasGrown outbox ledger old new
+    -- and each acknowledgement that a source was answered is covered by the outbox
+    pub covered : AreClean outbox ledger new → AreSound outbox ledger old → (lists : ℕ → List RecordValue) → AreNumberedLists old.scheme lists → GaveOf talks old.scheme lists c.olds c.news → IsAgreed outbox ledger lists old → (k : StoresValue) → MayStandAs outbox ledger new k → AreCovered talks old.scheme k.outbox c.olds c.news
+    -- what each session did, and that the report counts it
+    pub boundaries : AreClean outbox ledger new → AreSound outbox ledger old → (k : StoresValue) → MayStandAs outbox ledger new k → CameOf talks outbox ledger old c.olds c.news c.report k
+    pub stored : AreLive outbox ledger new → AreSound outbox ledger old → IsAdded (had_by old.scheme (outbox old.outbox).value) (had_by old.scheme (outbox new.outbox).value) c.report.stored
+    pub taken : AreLive outbox ledger new → AreSound outbox ledger old → IsAdded (held_by_all ledger old.scheme old.ledgers.items) (held_by_all ledger old.scheme new.ledgers.items) c.report.taken
+    pub left : AreClean outbox ledger new → AreSound outbox ledger old → c.report.faults.items ≡ [] → c.report.left ≡ 0
+    pub gave_up : (limit : ℕ) × (IsTrue c.report.gave_up ↔ (limit < length c.report.faults.items))
+    pub in_order : AreInOrder 0 c.report.faults.items (ran c.report (length c.olds))
+    pub untouched : AreUntouched (ran c.report (length c.olds)) c.olds c.news
+    pub unended : first_ending c.report.faults.items ≡ None
+
+  -- calls one after the other, each over the stores that the one before it left
+  abbrev pub AreHeld : Hub O L → Hub O L → List (Call S) → Type 0
+  AreHeld old new [] = new ≡ old
+  AreHeld old new (c ∷ cs) = (middle : Hub O L) × IsHeld old middle c × AreHeld middle new cs
+
+  -- one call of these sessions was held
+  abbrev pub HasHeld : Hub O L → Hub O L → List (Session S) → List (Session S) → SessionsReport → Type 0
+  HasHeld old new olds news report = IsHeld old new (record { olds = olds; news = news; report = report })
+
+  -- one call of a session of these stations
+  pub record HasCollected (old new : Hub O L) (stations : Vec (Station S) Global) (report : SessionsReport) : Type 0 where
+    pub call : Call S
+    pub olds : call.olds ≡ Collect stations ∷ []
+    pub told : call.report ≡ report
+    pub held : IsHeld old new call
+
+  -- one call of a session of an owner
+  pub record HasServed (old new : Hub O L) (owner : ℕ) (report : SessionsReport) : Type 0 where
+    pub call : Call S
+    pub olds : call.olds ≡ Serve owner ∷ []
+    pub told : call.report ≡ report
+    pub held : IsHeld old new call
