@@ -137,7 +137,7 @@ module _ {O L : Type 0} (outbox : O → Standing OutboxValue) (ledger : L → St
         let start = (sound.own owner r.own_old (r.place, r.at, r.was) before).1.start in
         (before, lawful, start, (call.value live lawful).1.1 (omega (arith, start, late)))
 
-    told : fault_in result ≡ None → AreClean outbox ledger new → AreSound outbox ledger old → (h : StoresValue) → MayStandAs outbox ledger old h → ((h.ledgers owner).start ≡ old.scheme.start) × Answered (tells (h.ledgers owner)) result
+    pub told : fault_in result ≡ None → AreClean outbox ledger new → AreSound outbox ledger old → (h : StoresValue) → MayStandAs outbox ledger old h → ((h.ledgers owner).start ≡ old.scheme.start) × Answered (tells (h.ledgers owner)) result
     told none clean sound h may =
         let now = told_now none clean sound in
         let is = holds_value (ledger r.own_old) sound_ledger now.0 now.1 (h.ledgers owner) (may.ledgers_may owner r.own_old (r.place, r.at, r.was)) in

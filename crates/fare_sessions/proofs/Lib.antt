@@ -5,5 +5,6 @@ pub mod Agreeing
 pub mod Sums
 pub mod Reported
 pub mod Billed
+pub mod NextClose
 pub mod Closed
 pub mod Going

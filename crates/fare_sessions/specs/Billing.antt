@@ -1,5 +1,5 @@
 -- What a hub answers of an owner's day, and what a close makes of its ledger.
-use Rattle.std.specs.Prelude.{◌≡◌, ◌≢◌, ◌↔◌, ◌<◌, ℕ, List, Option, None, Some, Result, Ok, Err}
+use Rattle.std.specs.Prelude.{◌≡◌, ◌≢◌, ◌↔◌, ◌+◌, ◌<◌, ℕ, nat_le, List, Option, None, Some, is_some, true, if◌then◌else◌, Result, Ok, Err}
 use Rattle.fare_record.specs.Values.{RecordValue}
 use Rattle.fare_scheme.specs.Facts.{IsScheme}
 use Rattle.fare_scheme.specs.Values.{SchemeValue}
@@ -32,6 +32,25 @@ pub record HasBasis (sc : SchemeValue) (l : LedgerValue) (day : ℕ) (rows : Lis
   pub start : l.start ≡ sc.start
   pub closed : first_open sc.start l.closed day sc.devices ≡ None
   pub taps : AreTapsBetween l (week_start sc day) day rows
+
+-- CLOSES
+-- the count that is stated of a day, if there is such a day
+abbrev pub stated_of : LedgerValue → ℕ → ℕ → Option ℕ
+stated_of v device day = if nat_le day 100000 then v.stated device day else None
+
+-- the first day of a device that is not closed
+abbrev pub first_unclosed : LedgerValue → ℕ → ℕ
+first_unclosed v device = v.start + v.closed device
+
+-- the first day that is not closed, where a statement of it is held
+abbrev pub IsToClose : LedgerValue → ℕ → Option ℕ → Type 0
+IsToClose v device None = stated_of v device (first_unclosed v device) ≡ None
+IsToClose v device (Some day) = (day ≡ first_unclosed v device) × (is_some (stated_of v device day) ≡ true)
+
+-- the day behind the last closed one, the first one where none is
+abbrev pub day_behind : Option ℕ → ℕ → ℕ
+day_behind None start = start
+day_behind (Some last) start = last + 1
 
 -- the refusal of a close
 abbrev pub as_hub : Result Unit (Refused CloseFault) → Result Unit (Refused ClosingFault)

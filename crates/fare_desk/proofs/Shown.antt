@@ -1,0 +1,109 @@
+-- Lines of lanes and devices, one after the other.
+use Rattle.std.proofs.Common.{◌≡◌, ℕ, suc, ◌+◌, List, [], ◌∷◌, ◌++◌, length, take, refl, sym, ap, ◌∙◌, subst, append_assoc, append-nil}
+use Rattle.std.specs.List.{flat_map}
+use Rattle.fare_store.specs.Standing.{Standing}
+use Rattle.fare_store.specs.OutboxWords.{OutboxValue}
+use Rattle.fare_store.specs.LedgerWords.{LedgerValue}
+use Rattle.fare_history.specs.Stores.{StoresValue}
+use Rattle.fare_sessions.specs.declared.hub.Hub.{Hub}
+use Rattle.fare_sessions.specs.Stores.{AreClean, AreSound, MayStandAs}
+use Rattle.fare_desk.specs.declared.standing.Lane.{Lane}
+use Rattle.std.specs.Prelude.{Option, Result, Ok, Err, OnOk}
+use Rattle.std.specs.Io.KnownBytes.{Appends}
+use Rattle.std.specs.Map.{keys_of}
+use Rattle.fare_desk.specs.Closing.{lanes_of}
+use Rattle.fare_desk.specs.declared.fault.DeskFault.{DeskFault}
+use Rattle.fare_scheme.specs.Values.{SchemeValue}
+use Rattle.fare_store.specs.LedgerWords.{closed_through}
+use Rattle.fare_sessions.specs.Billing.{day_behind, first_unclosed}
+use Rattle.fare_sessions.proofs.NextClose.{behind_last}
+use Rattle.fare_desk.specs.Showing.{AddsLanes, AddsUptos, HasFrom, IsLane, OnlyAsks, ShowsLanes, WritesStanding, lane_line, stated_days, upto_line, uptos_text}
+use Rattle.fare_desk.proofs.Asked.{asks_self, asks_join}
+use Rattle.fare_sessions.proofs.Follow.{clean_back}
+
+shows_then : (ls ms : List (ℕ × ℕ)) (h : StoresValue) (s t : List ℕ) → ShowsLanes ls h s → ShowsLanes ms h t → ShowsLanes (ls ++ ms) h (s ++ t)
+shows_then [] ms h s t first second = subst (λ (x : List ℕ). ShowsLanes ms h (x ++ t)) (sym first) second
+shows_then (l ∷ ls) ms h s t first second = (first.0, first.1 ++ t, first.2, ap (λ (x : List ℕ). x ++ t) first.3 ∙ append_assoc (lane_line l.0 l.1 first.0) first.1 t, shows_then ls ms h first.1 t first.4 second)
+
+flat-append : {X : Type 0} (f : X → List ℕ) (xs ys : List X) → flat_map f (xs ++ ys) ≡ flat_map f xs ++ flat_map f ys
+flat-append f [] ys = refl
+flat-append f (x ∷ xs) ys = ap (λ l. f x ++ l) (flat-append f xs ys) ∙ sym (append_assoc (f x) (flat_map f xs) (flat_map f ys))
+
+module _ {O L : Type 0} (outbox : O → Standing OutboxValue) (ledger : L → Standing LedgerValue) where
+  -- LANES
+  pub lanes_none : (hub : Hub O L) (before : List ℕ) → AddsLanes outbox ledger [] hub hub before before
+  lanes_none hub before = record { asks = asks_self outbox ledger hub; text = []; grown = sym (append-nil before); shown = λ clean sound h may. refl }
+
+  pub lanes_then : (a b c : Hub O L) (ls ms : List (ℕ × ℕ)) (x y z : List ℕ) → AddsLanes outbox ledger ls a b x y → AddsLanes outbox ledger ms b c y z → AddsLanes outbox ledger (ls ++ ms) a c x z
+  lanes_then a b c ls ms x y z f g = record {
+    asks = asks_join outbox ledger a b c f.asks g.asks;
+    text = f.text ++ g.text;
+    grown = g.grown ∙ (ap (λ (l : List ℕ). l ++ g.text) f.grown ∙ append_assoc x f.text g.text);
+    shown = λ clean sound h may.
+        let before = clean_back outbox ledger b c g.asks.follow clean in
+        shows_then ls ms h f.text g.text (f.shown before sound h (g.asks.same clean (f.asks.sound sound) h may)) (g.shown clean (f.asks.sound sound) h may);
+  }
+
+  pub lane_one : (a b : Hub O L) (owner device : ℕ) (lane : Lane) (x y : List ℕ) → OnlyAsks outbox ledger a b → (AreClean outbox ledger b → AreSound outbox ledger a → (h : StoresValue) → MayStandAs outbox ledger b h → IsLane h owner device lane) → y ≡ x ++ lane_line owner device lane
+      → AddsLanes outbox ledger ((owner, device) ∷ []) a b x y
+  lane_one a b owner device lane x y asks tells is = record {
+    asks = asks;
+    text = lane_line owner device lane;
+    grown = is;
+    shown = λ clean sound h may. (lane, [], tells clean sound h may, sym (append-nil (lane_line owner device lane)), refl);
+  }
+
+  -- where a lane stands, by three questions
+  pub lane_is : (a b c d : Hub O L) (owner device taken rows statements : ℕ) (closed : Option ℕ) → OnlyAsks outbox ledger a b → OnlyAsks outbox ledger b c → OnlyAsks outbox ledger c d
+      → (AreClean outbox ledger b → AreSound outbox ledger a → (h : StoresValue) → MayStandAs outbox ledger a h → ((h.ledgers owner).start ≡ a.scheme.start) × ((taken ≡ length ((h.ledgers owner).taken device)) × (closed ≡ closed_through (h.ledgers owner) device)))
+      → (AreClean outbox ledger c → AreSound outbox ledger b → (h : StoresValue) → MayStandAs outbox ledger b h → HasFrom (h.outbox.rows owner device) (taken + 1) rows)
+      → (AreClean outbox ledger d → AreSound outbox ledger c → (h : StoresValue) → MayStandAs outbox ledger c h → HasFrom (stated_days h.outbox owner device) (day_behind closed c.scheme.start) statements)
+      → AreClean outbox ledger d → AreSound outbox ledger a → (h : StoresValue) → MayStandAs outbox ledger d h → IsLane h owner device (record { taken = taken; closed = closed; rows = rows; statements = statements })
+  lane_is a b c d owner device taken rows statements closed f g k first second third clean sound h may =
+      let sound_b = f.sound sound in
+      let sound_c = g.sound sound_b in
+      let clean_c = clean_back outbox ledger c d k.follow clean in
+      let clean_b = clean_back outbox ledger b c g.follow clean_c in
+      let may_c = k.same clean sound_c h may in
+      let may_b = g.same clean_c sound_b h may_c in
+      let may_a = f.same clean_b sound h may_b in
+      let t = first clean_b sound h may_a in
+      let v = h.ledgers owner in
+      let start : c.scheme.start ≡ v.start = ap (λ (sc : SchemeValue). sc.start) (g.scheme ∙ f.scheme) ∙ sym t.0 in
+      let day : day_behind closed c.scheme.start ≡ first_unclosed v device = (λ i. day_behind (t.1.1 i) (start i)) ∙ behind_last v device in
+      record {
+        taken = t.1.0;
+        closed = t.1.1;
+        rows = subst (λ n. HasFrom (h.outbox.rows owner device) (n + 1) rows) t.1.0 (second clean_c sound_b h may_b);
+        statements = subst (λ n. HasFrom (stated_days h.outbox owner device) n statements) day (third clean sound_c h may_c);
+      }
+
+  -- DEVICES
+  pub uptos_none : (hub : Hub O L) (before : List ℕ) → AddsUptos outbox ledger [] hub hub before before
+  uptos_none hub before = record { asks = asks_self outbox ledger hub; text = []; grown = sym (append-nil before); shown = λ clean sound h may. refl }
+
+  pub upto_then : (a b c : Hub O L) (ds : List ℕ) (device upto : ℕ) (x y z : List ℕ) → AddsUptos outbox ledger ds a b x y → OnlyAsks outbox ledger b c → (AreClean outbox ledger c → AreSound outbox ledger b → (h : StoresValue) → MayStandAs outbox ledger b h → upto ≡ h.outbox.upto device) → z ≡ y ++ upto_line device upto
+      → AddsUptos outbox ledger (ds ++ device ∷ []) a c x z
+  upto_then a b c ds device upto x y z f asks tells is = record {
+    asks = asks_join outbox ledger a b c f.asks asks;
+    text = f.text ++ upto_line device upto;
+    grown = is ∙ (ap (λ (l : List ℕ). l ++ upto_line device upto) f.grown ∙ append_assoc x f.text (upto_line device upto));
+    shown = λ clean sound h may.
+        let before = clean_back outbox ledger b c asks.follow clean in
+        let was = asks.same clean (f.asks.sound sound) h may in
+        ap (λ (l : List ℕ). l ++ upto_line device upto) (f.shown before sound h was)
+        ∙ (ap (λ (n : ℕ). uptos_text ds h.outbox ++ upto_line device n) (tells clean (f.asks.sound sound) h was)
+        ∙ (ap (λ (l : List ℕ). uptos_text ds h.outbox ++ l) (sym (append-nil (upto_line device (h.outbox.upto device)))) ∙ sym (flat-append (λ d. upto_line d (h.outbox.upto d)) ds (device ∷ []))));
+  }
+
+  -- ALL
+  pub standing_written : (a b c : Hub O L) (x y z : List ℕ) (before after : Option (List ℕ)) → x ≡ [] → AddsUptos outbox ledger (keys_of a.scheme.devices) a b x y → AddsLanes outbox ledger (lanes_of b.scheme) b c y z
+      → (text : List ℕ) → text ≡ z → (r : Result (Unit {0}) DeskFault) → OnOk r (Appends before after text) → OnOk r (WritesStanding outbox ledger a c before after)
+  standing_written a b c x y z before after none f g text is (Err fault) w = tt
+  standing_written a b c x y z before after none f g text is (Ok u) w = record {
+    uptos = f.text;
+    lanes = g.text;
+    written = subst (Appends before after) (is ∙ (g.grown ∙ ap (λ (l : List ℕ). l ++ g.text) (f.grown ∙ ap (λ (l : List ℕ). l ++ f.text) none))) w;
+    uptos_are = λ clean sound h may. f.shown (clean_back outbox ledger b c g.asks.follow clean) sound h (g.asks.same clean (f.asks.sound sound) h may);
+    lanes_are = λ clean sound h may. subst (λ (sc : SchemeValue). ShowsLanes (lanes_of sc) h g.text) f.asks.scheme (g.shown clean (f.asks.sound sound) h may);
+  }

@@ -1,0 +1,4 @@
+pub mod Billing
+pub mod Closing
+pub mod Faults
+pub mod Showing

@@ -1,0 +1,76 @@
+//! Bills and settlements of a day, written as the replies to the same questions of a trace.
+ghost use Rattle.std.specs.Prelude.{◌≢◌, IfErr, OnOk};
+ghost use Rattle.std.specs.Io.KnownBytes.{Keeps};
+ghost use Rattle.fare_sessions.specs.Billing.{IsBillRefusal, OnlyReads};
+ghost use Rattle.fare_sessions.specs.Stores.{AreClean, AreSound, HasLedgers};
+ghost use Rattle.fare_desk.specs.Billing.{WritesBill, WritesSettlement};
+ghost use Rattle.fare_desk.specs.Faults.{refused_of};
+ghost use Rattle.fare_desk.specs.declared.fault.DeskFault.TheVariants.{Write};
+
+use crate::fault::{DeskFault, of_refusal};
+use crate::writing::write_text;
+use fare_lines::print_reply;
+use fare_record::{Day, OwnerId};
+use fare_sessions::Hub;
+use fare_store::{Ledger, Outbox};
+use fare_world::Reply;
+use std::alloc::Global;
+use std::io::Write;
+
+/// Writes an owner's bill of a day: the line `bill OWNER DAY ACCOUNTS TOTAL`, and a line for each account. The stores
+/// hold what they held.
+///
+/// Refused by the first of `UnknownOwner`, `BeforeStart` and `NotClosed` that applies; then `Memory` where there was
+/// none for it, and `Store` where the owner's ledger failed; nothing is written then. `Write` where the writer failed.
+pub fn write_bill<O: Outbox, L: Ledger, W: Write>(
+    alloc: Global,
+    hub: &mut Hub<O, L>,
+    owner: OwnerId,
+    day: Day,
+    output: &mut W,
+) -> Result<(), DeskFault>
+    requires ledgers { HasLedgers hub.old }
+    ensures reads { OnlyReads O.standing L.standing hub.old hub.new }
+    ensures written { OnOk result (WritesBill O.standing L.standing hub.old hub.new owner day (W.contents output.old) (W.contents output.new)) }
+    ensures refused { AreClean O.standing L.standing hub.new → AreSound O.standing L.standing hub.old → IsBillRefusal O.standing L.standing hub.old owner day (refused_of result) }
+    ensures kept { IfErr result (λ fault. fault ≢ Write → Keeps (W.contents output.old) (W.contents output.new)) }
+{
+    let bill = match hub.bill(alloc, owner, day) {
+        Ok(bill) => bill,
+        Err(refused) => return Err(of_refusal(refused)),
+    };
+    let mut text = Vec::new(alloc);
+    print_reply(&Reply::Bill { owner, day, bill }, &mut text)?;
+    write_text(output, &text)
+}
+
+/// Writes what each operator gets of an owner's bill of a day: the line `settlement OWNER DAY OPERATORS`, and a line for
+/// each operator. The stores hold what they held.
+///
+/// Refused and failed as `write_bill`.
+pub fn write_settlement<O: Outbox, L: Ledger, W: Write>(
+    alloc: Global,
+    hub: &mut Hub<O, L>,
+    owner: OwnerId,
+    day: Day,
+    output: &mut W,
+) -> Result<(), DeskFault>
+    requires ledgers { HasLedgers hub.old }
+    ensures reads { OnlyReads O.standing L.standing hub.old hub.new }
+    ensures written { OnOk result (WritesSettlement O.standing L.standing hub.old hub.new owner day (W.contents output.old) (W.contents output.new)) }
+    ensures refused { AreClean O.standing L.standing hub.new → AreSound O.standing L.standing hub.old → IsBillRefusal O.standing L.standing hub.old owner day (refused_of result) }
+    ensures kept { IfErr result (λ fault. fault ≢ Write → Keeps (W.contents output.old) (W.contents output.new)) }
+{
+    let settlement = match hub.settlement(alloc, owner, day) {
+        Ok(settlement) => settlement,
+        Err(refused) => return Err(of_refusal(refused)),
+    };
+    let reply = Reply::Settlement {
+        owner,
+        day,
+        settlement,
+    };
+    let mut text = Vec::new(alloc);
+    print_reply(&reply, &mut text)?;
+    write_text(output, &text)
+}

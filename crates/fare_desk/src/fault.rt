@@ -1,0 +1,81 @@
+ghost use Rattle.std.specs.Prelude.{◌≡◌};
+ghost use Rattle.fare_desk.specs.Faults.{named_fault, of_bill, of_store};
+ghost use Rattle.fare_desk.specs.declared.fault.DeskFault.TheVariants.{Memory};
+
+use fare_record::DeviceId;
+use fare_store::{Fault, Refused};
+use fare_world::BillFault;
+use std::alloc::{AllocError, AllocFailed};
+use thiserror::Error;
+
+/// Why a question or an order of an operator came to nothing, in the order in which this is found. Its text is that of
+/// the reply to the same event of a trace, where there is one.
+#[derive(Clone, Copy, PartialEq, Eq, Debug, Error)]
+pub enum DeskFault {
+    /// The owner is not registered.
+    #[error("refused UnknownOwner")]
+    UnknownOwner,
+    /// The day is before the scheme's first one.
+    #[error("refused BeforeStart")]
+    BeforeStart,
+    /// The owner has not closed the day of this device, the first such one in order of registration.
+    #[error("refused NotClosed {}", .device.get())]
+    NotClosed { device: DeviceId },
+    /// There was no memory.
+    #[error("no memory")]
+    Memory,
+    /// A store failed.
+    #[error("store failed")]
+    Store,
+    /// The writer failed. How much it took is not said.
+    #[error("write failed")]
+    Write,
+}
+
+impl From<AllocError> for DeskFault {
+    ghost from_gives = { λ _ e. e ≡ Memory };
+
+    fn from(_error: AllocError) -> DeskFault {
+        DeskFault::Memory
+    }
+}
+
+impl<T: Drop> From<AllocFailed<T>> for DeskFault {
+    ghost from_gives = { λ _ e. e ≡ Memory };
+
+    fn from(_error: AllocFailed<T>) -> DeskFault {
+        DeskFault::Memory
+    }
+}
+
+impl From<Fault> for DeskFault {
+    ghost from_gives = { λ fault e. e ≡ of_store fault };
+
+    fn from(fault: Fault) -> DeskFault {
+        match fault {
+            Fault::Memory => DeskFault::Memory,
+            Fault::Store => DeskFault::Store,
+        }
+    }
+}
+
+// The refusal of a bill, by its name.
+fn of_name(why: BillFault) -> DeskFault
+    ensures { result ≡ named_fault why }
+{
+    match why {
+        BillFault::UnknownOwner => DeskFault::UnknownOwner,
+        BillFault::BeforeStart => DeskFault::BeforeStart,
+        BillFault::NotClosed { device } => DeskFault::NotClosed { device },
+    }
+}
+
+// Why there is no bill.
+pub(crate) fn of_refusal(refused: Refused<BillFault>) -> DeskFault
+    ensures { result ≡ of_bill refused }
+{
+    match refused {
+        Refused::Because(why) => of_name(why),
+        Refused::Failed(fault) => DeskFault::from(fault),
+    }
+}

@@ -1,0 +1,17 @@
+//! What an operator asks of a hub and orders of it between its sessions: bills and settlements of a day, the closes of
+//! all days that can be closed, and where each lane stands. It promises that what is written is the spelling of what
+//! the stores' rows make: of a bill of exactly the taps that the owner's ledger holds of the week, of the closes in
+//! their order with what came of each, of the numbers that the stores hold. A question changes nothing, and a close
+//! keeps the rows in agreement with the lists of taps that the devices numbered.
+#![tactic(auto)]
+
+mod billing;
+mod closing;
+mod fault;
+mod standing;
+mod writing;
+
+pub use billing::{write_bill, write_settlement};
+pub use closing::close_days;
+pub use fault::DeskFault;
+pub use standing::write_standing;

@@ -1,0 +1,306 @@
+//! Where each device's lanes stand.
+ghost use Rattle.std.specs.Prelude.{◌≡◌, ◌≢◌, ◌+◌, ◌<◌, ◌++◌, ◌∷◌, [], None, length, string_bytes, IfOk, IfErr, IfSome, IfNone, OnOk};
+ghost use Rattle.std.specs.Io.KnownBytes.{Keeps};
+ghost use Rattle.std.specs.Map.{keys_of};
+ghost use Rattle.fare_history.specs.Stores.{StoresValue};
+ghost use Rattle.fare_scheme.specs.Words.{position_of_owner};
+ghost use Rattle.fare_store.specs.LedgerWords.{closed_through};
+ghost use Rattle.fare_store.specs.Standing.{Reads};
+ghost use Rattle.fare_sessions.specs.Billing.{day_behind};
+ghost use Rattle.fare_sessions.specs.Stores.{AreClean, AreSound, HasLedgers, MayStandAs};
+ghost use Rattle.fare_desk.specs.Closing.{lanes_of, lanes_with};
+ghost use Rattle.fare_desk.specs.Showing.{AddsLanes, AddsUptos, HasFrom, IsLane, OnlyAsks, WritesStanding, closed_word, lane_line, stated_days, upto_line};
+ghost use Rattle.fare_desk.specs.Faults.{name_of};
+ghost use Rattle.fare_desk.specs.declared.fault.DeskFault.TheVariants.{Write};
+
+use crate::fault::DeskFault;
+use crate::writing::write_text;
+use fare_record::{Day, DeviceId, OwnerId};
+use fare_sessions::Hub;
+use fare_store::{Fault, Ledger, Outbox};
+use std::alloc::{AllocError, Global};
+use std::io::Write;
+
+/// Where an owner's lane of a device stands: how many taps are taken, the last day that is closed, and how many rows and
+/// statements wait.
+#[derive(Clone, Copy, PartialEq, Eq, Debug)]
+pub(crate) struct Lane {
+    taken: u64,
+    closed: Option<Day>,
+    rows: u64,
+    statements: u64,
+}
+
+// How many taps of a device a ledger has taken, and the last day that it has closed.
+fn taken_by<L: Ledger>(ledger: &mut L, device: DeviceId) -> Result<(u64, Option<Day>), Fault>
+    ensures { Reads (L.standing ledger.old) (L.standing ledger.new) (λ told. (told.0 ≡ length ((L.standing ledger.old).value.taken device)) × (told.1 ≡ closed_through (L.standing ledger.old).value device)) result }
+{
+    let taken = ledger.count(device)?;
+    let closed = ledger.closed_through(device)?;
+    Ok((taken, closed))
+}
+
+// How many rows of a lane an outbox holds behind a lane number.
+fn rows_behind<O: Outbox>(
+    outbox: &mut O,
+    owner: OwnerId,
+    device: DeviceId,
+    after: u64,
+) -> Result<u64, Fault>
+    ensures { Reads (O.standing outbox.old) (O.standing outbox.new) (HasFrom ((O.standing outbox.old).value.rows owner device) (after + 1)) result }
+{
+    let mut last = after;
+    let mut rows: u64 = 0;
+    loop {
+        let Some(row) = outbox.next_row(owner, device, last)? else {
+            return Ok(rows);
+        };
+        let lane = row.lane();
+        if lane <= last {
+            return Ok(rows);
+        }
+        last = lane;
+        rows += 1;
+    }
+}
+
+// How many statements of a device an outbox holds for an owner, of the days behind one, or of all.
+fn statements_from<O: Outbox>(
+    outbox: &mut O,
+    owner: OwnerId,
+    device: DeviceId,
+    first: Day,
+) -> Result<u64, Fault>
+    ensures { Reads (O.standing outbox.old) (O.standing outbox.new) (HasFrom (stated_days (O.standing outbox.old).value owner device) first) result }
+{
+    let mut from = first;
+    let mut statements: u64 = 0;
+    loop {
+        let Some(statement) = outbox.next_statement(owner, device, from)? else {
+            return Ok(statements);
+        };
+        let day = statement.day();
+        if day < from {
+            return Ok(statements);
+        }
+        statements += 1;
+        let Some(next) = Day::new(u64::from(day.get()) + 1) else {
+            return Ok(statements);
+        };
+        from = next;
+    }
+}
+
+// The day behind the last closed one, if there is one; the first one where none is closed.
+fn first_unclosed(closed: Option<Day>, start: Day) -> Option<Day>
+    ensures day { IfSome result (λ day. day ≡ day_behind closed start) }
+    ensures none { IfNone result (100000 < day_behind closed start) }
+{
+    match closed {
+        Some(last) => Day::new(u64::from(last.get()) + 1),
+        None => Some(start),
+    }
+}
+
+// How many taps of a device an owner has taken, and the last day that it has closed.
+fn ask_ledger<O: Outbox, L: Ledger>(
+    hub: &mut Hub<O, L>,
+    owner: OwnerId,
+    device: DeviceId,
+) -> Result<(u64, Option<Day>), Fault>
+    requires ledgers { HasLedgers hub.old }
+    requires known { position_of_owner hub.old.scheme owner ≢ None }
+    ensures asks { OnlyAsks O.standing L.standing hub.old hub.new }
+    ensures tells { AreClean O.standing L.standing hub.new → AreSound O.standing L.standing hub.old → IfOk result (λ told. (h : StoresValue) → MayStandAs O.standing L.standing hub.old h → ((h.ledgers owner).start ≡ hub.old.scheme.start) × ((told.0 ≡ length ((h.ledgers owner).taken device)) × (told.1 ≡ closed_through (h.ledgers owner) device))) }
+{
+    let Some(at) = hub.scheme.owner_position(owner) else {
+        unreachable!()
+    };
+    taken_by(&mut hub.ledgers[at], device)
+}
+
+// How many rows of a lane wait behind a lane number.
+fn ask_rows<O: Outbox, L: Ledger>(
+    hub: &mut Hub<O, L>,
+    owner: OwnerId,
+    device: DeviceId,
+    after: u64,
+) -> Result<u64, Fault>
+    ensures asks { OnlyAsks O.standing L.standing hub.old hub.new }
+    ensures tells { AreClean O.standing L.standing hub.new → AreSound O.standing L.standing hub.old → IfOk result (λ rows. (h : StoresValue) → MayStandAs O.standing L.standing hub.old h → HasFrom (h.outbox.rows owner device) (after + 1) rows) }
+{
+    rows_behind(&mut hub.outbox, owner, device, after)
+}
+
+// How many statements of a device wait for an owner that has closed its days up to one, or none.
+fn ask_statements<O: Outbox, L: Ledger>(
+    hub: &mut Hub<O, L>,
+    owner: OwnerId,
+    device: DeviceId,
+    closed: Option<Day>,
+) -> Result<u64, Fault>
+    ensures asks { OnlyAsks O.standing L.standing hub.old hub.new }
+    ensures tells { AreClean O.standing L.standing hub.new → AreSound O.standing L.standing hub.old → IfOk result (λ statements. (h : StoresValue) → MayStandAs O.standing L.standing hub.old h → HasFrom (stated_days h.outbox owner device) (day_behind closed hub.old.scheme.start) statements) }
+{
+    match first_unclosed(closed, hub.scheme.start()) {
+        Some(first) => statements_from(&mut hub.outbox, owner, device, first),
+        None => Ok(0),
+    }
+}
+
+// Where an owner's lane of a device stands.
+fn lane_of<O: Outbox, L: Ledger>(
+    hub: &mut Hub<O, L>,
+    owner: OwnerId,
+    device: DeviceId,
+) -> Result<Lane, Fault>
+    requires ledgers { HasLedgers hub.old }
+    requires known { position_of_owner hub.old.scheme owner ≢ None }
+    ensures asks { OnlyAsks O.standing L.standing hub.old hub.new }
+    ensures tells { AreClean O.standing L.standing hub.new → AreSound O.standing L.standing hub.old → IfOk result (λ lane. (h : StoresValue) → MayStandAs O.standing L.standing hub.new h → IsLane h owner device lane) }
+{
+    let told = ask_ledger(hub, owner, device)?;
+    let rows = ask_rows(hub, owner, device, told.0)?;
+    let statements = ask_statements(hub, owner, device, told.1)?;
+    Ok(Lane {
+        taken: told.0,
+        closed: told.1,
+        rows,
+        statements,
+    })
+}
+
+// The word of the last closed day.
+fn closed_text(alloc: Global, closed: Option<Day>) -> Result<String, AllocError>
+    ensures { IfOk result (λ text. string_bytes text ≡ closed_word closed) }
+{
+    match closed {
+        Some(day) => {
+            let day = day.get();
+            format!(in alloc; "{day}")
+        }
+        None => String::from_str(alloc, "none"),
+    }
+}
+
+// The line of a lane.
+fn add_lane(
+    alloc: Global,
+    owner: OwnerId,
+    device: DeviceId,
+    lane: Lane,
+    text: &mut String,
+) -> Result<(), AllocError>
+    ensures { OnOk result (string_bytes text.new ≡ string_bytes text.old ++ lane_line owner device lane) }
+{
+    let owner = owner.get();
+    let device = device.get();
+    let taken = lane.taken;
+    let rows = lane.rows;
+    let statements = lane.statements;
+    text.push_str(&format!(in alloc; "lane {owner} {device} taken {taken} closed ")?)?;
+    text.push_str(&closed_text(alloc, lane.closed)?)?;
+    text.push_str(&format!(in alloc; " rows {rows} statements {statements}\n")?)?;
+    Ok(())
+}
+
+// Adds the lines of an owner's lanes.
+fn add_owner<O: Outbox, L: Ledger>(
+    alloc: Global,
+    hub: &mut Hub<O, L>,
+    owner: OwnerId,
+    text: &mut String,
+) -> Result<(), Fault>
+    requires ledgers { HasLedgers hub.old }
+    requires known { position_of_owner hub.old.scheme owner ≢ None }
+    ensures asks { OnlyAsks O.standing L.standing hub.old hub.new }
+    ensures adds { OnOk result (AddsLanes O.standing L.standing (lanes_with owner (keys_of hub.old.scheme.devices)) hub.old hub.new (string_bytes text.old) (string_bytes text.new)) }
+{
+    for place in 0..hub.scheme.device_count() {
+        let Some(device) = hub.scheme.device_at(place) else {
+            unreachable!()
+        };
+        let lane = lane_of(hub, owner, device)?;
+        add_lane(alloc, owner, device, lane, text)?;
+    }
+    Ok(())
+}
+
+// Adds the lines of all lanes.
+fn add_lanes<O: Outbox, L: Ledger>(
+    alloc: Global,
+    hub: &mut Hub<O, L>,
+    text: &mut String,
+) -> Result<(), Fault>
+    requires ledgers { HasLedgers hub.old }
+    ensures asks { OnlyAsks O.standing L.standing hub.old hub.new }
+    ensures adds { OnOk result (AddsLanes O.standing L.standing (lanes_of hub.old.scheme) hub.old hub.new (string_bytes text.old) (string_bytes text.new)) }
+{
+    for place in 0..hub.scheme.owner_count() {
+        let Some(owner) = hub.scheme.owner_at(place) else {
+            unreachable!()
+        };
+        add_owner(alloc, hub, owner, text)?;
+    }
+    Ok(())
+}
+
+// How far the outbox has had a device's taps.
+fn ask_upto<O: Outbox, L: Ledger>(hub: &mut Hub<O, L>, device: DeviceId) -> Result<u64, Fault>
+    ensures asks { OnlyAsks O.standing L.standing hub.old hub.new }
+    ensures tells { AreClean O.standing L.standing hub.new → AreSound O.standing L.standing hub.old → IfOk result (λ upto. (h : StoresValue) → MayStandAs O.standing L.standing hub.old h → upto ≡ h.outbox.upto device) }
+{
+    hub.outbox.upto(device)
+}
+
+// The line of a device.
+fn add_upto(alloc: Global, device: DeviceId, upto: u64, text: &mut String) -> Result<(), AllocError>
+    ensures { OnOk result (string_bytes text.new ≡ string_bytes text.old ++ upto_line device upto) }
+{
+    let device = device.get();
+    text.push_str(&format!(in alloc; "upto {device} {upto}\n")?)?;
+    Ok(())
+}
+
+// Adds the lines of the devices.
+fn add_uptos<O: Outbox, L: Ledger>(
+    alloc: Global,
+    hub: &mut Hub<O, L>,
+    text: &mut String,
+) -> Result<(), Fault>
+    ensures asks { OnlyAsks O.standing L.standing hub.old hub.new }
+    ensures adds { OnOk result (AddsUptos O.standing L.standing (keys_of hub.old.scheme.devices) hub.old hub.new (string_bytes text.old) (string_bytes text.new)) }
+{
+    for place in 0..hub.scheme.device_count() {
+        let Some(device) = hub.scheme.device_at(place) else {
+            unreachable!()
+        };
+        let upto = ask_upto(hub, device)?;
+        add_upto(alloc, device, upto, text)?;
+    }
+    Ok(())
+}
+
+/// Writes where each device's lanes stand: for each device the line `upto DEVICE N` with the greatest link that the
+/// outbox has had of it; and for each owner and device `lane OWNER DEVICE taken N closed DAY rows N statements N`: how many
+/// taps the owner has taken, the last day that it has closed, or `none`, and how many rows and statements the outbox holds
+/// that it hasn't taken and of days that it hasn't closed. The stores hold what they held.
+///
+/// `Memory` where there was none for it, and `Store` where a store failed; nothing is written then. `Write` where the
+/// writer failed.
+pub fn write_standing<O: Outbox, L: Ledger, W: Write>(
+    alloc: Global,
+    hub: &mut Hub<O, L>,
+    output: &mut W,
+) -> Result<(), DeskFault>
+    requires ledgers { HasLedgers hub.old }
+    ensures asks { OnlyAsks O.standing L.standing hub.old hub.new }
+    ensures written { OnOk result (WritesStanding O.standing L.standing hub.old hub.new (W.contents output.old) (W.contents output.new)) }
+    ensures unnamed { IfErr result (λ fault. name_of fault ≡ None) }
+    ensures kept { IfErr result (λ fault. fault ≢ Write → Keeps (W.contents output.old) (W.contents output.new)) }
+{
+    let mut text = String::new(alloc);
+    add_uptos(alloc, hub, &mut text)?;
+    add_lanes(alloc, hub, &mut text)?;
+    write_text(output, text.as_bytes())
+}
