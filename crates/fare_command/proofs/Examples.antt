@@ -44,3 +44,23 @@ waits = refl
 no_wait : fault_of hub_app (codes "serve" ∷ codes "--port" ∷ codes "1" ∷ codes "--turns" ∷ codes "1" ∷ codes "--outbox" ∷ codes "x" ∷ codes "--read-ms" ∷ codes "0" ∷ []) ≡ kind.ValueValidation ∷ []
 unfolding clap_on_literals
 no_wait = refl
+
+rounds : fault_of hub_app (codes "serve" ∷ codes "--port" ∷ codes "1" ∷ codes "--turns" ∷ codes "1" ∷ codes "--outbox" ∷ codes "x" ∷ codes "--rounds" ∷ codes "4294967295" ∷ codes "--until" ∷ codes "y" ∷ []) ≡ []
+unfolding clap_on_literals
+rounds = refl
+
+bill : fault_of hub_app (codes "bill" ∷ codes "--outbox" ∷ codes "x" ∷ codes "--owner" ∷ codes "65535" ∷ codes "--day" ∷ codes "0" ∷ []) ≡ []
+unfolding clap_on_literals
+bill = refl
+
+no_owner : fault_of hub_app (codes "settle" ∷ codes "--outbox" ∷ codes "x" ∷ codes "--owner" ∷ codes "0" ∷ codes "--day" ∷ codes "0" ∷ []) ≡ kind.ValueValidation ∷ []
+unfolding clap_on_literals
+no_owner = refl
+
+no_day : fault_of hub_app (codes "bill" ∷ codes "--outbox" ∷ codes "x" ∷ codes "--owner" ∷ codes "1" ∷ []) ≡ kind.MissingRequiredArgument ∷ []
+unfolding clap_on_literals
+no_day = refl
+
+no_stores : fault_of hub_app (codes "close" ∷ []) ≡ kind.MissingRequiredArgument ∷ []
+unfolding clap_on_literals
+no_stores = refl

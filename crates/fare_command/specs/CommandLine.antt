@@ -1,5 +1,7 @@
--- The command line, in the words of clap: `replay [--store STORE]`, and
--- `serve --port PORT --turns TURNS --outbox PATH [--read-ms MILLIS] [--write-ms MILLIS]`.
+-- The command line, in the words of clap: `replay [--store STORE]`;
+-- `serve --port PORT --turns TURNS --outbox PATH [--read-ms MILLIS] [--write-ms MILLIS] [--rounds N] [--until FILE] [--patience N]`;
+-- and of the stores at a path `close --outbox PATH`, `bill --outbox PATH --owner O --day D`, `settle` with the same words,
+-- and `stand --outbox PATH`.
 use Rattle.std.specs.Prelude.{Some, true, codes, pos}
 use Rattle.clap.specs.Words.{App, Rule, Text, new_app, new_rule, with_rule, with_subcommand}
 use Rattle.clap.specs.declared.builder.ArgAction.TheVariants.{Set}
@@ -31,21 +33,59 @@ read_rule = millis_rule (codes "read-ms")
 abbrev pub write_rule : Rule
 write_rule = millis_rule (codes "write-ms")
 
+abbrev pub rounds_rule : Rule
+rounds_rule = record (option_rule (codes "rounds")) { parser = Some (vp.Signed (pos 1) (pos 4294967295)) }
+
+abbrev pub until_rule : Rule
+until_rule = option_rule (codes "until")
+
+abbrev pub patience_rule : Rule
+patience_rule = record (option_rule (codes "patience")) { parser = Some (vp.Signed (pos 1) (pos 1000000000)) }
+
+abbrev pub owner_rule : Rule
+owner_rule = record (option_rule (codes "owner")) { required = true; parser = Some (vp.Signed (pos 1) (pos 65535)) }
+
+abbrev pub day_rule : Rule
+day_rule = record (option_rule (codes "day")) { required = true; parser = Some (vp.Signed (pos 0) (pos 100000)) }
+
+-- REPLAY
 abbrev pub replay_app : App
 replay_app = with_rule (new_app (codes "replay")) store_rule
 
--- what `serve` has to be told
+-- SERVE
+-- what it has to be told
 abbrev pub plain_serve_app : App
 plain_serve_app = with_rule (with_rule (with_rule (new_app (codes "serve")) port_rule) turns_rule) outbox_rule
 
-abbrev pub serve_app : App
-serve_app = with_rule (with_rule plain_serve_app read_rule) write_rule
+-- and how long it waits
+abbrev pub waiting_serve_app : App
+waiting_serve_app = with_rule (with_rule plain_serve_app read_rule) write_rule
 
+-- and how often it begins again
+abbrev pub serve_app : App
+serve_app = with_rule (with_rule (with_rule waiting_serve_app rounds_rule) until_rule) patience_rule
+
+-- QUESTIONS
+-- of the stores at a path
+abbrev pub stores_app : Text → App
+stores_app name = with_rule (new_app name) outbox_rule
+
+-- and of an owner's day
+abbrev pub day_app : Text → App
+day_app name = with_rule (with_rule (stores_app name) owner_rule) day_rule
+
+-- ALL
 -- the words are those after the program's name, one is a subcommand, and there is a version
 abbrev pub base_app : App
 base_app =
     let a = new_app (codes "fare_hub") in
     record a { top = record a.top { no_binary_name = true; subcommand_required = true; has_version = true } }
 
+abbrev pub running_app : App
+running_app = with_subcommand (with_subcommand base_app replay_app.top) serve_app.top
+
+abbrev pub asking_app : App
+asking_app = with_subcommand (with_subcommand running_app (stores_app (codes "close")).top) (day_app (codes "bill")).top
+
 abbrev pub hub_app : App
-hub_app = with_subcommand (with_subcommand base_app replay_app.top) serve_app.top
+hub_app = with_subcommand (with_subcommand asking_app (day_app (codes "settle")).top) (stores_app (codes "stand")).top

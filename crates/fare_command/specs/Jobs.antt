@@ -1,14 +1,17 @@
 -- The job that clap's matches of the words say, and why there is none.
-use Rattle.std.specs.Prelude.{◌≡◌, ℕ, ◌≤◌, List, [], Option, Some, None, true, false, codes, Bool, ◌⊎◌, Ok}
+use Rattle.std.specs.Prelude.{◌≡◌, ℕ, ◌≤◌, List, [], Option, Some, None, true, false, codes, Bool, ◌⊎◌, Ok, option_map}
 use Rattle.std.specs.Str.Parse.{ParsesUnsigned}
 use Rattle.clap.specs.Faults.{fault_of}
 use Rattle.clap.specs.Kinds.{IsAmong}
 use Rattle.clap.specs.Words.{Row, Text, first_of, subcommand_of, takes}
 use Rattle.clap.specs.declared.error.kind.ErrorKind.{ErrorKind}
 use Rattle.clap.specs.declared.error.kind.ErrorKind.TheVariants.{DisplayHelp, DisplayVersion, OutOfMemory}
+use Rattle.fare_record.specs.Limits.{IsDay, IsOwnerId}
 use Rattle.fare_command.specs.CommandLine.{hub_app}
 use Rattle.fare_command.specs.declared.words.Job.{Job}
-use Rattle.fare_command.specs.declared.words.Job.TheVariants.{Replay, Serve}
+use Rattle.fare_command.specs.declared.words.Job.TheVariants.{Replay, Serve, Ask}
+use Rattle.fare_command.specs.declared.words.Question.{Question}
+use Rattle.fare_command.specs.declared.words.Question.TheVariants.{Close, Bill, Settle, Stand}
 use Rattle.fare_command.specs.declared.words.WordsFault.{WordsFault}
 use Rattle.fare_command.specs.declared.words.WordsFault.TheVariants.{Asked, Refused, Memory}
 
@@ -26,18 +29,45 @@ IsNumber bits (Some text) n = ParsesUnsigned {E = ℕ} bits 10 text (Ok n)
 abbrev pub IsTurns : Option Text → ℕ → Type 0
 IsTurns text n = IsNumber 32 text n × (1 ≤ n) × (n ≤ 1000000000)
 
+-- a number from 1 to this one; that one where none is given
+abbrev pub IsGiven : ℕ → ℕ → Option Text → ℕ → Type 0
+IsGiven most default None n = n ≡ default
+IsGiven most default (Some text) n = ParsesUnsigned {E = ℕ} 32 10 text (Ok n) × (1 ≤ n) × (n ≤ most)
+
 -- a number of milliseconds, 1 to 60,000; this one where none is given
 abbrev pub IsMillis : ℕ → Option Text → ℕ → Type 0
-IsMillis default None n = n ≡ default
-IsMillis default (Some text) n = ParsesUnsigned {E = ℕ} 32 10 text (Ok n) × (1 ≤ n) × (n ≤ 60000)
+IsMillis default text n = IsGiven 60000 default text n
+
+-- how many rounds where no number is given: one, and as many as there may be where a file is to end them
+abbrev pub usual_rounds : Option Text → ℕ
+usual_rounds None = 1
+usual_rounds (Some file) = 4294967295
+
+-- an owner, and a day, that the texts of options say
+abbrev pub IsOwnerIn : List Row → ℕ → Type 0
+IsOwnerIn rows owner = IsNumber 16 (first_of (codes "owner") rows) owner × IsOwnerId owner
+
+abbrev pub IsDayIn : List Row → ℕ → Type 0
+IsDayIn rows day = IsNumber 32 (first_of (codes "day") rows) day × IsDay day
+
+-- the question of a subcommand with these matches
+abbrev pub IsQuestion : Text → List Row → Question → Type 0
+IsQuestion name rows Close = name ≡ codes "close"
+IsQuestion name rows (Bill owner day) = (name ≡ codes "bill") × IsOwnerIn rows owner × IsDayIn rows day
+IsQuestion name rows (Settle owner day) = (name ≡ codes "settle") × IsOwnerIn rows owner × IsDayIn rows day
+IsQuestion name rows Stand = name ≡ codes "stand"
 
 -- the job of a subcommand with these matches
 abbrev pub JobIn : Text → List Row → Job → Type 0
 JobIn name rows (Replay sql) = (name ≡ codes "replay") × IsStore (first_of (codes "store") rows) sql
-JobIn name rows (Serve port turns path read_millis write_millis) = (name ≡ codes "serve")
+JobIn name rows (Serve port turns path read_millis write_millis rounds until patience) = (name ≡ codes "serve")
     × IsNumber 16 (first_of (codes "port") rows) port × IsTurns (first_of (codes "turns") rows) turns
     × (first_of (codes "outbox") rows ≡ Some path.now)
     × IsMillis 10 (first_of (codes "read-ms") rows) read_millis × IsMillis 1000 (first_of (codes "write-ms") rows) write_millis
+    × IsGiven 4294967295 (usual_rounds (first_of (codes "until") rows)) (first_of (codes "rounds") rows) rounds
+    × (option_map (λ file. file.now) until ≡ first_of (codes "until") rows)
+    × IsGiven 1000000000 10 (first_of (codes "patience") rows) patience
+JobIn name rows (Ask path question) = (first_of (codes "outbox") rows ≡ Some path.now) × IsQuestion name rows question
 
 -- the job of the matches of the words
 abbrev pub JobOf : Option (Text × List Row) → Job → Type 0

@@ -1,7 +1,7 @@
-ghost use Rattle.std.specs.Prelude.{◌≡◌, IfOk, false};
+ghost use Rattle.std.specs.Prelude.{◌≡◌, IfOk, false, codes};
 ghost use Rattle.clap.specs.Words.{app_of, rule_of, with_subcommand};
 ghost use Rattle.clap.specs.declared.builder.command.Command.TheViews.{out-Command};
-ghost use Rattle.fare_command.specs.CommandLine.{base_app, hub_app, plain_serve_app, replay_app, serve_app, store_rule, port_rule, turns_rule, outbox_rule, read_rule, write_rule};
+ghost use Rattle.fare_command.specs.CommandLine.{asking_app, base_app, day_app, day_rule, hub_app, outbox_rule, owner_rule, patience_rule, plain_serve_app, port_rule, read_rule, replay_app, rounds_rule, running_app, serve_app, store_rule, stores_app, turns_rule, until_rule, waiting_serve_app, write_rule};
 
 use clap::{Arg, ArgAction, Command};
 use std::alloc::{AllocError, Global};
@@ -85,6 +85,74 @@ fn write_arg<'a>(alloc: Global) -> Arg<'a>
         .help("How long a write to a line waits, 1 to 60,000 (1,000 if not given)")
 }
 
+/// `--rounds N`
+fn rounds_arg<'a>(alloc: Global) -> Arg<'a>
+    ensures rule { rule_of result ≡ rounds_rule }
+    ensures local { result.global ≡ false }
+{
+    Arg::new(alloc, "rounds")
+        .long("rounds")
+        .value_name("N")
+        .action(ArgAction::Set)
+        .value_parser(clap::value_parser!(u32).range(1..=4_294_967_295))
+        .help("How many rounds it serves, 1 to 4,294,967,295 (1 if not given, all with --until)")
+}
+
+/// `--until FILE`
+fn until_arg<'a>(alloc: Global) -> Arg<'a>
+    ensures rule { rule_of result ≡ until_rule }
+    ensures local { result.global ≡ false }
+{
+    Arg::new(alloc, "until")
+        .long("until")
+        .value_name("FILE")
+        .action(ArgAction::Set)
+        .help("It ends after the round in which this file is there")
+}
+
+/// `--patience N`
+fn patience_arg<'a>(alloc: Global) -> Arg<'a>
+    ensures rule { rule_of result ≡ patience_rule }
+    ensures local { result.global ≡ false }
+{
+    Arg::new(alloc, "patience")
+        .long("patience")
+        .value_name("N")
+        .action(ArgAction::Set)
+        .value_parser(clap::value_parser!(u32).range(1..=1_000_000_000))
+        .help(
+            "After how many quiet reads of a line the round goes on, 1 to 1,000,000,000 (10 if not given)",
+        )
+}
+
+/// `--owner O`
+fn owner_arg<'a>(alloc: Global) -> Arg<'a>
+    ensures rule { rule_of result ≡ owner_rule }
+    ensures local { result.global ≡ false }
+{
+    Arg::new(alloc, "owner")
+        .long("owner")
+        .value_name("O")
+        .action(ArgAction::Set)
+        .required(true)
+        .value_parser(clap::value_parser!(u32).range(1..=65_535))
+        .help("The owner, 1 to 65,535")
+}
+
+/// `--day D`
+fn day_arg<'a>(alloc: Global) -> Arg<'a>
+    ensures rule { rule_of result ≡ day_rule }
+    ensures local { result.global ≡ false }
+{
+    Arg::new(alloc, "day")
+        .long("day")
+        .value_name("D")
+        .action(ArgAction::Set)
+        .required(true)
+        .value_parser(clap::value_parser!(u32).range(0..=100_000))
+        .help("The traffic day, counted from 1970-01-01 = 0, up to 100,000")
+}
+
 fn replay_command<'a>(alloc: Global) -> Result<Command<'a>, AllocError>
     ensures { IfOk result (λ c. (app_of c ≡ replay_app) × ((out-Command c).has_globals ≡ false)) }
 {
@@ -106,12 +174,44 @@ fn plain_serve_command<'a>(alloc: Global) -> Result<Command<'a>, AllocError>
         .arg(outbox_arg(alloc))
 }
 
-fn serve_command<'a>(alloc: Global) -> Result<Command<'a>, AllocError>
-    ensures { IfOk result (λ c. (app_of c ≡ serve_app) × ((out-Command c).has_globals ≡ false)) }
+/// `serve`, with how long it waits.
+fn waiting_serve_command<'a>(alloc: Global) -> Result<Command<'a>, AllocError>
+    ensures { IfOk result (λ c. (app_of c ≡ waiting_serve_app) × ((out-Command c).has_globals ≡ false)) }
 {
     plain_serve_command(alloc)?
         .arg(read_arg(alloc))?
         .arg(write_arg(alloc))
+}
+
+fn serve_command<'a>(alloc: Global) -> Result<Command<'a>, AllocError>
+    ensures { IfOk result (λ c. (app_of c ≡ serve_app) × ((out-Command c).has_globals ≡ false)) }
+{
+    waiting_serve_command(alloc)?
+        .arg(rounds_arg(alloc))?
+        .arg(until_arg(alloc))?
+        .arg(patience_arg(alloc))
+}
+
+/// A question of the stores at a path.
+fn stores_command<'a>(
+    alloc: Global,
+    name: &'a str,
+    about: &'a str,
+) -> Result<Command<'a>, AllocError>
+    ensures { IfOk result (λ c. (app_of c ≡ stores_app name.now) × ((out-Command c).has_globals ≡ false)) }
+{
+    Command::new(alloc, name)
+        .about(about)
+        .arg(outbox_arg(alloc))
+}
+
+/// A question of an owner's day.
+fn day_command<'a>(alloc: Global, name: &'a str, about: &'a str) -> Result<Command<'a>, AllocError>
+    ensures { IfOk result (λ c. (app_of c ≡ day_app name.now) × ((out-Command c).has_globals ≡ false)) }
+{
+    stores_command(alloc, name, about)?
+        .arg(owner_arg(alloc))?
+        .arg(day_arg(alloc))
 }
 
 /// The program, with no subcommand yet.
@@ -134,10 +234,46 @@ fn with_replay<'a>(alloc: Global) -> Result<Command<'a>, AllocError>
     base_command(alloc)?.subcommand(replay)
 }
 
+/// And with `serve`.
+fn running_command<'a>(alloc: Global) -> Result<Command<'a>, AllocError>
+    ensures { IfOk result (λ c. (app_of c ≡ running_app) × ((out-Command c).has_globals ≡ false)) }
+{
+    let serve = serve_command(alloc)?;
+    with_replay(alloc)?.subcommand(serve)
+}
+
+/// And with `close`.
+fn with_close<'a>(alloc: Global) -> Result<Command<'a>, AllocError>
+    ensures { IfOk result (λ c. (app_of c ≡ with_subcommand running_app (stores_app (codes "close")).top) × ((out-Command c).has_globals ≡ false)) }
+{
+    let about = "Reads a scheme, and closes all days of its owners' ledgers that can be closed";
+    let close = stores_command(alloc, "close", about)?;
+    running_command(alloc)?.subcommand(close)
+}
+
+/// And with `bill`.
+fn asking_command<'a>(alloc: Global) -> Result<Command<'a>, AllocError>
+    ensures { IfOk result (λ c. (app_of c ≡ asking_app) × ((out-Command c).has_globals ≡ false)) }
+{
+    let about = "Reads a scheme, and writes an owner's bill of a day";
+    let bill = day_command(alloc, "bill", about)?;
+    with_close(alloc)?.subcommand(bill)
+}
+
+/// And with `settle`.
+fn with_settle<'a>(alloc: Global) -> Result<Command<'a>, AllocError>
+    ensures { IfOk result (λ c. (app_of c ≡ with_subcommand asking_app (day_app (codes "settle")).top) × ((out-Command c).has_globals ≡ false)) }
+{
+    let about = "Reads a scheme, and writes what each operator gets of an owner's bill of a day";
+    let settle = day_command(alloc, "settle", about)?;
+    asking_command(alloc)?.subcommand(settle)
+}
+
 /// The command line of the program.
 pub fn hub_command<'a>(alloc: Global) -> Result<Command<'a>, AllocError>
     ensures { IfOk result (λ c. app_of c ≡ hub_app) }
 {
-    let serve = serve_command(alloc)?;
-    with_replay(alloc)?.subcommand(serve)
+    let about = "Reads a scheme, and writes where each device's lanes stand";
+    let stand = stores_command(alloc, "stand", about)?;
+    with_settle(alloc)?.subcommand(stand)
 }

@@ -2,12 +2,13 @@ ghost use Rattle.std.specs.Prelude.{◌≡◌, ℕ, Bool, None, IfOk, IfErr, map
 ghost use Rattle.clap.specs.Words.{rows_of, found_of, first_of, subcommand_of, subcommand_rows_of};
 ghost use Rattle.clap.specs.Values.{kind_of};
 ghost use Rattle.fare_command.specs.CommandLine.{hub_app};
-ghost use Rattle.fare_command.specs.Jobs.{IsStore, IsMillis, IsNumber, IsTurns, JobIn, JobOf, RefusedFor, FailsOn, IsSound, Tells};
+ghost use Rattle.fare_command.specs.Jobs.{IsDayIn, IsGiven, IsOwnerIn, IsStore, IsNumber, IsTurns, JobIn, JobOf, RefusedFor, FailsOn, IsSound, Tells};
 ghost use Rattle.fare_command.specs.declared.words.WordsFault.TheVariants.{Memory};
 
 use crate::command::hub_command;
 use clap::ArgMatches;
 use clap::error::ErrorKind;
+use fare_record::{Day, OwnerId};
 use std::alloc::{AllocError, Global};
 use thiserror::Error;
 
@@ -17,10 +18,31 @@ const MOST_TURNS: u32 = 1_000_000_000;
 /// The most milliseconds that a read or a write of a line may wait.
 const MOST_MILLIS: u32 = 60_000;
 
+/// The most rounds that may be asked for.
+const MOST_ROUNDS: u32 = 4_294_967_295;
+
+/// The most quiet reads that may be asked for, and how many they are where nothing else is asked for.
+const MOST_PATIENCE: u32 = 1_000_000_000;
+
+const PATIENCE: u32 = 10;
+
 /// How many milliseconds a read of a line waits, and a write, where nothing else is asked for.
 const READ_MILLIS: u32 = 10;
 
 const WRITE_MILLIS: u32 = 1_000;
+
+/// What an operator asks of the stores, or orders.
+#[derive(Clone, Copy, PartialEq, Eq, Debug)]
+pub enum Question {
+    /// Close all days that can be closed.
+    Close,
+    /// An owner's bill of a day.
+    Bill { owner: OwnerId, day: Day },
+    /// What each operator gets of it.
+    Settle { owner: OwnerId, day: Day },
+    /// Where each device's lanes stand.
+    Stand,
+}
 
 /// What the program is asked to do.
 #[derive(Debug, Drop)]
@@ -30,13 +52,22 @@ pub enum Job<'a> {
         sql: bool,
     },
     /// Serve stations on a port of 127.0.0.1, for a number of turns, with the outbox's database at a path; a read of
-    /// a line and a write wait so many milliseconds.
+    /// a line and a write wait so many milliseconds. So many rounds, or up to the one in which a file is there; in each a
+    /// line is read until so many of its reads in a row are quiet.
     Serve {
         port: u16,
         turns: u32,
         path: &'a str,
         read_millis: u32,
         write_millis: u32,
+        rounds: u32,
+        until: Option<&'a str>,
+        patience: u32,
+    },
+    /// Ask something of the stores, the outbox's database of which lies at a path.
+    Ask {
+        path: &'a str,
+        question: Question,
     },
 }
 
@@ -140,24 +171,61 @@ fn turns_of(alloc: Global, matches: &ArgMatches<'_>) -> Result<u32, WordsFault>
     }
 }
 
-/// The milliseconds of this option, or the default where it is not given.
-fn millis_of(
+/// The number of this option, or the default where it is not given.
+fn given_of(
     alloc: Global,
     matches: &ArgMatches<'_>,
     option: &str,
+    most: u32,
     default: u32,
 ) -> Result<u32, WordsFault>
-    ensures ok { IfOk result (IsMillis default (first_of option.now (rows_of (found_of matches.now)))) }
-    ensures err { IfErr result (RefusedFor ((n : ℕ) → IsMillis default (first_of option.now (rows_of (found_of matches.now))) n → ⊥)) }
+    ensures ok { IfOk result (IsGiven most default (first_of option.now (rows_of (found_of matches.now)))) }
+    ensures err { IfErr result (RefusedFor ((n : ℕ) → IsGiven most default (first_of option.now (rows_of (found_of matches.now))) n → ⊥)) }
 {
-    let Some(millis) = text_of(matches, option) else {
+    let Some(text) = text_of(matches, option) else {
         return Ok(default);
     };
-    match millis.parse::<u32>() {
-        Ok(millis) if millis >= 1 && millis <= MOST_MILLIS => Ok(millis),
+    match text.parse::<u32>() {
+        Ok(number) if number >= 1 && number <= most => Ok(number),
         _ => Err(WordsFault::Refused(format!(in alloc;
-            "error: the milliseconds of --{option} are a number from 1 to 60,000\n"
+            "error: --{option} takes a number from 1 to {most}\n"
         )?)),
+    }
+}
+
+/// The owner that is asked for.
+fn owner_of(alloc: Global, matches: &ArgMatches<'_>) -> Result<OwnerId, WordsFault>
+    ensures ok { IfOk result (IsOwnerIn (rows_of (found_of matches.now))) }
+    ensures err { IfErr result (RefusedFor ((n : ℕ) → IsOwnerIn (rows_of (found_of matches.now)) n → ⊥)) }
+{
+    let text = "error: the owner is a number from 1 to 65,535\n";
+    let Some(owner) = text_of(matches, "owner") else {
+        return Err(WordsFault::Refused(String::from_str(alloc, text)?));
+    };
+    let Ok(number) = owner.parse::<u16>() else {
+        return Err(WordsFault::Refused(String::from_str(alloc, text)?));
+    };
+    match OwnerId::new(u64::from(number)) {
+        Some(owner) => Ok(owner),
+        None => Err(WordsFault::Refused(String::from_str(alloc, text)?)),
+    }
+}
+
+/// The day that is asked for.
+fn day_of(alloc: Global, matches: &ArgMatches<'_>) -> Result<Day, WordsFault>
+    ensures ok { IfOk result (IsDayIn (rows_of (found_of matches.now))) }
+    ensures err { IfErr result (RefusedFor ((n : ℕ) → IsDayIn (rows_of (found_of matches.now)) n → ⊥)) }
+{
+    let text = "error: the day is a number from 0 to 100,000\n";
+    let Some(day) = text_of(matches, "day") else {
+        return Err(WordsFault::Refused(String::from_str(alloc, text)?));
+    };
+    let Ok(number) = day.parse::<u32>() else {
+        return Err(WordsFault::Refused(String::from_str(alloc, text)?));
+    };
+    match Day::new(u64::from(number)) {
+        Some(day) => Ok(day),
+        None => Err(WordsFault::Refused(String::from_str(alloc, text)?)),
     }
 }
 
@@ -192,14 +260,73 @@ fn serve_job<'a>(alloc: Global, matches: &ArgMatches<'a>) -> Result<Job<'a>, Wor
     let port = port_of(alloc, matches)?;
     let turns = turns_of(alloc, matches)?;
     let path = path_of(alloc, matches)?;
-    let read_millis = millis_of(alloc, matches, "read-ms", READ_MILLIS)?;
-    let write_millis = millis_of(alloc, matches, "write-ms", WRITE_MILLIS)?;
+    let read_millis = given_of(alloc, matches, "read-ms", MOST_MILLIS, READ_MILLIS)?;
+    let write_millis = given_of(alloc, matches, "write-ms", MOST_MILLIS, WRITE_MILLIS)?;
+    let until = text_of(matches, "until");
+    let rounds = if until.is_some() { MOST_ROUNDS } else { 1 };
+    let rounds = given_of(alloc, matches, "rounds", MOST_ROUNDS, rounds)?;
+    let patience = given_of(alloc, matches, "patience", MOST_PATIENCE, PATIENCE)?;
     Ok(Job::Serve {
         port,
         turns,
         path,
         read_millis,
         write_millis,
+        rounds,
+        until,
+        patience,
+    })
+}
+
+/// The job of `bill`.
+fn bill_job<'a>(alloc: Global, matches: &ArgMatches<'a>) -> Result<Job<'a>, WordsFault>
+    ensures ok { IfOk result (JobIn (codes "bill") (rows_of (found_of matches.now))) }
+    ensures err { IfErr result (RefusedFor ((job : Job) → JobIn (codes "bill") (rows_of (found_of matches.now)) job → ⊥)) }
+{
+    let path = path_of(alloc, matches)?;
+    let owner = owner_of(alloc, matches)?;
+    let day = day_of(alloc, matches)?;
+    Ok(Job::Ask {
+        path,
+        question: Question::Bill { owner, day },
+    })
+}
+
+/// The job of `settle`.
+fn settle_job<'a>(alloc: Global, matches: &ArgMatches<'a>) -> Result<Job<'a>, WordsFault>
+    ensures ok { IfOk result (JobIn (codes "settle") (rows_of (found_of matches.now))) }
+    ensures err { IfErr result (RefusedFor ((job : Job) → JobIn (codes "settle") (rows_of (found_of matches.now)) job → ⊥)) }
+{
+    let path = path_of(alloc, matches)?;
+    let owner = owner_of(alloc, matches)?;
+    let day = day_of(alloc, matches)?;
+    Ok(Job::Ask {
+        path,
+        question: Question::Settle { owner, day },
+    })
+}
+
+/// The job of `close`.
+fn close_job<'a>(alloc: Global, matches: &ArgMatches<'a>) -> Result<Job<'a>, WordsFault>
+    ensures ok { IfOk result (JobIn (codes "close") (rows_of (found_of matches.now))) }
+    ensures err { IfErr result (RefusedFor ((job : Job) → JobIn (codes "close") (rows_of (found_of matches.now)) job → ⊥)) }
+{
+    let path = path_of(alloc, matches)?;
+    Ok(Job::Ask {
+        path,
+        question: Question::Close,
+    })
+}
+
+/// The job of `stand`.
+fn stand_job<'a>(alloc: Global, matches: &ArgMatches<'a>) -> Result<Job<'a>, WordsFault>
+    ensures ok { IfOk result (JobIn (codes "stand") (rows_of (found_of matches.now))) }
+    ensures err { IfErr result (RefusedFor ((job : Job) → JobIn (codes "stand") (rows_of (found_of matches.now)) job → ⊥)) }
+{
+    let path = path_of(alloc, matches)?;
+    Ok(Job::Ask {
+        path,
+        question: Question::Stand,
     })
 }
 
@@ -211,15 +338,19 @@ fn job_in<'a>(alloc: Global, matches: &ArgMatches<'a>) -> Result<Job<'a>, WordsF
     match matches.subcommand() {
         Some(("replay", inner)) => replay_job(alloc, inner),
         Some(("serve", inner)) => serve_job(alloc, inner),
+        Some(("close", inner)) => close_job(alloc, inner),
+        Some(("bill", inner)) => bill_job(alloc, inner),
+        Some(("settle", inner)) => settle_job(alloc, inner),
+        Some(("stand", inner)) => stand_job(alloc, inner),
         _ => {
-            let text = "error: the command is replay or serve\n";
+            let text = "error: the command is replay, serve, close, bill, settle or stand\n";
             Err(WordsFault::Refused(String::from_str(alloc, text)?))
         }
     }
 }
 
 /// The job that the words ask for, which are those after the program's name. `Asked` where they ask for help
-/// or the version; `Refused` where clap does not take them, or a store, port or number of turns is none;
+/// or the version; `Refused` where clap does not take them, or a store or a number is none;
 /// `Memory` where there was none.
 pub fn read_words<'a>(alloc: Global, words: &'a [&'a str]) -> Result<Job<'a>, WordsFault>
     ensures job { IfOk result (JobOf (subcommand_of hub_app (map (λ word. word.now) words.now))) }

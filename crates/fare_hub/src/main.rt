@@ -1,13 +1,13 @@
 //! The program of the fare hub. `replay` reads a trace from standard input and writes the replies to its lines
 //! to standard output; `serve` reads a scheme from there, collects what its stations send over sockets into stores in
-//! files, and serves the owners. What it promises are the contracts of `fare_run::run` and `fare_run::serve`, for the
-//! words after its name, standard input and standard output.
+//! files, and serves the owners; `close`, `bill`, `settle` and `stand` work on these. What it promises are the contracts of
+//! `fare_run::run`, `fare_run::serve` and `fare_run::ask`, for the words after its name, standard input and standard output.
 //!
 //! Its status is 0 where the job was done or help was asked for, 1 with one line on standard error where the
 //! job failed, and 2 with a text on standard error where the words were refused.
 #![tactic(auto)]
 
-use fare_run::{Failure, run, serve, tell};
+use fare_run::{Failure, Left, ask, run, serve, tell};
 use std::alloc::Global;
 use std::net::{Net, TcpListener, TcpStream};
 use std::process::ExitCode;
@@ -41,12 +41,14 @@ fn start<
         words.push(arg.as_str()).map_err(|_| Failure::Memory)?;
     }
     let (mut input, mut output) = (rt.reader(), io::writer(rt));
-    let Some(options) = run(alloc, &words, &mut input, &mut output)? else {
-        return Ok(());
-    };
-    match serve(rt, handles, &options, &mut input, &mut output) {
-        Ok(()) => Ok(()),
-        Err(failure) => Err(Failure::Serve(failure)),
+    match run(alloc, &words, &mut input, &mut output)? {
+        None => Ok(()),
+        Some(Left::Serve(options)) => serve(rt, handles, &options, &mut input, &mut output).map_err(
+            Failure::Serve,
+        ),
+        Some(Left::Ask(options)) => ask(rt, &options, &mut input, &mut output).map_err(
+            Failure::Ask,
+        ),
     }
 }
 

@@ -1,20 +1,18 @@
 -- How serving ends, by how its parts do.
-use Rattle.std.proofs.Common.{◌≡◌, ◌≢◌, ◌⊎◌, ℕ, ◌≤◌, List, [], ◌++◌, length, map, take, Option, Some, None, IfSome, refl, sym, ap, ◌∙◌, append_assoc, subst, inl, inr, arith}
+use Rattle.std.proofs.Common.{◌≡◌, ◌≢◌, ◌⊎◌, ℕ, Bool, List, ◌++◌, Option, Some, None, IfSome, refl, sym, ap, ◌∙◌, append_assoc, subst, inl, inr, arith}
 use Rattle.std.specs.Prelude.{Result, Ok, Err, OnOk, IfErr}
 use Rattle.std.specs.Io.KnownBytes.{Appends, Keeps}
-use Rattle.std.specs.Map.{keys_of}
-use Rattle.std.proofs.lemmas.List.{length-map, take_all}
 use Rattle.fare_scheme.specs.Values.{SchemeValue}
 use Rattle.fare_store.specs.Standing.{Standing}
 use Rattle.fare_store.specs.OutboxWords.{OutboxValue}
 use Rattle.fare_store.specs.LedgerWords.{LedgerValue}
-use Rattle.fare_serve.specs.Counting.{IsCountsOf, counts_text}
+use Rattle.fare_sessions.specs.declared.hub.Hub.{Hub}
+use Rattle.fare_serve.specs.Counting.{counts_text}
 use Rattle.fare_serve.specs.Serving.{HasServedLines}
-use Rattle.fare_serve.specs.declared.counts.Counts.{Counts}
 use Rattle.fare_serve.specs.declared.fault.ServeFault.{ServeFault}
 use Rattle.fare_serve.specs.declared.fault.ServeFault.TheVariants as serve
 use Rattle.fare_run.specs.Scheming.{MakesNoScheme, SpellsScheme}
-use Rattle.fare_run.specs.Serving.{FailsOver, HasScheme, IsUntold, MayListen, ServeEnds, ServeFails, WritesCounts, listening_line, serving_failure}
+use Rattle.fare_run.specs.Serving.{FailsOver, HasScheme, IsUntold, MayListen, ServeEnds, ServeFails, ServesOver, WritesCounts, listening_line, serving_failure}
 use Rattle.fare_run.specs.Stores.{IsOfStores}
 use Rattle.fare_run.specs.declared.serve_failure.ServeFailure.{ServeFailure}
 use Rattle.fare_run.specs.declared.serve_failure.ServeFailure.TheVariants.{Lines, Refused, NoScheme, Memory, Store, Network, Write}
@@ -41,21 +39,18 @@ has_scheme : (known : Option (List ℕ)) (sc : SchemeValue) → IfSome known (Sp
 has_scheme None sc spelled = tt
 has_scheme (Some input) sc spelled = (sc, spelled)
 
--- counts have a line for each owner
-named : {O L : Type 0} (sc : SchemeValue) (outbox : O → Standing OutboxValue) (ledger : L → Standing LedgerValue) (xo xn : O) (before after : List L) (old new : Option (List ℕ)) → (h : HasServedLines sc outbox ledger xo xn before after old new) → IsCountsOf sc h.counts
-named sc outbox ledger xo xn before after old new h =
-    let few : length (keys_of sc.owners) ≤ length sc.owners = (let n = length-map sc.owners (λ e. e.0) in omega (arith, n)) in
-    h.served.counted.owners ∙ take_all (length sc.owners) (keys_of sc.owners) few
-
 -- ENDS
-pub writes : {O L : Type 0} (sc : SchemeValue) (outbox : O → Standing OutboxValue) (ledger : L → Standing LedgerValue) (xo xn : O) (before after : List L) (old mid new : Option (List ℕ)) (port : ℕ)
-    → Appends old mid (listening_line port) → HasServedLines sc outbox ledger xo xn before after mid new → WritesCounts sc old new
-writes sc outbox ledger xo xn before after old mid new port told h = record {
-  port = port;
-  counts = counts_text h.counts;
-  are = (h.counts, named sc outbox ledger xo xn before after mid new h, refl);
-  written = appends_then old mid new (listening_line port) (counts_text h.counts) told h.written;
+pub writes : {O L : Type 0} (outbox : O → Standing OutboxValue) (ledger : L → Standing LedgerValue) (before after : Hub O L) (most : ℕ) (untold : Bool) (old new : Option (List ℕ)) → ServesOver outbox ledger before after most untold old new → WritesCounts before.scheme old new
+writes outbox ledger before after most untold old new s = record {
+  port = s.port;
+  counts = counts_text s.served.counts;
+  are = (s.served.counts, s.served.held.held.counted.owners, refl);
+  written = appends_then old s.mid new (listening_line s.port) (counts_text s.served.counts) s.told s.served.written;
 }
+
+pub writes_if : {O L : Type 0} (outbox : O → Standing OutboxValue) (ledger : L → Standing LedgerValue) (before after : Hub O L) (most : ℕ) (untold : Bool) (old new : Option (List ℕ)) (r : Result (Unit {0}) ServeFailure) → OnOk r (ServesOver outbox ledger before after most untold old new) → OnOk r (WritesCounts before.scheme old new)
+writes_if outbox ledger before after most untold old new (Ok u) s = writes outbox ledger before after most untold old new s
+writes_if outbox ledger before after most untold old new (Err f) s = tt
 
 pub ends : (known : Option (List ℕ)) (sc : SchemeValue) (old new : Option (List ℕ)) → IfSome known (SpellsScheme sc) → WritesCounts sc old new → IfSome known (ServeEnds old new)
 ends None sc old new spelled done = tt

@@ -1,3 +1,4 @@
+pub mod Asking
 pub mod Failures
 pub mod Runs
 pub mod Scheming

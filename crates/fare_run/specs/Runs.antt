@@ -8,25 +8,28 @@ use Rattle.fare_command.specs.declared.words.Job.{Job}
 use Rattle.fare_command.specs.declared.words.Job.TheVariants as job
 use Rattle.fare_trace.specs.Replay.{ReplayFails, Replays}
 use Rattle.fare_trace.specs.declared.stream.ReplayFault.TheVariants as fault
-use Rattle.fare_run.specs.declared.serve_options.ServeOptions.{ServeOptions}
+use Rattle.fare_run.specs.declared.left.Left.{Left}
+use Rattle.fare_run.specs.declared.left.Left.TheVariants as left
 use Rattle.fare_run.specs.declared.failure.Failure.{Failure}
-use Rattle.fare_run.specs.declared.failure.Failure.TheVariants.{Replay, Write, Memory, Serve, Refused}
+use Rattle.fare_run.specs.declared.failure.Failure.TheVariants.{Replay, Write, Memory, Serve, Ask, Refused}
 
 -- the job of the words
 abbrev pub IsJob : List Text → Job → Type 0
 IsJob words job = JobOf (subcommand_of hub_app words) job
 
-abbrev pub IsServe : Job → Type 0
-IsServe (job.Replay sql) = ⊥
-IsServe (job.Serve port turns path read_millis write_millis) = Unit {0}
+-- a job that works on stores in files
+abbrev pub IsOfFiles : Job → Type 0
+IsOfFiles (job.Replay sql) = ⊥
+IsOfFiles (job.Serve port turns path read_millis write_millis rounds until patience) = Unit {0}
+IsOfFiles (job.Ask path question) = Unit {0}
 
 -- clap has nothing to say of the words, and this is their job
 abbrev pub AsksFor : List Text → Job → Type 0
 AsksFor words job = IsSound words × IsJob words job
 
--- clap takes the words, and their job is to serve
-abbrev pub AsksToServe : List Text → Type 0
-AsksToServe words = (takes hub_app words ≡ true) × ((job : Job) × IsJob words job × IsServe job)
+-- clap takes the words, and their job is one of stores in files
+abbrev pub AsksForFiles : List Text → Type 0
+AsksForFiles words = (takes hub_app words ≡ true) × ((job : Job) × IsJob words job × IsOfFiles job)
 
 -- the words ask for a text of clap's, and a text was written
 abbrev pub Shows : List Text → Option (List ℕ) → Option (List ℕ) → Type 0
@@ -40,12 +43,13 @@ EndsReplay words known old new = ((sql : Bool) × AsksFor words (job.Replay sql)
 abbrev pub RunEnds : List Text → Option (List ℕ) → Option (List ℕ) → Option (List ℕ) → Type 0
 RunEnds words known old new = EndsReplay words known old new ⊎ Shows words old new
 
--- what each failure of a run says; a store fails only where the words ask for tables, and serving is none of a run's work
+-- what each failure of a run says; a store fails only where the words ask for tables, and stores in files are none of a run's work
 abbrev pub RunFails : List Text → Option (List ℕ) → Option (List ℕ) → Option (List ℕ) → Failure → Type 0
 RunFails words known old new (Replay why) = ((sql : Bool) × AsksFor words (job.Replay sql) × (why ≡ fault.Store → sql ≡ true)) × ReplayFails known old new why
 RunFails words known old new Write = AsksForText words
 RunFails words known old new Memory = Unit {0}
 RunFails words known old new (Serve why) = ⊥
+RunFails words known old new (Ask why) = ⊥
 RunFails words known old new (Refused text) = IsMistaken words ⊎ SaysNoJob words
 
 -- the failures that come before anything is read or written
@@ -54,18 +58,20 @@ IsBefore (Replay why) = ⊥
 IsBefore Write = ⊥
 IsBefore Memory = Unit {0}
 IsBefore (Serve why) = ⊥
+IsBefore (Ask why) = ⊥
 IsBefore (Refused text) = Unit {0}
 
--- the job that these options are of
-abbrev pub serve_job : ServeOptions → Job
-serve_job options = job.Serve options.port options.limits.turns options.path options.limits.read_millis options.limits.write_millis
+-- the job that is left to do
+abbrev pub job_left : Left → Job
+job_left (left.Serve options) = job.Serve options.port options.limits.turns options.path options.limits.read_millis options.limits.write_millis options.limits.rounds options.until options.limits.patience
+job_left (left.Ask options) = job.Ask options.path options.question
 
--- what is left to do is to serve, as the words ask
-abbrev pub LeavesToServe : List Text → ServeOptions → Type 0
-LeavesToServe words options = AsksFor words (serve_job options)
+-- what is left to do is what the words ask for
+abbrev pub Leaves : List Text → Left → Type 0
+Leaves words l = AsksFor words (job_left l)
 
--- what is answered where the words ask to serve: that it is left to do, or want of memory
-abbrev pub Serves : {A : Type 0} → Result (Option A) Failure → Type 0
-Serves (Ok None) = ⊥
-Serves (Ok (Some options)) = Unit {0}
-Serves (Err failure) = failure ≡ Memory
+-- what is answered where the words ask for stores in files: that it is left to do, or want of memory
+abbrev pub LeavesIt : {A : Type 0} → Result (Option A) Failure → Type 0
+LeavesIt (Ok None) = ⊥
+LeavesIt (Ok (Some options)) = Unit {0}
+LeavesIt (Err failure) = failure ≡ Memory

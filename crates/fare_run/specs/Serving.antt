@@ -1,9 +1,14 @@
 -- How serving ends, by what is known of the input before, and of the output before and after.
-use Rattle.std.specs.Prelude.{◌≡◌, ◌⊎◌, ℕ, ◌++◌, List, Option, IfSome, codes}
+use Rattle.std.specs.Prelude.{◌≡◌, ◌⊎◌, ℕ, ◌++◌, Bool, List, Option, IfSome, codes}
 use Rattle.std.specs.Fmt.{decimal}
 use Rattle.std.specs.Io.KnownBytes.{Appends, Keeps}
 use Rattle.fare_scheme.specs.Values.{SchemeValue}
 use Rattle.fare_serve.specs.Counting.{IsCountsText}
+use Rattle.fare_serve.specs.Serving.{HasServedLines}
+use Rattle.fare_sessions.specs.declared.hub.Hub.{Hub}
+use Rattle.fare_store.specs.Standing.{Standing}
+use Rattle.fare_store.specs.OutboxWords.{OutboxValue}
+use Rattle.fare_store.specs.LedgerWords.{LedgerValue}
 use Rattle.fare_serve.specs.declared.fault.ServeFault.{ServeFault}
 use Rattle.fare_serve.specs.declared.fault.ServeFault.TheVariants as serve
 use Rattle.fare_run.specs.Scheming.{MakesNoScheme, SpellsScheme}
@@ -40,6 +45,13 @@ pub record WritesCounts (sc : SchemeValue) (old new : Option (List ℕ)) : Type 
   pub counts : List ℕ
   pub are : IsCountsText sc counts
   pub written : Appends old new (listening_line port ++ counts)
+
+-- which port is listened on was written, and then what serving over the stores of a hub wrote
+pub record ServesOver {O L : Type 0} (outbox : O → Standing OutboxValue) (ledger : L → Standing LedgerValue) (old new : Hub O L) (most : ℕ) (untold : Bool) (before after : Option (List ℕ)) : Type 0 where
+  pub port : ℕ
+  pub mid : Option (List ℕ)
+  pub told : Appends before mid (listening_line port)
+  pub served : HasServedLines outbox ledger old new most untold mid after
 
 -- how far serving over stores came at each failure
 abbrev pub FailsOver : Option (List ℕ) → Option (List ℕ) → ServeFailure → Type 0

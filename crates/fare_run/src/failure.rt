@@ -2,6 +2,7 @@ ghost use Rattle.std.specs.Prelude.{◌≡◌};
 ghost use Rattle.fare_run.specs.Failures.{status_of};
 ghost use Rattle.fare_run.specs.declared.failure.Failure.TheVariants.{Memory};
 
+use crate::ask_failure::AskFailure;
 use crate::serve_failure::ServeFailure;
 use fare_trace::ReplayFault;
 use std::alloc::AllocError;
@@ -22,6 +23,9 @@ pub enum Failure {
     /// Serving did not come to its end.
     #[error("{0}")]
     Serve(ServeFailure),
+    /// A question of the stores, or an order, came to nothing.
+    #[error("{0}")]
+    Ask(AskFailure),
     /// The words are no job: this text, which ends its own last line, says why.
     #[error("{0}")]
     Refused(String),
@@ -42,7 +46,11 @@ impl Failure {
     {
         match self {
             Failure::Refused(_) => 2,
-            Failure::Replay(_) | Failure::Write | Failure::Memory | Failure::Serve(_) => 1,
+            Failure::Replay(_)
+            | Failure::Write
+            | Failure::Memory
+            | Failure::Serve(_)
+            | Failure::Ask(_) => 1,
         }
     }
 }

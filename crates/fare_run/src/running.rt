@@ -1,10 +1,10 @@
 ghost use Rattle.std.specs.Prelude.{◌≡◌, ◌≢◌, None, map, OnOk, IfOk, IfErr, IfSome};
 ghost use Rattle.std.specs.Io.KnownBytes.{Appends};
-ghost use Rattle.fare_run.specs.Runs.{AsksToServe, IsBefore, LeavesToServe, RunEnds, RunFails, Serves};
+ghost use Rattle.fare_run.specs.Runs.{AsksForFiles, IsBefore, Leaves, LeavesIt, RunEnds, RunFails};
 
 use crate::failure::Failure;
+use crate::left::{AskOptions, Left, ServeOptions};
 use crate::replaying::replay_over;
-use crate::serve_options::ServeOptions;
 use fare_command::{Job, WordsFault, read_words};
 use fare_serve::Limits;
 use std::alloc::Global;
@@ -20,24 +20,24 @@ fn write_text<O: Write>(output: &mut O, text: &str) -> io::Result<()>
 }
 
 /// Does what the words after the program's name ask for: replays what the reader gives to the writer, or shows
-/// the help or the version on the writer. Where they ask to serve, answers the options, and that is left to do with
-/// `serve`.
+/// the help or the version on the writer. Where they ask for stores in files, answers what is left to do, with `serve` or
+/// `ask`.
 ///
 /// `Refused` where the words are no job, and `Memory` where there is none for the words; nothing was read or written
-/// then, nor where serving is left to do. `Replay` where a replay was asked for and stopped, and `Write` where a text
+/// then, nor where something is left to do. `Replay` where a replay was asked for and stopped, and `Write` where a text
 /// could not be shown.
 pub fn run<'a, I: Read, O: Write>(
     alloc: Global,
     words: &'a [&'a str],
     input: &mut I,
     output: &mut O,
-) -> Result<Option<ServeOptions<'a>>, Failure>
+) -> Result<Option<Left<'a>>, Failure>
     ensures done { IfOk result (λ left. left ≡ None → RunEnds (map (λ word. word.now) words.now) (I.remaining input.old) (O.contents output.old) (O.contents output.new)) }
-    ensures left { IfOk result (λ left. IfSome left (LeavesToServe (map (λ word. word.now) words.now))) }
+    ensures left { IfOk result (λ left. IfSome left (Leaves (map (λ word. word.now) words.now))) }
     ensures failure { IfErr result (RunFails (map (λ word. word.now) words.now) (I.remaining input.old) (O.contents output.old) (O.contents output.new)) }
     ensures untouched { IfErr result (λ failure. IsBefore failure → (input.new ≡ input.old) × (output.new ≡ output.old)) }
     ensures waits { IfOk result (λ left. left ≢ None → (input.new ≡ input.old) × (output.new ≡ output.old)) }
-    ensures serve { AsksToServe (map (λ word. word.now) words.now) → Serves result }
+    ensures files { AsksForFiles (map (λ word. word.now) words.now) → LeavesIt result }
 {
     match read_words(alloc, words) {
         Ok(Job::Replay { sql }) => match replay_over(alloc, sql, input, output) {
@@ -51,16 +51,23 @@ pub fn run<'a, I: Read, O: Write>(
                 path,
                 read_millis,
                 write_millis,
+                rounds,
+                until,
+                patience,
             },
-        ) => Ok(Some(ServeOptions {
+        ) => Ok(Some(Left::Serve(ServeOptions {
             port,
             path,
             limits: Limits {
                 turns,
                 read_millis,
                 write_millis,
+                rounds,
+                patience,
             },
-        })),
+            until,
+        }))),
+        Ok(Job::Ask { path, question }) => Ok(Some(Left::Ask(AskOptions { path, question }))),
         Err(WordsFault::Asked(text)) => match write_text(output, &text) {
             Ok(()) => Ok(None),
             Err(_) => Err(Failure::Write),

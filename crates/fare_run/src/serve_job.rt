@@ -3,11 +3,11 @@ ghost use Rattle.fare_sessions.specs.Stores.{HasLedgers};
 ghost use Rattle.fare_run.specs.Serving.{FailsOver, ServeEnds, ServeFails, WritesCounts};
 ghost use Rattle.fare_run.specs.Stores.{IsOfStores};
 
+use crate::left::ServeOptions;
 use crate::scheming::read_scheme;
 use crate::serve_failure::ServeFailure;
-use crate::serve_options::ServeOptions;
 use crate::serving::serve_over;
-use fare_databases::{FileHub, close_files, open_files};
+use fare_databases::{Absent, FileHub, close_files, open_files};
 use fare_ledger::SqlLedger;
 use fare_outbox::SqlOutbox;
 use fare_scheme::Scheme;
@@ -21,12 +21,17 @@ use std::thread::Threads;
 use std::time::Clock;
 
 // The hub of a scheme over its stores at a path.
-fn hub_at(rt: &HostRuntime, scheme: Scheme, path: &str) -> Result<FileHub, ServeFailure>
+pub(crate) fn hub_at(
+    rt: &HostRuntime,
+    scheme: Scheme,
+    path: &str,
+    absent: Absent,
+) -> Result<FileHub, ServeFailure>
     ensures scheme { IfOk result (λ hub. hub.scheme ≡ scheme) }
     ensures owners { IfOk result HasLedgers }
     ensures fails { IfErr result IsOfStores }
 {
-    match open_files(rt, scheme, path) {
+    match open_files(rt, scheme, path, absent) {
         Ok(hub) => Ok(hub),
         Err(Fault::Memory) => Err(ServeFailure::Memory),
         Err(Fault::Store) => Err(ServeFailure::Store),
@@ -54,17 +59,16 @@ fn serve_hub<
         rt,
         handles,
         options.port,
-        &hub.scheme,
-        &mut hub.outbox,
-        &mut hub.ledgers,
+        hub,
         options.limits,
+        options.until,
         output,
     )
 }
 
-/// Serves the stations of the scheme that the lines of an input make, over the stores in files at a path: once, one
+/// Serves the stations of the scheme that the lines of an input make, over the stores in files at a path, in rounds of one
 /// session of the stations and one of each owner. Writes `listening PORT` before it waits for the first line, and the
-/// counts at the end.
+/// counts of all rounds at the end.
 ///
 /// Each failure of `ServeFailure` in its order; none but one of the writer comes where a count was written.
 pub fn serve<
@@ -82,7 +86,7 @@ pub fn serve<
     ensures fails { IfErr result (ServeFails (I.remaining input.old) (O.contents output.old) (O.contents output.new)) }
 {
     let scheme = read_scheme(rt.alloc(), input)?;
-    let mut hub = hub_at(rt, scheme, options.path)?;
+    let mut hub = hub_at(rt, scheme, options.path, Absent::Made)?;
     let served = serve_hub(rt, handles, &mut hub, options, output);
     close_files(hub);
     served

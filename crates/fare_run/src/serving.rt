@@ -1,11 +1,12 @@
-ghost use Rattle.std.specs.Prelude.{◌≡◌, length, OnOk, IfErr};
+ghost use Rattle.std.specs.Prelude.{◌≡◌, is_none, OnOk, IfErr};
 ghost use Rattle.std.specs.Io.KnownBytes.{Appends};
-ghost use Rattle.fare_run.specs.Serving.{FailsOver, IsUntold, WritesCounts, listening_line};
+ghost use Rattle.fare_sessions.specs.Stores.{HasLedgers};
+ghost use Rattle.fare_run.specs.Serving.{FailsOver, IsUntold, ServesOver, listening_line};
 ghost use Rattle.fare_run.specs.declared.serve_failure.ServeFailure.TheVariants.{Network};
 
 use crate::serve_failure::{ServeFailure, of_serving};
-use fare_scheme::Scheme;
-use fare_serve::{Limits, serve_on};
+use fare_serve::{Limits, serve_rounds};
+use fare_sessions::Hub;
 use fare_store::{Ledger, Outbox};
 use std::io::Write;
 use std::net::{Ipv4Addr, Net, TcpListener, TcpStream};
@@ -44,11 +45,11 @@ fn announce<O: Write>(rt: &HostRuntime, port: u16, output: &mut O) -> Result<(),
     Ok(())
 }
 
-/// Listens on a port of 127.0.0.1, writes `listening PORT`, serves the stations of a scheme over these stores, of which
-/// the ledgers are those of its owners, in its order, and writes the counts.
+/// Listens on a port of 127.0.0.1, writes `listening PORT`, serves the stations of a hub's scheme over its stores in
+/// rounds, as `fare_serve::serve_rounds` says, and writes the counts.
 ///
-/// `Network` where the port can't be listened on, and nothing was written then; else the failures of `fare_serve::serve_on`,
-/// of which only `Write` may come where a count was written.
+/// `Network` where the port can't be listened on, and nothing was written then; else the failures of
+/// `fare_serve::serve_rounds`, of which only `Write` may come where a count was written.
 pub fn serve_over<
     Ob: Outbox + Send,
     L: Ledger + Send,
@@ -58,23 +59,18 @@ pub fn serve_over<
     rt: &HostRuntime,
     handles: &R,
     port: u16,
-    scheme: &Scheme,
-    outbox: &mut Ob,
-    ledgers: &mut [L],
+    hub: &mut Hub<Ob, L>,
     limits: Limits,
+    until: Option<&str>,
     output: &mut O,
 ) -> Result<(), ServeFailure>
-    requires owners { length ledgers.old ≡ length scheme.now.owners }
-    ensures served { OnOk result (WritesCounts scheme.now (O.contents output.old) (O.contents output.new)) }
+    requires owners { HasLedgers hub.old }
+    ensures served { OnOk result (ServesOver Ob.standing L.standing hub.old hub.new limits.rounds (is_none until.entry) (O.contents output.old) (O.contents output.new)) }
     ensures fails { IfErr result (FailsOver (O.contents output.old) (O.contents output.new)) }
 {
     let (listener, port) = listen(handles, port)?;
     announce(rt, port, output)?;
-    let alloc = rt.alloc();
-    let served = serve_on(
-        handles, alloc, &listener, scheme, outbox, ledgers, limits, output,
-    );
-    match served {
+    match serve_rounds(rt, handles, &listener, hub, limits, until, output) {
         Ok(()) => Ok(()),
         Err(fault) => Err(of_serving(fault)),
     }

@@ -4,8 +4,10 @@ use crate::failure::Failure;
 pub fn tell<R: Eprint>(rt: &R, failure: &Failure) {
     let _ = match failure {
         Failure::Refused(text) => eprint!(rt; "{text}"),
-        Failure::Replay(_) | Failure::Write | Failure::Memory | Failure::Serve(_) => {
-            eprintln!(rt; "{failure}")
-        }
+        Failure::Replay(_)
+        | Failure::Write
+        | Failure::Memory
+        | Failure::Serve(_)
+        | Failure::Ask(_) => { eprintln!(rt; "{failure}") }
     };
 }

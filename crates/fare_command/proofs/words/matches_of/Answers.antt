@@ -2,7 +2,7 @@ use Rattle.std.proofs.Common.{◌≡◌, ◌∙◌, ◌⊎◌, ap, sym, refl, Li
 use Rattle.clap.specs.Faults.{fault_of, is_simple_and_free}
 use Rattle.clap.specs.Kinds.{HasKind, IsAmong}
 use Rattle.clap.specs.Values.{kind_of}
-use Rattle.clap.specs.Words.{App, Text, takes}
+use Rattle.clap.specs.Words.{App, Text, is_simple, subcommand_of, takes}
 use Rattle.clap.specs.declared.error.kind.ErrorKind.{ErrorKind}
 use Rattle.clap.specs.declared.error.kind.ErrorKind.TheVariants.{OutOfMemory}
 use Rattle.fare_command.specs.CommandLine.{hub_app}
@@ -27,13 +27,21 @@ fails words kind (Refused text) passes has tells =
 fails words kind Memory passes has tells = tt
 
 -- the command's kinds are those of its words
-is_simple : (made : App) → made ≡ hub_app → is_simple_and_free made ≡ true
-is_simple made is = ap (λ (a : App). is_simple_and_free a) is ∙ refl
+is_free : (made : App) → made ≡ hub_app → is_simple_and_free made ≡ true
+is_free made is = ap (λ (a : App). is_simple_and_free a) is ∙ refl
+
+is_plain : (made : App) → made ≡ hub_app → is_simple made ≡ true
+is_plain made is = ap (λ (a : App). is_simple a) is ∙ refl
+
+pub returns-in-Ok-clause-ok : goal.returns-in-Ok-clause-ok
+returns-in-Ok-clause-ok c =
+    let made = c.in_ok-hub_command.ensures in
+    (c.in-Ok.ensures.matches (is_plain _ made)).1 ∙ ap (λ (a : App). subcommand_of a (map (λ word. word.now) c.args.words.now)) made
 
 pub returns-in-Ok-clause-sound : goal.returns-in-Ok-clause-sound
 returns-in-Ok-clause-sound c =
     let made = c.in_ok-hub_command.ensures in
-    sym (ap (λ (a : App). fault_of a (map (λ word. word.now) c.args.words.now)) made) ∙ c.in-Ok.ensures.kinds (is_simple _ made)
+    sym (ap (λ (a : App). fault_of a (map (λ word. word.now) c.args.words.now)) made) ∙ c.in-Ok.ensures.kinds (is_free _ made)
 
 pub returns-in-Err-clause-err : goal.returns-in-Err-clause-err
 returns-in-Err-clause-err c =
@@ -41,5 +49,5 @@ returns-in-Err-clause-err c =
     let words : List Text = map (λ word. word.now) c.args.words.now in
     fails words (kind_of c.in-Err.error) c.refusal.result
     (λ taken. c.in-Err.ensures.passes (ap (λ (a : App). takes a words) made ∙ taken))
-    (subst (λ (a : App). HasKind (fault_of a words) c.in-Err.error) made (c.in-Err.ensures.kinds (is_simple _ made)))
+    (subst (λ (a : App). HasKind (fault_of a words) c.in-Err.error) made (c.in-Err.ensures.kinds (is_free _ made)))
     c.refusal.ensures

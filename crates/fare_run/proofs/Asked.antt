@@ -1,0 +1,90 @@
+-- How a question ends, by how its parts do.
+use Rattle.std.proofs.Common.{◌≡◌, ◌≢◌, ℕ, List, ◌++◌, Option, Some, None, IfSome, sym, ap, ◌∙◌, subst, codes, slice_index_or, arith}
+use Rattle.std.specs.Io.KnownBytes.{Appends, Keeps}
+use Rattle.clap.specs.Words.{Row, Text}
+use Rattle.fare_scheme.specs.Values.{SchemeValue}
+use Rattle.fare_store.specs.Standing.{Standing}
+use Rattle.fare_store.specs.OutboxWords.{OutboxValue}
+use Rattle.fare_store.specs.LedgerWords.{LedgerValue}
+use Rattle.fare_agreement.specs.Agreeing.{Agrees}
+use Rattle.fare_agreement.proofs.Collecting.{outbox_self}
+use Rattle.fare_agreement.proofs.Takes.{ledger_self}
+use Rattle.fare_command.specs.Jobs.{JobOf}
+use Rattle.fare_command.specs.declared.words.Job.{Job}
+use Rattle.fare_command.specs.declared.words.Job.TheVariants as job
+use Rattle.fare_command.specs.declared.words.Question.{Question}
+use Rattle.fare_command.specs.declared.words.Question.TheVariants.{Close, Bill, Settle, Stand}
+use Rattle.fare_desk.specs.Closing.{GoesOn}
+use Rattle.fare_desk.specs.Showing.{OnlyAsks}
+use Rattle.fare_desk.specs.declared.fault.DeskFault.{DeskFault}
+use Rattle.fare_desk.specs.declared.fault.DeskFault.TheVariants as desk
+use Rattle.fare_sessions.specs.declared.hub.Hub.{Hub}
+use Rattle.fare_run.specs.Asking.{Answers, AskEnds, IsAnswered, IsQuestion, KeepsUnlessWrite}
+use Rattle.fare_run.specs.Runs.{IsOfFiles}
+use Rattle.fare_run.specs.Scheming.{SpellsScheme}
+use Rattle.fare_run.specs.Serving.{HasScheme}
+
+-- THE JOB
+-- the first letters of two words
+letters_apart : ◌≡◌ {A = ℕ} 114 115 → ⊥
+letters_apart e = absurd (omega (arith, e))
+
+not_serve : codes "replay" ≡ codes "serve" → ⊥
+not_serve e = absurd (cc)
+
+not_close : codes "replay" ≡ codes "close" → ⊥
+not_close e = absurd (cc)
+
+not_bill : codes "replay" ≡ codes "bill" → ⊥
+not_bill e = absurd (cc)
+
+not_settle : codes "replay" ≡ codes "settle" → ⊥
+not_settle e = letters_apart (ap (λ (l : List ℕ). slice_index_or l 0 0) e)
+
+not_stand : codes "replay" ≡ codes "stand" → ⊥
+not_stand e = absurd (cc)
+
+-- words that ask for a replay ask for nothing else
+pub no_files : (matched : Option (Text × List Row)) (sql : _) (j : Job) → JobOf matched (job.Replay sql) → JobOf matched j → IsOfFiles j → ⊥
+no_files None sql j replays is files = replays
+no_files (Some m) sql (job.Replay other) replays is files = files
+no_files (Some m) sql (job.Serve port turns path read_millis write_millis rounds until patience) replays is files = not_serve (sym replays.0 ∙ is.0)
+no_files (Some m) sql (job.Ask path Close) replays is files = not_close (sym replays.0 ∙ is.1)
+no_files (Some m) sql (job.Ask path (Bill owner day)) replays is files = not_bill (sym replays.0 ∙ is.1.0)
+no_files (Some m) sql (job.Ask path (Settle owner day)) replays is files = not_settle (sym replays.0 ∙ is.1.0)
+no_files (Some m) sql (job.Ask path Stand) replays is files = not_stand (sym replays.0 ∙ is.1)
+
+-- THE STORES
+module _ {O L : Type 0} (outbox : O → Standing OutboxValue) (ledger : L → Standing LedgerValue) where
+  pub goes_asks : (old new : Hub O L) → OnlyAsks outbox ledger old new → GoesOn outbox ledger old new
+  goes_asks old new r = record {
+    scheme = r.scheme;
+    follow = r.follow;
+    sound = r.sound;
+    agrees = λ clean sound lists numbered is. record { agreed = λ h may. subst (λ (sc : SchemeValue). Agrees sc lists h) (sym r.scheme) (is.agreed h (r.same clean sound h may)) };
+    grows = λ clean sound lists numbered is. record { grown = λ k may. (k, r.same clean sound k may, outbox_self k.outbox, λ owner known. ledger_self (k.ledgers owner)) };
+  }
+
+  -- the kind of what was written
+  answered : (question : Question) (old new : Hub O L) (before after : Option (List ℕ)) → Answers outbox ledger question old new before after → IsAnswered question before after
+  answered Close old new before after a = (a.text, a.written)
+  answered (Bill owner day) old new before after a = (a.bill, a.written)
+  answered (Settle owner day) old new before after a = (a.shares, a.written)
+  answered Stand old new before after a = (a.uptos ++ a.lanes, a.written)
+
+  pub ask_done : (question : Question) (known : Option (List ℕ)) (sc : SchemeValue) (old new : Hub O L) (before after : Option (List ℕ)) → IfSome known (SpellsScheme sc) → Answers outbox ledger question old new before after → IfSome known (AskEnds question before after)
+  ask_done question None sc old new before after spelled a = tt
+  ask_done question (Some input) sc old new before after spelled a = record { sc = sc; spelled = spelled; writes = answered question old new before after a }
+
+-- FAILURES
+pub scheme_there : (known : Option (List ℕ)) (sc : SchemeValue) → IfSome known (SpellsScheme sc) → HasScheme known
+scheme_there None sc spelled = tt
+scheme_there (Some input) sc spelled = (sc, spelled)
+
+pub keeps_unless : (fault : DeskFault) (before after : Option (List ℕ)) → (fault ≢ desk.Write → Keeps before after) → KeepsUnlessWrite fault before after
+keeps_unless desk.UnknownOwner before after is = is (λ e. absurd (cc))
+keeps_unless desk.BeforeStart before after is = is (λ e. absurd (cc))
+keeps_unless (desk.NotClosed device) before after is = is (λ e. absurd (cc))
+keeps_unless desk.Memory before after is = is (λ e. absurd (cc))
+keeps_unless desk.Store before after is = is (λ e. absurd (cc))
+keeps_unless desk.Write before after is = tt

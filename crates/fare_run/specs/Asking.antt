@@ -1,0 +1,67 @@
+-- What comes of a question of the stores, or an order.
+use Rattle.std.specs.Prelude.{◌⊎◌, ℕ, List, Option}
+use Rattle.std.specs.Io.KnownBytes.{Appends, Keeps}
+use Rattle.fare_cap.specs.Bills.{BillValue}
+use Rattle.fare_settle.specs.declared.settled.Settled.{Settled}
+use Rattle.fare_scheme.specs.Values.{SchemeValue}
+use Rattle.fare_store.specs.Standing.{Standing}
+use Rattle.fare_store.specs.OutboxWords.{OutboxValue}
+use Rattle.fare_store.specs.LedgerWords.{LedgerValue}
+use Rattle.fare_world.specs.declared.reply.Reply.TheVariants as reply
+use Rattle.fare_lines.specs.Replies.{reply_text}
+use Rattle.fare_command.specs.declared.words.Question.{Question}
+use Rattle.fare_command.specs.declared.words.Question.TheVariants.{Close, Bill, Settle, Stand}
+use Rattle.fare_desk.specs.Billing.{WritesBill, WritesSettlement}
+use Rattle.fare_desk.specs.Closing.{HasClosedLanes, lanes_of}
+use Rattle.fare_desk.specs.Showing.{WritesStanding}
+use Rattle.fare_desk.specs.declared.fault.DeskFault.{DeskFault}
+use Rattle.fare_desk.specs.declared.fault.DeskFault.TheVariants as desk
+use Rattle.fare_sessions.specs.declared.hub.Hub.{Hub}
+use Rattle.fare_run.specs.Scheming.{MakesNoScheme, SpellsScheme}
+use Rattle.fare_run.specs.Serving.{HasScheme}
+use Rattle.fare_run.specs.Stores.{IsOfStores}
+use Rattle.fare_run.specs.declared.ask_failure.AskFailure.{AskFailure}
+use Rattle.fare_run.specs.declared.ask_failure.AskFailure.TheVariants.{Stores, Desk}
+use Rattle.fare_run.specs.declared.serve_failure.ServeFailure.{ServeFailure}
+
+-- it changes nothing
+abbrev pub IsQuestion : Question → Type 0
+IsQuestion Close = ⊥
+IsQuestion (Bill owner day) = Unit {0}
+IsQuestion (Settle owner day) = Unit {0}
+IsQuestion Stand = Unit {0}
+
+-- what was written to it, of the stores of a hub
+abbrev pub Answers : {O L : Type 0} → (O → Standing OutboxValue) → (L → Standing LedgerValue) → Question → Hub O L → Hub O L → Option (List ℕ) → Option (List ℕ) → Type 0
+Answers outbox ledger Close old new before after = HasClosedLanes outbox ledger (lanes_of old.scheme) old new before after
+Answers outbox ledger (Bill owner day) old new before after = WritesBill outbox ledger old new owner day before after
+Answers outbox ledger (Settle owner day) old new before after = WritesSettlement outbox ledger old new owner day before after
+Answers outbox ledger Stand old new before after = WritesStanding outbox ledger old new before after
+
+-- the kind of text that was written to it
+abbrev pub IsAnswered : Question → Option (List ℕ) → Option (List ℕ) → Type 0
+IsAnswered Close before after = (text : List ℕ) × Appends before after text
+IsAnswered (Bill owner day) before after = (bill : BillValue) × Appends before after (reply_text (reply.Bill owner day bill))
+IsAnswered (Settle owner day) before after = (shares : List Settled) × Appends before after (reply_text (reply.Settlement owner day shares))
+IsAnswered Stand before after = (text : List ℕ) × Appends before after text
+
+-- answered: the input makes a scheme, and the answer was written
+pub record AskEnds (question : Question) (before after : Option (List ℕ)) (input : List ℕ) : Type 0 where
+  pub sc : SchemeValue
+  pub spelled : SpellsScheme sc input
+  pub writes : IsAnswered question before after
+
+-- the input makes no scheme, or it does and a store was not opened
+abbrev pub OpensNone : Option (List ℕ) → ServeFailure → Type 0
+OpensNone known why = MakesNoScheme known why ⊎ (HasScheme known × IsOfStores why)
+
+-- nothing was written, but where the writer failed
+abbrev pub KeepsUnlessWrite : DeskFault → Option (List ℕ) → Option (List ℕ) → Type 0
+KeepsUnlessWrite desk.Write before after = Unit {0}
+KeepsUnlessWrite _ before after = Keeps before after
+
+-- What each failure says: one of the scheme or of opening the stores comes before anything is written, and one of a
+-- question writes nothing, but where the writer failed.
+abbrev pub AskFails : Question → Option (List ℕ) → Option (List ℕ) → Option (List ℕ) → AskFailure → Type 0
+AskFails question known before after (Stores why) = Keeps before after × OpensNone known why
+AskFails question known before after (Desk fault) = HasScheme known × (IsQuestion question → KeepsUnlessWrite fault before after)

@@ -1,0 +1,33 @@
+use fare_command::Question;
+use fare_serve::Limits;
+
+/// What serving has to be told.
+#[derive(Clone, Copy, PartialEq, Eq, Debug)]
+pub struct ServeOptions<'a> {
+    /// The port of 127.0.0.1; with 0 the system chooses one.
+    pub port: u16,
+    /// The path of the outbox's database; owner O's ledger lies at this path, a dot and O.
+    pub path: &'a str,
+    /// How often and how long it waits for others, and how many rounds it serves.
+    pub limits: Limits,
+    /// Where it is to end after the round in which a file is there, the file's path.
+    pub until: Option<&'a str>,
+}
+
+/// What a question of the stores has to be told.
+#[derive(Clone, Copy, PartialEq, Eq, Debug)]
+pub struct AskOptions<'a> {
+    /// The path of the outbox's database; owner O's ledger lies at this path, a dot and O.
+    pub path: &'a str,
+    /// What is asked, or ordered.
+    pub question: Question,
+}
+
+/// What is left to do after `run`, since it works on stores in files.
+#[derive(Clone, Copy, PartialEq, Eq, Debug)]
+pub enum Left<'a> {
+    /// To be done with `serve`.
+    Serve(ServeOptions<'a>),
+    /// To be done with `ask`.
+    Ask(AskOptions<'a>),
+}
