@@ -1,4 +1,5 @@
-use fare_command::{Job, WordsFault, read_words};
+use fare_command::{Job, Question, WordsFault, read_words};
+use fare_record::{Day, OwnerId};
 use std::test::Fail;
 
 #[test]
@@ -12,7 +13,7 @@ fn reads_jobs(rt: HostRuntime) -> Result<(), Fail> {
     for (words, want) in cases {
         match read_words(rt.alloc(), words)? {
             Job::Replay { sql } => assert_eq!(rt; sql, want),
-            Job::Serve { .. } => panic!(rt; "not a replay"),
+            Job::Serve { .. } | Job::Ask { .. } => panic!(rt; "not a replay"),
         }
     }
     let words = [
@@ -36,11 +37,105 @@ fn reads_jobs(rt: HostRuntime) -> Result<(), Fail> {
                 path,
                 read_millis,
                 write_millis,
+                rounds,
+                until,
+                patience,
             } => {
                 assert_eq!(rt; (port, turns, path), (65535, 1_000_000_000, "out box"));
                 assert_eq!(rt; (read_millis, write_millis), (read, write));
+                assert_eq!(rt; (rounds, until, patience), (1, None, 10));
             }
-            Job::Replay { .. } => panic!(rt; "not a server"),
+            Job::Replay { .. } | Job::Ask { .. } => panic!(rt; "not a server"),
+        }
+    }
+    Ok(())
+}
+
+#[test]
+fn reads_how_long_to_serve(rt: HostRuntime) -> Result<(), Fail> {
+    const ALL: u32 = 4_294_967_295;
+    let cases: [(&[&str], u32, Option<&str>, u32); 4] = [
+        (&["--rounds", "4294967295"], ALL, None, 10),
+        (&["--until", "stop"], ALL, Some("stop"), 10),
+        (&["--until", "stop", "--rounds", "7"], 7, Some("stop"), 10),
+        (&["--patience", "1000000000"], 1, None, 1_000_000_000),
+    ];
+    for (options, want_rounds, want_until, want_patience) in cases {
+        let mut words = Vec::new(rt.alloc());
+        words.extend_from_slice(&["serve", "--port", "0", "--turns", "1", "--outbox", "x"])?;
+        words.extend_from_slice(options)?;
+        match read_words(rt.alloc(), &words)? {
+            Job::Serve {
+                rounds,
+                until,
+                patience,
+                ..
+            } => {
+                assert_eq!(rt;
+                    (rounds, until, patience),
+                    (want_rounds, want_until, want_patience)
+                );
+            }
+            Job::Replay { .. } | Job::Ask { .. } => panic!(rt; "not a server"),
+        }
+    }
+    Ok(())
+}
+
+#[test]
+fn reads_questions(rt: HostRuntime) -> Result<(), Fail> {
+    let owner = OwnerId::new(65_535).expect(&rt, "owner");
+    let day = Day::new(100_000).expect(&rt, "day");
+    let cases: [(&[&str], Question); 4] = [
+        (&["close", "--outbox", "x"], Question::Close),
+        (
+            &[
+                "bill", "--outbox", "x", "--owner", "65535", "--day", "100000",
+            ],
+            Question::Bill { owner, day },
+        ),
+        (
+            &[
+                "settle",
+                "--day",
+                "100000",
+                "--owner=65535",
+                "--outbox",
+                "x",
+            ],
+            Question::Settle { owner, day },
+        ),
+        (&["stand", "--outbox", "x"], Question::Stand),
+    ];
+    for (words, want) in cases {
+        match read_words(rt.alloc(), words)? {
+            Job::Ask { path, question } => assert_eq!(rt; (path, question), ("x", want)),
+            Job::Replay { .. } | Job::Serve { .. } => panic!(rt; "not a question"),
+        }
+    }
+    Ok(())
+}
+
+// Words of a question that lacks something, or has a number out of its range.
+#[test]
+fn refuses_questions(rt: HostRuntime) -> Result<(), Fail> {
+    let cases: [(&[&str], &str); 5] = [
+        (&["close"], "--outbox <PATH>"),
+        (&["bill", "--outbox", "x", "--owner", "1"], "--day <D>"),
+        (&["settle", "--outbox", "x", "--day", "1"], "--owner <O>"),
+        (
+            &["bill", "--outbox", "x", "--owner", "0", "--day", "1"],
+            "0 is not in 1..=65535",
+        ),
+        (
+            &["settle", "--outbox", "x", "--owner", "1", "--day", "100001"],
+            "100001 is not in 0..=100000",
+        ),
+    ];
+    for (words, want) in cases {
+        match read_words(rt.alloc(), words) {
+            Err(WordsFault::Refused(text)) => assert!(rt; text.contains(want), "{text}"),
+            _ => panic!(rt; "not refused: {want}"),
         }
     }
     Ok(())

@@ -1,5 +1,8 @@
 use crate::readers::{Closed, Lossy};
-use fare_run::{Failure, ServeFailure, ServeOptions, run};
+use fare_command::Question;
+use fare_desk::DeskFault;
+use fare_record::DeviceId;
+use fare_run::{AskFailure, AskOptions, Failure, Left, ServeFailure, ServeOptions, run};
 use fare_serve::Limits;
 use fare_trace::ReplayFault;
 use fare_world::Refusal;
@@ -82,8 +85,33 @@ fn each_failure_has_its_line(rt: HostRuntime) {
         (Failure::Serve(ServeFailure::Store), "store failed"),
         (Failure::Serve(ServeFailure::Network), "network failed"),
         (Failure::Serve(ServeFailure::Write), "write failed"),
+        (
+            Failure::Ask(AskFailure::Stores(ServeFailure::NoScheme)),
+            "no scheme",
+        ),
+        (
+            Failure::Ask(AskFailure::Stores(ServeFailure::Store)),
+            "store failed",
+        ),
     ];
     for (failure, line) in cases {
+        assert_eq!(rt; told(rt.alloc(), &Err(failure), line), Some((1, true)));
+    }
+}
+
+#[test]
+fn each_answer_that_is_none_has_its_line(rt: HostRuntime) {
+    let device = DeviceId::new(2).expect(&rt, "device");
+    let cases = [
+        (DeskFault::UnknownOwner, "refused UnknownOwner"),
+        (DeskFault::BeforeStart, "refused BeforeStart"),
+        (DeskFault::NotClosed { device }, "refused NotClosed 2"),
+        (DeskFault::Memory, "no memory"),
+        (DeskFault::Store, "store failed"),
+        (DeskFault::Write, "write failed"),
+    ];
+    for (fault, line) in cases {
+        let failure = Failure::Ask(AskFailure::Desk(fault));
         assert_eq!(rt; told(rt.alloc(), &Err(failure), line), Some((1, true)));
     }
 }
@@ -110,9 +138,30 @@ fn words_that_ask_to_serve_leave_it_to_do(rt: HostRuntime) {
             turns: 9,
             read_millis: 20,
             write_millis: 1_000,
+            rounds: 1,
+            patience: 10,
         },
+        until: None,
     };
-    assert_eq!(rt; (left, input.len(), output.len()), (Some(options), 5, 0));
+    assert_eq!(rt;
+        (left, input.len(), output.len()),
+        (Some(Left::Serve(options)), 5, 0)
+    );
+}
+
+#[test]
+fn words_that_ask_a_question_leave_it_to_do(rt: HostRuntime) {
+    let (mut input, mut output) = (b"draw\n".as_slice(), Vec::new(rt.alloc()));
+    let words = ["stand", "--outbox", "x"];
+    let left = run(rt.alloc(), &words, &mut input, &mut output).expect(&rt, "words");
+    let options = AskOptions {
+        path: "x",
+        question: Question::Stand,
+    };
+    assert_eq!(rt;
+        (left, input.len(), output.len()),
+        (Some(Left::Ask(options)), 5, 0)
+    );
 }
 
 /// A run that shows the version, or replays a line, to this writer.

@@ -14,6 +14,8 @@ mod command_line;
 #[cfg(test)]
 mod day;
 #[cfg(test)]
+mod desk;
+#[cfg(test)]
 mod device;
 #[cfg(test)]
 mod endings;
@@ -52,6 +54,8 @@ mod replay;
 #[cfg(test)]
 mod replay_sql;
 #[cfg(test)]
+mod rounds;
+#[cfg(test)]
 mod route;
 #[cfg(test)]
 mod samples;
@@ -67,6 +71,8 @@ mod serving;
 mod sessions;
 #[cfg(test)]
 mod settlements;
+#[cfg(test)]
+mod shifts;
 #[cfg(test)]
 mod stations;
 #[cfg(test)]

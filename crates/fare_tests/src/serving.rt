@@ -1,7 +1,8 @@
 use crate::frame::{ACKED, GREETED, TAPPED};
+use crate::hub_sessions::hub_of;
 use fare_record::OwnerId;
 use fare_scheme::{DemoSize, Scheme};
-use fare_serve::{Limits, ServeFault, serve_on};
+use fare_serve::{Limits, ServeFault, serve_rounds};
 use fare_store::{FailingOutbox, Outbox, PlainLedger, PlainOutbox};
 use std::alloc::Global;
 use std::io::{Read, Write};
@@ -10,17 +11,19 @@ use std::sync::Wait;
 use std::thread::Threads;
 use std::time::Clock;
 
-// A read waits 5 milliseconds.
+// A read waits 5 milliseconds, and one round is all.
 fn limits(turns: u32) -> Limits {
     Limits {
         turns,
         read_millis: 5,
         write_millis: 1_000,
+        rounds: 1,
+        patience: 1,
     }
 }
 
 // A listener on a port of its own that doesn't block, and where it is.
-fn listener<R: Net<Listener = TcpListener, Stream = TcpStream>>(
+pub(crate) fn listener<R: Net<Listener = TcpListener, Stream = TcpStream>>(
     rt: &R,
 ) -> Option<(TcpListener, SocketAddr)> {
     let listener = TcpListener::bind(rt, "127.0.0.1:0").ok()?;
@@ -44,29 +47,29 @@ fn client<R: Net<Listener = TcpListener, Stream = TcpStream>>(
 }
 
 // How serving these stations ended, and what was written.
-fn served<O: Outbox + Send, R: Threads + Wait + Clock + Eprint + Sync>(
-    rt: &R,
-    alloc: Global,
+fn served<O: Outbox + Send + Drop, R: Threads + Wait + Clock + Eprint + Sync>(
+    rt: &HostRuntime,
+    handles: &R,
     listener: &TcpListener,
     size: DemoSize,
-    outbox: &mut O,
+    outbox: O,
     turns: u32,
 ) -> Option<(Result<(), ServeFault>, Vec<u8>)> {
+    let alloc = rt.alloc();
     let scheme = Scheme::demo(alloc, size, 4, 4, 4).ok()?;
     let ledger = PlainLedger::new(alloc, &scheme, OwnerId::new(1)?).ok()?;
-    let mut ledgers = [ledger];
-    if scheme.owner_count() != ledgers.len() {
+    let mut hub = hub_of(alloc, scheme, outbox, ledger)?;
+    if hub.scheme.owner_count() != hub.ledgers.len() {
         return None;
     }
     let mut output = Vec::new(alloc);
-    let ended = serve_on(
+    let ended = serve_rounds(
         rt,
-        alloc,
+        handles,
         listener,
-        &scheme,
-        outbox,
-        &mut ledgers,
+        &mut hub,
         limits(turns),
+        None,
         &mut output,
     );
     Some((ended, output))
@@ -82,16 +85,15 @@ fn hears_last(alloc: Global, mut client: TcpStream, last: &[u8]) -> bool {
 fn a_client_is_served_and_hears_its_acknowledgement_last(rt: HostRuntime) {
     let (listener, address) = listener(&rt).expect(&rt, "listener");
     let client = client(&rt, address, &[&GREETED, &TAPPED]).expect(&rt, "client");
-    let mut outbox = PlainOutbox::new(rt.alloc());
+    let outbox = PlainOutbox::new(rt.alloc());
     let (ended, output) = served(
         &rt,
-        rt.alloc(),
+        &rt,
         &listener,
         DemoSize::OneDevice,
-        &mut outbox,
+        outbox,
         1_000_000,
-    )
-    .expect(&rt, "memory");
+    ).expect(&rt, "memory");
     assert_eq!(rt;
         (ended, output.as_slice()),
         (Ok(()), b"stored 1\ntaken 1 1\nleft 0\n".as_slice())
@@ -103,16 +105,10 @@ fn a_client_is_served_and_hears_its_acknowledgement_last(rt: HostRuntime) {
 fn a_station_for_which_no_line_came_keeps_none_from_being_served(rt: HostRuntime) {
     let (listener, address) = listener(&rt).expect(&rt, "listener");
     let client = client(&rt, address, &[&GREETED, &TAPPED]).expect(&rt, "client");
-    let mut outbox = PlainOutbox::new(rt.alloc());
-    let (ended, output) = served(
-        &rt,
-        rt.alloc(),
-        &listener,
-        DemoSize::TwoDevices,
-        &mut outbox,
-        50,
-    )
-    .expect(&rt, "memory");
+    let outbox = PlainOutbox::new(rt.alloc());
+    let (ended, output) = served(&rt, &rt, &listener, DemoSize::TwoDevices, outbox, 50).expect(
+        &rt, "memory",
+    );
     assert_eq!(rt;
         (ended, output.as_slice()),
         (Ok(()), b"stored 1\ntaken 1 1\nleft 0\n".as_slice())
@@ -125,16 +121,15 @@ fn a_store_that_fails_ends_all_with_nothing_written(rt: HostRuntime) {
     for call in [1, 2, 3, 4] {
         let (listener, address) = listener(&rt).expect(&rt, "listener");
         let _client = client(&rt, address, &[&GREETED, &TAPPED]).expect(&rt, "client");
-        let mut outbox = FailingOutbox::new(PlainOutbox::new(rt.alloc()), call);
+        let outbox = FailingOutbox::new(PlainOutbox::new(rt.alloc()), call);
         let (ended, output) = served(
             &rt,
-            rt.alloc(),
+            &rt,
             &listener,
             DemoSize::OneDevice,
-            &mut outbox,
+            outbox,
             1_000,
-        )
-        .expect(&rt, "memory");
+        ).expect(&rt, "memory");
         assert_eq!(rt;
             (ended, output.len()),
             (Err(ServeFault::Store), 0),

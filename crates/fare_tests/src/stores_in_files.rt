@@ -1,5 +1,8 @@
 use crate::frame::{GREETED, TAPPED};
-use fare_run::{ServeFailure, ServeOptions, serve};
+use fare_command::Question;
+use fare_desk::DeskFault;
+use fare_record::{Day, OwnerId};
+use fare_run::{AskFailure, AskOptions, ServeFailure, ServeOptions, ask, serve};
 use fare_serve::Limits;
 use fare_trace::ReplayFault;
 use fare_world::Refusal;
@@ -13,6 +16,8 @@ const LIMITS: Limits = Limits {
     turns: 2_000,
     read_millis: 5,
     write_millis: 1_000,
+    rounds: 1,
+    patience: 10,
 };
 
 /// Takes what is written, and once it learns the port connects to it, sends a validator's bytes, and ends that side.
@@ -71,6 +76,7 @@ fn served<
         port: 0,
         path,
         limits: LIMITS,
+        until: None,
     };
     let ended = serve(rt, handles, &options, &mut input, &mut output);
     let Dialler { said, line, .. } = output;
@@ -104,5 +110,47 @@ fn what_comes_before_serving_writes_nothing(rt: HostRuntime) {
     for (scheme, failure) in cases {
         let (ended, said) = served(&rt, &rt, "no-such-folder/served.db", scheme);
         assert_eq!(rt; (ended, said.len()), (Err(failure), 0));
+    }
+}
+
+// How a question of the stores at a path ends, and what is written.
+fn asked(rt: &HostRuntime, path: &str, question: Question) -> (Result<(), AskFailure>, Vec<u8>) {
+    let mut input = b"demo 1 4 4 4\n".as_slice();
+    let mut output = Vec::new(rt.alloc());
+    let options = AskOptions { path, question };
+    let ended = ask(rt, &options, &mut input, &mut output);
+    (ended, output)
+}
+
+// One tap is served; its day isn't closed, for want of a statement, so it has no bill.
+#[test]
+fn questions_of_what_was_served(rt: HostRuntime) {
+    let (ended, _) = served(&rt, &rt, "asked.db", b"demo 1 4 4 4\n");
+    assert_eq!(rt; ended, Ok(()));
+    let owner = OwnerId::new(1).expect(&rt, "owner");
+    let day = Day::new(19_722).expect(&rt, "day");
+    let bill = Question::Bill { owner, day };
+    let cases: [(Question, Result<(), AskFailure>, &[u8]); 3] = [
+        (
+            Question::Stand,
+            Ok(()),
+            b"upto 1 1\nlane 1 1 taken 1 closed none rows 0 statements 0\n",
+        ),
+        (Question::Close, Ok(()), b""),
+        (bill, Err(AskFailure::Desk(DeskFault::BeforeStart)), b""),
+    ];
+    for (question, ends, lines) in cases {
+        let (ended, said) = asked(&rt, "asked.db", question);
+        assert_eq!(rt; (ended, said.as_slice()), (ends, lines));
+    }
+}
+
+// A question makes no store.
+#[test]
+fn questions_of_stores_that_are_not_there(rt: HostRuntime) {
+    for _ in 0..2 {
+        let (ended, said) = asked(&rt, "never-served.db", Question::Stand);
+        let none = Err(AskFailure::Stores(ServeFailure::Store));
+        assert_eq!(rt; (ended, said.len()), (none, 0));
     }
 }

@@ -1,0 +1,251 @@
+//! What an operator asks of stores and orders, and the lines that come of it.
+use crate::hub_sessions::hub_of;
+use crate::samples::{FIRST, Numbers, record, statement};
+use crate::scripts::narrow;
+use fare_command::Question;
+use fare_desk::DeskFault;
+use fare_record::{Day, DeviceId, OwnerId};
+use fare_run::answer_over;
+use fare_sessions::Hub;
+use fare_store::{FailingLedger, Ledger, Outbox, PlainLedger, PlainOutbox};
+use std::alloc::Global;
+
+// The day of the taps.
+const DAY: u64 = 19_723;
+
+// What a ledger took of each of two devices: so many taps of the day, and the counts stated of it and of the day after.
+#[derive(Clone, Copy)]
+struct Held {
+    taps: u64,
+    stated: Option<u64>,
+    next_stated: Option<u64>,
+}
+
+fn fill<L: Ledger>(ledger: &mut L, device: u64, held: Held) -> Option<()> {
+    for number in 1..=held.taps {
+        let row = record(Numbers {
+            device,
+            link: number,
+            lane: number,
+            ..FIRST
+        })?;
+        ledger.take(&row).ok()?;
+    }
+    if let Some(count) = held.stated {
+        ledger.state(&statement(device, DAY, 1, count)?).ok()?;
+    }
+    if let Some(count) = held.next_stated {
+        ledger.state(&statement(device, DAY + 1, 1, count)?).ok()?;
+    }
+    Some(())
+}
+
+// A hub of one owner and two devices, of each of which its ledger took this.
+fn hub_with(alloc: Global, first: Held, second: Held) -> Option<Hub<PlainOutbox, PlainLedger>> {
+    let scheme = narrow(alloc)?;
+    let mut ledger = PlainLedger::new(alloc, &scheme, OwnerId::new(1)?).ok()?;
+    fill(&mut ledger, 1, first)?;
+    fill(&mut ledger, 2, second)?;
+    hub_of(alloc, scheme, PlainOutbox::new(alloc), ledger)
+}
+
+// How a question of a hub is answered, and what was written.
+fn answered<O: Outbox, L: Ledger>(
+    alloc: Global,
+    hub: &mut Hub<O, L>,
+    question: Question,
+) -> Option<(Result<(), DeskFault>, Vec<u8>)> {
+    if hub.ledgers.len() != hub.scheme.owner_count() {
+        return None;
+    }
+    let mut output = Vec::new(alloc);
+    let ended = answer_over(alloc, hub, question, &mut output);
+    Some((ended, output))
+}
+
+fn bill(owner: u64, day: u64) -> Option<Question> {
+    Some(Question::Bill {
+        owner: OwnerId::new(owner)?,
+        day: Day::new(day)?,
+    })
+}
+
+fn settle(owner: u64, day: u64) -> Option<Question> {
+    Some(Question::Settle {
+        owner: OwnerId::new(owner)?,
+        day: Day::new(day)?,
+    })
+}
+
+const WHOLE: Held = Held {
+    taps: 2,
+    stated: Some(2),
+    next_stated: Some(0),
+};
+
+// Two days of each device are closed, and then a bill and a settlement are written as replies to a trace are.
+#[test]
+fn days_whose_counts_are_met_are_closed_and_billed(rt: HostRuntime) {
+    let alloc = rt.alloc();
+    let mut hub = hub_with(alloc, WHOLE, WHOLE).expect(&rt, "hub");
+    let cases: [(Option<Question>, &[u8]); 4] = [
+        (
+            Some(Question::Close),
+            b"close 1 1 19723: closed 1 19723\nclose 1 1 19724: closed 1 19724\nclose 1 2 19723: closed 2 19723\nclose 1 2 19724: closed 2 19724\n",
+        ),
+        (Some(Question::Close), b""),
+        (bill(1, DAY), b"bill 1 19723 1 525\naccount 1 77 4 525\n"),
+        (
+            settle(1, DAY),
+            b"settlement 1 19723 2\noperator 1 2 350\noperator 2 2 175\n",
+        ),
+    ];
+    for (question, lines) in cases {
+        let question = question.expect(&rt, "question");
+        let (ended, said) = answered(alloc, &mut hub, question).expect(&rt, "answer");
+        assert_eq!(rt; (ended, said.as_slice()), (Ok(()), lines));
+    }
+}
+
+// A count that is not met ends its device's lane, and no other; what isn't stated is not tried.
+#[test]
+fn a_count_that_is_not_met_ends_its_lane(rt: HostRuntime) {
+    let alloc = rt.alloc();
+    let short = Held {
+        stated: Some(3),
+        ..WHOLE
+    };
+    let over = Held {
+        stated: Some(1),
+        ..WHOLE
+    };
+    let unstated = Held {
+        stated: None,
+        ..WHOLE
+    };
+    let cases: [(Held, Held, &[u8]); 3] = [
+        (
+            short,
+            WHOLE,
+            b"close 1 1 19723: refused CountsShort 3 2\nclose 1 2 19723: closed 2 19723\nclose 1 2 19724: closed 2 19724\n",
+        ),
+        (unstated, over, b"close 1 2 19723: refused CountsOver 1 2\n"),
+        (unstated, unstated, b""),
+    ];
+    for (first, second, lines) in cases {
+        let mut hub = hub_with(alloc, first, second).expect(&rt, "hub");
+        let (ended, said) = answered(alloc, &mut hub, Question::Close).expect(&rt, "answer");
+        assert_eq!(rt; (ended, said.as_slice()), (Ok(()), lines));
+    }
+}
+
+// Each refusal writes nothing, in one order.
+#[test]
+fn a_question_without_an_answer_writes_nothing(rt: HostRuntime) {
+    let alloc = rt.alloc();
+    let device = DeviceId::new(1).expect(&rt, "device");
+    let mut hub = hub_with(alloc, WHOLE, WHOLE).expect(&rt, "hub");
+    let cases = [
+        (bill(9, DAY - 1), DeskFault::UnknownOwner),
+        (settle(9, DAY), DeskFault::UnknownOwner),
+        (bill(1, DAY - 1), DeskFault::BeforeStart),
+        (settle(1, DAY - 1), DeskFault::BeforeStart),
+        (bill(1, DAY), DeskFault::NotClosed { device }),
+        (settle(1, DAY), DeskFault::NotClosed { device }),
+    ];
+    for (question, fault) in cases {
+        let question = question.expect(&rt, "question");
+        let (ended, said) = answered(alloc, &mut hub, question).expect(&rt, "answer");
+        assert_eq!(rt; (ended, said.len()), (Err(fault), 0));
+    }
+}
+
+// An outbox with three taps of device 1 and its statement.
+fn outbox_of(alloc: Global) -> Option<PlainOutbox> {
+    let mut outbox = PlainOutbox::new(alloc);
+    for number in 1..=3 {
+        let row = record(Numbers {
+            link: number,
+            lane: number,
+            ..FIRST
+        })?;
+        outbox.store(&row).ok()?;
+    }
+    outbox.store_statement(&statement(1, DAY, 1, 3)?).ok()?;
+    Some(outbox)
+}
+
+// What waits is what the owner has not taken, and the statements of days that it has not closed.
+#[test]
+fn lanes_stand_where_their_stores_say(rt: HostRuntime) {
+    let alloc = rt.alloc();
+    let none = Held {
+        taps: 0,
+        stated: None,
+        next_stated: None,
+    };
+    let two = Held { taps: 2, ..none };
+    let closed = Held {
+        taps: 3,
+        stated: Some(3),
+        ..none
+    };
+    let cases: [(Held, &[u8]); 3] = [
+        (
+            none,
+            b"upto 1 3\nupto 2 0\nlane 1 1 taken 0 closed none rows 3 statements 1\nlane 1 2 taken 0 closed none rows 0 statements 0\n",
+        ),
+        (
+            two,
+            b"upto 1 3\nupto 2 0\nlane 1 1 taken 2 closed none rows 1 statements 1\nlane 1 2 taken 0 closed none rows 0 statements 0\n",
+        ),
+        (
+            closed,
+            b"upto 1 3\nupto 2 0\nlane 1 1 taken 3 closed 19723 rows 0 statements 0\nlane 1 2 taken 0 closed none rows 0 statements 0\n",
+        ),
+    ];
+    for (first, lines) in cases {
+        let mut hub = hub_with(alloc, first, none).expect(&rt, "hub");
+        hub.outbox = outbox_of(alloc).expect(&rt, "outbox");
+        let (ended, _) = answered(alloc, &mut hub, Question::Close).expect(&rt, "close");
+        assert_eq!(rt; ended, Ok(()));
+        let (ended, said) = answered(alloc, &mut hub, Question::Stand).expect(&rt, "answer");
+        assert_eq!(rt; (ended, said.as_slice()), (Ok(()), lines));
+    }
+}
+
+// A ledger that fails at its k-th call ends the closes there, and what was written are the lines before it.
+#[test]
+fn a_ledger_that_fails_ends_the_closes(rt: HostRuntime) {
+    let alloc = rt.alloc();
+    let whole: &[u8] =
+        b"close 1 1 19723: closed 1 19723\nclose 1 1 19724: closed 1 19724\nclose 1 2 19723: closed 2 19723\nclose 1 2 19724: closed 2 19724\n";
+    // Each day asks which is the last closed one and whether the next is stated, and closes it; a lane ends with two
+    // questions.
+    let cases = [
+        (1, 0),
+        (2, 0),
+        (3, 0),
+        (4, 1),
+        (6, 1),
+        (7, 2),
+        (8, 2),
+        (9, 2),
+        (11, 2),
+        (12, 3),
+    ];
+    for (calls, lines) in cases {
+        let plain = hub_with(alloc, WHOLE, WHOLE).expect(&rt, "hub");
+        let Hub {
+            scheme,
+            outbox,
+            mut ledgers,
+        } = plain;
+        let ledger = ledgers.pop().expect(&rt, "ledger");
+        let failing = FailingLedger::new(ledger, calls);
+        let mut hub = hub_of(alloc, scheme, outbox, failing).expect(&rt, "hub");
+        let (ended, said) = answered(alloc, &mut hub, Question::Close).expect(&rt, "answer");
+        assert_eq!(rt; ended, Err(DeskFault::Store));
+        assert_eq!(rt; said.as_slice(), &whole[..lines * 32]);
+    }
+}

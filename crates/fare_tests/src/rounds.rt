@@ -1,0 +1,221 @@
+//! Serving in rounds over sockets: a validator that comes late, one that breaks and comes again, and a newer line.
+ghost use Rattle.fare_sessions.specs.Stores.{HasLedgers};
+
+use crate::hub_sessions::hub_of;
+use crate::samples::{FIRST, Numbers, record};
+use crate::serving::listener;
+use fare_frame::Frame;
+use fare_record::{Ack, DeviceId, Hello, LAST_NUMBER, OwnerId};
+use fare_scheme::{DemoSize, Scheme};
+use fare_serve::{Limits, ServeFault, serve_rounds};
+use fare_sessions::Hub;
+use fare_store::{PlainLedger, PlainOutbox};
+use std::alloc::Global;
+use std::fs;
+use std::io::{Read, Write};
+use std::net::{Net, SocketAddr, TcpListener, TcpStream};
+use std::sync::Wait;
+use std::thread::{self, Threads};
+use std::time::{Clock, Duration};
+
+// A read waits 5 milliseconds, and a line that is quiet for two of them waits for the next round.
+const LIMITS: Limits = Limits {
+    turns: 100,
+    read_millis: 5,
+    write_millis: 1_000,
+    rounds: 2_000,
+    patience: 2,
+};
+
+/// What validators do till serving is told to end.
+#[derive(Clone, Copy, PartialEq, Eq, Debug)]
+enum Play {
+    /// That of device 2 comes when the tap of device 1 is acknowledged.
+    ComesLate,
+    /// It sends what is no frame, and then comes again, with the tap that was acknowledged and another.
+    BreaksAndComesAgain,
+    /// It comes again on another line, and the first one is still there.
+    ComesTwice,
+}
+
+fn device(number: u64) -> Option<DeviceId> {
+    DeviceId::new(number)
+}
+
+fn send(alloc: Global, stream: &mut TcpStream, frame: Frame) -> Option<()> {
+    let mut bytes = Vec::new(alloc);
+    frame.put(&mut bytes).ok()?;
+    stream.write_all(&bytes).ok()
+}
+
+// A line of a device, on which these taps were sent.
+fn dial<R: Net<Listener = TcpListener, Stream = TcpStream>>(
+    rt: &R,
+    alloc: Global,
+    address: SocketAddr,
+    number: u64,
+    links: &[u64],
+) -> Option<TcpStream> {
+    let mut stream = TcpStream::connect(rt, address).ok()?;
+    stream
+        .set_read_timeout(Some(Duration::from_millis(5_000)))
+        .ok()?;
+    let hello = Hello::new(device(number)?, 1);
+    send(alloc, &mut stream, Frame::Greeted(hello))?;
+    for link in links {
+        let numbers = Numbers {
+            device: number,
+            link: *link,
+            lane: *link,
+            ..FIRST
+        };
+        send(alloc, &mut stream, Frame::Tapped(record(numbers)?))?;
+    }
+    Some(stream)
+}
+
+// Waits until the taps of a device up to this one are acknowledged.
+fn hears(alloc: Global, stream: &mut TcpStream, number: u64, upto: u64) -> Option<()> {
+    if upto > LAST_NUMBER {
+        return None;
+    }
+    let mut wanted = Vec::new(alloc);
+    let ack = Ack::new(device(number)?, upto);
+    Frame::Acked(ack).put(&mut wanted).ok()?;
+    for _ in 0..10 {
+        let mut bytes = [0u8; 15];
+        stream.read_exact(&mut bytes).ok()?;
+        if bytes.as_slice() == wanted.as_slice() {
+            return Some(());
+        }
+    }
+    None
+}
+
+// Whether the other side of a line has let it go, once it said all that it had to say.
+fn has_ended(alloc: Global, stream: &mut TcpStream) -> bool {
+    let mut bytes = Vec::new(alloc);
+    stream.read_to_end(&mut bytes).is_ok()
+}
+
+fn perform<R: Net<Listener = TcpListener, Stream = TcpStream>>(
+    rt: &R,
+    alloc: Global,
+    address: SocketAddr,
+    what: Play,
+) -> Option<()> {
+    let mut first = dial(rt, alloc, address, 1, &[1])?;
+    hears(alloc, &mut first, 1, 1)?;
+    match what {
+        Play::ComesLate => {
+            let mut second = dial(rt, alloc, address, 2, &[1])?;
+            hears(alloc, &mut second, 2, 1)
+        }
+        Play::BreaksAndComesAgain => {
+            first.write_all(&[0x00, 0x30, 0x01]).ok()?;
+            let mut second = dial(rt, alloc, address, 1, &[1, 2])?;
+            hears(alloc, &mut second, 1, 2)
+        }
+        Play::ComesTwice => {
+            let mut second = dial(rt, alloc, address, 1, &[2])?;
+            hears(alloc, &mut second, 1, 2)?;
+            if has_ended(alloc, &mut first) {
+                Some(())
+            } else {
+                None
+            }
+        }
+    }
+}
+
+// Performs it, and then makes the file that ends serving.
+fn perform_and_end<R: Net<Listener = TcpListener, Stream = TcpStream>>(
+    host: &HostRuntime,
+    rt: &R,
+    address: SocketAddr,
+    what: Play,
+    path: &str,
+) -> bool {
+    let performed = perform(rt, host.alloc(), address, what).is_some();
+    fs::write(host, path, "").is_ok() && performed
+}
+
+fn serve_until<R: Threads + Wait + Clock + Eprint + Sync>(
+    host: &HostRuntime,
+    rt: &R,
+    listener: &TcpListener,
+    hub: Hub<PlainOutbox, PlainLedger>,
+    path: &str,
+) -> (Result<(), ServeFault>, Vec<u8>)
+    requires { HasLedgers hub }
+{
+    let (mut hub, mut output) = (hub, Vec::new(host.alloc()));
+    let ended = serve_rounds(
+        host,
+        rt,
+        listener,
+        &mut hub,
+        LIMITS,
+        Some(path),
+        &mut output,
+    );
+    (ended, output)
+}
+
+// Whether all was heard that the play waits for, how serving ended meanwhile, and what was written.
+fn played<
+    R: Net<Listener = TcpListener, Stream = TcpStream> + Threads + Wait + Clock + Eprint + Sync,
+>(
+    host: &HostRuntime,
+    rt: &R,
+    what: Play,
+    path: &str,
+) -> Option<(bool, Result<(), ServeFault>, Vec<u8>)> {
+    let alloc = host.alloc();
+    let _ = fs::remove_file(host, path);
+    let (listener, address) = listener(rt)?;
+    let scheme = Scheme::demo(alloc, DemoSize::TwoDevices, 4, 4, 4).ok()?;
+    let ledger = PlainLedger::new(alloc, &scheme, OwnerId::new(1)?).ok()?;
+    let hub = hub_of(alloc, scheme, PlainOutbox::new(alloc), ledger)?;
+    if hub.scheme.owner_count() != hub.ledgers.len() {
+        return None;
+    }
+    let ((ended, output), heard) = thread::join(
+        rt,
+        || -> (Result<(), ServeFault>, Vec<u8>)
+            requires { HasLedgers hub }
+        { serve_until(host, rt, &listener, hub, path) },
+        || perform_and_end(host, rt, address, what, path),
+    );
+    Some((heard, ended, output))
+}
+
+#[test]
+fn a_validator_that_comes_in_a_later_round_is_served(rt: HostRuntime) {
+    let seen = played(&rt, &rt, Play::ComesLate, "late.end");
+    let (heard, ended, output) = seen.expect(&rt, "memory");
+    assert_eq!(rt;
+        (heard, ended, output.as_slice()),
+        (true, Ok(()), b"stored 2\ntaken 1 2\nleft 0\n".as_slice())
+    );
+}
+
+#[test]
+fn a_validator_whose_line_broke_comes_again_and_each_tap_is_stored_once(rt: HostRuntime) {
+    let seen = played(&rt, &rt, Play::BreaksAndComesAgain, "broken.end");
+    let (heard, ended, output) = seen.expect(&rt, "memory");
+    assert_eq!(rt;
+        (heard, ended, output.as_slice()),
+        (true, Ok(()), b"stored 2\ntaken 1 2\nleft 0\n".as_slice())
+    );
+}
+
+#[test]
+fn a_newer_line_of_a_station_replaces_the_older_one(rt: HostRuntime) {
+    let seen = played(&rt, &rt, Play::ComesTwice, "twice.end");
+    let (heard, ended, output) = seen.expect(&rt, "memory");
+    assert_eq!(rt;
+        (heard, ended, output.as_slice()),
+        (true, Ok(()), b"stored 2\ntaken 1 2\nleft 0\n".as_slice())
+    );
+}
