@@ -54,8 +54,11 @@ fn words_and_traces_decide_the_ending(rt: HostRuntime) {
     for (words, trace, status, said, begin) in cases {
         let mut input = trace;
         let mut output = Vec::new(rt.alloc());
-        let ended = run(rt.alloc(), words, &mut input, &mut output);
-        let ended = ended.map(|left| assert!(rt; left.is_none()));
+        let ended = match run(rt.alloc(), words, &mut input, &mut output) {
+            Ok(None) => Ok(()),
+            Ok(Some(_)) => panic!(rt; "something is left to do"),
+            Err(failure) => Err(failure),
+        };
         assert_eq!(rt;
             (
                 told(rt.alloc(), &ended, said),
