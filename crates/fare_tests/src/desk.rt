@@ -218,21 +218,23 @@ fn lanes_stand_where_their_stores_say(rt: HostRuntime) {
 #[test]
 fn a_ledger_that_fails_ends_the_closes(rt: HostRuntime) {
     let alloc = rt.alloc();
-    let whole: &[u8] =
-        b"close 1 1 19723: closed 1 19723\nclose 1 1 19724: closed 1 19724\nclose 1 2 19723: closed 2 19723\nclose 1 2 19724: closed 2 19724\n";
+    let one: &[u8] = b"close 1 1 19723: closed 1 19723\n";
+    let two: &[u8] = b"close 1 1 19723: closed 1 19723\nclose 1 1 19724: closed 1 19724\n";
+    let three: &[u8] =
+        b"close 1 1 19723: closed 1 19723\nclose 1 1 19724: closed 1 19724\nclose 1 2 19723: closed 2 19723\n";
     // Each day asks which is the last closed one and whether the next is stated, and closes it; a lane ends with two
     // questions.
-    let cases = [
-        (1, 0),
-        (2, 0),
-        (3, 0),
-        (4, 1),
-        (6, 1),
-        (7, 2),
-        (8, 2),
-        (9, 2),
-        (11, 2),
-        (12, 3),
+    let cases: [(u64, &[u8]); 10] = [
+        (1, b""),
+        (2, b""),
+        (3, b""),
+        (4, one),
+        (6, one),
+        (7, two),
+        (8, two),
+        (9, two),
+        (11, two),
+        (12, three),
     ];
     for (calls, lines) in cases {
         let plain = hub_with(alloc, WHOLE, WHOLE).expect(&rt, "hub");
@@ -242,10 +244,9 @@ fn a_ledger_that_fails_ends_the_closes(rt: HostRuntime) {
             mut ledgers,
         } = plain;
         let ledger = ledgers.pop().expect(&rt, "ledger");
-        let failing = FailingLedger::new(ledger, calls);
+        let failing = FailingLedger::new(ledger, calls.max(1));
         let mut hub = hub_of(alloc, scheme, outbox, failing).expect(&rt, "hub");
         let (ended, said) = answered(alloc, &mut hub, Question::Close).expect(&rt, "answer");
-        assert_eq!(rt; ended, Err(DeskFault::Store));
-        assert_eq!(rt; said.as_slice(), &whole[..lines * 32]);
+        assert_eq!(rt; (ended, said.as_slice()), (Err(DeskFault::Store), lines));
     }
 }
