@@ -25,7 +25,7 @@ fn world_over(alloc: Global, scheme: Scheme) -> Option<PlainWorld> {
 }
 
 // What brings the first tap of a device to the ledger of the owner of a product with the owner's number.
-pub fn journey(device: u64, product: u64, packet: u64) -> Option<[Event; 10]> {
+pub(crate) fn journey(device: u64, product: u64, packet: u64) -> Option<[Event; 10]> {
     let device = DeviceId::new(device)?;
     let owner = OwnerId::new(product)?;
     Some([
@@ -64,7 +64,7 @@ fn answers(device: u64, packet: u64) -> Option<[Reply; 10]> {
     ])
 }
 
-pub fn small_world(alloc: Global) -> Option<PlainWorld> {
+pub(crate) fn small_world(alloc: Global) -> Option<PlainWorld> {
     let scheme = Scheme::demo(alloc, DemoSize::OneDevice, 4, 4, 4).ok()?;
     world_over(alloc, scheme)
 }
@@ -129,7 +129,7 @@ fn wide_world(alloc: Global) -> Option<PlainWorld> {
 }
 
 // What brings 450 taps of device 1 to the ledger of owner 1, one after the other, each acknowledged.
-pub fn many_journeys(alloc: Global) -> Option<Vec<Event>> {
+pub(crate) fn many_journeys(alloc: Global) -> Option<Vec<Event>> {
     let device = DeviceId::new(1)?;
     let station = StationId::new(1)?;
     let mut events = Vec::new(alloc);
