@@ -1,6 +1,6 @@
 -- Stores that are read, one call after the other.
-use Rattle.std.proofs.Common.{◌≡◌, ℕ, Some, None, length, sym, ap, ◌∙◌, subst, refl, inl, inr}
-use Rattle.std.specs.Prelude.{Option, Result, Ok, Err, IfOk, Vec, slice_get}
+use Rattle.std.proofs.Common.{◌≡◌, ℕ, length, sym, ap, ◌∙◌, subst, refl, inl, inr}
+use Rattle.std.specs.Prelude.{Result, Ok, Err, IfOk, Vec, slice_get}
 use Rattle.std.specs.Global.{Global}
 use Rattle.fare_scheme.specs.Values.{SchemeValue}
 use Rattle.fare_scheme.specs.Words.{position_of_owner}
@@ -13,7 +13,7 @@ use Rattle.fare_history.specs.Stores.{StoresValue}
 use Rattle.fare_session.specs.Stores.{Follows}
 use Rattle.fare_sessions.specs.declared.hub.Hub.{Hub}
 use Rattle.fare_sessions.specs.Billing.{OnlyReads}
-use Rattle.fare_sessions.specs.Stores.{IsLedgerOf, AreClean, AreSound, StoresFollow, MayStandAs}
+use Rattle.fare_sessions.specs.Stores.{IsLedgerOf, AreClean, AreSound, MayStandAs}
 use Rattle.fare_sessions.proofs.Billed.{holds_value}
 use Rattle.fare_sessions.proofs.Follow.{follow_self, follow_join, clean_back, same_at}
 use Rattle.fare_desk.specs.Showing.{OnlyAsks}

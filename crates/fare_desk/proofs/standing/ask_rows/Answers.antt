@@ -1,4 +1,4 @@
-use Rattle.std.proofs.Common.{◌≡◌, ◌+◌, ℕ, refl}
+use Rattle.std.proofs.Common.{◌+◌, refl}
 use Rattle.fare_sessions.specs.declared.hub.Hub.{Hub}
 use Rattle.fare_desk.specs.Showing.{HasFrom}
 use Rattle.fare_desk.proofs.Asked.{asks_outbox, outbox_tells}

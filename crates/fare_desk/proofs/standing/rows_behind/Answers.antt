@@ -1,9 +1,9 @@
-use Rattle.std.proofs.Common.{◌≡◌, ◌≤◌, ◌<◌, ◌+◌, ℕ, Some, None, sym, ap, ◌∙◌, subst, arith}
-use Rattle.std.specs.Prelude.{Option, Ok, Err}
+use Rattle.std.proofs.Common.{◌≡◌, ◌<◌, ◌+◌, Some, None, sym, subst, arith}
+use Rattle.std.specs.Prelude.{Option, Ok}
 use Rattle.fare_record.specs.Values.{RecordValue}
 use Rattle.fare_store.specs.OutboxWords.{OutboxValue, IsNextRow}
 use Rattle.fare_store.specs.Standing.{Reads}
-use Rattle.fare_world.proofs.ReadsThen.{reads_none, reads_since, since_calls, reads_say, read_failed}
+use Rattle.fare_world.proofs.ReadsThen.{reads_none, reads_since, since_calls, reads_say}
 use Rattle.fare_desk.specs.Showing.{HasFrom}
 use Rattle.fare_desk.proofs.Held.{Found, found_none, row_more, row_none}
 use Rattle.fare_desk.proofs.standing.rows_behind.Goals as goal

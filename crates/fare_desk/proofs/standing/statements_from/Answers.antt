@@ -1,12 +1,12 @@
-use Rattle.std.proofs.Common.{◌≡◌, ◌≤◌, ◌<◌, ◌+◌, ℕ, Some, None, sym, ap, ◌∙◌, subst, arith}
-use Rattle.std.specs.Prelude.{Option, Ok, Err}
+use Rattle.std.proofs.Common.{◌≡◌, ◌≤◌, ◌<◌, ◌+◌, Some, None, sym, ◌∙◌, subst, arith}
+use Rattle.std.specs.Prelude.{Option, Ok}
 use Rattle.fare_record.specs.Values.{StatementValue}
 use Rattle.fare_store.specs.OutboxWords.{OutboxValue, IsNextStatement}
 use Rattle.fare_store.specs.Standing.{Reads}
 use Rattle.fare_world.proofs.ReadsThen.{reads_none, reads_since, since_calls, reads_say}
 use Rattle.fare_sessions.proofs.Billed.{from_not_less}
 use Rattle.fare_desk.specs.Showing.{HasFrom, stated_days}
-use Rattle.fare_desk.proofs.Held.{Found, found_none, statement_more, statement_none, statement_last}
+use Rattle.fare_desk.proofs.Held.{Found, found_none, statement_more, statement_none}
 use Rattle.fare_desk.proofs.standing.statements_from.Goals as goal
 
 pub loop-statement-init : goal.loop-statement-init
