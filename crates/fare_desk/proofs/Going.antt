@@ -1,20 +1,21 @@
 -- Stores that go on, from call to call.
-use Rattle.std.proofs.Common.{◌≡◌, ℕ, List, sym, ap, ◌∙◌, subst}
+use Rattle.std.proofs.Common.{ℕ, List, sym, ap, ◌∙◌, subst}
 use Rattle.fare_record.specs.Values.{RecordValue}
 use Rattle.fare_scheme.specs.Values.{SchemeValue}
 use Rattle.fare_store.specs.Standing.{Standing}
 use Rattle.fare_store.specs.OutboxWords.{OutboxValue}
 use Rattle.fare_store.specs.LedgerWords.{LedgerValue}
 use Rattle.fare_world.specs.Knowing.{knows_owner}
-use Rattle.fare_history.specs.Stores.{StoresValue}
 use Rattle.fare_agreement.specs.Agreeing.{AreNumberedLists, Agrees}
 use Rattle.fare_agreement.proofs.Collecting.{outbox_self, outbox_trans}
 use Rattle.fare_agreement.proofs.Takes.{ledger_self, ledger_trans}
 use Rattle.fare_sessions.specs.declared.hub.Hub.{Hub}
 use Rattle.fare_sessions.specs.Billing.{OnlyReads}
-use Rattle.fare_sessions.specs.Stores.{AreClean, AreSound, MayStandAs, IsAgreed, HasGrown}
+use Rattle.fare_sessions.specs.Stores.{AreClean}
 use Rattle.fare_sessions.proofs.Follow.{follow_self, follow_join, clean_back}
 use Rattle.fare_desk.specs.Closing.{GoesOn}
+use Rattle.fare_desk.specs.Showing.{OnlyAsks}
+use Rattle.fare_desk.proofs.Asked.{asks_read}
 
 module _ {O L : Type 0} (outbox : O → Standing OutboxValue) (ledger : L → Standing LedgerValue) where
   pub goes_self : (hub : Hub O L) → GoesOn outbox ledger hub hub
@@ -26,14 +27,17 @@ module _ {O L : Type 0} (outbox : O → Standing OutboxValue) (ledger : L → St
     grows = λ clean sound lists numbered is. record { grown = λ k may. (k, may, outbox_self k.outbox, λ owner known. ledger_self (k.ledgers owner)) };
   }
 
-  pub goes_read : (old new : Hub O L) → OnlyReads outbox ledger old new → GoesOn outbox ledger old new
-  goes_read old new r = record {
+  pub goes_asks : (old new : Hub O L) → OnlyAsks outbox ledger old new → GoesOn outbox ledger old new
+  goes_asks old new r = record {
     scheme = r.scheme;
     follow = r.follow;
     sound = r.sound;
     agrees = λ clean sound lists numbered is. record { agreed = λ h may. subst (λ (sc : SchemeValue). Agrees sc lists h) (sym r.scheme) (is.agreed h (r.same clean sound h may)) };
     grows = λ clean sound lists numbered is. record { grown = λ k may. (k, r.same clean sound k may, outbox_self k.outbox, λ owner known. ledger_self (k.ledgers owner)) };
   }
+
+  pub goes_read : (old new : Hub O L) → OnlyReads outbox ledger old new → GoesOn outbox ledger old new
+  goes_read old new r = goes_asks old new (asks_read outbox ledger old new r)
 
   pub goes_join : (a b c : Hub O L) → GoesOn outbox ledger a b → GoesOn outbox ledger b c → GoesOn outbox ledger a c
   goes_join a b c f g = record {

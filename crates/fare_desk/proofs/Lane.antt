@@ -1,5 +1,5 @@
 -- The closes of one lane.
-use Rattle.std.proofs.Common.{◌≡◌, ◌≢◌, ◌⊎◌, inl, inr, ℕ, zero, suc, ◌+◌, ◌<◌, ◌≤◌, List, [], ◌∷◌, ◌++◌, Some, None, Bool, true, false, refl, sym, ap, ◌∙◌, subst, arith, append-nil}
+use Rattle.std.proofs.Common.{◌≡◌, ◌≢◌, ◌⊎◌, inl, inr, ℕ, zero, suc, ◌+◌, ◌<◌, ◌≤◌, List, [], ◌∷◌, ◌++◌, Some, None, Bool, true, false, refl, sym, ap, ◌∙◌, subst, arith, add_assoc, add-zero, append-nil}
 use Rattle.std.specs.Prelude.{◌==◌, ◌&&◌, nat_le, nat_lt, Option, is_some, Result, Ok, Err, if◌then◌else◌}
 use Rattle.std.specs.Io.KnownBytes.{Appends}
 use Rattle.std.proofs.KnownBytes.{Appends-nil, Appends-trans}
@@ -15,14 +15,14 @@ use Rattle.fare_store.specs.Tables.{put}
 use Rattle.fare_store.specs.OutboxWords.{OutboxValue}
 use Rattle.fare_store.specs.LedgerWords.{LedgerValue, close_of, is_closed}
 use Rattle.fare_history.specs.Stores.{StoresValue}
-use Rattle.fare_history.proofs.Entries.{put_here, is_self, is_one}
+use Rattle.fare_history.proofs.Entries.{put_here, is_self}
 use Rattle.fare_sessions.specs.declared.hub.Hub.{Hub}
 use Rattle.fare_sessions.specs.Billing.{IsToClose, OnlyReads, first_unclosed, stated_of}
 use Rattle.fare_sessions.specs.Stores.{AreClean, AreSound, MayStandAs}
 use Rattle.fare_sessions.proofs.Billed.{put_self}
 use Rattle.fare_sessions.proofs.Follow.{clean_back}
 use Rattle.fare_sessions.proofs.NextClose.{there_is_none}
-use Rattle.fare_desk.specs.Closing.{CanClose, ClosesLanes, GoesOn, HasAnswered, HasClosedLanes, IsMet, after_close, close_refusal, closed_lines, counted, day_behind, lane_lines, last_line, miscounted, try_line, with_closes, with_lane}
+use Rattle.fare_desk.specs.Closing.{AreLinesOf, AreTries, IsDayBehind, GoesOn, HasAnswered, HasClosedLanes, IsMet, close_refusal, closed_lines, counted, unclosed_day, lane_lines, last_line, miscounted, try_line, with_closes, with_lane}
 use Rattle.fare_desk.proofs.Going.{goes_self, goes_read, goes_join}
 
 -- ONE CLOSE
@@ -120,11 +120,12 @@ lane_more owner device n h =
     λ i. record { outbox = h.outbox; ledgers = same i }
 
 -- the first day that is not closed then
-first_then : (owner device n : ℕ) (h m : StoresValue) → m ≡ with_lane owner device n h → first_unclosed (m.ledgers owner) device ≡ day_behind (h.ledgers owner) device n
+first_then : (owner device n : ℕ) (h m : StoresValue) → m ≡ with_lane owner device n h → first_unclosed (m.ledgers owner) device ≡ unclosed_day (h.ledgers owner) device n
 first_then owner device n h m is =
+    let v = h.ledgers owner in
     ap (λ (z : StoresValue). first_unclosed (z.ledgers owner) device) is
     ∙ (ap (λ (v : LedgerValue). first_unclosed v device) (lane_owner owner device n h)
-    ∙ ap (λ (c : ℕ). (h.ledgers owner).start + c) (put_here (h.ledgers owner).closed device ((h.ledgers owner).closed device + n)))
+    ∙ (ap (λ (c : ℕ). v.start + c) (put_here v.closed device (v.closed device + n)) ∙ sym (add_assoc v.start (v.closed device) n)))
 
 stated_then : (owner device n : ℕ) (h m : StoresValue) → m ≡ with_lane owner device n h → (day : ℕ) → stated_of (m.ledgers owner) device day ≡ stated_of (h.ledgers owner) device day
 stated_then owner device n h m is day = ap (λ (z : StoresValue). stated_of (z.ledgers owner) device day) is ∙ ap (λ (v : LedgerValue). stated_of v device day) (lane_owner owner device n h)
@@ -137,30 +138,48 @@ some_is None e = absurd (cc)
 some_is (Some c) e = (c, refl)
 
 -- THE LOOP
+-- there is a day behind the last
+some_behind : (last : Option ℕ) → (day : ℕ) × IsDayBehind last day
+some_behind None = (0, tt)
+some_behind (Some last) = (last + 1, refl)
+
 module _ {O L : Type 0} (outbox : O → Standing OutboxValue) (ledger : L → Standing LedgerValue) (owner device : ℕ) where
+  -- the lines of one lane
+  one_lane : (text : List ℕ) → AreTries owner device text → AreLinesOf ((owner, device) ∷ []) text
+  one_lane text tries = (text, [], tries, sym (append-nil text), refl)
+
   -- so many days are closed
-  pub record StandsLane (old now : Hub O L) (before after : Option (List ℕ)) (n : ℕ) : Type 0 where
+  pub record StandsLane (old now : Hub O L) (before after : Option (List ℕ)) (last : Option ℕ) (n : ℕ) : Type 0 where
     pub goes : GoesOn outbox ledger old now
     pub text : List ℕ
     pub written : Appends before after text
+    pub in_row : (day : ℕ) → IsDayBehind last day → (first : ℕ) × (text ≡ closed_lines owner device first n) × (day ≡ first + n)
     pub came : AreClean outbox ledger now → AreSound outbox ledger old → (k : StoresValue) → MayStandAs outbox ledger now k
-        → (h : StoresValue) × MayStandAs outbox ledger old h × (k ≡ with_lane owner device n h) × ((j : ℕ) → j < n → IsMet (h.ledgers owner) device (day_behind (h.ledgers owner) device j)) × (text ≡ closed_lines owner device (h.ledgers owner) n)
+        → (h : StoresValue) × MayStandAs outbox ledger old h × (k ≡ with_lane owner device n h) × ((j : ℕ) → j < n → IsMet (h.ledgers owner) device (unclosed_day (h.ledgers owner) device j)) × (text ≡ closed_lines owner device (first_unclosed (h.ledgers owner) device) n)
 
-  pub lane_begins : (old : Hub O L) (before : Option (List ℕ)) → StandsLane old old before before 0
+  pub lane_begins : (old : Hub O L) (before : Option (List ℕ)) → StandsLane old old before before None 0
   lane_begins old before = record {
     goes = goes_self outbox ledger old;
     text = [];
     written = Appends-nil before;
+    in_row = λ day behind. (day, refl, sym (add-zero day));
     came = λ clean sound k may. (k, may, sym (lane_none owner device k), λ j lt. absurd (omega (arith, lt)), refl);
   }
 
-  module _ (old now mid : Hub O L) (before after : Option (List ℕ)) (n : ℕ) (s : StandsLane old now before after n) (r : OnlyReads outbox ledger now mid) where
+  -- the lines of the days that were closed
+  all_closed : (old now : Hub O L) (before after : Option (List ℕ)) (last : Option ℕ) (n : ℕ) (s : StandsLane old now before after last n) → AreTries owner device s.text
+  all_closed old now before after last n s =
+      let day = some_behind last in
+      let row = s.in_row day.0 day.1 in
+      record { first = row.0; closed = n; refused = None; is = row.1 ∙ sym (append-nil (closed_lines owner device row.0 n)) }
+
+  module _ (old now mid : Hub O L) (before after : Option (List ℕ)) (last : Option ℕ) (n : ℕ) (s : StandsLane old now before after last n) (r : OnlyReads outbox ledger now mid) where
     pub goes_mid : GoesOn outbox ledger old mid
     goes_mid = goes_join outbox ledger old now mid s.goes (goes_read outbox ledger now mid r)
 
     -- what stood before the read
     earlier : AreClean outbox ledger mid → AreSound outbox ledger old → (m : StoresValue) → MayStandAs outbox ledger mid m
-        → MayStandAs outbox ledger now m × ((h : StoresValue) × MayStandAs outbox ledger old h × (m ≡ with_lane owner device n h) × ((j : ℕ) → j < n → IsMet (h.ledgers owner) device (day_behind (h.ledgers owner) device j)) × (s.text ≡ closed_lines owner device (h.ledgers owner) n))
+        → MayStandAs outbox ledger now m × ((h : StoresValue) × MayStandAs outbox ledger old h × (m ≡ with_lane owner device n h) × ((j : ℕ) → j < n → IsMet (h.ledgers owner) device (unclosed_day (h.ledgers owner) device j)) × (s.text ≡ closed_lines owner device (first_unclosed (h.ledgers owner) device) n))
     earlier clean sound m may =
         let there = r.same clean (s.goes.sound sound) m may in
         (there, s.came (clean_back outbox ledger now mid r.follow clean) sound m there)
@@ -170,11 +189,12 @@ module _ {O L : Type 0} (outbox : O → Standing OutboxValue) (ledger : L → St
     lane_ends told = record {
       text = s.text;
       written = s.written;
+      lines = one_lane s.text (all_closed old now before after last n s);
       came = λ clean sound k may.
           let e = earlier clean sound k may in
           let h = e.1.0 in
           let v = h.ledgers owner in
-          let none : stated_of v device (day_behind v device n) ≡ None =
+          let none : stated_of v device (unclosed_day v device n) ≡ None =
           ap (stated_of v device) (sym (first_then owner device n h k e.1.2)) ∙ (sym (stated_then owner device n h k e.1.2 (first_unclosed (k.ledgers owner) device)) ∙ told clean (s.goes.sound sound) k e.0) in (
             h,
             e.1.1,
@@ -182,7 +202,7 @@ module _ {O L : Type 0} (outbox : O → Standing OutboxValue) (ledger : L → St
               n,
               [],
               record { each = e.1.3; no_more = λ met. no none met },
-              e.1.4 ∙ (sym (append-nil (closed_lines owner device v n)) ∙ (ap (λ (o : Option ℕ). closed_lines owner device v n ++ last_line owner device (day_behind v device n) o (counted v device (day_behind v device n))) (sym none) ∙ sym (append-nil (lane_lines owner device v n)))),
+              e.1.4 ∙ (sym (append-nil (closed_lines owner device (first_unclosed v device) n)) ∙ (ap (λ (o : Option ℕ). closed_lines owner device (first_unclosed v device) n ++ last_line owner device (unclosed_day v device n) o (counted v device (unclosed_day v device n))) (sym none) ∙ sym (append-nil (lane_lines owner device v n)))),
               (refl, e.1.2),
             ),
           );
@@ -191,7 +211,7 @@ module _ {O L : Type 0} (outbox : O → Standing OutboxValue) (ledger : L → St
         no : {o : Option ℕ} {c : ℕ} → o ≡ None → o ≡ Some c → ⊥
         no none some = let both : ◌≡◌ {A = Option ℕ} None (Some _) = sym none ∙ some in absurd (cc)
 
-    module _ (next : Hub O L) (day : ℕ) (told : AreClean outbox ledger mid → AreSound outbox ledger now → (h : StoresValue) → MayStandAs outbox ledger now h → IsToClose (h.ledgers owner) device (Some day)) (g : GoesOn outbox ledger mid next) (ends : Option (List ℕ)) where
+    module _ (next : Hub O L) (day : ℕ) (behind : IsDayBehind last day) (told : AreClean outbox ledger mid → AreSound outbox ledger now → (h : StoresValue) → MayStandAs outbox ledger now h → IsToClose (h.ledgers owner) device (Some day)) (g : GoesOn outbox ledger mid next) (ends : Option (List ℕ)) where
       pub goes_next : GoesOn outbox ledger old next
       goes_next = goes_join outbox ledger old mid next goes_mid g
 
@@ -202,11 +222,17 @@ module _ {O L : Type 0} (outbox : O → Standing OutboxValue) (ledger : L → St
       sound_mid sound = r.sound (s.goes.sound sound)
 
       -- the day was closed
-      pub lane_closed : HasAnswered outbox ledger owner device day mid next (Ok tt) → Appends after ends (try_line owner device day (reply.Closed device day)) → StandsLane old next before ends (suc n)
+      pub lane_closed : HasAnswered outbox ledger owner device day mid next (Ok tt) → Appends after ends (try_line owner device day (reply.Closed device day)) → StandsLane old next before ends (Some day) (suc n)
       lane_closed a w = record {
         goes = goes_next;
         text = s.text ++ try_line owner device day (reply.Closed device day);
         written = Appends-trans before after ends s.text (try_line owner device day (reply.Closed device day)) s.written w;
+        in_row = λ later after_it.
+            let row = s.in_row day behind in (
+              row.0,
+              ap (λ (l : List ℕ). l ++ try_line owner device day (reply.Closed device day)) row.1 ∙ ap (λ (d : ℕ). closed_lines owner device row.0 n ++ try_line owner device d (reply.Closed device d)) row.2,
+              after_it ∙ (ap (λ (d : ℕ). d + 1) row.2 ∙ omega arith),
+            );
         came = λ clean sound k may.
             let c = a.came clean (sound_mid sound) k may in
             let m = c.0 in
@@ -216,17 +242,17 @@ module _ {O L : Type 0} (outbox : O → Standing OutboxValue) (ledger : L → St
             let to = told (clean_mid clean) (s.goes.sound sound) m e.0 in
             let some = some_is (stated_of (m.ledgers owner) device day) to.1 in
             let met = judged_ok some.0 (counted (m.ledgers owner) device day) (sym (judged_is (m.ledgers owner) device day some.0 some.1 to.0) ∙ c.2) in
-            let here : day ≡ day_behind v device n = to.0 ∙ first_then owner device n h m e.1.2 in
-            let is_met : IsMet v device (day_behind v device n) =
+            let here : day ≡ unclosed_day v device n = to.0 ∙ first_then owner device n h m e.1.2 in
+            let is_met : IsMet v device (unclosed_day v device n) =
             subst (λ d. IsMet v device d) here (sym (stated_then owner device n h m e.1.2 day) ∙ (some.1 ∙ ap Some (met ∙ counted_then owner device n h m e.1.2 day))) in (
               h,
               e.1.1,
               c.3 ∙ (ap (with_lane owner device 1) e.1.2 ∙ lane_more owner device n h),
               λ j lt. elim (last_or_less j n lt) [
-                | inl is ↦ subst (λ i. IsMet v device (day_behind v device i)) (sym is) is_met
+                | inl is ↦ subst (λ i. IsMet v device (unclosed_day v device i)) (sym is) is_met
                 | inr less ↦ e.1.3 j less
               ],
-              ap (λ l. l ++ try_line owner device day (reply.Closed device day)) e.1.4 ∙ ap (λ d. closed_lines owner device v n ++ try_line owner device d (reply.Closed device d)) here,
+              ap (λ l. l ++ try_line owner device day (reply.Closed device day)) e.1.4 ∙ ap (λ d. closed_lines owner device (first_unclosed v device) n ++ try_line owner device d (reply.Closed device d)) here,
             );
       }
         where
@@ -244,6 +270,14 @@ module _ {O L : Type 0} (outbox : O → Standing OutboxValue) (ledger : L → St
       lane_refused why a w = record {
         text = s.text ++ try_line owner device day (reply.Refused (close_refusal why));
         written = Appends-trans before after ends s.text (try_line owner device day (reply.Refused (close_refusal why))) s.written w;
+        lines =
+            let row = s.in_row day behind in
+            one_lane (s.text ++ try_line owner device day (reply.Refused (close_refusal why))) (record {
+              first = row.0;
+              closed = n;
+              refused = Some why;
+              is = ap (λ (l : List ℕ). l ++ try_line owner device day (reply.Refused (close_refusal why))) row.1 ∙ ap (λ (d : ℕ). closed_lines owner device row.0 n ++ try_line owner device d (reply.Refused (close_refusal why))) row.2;
+            });
         came = λ clean sound k may.
             let c = a.came clean (sound_mid sound) k may in
             let m = c.0 in
@@ -253,20 +287,20 @@ module _ {O L : Type 0} (outbox : O → Standing OutboxValue) (ledger : L → St
             let to = told (clean_mid clean) (s.goes.sound sound) m e.0 in
             let some = some_is (stated_of (m.ledgers owner) device day) to.1 in
             let bad = judged_err some.0 (counted (m.ledgers owner) device day) why (sym (judged_is (m.ledgers owner) device day some.0 some.1 to.0) ∙ c.2) in
-            let here : day ≡ day_behind v device n = to.0 ∙ first_then owner device n h m e.1.2 in
-            let count : counted (m.ledgers owner) device day ≡ counted v device (day_behind v device n) = counted_then owner device n h m e.1.2 day ∙ ap (counted v device) here in
-            let held : stated_of v device (day_behind v device n) ≡ Some some.0 = ap (stated_of v device) (sym here) ∙ (sym (stated_then owner device n h m e.1.2 day) ∙ some.1) in
-            let line : try_line owner device day (reply.Refused (close_refusal why)) ≡ last_line owner device (day_behind v device n) (stated_of v device (day_behind v device n)) (counted v device (day_behind v device n)) =
+            let here : day ≡ unclosed_day v device n = to.0 ∙ first_then owner device n h m e.1.2 in
+            let count : counted (m.ledgers owner) device day ≡ counted v device (unclosed_day v device n) = counted_then owner device n h m e.1.2 day ∙ ap (counted v device) here in
+            let held : stated_of v device (unclosed_day v device n) ≡ Some some.0 = ap (stated_of v device) (sym here) ∙ (sym (stated_then owner device n h m e.1.2 day) ∙ some.1) in
+            let line : try_line owner device day (reply.Refused (close_refusal why)) ≡ last_line owner device (unclosed_day v device n) (stated_of v device (unclosed_day v device n)) (counted v device (unclosed_day v device n)) =
             ap (λ (q : Refusal). try_line owner device day (reply.Refused q)) (bad.0 ∙ ap (miscounted some.0) count)
-            ∙ (ap (λ d. try_line owner device d (reply.Refused (miscounted some.0 (counted v device (day_behind v device n))))) here
-            ∙ ap (λ (o : Option ℕ). last_line owner device (day_behind v device n) o (counted v device (day_behind v device n))) (sym held)) in (
+            ∙ (ap (λ d. try_line owner device d (reply.Refused (miscounted some.0 (counted v device (unclosed_day v device n))))) here
+            ∙ ap (λ (o : Option ℕ). last_line owner device (unclosed_day v device n) o (counted v device (unclosed_day v device n))) (sym held)) in (
               h,
               e.1.1,
               (
                 n,
                 [],
                 record { each = e.1.3; no_more = λ met. bad.1 (same_some (sym held ∙ met) ∙ sym count) },
-                ap (λ l. l ++ try_line owner device day (reply.Refused (close_refusal why))) e.1.4 ∙ (ap (λ l. closed_lines owner device v n ++ l) line ∙ sym (append-nil (lane_lines owner device v n))),
+                ap (λ l. l ++ try_line owner device day (reply.Refused (close_refusal why))) e.1.4 ∙ (ap (λ l. closed_lines owner device (first_unclosed v device) n ++ l) line ∙ sym (append-nil (lane_lines owner device v n))),
                 (refl, c.3 ∙ e.1.2),
               ),
             );
@@ -276,23 +310,24 @@ module _ {O L : Type 0} (outbox : O → Standing OutboxValue) (ledger : L → St
           same_some {a} {b} both = cc
 
   -- all days that there are were closed
-  pub lane_spent : (old now : Hub O L) (before after : Option (List ℕ)) (n : ℕ) → 100001 ≤ n → StandsLane old now before after n → HasClosedLanes outbox ledger ((owner, device) ∷ []) old now before after
-  lane_spent old now before after n le s = record {
+  pub lane_spent : (old now : Hub O L) (before after : Option (List ℕ)) (last : Option ℕ) (n : ℕ) → 100001 ≤ n → StandsLane old now before after last n → HasClosedLanes outbox ledger ((owner, device) ∷ []) old now before after
+  lane_spent old now before after last n le s = record {
     text = s.text;
     written = s.written;
+    lines = one_lane s.text (all_closed old now before after last n s);
     came = λ clean sound k may.
         let e = s.came clean sound k may in
         let h = e.0 in
         let v = h.ledgers owner in
-        let late : 100000 < day_behind v device n = omega (arith, le) in
-        let none = there_is_none v device (day_behind v device n) late in (
+        let late : 100000 < unclosed_day v device n = omega (arith, le) in
+        let none = there_is_none v device (unclosed_day v device n) late in (
           h,
           e.1,
           (
             n,
             [],
-            record { each = e.3; no_more = λ met. let both : ◌≡◌ {A = Option ℕ} None (Some (counted v device (day_behind v device n))) = sym none ∙ met in absurd (cc) },
-            e.4 ∙ (sym (append-nil (closed_lines owner device v n)) ∙ (ap (λ (o : Option ℕ). closed_lines owner device v n ++ last_line owner device (day_behind v device n) o (counted v device (day_behind v device n))) (sym none) ∙ sym (append-nil (lane_lines owner device v n)))),
+            record { each = e.3; no_more = λ met. let both : ◌≡◌ {A = Option ℕ} None (Some (counted v device (unclosed_day v device n))) = sym none ∙ met in absurd (cc) },
+            e.4 ∙ (sym (append-nil (closed_lines owner device (first_unclosed v device) n)) ∙ (ap (λ (o : Option ℕ). closed_lines owner device (first_unclosed v device) n ++ last_line owner device (unclosed_day v device n) o (counted v device (unclosed_day v device n))) (sym none) ∙ sym (append-nil (lane_lines owner device v n)))),
             (refl, e.2),
           ),
         );

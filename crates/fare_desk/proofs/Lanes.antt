@@ -1,21 +1,21 @@
 -- The closes of lanes, one after the other.
-use Rattle.std.proofs.Common.{◌≡◌, ◌≢◌, ℕ, zero, suc, ◌+◌, ◌≤◌, List, [], ◌∷◌, ◌++◌, length, map, take, Some, None, refl, sym, ap, ◌∙◌, subst, append_assoc, append-nil, arith}
+use Rattle.std.proofs.Common.{◌≡◌, ◌≢◌, ℕ, zero, suc, ◌+◌, ◌≤◌, List, [], ◌∷◌, ◌++◌, length, take, Some, None, refl, sym, ap, ◌∙◌, subst, append_assoc, append-nil, arith}
 use Rattle.std.specs.Prelude.{Option}
 use Rattle.std.specs.List.{flat_map}
 use Rattle.std.specs.Map.{keys_of}
+use Rattle.std.proofs.lemmas.Grind.{flat_map-append}
 use Rattle.std.proofs.lemmas.List.{length-map, map-append, take_all}
 use Rattle.fare_scheme.specs.Values.{SchemeValue}
 use Rattle.fare_scheme.specs.Words.{id_at, position_of_owner}
-use Rattle.std.specs.Io.KnownBytes.{Appends}
 use Rattle.std.proofs.KnownBytes.{Appends-nil, Appends-trans}
 use Rattle.fare_store.specs.Standing.{Standing}
 use Rattle.fare_store.specs.OutboxWords.{OutboxValue}
 use Rattle.fare_store.specs.LedgerWords.{LedgerValue}
 use Rattle.fare_history.specs.Stores.{StoresValue}
 use Rattle.fare_sessions.specs.declared.hub.Hub.{Hub}
-use Rattle.fare_sessions.specs.Stores.{AreClean, AreSound, HasLedgers, MayStandAs}
+use Rattle.fare_sessions.specs.Stores.{HasLedgers}
 use Rattle.fare_sessions.proofs.Follow.{clean_back}
-use Rattle.fare_desk.specs.Closing.{ClosesLanes, GoesOn, HasClosedLanes, lane_lines, lanes_of, lanes_with, with_lane}
+use Rattle.fare_desk.specs.Closing.{AreLinesOf, ClosesLanes, GoesOn, HasClosedLanes, lane_lines, lanes_with, with_lane}
 use Rattle.fare_desk.proofs.Going.{goes_self, goes_join}
 
 -- the lanes of one list and then those of another
@@ -30,6 +30,10 @@ closes_then (l ∷ ls) ms h m k s t first second =
       ap (λ (x : List ℕ). x ++ t) first.3 ∙ append_assoc (lane_lines l.0 l.1 (h.ledgers l.0) first.0) rest t,
       closes_then ls ms (with_lane l.0 l.1 first.0 h) m k rest t first.4 second,
     )
+
+pub lines_then : (ls ms : List (ℕ × ℕ)) (s t : List ℕ) → AreLinesOf ls s → AreLinesOf ms t → AreLinesOf (ls ++ ms) (s ++ t)
+lines_then [] ms s t first second = subst (λ (x : List ℕ). AreLinesOf ms (x ++ t)) (sym first) second
+lines_then (l ∷ ls) ms s t first second = (first.0, first.1 ++ t, first.2, ap (λ (x : List ℕ). x ++ t) first.3 ∙ append_assoc first.0 first.1 t, lines_then ls ms first.1 t first.4 second)
 
 -- PLACES
 -- the first so many ids, one more
@@ -52,14 +56,10 @@ devices_more owner entries place device at = sym (map-append (λ d. (owner, d)) 
 abbrev pub lanes_over : List ℕ → List ℕ → List (ℕ × ℕ)
 lanes_over owners devices = flat_map (λ owner. lanes_with owner devices) owners
 
-flat-append : {X Y : Type 0} (f : X → List Y) (xs ys : List X) → flat_map f (xs ++ ys) ≡ flat_map f xs ++ flat_map f ys
-flat-append f [] ys = refl
-flat-append f (x ∷ xs) ys = ap (λ l. f x ++ l) (flat-append f xs ys) ∙ sym (append_assoc (f x) (flat_map f xs) (flat_map f ys))
-
 pub owners_more : {X : Type 0} (devices : List ℕ) (entries : List (ℕ × X)) (place owner : ℕ) → id_at entries place ≡ Some owner → lanes_over (take place (keys_of entries)) devices ++ lanes_with owner devices ≡ lanes_over (take (place + 1) (keys_of entries)) devices
 owners_more devices entries place owner at =
     ap (λ l. lanes_over (take place (keys_of entries)) devices ++ l) (sym (append-nil (lanes_with owner devices)))
-    ∙ (sym (flat-append (λ o. lanes_with o devices) (take place (keys_of entries)) (owner ∷ [])) ∙ ap (λ l. lanes_over l devices) (sym (keys_more entries place owner at)))
+    ∙ (sym (flat_map-append (λ o. lanes_with o devices) (take place (keys_of entries)) (owner ∷ [])) ∙ ap (λ l. lanes_over l devices) (sym (keys_more entries place owner at)))
 
 module _ {O L : Type 0} (outbox : O → Standing OutboxValue) (ledger : L → Standing LedgerValue) where
   -- what a call wants of a hub it wants of what the hub has become
@@ -71,12 +71,13 @@ module _ {O L : Type 0} (outbox : O → Standing OutboxValue) (ledger : L → St
 
 module _ {O L : Type 0} (outbox : O → Standing OutboxValue) (ledger : L → Standing LedgerValue) where
   pub closed_none : (hub : Hub O L) (before : Option (List ℕ)) → HasClosedLanes outbox ledger [] hub hub before before
-  closed_none hub before = record { text = []; written = Appends-nil before; came = λ clean sound k may. (k, may, (refl, refl)) }
+  closed_none hub before = record { text = []; written = Appends-nil before; lines = refl; came = λ clean sound k may. (k, may, (refl, refl)) }
 
   pub closed_then : (a b c : Hub O L) (ls ms : List (ℕ × ℕ)) (x y z : Option (List ℕ)) → GoesOn outbox ledger a b → GoesOn outbox ledger b c → HasClosedLanes outbox ledger ls a b x y → HasClosedLanes outbox ledger ms b c y z → HasClosedLanes outbox ledger (ls ++ ms) a c x z
   closed_then a b c ls ms x y z f g first second = record {
     text = first.text ++ second.text;
     written = Appends-trans x y z first.text second.text first.written second.written;
+    lines = lines_then ls ms first.text second.text first.lines second.lines;
     came = λ clean sound k may.
         let late = second.came clean (f.sound sound) k may in
         let early = first.came (clean_back outbox ledger b c g.follow clean) sound late.0 late.1 in

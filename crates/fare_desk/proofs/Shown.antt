@@ -1,6 +1,6 @@
 -- Lines of lanes and devices, one after the other.
-use Rattle.std.proofs.Common.{◌≡◌, ℕ, suc, ◌+◌, List, [], ◌∷◌, ◌++◌, length, take, refl, sym, ap, ◌∙◌, subst, append_assoc, append-nil}
-use Rattle.std.specs.List.{flat_map}
+use Rattle.std.proofs.Common.{◌≡◌, ℕ, ◌+◌, List, [], ◌∷◌, ◌++◌, length, refl, sym, ap, ◌∙◌, subst, append_assoc, append-nil}
+use Rattle.std.proofs.lemmas.Grind.{flat_map-append}
 use Rattle.fare_store.specs.Standing.{Standing}
 use Rattle.fare_store.specs.OutboxWords.{OutboxValue}
 use Rattle.fare_store.specs.LedgerWords.{LedgerValue}
@@ -17,7 +17,7 @@ use Rattle.fare_scheme.specs.Values.{SchemeValue}
 use Rattle.fare_store.specs.LedgerWords.{closed_through}
 use Rattle.fare_sessions.specs.Billing.{day_behind, first_unclosed}
 use Rattle.fare_sessions.proofs.NextClose.{behind_last}
-use Rattle.fare_desk.specs.Showing.{AddsLanes, AddsUptos, HasFrom, IsLane, OnlyAsks, ShowsLanes, WritesStanding, lane_line, stated_days, upto_line, uptos_text}
+use Rattle.fare_desk.specs.Showing.{AddsLanes, AddsUptos, AreLaneLines, AreUptoLines, HasFrom, IsLane, OnlyAsks, ShowsLanes, WritesStanding, lane_line, stated_days, upto_line, uptos_text}
 use Rattle.fare_desk.proofs.Asked.{asks_self, asks_join}
 use Rattle.fare_sessions.proofs.Follow.{clean_back}
 
@@ -25,20 +25,25 @@ shows_then : (ls ms : List (ℕ × ℕ)) (h : StoresValue) (s t : List ℕ) → 
 shows_then [] ms h s t first second = subst (λ (x : List ℕ). ShowsLanes ms h (x ++ t)) (sym first) second
 shows_then (l ∷ ls) ms h s t first second = (first.0, first.1 ++ t, first.2, ap (λ (x : List ℕ). x ++ t) first.3 ∙ append_assoc (lane_line l.0 l.1 first.0) first.1 t, shows_then ls ms h first.1 t first.4 second)
 
-flat-append : {X : Type 0} (f : X → List ℕ) (xs ys : List X) → flat_map f (xs ++ ys) ≡ flat_map f xs ++ flat_map f ys
-flat-append f [] ys = refl
-flat-append f (x ∷ xs) ys = ap (λ l. f x ++ l) (flat-append f xs ys) ∙ sym (append_assoc (f x) (flat_map f xs) (flat_map f ys))
+lane_lines_then : (ls ms : List (ℕ × ℕ)) (s t : List ℕ) → AreLaneLines ls s → AreLaneLines ms t → AreLaneLines (ls ++ ms) (s ++ t)
+lane_lines_then [] ms s t first second = subst (λ (x : List ℕ). AreLaneLines ms (x ++ t)) (sym first) second
+lane_lines_then (l ∷ ls) ms s t first second = (first.0, first.1 ++ t, ap (λ (x : List ℕ). x ++ t) first.2 ∙ append_assoc (lane_line l.0 l.1 first.0) first.1 t, lane_lines_then ls ms first.1 t first.3 second)
+
+upto_lines_then : (ds es : List ℕ) (s t : List ℕ) → AreUptoLines ds s → AreUptoLines es t → AreUptoLines (ds ++ es) (s ++ t)
+upto_lines_then [] es s t first second = subst (λ (x : List ℕ). AreUptoLines es (x ++ t)) (sym first) second
+upto_lines_then (d ∷ ds) es s t first second = (first.0, first.1 ++ t, ap (λ (x : List ℕ). x ++ t) first.2 ∙ append_assoc (upto_line d first.0) first.1 t, upto_lines_then ds es first.1 t first.3 second)
 
 module _ {O L : Type 0} (outbox : O → Standing OutboxValue) (ledger : L → Standing LedgerValue) where
   -- LANES
   pub lanes_none : (hub : Hub O L) (before : List ℕ) → AddsLanes outbox ledger [] hub hub before before
-  lanes_none hub before = record { asks = asks_self outbox ledger hub; text = []; grown = sym (append-nil before); shown = λ clean sound h may. refl }
+  lanes_none hub before = record { asks = asks_self outbox ledger hub; text = []; grown = sym (append-nil before); lines = refl; shown = λ clean sound h may. refl }
 
   pub lanes_then : (a b c : Hub O L) (ls ms : List (ℕ × ℕ)) (x y z : List ℕ) → AddsLanes outbox ledger ls a b x y → AddsLanes outbox ledger ms b c y z → AddsLanes outbox ledger (ls ++ ms) a c x z
   lanes_then a b c ls ms x y z f g = record {
     asks = asks_join outbox ledger a b c f.asks g.asks;
     text = f.text ++ g.text;
     grown = g.grown ∙ (ap (λ (l : List ℕ). l ++ g.text) f.grown ∙ append_assoc x f.text g.text);
+    lines = lane_lines_then ls ms f.text g.text f.lines g.lines;
     shown = λ clean sound h may.
         let before = clean_back outbox ledger b c g.asks.follow clean in
         shows_then ls ms h f.text g.text (f.shown before sound h (g.asks.same clean (f.asks.sound sound) h may)) (g.shown clean (f.asks.sound sound) h may);
@@ -50,6 +55,7 @@ module _ {O L : Type 0} (outbox : O → Standing OutboxValue) (ledger : L → St
     asks = asks;
     text = lane_line owner device lane;
     grown = is;
+    lines = (lane, [], sym (append-nil (lane_line owner device lane)), refl);
     shown = λ clean sound h may. (lane, [], tells clean sound h may, sym (append-nil (lane_line owner device lane)), refl);
   }
 
@@ -80,7 +86,7 @@ module _ {O L : Type 0} (outbox : O → Standing OutboxValue) (ledger : L → St
 
   -- DEVICES
   pub uptos_none : (hub : Hub O L) (before : List ℕ) → AddsUptos outbox ledger [] hub hub before before
-  uptos_none hub before = record { asks = asks_self outbox ledger hub; text = []; grown = sym (append-nil before); shown = λ clean sound h may. refl }
+  uptos_none hub before = record { asks = asks_self outbox ledger hub; text = []; grown = sym (append-nil before); lines = refl; shown = λ clean sound h may. refl }
 
   pub upto_then : (a b c : Hub O L) (ds : List ℕ) (device upto : ℕ) (x y z : List ℕ) → AddsUptos outbox ledger ds a b x y → OnlyAsks outbox ledger b c → (AreClean outbox ledger c → AreSound outbox ledger b → (h : StoresValue) → MayStandAs outbox ledger b h → upto ≡ h.outbox.upto device) → z ≡ y ++ upto_line device upto
       → AddsUptos outbox ledger (ds ++ device ∷ []) a c x z
@@ -88,12 +94,13 @@ module _ {O L : Type 0} (outbox : O → Standing OutboxValue) (ledger : L → St
     asks = asks_join outbox ledger a b c f.asks asks;
     text = f.text ++ upto_line device upto;
     grown = is ∙ (ap (λ (l : List ℕ). l ++ upto_line device upto) f.grown ∙ append_assoc x f.text (upto_line device upto));
+    lines = upto_lines_then ds (device ∷ []) f.text (upto_line device upto) f.lines (upto, [], sym (append-nil (upto_line device upto)), refl);
     shown = λ clean sound h may.
         let before = clean_back outbox ledger b c asks.follow clean in
         let was = asks.same clean (f.asks.sound sound) h may in
         ap (λ (l : List ℕ). l ++ upto_line device upto) (f.shown before sound h was)
         ∙ (ap (λ (n : ℕ). uptos_text ds h.outbox ++ upto_line device n) (tells clean (f.asks.sound sound) h was)
-        ∙ (ap (λ (l : List ℕ). uptos_text ds h.outbox ++ l) (sym (append-nil (upto_line device (h.outbox.upto device)))) ∙ sym (flat-append (λ d. upto_line d (h.outbox.upto d)) ds (device ∷ []))));
+        ∙ (ap (λ (l : List ℕ). uptos_text ds h.outbox ++ l) (sym (append-nil (upto_line device (h.outbox.upto device)))) ∙ sym (flat_map-append (λ d. upto_line d (h.outbox.upto d)) ds (device ∷ []))));
   }
 
   -- ALL
@@ -104,6 +111,8 @@ module _ {O L : Type 0} (outbox : O → Standing OutboxValue) (ledger : L → St
     uptos = f.text;
     lanes = g.text;
     written = subst (Appends before after) (is ∙ (g.grown ∙ ap (λ (l : List ℕ). l ++ g.text) (f.grown ∙ ap (λ (l : List ℕ). l ++ f.text) none))) w;
+    upto_lines = f.lines;
+    lane_lines = subst (λ (sc : SchemeValue). AreLaneLines (lanes_of sc) g.text) f.asks.scheme g.lines;
     uptos_are = λ clean sound h may. f.shown (clean_back outbox ledger b c g.asks.follow clean) sound h (g.asks.same clean (f.asks.sound sound) h may);
     lanes_are = λ clean sound h may. subst (λ (sc : SchemeValue). ShowsLanes (lanes_of sc) h g.text) f.asks.scheme (g.shown clean (f.asks.sound sound) h may);
   }

@@ -1,5 +1,5 @@
 -- Closing all days that can be closed, lane by lane, and what is written of it.
-use Rattle.std.specs.Prelude.{◌≡◌, ◌≢◌, ℕ, zero, suc, ◌+◌, ◌<◌, nat_lt, List, [], ◌∷◌, ◌++◌, map, codes, Option, Some, None, Result, Ok, Err, if◌then◌else◌}
+use Rattle.std.specs.Prelude.{◌≡◌, ℕ, zero, suc, ◌+◌, ◌<◌, nat_lt, List, [], ◌∷◌, ◌++◌, map, codes, Option, Some, None, Result, Ok, Err, if◌then◌else◌}
 use Rattle.std.specs.List.{flat_map}
 use Rattle.std.specs.Fmt.{decimal}
 use Rattle.std.specs.Io.KnownBytes.{Appends}
@@ -21,13 +21,13 @@ use Rattle.fare_lines.specs.Replies.{reply_text}
 use Rattle.fare_history.specs.Stores.{StoresValue}
 use Rattle.fare_agreement.specs.Agreeing.{AreNumberedLists}
 use Rattle.fare_sessions.specs.declared.hub.Hub.{Hub}
-use Rattle.fare_sessions.specs.Billing.{stated_of}
+use Rattle.fare_sessions.specs.Billing.{first_unclosed, stated_of}
 use Rattle.fare_sessions.specs.Stores.{AreClean, AreSound, StoresFollow, MayStandAs, IsAgreed, HasGrown}
 
 -- A LANE
--- the day of a device behind so many further closes
-abbrev pub day_behind : LedgerValue → ℕ → ℕ → ℕ
-day_behind v device n = v.start + (v.closed device + n)
+-- the first day of a device that is not closed behind so many further closes
+abbrev pub unclosed_day : LedgerValue → ℕ → ℕ → ℕ
+unclosed_day v device n = first_unclosed v device + n
 
 -- the taps of a day that the ledger holds of a device
 abbrev pub counted : LedgerValue → ℕ → ℕ → ℕ
@@ -39,22 +39,52 @@ IsMet v device day = stated_of v device day ≡ Some (counted v device day)
 
 -- so many days of a device can be closed, from its first one that isn't on, and no more
 pub record CanClose (v : LedgerValue) (device n : ℕ) : Type 0 where
-  pub each : (k : ℕ) → k < n → IsMet v device (day_behind v device k)
-  pub no_more : IsMet v device (day_behind v device n) → ⊥
+  pub each : (k : ℕ) → k < n → IsMet v device (unclosed_day v device k)
+  pub no_more : IsMet v device (unclosed_day v device n) → ⊥
+
+-- a day is the one behind the last that was closed, where one was
+abbrev pub IsDayBehind : Option ℕ → ℕ → Type 0
+IsDayBehind None day = Unit {0}
+IsDayBehind (Some last) day = day ≡ last + 1
 
 -- the ledger with so many more days of a device closed
 abbrev pub with_closes : ℕ → ℕ → LedgerValue → LedgerValue
 with_closes device n v = record v { closed = put v.closed device (v.closed device + n) }
+
+-- REPLIES
+abbrev pub close_refusal : CloseFault → Refusal
+close_refusal close.Unstated = refusal.Unstated
+close_refusal close.AlreadyClosed = refusal.AlreadyClosed
+close_refusal close.OutOfOrder = refusal.OutOfOrder
+close_refusal (close.CountsShort stated taken) = refusal.CountsShort stated taken
+close_refusal (close.CountsOver stated taken) = refusal.CountsOver stated taken
+
+-- the reply to a close, as a trace has it
+abbrev pub reply_of : ℕ → ℕ → Result Unit CloseFault → Reply
+reply_of device day (Ok _) = reply.Closed device day
+reply_of device day (Err why) = reply.Refused (close_refusal why)
 
 -- LINES
 -- what came of closing a day
 abbrev pub try_line : ℕ → ℕ → ℕ → Reply → List ℕ
 try_line owner device day r = (codes "close " ++ (decimal owner ++ (codes " " ++ (decimal device ++ (codes " " ++ (decimal day ++ codes ": ")))))) ++ reply_text r
 
--- the lines of so many days that were closed
-abbrev pub closed_lines : ℕ → ℕ → LedgerValue → ℕ → List ℕ
-closed_lines owner device v zero = []
-closed_lines owner device v (suc n) = closed_lines owner device v n ++ try_line owner device (day_behind v device n) (reply.Closed device (day_behind v device n))
+-- the lines of so many days in a row that were closed
+abbrev pub closed_lines : ℕ → ℕ → ℕ → ℕ → List ℕ
+closed_lines owner device first zero = []
+closed_lines owner device first (suc n) = closed_lines owner device first n ++ try_line owner device (first + n) (reply.Closed device (first + n))
+
+-- the day behind them, where it was refused
+abbrev pub refused_line : ℕ → ℕ → ℕ → Option CloseFault → List ℕ
+refused_line owner device day None = []
+refused_line owner device day (Some why) = try_line owner device day (reply.Refused (close_refusal why))
+
+-- the lines of a lane: of days in a row, each of which was closed but the last, which may have been refused
+pub record AreTries (owner device : ℕ) (text : List ℕ) : Type 0 where
+  pub first : ℕ
+  pub closed : ℕ
+  pub refused : Option CloseFault
+  pub is : text ≡ closed_lines owner device first closed ++ refused_line owner device (first + closed) refused
 
 -- the day behind them is refused for its count, where one is stated
 abbrev pub miscounted : ℕ → ℕ → Refusal
@@ -66,8 +96,8 @@ last_line owner device day (Some stated) taken = try_line owner device day (repl
 
 abbrev pub lane_lines : ℕ → ℕ → LedgerValue → ℕ → List ℕ
 lane_lines owner device v n =
-    closed_lines owner device v n
-    ++ last_line owner device (day_behind v device n) (stated_of v device (day_behind v device n)) (counted v device (day_behind v device n))
+    closed_lines owner device (first_unclosed v device) n
+    ++ last_line owner device (unclosed_day v device n) (stated_of v device (unclosed_day v device n)) (counted v device (unclosed_day v device n))
 
 -- LANES
 -- each owner with each device, in the scheme's orders
@@ -85,20 +115,12 @@ abbrev pub ClosesLanes : List (ℕ × ℕ) → StoresValue → List ℕ → Stor
 ClosesLanes [] h text k = (text ≡ []) × (k ≡ h)
 ClosesLanes (lane ∷ lanes) h text k = (n : ℕ) × (rest : List ℕ) × CanClose (h.ledgers lane.0) lane.1 n × (text ≡ lane_lines lane.0 lane.1 (h.ledgers lane.0) n ++ rest) × ClosesLanes lanes (with_lane lane.0 lane.1 n h) rest k
 
--- REPLIES
-abbrev pub close_refusal : CloseFault → Refusal
-close_refusal close.Unstated = refusal.Unstated
-close_refusal close.AlreadyClosed = refusal.AlreadyClosed
-close_refusal close.OutOfOrder = refusal.OutOfOrder
-close_refusal (close.CountsShort stated taken) = refusal.CountsShort stated taken
-close_refusal (close.CountsOver stated taken) = refusal.CountsOver stated taken
+-- the lines of lanes, one after the other
+abbrev pub AreLinesOf : List (ℕ × ℕ) → List ℕ → Type 0
+AreLinesOf [] text = text ≡ []
+AreLinesOf (lane ∷ lanes) text = (own : List ℕ) × (rest : List ℕ) × AreTries lane.0 lane.1 own × (text ≡ own ++ rest) × AreLinesOf lanes rest
 
--- the reply to a close, as a trace has it
-abbrev pub reply_of : ℕ → ℕ → Result Unit CloseFault → Reply
-reply_of device day (Ok _) = reply.Closed device day
-reply_of device day (Err why) = reply.Refused (close_refusal why)
-
--- the stores after one
+-- the stores after a close
 abbrev pub after_close : ℕ → ℕ → Result Unit CloseFault → StoresValue → StoresValue
 after_close owner device (Ok _) h = with_lane owner device 1 h
 after_close owner device (Err why) h = h
@@ -121,4 +143,5 @@ module _ {O L : Type 0} (outbox : O → Standing OutboxValue) (ledger : L → St
   pub record HasClosedLanes (lanes : List (ℕ × ℕ)) (old new : Hub O L) (before after : Option (List ℕ)) : Type 0 where
     pub text : List ℕ
     pub written : Appends before after text
+    pub lines : AreLinesOf lanes text
     pub came : AreClean outbox ledger new → AreSound outbox ledger old → (k : StoresValue) → MayStandAs outbox ledger new k → (h : StoresValue) × MayStandAs outbox ledger old h × ClosesLanes lanes h text k

@@ -4,7 +4,6 @@ use Rattle.std.specs.List.{flat_map}
 use Rattle.std.specs.Fmt.{decimal}
 use Rattle.std.specs.Io.KnownBytes.{Appends}
 use Rattle.std.specs.Map.{keys_of}
-use Rattle.fare_scheme.specs.Values.{SchemeValue}
 use Rattle.fare_store.specs.Standing.{Standing}
 use Rattle.fare_store.specs.OutboxWords.{OutboxValue}
 use Rattle.fare_store.specs.LedgerWords.{LedgerValue, closed_through}
@@ -52,11 +51,21 @@ lane_line owner device lane =
     ++ (closed_word lane.closed
     ++ (codes " rows " ++ (decimal lane.rows ++ (codes " statements " ++ (decimal lane.statements ++ codes "\n")))))
 
+-- the lines of devices, of each one number
+abbrev pub AreUptoLines : List ℕ → List ℕ → Type 0
+AreUptoLines [] text = text ≡ []
+AreUptoLines (device ∷ devices) text = (upto : ℕ) × (rest : List ℕ) × (text ≡ upto_line device upto ++ rest) × AreUptoLines devices rest
+
+-- the lines of lanes, of each its numbers
+abbrev pub AreLaneLines : List (ℕ × ℕ) → List ℕ → Type 0
+AreLaneLines [] text = text ≡ []
+AreLaneLines (l ∷ ls) text = (lane : Lane) × (rest : List ℕ) × (text ≡ lane_line l.0 l.1 lane ++ rest) × AreLaneLines ls rest
+
 -- the lines of devices, of each what the outbox has had of it
 abbrev pub uptos_text : List ℕ → OutboxValue → List ℕ
 uptos_text devices x = flat_map (λ device. upto_line device (x.upto device)) devices
 
--- the lines of lanes
+-- the lines of lanes, of each where it stands
 abbrev pub ShowsLanes : List (ℕ × ℕ) → StoresValue → List ℕ → Type 0
 ShowsLanes [] h text = text ≡ []
 ShowsLanes (l ∷ ls) h text = (lane : Lane) × (rest : List ℕ) × IsLane h l.0 l.1 lane × (text ≡ lane_line l.0 l.1 lane ++ rest) × ShowsLanes ls h rest
@@ -74,6 +83,7 @@ module _ {O L : Type 0} (outbox : O → Standing OutboxValue) (ledger : L → St
     pub asks : OnlyAsks old new
     pub text : List ℕ
     pub grown : after ≡ before ++ text
+    pub lines : AreUptoLines devices text
     pub shown : AreClean outbox ledger new → AreSound outbox ledger old → (h : StoresValue) → MayStandAs outbox ledger new h → text ≡ uptos_text devices h.outbox
 
   -- and by those of these lanes
@@ -81,6 +91,7 @@ module _ {O L : Type 0} (outbox : O → Standing OutboxValue) (ledger : L → St
     pub asks : OnlyAsks old new
     pub text : List ℕ
     pub grown : after ≡ before ++ text
+    pub lines : AreLaneLines lanes text
     pub shown : AreClean outbox ledger new → AreSound outbox ledger old → (h : StoresValue) → MayStandAs outbox ledger new h → ShowsLanes lanes h text
 
   -- what the outbox has had of each device, and then where each lane stands, was written
@@ -88,5 +99,7 @@ module _ {O L : Type 0} (outbox : O → Standing OutboxValue) (ledger : L → St
     pub uptos : List ℕ
     pub lanes : List ℕ
     pub written : Appends before after (uptos ++ lanes)
+    pub upto_lines : AreUptoLines (keys_of old.scheme.devices) uptos
+    pub lane_lines : AreLaneLines (lanes_of old.scheme) lanes
     pub uptos_are : AreClean outbox ledger new → AreSound outbox ledger old → (h : StoresValue) → MayStandAs outbox ledger new h → uptos ≡ uptos_text (keys_of old.scheme.devices) h.outbox
     pub lanes_are : AreClean outbox ledger new → AreSound outbox ledger old → (h : StoresValue) → MayStandAs outbox ledger new h → ShowsLanes (lanes_of old.scheme) h lanes

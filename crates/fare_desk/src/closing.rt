@@ -1,9 +1,9 @@
 //! The closes of all days that can be closed.
-ghost use Rattle.std.specs.Prelude.{◌≡◌, ◌≢◌, [], ◌∷◌, None, OnOk, IfOk};
+ghost use Rattle.std.specs.Prelude.{◌≡◌, ◌≢◌, ◌↔◌, [], ◌∷◌, IsTrue, None, OnOk, IfOk};
 ghost use Rattle.fare_scheme.specs.Words.{position_of_owner};
 ghost use Rattle.fare_sessions.specs.Stores.{HasLedgers};
 ghost use Rattle.std.specs.Map.{keys_of};
-ghost use Rattle.fare_desk.specs.Closing.{GoesOn, HasAnswered, HasClosedLanes, close_refusal, lanes_of, lanes_with, reply_of, try_line};
+ghost use Rattle.fare_desk.specs.Closing.{GoesOn, HasAnswered, HasClosedLanes, IsDayBehind, close_refusal, lanes_of, lanes_with, reply_of, try_line};
 
 use crate::fault::DeskFault;
 use crate::writing::write_text;
@@ -83,8 +83,19 @@ fn try_close<O: Outbox, L: Ledger>(
     }
 }
 
+// Whether a day is the one behind the last that was closed, where one was.
+fn is_behind(last: Option<Day>, day: Day) -> bool
+    ensures { IsTrue result ↔ IsDayBehind last day }
+{
+    match last {
+        Some(last) => day.get() == last.get() + 1,
+        None => true,
+    }
+}
+
 // Closes the days of an owner's device, from the first one that isn't closed on, as long as a statement of the day is
-// held and its count is met; and writes a line for each, the last one's refusal among them.
+// held and its count is met; and writes a line for each, the last one's refusal among them. A ledger that names another
+// day than the one behind the last that it closed has lost that close: `Store`.
 fn close_lane<O: Outbox, L: Ledger, W: Write>(
     alloc: Global,
     hub: &mut Hub<O, L>,
@@ -97,15 +108,19 @@ fn close_lane<O: Outbox, L: Ledger, W: Write>(
     ensures goes { GoesOn O.standing L.standing hub.old hub.new }
     ensures closed { OnOk result (HasClosedLanes O.standing L.standing ((owner, device) ∷ []) hub.old hub.new (W.contents output.old) (W.contents output.new)) }
 {
+    let mut last: Option<Day> = None;
     for _ in 0..DAYS {
         let Some(day) = hub.next_close(owner, device)? else {
             return Ok(());
         };
+        if !is_behind(last, day) {
+            return Err(DeskFault::Store);
+        }
         let answer = try_close(hub, owner, device, day)?;
         let line = line_of(alloc, owner, device, day, answer)?;
         write_text(output, &line)?;
         match answer {
-            Ok(()) => {}
+            Ok(()) => last = Some(day),
             Err(_) => return Ok(()),
         }
     }
@@ -138,8 +153,8 @@ fn close_owner<O: Outbox, L: Ledger, W: Write>(
 /// the reply that a trace has for it; one that is refused, since the stated count is not that of the day's taps, ends
 /// its lane.
 ///
-/// `Memory` where there was none for it, `Store` where a ledger failed, `Write` where the writer failed: then the closes
-/// before it stand, and that of a line that isn't written may.
+/// `Memory` where there was none for it, `Store` where a ledger failed or has lost a close, `Write` where the writer
+/// failed: then the closes before it stand, and that of a line that isn't written may.
 pub fn close_days<O: Outbox, L: Ledger, W: Write>(
     alloc: Global,
     hub: &mut Hub<O, L>,

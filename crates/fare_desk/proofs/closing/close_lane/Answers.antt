@@ -1,8 +1,8 @@
-use Rattle.std.proofs.Common.{◌≡◌, ◌+◌, ◌≤◌, ℕ, suc, Some, None, sym, ap, ◌∙◌, subst, arith}
-use Rattle.std.specs.Prelude.{Option, Ok, Err}
+use Rattle.std.proofs.Common.{◌≡◌, ◌+◌, ℕ, suc, Some, ap, ◌∙◌, subst, arith}
+use Rattle.std.specs.Prelude.{Option}
 use Rattle.std.specs.Io.KnownBytes.{Appends}
 use Rattle.fare_sessions.specs.Billing.{IsToClose}
-use Rattle.fare_desk.specs.Closing.{HasAnswered, reply_of, try_line}
+use Rattle.fare_desk.specs.Closing.{HasAnswered, IsDayBehind, reply_of, try_line}
 use Rattle.fare_desk.proofs.Going.{goes_join}
 use Rattle.fare_desk.proofs.Lane.{StandsLane, lane_begins, goes_mid, lane_ends, lane_closed, lane_refused, lane_spent}
 use Rattle.fare_desk.proofs.Lanes.{still_known}
@@ -12,35 +12,38 @@ pub loop-init : goal.loop-init
 loop-init g c = lane_begins g.O.Outbox.standing g.L.Ledger.standing c.args.owner c.args.device c.args.hub.now (g.W.Write.contents c.args.output.now)
 
 pub returns-in_err-day-clause-goes : goal.returns-in_err-day-clause-goes
-returns-in_err-day-clause-goes g c = goes_mid g.O.Outbox.standing g.L.Ledger.standing c.args.owner c.args.device c.args.hub.now c.loop.hub c.next_close.new.self (g.W.Write.contents c.args.output.now) (g.W.Write.contents c.loop.output) c.loop.counter c.loop.invariant c.next_close.ensures.reads
+returns-in_err-day-clause-goes g c = goes_mid g.O.Outbox.standing g.L.Ledger.standing c.args.owner c.args.device c.args.hub.now c.loop.hub c.next_close.new.self (g.W.Write.contents c.args.output.now) (g.W.Write.contents c.loop.output) c.loop.last c.loop.counter c.loop.invariant c.next_close.ensures.reads
 
 pub returns-in_default-clause-goes : goal.returns-in_default-clause-goes
-returns-in_default-clause-goes g c = goes_mid g.O.Outbox.standing g.L.Ledger.standing c.args.owner c.args.device c.args.hub.now c.loop.hub c.next_close.new.self (g.W.Write.contents c.args.output.now) (g.W.Write.contents c.loop.output) c.loop.counter c.loop.invariant c.next_close.ensures.reads
+returns-in_default-clause-goes g c = goes_mid g.O.Outbox.standing g.L.Ledger.standing c.args.owner c.args.device c.args.hub.now c.loop.hub c.next_close.new.self (g.W.Write.contents c.args.output.now) (g.W.Write.contents c.loop.output) c.loop.last c.loop.counter c.loop.invariant c.next_close.ensures.reads
 
 pub returns-in_default-clause-closed : goal.returns-in_default-clause-closed
 returns-in_default-clause-closed g c =
     let known = still_known g.O.Outbox.standing g.L.Ledger.standing c.args.hub.now c.loop.hub c.args.owner c.loop.invariant.goes c.requires.known in
-    lane_ends g.O.Outbox.standing g.L.Ledger.standing c.args.owner c.args.device c.args.hub.now c.loop.hub c.next_close.new.self (g.W.Write.contents c.args.output.now) (g.W.Write.contents c.loop.output) c.loop.counter c.loop.invariant c.next_close.ensures.reads
+    lane_ends g.O.Outbox.standing g.L.Ledger.standing c.args.owner c.args.device c.args.hub.now c.loop.hub c.next_close.new.self (g.W.Write.contents c.args.output.now) (g.W.Write.contents c.loop.output) c.loop.last c.loop.counter c.loop.invariant c.next_close.ensures.reads
     (λ clean sound h may. subst (λ (o : Option ℕ). IsToClose (h.ledgers c.args.owner) c.args.device o) c.in_default.is ((c.in_ok-day.ensures.answer clean sound known h may).1))
+
+pub returns-then-not-is_behind-clause-goes : goal.returns-then-not-is_behind-clause-goes
+returns-then-not-is_behind-clause-goes g c = goes_mid g.O.Outbox.standing g.L.Ledger.standing c.args.owner c.args.device c.args.hub.now c.loop.hub c.next_close.new.self (g.W.Write.contents c.args.output.now) (g.W.Write.contents c.loop.output) c.loop.last c.loop.counter c.loop.invariant c.next_close.ensures.reads
 
 pub returns-in_err-answer-clause-goes : goal.returns-in_err-answer-clause-goes
 returns-in_err-answer-clause-goes g c =
-    let mid = goes_mid g.O.Outbox.standing g.L.Ledger.standing c.args.owner c.args.device c.args.hub.now c.loop.hub c.next_close.new.self (g.W.Write.contents c.args.output.now) (g.W.Write.contents c.loop.output) c.loop.counter c.loop.invariant c.next_close.ensures.reads in
+    let mid = goes_mid g.O.Outbox.standing g.L.Ledger.standing c.args.owner c.args.device c.args.hub.now c.loop.hub c.next_close.new.self (g.W.Write.contents c.args.output.now) (g.W.Write.contents c.loop.output) c.loop.last c.loop.counter c.loop.invariant c.next_close.ensures.reads in
     goes_join g.O.Outbox.standing g.L.Ledger.standing c.args.hub.now c.next_close.new.self c.try_close.new.hub mid c.try_close.ensures.goes
 
 pub returns-in_err-line-clause-goes : goal.returns-in_err-line-clause-goes
 returns-in_err-line-clause-goes g c =
-    let mid = goes_mid g.O.Outbox.standing g.L.Ledger.standing c.args.owner c.args.device c.args.hub.now c.loop.hub c.next_close.new.self (g.W.Write.contents c.args.output.now) (g.W.Write.contents c.loop.output) c.loop.counter c.loop.invariant c.next_close.ensures.reads in
+    let mid = goes_mid g.O.Outbox.standing g.L.Ledger.standing c.args.owner c.args.device c.args.hub.now c.loop.hub c.next_close.new.self (g.W.Write.contents c.args.output.now) (g.W.Write.contents c.loop.output) c.loop.last c.loop.counter c.loop.invariant c.next_close.ensures.reads in
     goes_join g.O.Outbox.standing g.L.Ledger.standing c.args.hub.now c.next_close.new.self c.try_close.new.hub mid c.try_close.ensures.goes
 
 pub returns-in_err-write_text-clause-goes : goal.returns-in_err-write_text-clause-goes
 returns-in_err-write_text-clause-goes g c =
-    let mid = goes_mid g.O.Outbox.standing g.L.Ledger.standing c.args.owner c.args.device c.args.hub.now c.loop.hub c.next_close.new.self (g.W.Write.contents c.args.output.now) (g.W.Write.contents c.loop.output) c.loop.counter c.loop.invariant c.next_close.ensures.reads in
+    let mid = goes_mid g.O.Outbox.standing g.L.Ledger.standing c.args.owner c.args.device c.args.hub.now c.loop.hub c.next_close.new.self (g.W.Write.contents c.args.output.now) (g.W.Write.contents c.loop.output) c.loop.last c.loop.counter c.loop.invariant c.next_close.ensures.reads in
     goes_join g.O.Outbox.standing g.L.Ledger.standing c.args.hub.now c.next_close.new.self c.try_close.new.hub mid c.try_close.ensures.goes
 
 pub returns-in-Err-clause-goes : goal.returns-in-Err-clause-goes
 returns-in-Err-clause-goes g c =
-    let mid = goes_mid g.O.Outbox.standing g.L.Ledger.standing c.args.owner c.args.device c.args.hub.now c.loop.hub c.next_close.new.self (g.W.Write.contents c.args.output.now) (g.W.Write.contents c.loop.output) c.loop.counter c.loop.invariant c.next_close.ensures.reads in
+    let mid = goes_mid g.O.Outbox.standing g.L.Ledger.standing c.args.owner c.args.device c.args.hub.now c.loop.hub c.next_close.new.self (g.W.Write.contents c.args.output.now) (g.W.Write.contents c.loop.output) c.loop.last c.loop.counter c.loop.invariant c.next_close.ensures.reads in
     goes_join g.O.Outbox.standing g.L.Ledger.standing c.args.hub.now c.next_close.new.self c.try_close.new.hub mid c.try_close.ensures.goes
 
 pub returns-in-Err-clause-closed : goal.returns-in-Err-clause-closed
@@ -48,7 +51,8 @@ returns-in-Err-clause-closed g c =
     let known = still_known g.O.Outbox.standing g.L.Ledger.standing c.args.hub.now c.loop.hub c.args.owner c.loop.invariant.goes c.requires.known in
     let written = subst (Appends (g.W.Write.contents c.loop.output) (g.W.Write.contents c.write_text.new.output)) (c.deref.ensures.value ∙ (c.in_ok-line.ensures ∙ ap (λ a. try_line c.args.owner c.args.device c.in-Some.day (reply_of c.args.device c.in-Some.day a)) c.in-Err.is)) c.in_ok-write_text.ensures.written in
     let answered = subst (HasAnswered g.O.Outbox.standing g.L.Ledger.standing c.args.owner c.args.device c.in-Some.day c.next_close.new.self c.try_close.new.hub) c.in-Err.is c.in_ok-answer.ensures.answered in
-    lane_refused g.O.Outbox.standing g.L.Ledger.standing c.args.owner c.args.device c.args.hub.now c.loop.hub c.next_close.new.self (g.W.Write.contents c.args.output.now) (g.W.Write.contents c.loop.output) c.loop.counter c.loop.invariant c.next_close.ensures.reads c.try_close.new.hub c.in-Some.day
+    let behind : IsDayBehind c.loop.last c.in-Some.day = c.is_behind.ensures.0 c.if-not-is_behind.false in
+    lane_refused g.O.Outbox.standing g.L.Ledger.standing c.args.owner c.args.device c.args.hub.now c.loop.hub c.next_close.new.self (g.W.Write.contents c.args.output.now) (g.W.Write.contents c.loop.output) c.loop.last c.loop.counter c.loop.invariant c.next_close.ensures.reads c.try_close.new.hub c.in-Some.day behind
     (λ clean sound h may. subst (λ (o : Option ℕ). IsToClose (h.ledgers c.args.owner) c.args.device o) c.in-Some.is ((c.in_ok-day.ensures.answer clean sound known h may).1))
     c.try_close.ensures.goes (g.W.Write.contents c.write_text.new.output) c.in-Err.field-0 answered written
 
@@ -57,13 +61,14 @@ loop-preserved g c =
     let known = still_known g.O.Outbox.standing g.L.Ledger.standing c.args.hub.now c.loop.hub c.args.owner c.loop.invariant.goes c.requires.known in
     let written = subst (Appends (g.W.Write.contents c.loop.output) (g.W.Write.contents c.write_text.new.output)) (c.deref.ensures.value ∙ (c.in_ok-line.ensures ∙ ap (λ a. try_line c.args.owner c.args.device c.in-Some.day (reply_of c.args.device c.in-Some.day a)) c.in-Ok.is)) c.in_ok-write_text.ensures.written in
     let answered = subst (HasAnswered g.O.Outbox.standing g.L.Ledger.standing c.args.owner c.args.device c.in-Some.day c.next_close.new.self c.try_close.new.hub) c.in-Ok.is c.in_ok-answer.ensures.answered in
+    let behind : IsDayBehind c.loop.last c.in-Some.day = c.is_behind.ensures.0 c.if-not-is_behind.false in
     let more : suc c.loop.counter ≡ c.loop.counter + 1 = omega arith in
-    subst (StandsLane g.O.Outbox.standing g.L.Ledger.standing c.args.owner c.args.device c.args.hub.now c.try_close.new.hub (g.W.Write.contents c.args.output.now) (g.W.Write.contents c.write_text.new.output)) more
-    (lane_closed g.O.Outbox.standing g.L.Ledger.standing c.args.owner c.args.device c.args.hub.now c.loop.hub c.next_close.new.self (g.W.Write.contents c.args.output.now) (g.W.Write.contents c.loop.output) c.loop.counter c.loop.invariant c.next_close.ensures.reads c.try_close.new.hub c.in-Some.day
+    subst (StandsLane g.O.Outbox.standing g.L.Ledger.standing c.args.owner c.args.device c.args.hub.now c.try_close.new.hub (g.W.Write.contents c.args.output.now) (g.W.Write.contents c.write_text.new.output) (Some c.in-Some.day)) more
+    (lane_closed g.O.Outbox.standing g.L.Ledger.standing c.args.owner c.args.device c.args.hub.now c.loop.hub c.next_close.new.self (g.W.Write.contents c.args.output.now) (g.W.Write.contents c.loop.output) c.loop.last c.loop.counter c.loop.invariant c.next_close.ensures.reads c.try_close.new.hub c.in-Some.day behind
     (λ clean sound h may. subst (λ (o : Option ℕ). IsToClose (h.ledgers c.args.owner) c.args.device o) c.in-Some.is ((c.in_ok-day.ensures.answer clean sound known h may).1))
     c.try_close.ensures.goes (g.W.Write.contents c.write_text.new.output) answered written)
 
 pub returns-clause-closed : goal.returns-clause-closed
 returns-clause-closed g c =
     let past = c.loop-test.false in
-    lane_spent g.O.Outbox.standing g.L.Ledger.standing c.args.owner c.args.device c.args.hub.now c.loop.hub (g.W.Write.contents c.args.output.now) (g.W.Write.contents c.loop.output) c.loop.counter (omega (arith, past)) c.loop.invariant
+    lane_spent g.O.Outbox.standing g.L.Ledger.standing c.args.owner c.args.device c.args.hub.now c.loop.hub (g.W.Write.contents c.args.output.now) (g.W.Write.contents c.loop.output) c.loop.last c.loop.counter (omega (arith, past)) c.loop.invariant

@@ -1,10 +1,10 @@
-use Rattle.std.proofs.Common.{◌≡◌, ◌<◌, ◌≤◌, [], ◌∷◌, length, take, sym, ap, ◌∙◌, subst, arith}
+use Rattle.std.proofs.Common.{◌≡◌, [], ◌∷◌, length, take, sym, ap, ◌∙◌, subst, arith}
 use Rattle.std.specs.Map.{keys_of}
 use Rattle.fare_scheme.specs.Words.{id_at}
 use Rattle.fare_collect.proofs.Last.{at_known}
 use Rattle.fare_desk.specs.Closing.{HasClosedLanes, lanes_with}
 use Rattle.fare_desk.proofs.Going.{goes_join}
-use Rattle.fare_desk.proofs.Lanes.{StandsOver, over_none, over_more, devices_more, keys_all}
+use Rattle.fare_desk.proofs.Lanes.{over_none, over_more, devices_more, keys_all}
 use Rattle.fare_desk.proofs.closing.close_owner.Goals as goal
 
 pub loop-place-init : goal.loop-place-init

@@ -1,11 +1,11 @@
-use Rattle.std.proofs.Common.{◌≡◌, ◌<◌, ◌≤◌, [], ◌∷◌, length, take, string_bytes, sym, ap, ◌∙◌, subst, arith}
+use Rattle.std.proofs.Common.{◌≡◌, [], ◌∷◌, take, string_bytes, sym, ap, ◌∙◌, subst, arith}
 use Rattle.std.specs.Map.{keys_of}
-use Rattle.fare_scheme.specs.Words.{id_at, position_of_owner}
+use Rattle.fare_scheme.specs.Words.{id_at}
 use Rattle.fare_desk.specs.Closing.{lanes_with}
 use Rattle.fare_desk.specs.Showing.{AddsLanes}
 use Rattle.fare_desk.proofs.Asked.{asks_join}
 use Rattle.fare_desk.proofs.Lanes.{devices_more, keys_all}
-use Rattle.fare_desk.proofs.Shown.{lanes_none, lanes_then, lane_one}
+use Rattle.fare_desk.proofs.Shown.{lanes_then, lane_one}
 use Rattle.fare_desk.proofs.standing.add_owner.Goals as goal
 
 pub returns-in_err-lane-clause-asks : goal.returns-in_err-lane-clause-asks
