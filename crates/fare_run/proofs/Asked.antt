@@ -1,28 +1,25 @@
 -- How a question ends, by how its parts do.
-use Rattle.std.proofs.Common.{◌≡◌, ◌≢◌, ℕ, List, ◌++◌, Option, Some, None, IfSome, sym, ap, ◌∙◌, subst, codes, slice_index_or, arith}
-use Rattle.std.specs.Io.KnownBytes.{Appends, Keeps}
+use Rattle.std.proofs.Common.{◌≡◌, ◌≢◌, ℕ, List, Option, Some, None, IfSome, sym, ap, ◌∙◌, subst, codes, slice_index_or, arith}
+use Rattle.std.specs.Io.KnownBytes.{Keeps}
+use Rattle.std.specs.Map.{keys_of}
 use Rattle.clap.specs.Words.{Row, Text}
 use Rattle.fare_scheme.specs.Values.{SchemeValue}
 use Rattle.fare_store.specs.Standing.{Standing}
 use Rattle.fare_store.specs.OutboxWords.{OutboxValue}
 use Rattle.fare_store.specs.LedgerWords.{LedgerValue}
-use Rattle.fare_agreement.specs.Agreeing.{Agrees}
-use Rattle.fare_agreement.proofs.Collecting.{outbox_self}
-use Rattle.fare_agreement.proofs.Takes.{ledger_self}
 use Rattle.fare_command.specs.Jobs.{JobOf}
 use Rattle.fare_command.specs.declared.words.Job.{Job}
 use Rattle.fare_command.specs.declared.words.Job.TheVariants as job
 use Rattle.fare_command.specs.declared.words.Question.{Question}
 use Rattle.fare_command.specs.declared.words.Question.TheVariants.{Close, Bill, Settle, Stand}
-use Rattle.fare_desk.specs.Closing.{GoesOn}
-use Rattle.fare_desk.specs.Showing.{OnlyAsks}
+use Rattle.fare_desk.specs.Closing.{AreLinesOf, lanes_of}
+use Rattle.fare_desk.specs.Showing.{AreLaneLines, AreUptoLines}
 use Rattle.fare_desk.specs.declared.fault.DeskFault.{DeskFault}
 use Rattle.fare_desk.specs.declared.fault.DeskFault.TheVariants as desk
 use Rattle.fare_sessions.specs.declared.hub.Hub.{Hub}
-use Rattle.fare_run.specs.Asking.{Answers, AskEnds, IsAnswered, IsQuestion, KeepsUnlessWrite}
+use Rattle.fare_run.specs.Asking.{Answers, AskEnds, IsAnswered, KeepsUnlessWrite}
 use Rattle.fare_run.specs.Runs.{IsOfFiles}
 use Rattle.fare_run.specs.Scheming.{SpellsScheme}
-use Rattle.fare_run.specs.Serving.{HasScheme}
 
 -- THE JOB
 -- the first letters of two words
@@ -56,31 +53,24 @@ no_files (Some m) sql (job.Ask path Stand) replays is files = not_stand (sym rep
 
 -- THE STORES
 module _ {O L : Type 0} (outbox : O → Standing OutboxValue) (ledger : L → Standing LedgerValue) where
-  pub goes_asks : (old new : Hub O L) → OnlyAsks outbox ledger old new → GoesOn outbox ledger old new
-  goes_asks old new r = record {
-    scheme = r.scheme;
-    follow = r.follow;
-    sound = r.sound;
-    agrees = λ clean sound lists numbered is. record { agreed = λ h may. subst (λ (sc : SchemeValue). Agrees sc lists h) (sym r.scheme) (is.agreed h (r.same clean sound h may)) };
-    grows = λ clean sound lists numbered is. record { grown = λ k may. (k, r.same clean sound k may, outbox_self k.outbox, λ owner known. ledger_self (k.ledgers owner)) };
-  }
+  -- what was written, of a hub of this scheme
+  answered : (question : Question) (sc : SchemeValue) (old new : Hub O L) (before after : Option (List ℕ)) → old.scheme ≡ sc → Answers outbox ledger question old new before after → IsAnswered sc question before after
+  answered Close sc old new before after same a = (a.text, subst (λ (x : SchemeValue). AreLinesOf (lanes_of x) a.text) same a.lines, a.written)
+  answered (Bill owner day) sc old new before after same a = (a.bill, a.written)
+  answered (Settle owner day) sc old new before after same a = (a.shares, a.written)
+  answered Stand sc old new before after same a = (
+    a.uptos,
+    a.lanes,
+    subst (λ (x : SchemeValue). AreUptoLines (keys_of x.devices) a.uptos) same a.upto_lines,
+    subst (λ (x : SchemeValue). AreLaneLines (lanes_of x) a.lanes) same a.lane_lines,
+    a.written,
+  )
 
-  -- the kind of what was written
-  answered : (question : Question) (old new : Hub O L) (before after : Option (List ℕ)) → Answers outbox ledger question old new before after → IsAnswered question before after
-  answered Close old new before after a = (a.text, a.written)
-  answered (Bill owner day) old new before after a = (a.bill, a.written)
-  answered (Settle owner day) old new before after a = (a.shares, a.written)
-  answered Stand old new before after a = (a.uptos ++ a.lanes, a.written)
-
-  pub ask_done : (question : Question) (known : Option (List ℕ)) (sc : SchemeValue) (old new : Hub O L) (before after : Option (List ℕ)) → IfSome known (SpellsScheme sc) → Answers outbox ledger question old new before after → IfSome known (AskEnds question before after)
-  ask_done question None sc old new before after spelled a = tt
-  ask_done question (Some input) sc old new before after spelled a = record { sc = sc; spelled = spelled; writes = answered question old new before after a }
+  pub ask_done : (question : Question) (known : Option (List ℕ)) (sc : SchemeValue) (old new : Hub O L) (before after : Option (List ℕ)) → old.scheme ≡ sc → IfSome known (SpellsScheme sc) → Answers outbox ledger question old new before after → IfSome known (AskEnds question before after)
+  ask_done question None sc old new before after same spelled a = tt
+  ask_done question (Some input) sc old new before after same spelled a = record { sc = sc; spelled = spelled; writes = answered question sc old new before after same a }
 
 -- FAILURES
-pub scheme_there : (known : Option (List ℕ)) (sc : SchemeValue) → IfSome known (SpellsScheme sc) → HasScheme known
-scheme_there None sc spelled = tt
-scheme_there (Some input) sc spelled = (sc, spelled)
-
 pub keeps_unless : (fault : DeskFault) (before after : Option (List ℕ)) → (fault ≢ desk.Write → Keeps before after) → KeepsUnlessWrite fault before after
 keeps_unless desk.UnknownOwner before after is = is (λ e. absurd (cc))
 keeps_unless desk.BeforeStart before after is = is (λ e. absurd (cc))

@@ -1,41 +1,24 @@
 -- How serving ends, by how its parts do.
-use Rattle.std.proofs.Common.{◌≡◌, ◌≢◌, ◌⊎◌, ℕ, Bool, List, ◌++◌, Option, Some, None, IfSome, refl, sym, ap, ◌∙◌, append_assoc, subst, inl, inr, arith}
+use Rattle.std.proofs.Common.{◌≡◌, ◌≢◌, ℕ, Bool, List, Option, Some, None, IfSome, refl, sym, subst, inl, inr, arith}
 use Rattle.std.specs.Prelude.{Result, Ok, Err, OnOk, IfErr}
 use Rattle.std.specs.Io.KnownBytes.{Appends, Keeps}
+use Rattle.std.proofs.KnownBytes.{Appends-kept, Appends-trans, Keeps-refl}
 use Rattle.fare_scheme.specs.Values.{SchemeValue}
 use Rattle.fare_store.specs.Standing.{Standing}
 use Rattle.fare_store.specs.OutboxWords.{OutboxValue}
 use Rattle.fare_store.specs.LedgerWords.{LedgerValue}
 use Rattle.fare_sessions.specs.declared.hub.Hub.{Hub}
 use Rattle.fare_serve.specs.Counting.{counts_text}
-use Rattle.fare_serve.specs.Serving.{HasServedLines}
 use Rattle.fare_serve.specs.declared.fault.ServeFault.{ServeFault}
 use Rattle.fare_serve.specs.declared.fault.ServeFault.TheVariants as serve
 use Rattle.fare_run.specs.Scheming.{MakesNoScheme, SpellsScheme}
-use Rattle.fare_run.specs.Serving.{FailsOver, HasScheme, IsUntold, MayListen, ServeEnds, ServeFails, ServesOver, WritesCounts, listening_line, serving_failure}
+use Rattle.fare_run.specs.Serving.{FailsOver, HasScheme, IsUntold, ServeEnds, ServeFails, ServesOver, WritesCounts, listening_line, serving_failure}
 use Rattle.fare_run.specs.Stores.{IsOfStores}
 use Rattle.fare_run.specs.declared.serve_failure.ServeFailure.{ServeFailure}
 use Rattle.fare_run.specs.declared.serve_failure.ServeFailure.TheVariants.{Lines, Refused, NoScheme, Memory, Store, Network, Write}
 
--- KNOWN BYTES
-keeps_same : (a : Option (List ℕ)) → Keeps a a
-keeps_same None = tt
-keeps_same (Some xs) = refl
-
-appends_then : (a b c : Option (List ℕ)) (xs ys : List ℕ) → Appends a b xs → Appends b c ys → Appends a c (xs ++ ys)
-appends_then None b c xs ys first next = tt
-appends_then (Some x) None c xs ys first next = absurd first
-appends_then (Some x) (Some y) None xs ys first next = absurd next
-appends_then (Some x) (Some y) (Some z) xs ys first next = next ∙ (ap (λ (l : List ℕ). l ++ ys) first ∙ append_assoc x xs ys)
-
-appends_kept : (a b c : Option (List ℕ)) (xs : List ℕ) → Appends a b xs → Keeps b c → Appends a c xs
-appends_kept None b c xs first next = tt
-appends_kept (Some x) None c xs first next = absurd first
-appends_kept (Some x) (Some y) None xs first next = absurd next
-appends_kept (Some x) (Some y) (Some z) xs first next = next ∙ first
-
 -- THE SCHEME
-has_scheme : (known : Option (List ℕ)) (sc : SchemeValue) → IfSome known (SpellsScheme sc) → HasScheme known
+pub has_scheme : (known : Option (List ℕ)) (sc : SchemeValue) → IfSome known (SpellsScheme sc) → HasScheme known
 has_scheme None sc spelled = tt
 has_scheme (Some input) sc spelled = (sc, spelled)
 
@@ -45,7 +28,7 @@ writes outbox ledger before after most untold old new s = record {
   port = s.port;
   counts = counts_text s.served.counts;
   are = (s.served.counts, s.served.held.held.counted.owners, refl);
-  written = appends_then old s.mid new (listening_line s.port) (counts_text s.served.counts) s.told s.served.written;
+  written = Appends-trans old s.mid new (listening_line s.port) (counts_text s.served.counts) s.told s.served.written;
 }
 
 pub writes_if : {O L : Type 0} (outbox : O → Standing OutboxValue) (ledger : L → Standing LedgerValue) (before after : Hub O L) (most : ℕ) (untold : Bool) (old new : Option (List ℕ)) (r : Result (Unit {0}) ServeFailure) → OnOk r (ServesOver outbox ledger before after most untold old new) → OnOk r (WritesCounts before.scheme old new)
@@ -58,10 +41,10 @@ ends (Some input) sc old new spelled done = record { sc = sc; spelled = spelled;
 
 -- FAILURES
 pub fails_scheme : (known old : Option (List ℕ)) (failure : ServeFailure) → MakesNoScheme known failure → ServeFails known old old failure
-fails_scheme known old (Lines fault) makes = (keeps_same old, makes)
-fails_scheme known old (Refused why) makes = (keeps_same old, makes)
-fails_scheme known old NoScheme makes = (keeps_same old, makes)
-fails_scheme known old Memory makes = inl (keeps_same old)
+fails_scheme known old (Lines fault) makes = (Keeps-refl old, makes)
+fails_scheme known old (Refused why) makes = (Keeps-refl old, makes)
+fails_scheme known old NoScheme makes = (Keeps-refl old, makes)
+fails_scheme known old Memory makes = inl (Keeps-refl old)
 fails_scheme known old Store makes = absurd makes
 fails_scheme known old Network makes = absurd makes
 fails_scheme known old Write makes = absurd makes
@@ -70,8 +53,8 @@ pub fails_stores : (known old : Option (List ℕ)) (sc : SchemeValue) (failure :
 fails_stores known old sc (Lines fault) spelled is = absurd is
 fails_stores known old sc (Refused why) spelled is = absurd is
 fails_stores known old sc NoScheme spelled is = absurd is
-fails_stores known old sc Memory spelled is = inl (keeps_same old)
-fails_stores known old sc Store spelled is = (inl (keeps_same old), has_scheme known sc spelled)
+fails_stores known old sc Memory spelled is = inl (Keeps-refl old)
+fails_stores known old sc Store spelled is = (inl (Keeps-refl old), has_scheme known sc spelled)
 fails_stores known old sc Network spelled is = absurd is
 fails_stores known old sc Write spelled is = absurd is
 
@@ -95,7 +78,7 @@ failed_over (Err failure) known old new sc spelled is = fails_over known old new
 
 -- over stores
 pub over_network : (old : Option (List ℕ)) (failure : ServeFailure) → failure ≡ Network → FailsOver old old failure
-over_network old failure is = subst (FailsOver old old) (sym is) (keeps_same old)
+over_network old failure is = subst (FailsOver old old) (sym is) (Keeps-refl old)
 
 pub over_told : (old new : Option (List ℕ)) (failure : ServeFailure) → IsUntold old new failure → FailsOver old new failure
 over_told old new (Lines fault) is = absurd is
@@ -107,6 +90,6 @@ over_told old new Network is = absurd is
 over_told old new Write is = tt
 
 pub over_serving : (old mid new : Option (List ℕ)) (port : ℕ) (fault : ServeFault) → Appends old mid (listening_line port) → (fault ≢ serve.Write → Keeps mid new) → FailsOver old new (serving_failure fault)
-over_serving old mid new port serve.Memory told kept = inr (port, appends_kept old mid new (listening_line port) told (kept (λ e. grind (arith, e))))
-over_serving old mid new port serve.Store told kept = inr (port, appends_kept old mid new (listening_line port) told (kept (λ e. grind (arith, e))))
+over_serving old mid new port serve.Memory told kept = inr (port, Appends-kept old mid new (listening_line port) told (kept (λ e. grind (arith, e))))
+over_serving old mid new port serve.Store told kept = inr (port, Appends-kept old mid new (listening_line port) told (kept (λ e. grind (arith, e))))
 over_serving old mid new port serve.Write told kept = tt

@@ -1,6 +1,7 @@
 -- What comes of a question of the stores, or an order.
-use Rattle.std.specs.Prelude.{◌⊎◌, ℕ, List, Option}
+use Rattle.std.specs.Prelude.{◌⊎◌, ℕ, List, ◌++◌, Option}
 use Rattle.std.specs.Io.KnownBytes.{Appends, Keeps}
+use Rattle.std.specs.Map.{keys_of}
 use Rattle.fare_cap.specs.Bills.{BillValue}
 use Rattle.fare_settle.specs.declared.settled.Settled.{Settled}
 use Rattle.fare_scheme.specs.Values.{SchemeValue}
@@ -12,8 +13,8 @@ use Rattle.fare_lines.specs.Replies.{reply_text}
 use Rattle.fare_command.specs.declared.words.Question.{Question}
 use Rattle.fare_command.specs.declared.words.Question.TheVariants.{Close, Bill, Settle, Stand}
 use Rattle.fare_desk.specs.Billing.{WritesBill, WritesSettlement}
-use Rattle.fare_desk.specs.Closing.{HasClosedLanes, lanes_of}
-use Rattle.fare_desk.specs.Showing.{WritesStanding}
+use Rattle.fare_desk.specs.Closing.{AreLinesOf, HasClosedLanes, lanes_of}
+use Rattle.fare_desk.specs.Showing.{AreLaneLines, AreUptoLines, WritesStanding}
 use Rattle.fare_desk.specs.declared.fault.DeskFault.{DeskFault}
 use Rattle.fare_desk.specs.declared.fault.DeskFault.TheVariants as desk
 use Rattle.fare_sessions.specs.declared.hub.Hub.{Hub}
@@ -38,18 +39,19 @@ Answers outbox ledger (Bill owner day) old new before after = WritesBill outbox 
 Answers outbox ledger (Settle owner day) old new before after = WritesSettlement outbox ledger old new owner day before after
 Answers outbox ledger Stand old new before after = WritesStanding outbox ledger old new before after
 
--- the kind of text that was written to it
-abbrev pub IsAnswered : Question → Option (List ℕ) → Option (List ℕ) → Type 0
-IsAnswered Close before after = (text : List ℕ) × Appends before after text
-IsAnswered (Bill owner day) before after = (bill : BillValue) × Appends before after (reply_text (reply.Bill owner day bill))
-IsAnswered (Settle owner day) before after = (shares : List Settled) × Appends before after (reply_text (reply.Settlement owner day shares))
-IsAnswered Stand before after = (text : List ℕ) × Appends before after text
+-- What was written to it, by the scheme alone. To `close`, for each lane a line for each of some days in a row, all of
+-- which were closed but the last, which may have been refused; to `stand`, a line for each device and for each lane.
+abbrev pub IsAnswered : SchemeValue → Question → Option (List ℕ) → Option (List ℕ) → Type 0
+IsAnswered sc Close before after = (text : List ℕ) × AreLinesOf (lanes_of sc) text × Appends before after text
+IsAnswered sc (Bill owner day) before after = (bill : BillValue) × Appends before after (reply_text (reply.Bill owner day bill))
+IsAnswered sc (Settle owner day) before after = (shares : List Settled) × Appends before after (reply_text (reply.Settlement owner day shares))
+IsAnswered sc Stand before after = (uptos : List ℕ) × (lanes : List ℕ) × AreUptoLines (keys_of sc.devices) uptos × AreLaneLines (lanes_of sc) lanes × Appends before after (uptos ++ lanes)
 
--- answered: the input makes a scheme, and the answer was written
+-- answered: the input makes a scheme, and the answer for it was written
 pub record AskEnds (question : Question) (before after : Option (List ℕ)) (input : List ℕ) : Type 0 where
   pub sc : SchemeValue
   pub spelled : SpellsScheme sc input
-  pub writes : IsAnswered question before after
+  pub writes : IsAnswered sc question before after
 
 -- the input makes no scheme, or it does and a store was not opened
 abbrev pub OpensNone : Option (List ℕ) → ServeFailure → Type 0

@@ -1,5 +1,4 @@
-use Rattle.fare_desk.proofs.Going.{goes_read}
-use Rattle.fare_run.proofs.Asked.{goes_asks}
+use Rattle.fare_desk.proofs.Going.{goes_asks, goes_read}
 use Rattle.fare_run.proofs.asking.answer_over.Goals as goal
 
 pub returns-in-Bill-clause-goes : goal.returns-in-Bill-clause-goes
