@@ -1,9 +1,10 @@
 -- The closes of one lane.
 use Rattle.std.proofs.Common.{◌≡◌, ◌≢◌, ◌⊎◌, inl, inr, ℕ, zero, suc, ◌+◌, ◌<◌, ◌≤◌, List, [], ◌∷◌, ◌++◌, Some, None, Bool, true, false, refl, sym, ap, ◌∙◌, subst, arith, add_assoc, add-zero, append-nil}
-use Rattle.std.specs.Prelude.{◌==◌, ◌&&◌, nat_le, nat_lt, Option, is_some, Result, Ok, Err, if◌then◌else◌}
+use Rattle.std.specs.Prelude.{◌==◌, ◌&&◌, nat_le, nat_lt, Option, is_some, IfSome, Result, Ok, Err, if◌then◌else◌}
 use Rattle.std.specs.Io.KnownBytes.{Appends}
 use Rattle.std.proofs.KnownBytes.{Appends-nil, Appends-trans}
 use Rattle.std.proofs.lemmas.Bool.Decides.{nat_tests}
+use Rattle.fare_record.specs.Limits.{IsDay}
 use Rattle.fare_owner.specs.declared.closing.CloseFault.{CloseFault}
 use Rattle.fare_owner.specs.declared.closing.CloseFault.TheVariants as close
 use Rattle.fare_owner.specs.CloseJudged.{close_judged}
@@ -139,9 +140,9 @@ some_is (Some c) e = (c, refl)
 
 -- THE LOOP
 -- there is a day behind the last
-some_behind : (last : Option ℕ) → (day : ℕ) × IsDayBehind last day
-some_behind None = (0, tt)
-some_behind (Some last) = (last + 1, refl)
+some_behind : (last : Option ℕ) → IfSome last IsDay → (day : ℕ) × IsDayBehind last day × (day ≤ 100001)
+some_behind None dated = (0, tt, omega arith)
+some_behind (Some last) dated = (last + 1, refl, omega (arith, dated))
 
 module _ {O L : Type 0} (outbox : O → Standing OutboxValue) (ledger : L → Standing LedgerValue) (owner device : ℕ) where
   -- the lines of one lane
@@ -153,6 +154,7 @@ module _ {O L : Type 0} (outbox : O → Standing OutboxValue) (ledger : L → St
     pub goes : GoesOn outbox ledger old now
     pub text : List ℕ
     pub written : Appends before after text
+    pub dated : IfSome last IsDay
     pub in_row : (day : ℕ) → IsDayBehind last day → (first : ℕ) × (text ≡ closed_lines owner device first n) × (day ≡ first + n)
     pub came : AreClean outbox ledger now → AreSound outbox ledger old → (k : StoresValue) → MayStandAs outbox ledger now k
         → (h : StoresValue) × MayStandAs outbox ledger old h × (k ≡ with_lane owner device n h) × ((j : ℕ) → j < n → IsMet (h.ledgers owner) device (unclosed_day (h.ledgers owner) device j)) × (text ≡ closed_lines owner device (first_unclosed (h.ledgers owner) device) n)
@@ -162,6 +164,7 @@ module _ {O L : Type 0} (outbox : O → Standing OutboxValue) (ledger : L → St
     goes = goes_self outbox ledger old;
     text = [];
     written = Appends-nil before;
+    dated = tt;
     in_row = λ day behind. (day, refl, sym (add-zero day));
     came = λ clean sound k may. (k, may, sym (lane_none owner device k), λ j lt. absurd (omega (arith, lt)), refl);
   }
@@ -169,9 +172,11 @@ module _ {O L : Type 0} (outbox : O → Standing OutboxValue) (ledger : L → St
   -- the lines of the days that were closed
   all_closed : (old now : Hub O L) (before after : Option (List ℕ)) (last : Option ℕ) (n : ℕ) (s : StandsLane old now before after last n) → AreTries owner device s.text
   all_closed old now before after last n s =
-      let day = some_behind last in
+      let day = some_behind last s.dated in
       let row = s.in_row day.0 day.1 in
-      record { first = row.0; closed = n; refused = None; is = row.1 ∙ sym (append-nil (closed_lines owner device row.0 n)) }
+      let there = row.2 in
+      let within = day.2 in
+      record { first = row.0; closed = n; refused = None; closed_dated = omega (arith, there, within); refused_dated = tt; is = row.1 ∙ sym (append-nil (closed_lines owner device row.0 n)) }
 
   module _ (old now mid : Hub O L) (before after : Option (List ℕ)) (last : Option ℕ) (n : ℕ) (s : StandsLane old now before after last n) (r : OnlyReads outbox ledger now mid) where
     pub goes_mid : GoesOn outbox ledger old mid
@@ -211,7 +216,7 @@ module _ {O L : Type 0} (outbox : O → Standing OutboxValue) (ledger : L → St
         no : {o : Option ℕ} {c : ℕ} → o ≡ None → o ≡ Some c → ⊥
         no none some = let both : ◌≡◌ {A = Option ℕ} None (Some _) = sym none ∙ some in absurd (cc)
 
-    module _ (next : Hub O L) (day : ℕ) (behind : IsDayBehind last day) (told : AreClean outbox ledger mid → AreSound outbox ledger now → (h : StoresValue) → MayStandAs outbox ledger now h → IsToClose (h.ledgers owner) device (Some day)) (g : GoesOn outbox ledger mid next) (ends : Option (List ℕ)) where
+    module _ (next : Hub O L) (day : ℕ) (behind : IsDayBehind last day) (dated : IsDay day) (told : AreClean outbox ledger mid → AreSound outbox ledger now → (h : StoresValue) → MayStandAs outbox ledger now h → IsToClose (h.ledgers owner) device (Some day)) (g : GoesOn outbox ledger mid next) (ends : Option (List ℕ)) where
       pub goes_next : GoesOn outbox ledger old next
       goes_next = goes_join outbox ledger old mid next goes_mid g
 
@@ -227,6 +232,7 @@ module _ {O L : Type 0} (outbox : O → Standing OutboxValue) (ledger : L → St
         goes = goes_next;
         text = s.text ++ try_line owner device day (reply.Closed device day);
         written = Appends-trans before after ends s.text (try_line owner device day (reply.Closed device day)) s.written w;
+        dated = dated;
         in_row = λ later after_it.
             let row = s.in_row day behind in (
               row.0,
@@ -272,10 +278,13 @@ module _ {O L : Type 0} (outbox : O → Standing OutboxValue) (ledger : L → St
         written = Appends-trans before after ends s.text (try_line owner device day (reply.Refused (close_refusal why))) s.written w;
         lines =
             let row = s.in_row day behind in
+            let there = row.2 in
             one_lane (s.text ++ try_line owner device day (reply.Refused (close_refusal why))) (record {
               first = row.0;
               closed = n;
               refused = Some why;
+              closed_dated = omega (arith, there, dated);
+              refused_dated = omega (arith, there, dated);
               is = ap (λ (l : List ℕ). l ++ try_line owner device day (reply.Refused (close_refusal why))) row.1 ∙ ap (λ (d : ℕ). closed_lines owner device row.0 n ++ try_line owner device d (reply.Refused (close_refusal why))) row.2;
             });
         came = λ clean sound k may.

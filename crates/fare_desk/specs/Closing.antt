@@ -1,10 +1,11 @@
 -- Closing all days that can be closed, lane by lane, and what is written of it.
-use Rattle.std.specs.Prelude.{◌≡◌, ℕ, zero, suc, ◌+◌, ◌<◌, nat_lt, List, [], ◌∷◌, ◌++◌, map, codes, Option, Some, None, Result, Ok, Err, if◌then◌else◌}
+use Rattle.std.specs.Prelude.{◌≡◌, ℕ, zero, suc, ◌+◌, ◌<◌, ◌≤◌, nat_lt, List, [], ◌∷◌, ◌++◌, map, codes, Option, Some, None, IfSome, Result, Ok, Err, if◌then◌else◌}
 use Rattle.std.specs.List.{flat_map}
 use Rattle.std.specs.Fmt.{decimal}
 use Rattle.std.specs.Io.KnownBytes.{Appends}
 use Rattle.std.specs.Map.{keys_of}
 use Rattle.fare_record.specs.Lanes.{day_count}
+use Rattle.fare_record.specs.Limits.{IsDay}
 use Rattle.fare_record.specs.Values.{RecordValue}
 use Rattle.fare_scheme.specs.Values.{SchemeValue}
 use Rattle.fare_store.specs.Standing.{Standing}
@@ -79,11 +80,13 @@ abbrev pub refused_line : ℕ → ℕ → ℕ → Option CloseFault → List ℕ
 refused_line owner device day None = []
 refused_line owner device day (Some why) = try_line owner device day (reply.Refused (close_refusal why))
 
--- the lines of a lane: of days in a row, each of which was closed but the last, which may have been refused
+-- the lines of a lane: of days in a row, none behind day 100,000, each of which was closed but the last, which may have been refused
 pub record AreTries (owner device : ℕ) (text : List ℕ) : Type 0 where
   pub first : ℕ
   pub closed : ℕ
   pub refused : Option CloseFault
+  pub closed_dated : first + closed ≤ 100001
+  pub refused_dated : IfSome refused (λ why. IsDay (first + closed))
   pub is : text ≡ closed_lines owner device first closed ++ refused_line owner device (first + closed) refused
 
 -- the day behind them is refused for its count, where one is stated

@@ -1,5 +1,6 @@
 //! The closes of all days that can be closed.
 ghost use Rattle.std.specs.Prelude.{◌≡◌, ◌≢◌, ◌↔◌, [], ◌∷◌, IsTrue, None, OnOk, IfOk};
+ghost use Rattle.fare_record.specs.Limits.{IsDay};
 ghost use Rattle.fare_scheme.specs.Words.{position_of_owner};
 ghost use Rattle.fare_sessions.specs.Stores.{HasLedgers};
 ghost use Rattle.std.specs.Map.{keys_of};
@@ -50,7 +51,8 @@ fn line_of(
     day: Day,
     answer: Result<(), CloseFault>,
 ) -> Result<Vec<u8>, AllocError>
-    ensures { IfOk result (λ line. line.items ≡ try_line owner device day (reply_of device day answer)) }
+    ensures line { IfOk result (λ line. line.items ≡ try_line owner device day (reply_of device day answer)) }
+    ensures dated { IsDay day }
 {
     let reply = reply_to(device, day, answer);
     let owner = owner.get();

@@ -49,22 +49,22 @@ returns-in-Err-clause-goes g c =
 pub returns-in-Err-clause-closed : goal.returns-in-Err-clause-closed
 returns-in-Err-clause-closed g c =
     let known = still_known g.O.Outbox.standing g.L.Ledger.standing c.args.hub.now c.loop.hub c.args.owner c.loop.invariant.goes c.requires.known in
-    let written = subst (Appends (g.W.Write.contents c.loop.output) (g.W.Write.contents c.write_text.new.output)) (c.deref.ensures.value ∙ (c.in_ok-line.ensures ∙ ap (λ a. try_line c.args.owner c.args.device c.in-Some.day (reply_of c.args.device c.in-Some.day a)) c.in-Err.is)) c.in_ok-write_text.ensures.written in
+    let written = subst (Appends (g.W.Write.contents c.loop.output) (g.W.Write.contents c.write_text.new.output)) (c.deref.ensures.value ∙ (c.in_ok-line.ensures.line ∙ ap (λ a. try_line c.args.owner c.args.device c.in-Some.day (reply_of c.args.device c.in-Some.day a)) c.in-Err.is)) c.in_ok-write_text.ensures.written in
     let answered = subst (HasAnswered g.O.Outbox.standing g.L.Ledger.standing c.args.owner c.args.device c.in-Some.day c.next_close.new.self c.try_close.new.hub) c.in-Err.is c.in_ok-answer.ensures.answered in
     let behind : IsDayBehind c.loop.last c.in-Some.day = c.is_behind.ensures.0 c.if-not-is_behind.false in
-    lane_refused g.O.Outbox.standing g.L.Ledger.standing c.args.owner c.args.device c.args.hub.now c.loop.hub c.next_close.new.self (g.W.Write.contents c.args.output.now) (g.W.Write.contents c.loop.output) c.loop.last c.loop.counter c.loop.invariant c.next_close.ensures.reads c.try_close.new.hub c.in-Some.day behind
+    lane_refused g.O.Outbox.standing g.L.Ledger.standing c.args.owner c.args.device c.args.hub.now c.loop.hub c.next_close.new.self (g.W.Write.contents c.args.output.now) (g.W.Write.contents c.loop.output) c.loop.last c.loop.counter c.loop.invariant c.next_close.ensures.reads c.try_close.new.hub c.in-Some.day behind c.in_ok-line.ensures.dated
     (λ clean sound h may. subst (λ (o : Option ℕ). IsToClose (h.ledgers c.args.owner) c.args.device o) c.in-Some.is ((c.in_ok-day.ensures.answer clean sound known h may).1))
     c.try_close.ensures.goes (g.W.Write.contents c.write_text.new.output) c.in-Err.field-0 answered written
 
 pub loop-preserved : goal.loop-preserved
 loop-preserved g c =
     let known = still_known g.O.Outbox.standing g.L.Ledger.standing c.args.hub.now c.loop.hub c.args.owner c.loop.invariant.goes c.requires.known in
-    let written = subst (Appends (g.W.Write.contents c.loop.output) (g.W.Write.contents c.write_text.new.output)) (c.deref.ensures.value ∙ (c.in_ok-line.ensures ∙ ap (λ a. try_line c.args.owner c.args.device c.in-Some.day (reply_of c.args.device c.in-Some.day a)) c.in-Ok.is)) c.in_ok-write_text.ensures.written in
+    let written = subst (Appends (g.W.Write.contents c.loop.output) (g.W.Write.contents c.write_text.new.output)) (c.deref.ensures.value ∙ (c.in_ok-line.ensures.line ∙ ap (λ a. try_line c.args.owner c.args.device c.in-Some.day (reply_of c.args.device c.in-Some.day a)) c.in-Ok.is)) c.in_ok-write_text.ensures.written in
     let answered = subst (HasAnswered g.O.Outbox.standing g.L.Ledger.standing c.args.owner c.args.device c.in-Some.day c.next_close.new.self c.try_close.new.hub) c.in-Ok.is c.in_ok-answer.ensures.answered in
     let behind : IsDayBehind c.loop.last c.in-Some.day = c.is_behind.ensures.0 c.if-not-is_behind.false in
     let more : suc c.loop.counter ≡ c.loop.counter + 1 = omega arith in
     subst (StandsLane g.O.Outbox.standing g.L.Ledger.standing c.args.owner c.args.device c.args.hub.now c.try_close.new.hub (g.W.Write.contents c.args.output.now) (g.W.Write.contents c.write_text.new.output) (Some c.in-Some.day)) more
-    (lane_closed g.O.Outbox.standing g.L.Ledger.standing c.args.owner c.args.device c.args.hub.now c.loop.hub c.next_close.new.self (g.W.Write.contents c.args.output.now) (g.W.Write.contents c.loop.output) c.loop.last c.loop.counter c.loop.invariant c.next_close.ensures.reads c.try_close.new.hub c.in-Some.day behind
+    (lane_closed g.O.Outbox.standing g.L.Ledger.standing c.args.owner c.args.device c.args.hub.now c.loop.hub c.next_close.new.self (g.W.Write.contents c.args.output.now) (g.W.Write.contents c.loop.output) c.loop.last c.loop.counter c.loop.invariant c.next_close.ensures.reads c.try_close.new.hub c.in-Some.day behind c.in_ok-line.ensures.dated
     (λ clean sound h may. subst (λ (o : Option ℕ). IsToClose (h.ledgers c.args.owner) c.args.device o) c.in-Some.is ((c.in_ok-day.ensures.answer clean sound known h may).1))
     c.try_close.ensures.goes (g.W.Write.contents c.write_text.new.output) answered written)
 
