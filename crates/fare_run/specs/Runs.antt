@@ -10,6 +10,8 @@ use Rattle.fare_trace.specs.Replay.{ReplayFails, Replays}
 use Rattle.fare_trace.specs.declared.stream.ReplayFault.TheVariants as fault
 use Rattle.fare_run.specs.declared.left.Left.{Left}
 use Rattle.fare_run.specs.declared.left.Left.TheVariants as left
+use Rattle.fare_run.specs.declared.running.Work.{Work}
+use Rattle.fare_run.specs.declared.running.Work.TheVariants as work
 use Rattle.fare_run.specs.declared.failure.Failure.{Failure}
 use Rattle.fare_run.specs.declared.failure.Failure.TheVariants.{Replay, Write, Memory, Serve, Ask, Refused}
 
@@ -65,6 +67,11 @@ IsBefore (Refused text) = Unit {0}
 abbrev pub job_left : Left → Job
 job_left (left.Serve options) = job.Serve options.port options.limits.turns options.path options.limits.read_millis options.limits.write_millis options.limits.rounds options.until options.limits.patience
 job_left (left.Ask options) = job.Ask options.path options.question
+
+-- the job of which this is what is done
+abbrev pub job_of : Work → Job
+job_of (work.Replay sql) = job.Replay sql
+job_of (work.Left l) = job_left l
 
 -- what is left to do is what the words ask for
 abbrev pub Leaves : List Text → Left → Type 0

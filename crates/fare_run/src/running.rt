@@ -1,6 +1,7 @@
 ghost use Rattle.std.specs.Prelude.{◌≡◌, ◌≢◌, None, map, OnOk, IfOk, IfErr, IfSome};
 ghost use Rattle.std.specs.Io.KnownBytes.{Appends};
-ghost use Rattle.fare_run.specs.Runs.{AsksForFiles, IsBefore, Leaves, LeavesIt, RunEnds, RunFails};
+ghost use Rattle.fare_command.specs.Jobs.{FailsOn};
+ghost use Rattle.fare_run.specs.Runs.{AsksFor, AsksForFiles, IsBefore, Leaves, LeavesIt, RunEnds, RunFails, job_of};
 
 use crate::failure::Failure;
 use crate::left::{AskOptions, Left, ServeOptions};
@@ -17,6 +18,46 @@ fn write_text<O: Write>(output: &mut O, text: &str) -> io::Result<()>
 {
     output.write_all(text.as_bytes())?;
     output.flush()
+}
+
+// A job, by what is done of it here.
+enum Work<'a> {
+    // A replay, over tables or over lists.
+    Replay { sql: bool },
+    // Of stores in files: it is left to do.
+    Left(Left<'a>),
+}
+
+// The work that the words ask for. Each fault comes as `read_words` says.
+fn read_work<'a>(alloc: Global, words: &'a [&'a str]) -> Result<Work<'a>, WordsFault>
+    ensures work { IfOk result (λ work. AsksFor (map (λ word. word.now) words.now) (job_of work)) }
+    ensures fault { IfErr result (FailsOn (map (λ word. word.now) words.now)) }
+{
+    match read_words(alloc, words)? {
+        Job::Replay { sql } => Ok(Work::Replay { sql }),
+        Job::Serve {
+            port,
+            turns,
+            path,
+            read_millis,
+            write_millis,
+            rounds,
+            until,
+            patience,
+        } => Ok(Work::Left(Left::Serve(ServeOptions {
+            port,
+            path,
+            limits: Limits {
+                turns,
+                read_millis,
+                write_millis,
+                rounds,
+                patience,
+            },
+            until,
+        }))),
+        Job::Ask { path, question } => Ok(Work::Left(Left::Ask(AskOptions { path, question }))),
+    }
 }
 
 /// Does what the words after the program's name ask for: replays what the reader gives to the writer, or shows
@@ -39,35 +80,12 @@ pub fn run<'a, I: Read, O: Write>(
     ensures waits { IfOk result (λ left. left ≢ None → (input.new ≡ input.old) × (output.new ≡ output.old)) }
     ensures files { AsksForFiles (map (λ word. word.now) words.now) → LeavesIt result }
 {
-    match read_words(alloc, words) {
-        Ok(Job::Replay { sql }) => match replay_over(alloc, sql, input, output) {
+    match read_work(alloc, words) {
+        Ok(Work::Replay { sql }) => match replay_over(alloc, sql, input, output) {
             Ok(()) => Ok(None),
             Err(fault) => Err(Failure::Replay(fault)),
         },
-        Ok(
-            Job::Serve {
-                port,
-                turns,
-                path,
-                read_millis,
-                write_millis,
-                rounds,
-                until,
-                patience,
-            },
-        ) => Ok(Some(Left::Serve(ServeOptions {
-            port,
-            path,
-            limits: Limits {
-                turns,
-                read_millis,
-                write_millis,
-                rounds,
-                patience,
-            },
-            until,
-        }))),
-        Ok(Job::Ask { path, question }) => Ok(Some(Left::Ask(AskOptions { path, question }))),
+        Ok(Work::Left(left)) => Ok(Some(left)),
         Err(WordsFault::Asked(text)) => match write_text(output, &text) {
             Ok(()) => Ok(None),
             Err(_) => Err(Failure::Write),
