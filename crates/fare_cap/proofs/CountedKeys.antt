@@ -1,10 +1,10 @@
 -- Counting taps in a table by account and day.
 use Rattle.std.proofs.Common.{◌≡◌, ℕ, ◌≤◌, Bool, true, false, cond, ◌&&◌, ltb-true, eqb-true, List, [], ◌∷◌, ◌++◌, length, Some, None, refl, sym, ◌∙◌, ap, arith, ◌==◌}
-use Rattle.std.specs.Prelude.{unwrap_or, nat_lt, Result, Ok, Err, OnErr}
+use Rattle.std.specs.Prelude.{Option, unwrap_or, nat_eq, nat_lt, Result, Ok, Err, OnErr}
 use Rattle.std.specs.declared.cmp.Ordering.TheVariants.{Less, Equal, Greater}
 use Rattle.std.specs.Ordering.{nat_cmp, ordering_then, is_eq}
 use Rattle.std.specs.Cmp.{both_tied}
-use Rattle.std.specs.BTreeMap.{BTreeMap, get, Updates}
+use Rattle.std.proofs.lemmas.Bool.Decides.{nat_tests}
 use Rattle.std.proofs.lemmas.Bool.{and_parts}
 use Rattle.std.proofs.lemmas.List.{append-nil}
 use Rattle.std.proofs.lemmas.List.Elements.{filter-append}
@@ -13,7 +13,7 @@ use Rattle.fare_record.specs.Values.{RecordValue}
 use Rattle.fare_scheme.specs.Values.{SchemeValue}
 use Rattle.fare_cap.specs.Values.{AccountValue}
 use Rattle.fare_cap.specs.Accounts.{same_account, account_of, counts, counted_on, part_of}
-use Rattle.fare_cap.specs.Keys.{compare_keys}
+use Rattle.fare_cap.specs.Keys.{same_key}
 use Rattle.fare_cap.specs.Windows.{day_rides, one_more}
 use Rattle.fare_cap.specs.Fares.{hop_of}
 use Rattle.fare_cap.specs.RidesWords.{rides_on}
@@ -40,27 +40,27 @@ same_account_is a b same =
     ap (λ (p : ℕ). let v : AccountValue = record { product = p; token = a.token } in v) product
     ∙ ap (λ (t : ℕ). let v : AccountValue = record { product = b.product; token = t } in v) token
 
-key_tied : (a b : AccountValue) (d e : ℕ) → (same_account a b && d == e) ≡ is_eq (compare_keys (a, d) (b, e))
-key_tied a b d e =
-    both_tied (same_account a b) (d == e) (ordering_then (nat_cmp a.product b.product) (nat_cmp a.token b.token)) (nat_cmp d e) (account_tied a b) (nat_tied d e)
+nat_is : (x y : ℕ) → nat_eq x y ≡ (x == y)
+nat_is x y = grind (arith, nat_tests)
 
--- what a new value at a key makes of a map, where the value comes from the one that stood there
-pub value-updated : {V : Type 0} (none : V) (f : V → V) (m n : BTreeMap (AccountValue × ℕ) V) (a : AccountValue) (d : ℕ)
-    → Updates compare_keys m n (a, d) (Some (f (unwrap_or (get compare_keys m (a, d)) none))) → (b : AccountValue) (e : ℕ)
-    → unwrap_or (get compare_keys n (b, e)) none
-    ≡ cond (same_account a b && d == e) (f (unwrap_or (get compare_keys m (b, e)) none)) (unwrap_or (get compare_keys m (b, e)) none)
-value-updated {V} none f m n a d updates b e =
-    ap (λ o. unwrap_or o none) (updates.0 (b, e)) ∙ ap (λ s. unwrap_or (cond s (Some (f (unwrap_or (get compare_keys m (a, d)) none))) (get compare_keys m (b, e))) none) (sym (key_tied a b d e))
+key_is : (a b : AccountValue) (d e : ℕ) → same_key (a, d) (b, e) ≡ (same_account a b && d == e)
+key_is a b d e = λ i. (nat_is a.product b.product i && nat_is a.token b.token i) && nat_is d e i
+
+-- what a new value at a key makes of a table, where the value comes from the one that stood there
+pub value-updated : {V : Type 0} (none : V) (f : V → V) (old new : AccountValue × ℕ → Option V) (a : AccountValue) (d : ℕ)
+    → ((key : AccountValue × ℕ) → new key ≡ cond (same_key (a, d) key) (Some (f (unwrap_or (old (a, d)) none))) (old key)) → (b : AccountValue) (e : ℕ)
+    → unwrap_or (new (b, e)) none ≡ cond (same_account a b && d == e) (f (unwrap_or (old (b, e)) none)) (unwrap_or (old (b, e)) none)
+value-updated {V} none f old new a d updates b e =
+    ap (λ o. unwrap_or o none) (updates (b, e)) ∙ ap (λ s. unwrap_or (cond s (Some (f (unwrap_or (old (a, d)) none))) (old (b, e))) none) (key_is a b d e)
     ∙ by (same_account a b && d == e) refl
   where
     by : (t : Bool) → (same_account a b && d == e) ≡ t
-        → unwrap_or (cond t (Some (f (unwrap_or (get compare_keys m (a, d)) none))) (get compare_keys m (b, e))) none
-        ≡ cond t (f (unwrap_or (get compare_keys m (b, e)) none)) (unwrap_or (get compare_keys m (b, e)) none)
+        → unwrap_or (cond t (Some (f (unwrap_or (old (a, d)) none))) (old (b, e))) none ≡ cond t (f (unwrap_or (old (b, e)) none)) (unwrap_or (old (b, e)) none)
     by true same =
         let parts = and_parts (same_account a b) (d == e) same in
         let account : a ≡ b = same_account_is a b parts.0 in
         let day : d ≡ e = eqb-true d e parts.1 in
-        ap (λ (x : AccountValue). f (unwrap_or (get compare_keys m (x, d)) none)) account ∙ ap (λ (x : ℕ). f (unwrap_or (get compare_keys m (b, x)) none)) day
+        ap (λ (x : AccountValue). f (unwrap_or (old (x, d)) none)) account ∙ ap (λ (x : ℕ). f (unwrap_or (old (b, x)) none)) day
     by false other = refl
 
 -- what holds at an error

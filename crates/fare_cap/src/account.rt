@@ -4,7 +4,7 @@ use fare_record::{ProductId, Record, Token};
 use std::marker::Model;
 
 /// Who pays: a product with a token that used it. Accounts stand in the order of product, then token.
-#[derive(Clone, Copy, PartialEq, Eq, PartialOrd, Ord, Debug)]
+#[derive(Clone, Copy, PartialEq, Eq, PartialOrd, Ord, Hash, Debug)]
 pub struct Account {
     product: ProductId,
     token: Token,

@@ -7,12 +7,12 @@ use crate::{Account, DayRides};
 use fare_record::{Day, Record};
 use fare_scheme::Scheme;
 use std::alloc::{AllocError, Global};
-use std::collections::BTreeMap;
+use std::collections::HashMap;
 
 /// The taps of each account on each day: how many count, and how many of these are paid.
 #[derive(Drop)]
 pub struct Rides {
-    days: BTreeMap<(Account, Day), DayRides>,
+    days: HashMap<(Account, Day), DayRides>,
 }
 
 impl Rides {
@@ -24,7 +24,7 @@ impl Rides {
         ensures { (account : AccountValue) (day : ℕ) → rides_by result account day ≡ no_rides }
     {
         Rides {
-            days: BTreeMap::new(alloc),
+            days: HashMap::new(alloc),
         }
     }
 

@@ -1,5 +1,6 @@
 -- One more tap of a list in order: what is charged, and what has been counted.
-use Rattle.std.proofs.Common.{◌≡◌, ℕ, ◌+◌, ◌≤◌, Bool, true, false, cond, ◌&&◌, ◌==◌, List, [], ◌∷◌, ◌++◌, All, sym, ◌∙◌, ap}
+use Rattle.std.proofs.Common.{◌≡◌, ℕ, ◌+◌, ◌≤◌, Bool, true, false, cond, ◌&&◌, ◌==◌, List, [], ◌∷◌, ◌++◌, All, Some, sym, ◌∙◌, ap, arith}
+use Rattle.std.specs.Prelude.{if◌then◌else◌}
 use Rattle.std.proofs.lemmas.Bool.{and_parts}
 use Rattle.std.proofs.lemmas.List.{append_assoc, append-nil}
 use Rattle.std.proofs.lemmas.List.Elements.{filter-append, All-push}
@@ -8,7 +9,7 @@ use Rattle.fare_scheme.specs.Values.{SchemeValue}
 use Rattle.fare_cap.specs.Values.{AccountValue}
 use Rattle.fare_cap.specs.Accounts.{account_of, same_account, counts, counted_on, part_of}
 use Rattle.fare_cap.specs.declared.day_rides.DayRides.{DayRides}
-use Rattle.fare_cap.specs.Windows.{paid, day_rides, one_more}
+use Rattle.fare_cap.specs.Windows.{paid, day_rides, one_more, is_free}
 use Rattle.fare_cap.specs.Fares.{paid_on, hop_of, day_fare, rise, tariff_or_none}
 use Rattle.fare_cap.specs.RidesWords.{rides_on}
 use Rattle.fare_cap.proofs.Amounts.{fares_before-same}
@@ -94,3 +95,15 @@ charges_more_yes scheme ordered front day table after rides charges tap charge i
         added a day
         ∙ ap (λ (r : DayRides). cond (same_account (account_of tap) a && tap.tap.day == day) (one_more (hop_of scheme (account_of tap)) r tap.tap.moment) r) (so_far.counted a)
         ∙ rides_on-counted scheme front tap a day counts_now
+
+-- one tap more lets no fewer be paid
+pub paid_grows : (more : Bool) (hop : ℕ) (rides : DayRides) (moment : ℕ) → rides.paid ≤ (cond more (one_more hop rides moment) rides).paid
+paid_grows true hop rides moment = by (is_free hop rides.opened moment)
+  where
+    next : Bool → DayRides
+    next free = if free then record { taps = rides.taps + 1; paid = rides.paid; opened = rides.opened } else record { taps = rides.taps + 1; paid = rides.paid + 1; opened = Some moment }
+
+    by : (free : Bool) → rides.paid ≤ (next free).paid
+    by true = omega arith
+    by false = omega arith
+paid_grows false hop rides moment = omega arith

@@ -12,7 +12,7 @@ use Rattle.fare_cap.specs.Windows.{one_more}
 use Rattle.fare_cap.specs.Fares.{hop_of}
 use Rattle.fare_cap.specs.RidesWords.{paid_by, rides_by, rides_on}
 use Rattle.fare_cap.proofs.CountedKeys.{rides_on-le}
-use Rattle.fare_settle.proofs.ChargeSteps.{AreCharges, charges_more_yes, charges_more_no}
+use Rattle.fare_settle.proofs.ChargeSteps.{AreCharges, charges_more_yes, charges_more_no, paid_grows}
 use Rattle.fare_settle.proofs.charging.charges_in_order.Goals as goal
 use Rattle.fare_settle.proofs.charging.charges_in_order.Goals.{then-counts_on+in_ok-add+in_ok-push, else-counts_on}
 
@@ -37,6 +37,14 @@ add-requires-clause-paid c =
     ap (λ d. (rides_by c.loop-tap.so_far (account_of tap) d).paid) on ∙ ap (λ (r : DayRides). r.paid) (c.loop-tap.invariant.counted (account_of tap)) in
     let few = (rides_on-le scheme front (account_of tap) c.args.day).1 in
     omega (arith, counted, few, length-take c.loop-tap.tap-index c.args.ordered.now)
+
+pub charge-requires-clause-grows : goal.charge-requires-clause-grows
+charge-requires-clause-grows c =
+    let tap = c.tap-item.result in
+    let before = ap (λ (r : DayRides). r.paid) c.get-before.ensures in
+    let after = ap (λ (r : DayRides). r.paid) (c.get-after.ensures ∙ c.in_ok-add.ensures.ok c.of-account.result c.args.day) in
+    let more = paid_grows (same_account (account_of tap) c.of-account.result && tap.tap.day == c.args.day) c.hop_of.result (rides_by c.loop-tap.so_far c.of-account.result c.args.day) tap.tap.moment in
+    omega (arith, before, after, more)
 
 pub loop-tap-preserved : goal.loop-tap-preserved
 loop-tap-preserved c =
