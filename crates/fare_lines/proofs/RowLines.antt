@@ -41,3 +41,10 @@ cut_back old line mid out new n at ended front cut =
 pub where_failed : {E : Type 0} {P : Type 0} (r : Result (Unit {0}) E) → P → OnErr r P
 where_failed (Ok u) p = tt
 where_failed (Err e) p = p
+
+-- what stood in front of them does so where the list before the last row does
+pub front_behind : (old rows before new : List ℕ) → before ≡ old ++ rows → take (length before) new ≡ before → take (length old) new ≡ old
+front_behind old rows before new is front =
+    let behind = drop (length before) new in
+    front_stays old (rows ++ behind) new
+    (sym (take-append-drop (length before) new) ∙ ap (λ (l : List ℕ). l ++ behind) (front ∙ is) ∙ append_assoc old rows behind)

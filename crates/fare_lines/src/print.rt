@@ -88,30 +88,118 @@ pub(crate) fn append_line(first: &[u8], rest: &[&[u8]], out: &mut Vec<u8>) -> Re
     appended
 }
 
+/// Appends a word. Its length is one of its type's, so no copying is called for a few bytes. After an error some of it
+/// may stand there.
+fn put_word<const N: usize>(word: &[u8; N], out: &mut Vec<u8>) -> Result<(), AllocError>
+    ensures appended { OnOk result (out.new.items ≡ out.old.items ++ word.now) }
+    ensures front { take (length out.old.items) out.new.items ≡ out.old.items }
+{
+    out.extend_from_slice(word)
+}
+
+/// Appends a space and a number, of which many have one digit. After an error some of it may stand there.
+pub(crate) fn put_number(number: u64, out: &mut Vec<u8>) -> Result<(), AllocError>
+    ensures appended { OnOk result (out.new.items ≡ out.old.items ++ 32 ∷ decimal number) }
+    ensures front { take (length out.old.items) out.new.items ≡ out.old.items }
+{
+    out.push(b' ')?;
+    if number < 10 {
+        out.push(b'0' + number as u8)?;
+        return Ok(());
+    }
+    out.extend_from_slice(Buffer::new().format(number).as_bytes())
+}
+
+/// Appends a name and a number. After an error some of it may stand there.
+pub(crate) fn put_named<const N: usize>(
+    name: &[u8; N],
+    number: u64,
+    out: &mut Vec<u8>,
+) -> Result<(), AllocError>
+    ensures appended { OnOk result (out.new.items ≡ out.old.items ++ name.now ++ 32 ∷ decimal number) }
+    ensures front { take (length out.old.items) out.new.items ≡ out.old.items }
+{
+    put_word(name, out)?;
+    put_number(number, out)
+}
+
+/// Appends a name and a number, and a line feed. After an error some of it may stand there.
+fn put_number_line<const N: usize>(
+    name: &[u8; N],
+    number: u64,
+    out: &mut Vec<u8>,
+) -> Result<(), AllocError>
+    ensures appended { OnOk result (out.new.items ≡ out.old.items ++ words_line (name.now ∷ decimal number ∷ [])) }
+    ensures front { take (length out.old.items) out.new.items ≡ out.old.items }
+{
+    put_named(name, number, out)?;
+    out.push(b'\n')?;
+    Ok(())
+}
+
+/// Appends a name, a number, a word and a number, and a line feed. After an error some of it may stand there.
+fn put_numbers_line<const N: usize, const M: usize>(
+    name: &[u8; N],
+    first: u64,
+    word: &[u8; M],
+    second: u64,
+    out: &mut Vec<u8>,
+) -> Result<(), AllocError>
+    ensures appended { OnOk result (out.new.items ≡ out.old.items ++ words_line (name.now ∷ decimal first ∷ word.now ∷ decimal second ∷ [])) }
+    ensures front { take (length out.old.items) out.new.items ≡ out.old.items }
+{
+    put_named(name, first, out)?;
+    out.push(b' ')?;
+    put_named(word, second, out)?;
+    out.push(b'\n')?;
+    Ok(())
+}
+
 /// Appends a name and a number.
-fn append_number(name: &[u8], number: u64, out: &mut Vec<u8>) -> Result<(), AllocError>
+fn append_number<const N: usize>(
+    name: &[u8; N],
+    number: u64,
+    out: &mut Vec<u8>,
+) -> Result<(), AllocError>
     ensures appended { OnOk result (out.new.items ≡ out.old.items ++ words_line (name.now ∷ decimal number ∷ [])) }
     ensures kept { OnErr result (out.new.items ≡ out.old.items) }
 {
-    append_line(name, &[Buffer::new().format(number).as_bytes()], out)
+    let length = out.len();
+    let appended = put_number_line(name, number, out);
+    if appended.is_err() {
+        out.truncate(length);
+    }
+    appended
 }
 
 /// Appends a name, a number, a word and a number.
-fn append_numbers(
-    name: &[u8],
+fn append_numbers<const N: usize, const M: usize>(
+    name: &[u8; N],
     first: u64,
-    word: &[u8],
+    word: &[u8; M],
     second: u64,
     out: &mut Vec<u8>,
 ) -> Result<(), AllocError>
     ensures appended { OnOk result (out.new.items ≡ out.old.items ++ words_line (name.now ∷ decimal first ∷ word.now ∷ decimal second ∷ [])) }
     ensures kept { OnErr result (out.new.items ≡ out.old.items) }
 {
-    let mut one = Buffer::new();
-    let mut two = Buffer::new();
-    let first = one.format(first).as_bytes();
-    let second = two.format(second).as_bytes();
-    append_line(name, &[first, word, second], out)
+    let length = out.len();
+    let appended = put_numbers_line(name, first, word, second, out);
+    if appended.is_err() {
+        out.truncate(length);
+    }
+    appended
+}
+
+/// Appends the two numbers of a record. After an error some of it may stand there.
+fn put_record(link: u64, lane: u64, out: &mut Vec<u8>) -> Result<(), AllocError>
+    ensures appended { OnOk result (out.new.items ≡ out.old.items ++ reply_text (Reply.Recorded link lane)) }
+    ensures front { take (length out.old.items) out.new.items ≡ out.old.items }
+{
+    put_named(b"record", link, out)?;
+    put_number(lane, out)?;
+    out.push(b'\n')?;
+    Ok(())
 }
 
 /// Appends the two numbers of a record.
@@ -119,11 +207,26 @@ fn append_record(link: u64, lane: u64, out: &mut Vec<u8>) -> Result<(), AllocErr
     ensures appended { OnOk result (out.new.items ≡ out.old.items ++ reply_text (Reply.Recorded link lane)) }
     ensures kept { OnErr result (out.new.items ≡ out.old.items) }
 {
-    let mut one = Buffer::new();
-    let mut two = Buffer::new();
-    let link = one.format(link).as_bytes();
-    let lane = two.format(lane).as_bytes();
-    append_line(b"record", &[link, lane], out)
+    let length = out.len();
+    let appended = put_record(link, lane, out);
+    if appended.is_err() {
+        out.truncate(length);
+    }
+    appended
+}
+
+/// Appends the packet of an acknowledgement, with its device and its last link. After an error some of it may stand
+/// there.
+fn put_answer(packet: u64, device: u64, upto: u64, out: &mut Vec<u8>) -> Result<(), AllocError>
+    ensures appended { OnOk result (out.new.items ≡ out.old.items ++ reply_text (Reply.Answered packet device upto)) }
+    ensures front { take (length out.old.items) out.new.items ≡ out.old.items }
+{
+    put_named(b"packet", packet, out)?;
+    out.push(b' ')?;
+    put_named(b"ack", device, out)?;
+    put_number(upto, out)?;
+    out.push(b'\n')?;
+    Ok(())
 }
 
 /// Appends the packet of an acknowledgement, with its device and its last link.
@@ -131,13 +234,12 @@ fn append_answer(packet: u64, device: u64, upto: u64, out: &mut Vec<u8>) -> Resu
     ensures appended { OnOk result (out.new.items ≡ out.old.items ++ reply_text (Reply.Answered packet device upto)) }
     ensures kept { OnErr result (out.new.items ≡ out.old.items) }
 {
-    let mut one = Buffer::new();
-    let mut two = Buffer::new();
-    let mut three = Buffer::new();
-    let packet = one.format(packet).as_bytes();
-    let device = two.format(device).as_bytes();
-    let upto = three.format(upto).as_bytes();
-    append_line(b"packet", &[packet, b"ack", device, upto], out)
+    let length = out.len();
+    let appended = put_answer(packet, device, upto, out);
+    if appended.is_err() {
+        out.truncate(length);
+    }
+    appended
 }
 
 /// Appends a refusal that two counts are shown with.

@@ -2,27 +2,24 @@ ghost use Rattle.std.specs.Prelude.{◌≡◌, ◌++◌, OnOk, OnErr, length, ta
 ghost use Rattle.fare_world.specs.declared.reply.Reply.TheVariants as reply;
 ghost use Rattle.fare_lines.specs.Replies.{account_words, operator_words, reply_text, reply_words, rows_text, words_line};
 
-use crate::print::append_line;
+use crate::print::{append_line, put_named, put_number};
 use fare_cap::{Bill, Row};
 use fare_record::{Day, OwnerId};
 use fare_settle::{Settled, Settlement};
 use itoa::Buffer;
 use std::alloc::AllocError;
 
-/// Appends an account's row of a bill.
-fn append_account(row: &Row, out: &mut Vec<u8>) -> Result<(), AllocError>
+/// Appends an account's row of a bill. After an error some of it may stand there.
+fn put_account(row: &Row, out: &mut Vec<u8>) -> Result<(), AllocError>
     ensures appended { OnOk result (out.new.items ≡ out.old.items ++ words_line (account_words row.now)) }
-    ensures kept { OnErr result (out.new.items ≡ out.old.items) }
+    ensures front { take (length out.old.items) out.new.items ≡ out.old.items }
 {
-    let mut one = Buffer::new();
-    let mut two = Buffer::new();
-    let mut three = Buffer::new();
-    let mut four = Buffer::new();
-    let product = one.format(row.account.product().get()).as_bytes();
-    let token = two.format(row.account.token().get()).as_bytes();
-    let rides = three.format(row.rides).as_bytes();
-    let amount = four.format(row.amount.get()).as_bytes();
-    append_line(b"account", &[product, token, rides, amount], out)
+    put_named(b"account", u64::from(row.account.product().get()), out)?;
+    put_number(row.account.token().get(), out)?;
+    put_number(row.rides, out)?;
+    put_number(u64::from(row.amount.get()), out)?;
+    out.push(b'\n')?;
+    Ok(())
 }
 
 /// Appends an operator's row of a settlement.
@@ -45,7 +42,7 @@ fn append_accounts(rows: &[Row], out: &mut Vec<u8>) -> Result<(), AllocError>
     ensures front { take (length out.old.items) out.new.items ≡ out.old.items }
 {
     for row in rows {
-        append_account(row, out)?;
+        put_account(row, out)?;
     }
     Ok(())
 }

@@ -1,0 +1,12 @@
+use Rattle.std.proofs.Common.{◌≡◌, ◌+◌, ◌++◌, ◌∷◌, [], List, ℕ, ap, sym, ◌∙◌, append_assoc, arith}
+use Rattle.std.proofs.lemmas.Fmt.{decimal_digit}
+use Rattle.fare_lines.proofs.print.put_number.Goals as goal
+
+pub returns-then-number-lt10-clause-appended : goal.returns-then-number-lt10-clause-appended
+returns-then-number-lt10-clause-appended c =
+    let old = c.args.out.now.items in
+    let digit = 48 + c.args.number in
+    let behind : c.push-then-number-lt10.new.self.items ≡ c.push.new.self.items ++ digit ∷ [] =
+    c.in_ok-push-2.ensures.items ∙ ap (λ n. c.push.new.self.items ++ n ∷ []) (omega (arith, c.if-number-lt10.true)) in
+    behind ∙ ap (λ (l : List ℕ). l ++ digit ∷ []) c.in_ok-push.ensures.items ∙ append_assoc old (32 ∷ []) (digit ∷ [])
+    ∙ ap (λ l. old ++ 32 ∷ l) (sym (decimal_digit c.args.number (omega (arith, c.if-number-lt10.true))))
