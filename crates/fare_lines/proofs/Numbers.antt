@@ -5,11 +5,13 @@ use Rattle.std.specs.List.{All, AllByRecursion, join_with_byte, slice_split}
 use Rattle.std.specs.Fmt.{decimal}
 use Rattle.std.specs.Char.{digit_value, is_ascii_digit}
 use Rattle.std.specs.Str.Parse.{AllDigits, digits_value}
+use Rattle.std.proofs.Math.Nat.{pow-le-pow_right}
+use Rattle.std.proofs.lemmas.List.{length-take}
 use Rattle.std.proofs.lemmas.Bool.Decides.{nat_tests}
 use Rattle.std.proofs.lemmas.Bool.{ne_eqb}
 use Rattle.std.proofs.lemmas.Grind.{common_steps}
 use Rattle.std.proofs.lemmas.List.Splits.{slice_split_none, slice_split_at, join_with_byte-slice_split}
-use Rattle.std.proofs.lemmas.Int.Digits.{digits_more, digits_value_more}
+use Rattle.std.proofs.lemmas.Int.Digits.{digits_more, digits_value_more, digits_value-lt}
 use Rattle.std.proofs.lemmas.Str.{digit_value_digit}
 use Rattle.std.proofs.lemmas.Str.Parse.{IsNumeralModel, numerals_by_value, tells_digits, digit_at, digits_value-take-le}
 use Rattle.std.proofs.lemmas.Fmt.{decimal-digits_value, digits_value-decimal, decimal_nonempty, decimal_digit, decimal_injective, digits_decimal, first_decimal}
@@ -40,7 +42,7 @@ digits_are_none word None none = λ n small is.
     none own.0 own.1
 
 -- the digits so far
-digit_of : (byte : ℕ) → is_ascii_digit byte ≡ true → (48 ≤ byte) × (byte ≤ 57)
+pub digit_of : (byte : ℕ) → is_ascii_digit byte ≡ true → (48 ≤ byte) × (byte ≤ 57)
 digit_of byte digit = (grind (arith, nat_tests), grind (arith, nat_tests))
 
 is_digit_of : (byte : ℕ) → 48 ≤ byte → byte ≤ 57 → is_ascii_digit byte ≡ true
@@ -63,6 +65,13 @@ not_all_digits word i below other all =
 pub too_large : (word : List ℕ) (i number : ℕ) → i < length word → is_ascii_digit (get_or word i 0) ≡ true → AllDigits 10 (take i word) → number ≡ digits_value 10 (take i word) → 2 ^ 64 ≤ number * 10 + (get_or word i 0 - 48) → digits_value 10 word < 2 ^ 64 → ⊥
 too_large word i number below digit all is large small =
     omega (arith, (one_digit_more word i number below digit all is).1, digits_value-take-le 10 word (i + 1) (omega arith), large, small)
+
+-- fewer than 19 digits spell a number of which ten times as much, and a digit, has 64 bits
+pub few_digits : (word : List ℕ) (i number : ℕ) → i < length word → length word ≤ 19 → AllDigits 10 (take i word) → number ≡ digits_value 10 (take i word) → number < 1000000000000000000
+few_digits word i number below short all is =
+    let value : digits_value 10 (take i word) < 10 ^ length (take i word) = digits_value-lt 10 (take i word) all in
+    let most : 10 ^ length (take i word) ≤ 10 ^ 18 = pow-le-pow_right {n = 10} (omega arith) {i = length (take i word)} {j = 18} (omega (arith, below, short, length-take i word)) in
+    omega (arith, is, value, most)
 
 pub take_all : (k : ℕ) (xs : List ℕ) → length xs ≤ k → take k xs ≡ xs
 take_all k xs whole = grind (arith, common_steps)

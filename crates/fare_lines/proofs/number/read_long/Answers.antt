@@ -1,6 +1,6 @@
 use Rattle.std.proofs.Common.{◌≤◌, ◌*◌, ◌^◌, ◌∙◌, arith, sym}
 use Rattle.fare_lines.proofs.Numbers.{if_none, not_all_digits, one_digit_more, take_all, too_large}
-use Rattle.fare_lines.proofs.number.read_digits.Goals as goal
+use Rattle.fare_lines.proofs.number.read_long.Goals as goal
 
 pub returns-then-not-is_ascii_digit-clause-none : goal.returns-then-not-is_ascii_digit-clause-none
 returns-then-not-is_ascii_digit-clause-none c = λ all small.
