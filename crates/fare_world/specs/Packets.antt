@@ -1,12 +1,7 @@
 -- What a packet's bytes say.
-use Rattle.std.specs.Prelude.{◌≡◌, ◌-◌, ◌==◌, ℕ, List, Option, Some, None, [], if◌then◌else◌, slice_get}
+use Rattle.std.specs.Prelude.{◌≡◌, ◌-◌, ◌==◌, ℕ, List, Option, Some, None, if◌then◌else◌, slice_get}
 use Rattle.fare_frame.specs.Grammar.{frame_bytes, IsFrame}
 use Rattle.fare_frame.specs.declared.frame.Frame.{Frame}
-
--- the bytes of what was written
-abbrev pub bytes_of : Option Frame → List ℕ
-bytes_of None = []
-bytes_of (Some f) = frame_bytes f
 
 -- where the bytes are a frame's, that frame was read
 abbrev pub IsRead : List ℕ → Option Frame → Type 0

@@ -106,7 +106,7 @@ impl<O: Outbox + Drop, L: Ledger + Drop> World<O, L> {
             Event::Send { device } => self.send(device),
             Event::Rewind { device } => Ok(self.rewind(device)),
             Event::State { device, day, owner } => self.state(device, day, owner),
-            Event::Arrive { packet } => self.arrive(packet),
+            Event::Arrive { packet } => Ok(self.arrive(packet)),
             Event::Draw => Ok(self.draw()),
             Event::Store => self.store(),
             Event::Ack { device } => self.ack(device),

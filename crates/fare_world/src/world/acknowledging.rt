@@ -93,9 +93,7 @@ impl<O: Outbox + Drop, L: Ledger + Drop> World<O, L> {
         let Some(answer) = self.stations[place].line.front().copied() else {
             return Ok(Reply::Empty);
         };
-        let mut packet = Packet::new(self.alloc)?;
-        packet.write(&Frame::acknowledging(&answer));
-        self.air.push(packet)?;
+        self.air.push(Packet::of(&Frame::acknowledging(&answer)))?;
         self.stations[place].line.pop_front();
         Ok(answered(self.air.len() as u64, &answer))
     }

@@ -21,25 +21,25 @@ use fare_store::{Fault, Ledger, Outbox, Refused, StatedFault, StoreFault};
 
 impl<O: Outbox + Drop, L: Ledger + Drop> World<O, L> {
     // A packet, numbered from 1, comes to where it was sent.
-    pub(super) fn arrive(&mut self, packet: u64) -> Result<Reply, Fault>
-        ensures { Applied O.standing L.standing self.old self.new (event.Arrive packet) result }
+    pub(super) fn arrive(&mut self, packet: u64) -> Reply
+        ensures { IsStepped O.standing L.standing self.old self.new (event.Arrive packet) result }
     {
-        let Some(frame) = self.frame_in(packet)? else {
-            return Ok(Reply::Refused(Refusal::NoPacket));
+        let Some(frame) = self.frame_in(packet) else {
+            return Reply::Refused(Refusal::NoPacket);
         };
         if let Some(tapped) = frame.tapped() {
-            return Ok(self.collect(tapped));
+            return self.collect(tapped);
         }
         if let Some(statement) = frame.stated() {
-            return Ok(self.collect_statement(statement));
+            return self.collect_statement(statement);
         }
         if let Some(ack) = frame.acked() {
-            return Ok(self.hear(ack));
+            return self.hear(ack);
         }
         if let Some(ack) = frame.day_acked() {
-            return Ok(self.hear_day(ack));
+            return self.hear_day(ack);
         }
-        Ok(Reply::Refused(Refusal::NoPacket))
+        Reply::Refused(Refusal::NoPacket)
     }
 
     // A tap comes to the station of its device.
@@ -91,14 +91,10 @@ impl<O: Outbox + Drop, L: Ledger + Drop> World<O, L> {
     }
 
     // The frame in the packet of a number, from 1; None where the air has no such packet.
-    fn frame_in(&self, packet: u64) -> Result<Option<Frame>, Fault>
-        ensures read { IfOk result (λ read. IsPacketRead (bytes_at self.now.air.items packet) read) }
-        ensures memory { IfErr result (λ fault. (fault ≡ Fault.Memory) × IsSome (bytes_at self.now.air.items packet)) }
+    fn frame_in(&self, packet: u64) -> Option<Frame>
+        ensures { IsPacketRead (bytes_at self.now.air.items packet) result }
     {
-        let Some(packet) = self.packet(packet) else {
-            return Ok(None);
-        };
-        Ok(packet.read(self.alloc)?)
+        self.packet(packet).map(|packet| packet.frame())
     }
 
     // The packet of a number, from 1.

@@ -71,9 +71,7 @@ impl<O: Outbox + Drop, L: Ledger + Drop> World<O, L> {
         let Ok(frame) = self.devices[place].statement(day, owner) else {
             return Ok(Reply::Refused(Refusal::NotWaiting));
         };
-        let mut packet = Packet::new(self.alloc)?;
-        packet.write(&frame);
-        self.air.push(packet)?;
+        self.air.push(Packet::of(&frame))?;
         Ok(Reply::SentDay {
             packet: self.air.len() as u64,
             day,
@@ -103,15 +101,13 @@ impl<O: Outbox + Drop, L: Ledger + Drop> World<O, L> {
             return Ok(Reply::Idle);
         }
         // The room comes first, since the device moves on with its answer.
-        let mut packet = Packet::new(self.alloc)?;
         self.air.reserve(1)?;
         let device = &mut self.devices[place];
         let Some(frame) = device.next_frame() else {
             unreachable!()
         };
         let link = device.sent();
-        packet.write(&frame);
-        if self.air.push(packet).is_err() {
+        if self.air.push(Packet::of(&frame)).is_err() {
             unreachable!()
         }
         Ok(Reply::Sent {

@@ -39,7 +39,7 @@ returns-in_err-push g c =
     let within : k < length w.stations = omega (arith, c.in-Some.ensures.within, c.args.self.now.rooms.station_count) in
     let front : slice_get x.line.items 0 ≡ Some a = sym c.front.ensures ∙ sym c.copied.ensures ∙ c.in-Some-copied.is in
     let some : 0 < length x.line.items = slice_get_within x.line.items 0 a front in
-    applied_err g.O.Outbox.standing g.L.Ledger.standing c.args.self.now _ _ c.from_residual-in_err-push.result _ c.from_residual-in_err-push.ensures.1 (unchanged g.O.Outbox.standing g.L.Ledger.standing _ _ _ refl (same_stores _ _ refl refl) (λ i. record (shape (seen g.O.Outbox.standing g.L.Ledger.standing c.args.self.now)) { air = c.in_err-push.ensures.items i }) (λ s sh. answer_may_fail w.scheme (shape w) s c.args.station k (station_shape x) sh at (station_read w c.args.station k x at within c.index.ensures) some))
+    applied_err g.O.Outbox.standing g.L.Ledger.standing c.args.self.now _ _ c.from_residual.result _ c.from_residual.ensures.1 (unchanged g.O.Outbox.standing g.L.Ledger.standing _ _ _ refl (same_stores _ _ refl refl) (λ i. record (shape (seen g.O.Outbox.standing g.L.Ledger.standing c.args.self.now)) { air = c.in_err-push.ensures.items i }) (λ s sh. answer_may_fail w.scheme (shape w) s c.args.station k (station_shape x) sh at (station_read w c.args.station k x at within c.index.ensures) some))
 
 pub returns : goal.returns
 returns g c =
@@ -49,25 +49,12 @@ returns g c =
     let a = c.in-Some-copied.answer in
     let at = sym c.station_position.ensures.value ∙ c.in-Some.is in
     let within : k < length w.stations = omega (arith, c.in-Some.ensures.within, c.args.self.now.rooms.station_count) in
-    let pushed : c.push.new.self.items ≡ w.air ++ frame_bytes (frame_of a) ∷ [] = c.in_ok-push.ensures.items ∙ ap (λ b. w.air ++ b ∷ []) (c.write.ensures.bytes ∙ ap frame_bytes c.acknowledging.ensures) in
+    let pushed : c.push.new.self.items ≡ w.air ++ frame_bytes (frame_of a) ∷ [] = c.in_ok-push.ensures.items ∙ ap (λ b. w.air ++ b ∷ []) (c.of.ensures.bytes ∙ ap frame_bytes c.acknowledging.ensures) in
     let count : c.len.result ≡ length c.push.new.self.items = grind (arith, common_steps) in
     let read : c.index.result.now ≡ x = same_station w k c.index.result.now x within c.index.ensures c.index_mut.ensures.value in
     let first : slice_get x.line.items 0 ≡ Some a = ap (λ (z : Station). slice_get z.line.items 0) (sym read) ∙ sym c.front.ensures ∙ sym c.copied.ensures ∙ c.in-Some-copied.is in
     let front : x.line.items ≡ a ∷ c.pop_front.new.self.items = front_and_rest x.line.items c.pop_front.new.self.items a first (ap (λ (b : Buffer AckItem). b.items) c.pop_front.ensures.items) in
-    steps g.O.Outbox.standing g.L.Ledger.standing c.args.self.now _ _ _ refl (same_stores _ _ refl refl) (λ s sh. world_answered w s c.args.station k c.len.result x (record x { line = c.pop_front.new.self }) a c.push.new.self.items c.answered.result sh at within c.index_mut.ensures.value front refl (subst IsFrame c.acknowledging.ensures c.write.ensures.lawful) pushed count c.answered.ensures)
-
-pub returns-in_err-packet : goal.returns-in_err-packet
-returns-in_err-packet g c =
-    let a = c.in-Some-copied.answer in
-    let w = seen g.O.Outbox.standing g.L.Ledger.standing c.args.self.now in
-    let k = c.in-Some.place in
-    let x = c.index.result.now in
-    let at = sym c.station_position.ensures.value ∙ c.in-Some.is in
-    let within : k < length w.stations = omega (arith, c.in-Some.ensures.within, c.args.self.now.rooms.station_count) in
-    let front : slice_get x.line.items 0 ≡ Some a = sym c.front.ensures ∙ sym c.copied.ensures ∙ c.in-Some-copied.is in
-    let some : 0 < length x.line.items = slice_get_within x.line.items 0 a front in
-    applied_err g.O.Outbox.standing g.L.Ledger.standing c.args.self.now _ _ c.from_residual.result _ c.from_residual.ensures.1 (unchanged g.O.Outbox.standing g.L.Ledger.standing _ _ _ refl (same_stores _ _ refl refl) refl
-    (λ s sh. answer_may_fail w.scheme (shape w) s c.args.station k (station_shape x) sh at (station_read w c.args.station k x at within c.index.ensures) some))
+    steps g.O.Outbox.standing g.L.Ledger.standing c.args.self.now _ _ _ refl (same_stores _ _ refl refl) (λ s sh. world_answered w s c.args.station k c.len.result x (record x { line = c.pop_front.new.self }) a c.push.new.self.items c.answered.result sh at within c.index_mut.ensures.value front refl (subst IsFrame c.acknowledging.ensures c.of.ensures.lawful) pushed count c.answered.ensures)
 
 pub returns-in_default : goal.returns-in_default
 returns-in_default g c =

@@ -39,22 +39,6 @@ returns-in_default-statement g c =
     let here = device_read w d k x at within c.index.ensures in
     shown_not_waiting w.scheme (shape w) s d k day o owner.0 x sh at owner.1 here (never_stated w.scheme (shape w) s d day o owner.0 x sh owner.1 here c.in_default-statement.ensures.ok.1))
 
-pub returns-in_err-packet : goal.returns-in_err-packet
-returns-in_err-packet g c =
-    let w = seen g.O.Outbox.standing g.L.Ledger.standing c.args.self.now in
-    let d = c.args.device in
-    let day = c.args.day in
-    let o = c.args.owner in
-    let k = c.in-Some.place in
-    let x = c.index.result.now in
-    let at : position_of_device w.scheme d ≡ Some k = sym c.device_position.ensures.value ∙ c.in-Some.is in
-    let owner = some_of (position_of_owner w.scheme o) (ap is_some (sym c.owner_position.ensures.value) ∙ c.if-is_none.ensures) in
-    let within : k < length w.devices = omega (arith, c.in-Some.ensures.within, c.args.self.now.rooms.device_count) in
-    let waits : device.is_waiting x.days day ≡ true = (c.in-Ok.ensures.ok.0 refl).0 in
-    applied_err g.O.Outbox.standing g.L.Ledger.standing c.args.self.now _ _ c.from_residual.result _ c.from_residual.ensures.1
-    (unchanged g.O.Outbox.standing g.L.Ledger.standing c.args.self.now _ _ refl (same_stores _ _ refl refl) refl
-    (λ s sh. state_may_fail w.scheme (shape w) s d k day o owner.0 x sh at owner.1 (device_read w d k x at within c.index.ensures) waits))
-
 pub returns-in_err-push : goal.returns-in_err-push
 returns-in_err-push g c =
     let w = seen g.O.Outbox.standing g.L.Ledger.standing c.args.self.now in
@@ -67,7 +51,7 @@ returns-in_err-push g c =
     let owner = some_of (position_of_owner w.scheme o) (ap is_some (sym c.owner_position.ensures.value) ∙ c.if-is_none.ensures) in
     let within : k < length w.devices = omega (arith, c.in-Some.ensures.within, c.args.self.now.rooms.device_count) in
     let waits : device.is_waiting x.days day ≡ true = (c.in-Ok.ensures.ok.0 refl).0 in
-    applied_err g.O.Outbox.standing g.L.Ledger.standing c.args.self.now _ _ c.from_residual-in_err-push.result _ c.from_residual-in_err-push.ensures.1
+    applied_err g.O.Outbox.standing g.L.Ledger.standing c.args.self.now _ _ c.from_residual.result _ c.from_residual.ensures.1
     (unchanged g.O.Outbox.standing g.L.Ledger.standing c.args.self.now _ _ refl (same_stores _ _ refl refl) (λ i. record (shape w) { air = c.in_err-push.ensures.items i })
     (λ s sh. state_may_fail w.scheme (shape w) s d k day o owner.0 x sh at owner.1 (device_read w d k x at within c.index.ensures) waits))
 
@@ -87,4 +71,4 @@ returns g c =
     let stated : device.stated x day o ≡ Some f = c.in-Ok.ensures.value in
     let pushed : c.push.new.self.items ≡ w.air ++ frame_bytes f ∷ [] = grind (arith, common_steps) in
     let count : c.len.result ≡ length c.push.new.self.items = grind (arith, common_steps) in
-    steps g.O.Outbox.standing g.L.Ledger.standing c.args.self.now _ _ _ refl (same_stores _ _ refl refl) (λ s sh. world_stated w s d k day o owner.0 c.len.result x f c.push.new.self.items sh at owner.1 within c.index.ensures waits stated c.write.ensures.lawful pushed count)
+    steps g.O.Outbox.standing g.L.Ledger.standing c.args.self.now _ _ _ refl (same_stores _ _ refl refl) (λ s sh. world_stated w s d k day o owner.0 c.len.result x f c.push.new.self.items sh at owner.1 within c.index.ensures waits stated c.of.ensures.lawful pushed count)

@@ -1,6 +1,0 @@
-use Rattle.std.proofs.Common.{◌∙◌}
-use Rattle.fare_world.proofs.Packets.{kept_read}
-use Rattle.fare_world.proofs.packet.Packet.read.Goals as goal
-
-pub returns : goal.returns
-returns c = λ f is e. kept_read c.self.inside.frame c.self.invariant f is (c.self.view_is ∙ e)
