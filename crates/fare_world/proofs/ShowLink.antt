@@ -58,16 +58,6 @@ none_read s (Some x) (Some bytes) both read =
     let none : None ≡ Some is.0 = read is.0 is.1 is.2 in
     absurd (cc)
 
--- a packet whose bytes are there
-pub packet_there : (sc : SchemeValue) (h : Shape) (s : System) (n : ℕ) → Shows sc h s → is_some (bytes_at h.air n) ≡ true → is_some (packet_at s n) ≡ true
-packet_there sc h s n w there = by (packet_at s n) (bytes_at h.air n) (packets_match sc h s n w) there
-  where
-    by : (x : Option Packet) (b : Option (List ℕ)) → Both (IsPacketOf s.devices) x b → is_some b ≡ true → is_some x ≡ true
-    by (Some x) (Some b) m t = refl
-    by (Some x) None m t = refl
-    by None (Some b) m t = absurd m
-    by None None m t = absurd (cc)
-
 pub shown_no_packet : (sc : SchemeValue) (h : Shape) (s : System) (n : ℕ) → Shows sc h s → IsPacketRead (bytes_at h.air n) None → Answers sc h (arrive sc s n) (Refused NoPacket)
 shown_no_packet sc h s n w read =
     answers_by sc h (Refused NoPacket) (arrive sc s n) (s, Refused NoPacket) (ap (comes sc s) (none_read s (packet_at s n) (bytes_at h.air n) (packets_match sc h s n w) read)) refl w

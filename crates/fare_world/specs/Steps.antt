@@ -10,7 +10,7 @@ use Rattle.fare_world.specs.declared.reply.Reply.TheVariants.{Refused, Upto, Cou
 use Rattle.fare_world.specs.System.{System}
 use Rattle.fare_world.specs.Knowing.{knows_device, knows_station, knows_owner}
 use Rattle.fare_world.specs.Tapping.{is_waiting, tap, turn, send, rewind, state}
-use Rattle.fare_world.specs.Arriving.{is_full, packet_at, arrive}
+use Rattle.fare_world.specs.Arriving.{is_full, arrive}
 use Rattle.fare_world.specs.Storing.{draw, store, ack, day_ack, answer}
 use Rattle.fare_world.specs.Owning.{forward, fetch, take_event, close, prune}
 use Rattle.fare_world.specs.Billing.{bill, settle}
@@ -81,7 +81,7 @@ may_fail sc s (event.Turn device) = false
 may_fail sc s (event.Send device) = knows_device sc device && nat_lt (s.devices device).cursor (length (s.devices device).taps)
 may_fail sc s (event.Rewind device) = false
 may_fail sc s (event.State device day owner) = knows_device sc device && (knows_owner sc owner && is_waiting (s.devices device).waiting day)
-may_fail sc s (event.Arrive packet) = is_some (packet_at s packet)
+may_fail sc s (event.Arrive packet) = false
 may_fail sc s event.Draw = false
 may_fail sc s event.Store = is_some s.hand
 may_fail sc s (event.Ack device) = has_line_room sc s (station_of sc device)
