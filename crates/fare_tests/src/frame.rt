@@ -11,7 +11,7 @@ pub(crate) const TAPPED: [u8; 49] = [
     0, 0, 0, 0, 0, 0, 0, 0x4d, 0, 0, 0, 0, 0x65, 0x92, 0x80, 0xa0, 0, 0, 0x4d, 0x0b,
 ];
 
-const STATED: [u8; 21] = [
+pub(crate) const STATED: [u8; 21] = [
     0x00, 0x13, 0x02, 0, 0, 0, 1, 0, 0, 0x4d, 0x0b, 0, 1, 0, 0, 0, 0, 0, 0, 0, 3,
 ];
 

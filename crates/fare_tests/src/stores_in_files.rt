@@ -1,10 +1,10 @@
-use crate::frame::{GREETED, TAPPED};
+use crate::frame::{GREETED, STATED, TAPPED};
 use fare_command::Question;
 use fare_desk::DeskFault;
 use fare_record::{Day, OwnerId};
 use fare_run::{AskFailure, AskOptions, ServeFailure, ServeOptions, ask, serve};
 use fare_serve::Limits;
-use fare_trace::ReplayFault;
+use fare_trace::{ReplayFault, replay};
 use fare_world::Refusal;
 use std::io::{self, ErrorKind, Write};
 use std::net::{Ipv4Addr, Net, Shutdown, TcpListener, TcpStream};
@@ -20,10 +20,14 @@ const LIMITS: Limits = Limits {
     patience: 10,
 };
 
-/// Takes what is written, and once it learns the port connects to it, sends a validator's bytes, and ends that side.
+// A scheme of one device.
+const DEMO: &[u8] = b"demo 1 4 4 4\n";
+
+/// Takes what is written, and once it learns the port connects to it, sends a validator's frames, and ends that side.
 #[derive(Drop)]
 struct Dialler<'a, R> {
     rt: &'a R,
+    frames: &'a [&'a [u8]],
     said: Vec<u8>,
     line: Option<TcpStream>,
 }
@@ -35,11 +39,12 @@ fn port_in(line: &[u8]) -> Option<u16> {
 }
 
 impl<'a, R: Net<Listener = TcpListener, Stream = TcpStream>> Dialler<'a, R> {
-    // A line on which these bytes were sent.
+    // A line on which these frames were sent.
     fn dial(&self, port: u16) -> io::Result<TcpStream> {
         let mut stream = TcpStream::connect(self.rt, (Ipv4Addr::LOCALHOST, port))?;
-        stream.write_all(&GREETED)?;
-        stream.write_all(&TAPPED)?;
+        for frame in self.frames {
+            stream.write_all(frame)?;
+        }
         stream.shutdown(Shutdown::Write)?;
         Ok(stream)
     }
@@ -62,13 +67,20 @@ impl<'a, R: Net<Listener = TcpListener, Stream = TcpStream>> Write for Dialler<'
     }
 }
 
-// How serving a scheme with one tap at the door ended, and what was written behind the port.
+// How serving a scheme with these frames at the door ended, and what was written behind the port.
 fn served<
     R: Net<Listener = TcpListener, Stream = TcpStream> + Threads + Wait + Clock + Eprint + Sync,
->(rt: &HostRuntime, handles: &R, path: &str, scheme: &[u8]) -> (Result<(), ServeFailure>, Vec<u8>) {
+>(
+    rt: &HostRuntime,
+    handles: &R,
+    path: &str,
+    scheme: &[u8],
+    frames: &[&[u8]],
+) -> (Result<(), ServeFailure>, Vec<u8>) {
     let mut input = scheme;
     let mut output = Dialler {
         rt: handles,
+        frames,
         said: Vec::new(rt.alloc()),
         line: None,
     };
@@ -90,7 +102,7 @@ fn a_tap_that_is_sent_again_is_stored_and_taken_once(rt: HostRuntime) {
         b"stored 1\ntaken 1 1\nleft 0\n".as_slice(),
         b"stored 0\ntaken 1 0\nleft 0\n",
     ] {
-        let (ended, said) = served(&rt, &rt, "served.db", b"demo 1 4 4 4\n");
+        let (ended, said) = served(&rt, &rt, "served.db", DEMO, &[&GREETED, &TAPPED]);
         assert_eq!(rt; (ended, said.as_slice()), (Ok(()), counts));
     }
 }
@@ -108,14 +120,14 @@ fn what_comes_before_serving_writes_nothing(rt: HostRuntime) {
         (b"demo 1 4 4 4\n", ServeFailure::Store),
     ];
     for (scheme, failure) in cases {
-        let (ended, said) = served(&rt, &rt, "no-such-folder/served.db", scheme);
+        let (ended, said) = served(&rt, &rt, "no-such-folder/served.db", scheme, &[]);
         assert_eq!(rt; (ended, said.len()), (Err(failure), 0));
     }
 }
 
 // How a question of the stores at a path ends, and what is written.
 fn asked(rt: &HostRuntime, path: &str, question: Question) -> (Result<(), AskFailure>, Vec<u8>) {
-    let mut input = b"demo 1 4 4 4\n".as_slice();
+    let mut input = DEMO;
     let mut output = Vec::new(rt.alloc());
     let options = AskOptions { path, question };
     let ended = ask(rt, &options, &mut input, &mut output);
@@ -125,7 +137,7 @@ fn asked(rt: &HostRuntime, path: &str, question: Question) -> (Result<(), AskFai
 // One tap is served; its day isn't closed, for want of a statement, so it has no bill.
 #[test]
 fn questions_of_what_was_served(rt: HostRuntime) {
-    let (ended, _) = served(&rt, &rt, "asked.db", b"demo 1 4 4 4\n");
+    let (ended, _) = served(&rt, &rt, "asked.db", DEMO, &[&GREETED, &TAPPED]);
     assert_eq!(rt; ended, Ok(()));
     let owner = OwnerId::new(1).expect(&rt, "owner");
     let day = Day::new(19_722).expect(&rt, "day");
@@ -153,4 +165,131 @@ fn questions_of_stores_that_are_not_there(rt: HostRuntime) {
         let none = Err(AskFailure::Stores(ServeFailure::Store));
         assert_eq!(rt; (ended, said.len()), (none, 0));
     }
+}
+
+// The same tap and the same statement of its day as a trace.
+const TRACE: &[u8] = b"demo 1 4 4 4
+tap 1 1 77 1704100000
+send 1
+arrive 1
+draw
+store
+forward 1 1
+fetch 1
+take 1
+turn 1
+state 1 19723 1
+arrive 2
+draw
+store
+forward 1 1
+fetch 1
+take 1
+close 1 1 19723
+bill 1 19723
+settle 1 19723
+";
+
+// What `close` says in front of the reply to the close of a trace.
+const TRIED: &[u8] = b"close 1 1 19723: ";
+
+// What the questions that close the day, bill it and settle it write, one after the other, but for what `close` says
+// first.
+fn closed_and_billed(rt: &HostRuntime, path: &str) -> Option<Vec<u8>> {
+    let owner = OwnerId::new(1)?;
+    let day = Day::new(19_723)?;
+    let (closed, tries) = asked(rt, path, Question::Close);
+    let (billed, bill) = asked(rt, path, Question::Bill { owner, day });
+    let (settled, settlement) = asked(rt, path, Question::Settle { owner, day });
+    if closed.is_err() || billed.is_err() || settled.is_err() {
+        return None;
+    }
+    let mut lines = Vec::new(rt.alloc());
+    lines.extend_from_slice(tries.strip_prefix(TRIED)?).ok()?;
+    lines.extend_from_slice(&bill).ok()?;
+    lines.extend_from_slice(&settlement).ok()?;
+    Some(lines)
+}
+
+// What the questions write of a store that was served is what a replay of the same tap writes.
+#[test]
+fn a_served_tap_is_closed_and_billed_as_a_replayed_one(rt: HostRuntime) {
+    // The last byte of a statement is its count.
+    let mut stated = STATED;
+    stated[20] = 1;
+    let frames: [&[u8]; 3] = [&GREETED, &TAPPED, &stated];
+    let (ended, _) = served(&rt, &rt, "billed.db", DEMO, &frames);
+    assert_eq!(rt; ended, Ok(()));
+    let lines = closed_and_billed(&rt, "billed.db").expect(&rt, "answers");
+    let want =
+        b"closed 1 19723\nbill 1 19723 1 175\naccount 1 77 1 175\nsettlement 1 19723 1\noperator 1 1 175\n";
+    assert_eq!(rt; lines.as_slice(), want.as_slice());
+    let mut replies = Vec::new(rt.alloc());
+    let mut trace = TRACE;
+    assert_eq!(rt; replay(rt.alloc(), &mut trace, &mut replies), Ok(()));
+    assert!(rt; replies.as_slice().ends_with(want));
+}
+
+/// Takes what is written, and once serving has begun asks where the stores stand and has their days closed.
+#[derive(Drop)]
+struct Asker<'a> {
+    rt: &'a HostRuntime,
+    path: &'a str,
+    shown: Result<(), AskFailure>,
+    closed: Result<(), AskFailure>,
+}
+
+impl<'a> Write for Asker<'a> {
+    fn write(&mut self, bytes: &[u8]) -> io::Result<usize> {
+        if port_in(bytes).is_some() {
+            let (shown, _) = asked(self.rt, self.path, Question::Stand);
+            let (closed, _) = asked(self.rt, self.path, Question::Close);
+            self.shown = shown;
+            self.closed = closed;
+        }
+        Ok(bytes.len())
+    }
+
+    fn flush(&mut self) -> io::Result<()> {
+        Ok(())
+    }
+}
+
+// How these two questions end while the stores at a path are served; well where none was asked.
+fn asked_while_served<
+    R: Net<Listener = TcpListener, Stream = TcpStream> + Threads + Wait + Clock + Eprint + Sync,
+>(rt: &HostRuntime, handles: &R, path: &str) -> (Result<(), AskFailure>, Result<(), AskFailure>) {
+    let mut input = DEMO;
+    let mut output = Asker {
+        rt,
+        path,
+        shown: Ok(()),
+        closed: Ok(()),
+    };
+    let options = ServeOptions {
+        port: 0,
+        path,
+        limits: Limits { turns: 4, ..LIMITS },
+        until: None,
+    };
+    let ended = serve(rt, handles, &options, &mut input, &mut output);
+    let Asker { shown, closed, .. } = output;
+    if ended.is_err() {
+        return (Ok(()), Ok(()));
+    }
+    (shown, closed)
+}
+
+// While the stores are served their files are locked: a question fails, and they hold what they held.
+#[test]
+fn a_question_of_locked_stores(rt: HostRuntime) {
+    let (ended, _) = served(&rt, &rt, "locked.db", DEMO, &[&GREETED, &TAPPED]);
+    assert_eq!(rt; ended, Ok(()));
+    let (_, before) = asked(&rt, "locked.db", Question::Stand);
+    let (shown, closed) = asked_while_served(&rt, &rt, "locked.db");
+    let locked = Err(AskFailure::Stores(ServeFailure::Store));
+    assert_eq!(rt; shown, locked);
+    assert_eq!(rt; closed, locked);
+    let (ended, after) = asked(&rt, "locked.db", Question::Stand);
+    assert_eq!(rt; (ended, after.as_slice()), (Ok(()), before.as_slice()));
 }
