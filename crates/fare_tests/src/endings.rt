@@ -80,6 +80,10 @@ fn each_failure_has_its_line(rt: HostRuntime) {
             "bad line 2",
         ),
         (
+            Failure::Serve(ServeFailure::Lines(ReplayFault::Read)),
+            "read failed",
+        ),
+        (
             Failure::Serve(ServeFailure::Refused(Refusal::Taken)),
             "scheme refused Taken",
         ),
