@@ -17,7 +17,7 @@ fn put_account(row: &Row, out: &mut Vec<u8>) -> Result<(), AllocError>
     put_named(b"account", u64::from(row.account.product().get()), out)?;
     put_number(row.account.token().get(), out)?;
     put_number(row.rides, out)?;
-    put_number(u64::from(row.amount.get()), out)?;
+    put_number(row.amount.get(), out)?;
     out.push(b'\n')?;
     Ok(())
 }
