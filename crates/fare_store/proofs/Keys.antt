@@ -14,7 +14,7 @@ eq_then Less q = refl
 eq_then Equal q = refl
 eq_then Greater q = refl
 
-eq_numbers : (a b : ℕ) → is_eq (nat_cmp a b) ≡ (b == a)
+pub eq_numbers : (a b : ℕ) → is_eq (nat_cmp a b) ≡ (b == a)
 eq_numbers a b = grind (arith, nat_tests)
 
 pub same_key : (a b : Key) → is_eq (key_order a b) ≡ (((b.0 == a.0) && (b.1 == a.1)) && (b.2 == a.2))
@@ -43,40 +43,7 @@ upto_by Greater q r a b x y z h = absurd (cc)
 pub comes : (a b : Key) → is_gt (key_order a b) ≡ false → Comes a b
 comes a b h = upto_by (nat_cmp a.0 b.0) (nat_cmp a.1 b.1) (nat_cmp a.2 b.2) a b (ranked a.0 b.0 _ refl) (ranked a.1 b.1 _ refl) (ranked a.2 b.2 _ refl) h
 
-less_or : (o : Ordering) → o ≡ Less → is_gt o ≡ false
-less_or o h = ap is_gt h
-
-less_by : (p q r : Ordering) (a b : Key) → MatchOrdering p (a.0 < b.0) (a.0 ≡ b.0) (b.0 < a.0) → MatchOrdering q (a.1 < b.1) (a.1 ≡ b.1) (b.1 < a.1) → MatchOrdering r (a.2 < b.2) (a.2 ≡ b.2) (b.2 < a.2)
-    → ordering_then (ordering_then p q) r ≡ Less → a.0 ≡ b.0 → a.1 ≡ b.1 → a.2 < b.2
-less_by Less q r a b x y z h e f = absurd (omega (arith, x, e))
-less_by Equal Less r a b x y z h e f = absurd (omega (arith, y, f))
-less_by Equal Equal Less a b x y z h e f = z
-less_by Equal Equal Equal a b x y z h e f = absurd (cc)
-less_by Equal Equal Greater a b x y z h e f = absurd (cc)
-less_by Equal Greater r a b x y z h e f = absurd (cc)
-less_by Greater q r a b x y z h e f = absurd (cc)
-
--- b stands after a
-pub record ComesAfter (a b : Key) : Type 0 where
-  pub upto : Comes a b
-  pub strict : a.0 ≡ b.0 → a.1 ≡ b.1 → a.2 < b.2
-
-pub comes_after : (a b : Key) → key_order a b ≡ Less → ComesAfter a b
-comes_after a b h = record {
-  upto = comes a b (less_or (key_order a b) h);
-  strict = less_by (nat_cmp a.0 b.0) (nat_cmp a.1 b.1) (nat_cmp a.2 b.2) a b (ranked a.0 b.0 _ refl) (ranked a.1 b.1 _ refl) (ranked a.2 b.2 _ refl) h;
-}
-
 -- in one lane
-pub lane_less : (owner device a b : ℕ) → a < b → key_order (owner, device, a) (owner, device, b) ≡ Less
-lane_less owner device a b h = (λ i. ordering_then (ordering_then (itself owner i) (itself device i)) (nat_cmp a b)) ∙ less
-  where
-    itself : (n : ℕ) → nat_cmp n n ≡ Equal
-    itself n = grind (arith, nat_tests)
-
-    less : nat_cmp a b ≡ Less
-    less = grind (arith, nat_tests)
-
 pub lane_upto : (owner device a b : ℕ) → a ≤ b → is_gt (key_order (owner, device, a) (owner, device, b)) ≡ false
 lane_upto owner device a b h = ap is_gt (λ i. ordering_then (ordering_then (itself owner i) (itself device i)) (nat_cmp a b)) ∙ less
   where

@@ -3,6 +3,7 @@ pub mod PlainLemmas
 pub mod Tables
 pub mod Keys
 pub mod Rows
+pub mod Lanes
 pub mod NextRows
 pub mod Pruning
 pub mod LedgerDays

@@ -15,6 +15,7 @@ use Rattle.fare_store.specs.PlainOutboxWords.{held_in}
 use Rattle.fare_store.specs.OutboxWords.{stored, stored_statement}
 use Rattle.fare_store.proofs.Tables.{turned, same_number, put3_is}
 use Rattle.fare_store.proofs.Keys.{same_key}
+use Rattle.fare_store.proofs.Lanes.{Rows}
 
 -- the table of uptos with one more
 pub upto_put : (device link : ℕ) (old new : ℕ → Option ℕ) → ((d : ℕ) → new d ≡ cond (nat_eq device d) (Some link) (old d)) → (d : ℕ) → unwrap_or (new d) 0 ≡ put (λ e. unwrap_or (old e) 0) device link d
@@ -36,28 +37,28 @@ all_three true false u h = absurd (cc)
 all_three false t u h = absurd (cc)
 
 -- what holds of each entry holds still
-pub holds_put : {A : Type 0} (P : ℕ → ℕ → ℕ → A → Type 0) (a b c : ℕ) (value : A) (old new : Key → Option A) → ((q : Key) → new q ≡ cond (is_eq (key_order (a, b, c) q)) (Some value) (old q))
-    → P a b c value → ((x y z : ℕ) (r : A) → old (x, y, z) ≡ Some r → P x y z r) → (x y z : ℕ) (r : A) → new (x, y, z) ≡ Some r → P x y z r
+pub holds_put : {A : Type 0} (P : ℕ → ℕ → ℕ → A → Type 0) (a b c : ℕ) (value : A) (old new : ℕ → ℕ → ℕ → Option A) → ((x y z : ℕ) → new x y z ≡ put3 old a b c (Some value) x y z)
+    → P a b c value → ((x y z : ℕ) (r : A) → old x y z ≡ Some r → P x y z r) → (x y z : ℕ) (r : A) → new x y z ≡ Some r → P x y z r
 holds_put {A} P a b c value old new writes here there x y z r is = by (((x == a) && (y == b)) && (z == c)) refl
   where
-    shown : cond (((x == a) && (y == b)) && (z == c)) (Some value) (old (x, y, z)) ≡ Some r
-    shown = sym (writes (x, y, z) ∙ ap (λ t. cond t (Some value) (old (x, y, z))) (same_key (a, b, c) (x, y, z))) ∙ is
+    shown : cond (((x == a) && (y == b)) && (z == c)) (Some value) (old x y z) ≡ Some r
+    shown = put3_is a b c (Some value) old x y z ∙ sym (writes x y z) ∙ is
 
     by : (t : Bool) → (((x == a) && (y == b)) && (z == c)) ≡ t → P x y z r
     by true same =
         let p = all_three (x == a) (y == b) (z == c) same in
-        let one : ◌≡◌ {A = Option A} (Some value) (Some r) = sym (ap (λ t. cond t (Some value) (old (x, y, z))) same) ∙ shown in
+        let one : ◌≡◌ {A = Option A} (Some value) (Some r) = sym (ap (λ t. cond t (Some value) (old x y z)) same) ∙ shown in
         let is_value : value ≡ r = cc in
         subst (P x y z) is_value (subst (λ w. P w y z value) (sym (same_number x a p.0)) (subst (λ w. P a w z value) (sym (same_number y b p.1)) (subst (λ w. P a b w value) (sym (same_number z c p.2)) here)))
-    by false other = there x y z r (sym (ap (λ t. cond t (Some value) (old (x, y, z))) other) ∙ shown)
+    by false other = there x y z r (sym (ap (λ t. cond t (Some value) (old x y z)) other) ∙ shown)
 
--- what holds of each entry holds of those that are left
-pub holds_left : {A : Type 0} (P : ℕ → ℕ → ℕ → A → Type 0) (key : Key) (old new : Key → Option A) → ((q : Key) → new q ≡ cond (is_eq (key_order key q)) None (old q)) → ((x y z : ℕ) (r : A) → old (x, y, z) ≡ Some r → P x y z r) → (x y z : ℕ) (r : A) → new (x, y, z) ≡ Some r → P x y z r
-holds_left {A} P key old new writes there x y z r is = by (is_eq (key_order key (x, y, z))) refl
+-- each device that was seen still was
+pub seen_put : (device link : ℕ) (old new : ℕ → Option ℕ) → ((d : ℕ) → new d ≡ cond (nat_eq device d) (Some link) (old d)) → (d : ℕ) → is_some (old d) ≡ true → is_some (new d) ≡ true
+seen_put device link old new writes d was = ap is_some (writes d) ∙ by (nat_eq device d)
   where
-    by : (t : Bool) → is_eq (key_order key (x, y, z)) ≡ t → P x y z r
-    by true gone = absurd (let e : ◌≡◌ {A = Option A} None (Some r) = sym (writes (x, y, z) ∙ ap (λ t. cond t None (old (x, y, z))) gone) ∙ is in cc)
-    by false kept = there x y z r (sym (writes (x, y, z) ∙ ap (λ t. cond t None (old (x, y, z))) kept) ∙ is)
+    by : (t : Bool) → is_some (cond t (Some link) (old d)) ≡ true
+    by true = refl
+    by false = was
 
 -- what holds of each link holds still
 pub links_put : (device link : ℕ) (old new : ℕ → Option ℕ) → ((d : ℕ) → new d ≡ cond (nat_eq device d) (Some link) (old d)) → IsNumber link → AreLinks old → AreLinks new
@@ -72,35 +73,18 @@ links_put device link old new writes valid links d k is = by (nat_eq device d) r
 
 -- WHAT AN OUTBOX HOLDS
 -- its maps read the same
-pub same_outbox : (upto links : ℕ → Option ℕ) (rows held : tree.BTreeMap Key RecordValue) (statements : tree.BTreeMap Key ℕ) → ((d : ℕ) → links d ≡ upto d) → held.entries ≡ rows.entries → held_in links held statements ≡ held_in upto rows statements
-same_outbox upto links rows held statements uptos same i = record {
-  upto = λ d. unwrap_or (uptos d i) 0;
-  rows = λ o d l. lookup (λ k. is_eq (key_order (o, d, l) k)) (same i);
-  row_count = length (same i);
-  stated = λ o d l. tree.get key_order statements (o, d, l);
-  stated_count = tree.btree_map_len statements;
-}
+pub same_outbox : (upto links : ℕ → Option ℕ) (rows held : Rows) (count : ℕ) (statements : tree.BTreeMap Key ℕ) → ((d : ℕ) → links d ≡ upto d) → ((o d l : ℕ) → held o d l ≡ rows o d l) → held_in links held count statements ≡ held_in upto rows count statements
+same_outbox upto links rows held count statements uptos same i = record (held_in upto rows count statements) { upto = λ d. unwrap_or (uptos d i) 0; rows = λ o d l. same o d l i }
 
 -- one row more
-pub with_row : (r : RecordValue) (upto links : ℕ → Option ℕ) (rows held : tree.BTreeMap Key RecordValue) (statements : tree.BTreeMap Key ℕ) → ((d : ℕ) → links d ≡ cond (nat_eq r.device d) (Some r.link) (upto d))
-    → ((q : Key) → tree.get key_order held q ≡ cond (is_eq (key_order (r.owner, r.device, r.lane) q)) (Some r) (tree.get key_order rows q))
-    → tree.btree_map_len held ≡ tree.btree_map_len rows + 1 → held_in links held statements ≡ stored r (held_in upto rows statements)
-with_row r upto links rows held statements uptos writes more i = record {
-  upto = λ d. upto_put r.device r.link upto links uptos d i;
-  rows = λ o d l. rows_put r.owner r.device r.lane (Some r) (tree.get key_order rows) (tree.get key_order held) writes o d l i;
-  row_count = more i;
-  stated = λ o d l. tree.get key_order statements (o, d, l);
-  stated_count = tree.btree_map_len statements;
-}
+pub with_row : (r : RecordValue) (upto links : ℕ → Option ℕ) (rows held : Rows) (count : ℕ) (statements : tree.BTreeMap Key ℕ) → ((d : ℕ) → links d ≡ cond (nat_eq r.device d) (Some r.link) (upto d))
+    → ((o d l : ℕ) → held o d l ≡ put3 rows r.owner r.device r.lane (Some r) o d l) → held_in links held (count + 1) statements ≡ stored r (held_in upto rows count statements)
+with_row r upto links rows held count statements uptos more i = record (held_in upto rows (count + 1) statements) { upto = λ d. upto_put r.device r.link upto links uptos d i; rows = λ o d l. more o d l i }
 
 -- one statement more
-pub with_statement : (s : StatementValue) (upto : ℕ → Option ℕ) (rows : tree.BTreeMap Key RecordValue) (statements held : tree.BTreeMap Key ℕ)
-    → ((q : Key) → tree.get key_order held q ≡ cond (is_eq (key_order (s.owner, s.device, s.day) q)) (Some s.count) (tree.get key_order statements q))
-    → tree.btree_map_len held ≡ tree.btree_map_len statements + 1 → held_in upto rows held ≡ stored_statement s (held_in upto rows statements)
-with_statement s upto rows statements held writes more i = record {
-  upto = λ d. unwrap_or (upto d) 0;
-  rows = λ o d l. tree.get key_order rows (o, d, l);
-  row_count = tree.btree_map_len rows;
+pub with_statement : (s : StatementValue) (upto : ℕ → Option ℕ) (rows : Rows) (count : ℕ) (statements held : tree.BTreeMap Key ℕ) → ((q : Key) → tree.get key_order held q ≡ cond (is_eq (key_order (s.owner, s.device, s.day) q)) (Some s.count) (tree.get key_order statements q))
+    → tree.btree_map_len held ≡ tree.btree_map_len statements + 1 → held_in upto rows count held ≡ stored_statement s (held_in upto rows count statements)
+with_statement s upto rows count statements held writes more i = record (held_in upto rows count statements) {
   stated = λ o d l. rows_put s.owner s.device s.day (Some s.count) (tree.get key_order statements) (tree.get key_order held) writes o d l i;
   stated_count = more i;
 }

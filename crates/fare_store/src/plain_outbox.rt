@@ -1,23 +1,33 @@
 ghost use Rattle.std.specs.Prelude.{nat_eq};
 ghost use Rattle.std.specs.HashMap.{get};
-ghost use Rattle.fare_store.specs.PlacedRows.{ArePlaced, AreCounts, AreLinks};
+ghost use Rattle.fare_store.specs.Keys.{same_lane};
+ghost use Rattle.fare_store.specs.PlacedRows.{rows_in, ArePlaced, AreKnown, AreCounts, AreLinks};
 
 mod calls;
 mod holding;
+mod lanes;
 
 use fare_record::{Day, DeviceId, OwnerId, Record};
+use std::alloc::Global;
 use std::collections::{BTreeMap, HashMap};
+
+// An owner's lane of a device.
+type Lane = (OwnerId, DeviceId);
 
 /// The outbox of the hub, in memory. It never answers `Store`.
 pub struct PlainOutbox {
+    alloc: Global,
     // The greatest link that it has had of each device that it saw.
     upto: HashMap<DeviceId, u64>,
-    // The rows by owner, device and lane number.
-    rows: BTreeMap<(OwnerId, DeviceId, u64), Record>,
+    // The rows of each lane that has had one, by lane number.
+    lanes: HashMap<Lane, BTreeMap<u64, Record>>,
+    // How many rows these are.
+    row_count: usize,
     // The counts of the statements by owner, device and day.
     statements: BTreeMap<(OwnerId, DeviceId, Day), u64>,
     ghost seen: { AreLinks (get nat_eq upto) },
-    ghost placed: { ArePlaced rows },
+    ghost placed: { ArePlaced (rows_in (get same_lane lanes)) },
+    ghost known: { AreKnown (get nat_eq upto) (rows_in (get same_lane lanes)) },
     ghost counts: { AreCounts statements },
 }
 
@@ -25,12 +35,14 @@ impl Drop for PlainOutbox {
     // Derived, it would stand map by map in the proof of each function that may let an outbox go.
     fn drop(self) {
         let PlainOutbox {
+            alloc: _,
             upto,
-            rows,
+            lanes,
+            row_count: _,
             statements,
         } = self;
         drop(upto);
-        drop(rows);
+        drop(lanes);
         drop(statements);
     }
 }

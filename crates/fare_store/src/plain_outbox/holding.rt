@@ -1,9 +1,10 @@
-ghost use Rattle.std.specs.Prelude.{◌≡◌, ◌↔◌, None, OnOk, OnErr, IsSome, IsTrue, is_some};
+ghost use Rattle.std.specs.Prelude.{◌≡◌, ◌<◌, ◌↔◌, None, OnOk, OnErr, IsTrue, is_some};
 ghost use Rattle.fare_record.specs.Limits.{IsCount};
 ghost use Rattle.fare_store.specs.OutboxWords.{IsEmptyOutbox, store_judged, stored, stated_judged, stored_statement, IsNextRow, IsNextStatement, pruned, rows_upto};
-ghost use Rattle.fare_store.specs.PlainOutboxWords.{plain_outbox, IsDropped};
+ghost use Rattle.fare_store.specs.PlainOutboxWords.{plain_outbox};
 
 use super::PlainOutbox;
+use super::lanes::{prune_lane, put_row};
 use crate::{StatedFault, StoreFault};
 use fare_record::{Day, DeviceId, OwnerId, Record, Statement};
 use std::alloc::{AllocError, Global};
@@ -19,8 +20,10 @@ impl PlainOutbox {
         ensures { IsEmptyOutbox (plain_outbox result) }
     {
         PlainOutbox {
+            alloc,
             upto: HashMap::new(alloc),
-            rows: BTreeMap::new(alloc),
+            lanes: HashMap::new(alloc),
+            row_count: 0,
             statements: BTreeMap::new(alloc),
         }
     }
@@ -29,7 +32,7 @@ impl PlainOutbox {
     pub(super) fn holds_nothing(&self) -> bool
         ensures { IsTrue result ↔ IsEmptyOutbox (plain_outbox self.now) }
     {
-        self.upto.is_empty() && self.rows.is_empty() && self.statements.is_empty()
+        self.upto.is_empty() && self.row_count == 0 && self.statements.is_empty()
     }
 
     // The greatest link that it has had of a device.
@@ -43,14 +46,16 @@ impl PlainOutbox {
         }
     }
 
-    // Whether there is a row at a place. Behind the last row there is none, and most rows come there.
+    // Whether there is a row at a place. Behind a lane's last row there is none, and most rows come there.
     fn has_row(&self, owner: OwnerId, device: DeviceId, lane: u64) -> bool
         ensures { result ≡ is_some ((plain_outbox self.now).rows owner device lane) }
     {
-        let key = (owner, device, lane);
-        match self.rows.last_key_value() {
-            Some((last, _)) if last.cmp(&key).is_lt() => false,
-            _ => self.rows.contains_key(&key),
+        let Some(rows) = self.lanes.get(&(owner, device)) else {
+            return false;
+        };
+        match rows.last_key_value() {
+            Some((last, _)) if *last < lane => false,
+            _ => rows.contains_key(&lane),
         }
     }
 
@@ -68,7 +73,7 @@ impl PlainOutbox {
         if self.has_row(row.owner(), row.device(), row.lane()) {
             return Err(StoreFault::Conflict);
         }
-        if self.rows.len() >= ROWS {
+        if self.row_count >= ROWS {
             return Err(StoreFault::OutboxFull);
         }
         Ok(())
@@ -76,16 +81,17 @@ impl PlainOutbox {
 
     // Holds one row more, at a place where there is none. At an error nothing changes.
     pub(super) fn push(&mut self, row: &Record) -> Result<(), AllocError>
-        requires { (plain_outbox self.old).rows row.now.owner row.now.device row.now.lane ≡ None }
+        requires free { (plain_outbox self.old).rows row.now.owner row.now.device row.now.lane ≡ None }
+        requires room { (plain_outbox self.old).row_count < 1000000 }
         ensures ok { OnOk result (plain_outbox self.new ≡ stored row.now (plain_outbox self.old)) }
         ensures err { OnErr result (plain_outbox self.new ≡ plain_outbox self.old) }
     {
-        let key = (row.owner(), row.device(), row.lane());
         self.upto.reserve(1)?;
-        self.rows.insert(key, *row)?;
+        put_row(&mut self.lanes, self.alloc, row)?;
         let Ok(_) = self.upto.insert(row.device(), row.link()) else {
             unreachable!()
         };
+        self.row_count += 1;
         Ok(())
     }
 
@@ -117,11 +123,9 @@ impl PlainOutbox {
     pub(super) fn row_after(&self, owner: OwnerId, device: DeviceId, after: u64) -> Option<Record>
         ensures { IsNextRow (plain_outbox self.now).rows owner device after result }
     {
-        let start = Bound::Excluded((owner, device, after));
-        let (_, row) = self.rows.range((start, Bound::Unbounded)).next()?;
-        if row.owner() != owner || row.device() != device {
-            return None;
-        }
+        let rows = self.lanes.get(&(owner, device))?;
+        let behind = (Bound::Excluded(after), Bound::Unbounded);
+        let (_, row) = rows.range(behind).next()?;
         Some(*row)
     }
 
@@ -141,28 +145,13 @@ impl PlainOutbox {
         Some(Statement::new(device, key.2, owner, *count))
     }
 
-    // Lets the row at this place go.
-    fn drop_row(&mut self, owner: OwnerId, device: DeviceId, lane: u64)
-        requires { IsSome ((plain_outbox self.old).rows owner device lane) }
-        ensures { IsDropped (plain_outbox self.old) (plain_outbox self.new) owner device lane }
-    {
-        self.rows.remove(&(owner, device, lane));
-    }
-
     // Lets the rows of a lane go up to a lane number, and answers how many.
     pub(super) fn drop_upto(&mut self, owner: OwnerId, device: DeviceId, upto: u64) -> u64
         ensures count { result ≡ rows_upto upto ((plain_outbox self.old).rows owner device) }
         ensures left { plain_outbox self.new ≡ pruned owner device upto (plain_outbox self.old) }
     {
-        let mut removed = 0;
-        let mut behind = 0;
-        while let Some(row) = self.row_after(owner, device, behind)
-            && row.lane() <= upto
-        {
-            behind = row.lane();
-            self.drop_row(owner, device, behind);
-            removed += 1;
-        }
-        removed
+        let removed = prune_lane(&mut self.lanes, (owner, device), upto);
+        self.row_count = self.row_count.saturating_sub(removed);
+        removed as u64
     }
 }
