@@ -1,212 +1,286 @@
--- The taps of some days, in their order.
-use Rattle.std.proofs.Common.{◌≡◌, ℕ, zero, suc, ◌+◌, ◌-◌, ◌<◌, ◌≤◌, Bool, true, false, List, [], ◌∷◌, ◌++◌, length, get_or, Option, Some, None, refl, sym, ◌∙◌, ap, subst, arith}
-use Rattle.std.specs.Prelude.{if◌then◌else◌, slice_get, nat_lt, All, option_map}
-use Rattle.std.specs.BTreeMap as tree
-use Rattle.std.specs.BTreeMap.Range.{IsInRange, IsEntryInRange, IsRangeOf, EntryPlaces, range_contains, entries_between}
-use Rattle.std.specs.declared.ops.Bound.{Bound}
-use Rattle.std.specs.declared.ops.Bound.TheVariants.{Included, Excluded}
-use Rattle.std.specs.declared.cmp.Ordering.{Ordering}
-use Rattle.std.specs.declared.cmp.Ordering.TheVariants.{Less, Equal, Greater}
-use Rattle.std.specs.Ordering.{ordering_then, nat_cmp, is_eq, is_gt, MatchOrdering}
-use Rattle.std.specs.Cmp.{IsTotalOrder}
-use Rattle.std.specs.Map.{lookup, keys_of, values_of}
+-- The taps of some days: collected day by day, and put in order.
+use Rattle.std.proofs.Common.{◌≡◌, ℕ, zero, suc, ◌+◌, ◌-◌, ◌<◌, ◌≤◌, ◌==◌, Bool, true, false, cond, nat_eq, nat_lt, List, [], ◌∷◌, ◌++◌, length, Contains, Option, Some, None, is_some, refl, sym, ◌∙◌, ap, subst, arith}
+use Rattle.std.specs.Prelude.{◌&&◌, if◌then◌else◌, nat_le, count_by, slice_get, option_to_list}
+use Rattle.std.specs.List.Sorted.{IsPermutation, IsSortedByKey}
+use Rattle.std.specs.Ordering.{is_lt}
+use Rattle.std.proofs.lemmas.Bool.{and_parts}
 use Rattle.std.proofs.lemmas.Bool.Decides.{nat_tests}
-use Rattle.std.proofs.lemmas.Cmp.{ranked, nat_cmp_total, on_total, then_total}
-use Rattle.std.proofs.lemmas.Map.Entries.{place_from_lookup, lookup-filter-keys, length-keys_of}
-use Rattle.std.proofs.lemmas.Map.Keys.{Less-from_sorted}
-use Rattle.std.proofs.lemmas.Map.Views.{by_place, range_contains-from_IsInRange}
-use Rattle.std.proofs.lemmas.Option.{get_or_from_slice_get}
+use Rattle.std.proofs.lemmas.List.{append_assoc, append-nil}
+use Rattle.std.proofs.lemmas.List.MinMax.{ranks_by}
+use Rattle.std.proofs.lemmas.List.Sorted.{sorted_far, sum_by-IsPermutation, Contains-permutation, IsPermutation-sym}
+use Rattle.std.proofs.lemmas.List.Sums.{sum_by-append, sum_by-cons}
+use Rattle.std.proofs.lemmas.Option.{slice_get_within, slice_get_read, get_or_from_slice_get}
 use Rattle.fare_record.specs.Values.{RecordValue}
 use Rattle.fare_store.specs.LedgerWords.{LedgerValue, is_before, AreTapsBetween}
-use Rattle.fare_store.specs.TapPlaces.{Place, place_order, place_of, IsTapAt, AreListed, HasEvery}
-use Rattle.fare_store.proofs.Taps.{same_place}
+use Rattle.fare_store.specs.TapPlaces.{Mark, same_mark, is_of, rows_at, AreNumbered, AreMarked}
+use Rattle.fare_store.proofs.Places.{place_order, place_of, total, before_other}
 
--- PLACES IN ORDER
-total : IsTotalOrder place_order
-total = then_total (then_total (then_total (on_total (λ (p : Place). p.0) nat_cmp_total) (on_total (λ (p : Place). p.1) nat_cmp_total)) (on_total (λ (p : Place). p.2) nat_cmp_total)) (on_total (λ (p : Place). p.3) nat_cmp_total)
+-- it stands among its device's, at the place of its lane number
+abbrev pub IsTap : (ℕ → List RecordValue) → RecordValue → Type 0
+IsTap taken r = slice_get (taken r.device) (r.lane - 1) ≡ Some r
 
-abbrev start : ℕ → Place
-start day = (day, 0, 0, 0)
+abbrev pub is_at : Mark → RecordValue → Bool
+is_at m r = same_mark m (r.device, r.lane - 1)
 
-apart : (p q r : Ordering) → ordering_then (ordering_then p q) r ≡ ordering_then p (ordering_then q r)
-apart Less q r = refl
-apart Equal q r = refl
-apart Greater q r = refl
+-- COUNTS
+in_list : {X : Type 0} (xs : List X) (k : ℕ) (x : X) → slice_get xs k ≡ Some x → Contains xs x
+in_list xs k x is = (k, slice_get_within xs k x is, get_or_from_slice_get xs k x x is)
 
--- the first parts come first
-abbrev first_of : (a b : Place) → (rest : Ordering) × (place_order a b ≡ ordering_then (nat_cmp a.0 b.0) rest)
-first_of a b = (
-  ordering_then (ordering_then (nat_cmp a.1 b.1) (nat_cmp a.2 b.2)) (nat_cmp a.3 b.3),
-  ap (λ o. ordering_then o (nat_cmp a.3 b.3)) (apart (nat_cmp a.0 b.0) (nat_cmp a.1 b.1) (nat_cmp a.2 b.2)) ∙ apart (nat_cmp a.0 b.0) (ordering_then (nat_cmp a.1 b.1) (nat_cmp a.2 b.2)) (nat_cmp a.3 b.3),
-)
+place_in : {X : Type 0} (xs : List X) (x : X) → Contains xs x → (k : ℕ) × (slice_get xs k ≡ Some x)
+place_in xs x (k, within, is) = (k, slice_get_read xs (length xs) k x refl within (sym is))
 
-not_after : (x y : ℕ) (p rest : Ordering) → MatchOrdering p (x < y) (x ≡ y) (y < x) → is_gt (ordering_then p rest) ≡ false → x ≤ y
-not_after x y Less rest m h = omega (arith, m)
-not_after x y Equal rest m h = omega (arith, m)
-not_after x y Greater rest m h = absurd (cc)
+count_cons : {X : Type 0} (p : X → Bool) (x : X) (xs : List X) → count_by p (x ∷ xs) ≡ cond (p x) 1 0 + count_by p xs
+count_cons p x xs = sum_by-cons (λ y. cond (p y) 1 0) x xs
 
-gt_less : (o : Ordering) → o ≡ Less → is_gt o ≡ false
-gt_less o h = ap is_gt h
+least_more : {X : Type 0} (p : X → Bool) (x : X) (xs : List X) (n : ℕ) → n ≤ count_by p xs → n ≤ count_by p (x ∷ xs)
+least_more p x xs n le = omega (arith, count_cons p x xs, le)
 
-pub from_day : (a b : Place) → is_gt (place_order a b) ≡ false → a.0 ≤ b.0
-from_day a b h = not_after a.0 b.0 (nat_cmp a.0 b.0) (first_of a b).0 (ranked a.0 b.0 _ refl) (ap is_gt (sym (first_of a b).1) ∙ h)
+some_counted : {X : Type 0} (p : X → Bool) (xs : List X) (k : ℕ) (x : X) → slice_get xs k ≡ Some x → p x ≡ true → 1 ≤ count_by p xs
+some_counted {X} p [] k x is on = absurd (let e : ◌≡◌ {A = Option X} None (Some x) = is in cc)
+some_counted {X} p (y ∷ ys) zero x is on =
+    let e : ◌≡◌ {A = Option X} (Some y) (Some x) = is in
+    let same : y ≡ x = cc in
+    let all : count_by p (y ∷ ys) ≡ 1 + count_by p ys = count_cons p y ys ∙ ap (λ b. cond b 1 0 + count_by p ys) (ap p same ∙ on) in
+    omega (arith, all)
+some_counted p (y ∷ ys) (suc k) x is on = least_more p y ys 1 (some_counted p ys k x is on)
 
--- nothing stands before the start of its day
-below : (x : ℕ) (p : Ordering) → MatchOrdering p (x < 0) (x ≡ 0) (0 < x) → (rest : Ordering) → ordering_then p rest ≡ Less → (p ≡ Equal) × (rest ≡ Less)
-below x Less m rest h = absurd (omega (arith, m))
-below x Equal m rest h = (refl, h)
-below x Greater m rest h = absurd (cc)
+two_counted : {X : Type 0} (p : X → Bool) (xs : List X) (j k : ℕ) (x y : X) → j < k → slice_get xs j ≡ Some x → slice_get xs k ≡ Some y → p x ≡ true → p y ≡ true → 2 ≤ count_by p xs
+two_counted {X} p [] j k x y less xj yk px py = absurd (let e : ◌≡◌ {A = Option X} None (Some x) = xj in cc)
+two_counted p (z ∷ zs) j zero x y less xj yk px py = absurd (omega (arith, less))
+two_counted {X} p (z ∷ zs) zero (suc k) x y less xj yk px py =
+    let e : ◌≡◌ {A = Option X} (Some z) (Some x) = xj in
+    let same : z ≡ x = cc in
+    let all : count_by p (z ∷ zs) ≡ 1 + count_by p zs = count_cons p z zs ∙ ap (λ b. cond b 1 0 + count_by p zs) (ap p same ∙ px) in
+    let rest = some_counted p zs k y yk py in
+    omega (arith, all, rest)
+two_counted p (z ∷ zs) (suc j) (suc k) x y less xj yk px py = least_more p z zs 2 (two_counted p zs j k x y (omega (arith, less)) xj yk px py)
 
-before_start : (x y : ℕ) (a1 a2 a3 : ℕ) (p : Ordering) → MatchOrdering p (x < y) (x ≡ y) (y < x) → ordering_then (ordering_then (ordering_then p (nat_cmp a1 0)) (nat_cmp a2 0)) (nat_cmp a3 0) ≡ Less → x < y
-before_start x y a1 a2 a3 Less m h = m
-before_start x y a1 a2 a3 Equal m h =
-    let one = below a1 (nat_cmp a1 0) (ranked a1 0 _ refl) (ordering_then (nat_cmp a2 0) (nat_cmp a3 0)) (sym (apart (nat_cmp a1 0) (nat_cmp a2 0) (nat_cmp a3 0)) ∙ h) in
-    let two = below a2 (nat_cmp a2 0) (ranked a2 0 _ refl) (nat_cmp a3 0) one.1 in
-    absurd (none a3 (nat_cmp a3 0) (ranked a3 0 _ refl) two.1)
+counted_is : {X : Type 0} (p : X → Bool) (xs : List X) → 1 ≤ count_by p xs → (k : ℕ) × (x : X) × (slice_get xs k ≡ Some x) × (p x ≡ true)
+counted_is p [] some = absurd (omega (arith, some))
+counted_is {X} p (y ∷ ys) some = by (counted_is p ys) (p y) refl
   where
-    none : (x : ℕ) (p : Ordering) → MatchOrdering p (x < 0) (x ≡ 0) (0 < x) → p ≡ Less → ⊥
-    none x Less m h = omega (arith, m)
-    none x Equal m h = cc
-    none x Greater m h = cc
-before_start x y a1 a2 a3 Greater m h = absurd (cc)
+    by : (1 ≤ count_by p ys → (k : ℕ) × (x : X) × (slice_get ys k ≡ Some x) × (p x ≡ true)) → (b : Bool) → p y ≡ b → (k : ℕ) × (x : X) × (slice_get (y ∷ ys) k ≡ Some x) × (p x ≡ true)
+    by rest true on = (zero, y, refl, on)
+    by rest false off =
+        let all : count_by p (y ∷ ys) ≡ 0 + count_by p ys = count_cons p y ys ∙ ap (λ b. cond b 1 0 + count_by p ys) off in
+        let found = rest (omega (arith, some, all)) in
+        (suc found.0, found.1, found.2, found.3)
 
-pub upto_day : (a : Place) (day : ℕ) → place_order a (start (day + 1)) ≡ Less → a.0 ≤ day
-upto_day a day h = let less = before_start a.0 (day + 1) a.1 a.2 a.3 (nat_cmp a.0 (day + 1)) (ranked a.0 (day + 1) _ refl) h in omega (arith, less)
+both_parts : {X : Type 0} (P : X → Type 0) (xs ys : List X) → ((k : ℕ) (x : X) → slice_get xs k ≡ Some x → P x) → ((k : ℕ) (x : X) → slice_get ys k ≡ Some x → P x) → (k : ℕ) (x : X) → slice_get (xs ++ ys) k ≡ Some x → P x
+both_parts P [] ys first second k x is = second k x is
+both_parts P (z ∷ zs) ys first second zero x is = first zero x is
+both_parts P (z ∷ zs) ys first second (suc k) x is = both_parts P zs ys (λ j. first (suc j)) second k x is
 
-first_less : (x y : ℕ) (rest : Ordering) → x < y → ordering_then (nat_cmp x y) rest ≡ Less
-first_less x y rest h = ap (λ o. ordering_then o rest) {x = nat_cmp x y} {y = Less} (grind (arith, nat_tests))
+-- MARKED TAPS
+abbrev pub one : Bool → ℕ
+one b = if b then 1 else 0
 
-pub is_upto : (a : Place) (day : ℕ) → a.0 ≤ day → place_order a (start (day + 1)) ≡ Less
-is_upto a day h = (first_of a (start (day + 1))).1 ∙ first_less a.0 (day + 1) (first_of a (start (day + 1))).0 (omega (arith, h))
-
-zero_rest : (a b c : ℕ) → is_gt (ordering_then (ordering_then (nat_cmp 0 a) (nat_cmp 0 b)) (nat_cmp 0 c)) ≡ false
-zero_rest a b c = by (nat_cmp 0 a) (nat_cmp 0 b) (nat_cmp 0 c) (least a) (least b) (least c)
+rows_are : (taken : ℕ → List RecordValue) → AreNumbered taken → (ms : List Mark) (k : ℕ) (r : RecordValue) → slice_get (rows_at taken ms) k ≡ Some r → IsTap taken r
+rows_are taken numbered [] k r is = absurd (let e : ◌≡◌ {A = Option RecordValue} None (Some r) = is in cc)
+rows_are taken numbered (m ∷ ms) k r is = by (λ j. rows_are taken numbered ms j r) (slice_get (taken m.0) m.1) refl k is
   where
-    least : (n : ℕ) → is_gt (nat_cmp 0 n) ≡ false
-    least n = grind (arith, nat_tests)
+    by : ((j : ℕ) → slice_get (rows_at taken ms) j ≡ Some r → IsTap taken r) → (o : Option RecordValue) → slice_get (taken m.0) m.1 ≡ o → (j : ℕ) → slice_get (option_to_list o ++ rows_at taken ms) j ≡ Some r → IsTap taken r
+    by rest None none j at = rest j at
+    by rest (Some s) some zero at =
+        let e : ◌≡◌ {A = Option RecordValue} (Some s) (Some r) = at in
+        let same : s ≡ r = cc in
+        let n = numbered m.0 m.1 s some in
+        let place : s.lane - 1 ≡ m.1 = omega (arith, n.1) in
+        subst (IsTap taken) same ((λ i. slice_get (taken (n.0 i)) (place i)) ∙ some)
+    by rest (Some s) some (suc j) at = rest j at
 
-    by : (p q r : Ordering) → is_gt p ≡ false → is_gt q ≡ false → is_gt r ≡ false → is_gt (ordering_then (ordering_then p q) r) ≡ false
-    by Less q r h i j = refl
-    by Equal Less r h i j = refl
-    by Equal Equal r h i j = j
-    by Equal Greater r h i j = i
-    by Greater q r h i j = h
+-- a mark more
+pub rows_more : (taken : ℕ → List RecordValue) (ms : List Mark) (m : Mark) → rows_at taken (ms ++ m ∷ []) ≡ rows_at taken ms ++ option_to_list (slice_get (taken m.0) m.1)
+rows_more taken [] m = append-nil (option_to_list (slice_get (taken m.0) m.1))
+rows_more taken (x ∷ xs) m = ap (λ l. option_to_list (slice_get (taken x.0) x.1) ++ l) (rows_more taken xs m) ∙ sym (append_assoc (option_to_list (slice_get (taken x.0) x.1)) (rows_at taken xs) (option_to_list (slice_get (taken m.0) m.1)))
 
-pub is_from : (day : ℕ) (a : Place) → day ≤ a.0 → is_gt (place_order (start day) a) ≡ false
-is_from day a h = ap is_gt (first_of (start day) a).1 ∙ by (nat_cmp day a.0) (ranked day a.0 _ refl)
+-- a mark that is another's counts its tap
+count_rows : (taken : ℕ → List RecordValue) → AreNumbered taken → (m : Mark) (ms : List Mark) → count_by (is_at m) (rows_at taken ms) ≡ (if is_some (slice_get (taken m.0) m.1) then count_by (same_mark m) ms else 0)
+count_rows taken numbered m [] = none (is_some (slice_get (taken m.0) m.1))
   where
-    by : (p : Ordering) → MatchOrdering p (day < a.0) (day ≡ a.0) (a.0 < day) → is_gt (ordering_then p (first_of (start day) a).0) ≡ false
-    by Less m = refl
-    by Equal m = zero_rest a.1 a.2 a.3
-    by Greater m = absurd (omega (arith, m, h))
-
--- in the order of places is in the order of taps
-lex : (x y : ℕ) (rest : Ordering) (b : Bool) → (rest ≡ Less → b ≡ true) → ordering_then (nat_cmp x y) rest ≡ Less → (if nat_lt x y then true else if nat_lt y x then false else b) ≡ true
-lex x y rest b tail h = by (nat_cmp x y) (ranked x y _ refl) h
+    none : (b : Bool) → ◌≡◌ {A = ℕ} 0 (if b then 0 else 0)
+    none true = refl
+    none false = refl
+count_rows taken numbered m (x ∷ xs) = by (count_rows taken numbered m xs) (slice_get (taken x.0) x.1) refl ∙ ap (λ n. if some then n else 0) (sym (count_cons (same_mark m) x xs))
   where
-    by : (p : Ordering) → MatchOrdering p (x < y) (x ≡ y) (y < x) → ordering_then p rest ≡ Less → (if nat_lt x y then true else if nat_lt y x then false else b) ≡ true
-    by Less m i = ap (λ t. if t then true else if nat_lt y x then false else b) {x = nat_lt x y} {y = true} (grind (arith, nat_tests))
-    by Equal m i = (λ j. if off j then true else if back j then false else b) ∙ tail i
+    some : Bool
+    some = is_some (slice_get (taken m.0) m.1)
+
+    rest : ℕ
+    rest = count_by (same_mark m) xs
+
+    here : same_mark m x ≡ true → slice_get (taken m.0) m.1 ≡ slice_get (taken x.0) x.1
+    here same =
+        let p = and_parts (nat_eq m.0 x.0) (nat_eq m.1 x.1) same in
+        let device : m.0 ≡ x.0 = grind (arith, nat_tests) in
+        let place : m.1 ≡ x.1 = grind (arith, nat_tests) in
+        λ i. slice_get (taken (device i)) (place i)
+
+    none_more : rest ≡ 0 + rest
+    none_more = omega arith
+
+    -- without a tap at it, the mark is another's or there is none
+    skip : (b : Bool) → same_mark m x ≡ b → slice_get (taken x.0) x.1 ≡ None → (if some then rest else 0) ≡ (if some then cond b 1 0 + rest else 0)
+    skip true same none =
+        let off : some ≡ false = ap is_some (here same ∙ none) in
+        (λ i. if off i then rest else 0) ∙ (λ i. if sym off i then 1 + rest else 0)
+    skip false other none = ap (λ n. if some then n else 0) none_more
+
+    keep : (b : Bool) → same_mark m x ≡ b → is_some (slice_get (taken x.0) x.1) ≡ true → cond b 1 0 + (if some then rest else 0) ≡ (if some then cond b 1 0 + rest else 0)
+    keep true same found =
+        let on : some ≡ true = ap is_some (here same) ∙ found in
+        (λ i. 1 + (if on i then rest else 0)) ∙ (λ i. if sym on i then 1 + rest else 0)
+    keep false other found = by some
       where
-        off : nat_lt x y ≡ false
-        off = grind (arith, nat_tests)
+        by : (t : Bool) → 0 + (if t then rest else 0) ≡ (if t then 0 + rest else 0)
+        by true = refl
+        by false = refl
 
-        back : nat_lt y x ≡ false
-        back = grind (arith, nat_tests)
-    by Greater m i = absurd (cc)
+    by : count_by (is_at m) (rows_at taken xs) ≡ (if some then rest else 0) → (o : Option RecordValue) → slice_get (taken x.0) x.1 ≡ o → count_by (is_at m) (option_to_list o ++ rows_at taken xs) ≡ (if some then cond (same_mark m x) 1 0 + rest else 0)
+    by behind None none = behind ∙ skip (same_mark m x) refl none
+    by behind (Some r) is =
+        let n = numbered x.0 x.1 r is in
+        let place : r.lane - 1 ≡ x.1 = omega (arith, n.1) in
+        count_cons (is_at m) r (rows_at taken xs) ∙ (λ i. cond (same_mark m (n.0 i, place i)) 1 0 + behind i) ∙ keep (same_mark m x) refl (ap is_some is)
 
-last_less : (x y : ℕ) → nat_cmp x y ≡ Less → nat_lt x y ≡ true
-last_less x y h = by (nat_cmp x y) (ranked x y _ refl) h
+count_day : (taken : ℕ → List RecordValue) (marks : ℕ → List Mark) → AreNumbered taken → AreMarked taken marks → (day : ℕ) (m : Mark) → count_by (is_at m) (rows_at taken (marks day)) ≡ one (is_of day (slice_get (taken m.0) m.1))
+count_day taken marks numbered marked day m = count_rows taken numbered m (marks day) ∙ by (slice_get (taken m.0) m.1) (marked day m)
   where
-    by : (p : Ordering) → MatchOrdering p (x < y) (x ≡ y) (y < x) → p ≡ Less → nat_lt x y ≡ true
-    by Less m i = grind (arith, nat_tests)
-    by Equal m i = absurd (cc)
-    by Greater m i = absurd (cc)
+    by : (o : Option RecordValue) → count_by (same_mark m) (marks day) ≡ one (is_of day o) → (if is_some o then count_by (same_mark m) (marks day) else 0) ≡ one (is_of day o)
+    by None e = refl
+    by (Some r) e = e
 
-stands_before : (a b : RecordValue) → place_order (place_of a) (place_of b) ≡ Less → is_before a b ≡ true
-stands_before a b h =
-    lex a.tap.day b.tap.day _ _ (lex a.tap.moment b.tap.moment _ _ (lex a.device b.device _ _ (last_less a.lane b.lane)))
-    (ap (λ o. ordering_then (nat_cmp a.tap.day b.tap.day) o) (sym (apart (nat_cmp a.tap.moment b.tap.moment) (nat_cmp a.device b.device) (nat_cmp a.lane b.lane))) ∙ sym (first_of (place_of a) (place_of b)).1 ∙ h)
+-- DAY BY DAY
+-- a tap from one day on, and before another
+abbrev pub is_in : ℕ → ℕ → Option RecordValue → Bool
+is_in from next None = false
+is_in from next (Some r) = nat_le from r.tap.day && nat_lt r.tap.day next
 
--- ENTRIES
-entry_at : (es : List (Place × RecordValue)) (k : ℕ) (r : RecordValue) → slice_get (values_of es) k ≡ Some r → (p : Place) × (slice_get es k ≡ Some (p, r))
-entry_at [] k r is = absurd (let e : ◌≡◌ {A = Option RecordValue} None (Some r) = is in cc)
-entry_at (e ∷ es) zero r is = (e.0, let same : ◌≡◌ {A = Option RecordValue} (Some e.1) (Some r) = is in let one : e.1 ≡ r = cc in ap {B = Option (Place × RecordValue)} (λ (x : RecordValue). Some (e.0, x)) one)
-entry_at (e ∷ es) (suc k) r is = entry_at es k r is
+-- each tap of the days before the next one, once
+pub record AreCollected (taken : ℕ → List RecordValue) (from next : ℕ) (rows : List RecordValue) : Type 0 where
+  pub each : (k : ℕ) (r : RecordValue) → slice_get rows k ≡ Some r → IsTap taken r
+  pub once : (m : Mark) → count_by (is_at m) rows ≡ one (is_in from next (slice_get (taken m.0) m.1))
 
-value_at : (es : List (Place × RecordValue)) (k : ℕ) (p : Place) (r : RecordValue) → slice_get es k ≡ Some (p, r) → slice_get (values_of es) k ≡ Some r
-value_at [] k p r is = absurd (let e : ◌≡◌ {A = Option (Place × RecordValue)} None (Some (p, r)) = is in cc)
-value_at (e ∷ es) zero p r is = ap {B = Option RecordValue} (λ (o : Option (Place × RecordValue)). option_map (λ (x : Place × RecordValue). x.1) o) is
-value_at (e ∷ es) (suc k) p r is = value_at es k p r is
-
-key_at : (es : List (Place × RecordValue)) (k : ℕ) (d p : Place) (r : RecordValue) → slice_get es k ≡ Some (p, r) → (k < length (keys_of es)) × (get_or (keys_of es) k d ≡ p)
-key_at [] k d p r is = absurd (let e : ◌≡◌ {A = Option (Place × RecordValue)} None (Some (p, r)) = is in cc)
-key_at (e ∷ es) zero d p r is = (omega arith, let same : ◌≡◌ {A = Option (Place × RecordValue)} (Some e) (Some (p, r)) = is in let one : e ≡ (p, r) = cc in ap (λ (x : Place × RecordValue). x.0) one)
-key_at (e ∷ es) (suc k) d p r is = let rest = key_at es k d p r is in (omega (arith, rest.0), rest.1)
-
-each : (P : Place × RecordValue → Type 0) (es : List (Place × RecordValue)) → All P es → (k : ℕ) (p : Place) (r : RecordValue) → slice_get es k ≡ Some (p, r) → P (p, r)
-each P es all k p r is =
-    let inside : k < length es = omega (arith, (key_at es k p p r is).0, length-keys_of es) in
-    subst P (get_or_from_slice_get es k (p, r) (p, r) is) (all k (p, r) inside)
-
-place_is : (taken : ℕ → List RecordValue) (p : Place) (r : RecordValue) → IsTapAt taken p r → place_of r ≡ p
-place_is taken p r at i = (at.day i, at.moment i, at.device i, at.lane i)
-
-pub taps_between : (v : LedgerValue) (ordered : tree.BTreeMap Place RecordValue) (range : List (Place × RecordValue)) (from to : ℕ) → AreListed v.taken ordered → HasEvery v.taken ordered
-    → range ≡ entries_between place_order (Included (start from)) (Excluded (start (to + 1))) ordered.entries → IsRangeOf place_order (Included (start from)) (Excluded (start (to + 1))) ordered range
-    → EntryPlaces ordered.entries range → tree.IsOrdered place_order ordered → AreTapsBetween v from to (values_of range)
-taps_between v ordered range from to listed every between within places sorted = record {
-  taken = λ k r is.
-      let e = entry_at range k r is in
-      let there = each Within range within.0 k e.0 r e.1 in
-      let at = listed e.0 r there.1 in
-      let least : from ≤ r.tap.day = omega (arith, from_day (start from) e.0 there.0.0, at.day) in
-      let most : r.tap.day ≤ to = omega (arith, upto_day e.0 to there.0.1, at.day) in
-      ((r.lane - 1, at.held), least, most);
-  all = λ device k r is least most.
-      let found = every device k r is in
-      let left : lookup (at_place r) range ≡ Some r = ap (lookup (at_place r)) between ∙ lookup-filter-keys (at_place r) (range_contains place_order lo hi) true (inside r least most) ordered.entries ∙ found in
-      let place = place_from_lookup (at_place r) range r left in
-      (place.0, value_at range place.0 place.1 r place.2);
-  sorted = λ j k a b less ja kb.
-      let e = entry_at range j a ja in
-      let f = entry_at range k b kb in
-      let first = place_is v.taken e.0 a (listed e.0 a (each Within range within.0 j e.0 a e.1).1) in
-      let second = place_is v.taken f.0 b (listed f.0 b (each Within range within.0 k f.0 b f.1).1) in
-      let one = key_at range j e.0 e.0 a e.1 in
-      let two = key_at range k e.0 f.0 b f.1 in
-      let here = places.keys j e.0 by_place one.0 in
-      let there = places.keys k e.0 by_place two.0 in
-      let in_order : place_order (get_or (keys_of ordered.entries) (places.start + j) e.0) (get_or (keys_of ordered.entries) (places.start + k) e.0) ≡ Less = Less-from_sorted place_order (keys_of ordered.entries) (places.start + j) (places.start + k) e.0 sorted (omega (arith, less)) there.0 in
-      stands_before a b ((λ i. place_order ((first ∙ sym one.1 ∙ here.1) i) ((second ∙ sym two.1 ∙ there.1) i)) ∙ in_order);
-}
+none_in : (from next : ℕ) → next ≤ from → (o : Option RecordValue) → ◌≡◌ {A = ℕ} (one (is_in from next o)) 0
+none_in from next over None = refl
+none_in from next over (Some r) = outside (nat_le from r.tap.day) (nat_lt r.tap.day next) refl refl
   where
-    lo : Bound Place
-    lo = Included (start from)
+    outside : (s t : Bool) → nat_le from r.tap.day ≡ s → nat_lt r.tap.day next ≡ t → ◌≡◌ {A = ℕ} (one (s && t)) 0
+    outside false t p q = refl
+    outside true false p q = refl
+    outside true true p q = absurd (grind (arith, nat_tests))
 
-    hi : Bound Place
-    hi = Excluded (start (to + 1))
-
-    Within : Place × RecordValue → Type 0
-    Within = IsEntryInRange place_order (Included (start from)) (Excluded (start (to + 1))) ordered
-
-    at_place : RecordValue → Place → Bool
-    at_place r q = is_eq (place_order (place_of r) q)
-
-    inside : (r : RecordValue) → from ≤ r.tap.day → r.tap.day ≤ to → (q : Place) → is_eq (place_order (place_of r) q) ≡ true → range_contains place_order (Included (start from)) (Excluded (start (to + 1))) q ≡ true
-    inside r least most q is =
-        let p = same_place (place_of r) q is in
-        let same : place_of r ≡ q = λ i. (p.0 i, p.1 i, p.2 i, p.3 i) in
-        range_contains-from_IsInRange total (Included (start from)) (Excluded (start (to + 1))) q (subst (IsInRange place_order (Included (start from)) (Excluded (start (to + 1)))) same (is_from from (place_of r) least, is_upto (place_of r) to most))
-
--- no days lie between
-pub no_days_between : (v : LedgerValue) (from to : ℕ) → to < from → AreTapsBetween v from to []
-no_days_between v from to less = record {
-  taken = λ k r is. absurd (let e : ◌≡◌ {A = Option RecordValue} None (Some r) = is in cc);
-  all = λ device k r is least most. absurd (omega (arith, less, least, most));
-  sorted = λ j k a b l is other. absurd (let e : ◌≡◌ {A = Option RecordValue} None (Some a) = is in cc);
+pub none_collected : (taken : ℕ → List RecordValue) (from next : ℕ) (rows : List RecordValue) → next ≤ from → rows ≡ [] → AreCollected taken from next rows
+none_collected taken from next rows over none = record {
+  each = λ k r is. absurd (let e : ◌≡◌ {A = Option RecordValue} None (Some r) = sym (ap (λ l. slice_get l k) none) ∙ is in cc);
+  once = λ m. ap (count_by (is_at m)) none ∙ sym (none_in from next over (slice_get (taken m.0) m.1));
 }
 
-pub all_taken : (items rest : List RecordValue) → rest ≡ [] → items ++ rest ≡ items
-all_taken [] rest none = none
-all_taken (x ∷ xs) rest none = ap (λ l. x ∷ l) (all_taken xs rest none)
+-- where no day is between
+pub collected_none : (taken : ℕ → List RecordValue) (from next other : ℕ) (rows : List RecordValue) → next ≤ from → other ≤ from → AreCollected taken from next rows → AreCollected taken from other rows
+collected_none taken from next other rows over past c = record { each = c.each; once = λ m. c.once m ∙ none_in from next over (slice_get (taken m.0) m.1) ∙ sym (none_in from other past (slice_get (taken m.0) m.1)) }
+
+pub day_collected : (taken : ℕ → List RecordValue) (marks : ℕ → List Mark) (from day : ℕ) (rows more : List RecordValue) → AreNumbered taken → AreMarked taken marks → from ≤ day → more ≡ rows ++ rows_at taken (marks day) → AreCollected taken from day rows → AreCollected taken from (day + 1) more
+day_collected taken marks from day rows more numbered marked le is c = record {
+  each = λ k r at. both_parts (IsTap taken) rows (rows_at taken (marks day)) c.each (rows_are taken numbered (marks day)) k r (ap (λ l. slice_get l k) (sym is) ∙ at);
+  once = λ m.
+      ap (count_by (is_at m)) is ∙ sum_by-append (λ r. cond (is_at m r) 1 0) rows (rows_at taken (marks day))
+      ∙ (λ i. c.once m i + count_day taken marks numbered marked day m i) ∙ adds (slice_get (taken m.0) m.1);
+}
+  where
+    adds : (o : Option RecordValue) → one (is_in from day o) + one (is_of day o) ≡ one (is_in from (day + 1) o)
+    adds None = refl
+    adds (Some r) = by (nat_le from r.tap.day) (nat_lt r.tap.day day) (nat_eq r.tap.day day) refl refl refl
+      where
+        at : (s t u v : Bool) → nat_le from r.tap.day ≡ s → nat_lt r.tap.day day ≡ t → (r.tap.day == day) ≡ u → nat_lt r.tap.day (day + 1) ≡ v → one (s && t) + one u ≡ one (s && v) → one (nat_le from r.tap.day && nat_lt r.tap.day day) + one (r.tap.day == day) ≡ one (nat_le from r.tap.day && nat_lt r.tap.day (day + 1))
+        at s t u v p q e f done = (λ i. one (p i && q i) + one (e i)) ∙ done ∙ (λ i. one (sym p i && sym f i))
+
+        by : (s t u : Bool) → nat_le from r.tap.day ≡ s → nat_lt r.tap.day day ≡ t → nat_eq r.tap.day day ≡ u → one (nat_le from r.tap.day && nat_lt r.tap.day day) + one (r.tap.day == day) ≡ one (nat_le from r.tap.day && nat_lt r.tap.day (day + 1))
+        by true true u p q e = at true true false true p q (grind (arith, nat_tests)) (grind (arith, nat_tests)) refl
+        by true false true p q e = at true false true true p q (grind (arith, nat_tests)) (grind (arith, nat_tests)) refl
+        by true false false p q e = at true false false false p q (grind (arith, nat_tests)) (grind (arith, nat_tests)) refl
+        by false t true p q e = absurd (grind (arith, nat_tests))
+        by false t false p q e = at false t false (nat_lt r.tap.day (day + 1)) p q (grind (arith, nat_tests)) refl refl
+
+-- the days before this one are collected, and at most the last one
+pub record AreCollectedTo (taken : ℕ → List RecordValue) (from to next : ℕ) (rows : List RecordValue) : Type 0 where
+  pub taps : AreCollected taken from next rows
+  pub behind : from ≤ next
+  pub past : to < next → next ≡ from
+
+pub all_collected : (taken : ℕ → List RecordValue) (from to next : ℕ) (rows : List RecordValue) → to < next → AreCollectedTo taken from to next rows → AreCollected taken from (to + 1) rows
+all_collected taken from to next rows over c =
+    let at = c.past over in
+    collected_none taken from next (to + 1) rows (omega (arith, at)) (omega (arith, at, over)) c.taps
+
+-- IN ORDER
+pub in_order : (v : LedgerValue) (from to : ℕ) (rows sorted : List RecordValue) → AreNumbered v.taken → AreCollected v.taken from (to + 1) rows → IsPermutation rows sorted → IsSortedByKey place_of place_order sorted → AreTapsBetween v from to sorted
+in_order v from to rows sorted numbered c moved up = record { taken = taken; all = all; sorted = strictly }
+  where
+    mark : RecordValue → Mark
+    mark r = (r.device, r.lane - 1)
+
+    itself : (r : RecordValue) → is_at (mark r) r ≡ true
+    itself r = λ i. same r.device i && same (r.lane - 1) i
+      where
+        same : (n : ℕ) → nat_eq n n ≡ true
+        same n = grind (arith, nat_tests)
+
+    is_tap : (k : ℕ) (r : RecordValue) → slice_get sorted k ≡ Some r → (j : ℕ) × (slice_get rows j ≡ Some r)
+    is_tap k r is = place_in rows r (Contains-permutation sorted rows r (IsPermutation-sym rows sorted moved) (in_list sorted k r is))
+
+    inside : (r : RecordValue) → 1 ≤ one (is_in from (to + 1) (Some r)) → (from ≤ r.tap.day) × (r.tap.day ≤ to)
+    inside r some = by (nat_le from r.tap.day) (nat_lt r.tap.day (to + 1)) refl refl some
+      where
+        by : (s t : Bool) → nat_le from r.tap.day ≡ s → nat_lt r.tap.day (to + 1) ≡ t → 1 ≤ one (s && t) → (from ≤ r.tap.day) × (r.tap.day ≤ to)
+        by true true p q h = (grind (arith, nat_tests), grind (arith, nat_tests))
+        by true false p q h = absurd (omega (arith, h))
+        by false t p q h = absurd (omega (arith, h))
+
+    taken : (k : ℕ) (r : RecordValue) → slice_get sorted k ≡ Some r → ((j : ℕ) × (slice_get (v.taken r.device) j ≡ Some r)) × (from ≤ r.tap.day) × (r.tap.day ≤ to)
+    taken k r is =
+        let at = is_tap k r is in
+        let tap = c.each at.0 r at.1 in
+        let some : 1 ≤ count_by (is_at (mark r)) rows = some_counted (is_at (mark r)) rows at.0 r at.1 (itself r) in
+        let days = inside r (subst (λ n. 1 ≤ n) (c.once (mark r) ∙ ap (λ o. one (is_in from (to + 1) o)) tap) some) in
+        ((r.lane - 1, tap), days.0, days.1)
+
+    all : (device k : ℕ) (r : RecordValue) → slice_get (v.taken device) k ≡ Some r → from ≤ r.tap.day → r.tap.day ≤ to → (j : ℕ) × (slice_get sorted j ≡ Some r)
+    all device k r is least most =
+        let on : one (nat_le from r.tap.day && nat_lt r.tap.day (to + 1)) ≡ 1 = λ i. one (from_day i && upto_day i) in
+        let counted : count_by (is_at (device, k)) rows ≡ 1 = c.once (device, k) ∙ ap (λ o. one (is_in from (to + 1) o)) is ∙ on in
+        let found = counted_is (is_at (device, k)) rows (omega (arith, counted)) in
+        let s = found.1 in
+        let p = and_parts (nat_eq device s.device) (nat_eq k (s.lane - 1)) found.3 in
+        let of_device : device ≡ s.device = grind (arith, nat_tests) in
+        let of_place : k ≡ s.lane - 1 = grind (arith, nat_tests) in
+        let same : ◌≡◌ {A = Option RecordValue} (Some s) (Some r) = sym (c.each found.0 s found.2) ∙ (λ i. slice_get (v.taken (sym of_device i)) (sym of_place i)) ∙ is in
+        let is_r : s ≡ r = cc in
+        place_in sorted r (Contains-permutation rows sorted r moved (in_list rows found.0 r (subst (λ x. slice_get rows found.0 ≡ Some x) is_r found.2)))
+      where
+        from_day : nat_le from r.tap.day ≡ true
+        from_day = grind (arith, nat_tests)
+
+        upto_day : nat_lt r.tap.day (to + 1) ≡ true
+        upto_day = grind (arith, nat_tests)
+
+    at_most_one : (m : Mark) → count_by (is_at m) sorted ≤ 1
+    at_most_one m = subst (λ n. n ≤ 1) (sym (sum_by-IsPermutation (λ r. cond (is_at m r) 1 0) rows sorted moved ∙ c.once m)) (by (is_in from (to + 1) (slice_get (v.taken m.0) m.1)))
+      where
+        by : (b : Bool) → one b ≤ 1
+        by true = omega arith
+        by false = omega arith
+
+    strictly : (j k : ℕ) (a b : RecordValue) → j < k → slice_get sorted j ≡ Some a → slice_get sorted k ≡ Some b → is_before a b ≡ true
+    strictly j k a b less ja kb = before_other a b not_after differ
+      where
+        not_after : is_lt (place_order (place_of b) (place_of a)) ≡ false
+        not_after =
+            (λ i. is_lt (place_order (place_of (sym (get_or_from_slice_get sorted k b a kb) i)) (place_of (sym (get_or_from_slice_get sorted j a a ja) i))))
+            ∙ sorted_far (λ x y. is_lt (place_order (place_of x) (place_of y))) (ranks_by total place_of) sorted up j k a (omega (arith, less)) (slice_get_within sorted k b kb)
+
+        differ : b.device ≡ a.device → b.lane ≡ a.lane → ⊥
+        differ device lane =
+            let two = two_counted (is_at (mark a)) sorted j k a b less ja kb (itself a) ((λ i. same_mark (mark a) (device i, lane i - 1)) ∙ itself a) in
+            let few = at_most_one (mark a) in
+            absurd (omega (arith, two, few))

@@ -1,14 +1,14 @@
 -- The closed days and the stated counts of a plain ledger.
 use Rattle.std.proofs.Common.{◌≡◌, ℕ, ◌+◌, ◌-◌, ◌≤◌, ◌==◌, Bool, true, false, cond, nat_eq, List, [], ◌∷◌, length, Option, Some, None, is_some, refl, sym, ◌∙◌, ap, subst, arith}
-use Rattle.std.specs.Prelude.{◌&&◌, if◌then◌else◌, slice_get}
+use Rattle.std.specs.Prelude.{◌&&◌, if◌then◌else◌, unwrap_or}
 use Rattle.std.specs.Map.{lookup}
-use Rattle.std.specs.Ordering.{is_eq, nat_cmp, ordering_then}
-use Rattle.std.specs.declared.cmp.Ordering.TheVariants.{Equal}
 use Rattle.std.proofs.lemmas.Bool.Decides.{nat_tests}
+use Rattle.std.proofs.lemmas.List.Sums.{sum_by-cons}
 use Rattle.std.proofs.lemmas.Map.Entries.{lookup_head}
 use Rattle.fare_record.specs.Values.{RecordValue}
+use Rattle.fare_record.specs.Lanes.{day_count}
 use Rattle.fare_store.specs.Tables.{put, put2}
-use Rattle.fare_store.specs.TapPlaces.{Place, place_order, place_of, same_day, IsTapAt, AreClosed}
+use Rattle.fare_store.specs.TapPlaces.{same_day, AreCounted, ArePositive, AreClosed}
 use Rattle.fare_store.specs.PlainLedgerWords.{days_closed}
 use Rattle.fare_store.proofs.Tables.{turned, same_number, put2_is}
 
@@ -62,9 +62,29 @@ pub none_of : {K X : Type 0} (entries : List (K × X)) (test : K → Bool) → l
 none_of [] test none = refl
 none_of (e ∷ es) test none = absurd (omega (arith, none))
 
-pub no_taps : (entries : List (Place × RecordValue)) (taken : List RecordValue) → length entries ≡ 0 → ((k : ℕ) (r : RecordValue) → slice_get taken k ≡ Some r → lookup (λ q. is_eq (place_order (place_of r) q)) entries ≡ Some r) → taken ≡ []
-no_taps entries [] none every = refl
-no_taps entries (r ∷ rs) none every = absurd (let e : ◌≡◌ {A = Option RecordValue} None (Some r) = sym (none_of entries (λ q. is_eq (place_order (place_of r) q)) none) ∙ every 0 r refl in cc)
+itself : (n : ℕ) → nat_eq n n ≡ true
+itself n = grind (arith, nat_tests)
+
+-- no count is kept: there is no tap
+pub no_taps : (entries : List ((ℕ × ℕ) × ℕ)) (taken : ℕ → List RecordValue) → length entries ≡ 0 → AreCounted taken (λ q. lookup (same_day q) entries) → (d : ℕ) → taken d ≡ []
+no_taps entries taken none counted d = by (taken d) (counted d)
+  where
+    by : (taps : List RecordValue) → ((day : ℕ) → unwrap_or (lookup (same_day (d, day)) entries) 0 ≡ day_count taps day) → taps ≡ []
+    by [] are = refl
+    by (r ∷ rs) are =
+        let no : day_count (r ∷ rs) r.tap.day ≡ 0 = sym (are r.tap.day) ∙ ap (λ o. unwrap_or o 0) (none_of entries (same_day (d, r.tap.day)) none) in
+        let here : day_count (r ∷ rs) r.tap.day ≡ 1 + day_count rs r.tap.day =
+        sum_by-cons (λ (x : RecordValue). cond (x.tap.day == r.tap.day) 1 0) r rs ∙ ap (λ b. cond b 1 0 + day_count rs r.tap.day) {x = r.tap.day == r.tap.day} {y = true} (grind (arith, nat_tests)) in
+        absurd (omega (arith, no, here))
+
+-- there is no tap: no count is kept
+pub uncounted : (entries : List ((ℕ × ℕ) × ℕ)) (taken : ℕ → List RecordValue) → AreCounted taken (λ q. lookup (same_day q) entries) → ArePositive (λ q. lookup (same_day q) entries) → ((d : ℕ) → taken d ≡ []) → length entries ≡ 0
+uncounted [] taken counted positive none = refl
+uncounted (x ∷ xs) taken counted positive none =
+    let found : lookup (same_day x.0) (x ∷ xs) ≡ Some x.1 = lookup_head (same_day x.0) x xs (λ i. itself x.0.0 i && itself x.0.1 i) in
+    let some = positive x.0.0 x.0.1 x.1 found in
+    let zero_here : x.1 ≡ 0 = sym (ap (λ o. unwrap_or o 0) found) ∙ counted x.0.0 x.0.1 ∙ ap (λ l. day_count l x.0.1) (none x.0.0) in
+    absurd (omega (arith, some, zero_here))
 
 pub no_days : (start : ℕ) (entries : List ((ℕ × ℕ) × ℕ)) (closed : ℕ → Option ℕ) → length entries ≡ 0 → AreClosed start (λ q. lookup (same_day q) entries) closed → (d : ℕ) → days_closed start (closed d) ≡ 0
 no_days start entries closed none days d = by (closed d) refl
@@ -73,21 +93,6 @@ no_days start entries closed none days d = by (closed d) refl
     by None is = ap (days_closed start) is
     by (Some last) is = absurd (let e : true ≡ false = sym (days d last is).1 ∙ ap is_some (none_of entries (same_day (d, last)) none) in cc)
 
-itself : (n : ℕ) → nat_eq n n ≡ true
-itself n = grind (arith, nat_tests)
-
 pub unstated : (entries : List ((ℕ × ℕ) × ℕ)) → ((d e : ℕ) → lookup (same_day (d, e)) entries ≡ None) → length entries ≡ 0
 unstated [] none = refl
 unstated (x ∷ xs) none = absurd (let e : ◌≡◌ {A = Option ℕ} None (Some x.1) = sym (none x.0.0 x.0.1) ∙ lookup_head (same_day x.0) x xs (λ i. itself x.0.0 i && itself x.0.1 i) in cc)
-
-place_itself : (p : Place) → is_eq (place_order p p) ≡ true
-place_itself p = ap is_eq {x = place_order p p} (λ i. ordering_then (ordering_then (ordering_then (equal p.0 i) (equal p.1 i)) (equal p.2 i)) (equal p.3 i))
-  where
-    equal : (n : ℕ) → nat_cmp n n ≡ Equal
-    equal n = grind (arith, nat_tests)
-
-pub untapped : (entries : List (Place × RecordValue)) (taken : ℕ → List RecordValue) → ((p : Place) (r : RecordValue) → lookup (λ q. is_eq (place_order p q)) entries ≡ Some r → IsTapAt taken p r) → ((d : ℕ) → taken d ≡ []) → length entries ≡ 0
-untapped [] taken listed none = refl
-untapped (x ∷ xs) taken listed none =
-    let at = listed x.0 x.1 (lookup_head (λ q. is_eq (place_order x.0 q)) x xs (place_itself x.0)) in
-    absurd (let e : ◌≡◌ {A = Option RecordValue} None (Some x.1) = sym (ap (λ l. slice_get l (x.1.lane - 1)) (none x.1.device)) ∙ at.held in cc)

@@ -1,10 +1,8 @@
 -- A plain ledger is made device by device, in order of registration.
 use Rattle.std.proofs.Common.{◌≡◌, ℕ, ◌+◌, ◌<◌, Bool, true, false, cond, nat_lt, nat_eq, List, [], length, Option, Some, None, is_some, refl, sym, ◌∙◌, ap, arith}
-use Rattle.std.specs.Prelude.{◌≤◌, Vec, slice_get, unwrap_or}
+use Rattle.std.specs.Prelude.{◌≤◌, if◌then◌else◌, Vec, count_by, slice_get, unwrap_or}
 use Rattle.std.specs.Global.{Global}
-use Rattle.std.specs.BTreeMap as tree
-use Rattle.std.specs.Map.{keys_of, lookup}
-use Rattle.std.specs.Ordering.{is_eq}
+use Rattle.std.specs.Map.{keys_of}
 use Rattle.std.proofs.lemmas.List.Quantifiers.{position-Some}
 use Rattle.std.proofs.lemmas.Map.Entries.{length-keys_of}
 use Rattle.std.proofs.lemmas.Bool.Decides.{nat_tests}
@@ -13,7 +11,7 @@ use Rattle.fare_record.specs.Lanes.{day_count}
 use Rattle.fare_scheme.specs.Values.{SchemeValue}
 use Rattle.fare_scheme.specs.Words.{position_of_device}
 use Rattle.fare_scheme.proofs.Known.{id_at_place}
-use Rattle.fare_store.specs.TapPlaces.{items_of, Place, place_order, AreNumbered, AreListed, HasEvery, AreCounted, AreClosed}
+use Rattle.fare_store.specs.TapPlaces.{items_of, Mark, same_mark, is_of, AreNumbered, AreMarked, AreCounted, ArePositive, AreClosed}
 use Rattle.fare_store.proofs.Tables.{same_number}
 
 -- the position comes before this one
@@ -77,14 +75,14 @@ nowhere taps k r none is = let e : ◌≡◌ {A = Option RecordValue} None (Some
 pub fresh_numbered : (taken : ℕ → List RecordValue) → ((d : ℕ) → taken d ≡ []) → AreNumbered taken
 fresh_numbered taken none d k r is = absurd (nowhere (taken d) k r (none d) is)
 
-pub fresh_every : (taken : ℕ → List RecordValue) (ordered : tree.BTreeMap Place RecordValue) → ((d : ℕ) → taken d ≡ []) → HasEvery taken ordered
-fresh_every taken ordered none d k r is = absurd (nowhere (taken d) k r (none d) is)
-
-pub fresh_listed : (taken : ℕ → List RecordValue) (ordered : tree.BTreeMap Place RecordValue) → ordered.entries ≡ [] → AreListed taken ordered
-fresh_listed taken ordered none place r is = absurd (let e : ◌≡◌ {A = Option RecordValue} None (Some r) = sym (ap (lookup (λ q. is_eq (place_order place q))) none) ∙ is in cc)
+pub fresh_marked : (taken : ℕ → List RecordValue) (marks : ℕ → List Mark) → ((d : ℕ) → taken d ≡ []) → ((day : ℕ) → marks day ≡ []) → AreMarked taken marks
+fresh_marked taken marks none unmarked day m = ap (count_by (same_mark m)) (unmarked day) ∙ sym (ap (λ l. if is_of day (slice_get l m.1) then 1 else 0) (none m.0))
 
 pub fresh_counted : (taken : ℕ → List RecordValue) (counts : ℕ × ℕ → Option ℕ) → ((d : ℕ) → taken d ≡ []) → ((q : ℕ × ℕ) → counts q ≡ None) → AreCounted taken counts
 fresh_counted taken counts none uncounted d day = ap (λ o. unwrap_or o 0) (uncounted (d, day)) ∙ sym (ap (λ l. day_count l day) (none d))
+
+pub fresh_positive : (counts : ℕ × ℕ → Option ℕ) → ((q : ℕ × ℕ) → counts q ≡ None) → ArePositive counts
+fresh_positive counts none d day count is = absurd (let e : ◌≡◌ {A = Option ℕ} None (Some count) = sym (none (d, day)) ∙ is in cc)
 
 pub fresh_days : (start : ℕ) (stated : ℕ × ℕ → Option ℕ) (closed : ℕ → Option ℕ) → ((d : ℕ) → closed d ≡ None) → AreClosed start stated closed
 fresh_days start stated closed none d last is = absurd (let e : ◌≡◌ {A = Option ℕ} None (Some last) = sym (none d) ∙ is in cc)

@@ -8,6 +8,8 @@ pub mod NextRows
 pub mod Pruning
 pub mod LedgerDays
 pub mod LedgerMaking
+pub mod Noted
 pub mod Taps
+pub mod Places
 pub mod Lent
 pub mod Between

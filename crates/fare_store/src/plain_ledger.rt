@@ -1,6 +1,6 @@
 ghost use Rattle.std.specs.Prelude.{nat_eq};
 ghost use Rattle.std.specs.HashMap.{get};
-ghost use Rattle.fare_store.specs.TapPlaces.{items_of, same_day, AreNumbered, AreListed, HasEvery, AreCounted, AreClosed};
+ghost use Rattle.fare_store.specs.TapPlaces.{items_of, marks_of, same_day, AreNumbered, AreMarked, AreCounted, ArePositive, AreClosed};
 
 mod calls;
 mod keeping;
@@ -8,10 +8,10 @@ mod taking;
 
 use fare_record::{Day, DeviceId, OwnerId, Record};
 use std::alloc::Global;
-use std::collections::{BTreeMap, HashMap};
+use std::collections::HashMap;
 
-// A tap's day, moment, device and lane number: its place in the order of taps.
-type Place = (u32, u64, u32, u64);
+// A tap, by its device and its place among the device's.
+type Mark = (DeviceId, usize);
 
 /// The ledger of an owner, in memory. It never answers `Store`.
 pub struct PlainLedger {
@@ -21,8 +21,8 @@ pub struct PlainLedger {
     start: Day,
     // The taps of each device of the scheme, by lane number.
     taken: HashMap<DeviceId, Vec<Record>>,
-    // The same taps, in their order.
-    ordered: BTreeMap<Place, Record>,
+    // The taps of each day, in the order of taking.
+    days: HashMap<Day, Vec<Mark>>,
     // How many of a device's taps are of a day.
     counts: HashMap<(DeviceId, Day), u64>,
     // The stated counts.
@@ -30,10 +30,10 @@ pub struct PlainLedger {
     // The last closed day of each device that has one.
     closed: HashMap<DeviceId, Day>,
     ghost numbered: { AreNumbered (λ device. items_of (get nat_eq taken device)) },
-    ghost listed: { AreListed (λ device. items_of (get nat_eq taken device)) ordered },
-    ghost every: { HasEvery (λ device. items_of (get nat_eq taken device)) ordered },
+    ghost marked: { AreMarked (λ device. items_of (get nat_eq taken device)) (λ day. marks_of (get nat_eq days day)) },
     ghost counted: { AreCounted (λ device. items_of (get nat_eq taken device)) (get same_day counts) },
-    ghost days: { AreClosed start (get same_day stated) (get nat_eq closed) },
+    ghost positive: { ArePositive (get same_day counts) },
+    ghost ends: { AreClosed start (get same_day stated) (get nat_eq closed) },
 }
 
 impl Drop for PlainLedger {
@@ -44,13 +44,13 @@ impl Drop for PlainLedger {
             owner: _,
             start: _,
             taken,
-            ordered,
+            days,
             counts,
             stated,
             closed,
         } = self;
         drop(taken);
-        drop(ordered);
+        drop(days);
         drop(counts);
         drop(stated);
         drop(closed);

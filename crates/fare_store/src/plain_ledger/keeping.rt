@@ -10,7 +10,7 @@ use crate::LedgerFault;
 use fare_record::{Day, DeviceId, OwnerId, Record, Statement};
 use fare_scheme::Scheme;
 use std::alloc::{AllocError, Global};
-use std::collections::{BTreeMap, HashMap};
+use std::collections::HashMap;
 
 impl PlainLedger {
     /// The ledger of an owner of a scheme, with no tap, no statement and no closed day.
@@ -40,7 +40,7 @@ impl PlainLedger {
             owner,
             start: scheme.start(),
             taken,
-            ordered: BTreeMap::new(alloc),
+            days: HashMap::new(alloc),
             counts: HashMap::new(alloc),
             stated: HashMap::new(alloc),
             closed: HashMap::new(alloc),
@@ -51,7 +51,7 @@ impl PlainLedger {
     pub(super) fn holds_nothing(&self) -> bool
         ensures { IsTrue result ↔ IsEmptyLedger (plain_ledger self.now) }
     {
-        self.ordered.is_empty() && self.stated.is_empty()
+        self.counts.is_empty() && self.stated.is_empty()
     }
 
     // Whether something of an owner and a device is this owner's, and of a device of the scheme.

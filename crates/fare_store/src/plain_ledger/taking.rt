@@ -1,14 +1,14 @@
-ghost use Rattle.std.specs.Prelude.{◌≡◌, ◌<◌, ◌+◌, ℕ, nat_eq, ◌∷◌, ◌++◌, [], OnOk, OnErr, IsTrue, IfOk, IfSome, IsSome, is_some, length};
+ghost use Rattle.std.specs.Prelude.{◌≡◌, ◌<◌, ◌+◌, ℕ, nat_eq, ◌∷◌, ◌++◌, [], OnOk, OnErr, IsTrue, IfOk, IfSome, IsSome, is_some, length, slice_get};
 ghost use Rattle.std.specs.HashMap.{get};
 ghost use Rattle.std.specs.Vec.{vec_len, vec_capacity};
 ghost use Rattle.fare_store.specs.Tables.{put};
 ghost use Rattle.fare_store.specs.LedgerWords.{took, AreTapsBetween};
-ghost use Rattle.fare_store.specs.TapPlaces.{items_of};
+ghost use Rattle.fare_store.specs.TapPlaces.{items_of, marks_of, rows_at};
 ghost use Rattle.fare_store.specs.PlainLedgerWords.{plain_ledger};
 
-use super::PlainLedger;
+use super::{Mark, PlainLedger};
 use fare_record::{Day, DeviceId, Record};
-use std::alloc::AllocError;
+use std::alloc::{AllocError, Global};
 use std::collections::HashMap;
 
 impl PlainLedger {
@@ -23,13 +23,8 @@ impl PlainLedger {
         let count = self.held_of(device, tap.day());
         make_room(&mut self.taken, device)?;
         self.counts.reserve(1)?;
-        let place = (
-            tap.day().get(),
-            tap.moment().get(),
-            device.get(),
-            row.lane(),
-        );
-        self.ordered.insert(place, *row)?;
+        let mark = (device, (row.lane() - 1) as usize);
+        note(&mut self.days, self.alloc, tap.day(), mark)?;
         append(&mut self.taken, row);
         let Ok(_) = self.counts.insert((device, tap.day()), count + 1) else {
             unreachable!()
@@ -42,15 +37,57 @@ impl PlainLedger {
         ensures { IfOk result (λ taps. AreTapsBetween (plain_ledger self.now) from to taps.items) }
     {
         let mut taps = Vec::new(self.alloc);
-        if from.get() > to.get() {
-            return Ok(taps);
+        for number in from.get()..=to.get() {
+            let Some(day) = Day::new(u64::from(number)) else {
+                unreachable!()
+            };
+            self.add_taps_of(day, &mut taps)?;
         }
-        let (start, end) = ((from.get(), 0, 0, 0), (to.get() + 1, 0, 0, 0));
-        for (_, row) in self.ordered.range(start..end) {
-            taps.push(*row)?;
-        }
+        taps.sort_by_key(|r| (r.tap().day(), r.tap().moment(), r.device(), r.lane()))?;
         Ok(taps)
     }
+
+    // Puts the taps of a day behind these, in the order of taking.
+    fn add_taps_of(&self, day: Day, taps: &mut Vec<Record>) -> Result<(), AllocError>
+        ensures { OnOk result (taps.new.items ≡ taps.old.items ++ rows_at (λ device. items_of (get nat_eq self.now.taken device)) (marks_of (get nat_eq self.now.days day))) }
+    {
+        let Some(marks) = self.days.get(&day) else {
+            return Ok(());
+        };
+        for mark in marks {
+            if let Some(row) = self.row_at(*mark) {
+                taps.push(row)?;
+            }
+        }
+        Ok(())
+    }
+
+    // The tap of a mark.
+    fn row_at(&self, mark: Mark) -> Option<Record>
+        ensures { result ≡ slice_get (items_of (get nat_eq self.now.taken mark.0)) mark.1 }
+    {
+        self.taken.get(&mark.0)?.get(mark.1).copied()
+    }
+}
+
+// Notes a tap of a day, behind those that the day has. At an error nothing changes.
+fn note(
+    days: &mut HashMap<Day, Vec<Mark>>,
+    alloc: Global,
+    day: Day,
+    mark: Mark,
+) -> Result<(), AllocError>
+    ensures ok { OnOk result ((other : ℕ) → marks_of (get nat_eq days.new other) ≡ put (λ d. marks_of (get nat_eq days.old d)) day (marks_of (get nat_eq days.old day) ++ mark ∷ []) other) }
+    ensures err { OnErr result ((other : ℕ) → marks_of (get nat_eq days.new other) ≡ marks_of (get nat_eq days.old other)) }
+{
+    if let Some(marks) = days.get_mut(&day) {
+        marks.push(mark)?;
+        return Ok(());
+    }
+    let mut marks = Vec::new(alloc);
+    marks.push(mark)?;
+    days.insert(day, marks)?;
+    Ok(())
 }
 
 // Makes room for one tap more of a device.

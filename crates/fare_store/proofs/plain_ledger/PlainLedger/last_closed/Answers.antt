@@ -6,4 +6,4 @@ use Rattle.fare_store.proofs.plain_ledger.PlainLedger.last_closed.Goals as goal
 pub returns : goal.returns
 returns c =
     let l = c.args.self.now in
-    c.copied.ensures ∙ c.get.ensures.value ∙ through l.start (get nat_eq l.closed c.args.device) (λ last is. (l.days c.args.device last is).0)
+    c.copied.ensures ∙ c.get.ensures.value ∙ through l.start (get nat_eq l.closed c.args.device) (λ last is. (l.ends c.args.device last is).0)

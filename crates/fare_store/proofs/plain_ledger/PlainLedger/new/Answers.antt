@@ -1,9 +1,9 @@
 use Rattle.std.proofs.Common.{◌≤◌, nat_eq, length, ap, arith}
 use Rattle.std.specs.HashMap.{get}
 use Rattle.std.specs.Map.{lookup}
-use Rattle.fare_store.specs.TapPlaces.{items_of, same_day}
+use Rattle.fare_store.specs.TapPlaces.{items_of, marks_of, same_day}
 use Rattle.fare_store.specs.PlainLedgerWords.{days_closed}
-use Rattle.fare_store.proofs.LedgerMaking.{none_fresh, more_fresh, all_known, fresh_numbered, fresh_every, fresh_listed, fresh_counted, fresh_days}
+use Rattle.fare_store.proofs.LedgerMaking.{none_fresh, more_fresh, all_known, fresh_numbered, fresh_marked, fresh_counted, fresh_positive, fresh_days}
 use Rattle.fare_store.proofs.plain_ledger.PlainLedger.new.Goals as goal
 
 pub loop-position-init : goal.loop-position-init
@@ -18,10 +18,10 @@ invariant_of-result c =
     let none = c.loop-position.invariant.empty in
     record {
       numbered = fresh_numbered (λ d. items_of (get nat_eq t d)) none;
-      listed = fresh_listed (λ d. items_of (get nat_eq t d)) c.new-2.result c.new-2.ensures.empty;
-      every = fresh_every (λ d. items_of (get nat_eq t d)) c.new-2.result none;
+      marked = fresh_marked (λ d. items_of (get nat_eq t d)) (λ d. marks_of (get nat_eq c.new-2.result d)) none (λ d. ap (λ es. marks_of (lookup (nat_eq d) es)) c.new-2.ensures.empty);
       counted = fresh_counted (λ d. items_of (get nat_eq t d)) (get same_day c.new-3.result) none (λ q. ap (lookup (same_day q)) c.new-3.ensures.empty);
-      days = fresh_days c.start.result (get same_day c.new-4.result) (get nat_eq c.new-5.result) (λ d. ap (lookup (nat_eq d)) c.new-5.ensures.empty);
+      positive = fresh_positive (get same_day c.new-3.result) (λ q. ap (lookup (same_day q)) c.new-3.ensures.empty);
+      ends = fresh_days c.start.result (get same_day c.new-4.result) (get nat_eq c.new-5.result) (λ d. ap (lookup (nat_eq d)) c.new-5.ensures.empty);
     }
 
 pub returns-clause-empty : goal.returns-clause-empty

@@ -14,12 +14,12 @@ invariant_of-self c =
     let from : l.start ≤ a.day = omega (arith, c.requires.next) in
     record {
       numbered = l.numbered;
-      listed = l.listed;
-      every = l.every;
+      marked = l.marked;
       counted = l.counted;
-      days = either_way c.insert.result c.insert.ensures.updates c.insert.ensures.err
-          (λ u. days_put l.start a.device a.day (get same_day l.stated) (get nat_eq l.closed) (get nat_eq c.insert.new.self) u.0 from c.requires.stated l.days)
-          (λ same d last is. l.days d last (ap (lookup (nat_eq d)) (sym same) ∙ is));
+      positive = l.positive;
+      ends = either_way c.insert.result c.insert.ensures.updates c.insert.ensures.err
+          (λ u. days_put l.start a.device a.day (get same_day l.stated) (get nat_eq l.closed) (get nat_eq c.insert.new.self) u.0 from c.requires.stated l.ends)
+          (λ same d last is. l.ends d last (ap (lookup (nat_eq d)) (sym same) ∙ is));
     }
 
 pub returns-clause-ok : goal.returns-clause-ok

@@ -13,12 +13,12 @@ invariant_of-self c =
     let s = c.args.statement.now in
     record {
       numbered = l.numbered;
-      listed = l.listed;
-      every = l.every;
+      marked = l.marked;
       counted = l.counted;
-      days = either_way c.insert.result c.insert.ensures.updates c.insert.ensures.err
-          (λ u. days_stated l.start s.device s.day s.count (get same_day l.stated) (get same_day c.insert.new.self) (get nat_eq l.closed) (rw (c.device.ensures, c.day.ensures, c.count.ensures.value) at u.0) l.days)
-          (λ same d last is. ((l.days d last is).0, ap (λ es. is_some (lookup (same_day (d, last)) es)) same ∙ (l.days d last is).1));
+      positive = l.positive;
+      ends = either_way c.insert.result c.insert.ensures.updates c.insert.ensures.err
+          (λ u. days_stated l.start s.device s.day s.count (get same_day l.stated) (get same_day c.insert.new.self) (get nat_eq l.closed) (rw (c.device.ensures, c.day.ensures, c.count.ensures.value) at u.0) l.ends)
+          (λ same d last is. ((l.ends d last is).0, ap (λ es. is_some (lookup (same_day (d, last)) es)) same ∙ (l.ends d last is).1));
     }
 
 pub returns-clause-ok : goal.returns-clause-ok
