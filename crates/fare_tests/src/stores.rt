@@ -1,6 +1,6 @@
 use crate::samples::{FIRST, Numbers, record, statement};
 use fare_owner::{CloseFault, StatementFault, TapFault};
-use fare_record::{Day, DeviceId, OwnerId, Record, Statement};
+use fare_record::{Day, DeviceId, Moment, OwnerId, Record, Statement};
 use fare_scheme::{DemoSize, Scheme};
 use fare_store::{
     FailingOutbox, Fault, Ledger, LedgerFault, Outbox, PlainLedger, PlainOutbox, Refused,
@@ -337,6 +337,58 @@ fn a_ledger_orders_the_taps_of_some_days(rt: HostRuntime) {
     ];
     for ((from, to), want) in cases {
         assert_eq!(rt; between(rt.alloc(), from, to), Some(want));
+    }
+}
+
+// A tap's place in the order of taps.
+fn place(row: &Record) -> (Day, Moment, DeviceId, u64) {
+    (
+        row.tap().day(),
+        row.tap().moment(),
+        row.device(),
+        row.lane(),
+    )
+}
+
+// Takes 600 taps of two devices on three days, in no order of days or moments.
+fn take_scattered(ledger: &mut PlainLedger) -> Option<()> {
+    for number in 0..600 {
+        let row = record(Numbers {
+            device: number % 2 + 1,
+            link: number / 2 + 1,
+            lane: number / 2 + 1,
+            moment: FIRST.moment + number * 37 % 100,
+            day: FIRST.day + number % 3,
+            ..FIRST
+        })?;
+        ledger.take(&row).ok()?;
+    }
+    Some(())
+}
+
+// How many of these taps are of some days, and whether each comes after the one before it.
+fn scattered(alloc: Global, from: u64, to: u64) -> Option<(usize, bool)> {
+    let scheme = Scheme::demo(alloc, DemoSize::TwoDevices, 4, 4, 4).ok()?;
+    let mut ledger = PlainLedger::new(alloc, &scheme, owner()?).ok()?;
+    take_scattered(&mut ledger)?;
+    let taps = ledger.taps_between(Day::new(from)?, Day::new(to)?).ok()?;
+    let rising = taps
+        .iter()
+        .zip(taps.iter().skip(1))
+        .all(|(a, b)| place(a) < place(b));
+    Some((taps.len(), rising))
+}
+
+#[test]
+fn a_ledger_orders_many_taps_of_two_devices(rt: HostRuntime) {
+    let cases = [
+        ((19_723, 19_724), 400),
+        ((19_725, 19_725), 200),
+        ((19_722, 19_726), 600),
+        ((19_726, 19_800), 0),
+    ];
+    for ((from, to), count) in cases {
+        assert_eq!(rt; scattered(rt.alloc(), from, to), Some((count, true)));
     }
 }
 
