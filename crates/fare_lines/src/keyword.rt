@@ -114,24 +114,48 @@ impl EventKeyword {
     }
 }
 
-// The keywords by their first letter, in each list those first that most lines have.
-const OF_T: [Keyword; 3] = [
-    Keyword::OfEvent(EventKeyword::Tap),
-    Keyword::OfEvent(EventKeyword::Take),
-    Keyword::OfEvent(EventKeyword::Turn),
+// The keywords by their first two letters, in each list those first that most lines have.
+const OF_AC: [Keyword; 1] = [Keyword::OfEvent(EventKeyword::Ack)];
+
+const OF_AN: [Keyword; 1] = [Keyword::OfEvent(EventKeyword::Answer)];
+
+const OF_AR: [Keyword; 1] = [Keyword::OfEvent(EventKeyword::Arrive)];
+
+const OF_BI: [Keyword; 1] = [Keyword::OfEvent(EventKeyword::Bill)];
+
+const OF_CA: [Keyword; 1] = [Keyword::OfScheme(SchemeKeyword::Caps)];
+
+const OF_CL: [Keyword; 1] = [Keyword::OfEvent(EventKeyword::Close)];
+
+const OF_CO: [Keyword; 1] = [Keyword::OfEvent(EventKeyword::Count)];
+
+const OF_DA: [Keyword; 1] = [Keyword::OfEvent(EventKeyword::DayAck)];
+
+const OF_DE: [Keyword; 2] = [
+    Keyword::OfScheme(SchemeKeyword::Device),
+    Keyword::OfScheme(SchemeKeyword::Demo),
 ];
 
-const OF_S: [Keyword; 7] = [
-    Keyword::OfEvent(EventKeyword::Send),
-    Keyword::OfEvent(EventKeyword::Store),
-    Keyword::OfEvent(EventKeyword::State),
-    Keyword::OfEvent(EventKeyword::Settle),
-    Keyword::OfScheme(SchemeKeyword::Station),
-    Keyword::OfScheme(SchemeKeyword::Start),
-    Keyword::OfScheme(SchemeKeyword::Seal),
+const OF_DR: [Keyword; 1] = [Keyword::OfEvent(EventKeyword::Draw)];
+
+const OF_FE: [Keyword; 1] = [Keyword::OfEvent(EventKeyword::Fetch)];
+
+const OF_FO: [Keyword; 1] = [Keyword::OfEvent(EventKeyword::Forward)];
+
+const OF_HO: [Keyword; 1] = [Keyword::OfScheme(SchemeKeyword::Hop)];
+
+const OF_IN: [Keyword; 1] = [Keyword::OfScheme(SchemeKeyword::Inbox)];
+
+const OF_OP: [Keyword; 1] = [Keyword::OfScheme(SchemeKeyword::Operator)];
+
+const OF_OW: [Keyword; 1] = [Keyword::OfScheme(SchemeKeyword::Owner)];
+
+const OF_PR: [Keyword; 2] = [
+    Keyword::OfEvent(EventKeyword::Prune),
+    Keyword::OfScheme(SchemeKeyword::Product),
 ];
 
-const OF_R: [Keyword; 7] = [
+const OF_RE: [Keyword; 7] = [
     Keyword::OfEvent(EventKeyword::Rewind),
     Keyword::OfEvent(EventKeyword::Resume),
     Keyword::OfEvent(EventKeyword::RestartHub),
@@ -141,67 +165,57 @@ const OF_R: [Keyword; 7] = [
     Keyword::OfEvent(EventKeyword::RestartOwner),
 ];
 
-const OF_A: [Keyword; 3] = [
-    Keyword::OfEvent(EventKeyword::Arrive),
-    Keyword::OfEvent(EventKeyword::Ack),
-    Keyword::OfEvent(EventKeyword::Answer),
+const OF_SE: [Keyword; 3] = [
+    Keyword::OfEvent(EventKeyword::Send),
+    Keyword::OfEvent(EventKeyword::Settle),
+    Keyword::OfScheme(SchemeKeyword::Seal),
 ];
 
-const OF_D: [Keyword; 4] = [
-    Keyword::OfEvent(EventKeyword::Draw),
-    Keyword::OfEvent(EventKeyword::DayAck),
-    Keyword::OfScheme(SchemeKeyword::Device),
-    Keyword::OfScheme(SchemeKeyword::Demo),
+const OF_ST: [Keyword; 4] = [
+    Keyword::OfEvent(EventKeyword::Store),
+    Keyword::OfEvent(EventKeyword::State),
+    Keyword::OfScheme(SchemeKeyword::Station),
+    Keyword::OfScheme(SchemeKeyword::Start),
 ];
 
-const OF_F: [Keyword; 2] = [
-    Keyword::OfEvent(EventKeyword::Forward),
-    Keyword::OfEvent(EventKeyword::Fetch),
+const OF_TA: [Keyword; 2] = [
+    Keyword::OfEvent(EventKeyword::Tap),
+    Keyword::OfEvent(EventKeyword::Take),
 ];
 
-const OF_C: [Keyword; 3] = [
-    Keyword::OfEvent(EventKeyword::Count),
-    Keyword::OfEvent(EventKeyword::Close),
-    Keyword::OfScheme(SchemeKeyword::Caps),
-];
+const OF_TU: [Keyword; 1] = [Keyword::OfEvent(EventKeyword::Turn)];
 
-const OF_P: [Keyword; 2] = [
-    Keyword::OfEvent(EventKeyword::Prune),
-    Keyword::OfScheme(SchemeKeyword::Product),
-];
-
-const OF_U: [Keyword; 1] = [Keyword::OfEvent(EventKeyword::Upto)];
-
-const OF_B: [Keyword; 1] = [Keyword::OfEvent(EventKeyword::Bill)];
-
-const OF_O: [Keyword; 2] = [
-    Keyword::OfScheme(SchemeKeyword::Owner),
-    Keyword::OfScheme(SchemeKeyword::Operator),
-];
-
-const OF_H: [Keyword; 1] = [Keyword::OfScheme(SchemeKeyword::Hop)];
-
-const OF_I: [Keyword; 1] = [Keyword::OfScheme(SchemeKeyword::Inbox)];
+const OF_UP: [Keyword; 1] = [Keyword::OfEvent(EventKeyword::Upto)];
 
 impl Keyword {
-    // All keywords whose text begins with this letter.
-    fn of_letter(letter: u8) -> &'static [Keyword]
-        ensures { (k : Keyword) → slice_index (keyword_text k) 0 ≡ letter → HasKeyword result.now k }
+    // All keywords whose text begins with these two letters.
+    fn of_letters(first: u8, second: u8) -> &'static [Keyword]
+        ensures { (k : Keyword) → slice_index (keyword_text k) 0 ≡ first → slice_index (keyword_text k) 1 ≡ second → HasKeyword result.now k }
     {
-        match letter {
-            b't' => &OF_T,
-            b's' => &OF_S,
-            b'r' => &OF_R,
-            b'a' => &OF_A,
-            b'd' => &OF_D,
-            b'f' => &OF_F,
-            b'c' => &OF_C,
-            b'p' => &OF_P,
-            b'u' => &OF_U,
-            b'b' => &OF_B,
-            b'o' => &OF_O,
-            b'h' => &OF_H,
-            b'i' => &OF_I,
+        match (first, second) {
+            (b'a', b'c') => &OF_AC,
+            (b'a', b'n') => &OF_AN,
+            (b'a', b'r') => &OF_AR,
+            (b'b', b'i') => &OF_BI,
+            (b'c', b'a') => &OF_CA,
+            (b'c', b'l') => &OF_CL,
+            (b'c', b'o') => &OF_CO,
+            (b'd', b'a') => &OF_DA,
+            (b'd', b'e') => &OF_DE,
+            (b'd', b'r') => &OF_DR,
+            (b'f', b'e') => &OF_FE,
+            (b'f', b'o') => &OF_FO,
+            (b'h', b'o') => &OF_HO,
+            (b'i', b'n') => &OF_IN,
+            (b'o', b'p') => &OF_OP,
+            (b'o', b'w') => &OF_OW,
+            (b'p', b'r') => &OF_PR,
+            (b'r', b'e') => &OF_RE,
+            (b's', b'e') => &OF_SE,
+            (b's', b't') => &OF_ST,
+            (b't', b'a') => &OF_TA,
+            (b't', b'u') => &OF_TU,
+            (b'u', b'p') => &OF_UP,
             _ => &[],
         }
     }
@@ -222,8 +236,10 @@ impl Keyword {
         ensures found { IfSome result (λ cut. CutsAt is_ascii_digit text.now (keyword_text cut.0) cut.1.now) }
         ensures none { IfNone result ((k : Keyword) (rest : List ℕ) → BeginsWith is_ascii_digit rest → text.now ≡ keyword_text k ++ rest → ⊥) }
     {
-        let letter = text.first()?;
-        find_keyword(Keyword::of_letter(*letter), text)
+        let [first, second, ..] = text else {
+            return None;
+        };
+        find_keyword(Keyword::of_letters(*first, *second), text)
     }
 
     // What stands behind this keyword at the front of a text, if that is nothing or begins with a digit.
