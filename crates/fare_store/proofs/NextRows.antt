@@ -1,7 +1,7 @@
--- The first entry of a range of keys, and what stands before it.
-use Rattle.std.proofs.Common.{◌≡◌, ℕ, ◌<◌, ◌≤◌, List, ◌∷◌, Option, Some, None, is_some, false, refl, sym, ◌∙◌, ap, subst, arith}
-use Rattle.std.specs.Prelude.{IsSome, IfSome, slice_get}
-use Rattle.std.specs.Ordering.{nat_cmp, is_gt}
+-- The next row and the next statement, by what stands in a range of keys.
+use Rattle.std.proofs.Common.{◌≡◌, ℕ, ◌<◌, ◌≤◌, List, [], ◌∷◌, Option, Some, None, is_some, false, refl, sym, ◌∙◌, ap, subst, arith}
+use Rattle.std.specs.Prelude.{◌++◌, IsSome, IfSome, slice_get}
+use Rattle.std.specs.Ordering.{is_lt, is_gt}
 use Rattle.std.specs.declared.cmp.Ordering.{Ordering}
 use Rattle.std.specs.declared.cmp.Ordering.TheVariants.{Less}
 use Rattle.std.proofs.lemmas.Bool.Decides.{nat_tests}
@@ -11,6 +11,7 @@ use Rattle.std.specs.BTreeMap.Range.{IsInRange, IsEntryInRange, IsRangeOf, IsLeB
 use Rattle.std.specs.declared.ops.Bound.{Bound}
 use Rattle.std.specs.declared.ops.Bound.TheVariants.{Included, Excluded, Unbounded}
 use Rattle.fare_record.specs.Values.{RecordValue}
+use Rattle.fare_store.specs.Falling.{falling}
 use Rattle.fare_store.specs.Keys.{Key, key_order}
 use Rattle.fare_store.specs.OutboxWords.{IsLeastRow, IsLeastStatement}
 use Rattle.fare_store.specs.PlacedRows.{ArePlaced}
@@ -52,34 +53,44 @@ none_before {A} entries within k v owner device first same equal y inside less =
     by (Some s) is = absurd (omega (arith, less, (comes k (owner, device, y) (first.least (owner, device, y) inside (ap is_some is))).third same equal))
 
 -- ROWS
-abbrev After : ℕ → ℕ → Type 0
-After after = IsInRange nat_cmp (Excluded after) Unbounded
+-- an entry of a range, where each other one of the range comes before it
+pub record IsLast {K A : Type 0} (order : K → K → Ordering) (entries : K → Option A) (within : K → Type 0) (k : K) (v : A) : Type 0 where
+  pub inside : within k
+  pub found : entries k ≡ Some v
+  pub greatest : (q : K) → within q → IsSome (entries q) → is_lt (order k q) ≡ false
 
-after_here : (after lane : ℕ) → after < lane → After after lane
-after_here after lane h = (less, tt)
+pub last_of : {K A : Type 0} (order : K → K → Ordering) (m : tree.BTreeMap K A) (lo hi : Bound K) (range : List (K × A)) (e : K × A) (rest : List (K × A)) → range ≡ rest ++ e ∷ [] → IsRangeOf order lo hi m range → IsLast order (tree.get order m) (IsInRange order lo hi) e.0 e.1
+last_of order m lo hi range e rest is h = let here = h.3 e rest is in record { inside = here.0; found = here.1; greatest = h.4 e rest is }
+
+-- in falling order, the lane numbers before one are those behind it
+abbrev Before : ℕ → ℕ → Type 0
+Before after = IsInRange falling Unbounded (Excluded after)
+
+behind_here : (after lane : ℕ) → after < lane → Before after lane
+behind_here after lane h = (tt, less)
   where
-    less : nat_cmp after lane ≡ Less
+    less : falling lane after ≡ Less
     less = grind (arith, nat_tests)
 
--- the first row of a lane is its least
-pub least_row : (rows : ℕ → ℕ → ℕ → Option RecordValue) (held : tree.BTreeMap ℕ RecordValue) (owner device after k : ℕ) (r : RecordValue) → ArePlaced rows → ((l : ℕ) → rows owner device l ≡ tree.get nat_cmp held l) → IsFirst nat_cmp (tree.get nat_cmp held) (After after) k r
+-- the last of them is the least
+pub least_row : (rows : ℕ → ℕ → ℕ → Option RecordValue) (held : tree.BTreeMap ℕ RecordValue) (owner device after k : ℕ) (r : RecordValue) → ArePlaced rows → ((l : ℕ) → rows owner device l ≡ tree.get falling held l) → IsLast falling (tree.get falling held) (Before after) k r
     → IsLeastRow rows owner device after r
-least_row rows held owner device after k r placed same first =
-    let at = placed owner device k r (same k ∙ first.found) in
+least_row rows held owner device after k r placed same last =
+    let at = placed owner device k r (same k ∙ last.found) in
     record {
       of_owner = at.owner_is;
       of_device = at.device_is;
-      behind = subst (λ n. after < n) (sym at.lane_is) (past first.inside.0);
-      is_held = ap (rows owner device) at.lane_is ∙ same k ∙ first.found;
-      least = λ lane h less. same lane ∙ none lane h (subst (λ n. lane < n) at.lane_is less) (tree.get nat_cmp held lane) refl;
+      behind = subst (λ n. after < n) (sym at.lane_is) (past last.inside.1);
+      is_held = ap (rows owner device) at.lane_is ∙ same k ∙ last.found;
+      least = λ lane h less. same lane ∙ none lane h (subst (λ n. lane < n) at.lane_is less) (tree.get falling held lane) refl;
     }
   where
-    past : nat_cmp after k ≡ Less → after < k
+    past : falling k after ≡ Less → after < k
     past h = ranked after k Less (sym h)
 
-    none : (lane : ℕ) → after < lane → lane < k → (o : Option RecordValue) → tree.get nat_cmp held lane ≡ o → tree.get nat_cmp held lane ≡ None
+    none : (lane : ℕ) → after < lane → lane < k → (o : Option RecordValue) → tree.get falling held lane ≡ o → tree.get falling held lane ≡ None
     none lane h less None is = is
-    none lane h less (Some s) is = let upto : is_gt (nat_cmp k lane) ≡ false = first.least lane (after_here after lane h) (ap is_some is) in absurd (grind (arith, nat_tests))
+    none lane h less (Some s) is = let upto : is_lt (falling k lane) ≡ false = last.greatest lane (behind_here after lane h) (ap is_some is) in absurd (grind (arith, nat_tests))
 
 -- STATEMENTS
 abbrev From : ℕ → ℕ → ℕ → Key → Type 0

@@ -1,12 +1,13 @@
--- The rows of a lane go up to a lane number, from the first on.
-use Rattle.std.proofs.Common.{◌≡◌, ℕ, zero, suc, ◌+◌, ◌<◌, ◌≤◌, ◌==◌, Bool, true, false, List, [], ◌∷◌, length, Option, Some, None, is_some, refl, sym, ◌∙◌, ap, cond, arith}
+-- The rows of a lane go up to a lane number, from the oldest on.
+use Rattle.std.proofs.Common.{◌≡◌, ℕ, zero, suc, ◌+◌, ◌-◌, ◌<◌, ◌≤◌, ◌==◌, Bool, true, false, List, [], ◌∷◌, ◌++◌, length, Option, Some, None, is_some, refl, sym, ◌∙◌, ap, cond, arith}
 use Rattle.std.specs.Prelude.{nat_le, if◌then◌else◌, slice_get, IsSome, IfSome}
 use Rattle.std.specs.BTreeMap as tree
-use Rattle.std.specs.Ordering.{nat_cmp, is_eq, is_gt}
+use Rattle.std.specs.Ordering.{is_eq, is_lt}
 use Rattle.std.specs.Map.{lookup}
 use Rattle.std.proofs.lemmas.Bool.Decides.{nat_tests}
 use Rattle.fare_record.specs.Values.{RecordValue}
 use Rattle.fare_store.specs.Tables.{put, put2}
+use Rattle.fare_store.specs.Falling.{falling}
 use Rattle.fare_store.specs.Keys.{same_lane}
 use Rattle.fare_store.specs.PlacedRows.{row_in, rows_in}
 use Rattle.fare_store.specs.OutboxWords.{behind, rows_upto}
@@ -78,23 +79,30 @@ pub record AreGoing (upto : ℕ) (was is : Lane) (before len : ℕ) : Type 0 whe
   pub left : (l : ℕ) → behind upto is l ≡ behind upto was l
   pub count : before + rows_upto upto is ≡ len + rows_upto upto was
 
--- the row at the front was taken out
-pub front_out : (old new : tree.BTreeMap ℕ RecordValue) (k : ℕ) (r : RecordValue) (out : Option (ℕ × RecordValue)) → slice_get old.entries 0 ≡ Some (k, r) → IsSome out → IfSome out (λ p. old.entries ≡ p ∷ new.entries) → IfSome out (λ p. tree.Updates nat_cmp old new p.0 None)
-    → (q : ℕ) → tree.get nat_cmp new q ≡ cond (is_eq (nat_cmp k q)) None (tree.get nat_cmp old q)
-front_out old new k r None first some removal updates = absurd (cc)
-front_out old new k r (Some p) first some removal updates =
-    let front : ◌≡◌ {A = Option (ℕ × RecordValue)} (Some p) (Some (k, r)) = sym (ap (λ es. slice_get es 0) removal) ∙ first in
-    let same : p ≡ (k, r) = cc in
-    λ q. updates.0 q ∙ ap (λ (e : ℕ × RecordValue). cond (is_eq (nat_cmp e.0 q)) None (tree.get nat_cmp old q)) same
+-- the row at the end was taken out
+at_end : {X : Type 0} (xs : List X) (x : X) (n : ℕ) → n ≡ length xs → slice_get (xs ++ x ∷ []) n ≡ Some x
+at_end [] x zero is = refl
+at_end [] x (suc n) is = absurd (omega (arith, is))
+at_end (y ∷ ys) x zero is = absurd (omega (arith, is))
+at_end (y ∷ ys) x (suc n) is = at_end ys x n (omega (arith, is))
 
--- the first goes
-pub one_gone : (upto : ℕ) (was : Lane) (before : ℕ) (old new : tree.BTreeMap ℕ RecordValue) (k : ℕ) → AreGoing upto was (tree.get nat_cmp old) before (tree.btree_map_len old) → k ≤ upto → is_some (tree.get nat_cmp old k) ≡ true
-    → ((q : ℕ) → tree.get nat_cmp new q ≡ cond (is_eq (nat_cmp k q)) None (tree.get nat_cmp old q)) → tree.btree_map_len new + 1 ≡ tree.btree_map_len old → AreGoing upto was (tree.get nat_cmp new) before (tree.btree_map_len new)
+pub back_out : (old new : tree.BTreeMap ℕ RecordValue) (k : ℕ) (r : RecordValue) (out : Option (ℕ × RecordValue)) → slice_get old.entries (tree.btree_map_len old - 1) ≡ Some (k, r) → IsSome out → IfSome out (λ p. old.entries ≡ new.entries ++ p ∷ []) → tree.btree_map_len new + 1 ≡ tree.btree_map_len old → IfSome out (λ p. tree.Updates falling old new p.0 None)
+    → (q : ℕ) → tree.get falling new q ≡ cond (is_eq (falling k q)) None (tree.get falling old q)
+back_out old new k r None last some removal fewer updates = absurd (cc)
+back_out old new k r (Some p) last some removal fewer updates =
+    let place : tree.btree_map_len old - 1 ≡ length new.entries = omega (arith, fewer) in
+    let back : ◌≡◌ {A = Option (ℕ × RecordValue)} (Some p) (Some (k, r)) = sym (at_end new.entries p (tree.btree_map_len old - 1) place) ∙ sym (ap (λ es. slice_get es (tree.btree_map_len old - 1)) removal) ∙ last in
+    let same : p ≡ (k, r) = cc in
+    λ q. updates.0 q ∙ ap (λ (e : ℕ × RecordValue). cond (is_eq (falling e.0 q)) None (tree.get falling old q)) same
+
+-- the oldest goes
+pub one_gone : (upto : ℕ) (was : Lane) (before : ℕ) (old new : tree.BTreeMap ℕ RecordValue) (k : ℕ) → AreGoing upto was (tree.get falling old) before (tree.btree_map_len old) → k ≤ upto → is_some (tree.get falling old k) ≡ true
+    → ((q : ℕ) → tree.get falling new q ≡ cond (is_eq (falling k q)) None (tree.get falling old q)) → tree.btree_map_len new + 1 ≡ tree.btree_map_len old → AreGoing upto was (tree.get falling new) before (tree.btree_map_len new)
 one_gone upto was before old new k so h held writes fewer =
-    let went : (l : ℕ) → tree.get nat_cmp new l ≡ put (tree.get nat_cmp old) k None l = row_put k None old new writes in
+    let went : (l : ℕ) → tree.get falling new l ≡ put (tree.get falling old) k None l = row_put k None old new writes in
     record {
-      left = λ l. behind_less upto k (tree.get nat_cmp old) (tree.get nat_cmp new) h went l ∙ so.left l;
-      count = let less : rows_upto upto (tree.get nat_cmp new) + 1 ≡ rows_upto upto (tree.get nat_cmp old) = count_less upto k (tree.get nat_cmp old) (tree.get nat_cmp new) h held went in omega (arith, so.count, less, fewer);
+      left = λ l. behind_less upto k (tree.get falling old) (tree.get falling new) h went l ∙ so.left l;
+      count = let less : rows_upto upto (tree.get falling new) + 1 ≡ rows_upto upto (tree.get falling old) = count_less upto k (tree.get falling old) (tree.get falling new) h held went in omega (arith, so.count, less, fewer);
     }
 
 -- ALL WENT
@@ -110,20 +118,20 @@ all_gone upto was is before len so none = record {
 }
 
 -- the lane is empty
-pub gone_empty : (upto : ℕ) (was : Lane) (before : ℕ) (rows : tree.BTreeMap ℕ RecordValue) → AreGoing upto was (tree.get nat_cmp rows) before (tree.btree_map_len rows) → tree.btree_map_len rows ≡ 0 → AllGone upto was (tree.get nat_cmp rows) before (tree.btree_map_len rows)
-gone_empty upto was before rows so empty = all_gone upto was (tree.get nat_cmp rows) before (tree.btree_map_len rows) so (λ l h. none rows.entries empty l)
+pub gone_empty : (upto : ℕ) (was : Lane) (before : ℕ) (rows : tree.BTreeMap ℕ RecordValue) → AreGoing upto was (tree.get falling rows) before (tree.btree_map_len rows) → tree.btree_map_len rows ≡ 0 → AllGone upto was (tree.get falling rows) before (tree.btree_map_len rows)
+gone_empty upto was before rows so empty = all_gone upto was (tree.get falling rows) before (tree.btree_map_len rows) so (λ l h. none rows.entries empty l)
   where
-    none : (es : List (ℕ × RecordValue)) → length es ≡ 0 → (l : ℕ) → lookup (λ k. is_eq (nat_cmp l k)) es ≡ None
+    none : (es : List (ℕ × RecordValue)) → length es ≡ 0 → (l : ℕ) → lookup (λ k. is_eq (falling l k)) es ≡ None
     none [] e l = refl
     none (x ∷ xs) e l = absurd (cc)
 
--- the first that is left stands behind the lane number
-pub gone_past : (upto : ℕ) (was : Lane) (before : ℕ) (rows : tree.BTreeMap ℕ RecordValue) (first : ℕ) → AreGoing upto was (tree.get nat_cmp rows) before (tree.btree_map_len rows) → upto < first → tree.IsLowerBound nat_cmp rows first → AllGone upto was (tree.get nat_cmp rows) before (tree.btree_map_len rows)
-gone_past upto was before rows first so past least = all_gone upto was (tree.get nat_cmp rows) before (tree.btree_map_len rows) so (λ l h. none l h (tree.get nat_cmp rows l) refl)
+-- the oldest that is left stands behind the lane number
+pub gone_past : (upto : ℕ) (was : Lane) (before : ℕ) (rows : tree.BTreeMap ℕ RecordValue) (oldest : ℕ) → AreGoing upto was (tree.get falling rows) before (tree.btree_map_len rows) → upto < oldest → tree.IsUpperBound falling rows oldest → AllGone upto was (tree.get falling rows) before (tree.btree_map_len rows)
+gone_past upto was before rows oldest so past last = all_gone upto was (tree.get falling rows) before (tree.btree_map_len rows) so (λ l h. none l h (tree.get falling rows l) refl)
   where
-    none : (l : ℕ) → l ≤ upto → (o : Option RecordValue) → tree.get nat_cmp rows l ≡ o → tree.get nat_cmp rows l ≡ None
+    none : (l : ℕ) → l ≤ upto → (o : Option RecordValue) → tree.get falling rows l ≡ o → tree.get falling rows l ≡ None
     none l h None is = is
-    none l h (Some r) is = let from : is_gt (nat_cmp first l) ≡ false = least l (ap is_some is) in absurd (grind (arith, nat_tests))
+    none l h (Some r) is = let from : is_lt (falling oldest l) ≡ false = last l (ap is_some is) in absurd (grind (arith, nat_tests))
 
 -- AN OWNER'S LANE OF A DEVICE
 -- it has no row
@@ -131,6 +139,6 @@ pub nothing_behind : (a b upto : ℕ) (rows : Rows) → ((l : ℕ) → rows a b 
 nothing_behind a b upto rows none x y z = ap (λ f. f z) (sym (put_same rows a b x y)) ∙ (λ i. put2 rows a b (λ l. behind_none upto (rows a b) (λ m h. none m) l i) x y z)
 
 -- its rows went up to a lane number
-pub lane_behind : (a b upto : ℕ) (was is : tree.BTreeMap ℕ RecordValue) (old new : Lanes) → old (a, b) ≡ Some was → ((l : ℕ) → tree.get nat_cmp is l ≡ behind upto (tree.get nat_cmp was) l) → ((q : ℕ × ℕ) → new q ≡ cond (same_lane (a, b) q) (Some is) (old q))
+pub lane_behind : (a b upto : ℕ) (was is : tree.BTreeMap ℕ RecordValue) (old new : Lanes) → old (a, b) ≡ Some was → ((l : ℕ) → tree.get falling is l ≡ behind upto (tree.get falling was) l) → ((q : ℕ × ℕ) → new q ≡ cond (same_lane (a, b) q) (Some is) (old q))
     → (x y z : ℕ) → rows_in new x y z ≡ put2 (rows_in old) a b (behind upto (rows_in old a b)) x y z
 lane_behind a b upto was is old new there left writes = lane_put a b is (behind upto (rows_in old a b)) old new (λ l. left l ∙ ap (λ o. behind upto (row_in o) l) (sym there)) writes

@@ -3,6 +3,7 @@ pub mod Standing
 pub mod OutboxWords
 pub mod LedgerWords
 pub mod Failing
+pub mod Falling
 pub mod Keys
 pub mod PlacedRows
 pub mod PlainOutboxWords

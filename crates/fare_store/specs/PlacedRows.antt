@@ -1,15 +1,15 @@
 -- What holds of the maps of a plain outbox.
 use Rattle.std.specs.Prelude.{◌≡◌, ℕ, true, Option, None, Some, is_some}
 use Rattle.std.specs.BTreeMap as tree
-use Rattle.std.specs.Ordering.{nat_cmp}
 use Rattle.fare_record.specs.Limits.{IsNumber, IsCount}
 use Rattle.fare_record.specs.Values.{RecordValue}
+use Rattle.fare_store.specs.Falling.{falling}
 use Rattle.fare_store.specs.Keys.{key_order}
 
 -- the rows of a lane, where it has had one, by lane number
 abbrev pub row_in : Option (tree.BTreeMap ℕ RecordValue) → ℕ → Option RecordValue
 row_in None lane = None
-row_in (Some rows) lane = tree.get nat_cmp rows lane
+row_in (Some rows) lane = tree.get falling rows lane
 
 -- the rows of all lanes, by owner, device and lane number
 abbrev pub rows_in : (ℕ × ℕ → Option (tree.BTreeMap ℕ RecordValue)) → ℕ → ℕ → ℕ → Option RecordValue

@@ -6,8 +6,10 @@ ghost use Rattle.fare_store.specs.PlacedRows.{rows_in, ArePlaced, AreKnown, AreC
 mod calls;
 mod holding;
 mod lanes;
+mod reverse;
 
 use fare_record::{Day, DeviceId, OwnerId, Record};
+use reverse::Reverse;
 use std::alloc::Global;
 use std::collections::{BTreeMap, HashMap};
 
@@ -19,8 +21,9 @@ pub struct PlainOutbox {
     alloc: Global,
     // The greatest link that it has had of each device that it saw.
     upto: HashMap<DeviceId, u64>,
-    // The rows of each lane that has had one, by lane number.
-    lanes: HashMap<Lane, BTreeMap<u64, Record>>,
+    // The rows of each lane that has had one, by lane number, the newest first: a map is searched from the front, and
+    // new rows come there.
+    lanes: HashMap<Lane, BTreeMap<Reverse, Record>>,
     // How many rows these are.
     row_count: usize,
     // The counts of the statements by owner, device and day.

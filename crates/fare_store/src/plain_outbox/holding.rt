@@ -5,11 +5,11 @@ ghost use Rattle.fare_store.specs.PlainOutboxWords.{plain_outbox};
 
 use super::PlainOutbox;
 use super::lanes::{prune_lane, put_row};
+use super::reverse::Reverse;
 use crate::{StatedFault, StoreFault};
 use fare_record::{Day, DeviceId, OwnerId, Record, Statement};
 use std::alloc::{AllocError, Global};
 use std::collections::{BTreeMap, HashMap};
-use std::ops::Bound;
 
 // How many tap rows, and how many statements, an outbox holds at most.
 const ROWS: usize = 1_000_000;
@@ -46,16 +46,16 @@ impl PlainOutbox {
         }
     }
 
-    // Whether there is a row at a place. Behind a lane's last row there is none, and most rows come there.
+    // Whether there is a row at a place. Behind a lane's newest row there is none, and most rows come there.
     fn has_row(&self, owner: OwnerId, device: DeviceId, lane: u64) -> bool
         ensures { result ≡ is_some ((plain_outbox self.now).rows owner device lane) }
     {
         let Some(rows) = self.lanes.get(&(owner, device)) else {
             return false;
         };
-        match rows.last_key_value() {
-            Some((last, _)) if *last < lane => false,
-            _ => rows.contains_key(&lane),
+        match rows.first_key_value() {
+            Some((newest, _)) if newest.0 < lane => false,
+            _ => rows.contains_key(&Reverse(lane)),
         }
     }
 
@@ -124,8 +124,7 @@ impl PlainOutbox {
         ensures { IsNextRow (plain_outbox self.now).rows owner device after result }
     {
         let rows = self.lanes.get(&(owner, device))?;
-        let behind = (Bound::Excluded(after), Bound::Unbounded);
-        let (_, row) = rows.range(behind).next()?;
+        let (_, row) = rows.range(..Reverse(after)).next_back()?;
         Some(*row)
     }
 

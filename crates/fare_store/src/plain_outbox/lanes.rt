@@ -1,20 +1,21 @@
 ghost use Rattle.std.specs.Prelude.{◌≡◌, ℕ, ◌+◌, Some, OnOk, OnErr};
 ghost use Rattle.std.specs.HashMap.{get};
 ghost use Rattle.std.specs.BTreeMap as tree;
-ghost use Rattle.std.specs.Ordering.{nat_cmp};
 ghost use Rattle.fare_store.specs.Tables.{put2, put3};
+ghost use Rattle.fare_store.specs.Falling.{falling};
 ghost use Rattle.fare_store.specs.Keys.{same_lane};
 ghost use Rattle.fare_store.specs.PlacedRows.{rows_in};
 ghost use Rattle.fare_store.specs.OutboxWords.{behind, rows_upto};
 
 use super::Lane;
+use super::reverse::Reverse;
 use fare_record::Record;
 use std::alloc::{AllocError, Global};
 use std::collections::{BTreeMap, HashMap};
 
 // Puts a row into its lane. At an error no row changes.
 pub(super) fn put_row(
-    lanes: &mut HashMap<Lane, BTreeMap<u64, Record>>,
+    lanes: &mut HashMap<Lane, BTreeMap<Reverse, Record>>,
     alloc: Global,
     row: &Record,
 ) -> Result<(), AllocError>
@@ -23,18 +24,18 @@ pub(super) fn put_row(
 {
     let key = (row.owner(), row.device());
     if let Some(rows) = lanes.get_mut(&key) {
-        rows.insert(row.lane(), *row)?;
+        rows.insert(Reverse(row.lane()), *row)?;
         return Ok(());
     }
     let mut rows = BTreeMap::new(alloc);
-    rows.insert(row.lane(), *row)?;
+    rows.insert(Reverse(row.lane()), *row)?;
     lanes.insert(key, rows)?;
     Ok(())
 }
 
 // Lets the rows of an owner's lane of a device go up to a lane number, and answers how many.
 pub(super) fn prune_lane(
-    lanes: &mut HashMap<Lane, BTreeMap<u64, Record>>,
+    lanes: &mut HashMap<Lane, BTreeMap<Reverse, Record>>,
     lane: Lane,
     upto: u64,
 ) -> usize
@@ -49,14 +50,14 @@ pub(super) fn prune_lane(
     before - rows.len()
 }
 
-// Lets the rows of a lane go up to a lane number, from the first on.
-fn drop_rows(rows: &mut BTreeMap<u64, Record>, upto: u64)
-    ensures left { (lane : ℕ) → tree.get nat_cmp rows.new lane ≡ behind upto (tree.get nat_cmp rows.old) lane }
-    ensures count { tree.btree_map_len rows.new + rows_upto upto (tree.get nat_cmp rows.old) ≡ tree.btree_map_len rows.old }
+// Lets the rows of a lane go up to a lane number, from the oldest on, which stands last.
+fn drop_rows(rows: &mut BTreeMap<Reverse, Record>, upto: u64)
+    ensures left { (lane : ℕ) → tree.get falling rows.new lane ≡ behind upto (tree.get falling rows.old) lane }
+    ensures count { tree.btree_map_len rows.new + rows_upto upto (tree.get falling rows.old) ≡ tree.btree_map_len rows.old }
 {
-    while let Some((lane, _)) = rows.first_key_value()
-        && *lane <= upto
+    while let Some((oldest, _)) = rows.last_key_value()
+        && oldest.0 <= upto
     {
-        rows.pop_first();
+        rows.pop_last();
     }
 }

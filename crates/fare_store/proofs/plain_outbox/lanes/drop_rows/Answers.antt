@@ -1,29 +1,29 @@
 use Rattle.std.proofs.Common.{rules, ◌≡◌, ◌+◌, is_some, refl, sym, ◌∙◌, ap, arith}
 use Rattle.std.specs.Prelude.{IsSome, if◌then◌else◌}
 use Rattle.std.specs.BTreeMap as tree
-use Rattle.std.specs.Ordering.{nat_cmp}
-use Rattle.fare_store.proofs.Pruning.{front_out, one_gone, gone_empty, gone_past}
+use Rattle.fare_store.specs.Falling.{falling}
+use Rattle.fare_store.proofs.Pruning.{back_out, one_gone, gone_empty, gone_past}
 use Rattle.fare_store.proofs.plain_outbox.lanes.drop_rows.Goals as goal
 
-pub loop-lane-preserved : goal.loop-lane-preserved
-loop-lane-preserved c =
-    let some : IsSome c.pop_first.result = c.pop_first.ensures.variant.1 (c.in-Some.ensures.variant.0 refl) in
-    let out = front_out c.loop-lane.rows c.pop_first.new.self c.in-Some.lane.now c.in-Some.field-0-1.now c.pop_first.result c.in-Some.ensures.first some c.pop_first.ensures.removal c.pop_first.ensures.updates in
-    one_gone c.args.upto (tree.get nat_cmp c.args.rows.now) (tree.btree_map_len c.args.rows.now) c.loop-lane.rows c.pop_first.new.self c.in-Some.lane.now c.loop-lane.invariant (omega (arith, c.if-lane-upto.true)) (ap is_some c.in-Some.ensures.value) out
-    (ap (λ t. tree.btree_map_len c.pop_first.new.self + (if t then 1 else 0)) (sym some) ∙ c.pop_first.ensures.len)
+pub loop-oldest-preserved : goal.loop-oldest-preserved
+loop-oldest-preserved c =
+    let some : IsSome c.pop_last.result = c.pop_last.ensures.variant.1 (c.in-Some.ensures.variant.0 refl) in
+    let fewer : tree.btree_map_len c.pop_last.new.self + 1 ≡ tree.btree_map_len c.loop-oldest.rows = ap (λ t. tree.btree_map_len c.pop_last.new.self + (if t then 1 else 0)) (sym some) ∙ c.pop_last.ensures.len in
+    let out = back_out c.loop-oldest.rows c.pop_last.new.self c.in-Some.oldest.now c.in-Some.field-0-1.now c.pop_last.result c.in-Some.ensures.last some c.pop_last.ensures.removal fewer c.pop_last.ensures.updates in
+    one_gone c.args.upto (tree.get falling c.args.rows.now) (tree.btree_map_len c.args.rows.now) c.loop-oldest.rows c.pop_last.new.self c.in-Some.oldest.now c.loop-oldest.invariant (omega (arith, c.if-oldest-upto.true)) (ap is_some c.in-Some.ensures.value) out fewer
 
-pub returns-in-loop-lane-clause-left : goal.returns-in-loop-lane-clause-left
-returns-in-loop-lane-clause-left c =
-    let empty : tree.btree_map_len c.loop-lane.rows ≡ 0 = search rules in
-    (gone_empty c.args.upto (tree.get nat_cmp c.args.rows.now) (tree.btree_map_len c.args.rows.now) c.loop-lane.rows c.loop-lane.invariant empty).left
+pub returns-in-loop-oldest-clause-left : goal.returns-in-loop-oldest-clause-left
+returns-in-loop-oldest-clause-left c =
+    let empty : tree.btree_map_len c.loop-oldest.rows ≡ 0 = search rules in
+    (gone_empty c.args.upto (tree.get falling c.args.rows.now) (tree.btree_map_len c.args.rows.now) c.loop-oldest.rows c.loop-oldest.invariant empty).left
 
-pub returns-in-loop-lane-clause-count : goal.returns-in-loop-lane-clause-count
-returns-in-loop-lane-clause-count c =
-    let empty : tree.btree_map_len c.loop-lane.rows ≡ 0 = search rules in
-    (gone_empty c.args.upto (tree.get nat_cmp c.args.rows.now) (tree.btree_map_len c.args.rows.now) c.loop-lane.rows c.loop-lane.invariant empty).count
+pub returns-in-loop-oldest-clause-count : goal.returns-in-loop-oldest-clause-count
+returns-in-loop-oldest-clause-count c =
+    let empty : tree.btree_map_len c.loop-oldest.rows ≡ 0 = search rules in
+    (gone_empty c.args.upto (tree.get falling c.args.rows.now) (tree.btree_map_len c.args.rows.now) c.loop-oldest.rows c.loop-oldest.invariant empty).count
 
-pub returns-else-lane-upto-clause-left : goal.returns-else-lane-upto-clause-left
-returns-else-lane-upto-clause-left c = (gone_past c.args.upto (tree.get nat_cmp c.args.rows.now) (tree.btree_map_len c.args.rows.now) c.loop-lane.rows c.in-Some.lane.now c.loop-lane.invariant (omega (arith, c.if-lane-upto.false)) c.in-Some.ensures.least).left
+pub returns-else-oldest-upto-clause-left : goal.returns-else-oldest-upto-clause-left
+returns-else-oldest-upto-clause-left c = (gone_past c.args.upto (tree.get falling c.args.rows.now) (tree.btree_map_len c.args.rows.now) c.loop-oldest.rows c.in-Some.oldest.now c.loop-oldest.invariant (omega (arith, c.if-oldest-upto.false)) c.in-Some.ensures.greatest).left
 
-pub returns-else-lane-upto-clause-count : goal.returns-else-lane-upto-clause-count
-returns-else-lane-upto-clause-count c = (gone_past c.args.upto (tree.get nat_cmp c.args.rows.now) (tree.btree_map_len c.args.rows.now) c.loop-lane.rows c.in-Some.lane.now c.loop-lane.invariant (omega (arith, c.if-lane-upto.false)) c.in-Some.ensures.least).count
+pub returns-else-oldest-upto-clause-count : goal.returns-else-oldest-upto-clause-count
+returns-else-oldest-upto-clause-count c = (gone_past c.args.upto (tree.get falling c.args.rows.now) (tree.btree_map_len c.args.rows.now) c.loop-oldest.rows c.in-Some.oldest.now c.loop-oldest.invariant (omega (arith, c.if-oldest-upto.false)) c.in-Some.ensures.greatest).count
