@@ -22,10 +22,6 @@ pub either_way : {T E P Q X : Type 0} (r : Result T E) → OnOk r P → OnErr r 
 either_way (Ok x) p q f g = f p
 either_way (Err e) p q f g = g q
 
--- at one number
-pub put_is : {A : Type 0} (key : ℕ) (value : A) (old new : ℕ → A) → ((q : ℕ) → new q ≡ cond (nat_eq key q) value (old q)) → (q : ℕ) → new q ≡ put old key value q
-put_is key value old new writes q = writes q ∙ ap (λ b. cond b value (old q)) (turned key q)
-
 -- at two and at three
 pub put2_is : {A : Type 0} (a b : ℕ) (value : A) (old : ℕ → ℕ → A) (x y : ℕ) → cond ((x == a) && (y == b)) value (old x y) ≡ put2 old a b value x y
 put2_is a b value old x y = by (x == a) refl

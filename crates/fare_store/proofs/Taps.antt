@@ -3,7 +3,7 @@ use Rattle.std.proofs.Common.{◌≡◌, ℕ, zero, suc, ◌+◌, ◌<◌, ◌�
 use Rattle.std.specs.Prelude.{◌&&◌, if◌then◌else◌, count_by, slice_get, unwrap_or}
 use Rattle.std.proofs.lemmas.Bool.{and_parts}
 use Rattle.std.proofs.lemmas.Bool.Decides.{nat_tests}
-use Rattle.std.proofs.lemmas.List.Sums.{count_by-le-length, sum_by-append, sum_by_push}
+use Rattle.std.proofs.lemmas.List.Sums.{sum_by-append, sum_by_push}
 use Rattle.std.proofs.lemmas.Option.{slice_get_past}
 use Rattle.fare_record.specs.Values.{RecordValue}
 use Rattle.fare_record.specs.Lanes.{day_count}
@@ -24,9 +24,6 @@ count_last xs x day = sum_by-append (λ (r : RecordValue). if r.tap.day == day t
     by : (b : Bool) → 0 + (if b then 1 else 0) ≡ (if b then 1 else 0)
     by true = refl
     by false = refl
-
-pub count_within : (xs : List RecordValue) (day : ℕ) → day_count xs day ≤ length xs
-count_within xs day = count_by-le-length (λ (r : RecordValue). r.tap.day == day) xs
 
 -- ONE TAP MORE
 -- the taps of each device after this tap came
