@@ -2,10 +2,16 @@
 -- `serve --port PORT --turns TURNS --outbox PATH [--read-ms MILLIS] [--write-ms MILLIS] [--rounds N] [--until FILE] [--patience N]`;
 -- and of the stores at a path `close --outbox PATH`, `bill --outbox PATH --owner O --day D`, `settle` with the same words,
 -- and `stand --outbox PATH`.
-use Rattle.std.specs.Prelude.{Some, true, codes, pos}
-use Rattle.clap.specs.Words.{App, Rule, Text, new_app, new_rule, with_rule, with_subcommand}
+use Rattle.std.specs.Prelude.{◌≡◌, Some, false, true, codes, pos}
+use Rattle.clap.specs.Words.{App, Rule, Text, app_of, new_app, new_rule, with_rule, with_subcommand}
+use Rattle.clap.specs.declared.builder.command.Command.{Command}
+use Rattle.clap.specs.declared.builder.command.Command.TheViews.{out-Command}
 use Rattle.clap.specs.declared.builder.ArgAction.TheVariants.{Set}
 use Rattle.clap.specs.declared.builder.value_parser.ValueParser.TheVariants as vp
+
+-- a command of clap's is this one, with no option that its subcommands have too
+abbrev pub IsMade : App → Command → Type 0
+IsMade app c = (app_of c ≡ app) × ((out-Command c).has_globals ≡ false)
 
 -- an option with one value, written `--NAME VALUE`
 abbrev pub option_rule : Text → Rule

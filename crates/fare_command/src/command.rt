@@ -1,7 +1,6 @@
 ghost use Rattle.std.specs.Prelude.{◌≡◌, IfOk, false, codes};
-ghost use Rattle.clap.specs.Words.{app_of, rule_of, with_subcommand};
-ghost use Rattle.clap.specs.declared.builder.command.Command.TheViews.{out-Command};
-ghost use Rattle.fare_command.specs.CommandLine.{asking_app, base_app, day_app, day_rule, hub_app, outbox_rule, owner_rule, patience_rule, plain_serve_app, port_rule, read_rule, replay_app, rounds_rule, running_app, serve_app, store_rule, stores_app, turns_rule, until_rule, waiting_serve_app, write_rule};
+ghost use Rattle.clap.specs.Words.{App, app_of, rule_of, with_subcommand};
+ghost use Rattle.fare_command.specs.CommandLine.{IsMade, asking_app, base_app, day_app, day_rule, hub_app, outbox_rule, owner_rule, patience_rule, plain_serve_app, port_rule, read_rule, replay_app, rounds_rule, running_app, serve_app, store_rule, stores_app, turns_rule, until_rule, waiting_serve_app, write_rule};
 
 use clap::{Arg, ArgAction, Command};
 use std::alloc::{AllocError, Global};
@@ -154,7 +153,7 @@ fn day_arg<'a>(alloc: Global) -> Arg<'a>
 }
 
 fn replay_command<'a>(alloc: Global) -> Result<Command<'a>, AllocError>
-    ensures { IfOk result (λ c. (app_of c ≡ replay_app) × ((out-Command c).has_globals ≡ false)) }
+    ensures { IfOk result (IsMade replay_app) }
 {
     Command::new(alloc, "replay")
         .about("Reads a trace from standard input and writes the replies to its lines")
@@ -163,7 +162,7 @@ fn replay_command<'a>(alloc: Global) -> Result<Command<'a>, AllocError>
 
 /// `serve`, with what it has to be told.
 fn plain_serve_command<'a>(alloc: Global) -> Result<Command<'a>, AllocError>
-    ensures { IfOk result (λ c. (app_of c ≡ plain_serve_app) × ((out-Command c).has_globals ≡ false)) }
+    ensures { IfOk result (IsMade plain_serve_app) }
 {
     Command::new(alloc, "serve")
         .about(
@@ -176,7 +175,7 @@ fn plain_serve_command<'a>(alloc: Global) -> Result<Command<'a>, AllocError>
 
 /// `serve`, with how long it waits.
 fn waiting_serve_command<'a>(alloc: Global) -> Result<Command<'a>, AllocError>
-    ensures { IfOk result (λ c. (app_of c ≡ waiting_serve_app) × ((out-Command c).has_globals ≡ false)) }
+    ensures { IfOk result (IsMade waiting_serve_app) }
 {
     plain_serve_command(alloc)?
         .arg(read_arg(alloc))?
@@ -184,7 +183,7 @@ fn waiting_serve_command<'a>(alloc: Global) -> Result<Command<'a>, AllocError>
 }
 
 fn serve_command<'a>(alloc: Global) -> Result<Command<'a>, AllocError>
-    ensures { IfOk result (λ c. (app_of c ≡ serve_app) × ((out-Command c).has_globals ≡ false)) }
+    ensures { IfOk result (IsMade serve_app) }
 {
     waiting_serve_command(alloc)?
         .arg(rounds_arg(alloc))?
@@ -198,7 +197,7 @@ fn stores_command<'a>(
     name: &'a str,
     about: &'a str,
 ) -> Result<Command<'a>, AllocError>
-    ensures { IfOk result (λ c. (app_of c ≡ stores_app name.now) × ((out-Command c).has_globals ≡ false)) }
+    ensures { IfOk result (IsMade (stores_app name.now)) }
 {
     Command::new(alloc, name)
         .about(about)
@@ -207,7 +206,7 @@ fn stores_command<'a>(
 
 /// A question of an owner's day.
 fn day_command<'a>(alloc: Global, name: &'a str, about: &'a str) -> Result<Command<'a>, AllocError>
-    ensures { IfOk result (λ c. (app_of c ≡ day_app name.now) × ((out-Command c).has_globals ≡ false)) }
+    ensures { IfOk result (IsMade (day_app name.now)) }
 {
     stores_command(alloc, name, about)?
         .arg(owner_arg(alloc))?
@@ -216,7 +215,7 @@ fn day_command<'a>(alloc: Global, name: &'a str, about: &'a str) -> Result<Comma
 
 /// The program, with no subcommand yet.
 fn base_command<'a>(alloc: Global) -> Result<Command<'a>, AllocError>
-    ensures { IfOk result (λ c. (app_of c ≡ base_app) × ((out-Command c).has_globals ≡ false)) }
+    ensures { IfOk result (IsMade base_app) }
 {
     Command::new(alloc, "fare_hub")
         .about("Collects fare transactions and forwards them to the owners of the products")
@@ -226,47 +225,56 @@ fn base_command<'a>(alloc: Global) -> Result<Command<'a>, AllocError>
         .bin_name("fare_hub")
 }
 
+/// A command with one more subcommand, where there was memory for both.
+fn joined<'a>(
+    command: Result<Command<'a>, AllocError>,
+    subcommand: Result<Command<'a>, AllocError>,
+) -> Result<Command<'a>, AllocError>
+    ensures { (outer : App) (inner : App) → IfOk command.entry (IsMade outer) → IfOk subcommand.entry (IsMade inner) → IfOk result (IsMade (with_subcommand outer inner.top)) }
+{
+    let subcommand = subcommand?;
+    command?.subcommand(subcommand)
+}
+
 /// The program, with `replay` alone.
 fn with_replay<'a>(alloc: Global) -> Result<Command<'a>, AllocError>
-    ensures { IfOk result (λ c. (app_of c ≡ with_subcommand base_app replay_app.top) × ((out-Command c).has_globals ≡ false)) }
+    ensures { IfOk result (IsMade (with_subcommand base_app replay_app.top)) }
 {
-    let replay = replay_command(alloc)?;
-    base_command(alloc)?.subcommand(replay)
+    joined(base_command(alloc), replay_command(alloc))
 }
 
 /// And with `serve`.
 fn running_command<'a>(alloc: Global) -> Result<Command<'a>, AllocError>
-    ensures { IfOk result (λ c. (app_of c ≡ running_app) × ((out-Command c).has_globals ≡ false)) }
+    ensures { IfOk result (IsMade running_app) }
 {
-    let serve = serve_command(alloc)?;
-    with_replay(alloc)?.subcommand(serve)
+    joined(with_replay(alloc), serve_command(alloc))
 }
 
 /// And with `close`.
 fn with_close<'a>(alloc: Global) -> Result<Command<'a>, AllocError>
-    ensures { IfOk result (λ c. (app_of c ≡ with_subcommand running_app (stores_app (codes "close")).top) × ((out-Command c).has_globals ≡ false)) }
+    ensures { IfOk result (IsMade (with_subcommand running_app (stores_app (codes "close")).top)) }
 {
     let about = "Reads a scheme, and closes all days of its owners' ledgers that can be closed";
-    let close = stores_command(alloc, "close", about)?;
-    running_command(alloc)?.subcommand(close)
+    joined(
+        running_command(alloc),
+        stores_command(alloc, "close", about),
+    )
 }
 
 /// And with `bill`.
 fn asking_command<'a>(alloc: Global) -> Result<Command<'a>, AllocError>
-    ensures { IfOk result (λ c. (app_of c ≡ asking_app) × ((out-Command c).has_globals ≡ false)) }
+    ensures { IfOk result (IsMade asking_app) }
 {
     let about = "Reads a scheme, and writes an owner's bill of a day";
-    let bill = day_command(alloc, "bill", about)?;
-    with_close(alloc)?.subcommand(bill)
+    joined(with_close(alloc), day_command(alloc, "bill", about))
 }
 
 /// And with `settle`.
 fn with_settle<'a>(alloc: Global) -> Result<Command<'a>, AllocError>
-    ensures { IfOk result (λ c. (app_of c ≡ with_subcommand asking_app (day_app (codes "settle")).top) × ((out-Command c).has_globals ≡ false)) }
+    ensures { IfOk result (IsMade (with_subcommand asking_app (day_app (codes "settle")).top)) }
 {
     let about = "Reads a scheme, and writes what each operator gets of an owner's bill of a day";
-    let settle = day_command(alloc, "settle", about)?;
-    asking_command(alloc)?.subcommand(settle)
+    joined(asking_command(alloc), day_command(alloc, "settle", about))
 }
 
 /// The command line of the program.
@@ -274,6 +282,5 @@ pub fn hub_command<'a>(alloc: Global) -> Result<Command<'a>, AllocError>
     ensures { IfOk result (λ c. app_of c ≡ hub_app) }
 {
     let about = "Reads a scheme, and writes where each device's lanes stand";
-    let stand = stores_command(alloc, "stand", about)?;
-    with_settle(alloc)?.subcommand(stand)
+    joined(with_settle(alloc), stores_command(alloc, "stand", about))
 }

@@ -1,7 +1,7 @@
-ghost use Rattle.std.specs.Prelude.{◌≡◌, length, IfOk};
+ghost use Rattle.std.specs.Prelude.{◌≡◌, ◌<◌, length, IfOk};
 ghost use Rattle.fare_sessions.specs.Stores.{HasLedgers};
 
-use crate::opening::open_hub;
+use crate::connected::{Databases, apart, end, take_last};
 use fare_files::make_file;
 use fare_ledger::SqlLedger;
 use fare_outbox::SqlOutbox;
@@ -61,25 +61,27 @@ fn connect(
     }
 }
 
-// A connection to the database of each owner of a scheme, in its order.
-fn connect_owners(
+// A connection to the database of the owner at a place of a scheme.
+fn connect_owner(
     rt: &HostRuntime,
     scheme: &Scheme,
+    place: usize,
     path: &str,
     absent: Absent,
-) -> Result<Vec<Connection<FileStore<File>>>, Fault>
-    ensures { IfOk result (λ databases. length databases.items ≡ length scheme.now.owners) }
+) -> Result<Connection<FileStore<File>>, Fault>
+    requires { place < length scheme.now.owners }
 {
-    let mut databases = Vec::new(rt.alloc());
-    for place in 0..scheme.owner_count() {
-        let Some(owner) = scheme.owner_at(place) else {
-            unreachable!()
-        };
-        let number = owner.get();
-        let path = format!(in rt.alloc(); "{path}.{number}")?;
-        databases.push(connect(rt, path.as_str(), absent)?)?;
-    }
-    Ok(databases)
+    let Some(owner) = scheme.owner_at(place) else {
+        unreachable!()
+    };
+    let number = owner.get();
+    let path = format!(in rt.alloc(); "{path}.{number}")?;
+    connect(rt, path.as_str(), absent)
+}
+
+// Lets a connection go.
+fn close(database: Connection<FileStore<File>>) {
+    let _ = database.close();
 }
 
 /// Opens the stores of a scheme in files: the outbox at a path, and the ledger of each owner, in the scheme's order, at
@@ -96,22 +98,22 @@ pub fn open_files(
     ensures scheme { IfOk result (λ hub. hub.scheme ≡ scheme) }
     ensures owners { IfOk result HasLedgers }
 {
-    let outbox = connect(rt, path, absent)?;
-    let ledgers = connect_owners(rt, &scheme, path, absent)?;
-    open_hub(rt.alloc(), scheme, outbox, ledgers)
+    let mut databases = Databases::first(rt.alloc(), connect(rt, path, absent))?;
+    for place in 0..scheme.owner_count() {
+        databases = databases.and(connect_owner(rt, &scheme, place, path, absent))?;
+    }
+    databases.open(rt.alloc(), scheme)
 }
 
 /// Closes the stores of a hub, so that all rows of each are in the one file that its path names. Where that fails no row
 /// is lost: they are also in the log beside the file, from which the next open takes them.
 pub fn close_files(hub: FileHub) {
-    let Hub {
-        scheme,
-        outbox,
-        ledgers,
-    } = hub;
-    drop(scheme);
-    let _ = outbox.into_connection().close();
-    for ledger in ledgers {
-        let _ = ledger.into_connection().close();
+    let (outbox, mut ledgers) = apart(hub);
+    close(outbox);
+    for _ in 0..ledgers.len() {
+        if let Some(database) = take_last(&mut ledgers) {
+            close(database);
+        }
     }
+    end(ledgers);
 }

@@ -5,6 +5,7 @@
 //! isn't there is made, or refused; one that holds something else is left alone.
 #![tactic(auto)]
 
+mod connected;
 mod files;
 mod opening;
 

@@ -171,6 +171,40 @@ fn build_single_event(keyword: EventKeyword, number: u64) -> Option<Event>
     }
 }
 
+/// The event of a keyword that these two numbers follow, if there is one.
+fn build_pair_event(keyword: EventKeyword, first: u64, second: u64) -> Option<Event>
+    ensures some { IfSome result (λ event. IsBuilt (OfEvent keyword) (first ∷ second ∷ []) (Step event)) }
+    ensures none { IfNone result (AreOf (event_keyword_kinds keyword) (first ∷ second ∷ []) → ⊥) }
+{
+    match keyword {
+        EventKeyword::Forward => Some(Event::Forward {
+            owner: OwnerId::new(first)?,
+            device: DeviceId::new(second)?,
+        }),
+        EventKeyword::Prune => Some(Event::Prune {
+            owner: OwnerId::new(first)?,
+            device: DeviceId::new(second)?,
+        }),
+        EventKeyword::Count => Some(Event::Count {
+            owner: OwnerId::new(first)?,
+            device: DeviceId::new(second)?,
+        }),
+        EventKeyword::Bill => Some(Event::Bill {
+            owner: OwnerId::new(first)?,
+            day: Day::new(second)?,
+        }),
+        EventKeyword::Settle => Some(Event::Settle {
+            owner: OwnerId::new(first)?,
+            day: Day::new(second)?,
+        }),
+        EventKeyword::DayAck => Some(Event::DayAck {
+            device: DeviceId::new(first)?,
+            day: Day::new(second)?,
+        }),
+        _ => None,
+    }
+}
+
 /// The event line of a keyword and its numbers, if there is one.
 fn build_event(keyword: EventKeyword, numbers: &[u64]) -> Option<Event>
     ensures some { IfSome result (λ event. IsBuilt (OfEvent keyword) numbers.now (Step event)) }
@@ -179,30 +213,7 @@ fn build_event(keyword: EventKeyword, numbers: &[u64]) -> Option<Event>
     match (keyword, numbers) {
         (_, []) => build_bare_event(keyword),
         (_, [number]) => build_single_event(keyword, *number),
-        (EventKeyword::Forward, [owner, device]) => Some(Event::Forward {
-            owner: OwnerId::new(*owner)?,
-            device: DeviceId::new(*device)?,
-        }),
-        (EventKeyword::Prune, [owner, device]) => Some(Event::Prune {
-            owner: OwnerId::new(*owner)?,
-            device: DeviceId::new(*device)?,
-        }),
-        (EventKeyword::Count, [owner, device]) => Some(Event::Count {
-            owner: OwnerId::new(*owner)?,
-            device: DeviceId::new(*device)?,
-        }),
-        (EventKeyword::Bill, [owner, day]) => Some(Event::Bill {
-            owner: OwnerId::new(*owner)?,
-            day: Day::new(*day)?,
-        }),
-        (EventKeyword::Settle, [owner, day]) => Some(Event::Settle {
-            owner: OwnerId::new(*owner)?,
-            day: Day::new(*day)?,
-        }),
-        (EventKeyword::DayAck, [device, day]) => Some(Event::DayAck {
-            device: DeviceId::new(*device)?,
-            day: Day::new(*day)?,
-        }),
+        (_, [first, second]) => build_pair_event(keyword, *first, *second),
         (EventKeyword::State, [device, day, owner]) => Some(Event::State {
             device: DeviceId::new(*device)?,
             day: Day::new(*day)?,

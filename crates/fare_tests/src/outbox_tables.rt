@@ -89,6 +89,20 @@ INSERT INTO tap VALUES (1, 1, 2, 2, 1, 77, 1704100000, 19723)";
     says(&rt, &mut outbox, &calls);
 }
 
+// Its taps and statements are counted when it opens, whatever else its tables say.
+#[test]
+fn an_outbox_of_one_row_is_not_empty(rt: HostRuntime) {
+    let calls = [(Asked::Empty, Said::Empty(Ok(false)))];
+    let made = "INSERT INTO meta VALUES (1, 0)";
+    for row in [
+        "INSERT INTO tap VALUES (1, 1, 2, 2, 1, 77, 1704100000, 19723)",
+        "INSERT INTO stated VALUES (1, 1, 19723, 3)",
+    ] {
+        let mut outbox = outbox(rt.alloc(), &[TABLES, made, row]).expect(&rt, "outbox");
+        says(&rt, &mut outbox, &calls);
+    }
+}
+
 #[test]
 fn a_row_past_its_limits_is_a_failure(rt: HostRuntime) {
     let calls = [

@@ -45,6 +45,7 @@ fn judges_closes(rt: HostRuntime) {
         ((None, true, false, 0), Err(CloseFault::Unstated)),
         ((Some(3), true, false, 2), Err(CloseFault::AlreadyClosed)),
         ((Some(3), false, false, 2), Err(CloseFault::OutOfOrder)),
+        ((Some(3), false, false, 3), Err(CloseFault::OutOfOrder)),
         ((Some(3), false, true, 2), Err(SHORT)),
         ((Some(3), false, true, 4), Err(OVER)),
     ];
