@@ -1,9 +1,9 @@
 //! What an operator asks of stores and orders, and the lines that come of it.
 use crate::hub_sessions::hub_of;
-use crate::samples::{FIRST, Numbers, record, statement};
 use crate::scripts::narrow;
 use fare_command::Question;
 use fare_desk::DeskFault;
+use fare_part_tests::{FIRST, Numbers, record, statement};
 use fare_record::{Day, DeviceId, OwnerId};
 use fare_run::answer_over;
 use fare_sessions::Hub;

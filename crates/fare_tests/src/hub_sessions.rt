@@ -1,10 +1,10 @@
 //! Lists of sessions on a hub, and its bills and closes.
-use crate::samples::statement;
 use crate::scripts::{Script, ack, day_ack, narrow, scripts_of, sixteen, sources_of};
 use fare_cap::Bill;
 use fare_collect::stations_of;
 use fare_frame::Frame;
 use fare_owner::CloseFault;
+use fare_part_tests::statement;
 use fare_record::{Day, DeviceId, OwnerId, StationId};
 use fare_scheme::Scheme;
 use fare_session::{Gate, Point, SessionFault};

@@ -4,33 +4,17 @@
 #![tactic(auto)]
 
 #[cfg(test)]
-mod bills;
-#[cfg(test)]
-mod buffer;
-#[cfg(test)]
-mod collector;
-#[cfg(test)]
 mod command_line;
 #[cfg(test)]
-mod day;
-#[cfg(test)]
 mod desk;
-#[cfg(test)]
-mod device;
 #[cfg(test)]
 mod endings;
 #[cfg(test)]
 mod files;
 #[cfg(test)]
-mod frame;
-#[cfg(test)]
 mod hub_sessions;
 #[cfg(test)]
 mod hub_stops;
-#[cfg(test)]
-mod inbox_queue;
-#[cfg(test)]
-mod lane_queue;
 #[cfg(test)]
 mod layout;
 #[cfg(test)]
@@ -38,29 +22,17 @@ mod ledger_tables;
 #[cfg(test)]
 mod lines;
 #[cfg(test)]
-mod link;
-#[cfg(test)]
 mod net;
 #[cfg(test)]
 mod outbox_tables;
 #[cfg(test)]
-mod owner;
-#[cfg(test)]
 mod readers;
-#[cfg(test)]
-mod record;
 #[cfg(test)]
 mod replay;
 #[cfg(test)]
 mod replay_sql;
 #[cfg(test)]
 mod rounds;
-#[cfg(test)]
-mod route;
-#[cfg(test)]
-mod samples;
-#[cfg(test)]
-mod scheme;
 #[cfg(test)]
 mod schemes;
 #[cfg(test)]
@@ -69,8 +41,6 @@ mod scripts;
 mod serving;
 #[cfg(test)]
 mod sessions;
-#[cfg(test)]
-mod settlements;
 #[cfg(test)]
 mod shifts;
 #[cfg(test)]
@@ -82,13 +52,9 @@ mod stores;
 #[cfg(test)]
 mod stores_in_files;
 #[cfg(test)]
-mod supervisor;
-#[cfg(test)]
 mod traces;
 #[cfg(test)]
 mod traces_of_days;
-#[cfg(test)]
-mod windows;
 #[cfg(test)]
 mod world;
 #[cfg(test)]

@@ -1,11 +1,10 @@
-use crate::frame::{ACKED, GREETED, TAPPED, acked, greeted, tapped};
 use crate::readers::{Closed, Lossy};
-use crate::samples::{FIRST, Numbers, record};
 use fare_frame::{Frame, Reader};
 use fare_net::{
     AnswerFault, Heard, HelloFault, ListenFault, NetFault, NetSource, Turn, listen, station_answer,
     station_turn,
 };
+use fare_part_tests::{ACKED, FIRST, GREETED, Numbers, TAPPED, acked, greeted, record, tapped};
 use fare_scheme::{DemoSize, Scheme};
 use fare_source::{Source, SourceFault};
 use std::alloc::Global;

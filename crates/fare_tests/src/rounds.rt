@@ -2,9 +2,9 @@
 ghost use Rattle.fare_sessions.specs.Stores.{HasLedgers};
 
 use crate::hub_sessions::hub_of;
-use crate::samples::{FIRST, Numbers, record};
 use crate::serving::listener;
 use fare_frame::Frame;
+use fare_part_tests::{FIRST, Numbers, record};
 use fare_record::{Ack, DeviceId, Hello, LAST_NUMBER, OwnerId};
 use fare_scheme::{DemoSize, Scheme};
 use fare_serve::{Limits, ServeFault, serve_rounds};

@@ -1,10 +1,10 @@
 //! Sources of frames that are written down, and schemes for them, for the tests of sessions.
 ghost use Rattle.std.specs.Prelude.{◌≡◌, ◌≤◌, ◌+◌, ◌++◌, ◌∷◌, [], vec_len, vec_capacity};
 
-use crate::samples::{FIRST, Numbers, record};
 use fare_collect::Station;
 use fare_day::Zone;
 use fare_frame::Frame;
+use fare_part_tests::{FIRST, Numbers, record};
 use fare_record::{Ack, Day, DayAck, DeviceId, LAST_NUMBER};
 use fare_scheme::{DemoSize, Draft, Scheme};
 use fare_source::{Source, SourceFault};

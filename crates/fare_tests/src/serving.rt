@@ -1,5 +1,5 @@
-use crate::frame::{ACKED, GREETED, TAPPED};
 use crate::hub_sessions::hub_of;
+use fare_part_tests::{ACKED, GREETED, TAPPED};
 use fare_record::OwnerId;
 use fare_scheme::{DemoSize, Scheme};
 use fare_serve::{Limits, ServeFault, serve_rounds};

@@ -1,4 +1,4 @@
-use crate::samples::{FIRST, Numbers, record, statement};
+use fare_part_tests::{FIRST, Numbers, record, statement};
 use fare_record::{Day, DeviceId, OwnerId, Record};
 use fare_scheme::{DemoSize, Scheme};
 use fare_session::{Gate, OwnerReport, Point, SessionFault, serve_owner};

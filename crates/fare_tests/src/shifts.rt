@@ -1,7 +1,7 @@
 //! Sources that are read in shifts.
-use crate::frame::{acked, tapped};
 use crate::scripts::Script;
 use fare_frame::Frame;
+use fare_part_tests::{acked, tapped};
 use fare_source::{Shift, Source, SourceFault};
 use std::alloc::Global;
 

@@ -1,9 +1,9 @@
-use crate::samples::statement;
 use crate::scripts::{
     Script, ack, day_ack, narrow, scripts_of, sixteen, source_of, sources_of, tapped,
 };
 use fare_collect::{StationsFault, collect, stations_of};
 use fare_frame::Frame;
+use fare_part_tests::statement;
 use fare_record::{DeviceId, Hello, LAST_NUMBER, StationId};
 use fare_scheme::{DemoSize, Scheme};
 use fare_session::{Gate, Point, SessionFault};

@@ -1,5 +1,5 @@
-use crate::samples::{FIRST, Numbers, record, statement};
 use fare_owner::{CloseFault, StatementFault, TapFault};
+use fare_part_tests::{FIRST, Numbers, record, statement};
 use fare_record::{Day, DeviceId, Moment, OwnerId, Record, Statement};
 use fare_scheme::{DemoSize, Scheme};
 use fare_store::{

@@ -1,6 +1,6 @@
-use crate::frame::{GREETED, STATED, TAPPED};
 use fare_command::Question;
 use fare_desk::DeskFault;
+use fare_part_tests::{GREETED, STATED, TAPPED};
 use fare_record::{Day, OwnerId};
 use fare_run::{AskFailure, AskOptions, ServeFailure, ServeOptions, ask, serve};
 use fare_serve::Limits;

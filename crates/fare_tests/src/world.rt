@@ -1,5 +1,5 @@
-use crate::samples::{FIRST, record};
 use fare_day::Zone;
+use fare_part_tests::{FIRST, record};
 use fare_record::{DeviceId, Moment, OwnerId, ProductId, StationId, Token};
 use fare_scheme::{DemoSize, Draft, Scheme};
 use fare_store::{FailingOutbox, Fault, Outbox, PlainLedger, PlainOutbox};

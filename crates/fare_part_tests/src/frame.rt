@@ -1,45 +1,13 @@
 ghost use Rattle.std.specs.Prelude.{◌<◌};
 
 use crate::samples::{FIRST, record, statement};
+use crate::vectors::{
+    ACKED, DAY_ACKED, GREETED, STATED, TAPPED, acked, day_acked, greeted, stated, tapped,
+};
 use fare_frame::{Frame, ReadFault, Reader};
 use fare_record::{Ack, AckItem, Day, DayAck, DeviceId, Hello, Item};
 use std::alloc::Global;
 use std::process::Abort;
-
-pub(crate) const TAPPED: [u8; 49] = [
-    0x00, 0x2f, 0x01, 0, 0, 0, 1, 0, 0, 0, 0, 0, 0, 0, 1, 0, 1, 0, 0, 0, 0, 0, 0, 0, 1, 0, 0, 0, 1,
-    0, 0, 0, 0, 0, 0, 0, 0x4d, 0, 0, 0, 0, 0x65, 0x92, 0x80, 0xa0, 0, 0, 0x4d, 0x0b,
-];
-
-pub(crate) const STATED: [u8; 21] = [
-    0x00, 0x13, 0x02, 0, 0, 0, 1, 0, 0, 0x4d, 0x0b, 0, 1, 0, 0, 0, 0, 0, 0, 0, 3,
-];
-
-pub(crate) const ACKED: [u8; 15] = [0x00, 0x0d, 0x03, 0, 0, 0, 1, 0, 0, 0, 0, 0, 0, 0, 1];
-
-const DAY_ACKED: [u8; 11] = [0x00, 0x09, 0x04, 0, 0, 0, 1, 0, 0, 0x4d, 0x0b];
-
-pub(crate) const GREETED: [u8; 9] = [0x00, 0x07, 0x05, 0, 0, 0, 1, 0, 1];
-
-pub(crate) fn tapped() -> Option<Frame> {
-    Some(Frame::Tapped(record(FIRST)?))
-}
-
-fn stated() -> Option<Frame> {
-    Some(Frame::Stated(statement(1, 19_723, 1, 3)?))
-}
-
-pub(crate) fn acked() -> Option<Frame> {
-    Some(Frame::Acked(Ack::new(DeviceId::new(1)?, 1)))
-}
-
-fn day_acked() -> Option<Frame> {
-    Some(Frame::DayAcked(DayAck::new(DeviceId::new(1)?, Day::new(19_723)?)))
-}
-
-pub(crate) fn greeted() -> Option<Frame> {
-    Some(Frame::Greeted(Hello::new(DeviceId::new(1)?, 1)))
-}
 
 // The bytes of a frame, and the frames that a new reader reads from them.
 fn there_and_back(alloc: Global, frame: Frame) -> Option<(Vec<u8>, Vec<Frame>)> {

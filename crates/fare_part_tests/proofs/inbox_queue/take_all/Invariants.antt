@@ -1,6 +1,6 @@
 use Rattle.std.proofs.Common.{◌≡◌}
 use Rattle.fare_inbox_queue.specs.InboxPasses.{stations_of, IsWriterOf}
-use Rattle.fare_tests.proofs.inbox_queue.take_all.Given as goal
+use Rattle.fare_part_tests.proofs.inbox_queue.take_all.Given as goal
 
 abbrev pub invariant-loop : goal.invariant-loop
 invariant-loop g l = record {

@@ -1,6 +1,6 @@
 use Rattle.std.proofs.Common.{◌≡◌, ◌≤◌}
 use Rattle.fare_inbox_queue.specs.InboxPasses.{station_of, IsStationOf}
-use Rattle.fare_tests.proofs.inbox_queue.put_all.Given as goal
+use Rattle.fare_part_tests.proofs.inbox_queue.put_all.Given as goal
 
 abbrev pub invariant-loop : goal.invariant-loop
 invariant-loop g l = record {

@@ -7,7 +7,7 @@ use fare_record::{
 
 /// The numbers of a record.
 #[derive(Clone, Copy)]
-pub(crate) struct Numbers {
+pub struct Numbers {
     pub device: u64,
     pub link: u64,
     pub owner: u64,
@@ -19,7 +19,7 @@ pub(crate) struct Numbers {
 }
 
 /// Those of the first tap of device 1, on product 1 of owner 1.
-pub(crate) const FIRST: Numbers = Numbers {
+pub const FIRST: Numbers = Numbers {
     device: 1,
     link: 1,
     owner: 1,
@@ -36,7 +36,7 @@ fn tap(of: Numbers) -> Option<Tap> {
 }
 
 /// The record of these numbers.
-pub(crate) fn record(of: Numbers) -> Option<Record>
+pub fn record(of: Numbers) -> Option<Record>
     ensures { IfSome result (λ r. (r.device ≡ of.device) × (r.lane ≡ of.lane)) }
 {
     if of.link == 0 || of.link > LAST_NUMBER || of.lane == 0 || of.lane > LAST_NUMBER {
@@ -47,7 +47,9 @@ pub(crate) fn record(of: Numbers) -> Option<Record>
 }
 
 /// A statement of a device's day to an owner.
-pub(crate) fn statement(device: u64, day: u64, owner: u64, count: u64) -> Option<Statement> {
+pub fn statement(device: u64, day: u64, owner: u64, count: u64) -> Option<Statement>
+    ensures { IfSome result (λ s. (s.device ≡ device) × (s.day ≡ day) × (s.owner ≡ owner) × (s.count ≡ count)) }
+{
     if count > LAST_NUMBER {
         return None;
     }
