@@ -1,5 +1,5 @@
 /// What ended the writer.
-#[derive(Clone, Copy, PartialEq, Eq, Debug)]
+#[derive(Clone, Copy)]
 pub(crate) enum WriterFault {
     /// The outbox refused an item.
     Refused,
@@ -10,7 +10,7 @@ pub(crate) enum WriterFault {
 }
 
 /// What ended a station.
-#[derive(Clone, Copy, PartialEq, Eq, Debug)]
+#[derive(Clone, Copy)]
 pub(crate) enum StationFault {
     /// Its source failed.
     Source,

@@ -14,7 +14,7 @@ pub struct Station<S> {
 }
 
 // How a station's thread ended.
-#[derive(Clone, Copy, PartialEq, Eq, Debug)]
+#[derive(Clone, Copy)]
 pub(crate) struct End {
     // a frame that was given and that the inbox didn't take
     pub(crate) held: Option<Frame>,

@@ -19,7 +19,7 @@ use std::sync::Wait;
 use std::time::Clock;
 
 // What ended the writer, and the item that it had in its hand.
-#[derive(Clone, Copy, PartialEq, Eq, Debug)]
+#[derive(Clone, Copy)]
 pub(crate) struct Halt {
     pub(crate) hand: Option<Arrived>,
     pub(crate) fault: WriterFault,

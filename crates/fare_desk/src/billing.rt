@@ -9,11 +9,11 @@ ghost use Rattle.fare_desk.specs.declared.fault.DeskFault.TheVariants.{Write};
 
 use crate::fault::{DeskFault, of_refusal};
 use crate::writing::write_text;
+use fare_event::Reply;
 use fare_lines::print_reply;
 use fare_record::{Day, OwnerId};
 use fare_sessions::Hub;
 use fare_store::{Ledger, Outbox};
-use fare_world::Reply;
 use std::alloc::Global;
 use std::io::Write;
 

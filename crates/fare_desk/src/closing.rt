@@ -8,12 +8,12 @@ ghost use Rattle.fare_desk.specs.Closing.{GoesOn, HasAnswered, HasClosedLanes, I
 
 use crate::fault::DeskFault;
 use crate::writing::write_text;
+use fare_event::{Refusal, Reply};
 use fare_lines::print_reply;
 use fare_owner::CloseFault;
 use fare_record::{Day, DeviceId, OwnerId};
 use fare_sessions::{ClosingFault, Hub};
 use fare_store::{Fault, Ledger, Outbox, Refused};
-use fare_world::{Refusal, Reply};
 use std::alloc::{AllocError, Global};
 use std::io::Write;
 

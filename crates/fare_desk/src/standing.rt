@@ -23,7 +23,7 @@ use std::io::Write;
 
 /// Where an owner's lane of a device stands: how many taps are taken, the last day that is closed, and how many rows and
 /// statements wait.
-#[derive(Clone, Copy, PartialEq, Eq, Debug)]
+#[derive(Clone, Copy)]
 pub(crate) struct Lane {
     taken: u64,
     closed: Option<Day>,

@@ -6,7 +6,7 @@ use Rattle.std.proofs.lemmas.List.Splits.{slice_split_none, slice_split_at, join
 use Rattle.std.proofs.lemmas.Bool.{ne_eqb}
 use Rattle.fare_scheme.specs.declared.demo.DemoSize.{DemoSize}
 use Rattle.fare_scheme.specs.declared.demo.DemoSize.TheVariants.{OneDevice, TwoDevices}
-use Rattle.fare_world.specs.declared.event.Event.TheVariants as event
+use Rattle.fare_event.specs.declared.event.Event.TheVariants as event
 use Rattle.fare_lines.specs.declared.line.Line.{Line}
 use Rattle.fare_lines.specs.declared.line.Line.TheVariants.{Setup, Step}
 use Rattle.fare_lines.specs.declared.line.SchemeLine.TheVariants as scheme

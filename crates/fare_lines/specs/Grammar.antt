@@ -5,7 +5,7 @@ use Rattle.std.specs.Fmt.{decimal}
 use Rattle.fare_record.specs.Limits.{IsDeviceId, IsOwnerId, IsStationId, IsProductId, IsToken, IsMoment, IsDay}
 use Rattle.fare_scheme.specs.declared.demo.DemoSize.{DemoSize}
 use Rattle.fare_scheme.specs.declared.demo.DemoSize.TheVariants.{OneDevice, TwoDevices}
-use Rattle.fare_world.specs.declared.event.Event.TheVariants as event
+use Rattle.fare_event.specs.declared.event.Event.TheVariants as event
 use Rattle.fare_lines.specs.declared.keyword.Keyword.{Keyword}
 use Rattle.fare_lines.specs.declared.keyword.Keyword.TheVariants.{OfScheme, OfEvent}
 use Rattle.fare_lines.specs.declared.keyword.SchemeKeyword.{SchemeKeyword}

@@ -10,9 +10,9 @@ use crate::keyword::{EventKeyword, Keyword, SchemeKeyword};
 use crate::line::{Line, SchemeLine};
 use crate::number::read_numbers;
 use crate::zone_text::ZoneText;
+use fare_event::Event;
 use fare_record::{Day, DeviceId, Moment, OwnerId, ProductId, StationId, Token};
 use fare_scheme::DemoSize;
-use fare_world::Event;
 use std::alloc::{AllocError, Global};
 
 /// The demonstration scheme of this many devices.

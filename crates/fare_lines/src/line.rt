@@ -1,6 +1,6 @@
 use crate::zone_text::ZoneText;
+use fare_event::Event;
 use fare_scheme::DemoSize;
-use fare_world::Event;
 
 /// A line that sets up the scheme. Its numbers may be any of their fields' widths, also ones that no scheme takes.
 #[derive(PartialEq, Eq, Debug, Drop)]

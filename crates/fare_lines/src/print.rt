@@ -3,8 +3,8 @@ ghost use Rattle.std.specs.Fmt.{decimal};
 ghost use Rattle.fare_lines.specs.Replies.{refusal_name, reply_text, words_line};
 
 use crate::print_rows::{append_bill, append_settlement};
+use fare_event::{Refusal, Reply};
 use fare_record::{Day, DeviceId, OwnerId};
-use fare_world::{Refusal, Reply};
 use itoa::Buffer;
 use std::alloc::AllocError;
 

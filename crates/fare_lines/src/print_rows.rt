@@ -1,5 +1,5 @@
 ghost use Rattle.std.specs.Prelude.{◌≡◌, ◌++◌, OnOk, OnErr, length, take};
-ghost use Rattle.fare_world.specs.declared.reply.Reply.TheVariants as reply;
+ghost use Rattle.fare_event.specs.declared.reply.Reply.TheVariants as reply;
 ghost use Rattle.fare_lines.specs.Replies.{account_words, operator_words, reply_text, reply_words, rows_text, words_line};
 
 use crate::print::{append_line, put_named, put_number};

@@ -5,7 +5,7 @@ ghost use Rattle.fare_lines.specs.declared.text.ParseFault.TheVariants.{Memory};
 
 use crate::line::Line;
 use crate::lines::Lines;
-use fare_world::Event;
+use fare_event::Event;
 use std::alloc::{AllocError, AllocFailed, Global};
 use thiserror::Error;
 

@@ -13,7 +13,7 @@ use std::marker::Model;
 const MOST_FRAMES: usize = 460;
 
 /// How far a stream is.
-#[derive(Clone, Copy, PartialEq, Eq, Debug)]
+#[derive(Clone, Copy, PartialEq, Eq)]
 pub(crate) enum Stage {
     /// It is read on.
     Live,

@@ -1,5 +1,6 @@
 ghost use Rattle.std.specs.Prelude.{◌<◌};
 
+use crate::checking::same;
 use fare_record::{
     Ack, Day, DayAck, DeviceId, Hello, LAST_NUMBER, Pence, Record, RecordFault, Statement,
 };
@@ -18,15 +19,19 @@ fn a_record_is_spelled_and_read(rt: HostRuntime) -> Result<(), Fail> {
     let tap = record.tap();
     let ids = (record.device().get(), record.owner().get());
     let numbers = (record.link(), record.lane());
-    assert_eq!(rt; (ids, numbers, record.encode()), ((1, 1), (1, 1), RECORD));
+    same(
+        &rt,
+        &(ids, numbers, record.encode()),
+        &((1, 1), (1, 1), RECORD),
+    );
     let account = (tap.product().get(), tap.token().get());
     let time = (tap.moment().get(), tap.day().get());
-    assert_eq!(rt; (account, time), ((1, 77), (1_704_100_000, 19_723)));
+    same(&rt, &(account, time), &((1, 77), (1_704_100_000, 19_723)));
     // Its link is not its lane number.
     let second = record_with(11, 2);
     let record = Record::decode(&second)?;
     let numbers = (record.link(), record.lane());
-    assert_eq!(rt; (numbers, record.encode()), ((2, 1), second));
+    same(&rt, &(numbers, record.encode()), &((2, 1), second));
     Ok(())
 }
 
@@ -35,9 +40,10 @@ fn a_statement_is_spelled_and_read(rt: HostRuntime) -> Result<(), Fail> {
     let statement = Statement::decode(&STATEMENT)?;
     let ids = (statement.device().get(), statement.owner().get());
     let numbers = (statement.day().get(), statement.count());
-    assert_eq!(rt;
-        (ids, numbers, statement.encode()),
-        ((1, 1), (19_723, 3), STATEMENT)
+    same(
+        &rt,
+        &(ids, numbers, statement.encode()),
+        &((1, 1), (19_723, 3), STATEMENT),
     );
     Ok(())
 }
@@ -51,13 +57,17 @@ const HELLO: [u8; 6] = [0, 0, 0, 1, 0, 1];
 #[test]
 fn acknowledgements_and_greetings_are_spelled_and_read(rt: HostRuntime) -> Result<(), Fail> {
     let ack = Ack::decode(&ACK)?;
-    assert_eq!(rt; (ack.device().get(), ack.upto(), ack.encode()), (1, 1, ACK));
+    same(
+        &rt,
+        &(ack.device().get(), ack.upto(), ack.encode()),
+        &(1, 1, ACK),
+    );
     let day_ack = DayAck::decode(&DAY_ACK)?;
     let day = (day_ack.device().get(), day_ack.day().get());
-    assert_eq!(rt; (day, day_ack.encode()), ((1, 19_723), DAY_ACK));
+    same(&rt, &(day, day_ack.encode()), &((1, 19_723), DAY_ACK));
     let hello = Hello::decode(&HELLO)?;
     let version = (hello.device().get(), hello.version());
-    assert_eq!(rt; (version, hello.encode()), ((1, 1), HELLO));
+    same(&rt, &(version, hello.encode()), &((1, 1), HELLO));
     Ok(())
 }
 
@@ -88,9 +98,10 @@ fn the_first_fault_is_answered(rt: HostRuntime) {
         Record::decode(&no_link).err(),
         Record::decode(&nothing).err(),
     ];
-    assert_eq!(rt;
-        records,
-        [Some(RecordFault::NumberRange), Some(RecordFault::ZeroId)]
+    same(
+        &rt,
+        &records,
+        &[Some(RecordFault::NumberRange), Some(RecordFault::ZeroId)],
     );
     // A day of 2^31 and more; a count of 2^40 as well.
     let no_day = statement_with(4, 0x80);
@@ -100,9 +111,10 @@ fn the_first_fault_is_answered(rt: HostRuntime) {
         Statement::decode(&no_day).err(),
         Statement::decode(&neither).err(),
     ];
-    assert_eq!(rt;
-        statements,
-        [Some(RecordFault::DayRange), Some(RecordFault::NumberRange)]
+    same(
+        &rt,
+        &statements,
+        &[Some(RecordFault::DayRange), Some(RecordFault::NumberRange)],
     );
 }
 
@@ -112,17 +124,21 @@ fn numbers_end_at_their_limits(rt: HostRuntime) {
     let last = Ack::decode(&[0, 0, 0, 1, 0, 0, 0, 0xff, 0xff, 0xff, 0xff, 0xff]);
     let over = Ack::decode(&[0, 0, 0, 1, 0, 0, 1, 0, 0, 0, 0, 0]);
     let links = [last.map(Ack::upto), over.map(Ack::upto)];
-    assert_eq!(rt; links, [Ok(LAST_NUMBER), Err(RecordFault::NumberRange)]);
+    same(
+        &rt,
+        &links,
+        &[Ok(LAST_NUMBER), Err(RecordFault::NumberRange)],
+    );
     let nobody = Hello::decode(&[0, 0, 0, 0, 0, 1]);
-    assert_eq!(rt; nobody.err(), Some(RecordFault::ZeroId));
+    same(&rt, &nobody.err(), &Some(RecordFault::ZeroId));
     let days = [Day::new(100_000).is_some(), Day::new(100_001).is_some()];
     let devices = [DeviceId::new(0).is_some(), DeviceId::new(1).is_some()];
-    assert_eq!(rt; (days, devices), ([true, false], [false, true]));
+    same(&rt, &(days, devices), &([true, false], [false, true]));
 }
 
 #[test]
 fn an_amount_is_any_number_of_pence(rt: HostRuntime) {
     for number in [0, 175, u64::MAX] {
-        assert_eq!(rt; Pence::new(number).get(), number);
+        same(&rt, &Pence::new(number).get(), &number);
     }
 }

@@ -1,3 +1,4 @@
+use crate::checking::same;
 use crate::samples::{FIRST, Numbers, record};
 use fare_buffer::{Full, Waiting, WaitingFault};
 use std::alloc::Global;
@@ -11,10 +12,14 @@ fn fault(alloc: Global, capacity: u32) -> Option<WaitingFault> {
 fn takes_the_room_that_was_asked_for(rt: HostRuntime) {
     let range = Some(WaitingFault::Range);
     for (capacity, want) in [(0, range), (4097, range), (4096, None)] {
-        assert_eq!(rt; fault(rt.alloc(), capacity), want);
+        same(&rt, &fault(rt.alloc(), capacity), &want);
     }
     let waiting = Waiting::new(rt.alloc(), 4096).expect(&rt, "waiting");
-    assert_eq!(rt; (waiting.capacity(), waiting.is_empty()), (4096, true));
+    same(
+        &rt,
+        &(waiting.capacity(), waiting.is_empty()),
+        &(4096, true),
+    );
 }
 
 #[test]
@@ -29,12 +34,12 @@ fn hands_back_what_finds_no_room(rt: HostRuntime) {
     let mut waiting = Waiting::new(rt.alloc(), 2).expect(&rt, "waiting");
     let one = (waiting.push(first), waiting.is_full());
     let two = (waiting.push(second), waiting.is_full());
-    assert_eq!(rt; [one, two], [(Ok(()), false), (Ok(()), true)]);
+    same(&rt, &[one, two], &[(Ok(()), false), (Ok(()), true)]);
     let full = (waiting.push(first), waiting.len());
-    assert_eq!(rt; full, (Err(Full(first)), 2));
+    same(&rt, &full, &(Err(Full(first)), 2));
     waiting.drop_front(1);
     let front = (waiting.get(0), waiting.push(first));
-    assert_eq!(rt; front, (Some(second), Ok(())));
+    same(&rt, &front, &(Some(second), Ok(())));
     let all = [waiting.get(0), waiting.get(1), waiting.get(2)];
-    assert_eq!(rt; all, [Some(second), Some(first), None]);
+    same(&rt, &all, &[Some(second), Some(first), None]);
 }

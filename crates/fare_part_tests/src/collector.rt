@@ -1,3 +1,4 @@
+use crate::checking::same;
 use crate::samples::{FIRST, Numbers, record, statement};
 use fare_collector::{CollectRefusal, Collector, CollectorFault, StatementRefusal};
 use fare_record::{DeviceId, LAST_NUMBER, StationId};
@@ -8,36 +9,31 @@ use std::process::Abort;
 /// A call on a collector.
 #[derive(Clone, Copy)]
 enum Call {
+    /// A tap of a device comes, with this link, for product 1 of owner 1.
+    Accept(u64, u64),
     /// A tap of a device comes, with this link, for a product, numbered for an owner.
-    Accept {
-        device: u64,
-        link: u64,
-        product: u64,
-        owner: u64,
-    },
+    AcceptFor(u64, u64, u64, u64),
     /// The last accept of a device is undone.
-    GoBack {
-        device: u64,
-    },
+    GoBack { device: u64 },
     /// A device goes on after a link.
-    Resume {
-        device: u64,
-        upto: u64,
-    },
+    Resume { device: u64, upto: u64 },
 }
 
-fn accept(device: u64, link: u64) -> Call {
-    accept_for(device, link, 1, 1)
-}
-
-// For a product and an owner.
-fn accept_for(device: u64, link: u64, product: u64, owner: u64) -> Call {
-    Call::Accept {
+// What a collector answers to a tap of a device with this link, for a product, numbered for an owner.
+fn accepted(
+    collector: &mut Collector,
+    scheme: &Scheme,
+    (device, link, product, owner): (u64, u64, u64, u64),
+) -> Option<Result<(), CollectRefusal>> {
+    let record = record(Numbers {
         device,
         link,
-        product,
         owner,
-    }
+        lane: link,
+        product,
+        ..FIRST
+    })?;
+    Some(collector.accept(scheme, &record))
 }
 
 fn answer(
@@ -46,21 +42,9 @@ fn answer(
     call: Call,
 ) -> Option<Result<(), CollectRefusal>> {
     match call {
-        Call::Accept {
-            device,
-            link,
-            product,
-            owner,
-        } => {
-            let record = record(Numbers {
-                device,
-                link,
-                owner,
-                lane: link,
-                product,
-                ..FIRST
-            })?;
-            return Some(collector.accept(scheme, &record));
+        Call::Accept(device, link) => return accepted(collector, scheme, (device, link, 1, 1)),
+        Call::AcceptFor(device, link, product, owner) => {
+            return accepted(collector, scheme, (device, link, product, owner));
         }
         Call::GoBack { device } => collector.unaccept(DeviceId::new(device)?),
         Call::Resume { device, upto } => {
@@ -91,58 +75,58 @@ fn answers(
     let scheme = two_devices(alloc).expect(rt, "scheme");
     let mut collector = collector_of(alloc, &scheme, station).expect(rt, "collector");
     for (call, judged) in calls {
-        assert_eq!(rt; answer(&mut collector, &scheme, *call), Some(*judged));
+        same(rt, &answer(&mut collector, &scheme, *call), &Some(*judged));
     }
 }
 
 #[test]
 fn accepts_the_next_link_alone(rt: HostRuntime) {
-    let calls = [
-        (accept(1, 2), Err(CollectRefusal::Ahead)),
-        (accept(1, 1), Ok(())),
-        (accept(1, 1), Err(CollectRefusal::Old)),
-        (accept(1, 2), Ok(())),
+    const CALLS: [(Call, Result<(), CollectRefusal>); 4] = [
+        (Call::Accept(1, 2), Err(CollectRefusal::Ahead)),
+        (Call::Accept(1, 1), Ok(())),
+        (Call::Accept(1, 1), Err(CollectRefusal::Old)),
+        (Call::Accept(1, 2), Ok(())),
     ];
-    answers(&rt, rt.alloc(), 1, &calls);
+    answers(&rt, rt.alloc(), 1, &CALLS);
 }
 
 #[test]
 fn refuses_strangers_and_other_owners(rt: HostRuntime) {
-    let calls = [
-        (accept(2, 1), Err(CollectRefusal::Stranger)),
-        (accept(3, 1), Err(CollectRefusal::Stranger)),
-        (accept_for(2, 1, 1, 2), Err(CollectRefusal::Stranger)),
-        (accept_for(1, 1, 1, 2), Err(CollectRefusal::Misrouted)),
-        (accept_for(1, 1, 2, 1), Err(CollectRefusal::Misrouted)),
-        (accept_for(1, 2, 1, 2), Err(CollectRefusal::Misrouted)),
-        (accept(1, 1), Ok(())),
+    const CALLS: [(Call, Result<(), CollectRefusal>); 7] = [
+        (Call::Accept(2, 1), Err(CollectRefusal::Stranger)),
+        (Call::Accept(3, 1), Err(CollectRefusal::Stranger)),
+        (Call::AcceptFor(2, 1, 1, 2), Err(CollectRefusal::Stranger)),
+        (Call::AcceptFor(1, 1, 1, 2), Err(CollectRefusal::Misrouted)),
+        (Call::AcceptFor(1, 1, 2, 1), Err(CollectRefusal::Misrouted)),
+        (Call::AcceptFor(1, 2, 1, 2), Err(CollectRefusal::Misrouted)),
+        (Call::Accept(1, 1), Ok(())),
     ];
-    answers(&rt, rt.alloc(), 1, &calls);
+    answers(&rt, rt.alloc(), 1, &CALLS);
 }
 
 #[test]
 fn goes_back_and_resumes(rt: HostRuntime) {
-    let calls = [
+    const CALLS: [(Call, Result<(), CollectRefusal>); 9] = [
         (Call::GoBack { device: 1 }, Ok(())),
-        (accept(1, 1), Ok(())),
+        (Call::Accept(1, 1), Ok(())),
         (Call::GoBack { device: 1 }, Ok(())),
-        (accept(1, 1), Ok(())),
+        (Call::Accept(1, 1), Ok(())),
         (Call::Resume { device: 1, upto: 3 }, Ok(())),
-        (accept(1, 4), Ok(())),
+        (Call::Accept(1, 4), Ok(())),
         (Call::Resume { device: 2, upto: 3 }, Ok(())),
-        (accept(2, 4), Err(CollectRefusal::Stranger)),
-        (accept(1, 5), Ok(())),
+        (Call::Accept(2, 4), Err(CollectRefusal::Stranger)),
+        (Call::Accept(1, 5), Ok(())),
     ];
-    answers(&rt, rt.alloc(), 1, &calls);
+    answers(&rt, rt.alloc(), 1, &CALLS);
 }
 
 #[test]
 fn each_station_has_its_devices(rt: HostRuntime) {
-    let calls = [
-        (accept(1, 1), Err(CollectRefusal::Stranger)),
-        (accept(2, 1), Ok(())),
+    const CALLS: [(Call, Result<(), CollectRefusal>); 2] = [
+        (Call::Accept(1, 1), Err(CollectRefusal::Stranger)),
+        (Call::Accept(2, 1), Ok(())),
     ];
-    answers(&rt, rt.alloc(), 2, &calls);
+    answers(&rt, rt.alloc(), 2, &CALLS);
 }
 
 // What a collector of station 1 answers to the statement of a device and an owner.
@@ -160,15 +144,19 @@ fn stated(
 fn accepts_statements_of_its_devices(rt: HostRuntime) {
     let scheme = two_devices(rt.alloc()).expect(&rt, "scheme");
     let collector = collector_of(rt.alloc(), &scheme, 1).expect(&rt, "collector");
-    let cases = [
+    const CASES: [(u64, u64, Result<(), StatementRefusal>); 5] = [
         (1, 1, Ok(())),
         (1, 1, Ok(())),
         (2, 1, Err(StatementRefusal::Stranger)),
         (2, 2, Err(StatementRefusal::Stranger)),
         (1, 2, Err(StatementRefusal::Misrouted)),
     ];
-    for (device, owner, answer) in cases {
-        assert_eq!(rt; stated(&collector, &scheme, device, owner), Some(answer));
+    for &(device, owner, answer) in &CASES {
+        same(
+            &rt,
+            &stated(&collector, &scheme, device, owner),
+            &Some(answer),
+        );
     }
 }
 
@@ -180,9 +168,10 @@ fn fault_of(alloc: Global, station: u64) -> Option<CollectorFault> {
 
 #[test]
 fn stands_at_a_registered_station(rt: HostRuntime) {
-    assert_eq!(rt; fault_of(rt.alloc(), 2), None);
-    assert_eq!(rt;
-        fault_of(rt.alloc(), 3),
-        Some(CollectorFault::UnknownStation)
+    same(&rt, &fault_of(rt.alloc(), 2), &None);
+    same(
+        &rt,
+        &fault_of(rt.alloc(), 3),
+        &Some(CollectorFault::UnknownStation),
     );
 }

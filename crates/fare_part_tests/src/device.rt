@@ -1,5 +1,6 @@
 ghost use Rattle.std.specs.Prelude.{◌≡◌, length, IfSome};
 
+use crate::checking::same;
 use fare_day::Zone;
 use fare_device::{Device, DeviceFault, NumbersFault, TapRefusal, TurnRefusal};
 use fare_record::{Day, DeviceId, LAST_NUMBER, Moment, OwnerId, ProductId, Token};
@@ -129,7 +130,7 @@ impl Stand {
     // The calls are answered so, one after the other.
     fn answers(&mut self, rt: &impl Abort, calls: &[(Call, Answer)]) {
         for (call, want) in calls {
-            assert_eq!(rt; self.answer_to(*call), Some(*want));
+            same(rt, &self.answer_to(*call), &Some(*want));
         }
     }
 }
@@ -150,7 +151,7 @@ const TAP: Call = Call::Tap(1, 19_723);
 
 #[test]
 fn a_device_numbers_sends_and_refuses(rt: HostRuntime) {
-    let calls = [
+    const CALLS: [(Call, Answer); 5] = [
         (TAP, Answer::Numbered(1, 1)),
         (Call::Send, Answer::Sent(Some(1))),
         (Call::Send, Answer::Sent(None)),
@@ -158,30 +159,30 @@ fn a_device_numbers_sends_and_refuses(rt: HostRuntime) {
         (TAP, Answer::Refused(TapRefusal::BufferFull)),
     ];
     let mut stand = small_device(rt.alloc(), 0).expect(&rt, "device");
-    stand.answers(&rt, &calls);
+    stand.answers(&rt, &CALLS);
 }
 
 #[test]
 fn a_device_takes_numbers_over(rt: HostRuntime) {
-    let calls = [
+    const CALLS: [(Call, Answer); 3] = [
         (Call::Send, Answer::Sent(None)),
         (TAP, Answer::Numbered(8, 8)),
         (Call::Send, Answer::Sent(Some(8))),
     ];
     let mut stand = small_device(rt.alloc(), 7).expect(&rt, "device");
-    stand.answers(&rt, &calls);
+    stand.answers(&rt, &CALLS);
 }
 
 #[test]
 fn numbers_are_spent(rt: HostRuntime) {
-    let calls = [(TAP, Answer::Refused(TapRefusal::NumbersSpent))];
+    const CALLS: [(Call, Answer); 1] = [(TAP, Answer::Refused(TapRefusal::NumbersSpent))];
     let mut stand = small_device(rt.alloc(), LAST_NUMBER).expect(&rt, "device");
-    stand.answers(&rt, &calls);
+    stand.answers(&rt, &CALLS);
 }
 
 #[test]
 fn what_is_not_acknowledged_is_sent_again(rt: HostRuntime) {
-    let calls = [
+    const CALLS: [(Call, Answer); 14] = [
         (Call::Hear(1), Answer::Dropped(None)),
         (TAP, Answer::Numbered(1, 1)),
         (TAP, Answer::Numbered(2, 2)),
@@ -198,7 +199,7 @@ fn what_is_not_acknowledged_is_sent_again(rt: HostRuntime) {
         (Call::Hear(3), Answer::Dropped(Some(2))),
     ];
     let mut stand = small_device(rt.alloc(), 0).expect(&rt, "device");
-    stand.answers(&rt, &calls);
+    stand.answers(&rt, &CALLS);
 }
 
 // Why there is no new device of this number.
@@ -217,23 +218,27 @@ fn fault_of_numbers(alloc: Global, number: u64, last: u64, lanes: &[u64]) -> Opt
 #[test]
 fn numbers_that_do_not_add_up_are_out_of_range(rt: HostRuntime) {
     let unknown = fault_of_new(rt.alloc(), 9);
-    assert_eq!(rt; unknown, Some(DeviceFault::UnknownDevice));
-    let range = Some(NumbersFault::Range);
-    let cases: [(u64, u64, &[u64], Option<NumbersFault>); 5] = [
+    same(&rt, &unknown, &Some(DeviceFault::UnknownDevice));
+    const RANGE: Option<NumbersFault> = Some(NumbersFault::Range);
+    const CASES: [(u64, u64, &[u64], Option<NumbersFault>); 5] = [
         (9, 0, &[0], Some(NumbersFault::UnknownDevice)),
-        (1, 7, &[8], range),
-        (1, 8, &[7], range),
-        (1, 7, &[7, 0], range),
-        (1, LAST_NUMBER + 1, &[LAST_NUMBER + 1], range),
+        (1, 7, &[8], RANGE),
+        (1, 8, &[7], RANGE),
+        (1, 7, &[7, 0], RANGE),
+        (1, LAST_NUMBER + 1, &[LAST_NUMBER + 1], RANGE),
     ];
-    for (number, last, lanes, want) in cases {
-        assert_eq!(rt; fault_of_numbers(rt.alloc(), number, last, lanes), want);
+    for &(number, last, lanes, want) in &CASES {
+        same(
+            &rt,
+            &fault_of_numbers(rt.alloc(), number, last, lanes),
+            &want,
+        );
     }
 }
 
 #[test]
 fn eight_turned_days_wait(rt: HostRuntime) {
-    let calls = [
+    const CALLS: [(Call, Answer); 17] = [
         (Call::Turn, Answer::Open(19_724)),
         (Call::Turn, Answer::Open(19_725)),
         (Call::Turn, Answer::Open(19_726)),
@@ -253,7 +258,7 @@ fn eight_turned_days_wait(rt: HostRuntime) {
         (Call::Turn, Answer::Unturned(TurnRefusal::StatementsFull)),
     ];
     let mut stand = small_device(rt.alloc(), 0).expect(&rt, "device");
-    stand.answers(&rt, &calls);
+    stand.answers(&rt, &CALLS);
 }
 
 #[test]
@@ -261,8 +266,8 @@ fn the_last_day_is_not_turned(rt: HostRuntime) {
     let scheme = small_scheme(rt.alloc()).expect(&rt, "scheme");
     let device = old_device(rt.alloc(), &scheme, 100_000, 3, &[3]).expect(&rt, "device");
     let mut stand = Stand { scheme, device };
-    let calls = [(Call::Turn, Answer::Unturned(TurnRefusal::LastDay))];
-    stand.answers(&rt, &calls);
+    const CALLS: [(Call, Answer); 1] = [(Call::Turn, Answer::Unturned(TurnRefusal::LastDay))];
+    stand.answers(&rt, &CALLS);
 }
 
 // Two owners, each with the product of its number, and device 1 with room for eight taps.
@@ -286,7 +291,7 @@ fn days_are_counted_for_each_owner(rt: HostRuntime) {
     let scheme = two_owners(&rt, rt.alloc());
     let device = old_device(rt.alloc(), &scheme, 19_723, 5, &[3, 2]).expect(&rt, "device");
     let mut stand = Stand { scheme, device };
-    let calls = [
+    const CALLS: [(Call, Answer); 20] = [
         (Call::Tap(1, 19_723), Answer::Numbered(6, 4)),
         (Call::Tap(2, 19_723), Answer::Numbered(7, 3)),
         (Call::Tap(1, 19_723), Answer::Numbered(8, 5)),
@@ -308,5 +313,5 @@ fn days_are_counted_for_each_owner(rt: HostRuntime) {
         (Call::State(19_723, 1), Answer::Stated(None)),
         (Call::State(19_724, 2), Answer::Stated(Some(1))),
     ];
-    stand.answers(&rt, &calls);
+    stand.answers(&rt, &CALLS);
 }

@@ -1,5 +1,6 @@
 ghost use Rattle.std.specs.Prelude.{◌<◌};
 
+use crate::checking::same;
 use crate::samples::{FIRST, record, statement};
 use crate::vectors::{
     ACKED, DAY_ACKED, GREETED, STATED, TAPPED, acked, day_acked, greeted, stated, tapped,
@@ -30,9 +31,9 @@ fn each_frame_has_its_bytes(rt: HostRuntime) {
     for (frame, want) in cases {
         let frame = frame.expect(&rt, "frame");
         let (bytes, frames) = there_and_back(rt.alloc(), frame).expect(&rt, "memory");
-        assert_eq!(rt; bytes.as_slice(), want);
-        assert_eq!(rt; frames.len(), 1);
-        assert_eq!(rt; frames[0], frame);
+        same(&rt, &bytes.as_slice(), &want);
+        same(&rt, &frames.len(), &1);
+        same(&rt, frames.first().expect(&rt, "frame"), &frame);
     }
 }
 
@@ -59,9 +60,10 @@ fn frames_follow_one_another(rt: HostRuntime) {
         ),
     ];
     for (pieces, last) in cases {
-        assert_eq!(rt;
-            answer(rt.alloc(), pieces),
-            Some((None, pieces.len(), last))
+        same(
+            &rt,
+            &answer(rt.alloc(), pieces),
+            &Some((None, pieces.len(), last)),
         );
     }
 }
@@ -70,15 +72,15 @@ fn frames_follow_one_another(rt: HostRuntime) {
 fn a_frame_comes_in_two_pieces(rt: HostRuntime) {
     for cut in 1..49usize {
         let (front, back) = TAPPED.split_at(cut);
-        assert_eq!(rt;
-            answer(rt.alloc(), &[front]),
-            Some((None, 0, None)),
-            "cut at {cut}"
+        same(
+            &rt,
+            &(cut, answer(rt.alloc(), &[front])),
+            &(cut, Some((None, 0, None))),
         );
-        assert_eq!(rt;
-            answer(rt.alloc(), &[front, back]),
-            Some((None, 1, tapped())),
-            "cut at {cut}"
+        same(
+            &rt,
+            &(cut, answer(rt.alloc(), &[front, back])),
+            &(cut, Some((None, 1, tapped()))),
         );
     }
 }
@@ -92,7 +94,11 @@ fn a_stream_that_failed_is_read_no_further(rt: HostRuntime) {
         (&[bad, &TAPPED], ReadFault::Failed),
     ];
     for (pieces, fault) in cases {
-        assert_eq!(rt; answer(rt.alloc(), pieces), Some((Some(fault), 0, None)));
+        same(
+            &rt,
+            &answer(rt.alloc(), pieces),
+            &Some((Some(fault), 0, None)),
+        );
     }
 }
 
@@ -108,28 +114,29 @@ fn answer_after_failing(alloc: Global) -> Option<(Option<ReadFault>, usize)> {
 
 #[test]
 fn a_reader_fails_when_it_is_told_to(rt: HostRuntime) {
-    assert_eq!(rt;
-        answer_after_failing(rt.alloc()),
-        Some((Some(ReadFault::Failed), 0))
+    same(
+        &rt,
+        &answer_after_failing(rt.alloc()),
+        &Some((Some(ReadFault::Failed), 0)),
     );
 }
 
 // These bytes behind a whole frame are answered so, and nothing more is read.
 fn stops(rt: &impl Abort, alloc: Global, bytes: &[u8], fault: Option<ReadFault>) {
     let behind = answer(alloc, &[&GREETED, bytes]);
-    assert_eq!(rt; behind, Some((fault, 1, greeted())));
+    same(rt, &behind, &Some((fault, 1, greeted())));
 }
 
 #[test]
 fn a_place_is_judged_by_its_first_bytes(rt: HostRuntime) {
-    let cases = [
+    const CASES: [([u8; 3], ReadFault); 5] = [
         ([0x00, 0x30, 0x09], ReadFault::BadLength),
         ([0x01, 0x2f, 0x01], ReadFault::BadLength),
         ([0x00, 0x2f, 0x02], ReadFault::BadLength),
         ([0x00, 0x0d, 0x09], ReadFault::BadType),
         ([0x00, 0x0d, 0x00], ReadFault::BadType),
     ];
-    for (bytes, fault) in cases {
+    for &(bytes, fault) in &CASES {
         stops(&rt, rt.alloc(), &bytes[..2], None);
         stops(&rt, rt.alloc(), &bytes, Some(fault));
     }
@@ -176,7 +183,7 @@ fn a_long_stream_reads_the_same_in_any_pieces(rt: HostRuntime) {
     let stream = long_stream(rt.alloc()).expect(&rt, "stream");
     let whole = read_in(rt.alloc(), &stream, 1_000_000).expect(&rt, "whole");
     let single = read_in(rt.alloc(), &stream, 1).expect(&rt, "single");
-    assert_eq!(rt; whole.len(), 10_000);
+    same(&rt, &whole.len(), &10_000);
     assert!(rt; whole.as_slice() == single.as_slice());
 }
 
@@ -200,7 +207,7 @@ fn a_frame_tells_what_it_holds(rt: HostRuntime) {
         (greeted(), [false, false, false, false]),
     ];
     for (frame, held) in cases {
-        assert_eq!(rt; frame.map(holds), Some(held));
+        same(&rt, &frame.map(holds), &Some(held));
     }
 }
 
@@ -213,8 +220,12 @@ fn an_item_tells_what_it_holds(rt: HostRuntime) {
     let record = tapped.tapped().expect(&rt, "record");
     let statement = stated.stated().expect(&rt, "statement");
     let (tap, stated) = (Item::Tap(record), Item::Stated(statement));
-    assert_eq!(rt; (tap.tap(), tap.stated()), (Some(record), None));
-    assert_eq!(rt; (stated.tap(), stated.stated()), (None, Some(statement)));
+    same(&rt, &(tap.tap(), tap.stated()), &(Some(record), None));
+    same(
+        &rt,
+        &(stated.tap(), stated.stated()),
+        &(None, Some(statement)),
+    );
 }
 
 #[test]
@@ -223,8 +234,8 @@ fn an_acknowledgement_tells_what_it_holds(rt: HostRuntime) {
     let ack = acked.acked().expect(&rt, "ack");
     let day_ack = day_acked.day_acked().expect(&rt, "day");
     let (upto, day) = (AckItem::Upto(ack), AckItem::Day(day_ack));
-    assert_eq!(rt; (upto.upto(), upto.day()), (Some(ack), None));
-    assert_eq!(rt; (day.upto(), day.day()), (None, Some(day_ack)));
-    assert_eq!(rt; Frame::acknowledging(&upto), acked);
-    assert_eq!(rt; Frame::acknowledging(&day), day_acked);
+    same(&rt, &(upto.upto(), upto.day()), &(Some(ack), None));
+    same(&rt, &(day.upto(), day.day()), &(None, Some(day_ack)));
+    same(&rt, &Frame::acknowledging(&upto), &acked);
+    same(&rt, &Frame::acknowledging(&day), &day_acked);
 }

@@ -3,6 +3,7 @@ ghost use Rattle.fare_record.specs.Limits.{IsNumber};
 ghost use Rattle.fare_inbox_queue.specs.InboxPasses.{station_of, stations_of, IsStationOf, IsWriterOf, IsInboxEnded};
 ghost use Rattle.fare_inbox_queue.specs.LinePasses.{IsAckOf, IsHearOf};
 
+use crate::checking::same;
 use crate::samples::{FIRST, Numbers, record};
 use fare_inbox_queue::{
     AckLine, AckPass, Arrived, Full, HearPass, Inbox, InboxEnded, QueueFault, StationPass,
@@ -46,7 +47,7 @@ fn an_inbox_has_room_for_1_to_1024_items_of_1_to_16_stations(rt: HostRuntime) {
         (4, &many[..16], None),
     ];
     for (capacity, numbers, want) in cases {
-        assert_eq!(rt; fault(&rt, rt.alloc(), capacity, numbers), want);
+        same(&rt, &fault(&rt, rt.alloc(), capacity, numbers), &want);
     }
 }
 
@@ -163,9 +164,13 @@ fn an_inbox_of_three_gives_them_in_order(rt: HostRuntime) {
     let ended = finish(&rt, rt.alloc(), inbox, first, second, writer);
     let rest = rest(&rt, ended);
     let full = Err(Full(arrived(&rt, 2, 4)));
-    assert_eq!(rt; put, [Ok(()), Ok(()), Ok(()), full]);
+    same(&rt, &put, &[Ok(()), Ok(()), Ok(()), full]);
     let left = [Some(arrived(&rt, 2, 2)), Some(arrived(&rt, 1, 3)), None];
-    assert_eq!(rt; (taken, rest), (Some(arrived(&rt, 1, 1)), ((1, 2), left)));
+    same(
+        &rt,
+        &(taken, rest),
+        &(Some(arrived(&rt, 1, 1)), ((1, 2), left)),
+    );
 }
 
 const LINKS: u64 = 100;
@@ -313,12 +318,12 @@ fn each_stations_links_come_in_its_order(rt: HostRuntime) {
         kept,
     } = run(&rt, &inbox, first, second, writer, devices, kept);
     let ended = finish(&rt, rt.alloc(), inbox, first, second, writer);
-    assert_eq!(rt; rest(&rt, ended), ((200, 0), [None; 3]));
+    same(&rt, &rest(&rt, ended), &((200, 0), [None; 3]));
     let ordered = (
         in_order(&kept, station(&rt, 1)),
         in_order(&kept, station(&rt, 2)),
     );
-    assert_eq!(rt; (kept.len(), ordered), (ITEMS, (true, true)));
+    same(&rt, &(kept.len(), ordered), &(ITEMS, (true, true)));
 }
 
 // Why no line is made, if none is.
@@ -330,7 +335,7 @@ fn line_fault(alloc: Global, capacity: u32) -> Option<QueueFault> {
 fn a_line_has_room_for_1_to_1024_items(rt: HostRuntime) {
     let range = Some(QueueFault::Range);
     for (capacity, want) in [(0, range), (1025, range), (1024, None)] {
-        assert_eq!(rt; line_fault(rt.alloc(), capacity), want);
+        same(&rt, &line_fault(rt.alloc(), capacity), &want);
     }
 }
 
@@ -386,8 +391,8 @@ fn a_line_of_one_holds_one(rt: HostRuntime) {
     let third = put_two(&rt, &line, &mut ack, acked, 3);
     let end = ending(&rt, line, ack, hear);
     let full = Err(Full(AckItem::Upto(acked)));
-    assert_eq!(rt; [first, second, third], [Ok(()), full, Ok(())]);
+    same(&rt, &[first, second, third], &[Ok(()), full, Ok(())]);
     let want = [Some(AckItem::Upto(acked)), None];
-    assert_eq!(rt; taken, want);
-    assert_eq!(rt; end, ((1, 1), want));
+    same(&rt, &taken, &want);
+    same(&rt, &end, &((1, 1), want));
 }

@@ -1,6 +1,7 @@
 ghost use Rattle.std.specs.Prelude.{◌≡◌, ◌∷◌, []};
 ghost use Rattle.fare_lane_queue.specs.Passes.{sent_list, forward_bases, IsForwardOf, IsOwnerOf};
 
+use crate::checking::same;
 use crate::samples::{FIRST, Numbers, record, statement};
 use fare_lane_queue::{ForwardPass, Full, LaneQueue, LaneQueueFault, OwnerPass};
 use fare_record::{DeviceId, Item, Record, Statement};
@@ -26,15 +27,15 @@ fn fault(rt: &impl Abort, alloc: Global, capacity: u32, third: u64) -> Option<La
 
 #[test]
 fn a_lane_queue_has_room_for_1_to_1024_items(rt: HostRuntime) {
-    let range = Some(LaneQueueFault::Range);
-    let cases = [
-        (0, 3, range),
-        (1025, 3, range),
-        (4, 1, range),
+    const RANGE: Option<LaneQueueFault> = Some(LaneQueueFault::Range);
+    const CASES: [(u32, u64, Option<LaneQueueFault>); 4] = [
+        (0, 3, RANGE),
+        (1025, 3, RANGE),
+        (4, 1, RANGE),
         (1024, 3, None),
     ];
-    for (capacity, third, want) in cases {
-        assert_eq!(rt; fault(&rt, rt.alloc(), capacity, third), want);
+    for &(capacity, third, want) in &CASES {
+        same(&rt, &fault(&rt, rt.alloc(), capacity, third), &want);
     }
 }
 
@@ -105,10 +106,15 @@ fn what_is_taken_and_left_is_what_was_put(rt: HostRuntime) {
     let put = puts(&rt, &queue, &mut forward, tapped, stated);
     let taken = queue.take(&rt, &mut owner);
     let ended = ending(&rt, queue, forward, owner);
-    assert_eq!(rt; put, [Ok(()), Ok(()), Err(Full(Item::Stated(stated)))]);
+    same(
+        &rt,
+        &put,
+        &[Ok(()), Ok(()), Err(Full(Item::Stated(stated)))],
+    );
     let left = [Some(Item::Stated(stated)), None];
-    assert_eq!(rt;
-        (taken, ended),
-        (Some(Item::Tap(tapped)), ((1, 1), left, (1, 0)))
+    same(
+        &rt,
+        &(taken, ended),
+        &(Some(Item::Tap(tapped)), ((1, 1), left, (1, 0))),
     );
 }

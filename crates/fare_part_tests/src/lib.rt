@@ -1,14 +1,14 @@
-//! The tests of the public calls of the lower crates, up to the queues and the plain stores' forwarder, which need nothing of
-//! databases, sockets and sessions: a test's proof costs by all that its crate has in sight. The samples and the frames
-//! with their bytes are also what the tests above begin with. It promises nothing else.
+//! The tests of the public calls of the lower crates: bodies, frames, devices, schemes, decisions and queues. A test's proof
+//! costs by all that its crate has in sight, so the tests of what stands above these have crates of their own. The samples
+//! and the frames with their bytes are also what those begin with. It promises nothing else.
 #![tactic(auto)]
 
-#[cfg(test)]
-mod bills;
 #[cfg(test)]
 mod bodies;
 #[cfg(test)]
 mod buffer;
+#[cfg(test)]
+mod checking;
 #[cfg(test)]
 mod collector;
 #[cfg(test)]
@@ -25,18 +25,12 @@ mod lane_queue;
 mod link;
 #[cfg(test)]
 mod owner;
-#[cfg(test)]
-mod route;
 mod samples;
 #[cfg(test)]
 mod scheme;
 #[cfg(test)]
-mod settlements;
-#[cfg(test)]
 mod supervisor;
 mod vectors;
-#[cfg(test)]
-mod windows;
 
 pub use samples::{FIRST, Numbers, record, statement};
 pub use vectors::{

@@ -1,3 +1,4 @@
+use crate::checking::same;
 use fare_link::{AckAhead, Receiver, Sender, Verdict};
 
 #[test]
@@ -9,10 +10,14 @@ fn sends_up_to_the_last_number(rt: HostRuntime) {
         sender.next_link(2),
         sender.next_link(2),
     ];
-    assert_eq!(rt; links, [None, Some(1), Some(2), None]);
+    same(&rt, &links, &[None, Some(1), Some(2), None]);
     sender.rewind();
     let again = sender.next_link(2);
-    assert_eq!(rt; (again, sender.base(), sender.cursor()), (Some(1), 0, 1));
+    same(
+        &rt,
+        &(again, sender.base(), sender.cursor()),
+        &(Some(1), 0, 1),
+    );
 }
 
 #[test]
@@ -24,8 +29,8 @@ fn hears_acknowledgements(rt: HostRuntime) {
         sender.acked(1, 3),
         sender.acked(3, 3),
     ];
-    assert_eq!(rt; heard, [Err(AckAhead), Ok(2), Ok(0), Ok(1)]);
-    assert_eq!(rt; (sender.base(), sender.cursor()), (3, 3));
+    same(&rt, &heard, &[Err(AckAhead), Ok(2), Ok(0), Ok(1)]);
+    same(&rt, &(sender.base(), sender.cursor()), &(3, 3));
 }
 
 #[test]
@@ -36,6 +41,6 @@ fn accepts_the_next_number_alone(rt: HostRuntime) {
     let second = receiver.judge(1);
     receiver.resume(4);
     let fifth = (receiver.next(), receiver.judge(5));
-    assert_eq!(rt; first, [Verdict::Ahead, Verdict::Next]);
-    assert_eq!(rt; (second, fifth), (Verdict::Old, (5, Verdict::Next)));
+    same(&rt, &first, &[Verdict::Ahead, Verdict::Next]);
+    same(&rt, &(second, fifth), &(Verdict::Old, (5, Verdict::Next)));
 }

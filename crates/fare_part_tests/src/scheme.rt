@@ -1,3 +1,4 @@
+use crate::checking::same;
 use fare_day::Zone;
 use fare_record::{DeviceId, OwnerId, Pence, ProductId};
 use fare_scheme::{
@@ -81,14 +82,14 @@ const STARTED: [Call; 6] = [
 // The draft answers these calls so, one after the other.
 fn answers(rt: &impl Abort, draft: &mut Draft, calls: &[(Call, Result<(), AddFault>)]) {
     for (call, answer) in calls {
-        assert_eq!(rt; made(draft, *call), *answer);
+        same(rt, &made(draft, *call), answer);
     }
 }
 
 // The draft takes these calls.
 fn takes(rt: &impl Abort, draft: &mut Draft, calls: &[Call]) {
     for call in calls {
-        assert_eq!(rt; made(draft, *call), Ok(()));
+        same(rt, &made(draft, *call), &Ok(()));
     }
 }
 
@@ -128,7 +129,7 @@ fn small_scheme(rt: &impl Abort, alloc: Global) -> Option<Scheme> {
 
 #[test]
 fn refuses_by_the_first_case(rt: HostRuntime) {
-    let calls = [
+    const CALLS: [(Call, Result<(), AddFault>); 18] = [
         (Call::Owner(0, 4), Err(AddFault::ZeroId)),
         (Call::Owner(1, 4), Ok(())),
         (Call::Owner(1, 4), Err(AddFault::Taken)),
@@ -148,12 +149,12 @@ fn refuses_by_the_first_case(rt: HostRuntime) {
         (Call::Operator(1), Ok(())),
         (Call::Operator(1), Err(AddFault::Taken)),
     ];
-    answers(&rt, &mut Draft::new(rt.alloc()), &calls);
+    answers(&rt, &mut Draft::new(rt.alloc()), &CALLS);
 }
 
 #[test]
 fn refuses_windows_by_the_first_case(rt: HostRuntime) {
-    let calls = [
+    const CALLS: [(Call, Result<(), AddFault>); 9] = [
         (Call::Owner(1, 4), Ok(())),
         (Call::Product(1, 1, 175), Ok(())),
         (Call::Hop(1, 7_201), Err(AddFault::Range)),
@@ -164,7 +165,7 @@ fn refuses_windows_by_the_first_case(rt: HostRuntime) {
         (Call::Hop(1, 7_200), Ok(())),
         (Call::Hop(1, 0), Ok(())),
     ];
-    answers(&rt, &mut Draft::new(rt.alloc()), &calls);
+    answers(&rt, &mut Draft::new(rt.alloc()), &CALLS);
 }
 
 #[test]
@@ -178,7 +179,7 @@ fn seals_what_is_whole(rt: HostRuntime) {
         (&STARTED, true, None),
     ];
     for (calls, has_clock, fault) in cases {
-        assert_eq!(rt; seal_fault(&rt, rt.alloc(), calls, has_clock), fault);
+        same(&rt, &seal_fault(&rt, rt.alloc(), calls, has_clock), &fault);
     }
 }
 
@@ -230,23 +231,23 @@ fn reads_device_back(scheme: &Scheme) -> bool {
 fn fill(rt: &impl Abort, draft: &mut Draft) {
     takes(rt, draft, &SMALL);
     for owner in 2..17 {
-        assert_eq!(rt; made(draft, Call::Owner(owner, 4)), Ok(()));
+        same(rt, &made(draft, Call::Owner(owner, 4)), &Ok(()));
     }
     for device in 2..257 {
-        assert_eq!(rt; made(draft, Call::Device(device, 1, 4_096)), Ok(()));
+        same(rt, &made(draft, Call::Device(device, 1, 4_096)), &Ok(()));
     }
 }
 
 #[test]
 fn takes_as_many_as_there_may_be(rt: HostRuntime) {
-    let calls = [
+    const CALLS: [(Call, Result<(), AddFault>); 3] = [
         (Call::Owner(17, 4), Err(AddFault::TooMany)),
         (Call::Device(257, 1, 4_096), Err(AddFault::TooMany)),
         (Call::Device(257, 1, 4_097), Err(AddFault::Range)),
     ];
     let mut draft = Draft::new(rt.alloc());
     fill(&rt, &mut draft);
-    answers(&rt, &mut draft, &calls);
+    answers(&rt, &mut draft, &CALLS);
 }
 
 fn demo_devices(alloc: Global, size: DemoSize, buffer: u32) -> Result<usize, DemoFault> {
@@ -256,11 +257,20 @@ fn demo_devices(alloc: Global, size: DemoSize, buffer: u32) -> Result<usize, Dem
 
 #[test]
 fn makes_small_schemes(rt: HostRuntime) {
-    assert_eq!(rt; demo_devices(rt.alloc(), DemoSize::OneDevice, 4), Ok(1));
-    assert_eq!(rt; demo_devices(rt.alloc(), DemoSize::TwoDevices, 4), Ok(2));
-    assert_eq!(rt;
-        demo_devices(rt.alloc(), DemoSize::TwoDevices, 0),
-        Err(DemoFault::Range)
+    same(
+        &rt,
+        &demo_devices(rt.alloc(), DemoSize::OneDevice, 4),
+        &Ok(1),
+    );
+    same(
+        &rt,
+        &demo_devices(rt.alloc(), DemoSize::TwoDevices, 4),
+        &Ok(2),
+    );
+    same(
+        &rt,
+        &demo_devices(rt.alloc(), DemoSize::TwoDevices, 0),
+        &Err(DemoFault::Range),
     );
 }
 
@@ -288,8 +298,8 @@ fn positions_are_in_order_of_registration(rt: HostRuntime) {
     let scheme = Scheme::demo(rt.alloc(), DemoSize::TwoDevices, 4, 4, 4).expect(&rt, "scheme");
     assert!(rt; stand_at(&scheme, 1, 0));
     assert!(rt; stand_at(&scheme, 2, 1));
-    assert_eq!(rt; scheme.product_at(0), ProductId::new(1));
-    assert_eq!(rt; scheme.product_at(1), None);
+    same(&rt, &scheme.product_at(0), &ProductId::new(1));
+    same(&rt, &scheme.product_at(1), &None);
     let other = ProductId::new(2).expect(&rt, "product");
-    assert_eq!(rt; scheme.product_position(other), None);
+    same(&rt, &scheme.product_position(other), &None);
 }

@@ -1,3 +1,4 @@
+use crate::checking::same;
 use fare_record::{OwnerId, StationId};
 use fare_supervisor::{Action, Fault, Supervisor};
 
@@ -12,24 +13,24 @@ fn restarts_until_the_limit(rt: HostRuntime) {
         (Fault::Writer, Action::GiveUp),
     ];
     for (fault, action) in cases {
-        assert_eq!(rt; supervisor.on(fault), action);
+        same(&rt, &supervisor.on(fault), &action);
     }
 }
 
 #[test]
 fn restarts_the_hub_for_its_writer_and_outbox(rt: HostRuntime) {
     let mut supervisor = Supervisor::new(2);
-    let cases = [
+    const CASES: [(Fault, Action); 3] = [
         (Fault::Writer, Action::RestartHub),
         (Fault::Outbox, Action::RestartHub),
         (Fault::Outbox, Action::GiveUp),
     ];
-    for (fault, action) in cases {
-        assert_eq!(rt; supervisor.on(fault), action);
+    for &(fault, action) in &CASES {
+        same(&rt, &supervisor.on(fault), &action);
     }
 }
 
 #[test]
 fn gives_up_at_once_where_the_limit_is_zero(rt: HostRuntime) {
-    assert_eq!(rt; Supervisor::new(0).on(Fault::Writer), Action::GiveUp);
+    same(&rt, &Supervisor::new(0).on(Fault::Writer), &Action::GiveUp);
 }

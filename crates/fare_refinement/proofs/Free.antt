@@ -6,7 +6,7 @@ use Rattle.fare_record.specs.declared.ack_item.AckItem.{AckItem}
 use Rattle.fare_record.specs.Values.{StatementValue}
 use Rattle.fare_record.specs.Lanes.{part}
 use Rattle.fare_scheme.specs.Values.{SchemeValue}
-use Rattle.fare_world.specs.declared.event.Event.TheVariants as event
+use Rattle.fare_event.specs.declared.event.Event.TheVariants as event
 use Rattle.fare_world.specs.System.{System, arrived_of, numbered_for}
 use Rattle.fare_world.specs.Restarting.{hub_again}
 use Rattle.fare_world.specs.Steps.{step, after}

@@ -11,11 +11,11 @@ use Rattle.fare_record.specs.Lanes.{part, day_count}
 use Rattle.fare_scheme.specs.Values.{SchemeValue}
 use Rattle.fare_scheme.specs.Words.{station_of}
 use Rattle.fare_collector.specs.Collecting.{is_id, collect_judged}
-use Rattle.fare_world.specs.declared.event.Event.{Event}
-use Rattle.fare_world.specs.declared.event.Event.TheVariants as event
-use Rattle.fare_world.specs.declared.reply.Refusal.TheVariants.{Busy, Duplicate, Conflict, OutboxFull, Gap, UnknownStation, Unstated, Misrouted}
-use Rattle.fare_world.specs.declared.reply.Reply.{Reply}
-use Rattle.fare_world.specs.declared.reply.Reply.TheVariants as reply
+use Rattle.fare_event.specs.declared.event.Event.{Event}
+use Rattle.fare_event.specs.declared.event.Event.TheVariants as event
+use Rattle.fare_event.specs.declared.reply.Refusal.TheVariants.{Busy, Duplicate, Conflict, OutboxFull, Gap, UnknownStation, Unstated, Misrouted}
+use Rattle.fare_event.specs.declared.reply.Reply.{Reply}
+use Rattle.fare_event.specs.declared.reply.Reply.TheVariants as reply
 use Rattle.fare_world.specs.System.{put, Packet, Stated, Acked, Arrived, Statement_of, Answer, Ack_of, DayAck_of, DeviceState, System, stated_count}
 use Rattle.fare_world.specs.Arriving.{tap_at, next_at, is_full, accepted, judged, tap_comes, statement_comes, comes, packet_at}
 use Rattle.fare_world.specs.Storing.{drawn_reply, draw_from, let_go, is_held, stored, store_tap, stored_day, store_statement, store_from, gains_answer, ack_by, are_all_held, day_ack_by, packet_of, answered_reply, answer_from}

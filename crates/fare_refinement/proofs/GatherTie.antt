@@ -10,8 +10,8 @@ use Rattle.fare_collector.specs.Collecting.{is_id}
 use Rattle.fare_record.specs.Lanes.{part}
 use Rattle.fare_scheme.specs.Values.{SchemeValue}
 use Rattle.fare_scheme.specs.Words.{station_of}
-use Rattle.fare_world.specs.declared.event.Event.{Event}
-use Rattle.fare_world.specs.declared.event.Event.TheVariants as event
+use Rattle.fare_event.specs.declared.event.Event.{Event}
+use Rattle.fare_event.specs.declared.event.Event.TheVariants as event
 use Rattle.fare_world.specs.System.{System}
 use Rattle.fare_world.specs.Restarting.{hub_again}
 use Rattle.fare_world.specs.Steps.{step, after}

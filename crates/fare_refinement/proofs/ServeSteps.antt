@@ -15,11 +15,11 @@ use Rattle.fare_owner.specs.StatementJudged.{statement_judged}
 use Rattle.fare_owner.specs.declared.tap.TapFault.{TapFault}
 use Rattle.fare_owner.specs.declared.tap.TapFault.TheVariants as tap_fault
 use Rattle.fare_owner.specs.declared.statement.StatementFault.TheVariants as statement_fault
-use Rattle.fare_world.specs.declared.event.Event.{Event}
-use Rattle.fare_world.specs.declared.event.Event.TheVariants as event
-use Rattle.fare_world.specs.declared.reply.Refusal.TheVariants.{UnknownDevice, UnknownOwner, Busy}
-use Rattle.fare_world.specs.declared.reply.Reply.{Reply}
-use Rattle.fare_world.specs.declared.reply.Reply.TheVariants as reply
+use Rattle.fare_event.specs.declared.event.Event.{Event}
+use Rattle.fare_event.specs.declared.event.Event.TheVariants as event
+use Rattle.fare_event.specs.declared.reply.Refusal.TheVariants.{UnknownDevice, UnknownOwner, Busy}
+use Rattle.fare_event.specs.declared.reply.Reply.{Reply}
+use Rattle.fare_event.specs.declared.reply.Reply.TheVariants as reply
 use Rattle.fare_world.specs.System.{put, Routed, Lane_of, Day_of, DeviceState, OwnerState, LaneState, System, numbered_for, arrived_of, stated_count}
 use Rattle.fare_world.specs.Knowing.{knows_device, knows_owner}
 use Rattle.fare_world.specs.Arriving.{is_full}

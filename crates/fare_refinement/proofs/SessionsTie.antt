@@ -17,10 +17,10 @@ use Rattle.fare_history.specs.Gathering.{all_answers}
 use Rattle.fare_history.specs.Stores.{StoresValue}
 use Rattle.fare_refinement.specs.Gathered.{Given, sent_by, told_by, packet_for, IsGiven, packet_answered, HasStations, gathering_events, SameTaps, IsGathered}
 use Rattle.fare_refinement.specs.Sessions.{ShowsStores, Session, Collects, Serves_owner, Closes_day, stores_after, stores_after_all, IsSession, AreSessions, session_events, sessions_events, HasLaneRoom}
-use Rattle.fare_world.specs.declared.event.Event.TheVariants as event
-use Rattle.fare_world.specs.declared.reply.Refusal.TheVariants.{UnknownDevice, UnknownOwner}
-use Rattle.fare_world.specs.declared.reply.Reply.{Reply}
-use Rattle.fare_world.specs.declared.reply.Reply.TheVariants as reply
+use Rattle.fare_event.specs.declared.event.Event.TheVariants as event
+use Rattle.fare_event.specs.declared.reply.Refusal.TheVariants.{UnknownDevice, UnknownOwner}
+use Rattle.fare_event.specs.declared.reply.Reply.{Reply}
+use Rattle.fare_event.specs.declared.reply.Reply.TheVariants as reply
 use Rattle.fare_owner.specs.CloseJudged.{close_judged}
 use Rattle.fare_world.specs.Owning.{closed_day, close_by, close_on}
 use Rattle.fare_refinement.proofs.ServeSteps.{system_answered, outbox_same, beside_self, beside_lanes}

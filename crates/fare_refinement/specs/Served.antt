@@ -6,8 +6,8 @@ use Rattle.fare_record.specs.declared.item.Item.TheVariants as item
 use Rattle.fare_scheme.specs.Values.{SchemeValue}
 use Rattle.fare_store.specs.OutboxWords.{OutboxValue}
 use Rattle.fare_store.specs.LedgerWords.{LedgerValue}
-use Rattle.fare_world.specs.declared.event.Event.{Event}
-use Rattle.fare_world.specs.declared.event.Event.TheVariants as event
+use Rattle.fare_event.specs.declared.event.Event.{Event}
+use Rattle.fare_event.specs.declared.event.Event.TheVariants as event
 use Rattle.fare_world.specs.System.{Routed, Lane_of, Day_of, DeviceState, System}
 use Rattle.fare_world.specs.Kept.{IsSystem}
 use Rattle.fare_world.specs.Shown.{IsRoutedOf}

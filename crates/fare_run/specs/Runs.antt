@@ -6,8 +6,8 @@ use Rattle.fare_command.specs.CommandLine.{hub_app}
 use Rattle.fare_command.specs.Jobs.{AsksForText, IsMistaken, IsSound, JobOf, SaysNoJob}
 use Rattle.fare_command.specs.declared.words.Job.{Job}
 use Rattle.fare_command.specs.declared.words.Job.TheVariants as job
-use Rattle.fare_trace.specs.Replay.{ReplayFails, Replays}
-use Rattle.fare_trace.specs.declared.stream.ReplayFault.TheVariants as fault
+use Rattle.fare_replay.specs.Replay.{ReplayFails, Replays}
+use Rattle.fare_replay.specs.declared.stream.ReplayFault.TheVariants as fault
 use Rattle.fare_run.specs.declared.left.Left.{Left}
 use Rattle.fare_run.specs.declared.left.Left.TheVariants as left
 use Rattle.fare_run.specs.declared.running.Work.{Work}

@@ -2,7 +2,7 @@
 use Rattle.std.specs.Prelude.{ℕ, List, Option, IfSome}
 use Rattle.fare_scheme.specs.Values.{SchemeValue}
 use Rattle.fare_lines.specs.declared.line.Line.{Line}
-use Rattle.fare_trace.specs.Replay.{FailsToRead, ReadsLines}
+use Rattle.fare_replay.specs.Replay.{FailsToRead, ReadsLines}
 use Rattle.fare_trace.specs.Schemes.{Lacks, Makes, Refuses}
 use Rattle.fare_trace.specs.declared.schemes.SchemeFault.{SchemeFault}
 use Rattle.fare_trace.specs.declared.schemes.SchemeFault.TheVariants as scheme

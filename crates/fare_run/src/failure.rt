@@ -4,7 +4,7 @@ ghost use Rattle.fare_run.specs.declared.failure.Failure.TheVariants.{Memory};
 
 use crate::ask_failure::AskFailure;
 use crate::serve_failure::ServeFailure;
-use fare_trace::ReplayFault;
+use fare_replay::ReplayFault;
 use std::alloc::AllocError;
 use thiserror::Error;
 

@@ -1,7 +1,7 @@
 ghost use Rattle.std.specs.Prelude.{◌≡◌, true, Err, OnOk, IfErr, IfSome};
-ghost use Rattle.fare_trace.specs.Replay.{ReplayFails, Replays};
+ghost use Rattle.fare_replay.specs.Replay.{ReplayFails, Replays};
 
-use fare_trace::{ReplayFault, replay, replay_sql};
+use fare_replay::{ReplayFault, replay, replay_sql};
 use std::alloc::Global;
 use std::io::{Read, Write};
 

@@ -2,8 +2,9 @@ ghost use Rattle.std.specs.Prelude.{IfOk, IfErr, IfSome};
 ghost use Rattle.fare_run.specs.Scheming.{MakesNoScheme, SpellsScheme};
 
 use crate::serve_failure::{ServeFailure, of_scheme};
+use fare_replay::read_lines;
 use fare_scheme::Scheme;
-use fare_trace::{read_lines, scheme_of};
+use fare_trace::scheme_of;
 use std::alloc::Global;
 use std::io::Read;
 

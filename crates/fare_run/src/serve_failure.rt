@@ -3,9 +3,10 @@ ghost use Rattle.fare_run.specs.Scheming.{scheme_failure};
 ghost use Rattle.fare_run.specs.Serving.{serving_failure};
 ghost use Rattle.fare_run.specs.declared.serve_failure.ServeFailure.TheVariants.{Memory};
 
+use fare_event::Refusal;
+use fare_replay::ReplayFault;
 use fare_serve::ServeFault;
-use fare_trace::{ReplayFault, SchemeFault};
-use fare_world::Refusal;
+use fare_trace::SchemeFault;
 use std::alloc::AllocError;
 use thiserror::Error;
 

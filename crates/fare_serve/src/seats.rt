@@ -20,7 +20,7 @@ pub(crate) struct Seat {
 }
 
 /// Which of two lines of a station has the seat.
-#[derive(Clone, Copy, PartialEq, Eq, Debug)]
+#[derive(Clone, Copy, PartialEq, Eq)]
 pub(crate) enum Rule {
     /// The one that came first, unless it is over: no session was held yet.
     First,

@@ -1,22 +1,23 @@
+use crate::checking::{contains, same};
 use fare_command::{Job, Question, WordsFault, read_words};
 use fare_record::{Day, OwnerId};
 use std::test::Fail;
 
 #[test]
 fn reads_jobs(rt: HostRuntime) -> Result<(), Fail> {
-    let cases: [(&[&str], bool); 4] = [
+    const CASES: [(&[&str], bool); 4] = [
         (&["replay"], false),
         (&["replay", "--store", "plain"], false),
         (&["replay", "--store", "sql"], true),
         (&["replay", "--store=sql"], true),
     ];
-    for (words, want) in cases {
+    for &(words, want) in &CASES {
         match read_words(rt.alloc(), words)? {
-            Job::Replay { sql } => assert_eq!(rt; sql, want),
+            Job::Replay { sql } => same(&rt, &sql, &want),
             Job::Serve { .. } | Job::Ask { .. } => panic!(rt; "not a replay"),
         }
     }
-    let words = [
+    const WORDS: [&str; 11] = [
         "serve",
         "--port",
         "65535",
@@ -30,7 +31,7 @@ fn reads_jobs(rt: HostRuntime) -> Result<(), Fail> {
         "60000",
     ];
     for (count, read, write) in [(7, 10, 1_000), (9, 1, 1_000), (11, 1, 60_000)] {
-        match read_words(rt.alloc(), &words[..count])? {
+        match read_words(rt.alloc(), &WORDS[..count])? {
             Job::Serve {
                 port,
                 turns,
@@ -41,9 +42,13 @@ fn reads_jobs(rt: HostRuntime) -> Result<(), Fail> {
                 until,
                 patience,
             } => {
-                assert_eq!(rt; (port, turns, path), (65535, 1_000_000_000, "out box"));
-                assert_eq!(rt; (read_millis, write_millis), (read, write));
-                assert_eq!(rt; (rounds, until, patience), (1, None, 10));
+                same(
+                    &rt,
+                    &(port, turns, path),
+                    &(65535, 1_000_000_000, "out box"),
+                );
+                same(&rt, &(read_millis, write_millis), &(read, write));
+                same(&rt, &(rounds, until, patience), &(1, None, 10));
             }
             Job::Replay { .. } | Job::Ask { .. } => panic!(rt; "not a server"),
         }
@@ -54,13 +59,13 @@ fn reads_jobs(rt: HostRuntime) -> Result<(), Fail> {
 #[test]
 fn reads_how_long_to_serve(rt: HostRuntime) -> Result<(), Fail> {
     const ALL: u32 = 4_294_967_295;
-    let cases: [(&[&str], u32, Option<&str>, u32); 4] = [
+    const CASES: [(&[&str], u32, Option<&str>, u32); 4] = [
         (&["--rounds", "4294967295"], ALL, None, 10),
         (&["--until", "stop"], ALL, Some("stop"), 10),
         (&["--until", "stop", "--rounds", "7"], 7, Some("stop"), 10),
         (&["--patience", "1000000000"], 1, None, 1_000_000_000),
     ];
-    for (options, want_rounds, want_until, want_patience) in cases {
+    for &(options, want_rounds, want_until, want_patience) in &CASES {
         let mut words = Vec::new(rt.alloc());
         words.extend_from_slice(&["serve", "--port", "0", "--turns", "1", "--outbox", "x"])?;
         words.extend_from_slice(options)?;
@@ -71,9 +76,10 @@ fn reads_how_long_to_serve(rt: HostRuntime) -> Result<(), Fail> {
                 patience,
                 ..
             } => {
-                assert_eq!(rt;
-                    (rounds, until, patience),
-                    (want_rounds, want_until, want_patience)
+                same(
+                    &rt,
+                    &(rounds, until, patience),
+                    &(want_rounds, want_until, want_patience),
                 );
             }
             Job::Replay { .. } | Job::Ask { .. } => panic!(rt; "not a server"),
@@ -109,7 +115,7 @@ fn reads_questions(rt: HostRuntime) -> Result<(), Fail> {
     ];
     for (words, want) in cases {
         match read_words(rt.alloc(), words)? {
-            Job::Ask { path, question } => assert_eq!(rt; (path, question), ("x", want)),
+            Job::Ask { path, question } => same(&rt, &(path, question), &("x", want)),
             Job::Replay { .. } | Job::Serve { .. } => panic!(rt; "not a question"),
         }
     }
@@ -119,7 +125,7 @@ fn reads_questions(rt: HostRuntime) -> Result<(), Fail> {
 // Words of a question that lacks something, or has a number out of its range.
 #[test]
 fn refuses_questions(rt: HostRuntime) -> Result<(), Fail> {
-    let cases: [(&[&str], &str); 5] = [
+    const CASES: [(&[&str], &str); 5] = [
         (&["close"], "--outbox <PATH>"),
         (&["bill", "--outbox", "x", "--owner", "1"], "--day <D>"),
         (&["settle", "--outbox", "x", "--day", "1"], "--owner <O>"),
@@ -132,9 +138,9 @@ fn refuses_questions(rt: HostRuntime) -> Result<(), Fail> {
             "100001 is not in 0..=100000",
         ),
     ];
-    for (words, want) in cases {
+    for &(words, want) in &CASES {
         match read_words(rt.alloc(), words) {
-            Err(WordsFault::Refused(text)) => assert!(rt; text.contains(want), "{text}"),
+            Err(WordsFault::Refused(text)) => contains(&rt, text.as_str(), want),
             _ => panic!(rt; "not refused: {want}"),
         }
     }
@@ -143,7 +149,7 @@ fn refuses_questions(rt: HostRuntime) -> Result<(), Fail> {
 
 #[test]
 fn refuses_words(rt: HostRuntime) -> Result<(), Fail> {
-    let cases: [(&[&str], &str); 14] = [
+    const CASES: [(&[&str], &str); 14] = [
         (&[], "requires a subcommand"),
         (&["play"], "unrecognized subcommand 'play'"),
         (&["replay", "now"], "unexpected argument 'now' found"),
@@ -214,12 +220,15 @@ fn refuses_words(rt: HostRuntime) -> Result<(), Fail> {
             "60001 is not in 1..=60000",
         ),
     ];
-    for (words, want) in cases {
+    for &(words, want) in &CASES {
         match read_words(rt.alloc(), words) {
             Err(WordsFault::Refused(text)) => {
-                assert!(rt; text.starts_with("error: "), "{text}");
-                assert!(rt; text.contains(want), "{text}");
-                assert!(rt; text.ends_with("\n"), "{text}");
+                same(
+                    &rt,
+                    &(text.starts_with("error: "), text.ends_with("\n")),
+                    &(true, true),
+                );
+                contains(&rt, text.as_str(), want);
             }
             _ => panic!(rt; "not refused: {want}"),
         }
@@ -229,7 +238,7 @@ fn refuses_words(rt: HostRuntime) -> Result<(), Fail> {
 
 #[test]
 fn shows_help_and_version(rt: HostRuntime) -> Result<(), Fail> {
-    let cases: [(&[&str], &str); 4] = [
+    const CASES: [(&[&str], &str); 4] = [
         (&["--help"], "Usage: fare_hub <COMMAND>"),
         (&["--version"], "fare_hub 0.1.0\n"),
         (&["replay", "--help"], "Usage: fare_hub replay [OPTIONS]"),
@@ -238,9 +247,9 @@ fn shows_help_and_version(rt: HostRuntime) -> Result<(), Fail> {
             "Usage: fare_hub serve [OPTIONS] --port <PORT> --turns <TURNS> --outbox <PATH>",
         ),
     ];
-    for (words, want) in cases {
+    for &(words, want) in &CASES {
         match read_words(rt.alloc(), words) {
-            Err(WordsFault::Asked(text)) => assert!(rt; text.contains(want), "{text}"),
+            Err(WordsFault::Asked(text)) => contains(&rt, text.as_str(), want),
             _ => panic!(rt; "not shown: {want}"),
         }
     }

@@ -1,11 +1,11 @@
 //! What an operator asks of stores and orders, and the lines that come of it.
-use crate::hub_sessions::hub_of;
-use crate::scripts::narrow;
+use crate::checking::same;
 use fare_command::Question;
 use fare_desk::DeskFault;
 use fare_part_tests::{FIRST, Numbers, record, statement};
 use fare_record::{Day, DeviceId, OwnerId};
 use fare_run::answer_over;
+use fare_scheme::{DemoSize, Scheme};
 use fare_sessions::Hub;
 use fare_store::{FailingLedger, Ledger, Outbox, PlainLedger, PlainOutbox};
 use std::alloc::Global;
@@ -42,11 +42,15 @@ fn fill<L: Ledger>(ledger: &mut L, device: u64, held: Held) -> Option<()> {
 
 // A hub of one owner and two devices, of each of which its ledger took this.
 fn hub_with(alloc: Global, first: Held, second: Held) -> Option<Hub<PlainOutbox, PlainLedger>> {
-    let scheme = narrow(alloc)?;
+    let scheme = Scheme::demo(alloc, DemoSize::TwoDevices, 4, 1, 4).ok()?;
     let mut ledger = PlainLedger::new(alloc, &scheme, OwnerId::new(1)?).ok()?;
     fill(&mut ledger, 1, first)?;
     fill(&mut ledger, 2, second)?;
-    hub_of(alloc, scheme, PlainOutbox::new(alloc), ledger)
+    Some(Hub {
+        scheme,
+        outbox: PlainOutbox::new(alloc),
+        ledgers: Vec::from_array(alloc, [ledger]).ok()?,
+    })
 }
 
 // How a question of a hub is answered, and what was written.
@@ -103,7 +107,7 @@ fn days_whose_counts_are_met_are_closed_and_billed(rt: HostRuntime) {
     for (question, lines) in cases {
         let question = question.expect(&rt, "question");
         let (ended, said) = answered(alloc, &mut hub, question).expect(&rt, "answer");
-        assert_eq!(rt; (ended, said.as_slice()), (Ok(()), lines));
+        same(&rt, &(ended, said.as_slice()), &(Ok(()), lines));
     }
 }
 
@@ -135,7 +139,7 @@ fn a_count_that_is_not_met_ends_its_lane(rt: HostRuntime) {
     for (first, second, lines) in cases {
         let mut hub = hub_with(alloc, first, second).expect(&rt, "hub");
         let (ended, said) = answered(alloc, &mut hub, Question::Close).expect(&rt, "answer");
-        assert_eq!(rt; (ended, said.as_slice()), (Ok(()), lines));
+        same(&rt, &(ended, said.as_slice()), &(Ok(()), lines));
     }
 }
 
@@ -156,7 +160,7 @@ fn a_question_without_an_answer_writes_nothing(rt: HostRuntime) {
     for (question, fault) in cases {
         let question = question.expect(&rt, "question");
         let (ended, said) = answered(alloc, &mut hub, question).expect(&rt, "answer");
-        assert_eq!(rt; (ended, said.len()), (Err(fault), 0));
+        same(&rt, &(ended, said.len()), &(Err(fault), 0));
     }
 }
 
@@ -208,45 +212,56 @@ fn lanes_stand_where_their_stores_say(rt: HostRuntime) {
         let mut hub = hub_with(alloc, first, none).expect(&rt, "hub");
         hub.outbox = outbox_of(alloc).expect(&rt, "outbox");
         let (ended, _) = answered(alloc, &mut hub, Question::Close).expect(&rt, "close");
-        assert_eq!(rt; ended, Ok(()));
+        same(&rt, &ended, &Ok(()));
         let (ended, said) = answered(alloc, &mut hub, Question::Stand).expect(&rt, "answer");
-        assert_eq!(rt; (ended, said.as_slice()), (Ok(()), lines));
+        same(&rt, &(ended, said.as_slice()), &(Ok(()), lines));
     }
+}
+
+// A hub of two whole devices, whose ledger fails at its k-th call.
+fn failing_hub(alloc: Global, calls: u64) -> Option<Hub<PlainOutbox, FailingLedger>> {
+    let Hub {
+        scheme,
+        outbox,
+        mut ledgers,
+    } = hub_with(alloc, WHOLE, WHOLE)?;
+    let failing = FailingLedger::new(ledgers.pop()?, calls.max(1));
+    Some(Hub {
+        scheme,
+        outbox,
+        ledgers: Vec::from_array(alloc, [failing]).ok()?,
+    })
 }
 
 // A ledger that fails at its k-th call ends the closes there, and what was written are the lines before it.
 #[test]
 fn a_ledger_that_fails_ends_the_closes(rt: HostRuntime) {
     let alloc = rt.alloc();
-    let one: &[u8] = b"close 1 1 19723: closed 1 19723\n";
-    let two: &[u8] = b"close 1 1 19723: closed 1 19723\nclose 1 1 19724: closed 1 19724\n";
-    let three: &[u8] =
+    const ONE: &[u8] = b"close 1 1 19723: closed 1 19723\n";
+    const TWO: &[u8] = b"close 1 1 19723: closed 1 19723\nclose 1 1 19724: closed 1 19724\n";
+    const THREE: &[u8] =
         b"close 1 1 19723: closed 1 19723\nclose 1 1 19724: closed 1 19724\nclose 1 2 19723: closed 2 19723\n";
-    // Each day asks which is the last closed one and whether the next is stated, and closes it; a lane ends with two
+    // Each day asks which is the last closed ONE and whether the next is stated, and closes it; a lane ends with TWO
     // questions.
-    let cases: [(u64, &[u8]); 10] = [
+    const CASES: [(u64, &[u8]); 10] = [
         (1, b""),
         (2, b""),
         (3, b""),
-        (4, one),
-        (6, one),
-        (7, two),
-        (8, two),
-        (9, two),
-        (11, two),
-        (12, three),
+        (4, ONE),
+        (6, ONE),
+        (7, TWO),
+        (8, TWO),
+        (9, TWO),
+        (11, TWO),
+        (12, THREE),
     ];
-    for (calls, lines) in cases {
-        let plain = hub_with(alloc, WHOLE, WHOLE).expect(&rt, "hub");
-        let Hub {
-            scheme,
-            outbox,
-            mut ledgers,
-        } = plain;
-        let ledger = ledgers.pop().expect(&rt, "ledger");
-        let failing = FailingLedger::new(ledger, calls.max(1));
-        let mut hub = hub_of(alloc, scheme, outbox, failing).expect(&rt, "hub");
+    for &(calls, lines) in &CASES {
+        let mut hub = failing_hub(alloc, calls).expect(&rt, "hub");
         let (ended, said) = answered(alloc, &mut hub, Question::Close).expect(&rt, "answer");
-        assert_eq!(rt; (ended, said.as_slice()), (Err(DeskFault::Store), lines));
+        same(
+            &rt,
+            &(ended, said.as_slice()),
+            &(Err(DeskFault::Store), lines),
+        );
     }
 }

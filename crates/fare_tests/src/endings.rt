@@ -1,11 +1,12 @@
+use crate::checking::same;
 use crate::readers::{Closed, Lossy};
 use fare_command::Question;
 use fare_desk::DeskFault;
+use fare_event::Refusal;
 use fare_record::DeviceId;
+use fare_replay::ReplayFault;
 use fare_run::{AskFailure, AskOptions, Failure, Left, ServeFailure, ServeOptions, run};
 use fare_serve::Limits;
-use fare_trace::ReplayFault;
-use fare_world::Refusal;
 use std::alloc::Global;
 use std::io::Write;
 
@@ -26,7 +27,7 @@ fn told(alloc: Global, ended: &Result<(), Failure>, said: &str) -> Option<(u8, b
 #[test]
 fn words_and_traces_decide_the_ending(rt: HostRuntime) {
     // The words, the trace, the status, what standard error gets, and how the output begins.
-    let cases: [(&[&str], &[u8], u8, &str, &[u8]); 11] = [
+    const CASES: [(&[&str], &[u8], u8, &str, &[u8]); 11] = [
         (&["--version"], b"", 0, "", b"fare_hub 0.1.0\n"),
         (&["replay", "--help"], b"tap 1", 0, "", b"Reads a trace"),
         (&[], b"", 2, "error: ", b""),
@@ -51,7 +52,7 @@ fn words_and_traces_decide_the_ending(rt: HostRuntime) {
             b"",
         ),
     ];
-    for (words, trace, status, said, begin) in cases {
+    for &(words, trace, status, said, begin) in &CASES {
         let mut input = trace;
         let mut output = Vec::new(rt.alloc());
         let ended = match run(rt.alloc(), words, &mut input, &mut output) {
@@ -59,12 +60,13 @@ fn words_and_traces_decide_the_ending(rt: HostRuntime) {
             Ok(Some(_)) => panic!(rt; "something is left to do"),
             Err(failure) => Err(failure),
         };
-        assert_eq!(rt;
-            (
+        same(
+            &rt,
+            &(
                 told(rt.alloc(), &ended, said),
                 output.as_slice().starts_with(begin),
             ),
-            (Some((status, true)), true)
+            &(Some((status, true)), true),
         );
     }
 }
@@ -102,7 +104,11 @@ fn each_failure_has_its_line(rt: HostRuntime) {
         ),
     ];
     for (failure, line) in cases {
-        assert_eq!(rt; told(rt.alloc(), &Err(failure), line), Some((1, true)));
+        same(
+            &rt,
+            &told(rt.alloc(), &Err(failure), line),
+            &Some((1, true)),
+        );
     }
 }
 
@@ -119,7 +125,11 @@ fn each_answer_that_is_none_has_its_line(rt: HostRuntime) {
     ];
     for (fault, line) in cases {
         let failure = Failure::Ask(AskFailure::Desk(fault));
-        assert_eq!(rt; told(rt.alloc(), &Err(failure), line), Some((1, true)));
+        same(
+            &rt,
+            &told(rt.alloc(), &Err(failure), line),
+            &Some((1, true)),
+        );
     }
 }
 
@@ -150,9 +160,10 @@ fn words_that_ask_to_serve_leave_it_to_do(rt: HostRuntime) {
         },
         until: None,
     };
-    assert_eq!(rt;
-        (left, input.len(), output.len()),
-        (Some(Left::Serve(options)), 5, 0)
+    same(
+        &rt,
+        &(left, input.len(), output.len()),
+        &(Some(Left::Serve(options)), 5, 0),
     );
 }
 
@@ -165,9 +176,10 @@ fn words_that_ask_a_question_leave_it_to_do(rt: HostRuntime) {
         path: "x",
         question: Question::Stand,
     };
-    assert_eq!(rt;
-        (left, input.len(), output.len()),
-        (Some(Left::Ask(options)), 5, 0)
+    same(
+        &rt,
+        &(left, input.len(), output.len()),
+        &(Some(Left::Ask(options)), 5, 0),
     );
 }
 
@@ -186,12 +198,13 @@ fn a_writer_fails(rt: HostRuntime) {
     for word in ["--version", "replay"] {
         let closed = written_to(alloc, word, &mut Closed);
         let lossy = written_to(alloc, word, &mut Lossy);
-        assert_eq!(rt;
-            (
+        same(
+            &rt,
+            &(
                 told(alloc, &closed, "write failed"),
                 told(alloc, &lossy, "write failed"),
             ),
-            (Some((1, true)), Some((1, true)))
+            &(Some((1, true)), Some((1, true))),
         );
     }
 }

@@ -1,3 +1,4 @@
+use crate::checking::same;
 use crate::readers::{Closed, Lossy};
 use fare_frame::{Frame, Reader};
 use fare_net::{
@@ -109,10 +110,13 @@ fn turns_read_the_frames_in_any_pieces(rt: HostRuntime) {
     for most in 1..59usize {
         let mut reader = over(&bytes, most, End::Ends);
         reader.waits = most % 2 == 0;
-        assert_eq!(rt;
-            turns_of(rt.alloc(), &mut reader),
-            Some(([greeted(), tapped(), None], 58, Ok(Turn::Ended))),
-            "by {most}"
+        same(
+            &rt,
+            &(most, turns_of(rt.alloc(), &mut reader)),
+            &(
+                most,
+                Some(([greeted(), tapped(), None], 58, Ok(Turn::Ended))),
+            ),
         );
     }
 }
@@ -120,15 +124,16 @@ fn turns_read_the_frames_in_any_pieces(rt: HostRuntime) {
 #[test]
 fn a_turn_has_its_faults(rt: HostRuntime) {
     let bytes = two();
-    let cases = [
+    const CASES: [(End, Result<Turn, NetFault>); 3] = [
         (End::Ends, Ok(Turn::Ended)),
         (End::Silent, Ok(Turn::Waited)),
         (End::Fails, Err(NetFault::Read)),
     ];
-    for (end, last) in cases {
-        assert_eq!(rt;
-            turns_of(rt.alloc(), &mut over(&bytes, 58, end)),
-            Some(([greeted(), tapped(), None], 58, last))
+    for &(end, last) in &CASES {
+        same(
+            &rt,
+            &turns_of(rt.alloc(), &mut over(&bytes, 58, end)),
+            &Some(([greeted(), tapped(), None], 58, last)),
         );
     }
 }
@@ -143,11 +148,12 @@ fn an_answer_is_its_vector(rt: HostRuntime) {
         station_answer(alloc, &mut Closed, &frame),
         station_answer(alloc, &mut Lossy, &frame),
     ];
-    assert_eq!(rt;
-        answers,
-        [Ok(()), Err(AnswerFault::Write), Err(AnswerFault::Write)]
+    same(
+        &rt,
+        &answers,
+        &[Ok(()), Err(AnswerFault::Write), Err(AnswerFault::Write)],
     );
-    assert_eq!(rt; written.as_slice(), ACKED.as_slice());
+    same(&rt, &written.as_slice(), &ACKED.as_slice());
 }
 
 // The station of the greeting of a stream, and what the source then answers.
@@ -178,14 +184,16 @@ fn a_line_greets_first(rt: HostRuntime) {
         (&[0x00, 0x30, 0x01], 10, HelloFault::Failed),
         (&bytes, 0, HelloFault::Failed),
     ];
-    assert_eq!(rt;
-        hello_of(rt.alloc(), &bytes, 10),
-        Some((Ok(1), Ok(tapped())))
+    same(
+        &rt,
+        &hello_of(rt.alloc(), &bytes, 10),
+        &Some((Ok(1), Ok(tapped()))),
     );
     for (bytes, turns, fault) in cases {
-        assert_eq!(rt;
-            hello_of(rt.alloc(), bytes, turns),
-            Some((Err(fault), Err(SourceFault::Failed)))
+        same(
+            &rt,
+            &hello_of(rt.alloc(), bytes, turns),
+            &Some((Err(fault), Err(SourceFault::Failed))),
         );
     }
 }
@@ -214,10 +222,10 @@ fn heard<R: Read + Drop>(
 fn a_frame_that_is_cut_off_is_dropped(rt: HostRuntime) {
     let bytes = two();
     for count in 9..58usize {
-        assert_eq!(rt;
-            heard(rt.alloc(), &bytes[..count], 10),
-            Some(Ok((1, 0, None, true))),
-            "cut at {count}"
+        same(
+            &rt,
+            &(count, heard(rt.alloc(), &bytes[..count], 10)),
+            &(count, Some(Ok((1, 0, None, true)))),
         );
     }
 }
@@ -243,9 +251,10 @@ fn a_line_is_heard_to_its_end_or_its_fault(rt: HostRuntime) {
         (&bad, tapped(), false),
     ];
     for (bytes, frame, ended) in cases {
-        assert_eq!(rt;
-            heard(rt.alloc(), bytes, 10),
-            Some(Ok((1, 1, frame, ended)))
+        same(
+            &rt,
+            &heard(rt.alloc(), bytes, 10),
+            &Some(Ok((1, 1, frame, ended))),
         );
     }
 }
@@ -259,10 +268,13 @@ fn a_line_fails_where_a_read_does(rt: HostRuntime) {
             9..58 => Ok((1, 0, None, false)),
             _ => Ok((1, 1, tapped(), false)),
         };
-        assert_eq!(rt;
-            heard(rt.alloc(), over(&bytes[..count], 1, End::Fails), 100),
-            Some(want),
-            "after {count}"
+        same(
+            &rt,
+            &(
+                count,
+                heard(rt.alloc(), over(&bytes[..count], 1, End::Fails), 100),
+            ),
+            &(count, Some(want)),
         );
     }
 }
@@ -272,8 +284,12 @@ fn a_silent_line_uses_up_its_turns(rt: HostRuntime) {
     let bytes = two();
     let silent = heard(rt.alloc(), over(&bytes, 20, End::Silent), 50);
     let mute = heard(rt.alloc(), over(&[], 20, End::Silent), 50);
-    assert_eq!(rt; silent, Some(Ok((1, 1, tapped(), false))));
-    assert_eq!(rt; mute, Some(Err(ListenFault::Hello(HelloFault::Failed))));
+    same(&rt, &silent, &Some(Ok((1, 1, tapped(), false))));
+    same(
+        &rt,
+        &mute,
+        &Some(Err(ListenFault::Hello(HelloFault::Failed))),
+    );
 }
 
 /// Says the same frame again and again, after a greeting.
@@ -302,8 +318,8 @@ fn a_line_that_never_ends_is_read_so_often(rt: HostRuntime) {
     // 4,096 bytes a read: 83 taps of the first, and 8,183 bytes of taps of two.
     let one = heard(rt.alloc(), Endless { place: 0 }, 1);
     let two = heard(rt.alloc(), Endless { place: 0 }, 2);
-    assert_eq!(rt; one, Some(Ok((1, 83, tapped(), false))));
-    assert_eq!(rt; two, Some(Ok((1, 167, tapped(), false))));
+    same(&rt, &one, &Some(Ok((1, 83, tapped(), false))));
+    same(&rt, &two, &Some(Ok((1, 167, tapped(), false))));
 }
 
 // Whether a source is ready, asked three times, over a line that waits before each read, and then its next frame.
@@ -320,13 +336,13 @@ fn readiness(alloc: Global, most: usize) -> Option<([bool; 3], Option<Frame>)> {
 
 #[test]
 fn a_source_is_ready_where_a_frame_is_there(rt: HostRuntime) {
-    let cases = [
+    const CASES: [(usize, [bool; 3]); 3] = [
         (58, [true, true, true]),
         (50, [false, true, true]),
         (9, [false, false, false]),
     ];
-    for (most, ready) in cases {
-        assert_eq!(rt; readiness(rt.alloc(), most), Some((ready, tapped())));
+    for &(most, ready) in &CASES {
+        same(&rt, &readiness(rt.alloc(), most), &Some((ready, tapped())));
     }
 }
 
@@ -383,6 +399,10 @@ fn no_answer_follows_one_that_failed(rt: HostRuntime) {
             30..45 => [Ok(()), Ok(()), failed],
             _ => [Ok(()), Ok(()), Ok(())],
         };
-        assert_eq!(rt; answers_with(rt.alloc(), room), Some((want, room.min(45))));
+        same(
+            &rt,
+            &answers_with(rt.alloc(), room),
+            &Some((want, room.min(45))),
+        );
     }
 }

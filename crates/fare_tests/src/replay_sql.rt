@@ -1,7 +1,8 @@
-use crate::traces::*;
-use crate::traces_of_days::*;
-use fare_trace::{ReplayFault, replay, replay_sql};
+use crate::checking::same;
+use crate::worked::{TRACES_OF_DAYS, TRACES_OF_SCHEMES, TRACES_OF_TAPS};
+use fare_replay::{ReplayFault, replay, replay_sql};
 use std::alloc::{AllocError, Global};
+use std::process::Abort;
 
 // What a replay of a trace over tables writes.
 fn answered(alloc: Global, trace: &[u8]) -> Result<Vec<u8>, ReplayFault> {
@@ -16,46 +17,22 @@ fn is_answered(alloc: Global, trace: &[u8], want: &[u8]) -> Result<bool, ReplayF
     Ok(answered(alloc, trace)?.as_slice() == want)
 }
 
-#[test]
-fn replays_traces_over_tables(rt: HostRuntime) {
-    let cases: [(&[u8], &[u8]); 26] = [
-        (b"", b""),
-        (ONE_TAP, ONE_TAP_ANSWERED),
-        (FULL_BUFFER, FULL_BUFFER_ANSWERED),
-        (OUT_OF_ORDER_AND_REPEAT, OUT_OF_ORDER_AND_REPEAT_ANSWERED),
-        (DAY_EDGES, DAY_EDGES_ANSWERED),
-        (REFUSALS_AND_IDLES, REFUSALS_AND_IDLES_ANSWERED),
-        (WRITER_RESTART, WRITER_RESTART_ANSWERED),
-        (FULL_INBOX, FULL_INBOX_ANSWERED),
-        (PRUNE_AND_OWNER_RESTART, PRUNE_AND_OWNER_RESTART_ANSWERED),
-        (SENT_AGAIN, SENT_AGAIN_ANSWERED),
-        (UNKNOWN_PARTS, UNKNOWN_PARTS_ANSWERED),
-        (SHORT_COUNT_THEN_CLOSE, SHORT_COUNT_THEN_CLOSE_ANSWERED),
-        (DAYS_IN_ORDER, DAYS_IN_ORDER_ANSWERED),
-        (EIGHT_WAITING_DAYS, EIGHT_WAITING_DAYS_ANSWERED),
-        (TWO_DEVICES_CLOSE, TWO_DEVICES_CLOSE_ANSWERED),
-        (A_DAY_WITH_BILL, A_DAY_WITH_BILL_ANSWERED),
-        (A_STATEMENT_GOES_ONCE, A_STATEMENT_GOES_ONCE_ANSWERED),
-        (
-            A_STATEMENT_OUTLIVES_A_RESTART,
-            A_STATEMENT_OUTLIVES_A_RESTART_ANSWERED,
-        ),
-        (SMALL_ROOMS, SMALL_ROOMS_ANSWERED),
-        (TWO_OWNERS_A_DAY, TWO_OWNERS_A_DAY_ANSWERED),
-        (A_DAY_OF_WINDOWS, A_DAY_OF_WINDOWS_ANSWERED),
-        (HOP_LINES, HOP_LINES_ANSWERED),
-        (REGISTRAR_REFUSALS, REGISTRAR_REFUSALS_ANSWERED),
-        (REGISTRAR_SEALS, REGISTRAR_SEALS_ANSWERED),
-        (SETTINGS, SETTINGS_ANSWERED),
-        (LAST_ZONE_COUNTS, LAST_ZONE_COUNTS_ANSWERED),
-    ];
+// These traces are answered so.
+fn are_answered(rt: &impl Abort, alloc: Global, cases: &[(&[u8], &[u8])]) {
     for (place, (trace, want)) in cases.iter().enumerate() {
-        assert_eq!(rt;
-            is_answered(rt.alloc(), trace, want),
-            Ok(true),
-            "trace {place}"
+        same(
+            rt,
+            &(place, is_answered(alloc, trace, want)),
+            &(place, Ok(true)),
         );
     }
+}
+
+#[test]
+fn replays_traces_over_tables(rt: HostRuntime) {
+    are_answered(&rt, rt.alloc(), &TRACES_OF_TAPS);
+    are_answered(&rt, rt.alloc(), &TRACES_OF_DAYS);
+    are_answered(&rt, rt.alloc(), &TRACES_OF_SCHEMES);
 }
 
 // 30 taps, one after the other, each brought to its owner's ledger and acknowledged, and then their day, up to its
@@ -94,7 +71,7 @@ fn tables_answer_a_longer_trace_as_lists_do(rt: HostRuntime) {
             b"account 1 77 30 525\nsettlement 1 19723 1\noperator 1 30 525\nupto 30\ncount 30\n"
         )
     );
-    assert_eq!(rt; is_answered(rt.alloc(), &trace, &want), Ok(true));
+    same(&rt, &is_answered(rt.alloc(), &trace, &want), &Ok(true));
 }
 
 // Why a replay of a trace over tables writes nothing.
@@ -108,10 +85,11 @@ fn fault_of(alloc: Global, trace: &[u8]) -> Option<ReplayFault> {
 #[test]
 fn a_bad_line_over_tables_leaves_nothing_written(rt: HostRuntime) {
     let bad = ReplayFault::BadLine { line: 4 };
-    assert_eq!(rt;
-        fault_of(rt.alloc(), b"demo 1 4 4 4\nupto 1\ncount 1 1\ntap 1\n"),
-        Some(bad)
+    same(
+        &rt,
+        &fault_of(rt.alloc(), b"demo 1 4 4 4\nupto 1\ncount 1 1\ntap 1\n"),
+        &Some(bad),
     );
     let line = format!(in rt.alloc(); "{}", ReplayFault::Store).expect(&rt, "line");
-    assert_eq!(rt; line.as_str(), "store failed");
+    same(&rt, &line.as_str(), &("store failed"));
 }

@@ -1,7 +1,7 @@
 //! Serving in rounds over sockets: a validator that comes late, one that breaks and comes again, and a newer line.
 ghost use Rattle.fare_sessions.specs.Stores.{HasLedgers};
 
-use crate::hub_sessions::hub_of;
+use crate::checking::same;
 use crate::serving::listener;
 use fare_frame::Frame;
 use fare_part_tests::{FIRST, Numbers, record};
@@ -162,6 +162,19 @@ fn serve_until<R: Threads + Wait + Clock + Eprint + Sync>(
     (ended, output)
 }
 
+// A hub of one owner with this ledger.
+fn hub_of(
+    alloc: Global,
+    scheme: Scheme,
+    ledger: PlainLedger,
+) -> Option<Hub<PlainOutbox, PlainLedger>> {
+    Some(Hub {
+        scheme,
+        outbox: PlainOutbox::new(alloc),
+        ledgers: Vec::from_array(alloc, [ledger]).ok()?,
+    })
+}
+
 // Whether all was heard that the play waits for, how serving ended meanwhile, and what was written.
 fn played<
     R: Net<Listener = TcpListener, Stream = TcpStream> + Threads + Wait + Clock + Eprint + Sync,
@@ -176,7 +189,7 @@ fn played<
     let (listener, address) = listener(rt)?;
     let scheme = Scheme::demo(alloc, DemoSize::TwoDevices, 4, 4, 4).ok()?;
     let ledger = PlainLedger::new(alloc, &scheme, OwnerId::new(1)?).ok()?;
-    let hub = hub_of(alloc, scheme, PlainOutbox::new(alloc), ledger)?;
+    let hub = hub_of(alloc, scheme, ledger)?;
     if hub.scheme.owner_count() != hub.ledgers.len() {
         return None;
     }
@@ -194,9 +207,10 @@ fn played<
 fn a_validator_that_comes_in_a_later_round_is_served(rt: HostRuntime) {
     let seen = played(&rt, &rt, Play::ComesLate, "late.end");
     let (heard, ended, output) = seen.expect(&rt, "memory");
-    assert_eq!(rt;
-        (heard, ended, output.as_slice()),
-        (true, Ok(()), b"stored 2\ntaken 1 2\nleft 0\n".as_slice())
+    same(
+        &rt,
+        &(heard, ended, output.as_slice()),
+        &(true, Ok(()), b"stored 2\ntaken 1 2\nleft 0\n".as_slice()),
     );
 }
 
@@ -204,9 +218,10 @@ fn a_validator_that_comes_in_a_later_round_is_served(rt: HostRuntime) {
 fn a_validator_whose_line_broke_comes_again_and_each_tap_is_stored_once(rt: HostRuntime) {
     let seen = played(&rt, &rt, Play::BreaksAndComesAgain, "broken.end");
     let (heard, ended, output) = seen.expect(&rt, "memory");
-    assert_eq!(rt;
-        (heard, ended, output.as_slice()),
-        (true, Ok(()), b"stored 2\ntaken 1 2\nleft 0\n".as_slice())
+    same(
+        &rt,
+        &(heard, ended, output.as_slice()),
+        &(true, Ok(()), b"stored 2\ntaken 1 2\nleft 0\n".as_slice()),
     );
 }
 
@@ -214,8 +229,9 @@ fn a_validator_whose_line_broke_comes_again_and_each_tap_is_stored_once(rt: Host
 fn a_newer_line_of_a_station_replaces_the_older_one(rt: HostRuntime) {
     let seen = played(&rt, &rt, Play::ComesTwice, "twice.end");
     let (heard, ended, output) = seen.expect(&rt, "memory");
-    assert_eq!(rt;
-        (heard, ended, output.as_slice()),
-        (true, Ok(()), b"stored 2\ntaken 1 2\nleft 0\n".as_slice())
+    same(
+        &rt,
+        &(heard, ended, output.as_slice()),
+        &(true, Ok(()), b"stored 2\ntaken 1 2\nleft 0\n".as_slice()),
     );
 }

@@ -1,7 +1,8 @@
+use crate::checking::same;
 use crate::traces::{ONE_TAP, REGISTRAR_REFUSALS, REGISTRAR_SEALS};
+use fare_event::Refusal;
 use fare_lines::parse;
 use fare_trace::{SchemeFault, scheme_of};
-use fare_world::Refusal;
 use std::alloc::Global;
 
 // How many stations the scheme has that a text's lines make, or why they make none.
@@ -33,7 +34,7 @@ demo 1 4 4 4
 
 #[test]
 fn lines_make_a_scheme_or_none(rt: HostRuntime) {
-    let cases = [
+    const CASES: [(&[u8], Result<usize, SchemeFault>); 6] = [
         (
             REGISTRAR_REFUSALS,
             Err(SchemeFault::Refused(Refusal::ZeroId)),
@@ -44,7 +45,7 @@ fn lines_make_a_scheme_or_none(rt: HostRuntime) {
         (ONE_TAP, Ok(1)),
         (SEALED, Ok(1)),
     ];
-    for (text, want) in cases {
-        assert_eq!(rt; stations_of(rt.alloc(), text), Some(want));
+    for &(text, want) in &CASES {
+        same(&rt, &stations_of(rt.alloc(), text), &Some(want));
     }
 }

@@ -1,8 +1,9 @@
-use crate::hub_sessions::hub_of;
+use crate::checking::same;
 use fare_part_tests::{ACKED, GREETED, TAPPED};
 use fare_record::OwnerId;
 use fare_scheme::{DemoSize, Scheme};
 use fare_serve::{Limits, ServeFault, serve_rounds};
+use fare_sessions::Hub;
 use fare_store::{FailingOutbox, Outbox, PlainLedger, PlainOutbox};
 use std::alloc::Global;
 use std::io::{Read, Write};
@@ -58,7 +59,11 @@ fn served<O: Outbox + Send + Drop, R: Threads + Wait + Clock + Eprint + Sync>(
     let alloc = rt.alloc();
     let scheme = Scheme::demo(alloc, size, 4, 4, 4).ok()?;
     let ledger = PlainLedger::new(alloc, &scheme, OwnerId::new(1)?).ok()?;
-    let mut hub = hub_of(alloc, scheme, outbox, ledger)?;
+    let mut hub = Hub {
+        scheme,
+        outbox,
+        ledgers: Vec::from_array(alloc, [ledger]).ok()?,
+    };
     if hub.scheme.owner_count() != hub.ledgers.len() {
         return None;
     }
@@ -94,9 +99,10 @@ fn a_client_is_served_and_hears_its_acknowledgement_last(rt: HostRuntime) {
         outbox,
         1_000_000,
     ).expect(&rt, "memory");
-    assert_eq!(rt;
-        (ended, output.as_slice()),
-        (Ok(()), b"stored 1\ntaken 1 1\nleft 0\n".as_slice())
+    same(
+        &rt,
+        &(ended, output.as_slice()),
+        &(Ok(()), b"stored 1\ntaken 1 1\nleft 0\n".as_slice()),
     );
     assert!(rt; hears_last(rt.alloc(), client, &ACKED));
 }
@@ -109,9 +115,10 @@ fn a_station_for_which_no_line_came_keeps_none_from_being_served(rt: HostRuntime
     let (ended, output) = served(&rt, &rt, &listener, DemoSize::TwoDevices, outbox, 50).expect(
         &rt, "memory",
     );
-    assert_eq!(rt;
-        (ended, output.as_slice()),
-        (Ok(()), b"stored 1\ntaken 1 1\nleft 0\n".as_slice())
+    same(
+        &rt,
+        &(ended, output.as_slice()),
+        &(Ok(()), b"stored 1\ntaken 1 1\nleft 0\n".as_slice()),
     );
     assert!(rt; hears_last(rt.alloc(), client, &ACKED));
 }
@@ -130,10 +137,10 @@ fn a_store_that_fails_ends_all_with_nothing_written(rt: HostRuntime) {
             outbox,
             1_000,
         ).expect(&rt, "memory");
-        assert_eq!(rt;
-            (ended, output.len()),
-            (Err(ServeFault::Store), 0),
-            "call {call}"
+        same(
+            &rt,
+            &(call, (ended, output.len())),
+            &(call, (Err(ServeFault::Store), 0)),
         );
     }
 }

@@ -1,11 +1,12 @@
+use crate::checking::same;
 use fare_command::Question;
 use fare_desk::DeskFault;
+use fare_event::Refusal;
 use fare_part_tests::{GREETED, STATED, TAPPED};
 use fare_record::{Day, OwnerId};
+use fare_replay::{ReplayFault, replay};
 use fare_run::{AskFailure, AskOptions, ServeFailure, ServeOptions, ask, serve};
 use fare_serve::Limits;
-use fare_trace::{ReplayFault, replay};
-use fare_world::Refusal;
 use std::io::{self, ErrorKind, Write};
 use std::net::{Ipv4Addr, Net, Shutdown, TcpListener, TcpStream};
 use std::sync::Wait;
@@ -103,13 +104,13 @@ fn a_tap_that_is_sent_again_is_stored_and_taken_once(rt: HostRuntime) {
         b"stored 0\ntaken 1 0\nleft 0\n",
     ] {
         let (ended, said) = served(&rt, &rt, "served.db", DEMO, &[&GREETED, &TAPPED]);
-        assert_eq!(rt; (ended, said.as_slice()), (Ok(()), counts));
+        same(&rt, &(ended, said.as_slice()), &(Ok(()), counts));
     }
 }
 
 #[test]
 fn what_comes_before_serving_writes_nothing(rt: HostRuntime) {
-    let cases: [(&[u8], ServeFailure); 5] = [
+    const CASES: [(&[u8], ServeFailure); 5] = [
         (
             b"tap",
             ServeFailure::Lines(ReplayFault::BadLine { line: 1 }),
@@ -119,9 +120,9 @@ fn what_comes_before_serving_writes_nothing(rt: HostRuntime) {
         (b"", ServeFailure::NoScheme),
         (b"demo 1 4 4 4\n", ServeFailure::Store),
     ];
-    for (scheme, failure) in cases {
+    for &(scheme, failure) in &CASES {
         let (ended, said) = served(&rt, &rt, "no-such-folder/served.db", scheme, &[]);
-        assert_eq!(rt; (ended, said.len()), (Err(failure), 0));
+        same(&rt, &(ended, said.len()), &(Err(failure), 0));
     }
 }
 
@@ -138,7 +139,7 @@ fn asked(rt: &HostRuntime, path: &str, question: Question) -> (Result<(), AskFai
 #[test]
 fn questions_of_what_was_served(rt: HostRuntime) {
     let (ended, _) = served(&rt, &rt, "asked.db", DEMO, &[&GREETED, &TAPPED]);
-    assert_eq!(rt; ended, Ok(()));
+    same(&rt, &ended, &Ok(()));
     let owner = OwnerId::new(1).expect(&rt, "owner");
     let day = Day::new(19_722).expect(&rt, "day");
     let bill = Question::Bill { owner, day };
@@ -153,7 +154,7 @@ fn questions_of_what_was_served(rt: HostRuntime) {
     ];
     for (question, ends, lines) in cases {
         let (ended, said) = asked(&rt, "asked.db", question);
-        assert_eq!(rt; (ended, said.as_slice()), (ends, lines));
+        same(&rt, &(ended, said.as_slice()), &(ends, lines));
     }
 }
 
@@ -163,7 +164,7 @@ fn questions_of_stores_that_are_not_there(rt: HostRuntime) {
     for _ in 0..2 {
         let (ended, said) = asked(&rt, "never-served.db", Question::Stand);
         let none = Err(AskFailure::Stores(ServeFailure::Store));
-        assert_eq!(rt; (ended, said.len()), (none, 0));
+        same(&rt, &(ended, said.len()), &(none, 0));
     }
 }
 
@@ -219,14 +220,14 @@ fn a_served_tap_is_closed_and_billed_as_a_replayed_one(rt: HostRuntime) {
     stated[20] = 1;
     let frames: [&[u8]; 3] = [&GREETED, &TAPPED, &stated];
     let (ended, _) = served(&rt, &rt, "billed.db", DEMO, &frames);
-    assert_eq!(rt; ended, Ok(()));
+    same(&rt, &ended, &Ok(()));
     let lines = closed_and_billed(&rt, "billed.db").expect(&rt, "answers");
     let want =
         b"closed 1 19723\nbill 1 19723 1 175\naccount 1 77 1 175\nsettlement 1 19723 1\noperator 1 1 175\n";
-    assert_eq!(rt; lines.as_slice(), want.as_slice());
+    same(&rt, &lines.as_slice(), &want.as_slice());
     let mut replies = Vec::new(rt.alloc());
     let mut trace = TRACE;
-    assert_eq!(rt; replay(rt.alloc(), &mut trace, &mut replies), Ok(()));
+    same(&rt, &replay(rt.alloc(), &mut trace, &mut replies), &Ok(()));
     assert!(rt; replies.as_slice().ends_with(want));
 }
 
@@ -288,12 +289,16 @@ fn asked_while_served<
 #[test]
 fn a_question_of_locked_stores(rt: HostRuntime) {
     let (ended, _) = served(&rt, &rt, "locked.db", DEMO, &[&GREETED, &TAPPED]);
-    assert_eq!(rt; ended, Ok(()));
+    same(&rt, &ended, &Ok(()));
     let (_, before) = asked(&rt, "locked.db", Question::Stand);
     let (shown, closed) = asked_while_served(&rt, &rt, "locked.db");
     let locked = Err(AskFailure::Stores(ServeFailure::Store));
-    assert_eq!(rt; shown, locked);
-    assert_eq!(rt; closed, locked);
+    same(&rt, &shown, &locked);
+    same(&rt, &closed, &locked);
     let (ended, after) = asked(&rt, "locked.db", Question::Stand);
-    assert_eq!(rt; (ended, after.as_slice()), (Ok(()), before.as_slice()));
+    same(
+        &rt,
+        &(ended, after.as_slice()),
+        &(Ok(()), before.as_slice()),
+    );
 }

@@ -3,8 +3,8 @@ use Rattle.std.proofs.Common.{◌≡◌, ◌∙◌, Bool, Option, Some, None, Re
 use Rattle.fare_scheme.specs.declared.fault.AddFault.{AddFault}
 use Rattle.fare_scheme.specs.declared.fault.AddFault.TheVariants.{Memory}
 use Rattle.fare_scheme.specs.Values.{DraftValue}
-use Rattle.fare_world.specs.declared.reply.Refusal.{Refusal}
-use Rattle.fare_world.specs.declared.reply.Reply.{Reply}
+use Rattle.fare_event.specs.declared.reply.Refusal.{Refusal}
+use Rattle.fare_event.specs.declared.reply.Reply.{Reply}
 use Rattle.fare_trace.specs.declared.registering.Registration.{Registration}
 use Rattle.fare_trace.specs.Answers.{Stage, accepted, add_refusal, entered, refused}
 use Rattle.fare_trace.specs.Registration.{AfterAdding, answer_of}

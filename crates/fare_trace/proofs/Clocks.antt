@@ -1,7 +1,6 @@
 -- Two clocks that tell the same days give the same replies, so a trace has one answer.
 use Rattle.std.proofs.Common.{◌≡◌, ◌∙◌, ◌++◌, ℕ, List, [], ◌∷◌, Bool, true, false, Option, Some, None, inl, inr, if◌then◌else◌, ap, sym, refl, subst, unwrap_or}
 use Rattle.std.specs.Prelude.{is_none}
-use Rattle.std.specs.Io.KnownBytes.{Appends}
 use Rattle.fare_day.specs.declared.zone.Zone.{Zone}
 use Rattle.fare_day.specs.TrafficDay.{traffic_day_in_range}
 use Rattle.fare_day.proofs.Rules.{same_day_in_range}
@@ -14,12 +13,12 @@ use Rattle.fare_scheme.specs.Registering.{with_owner, with_operator, with_statio
 use Rattle.fare_scheme.specs.Sealing.{IsSealedFrom, seal_refusal, lacks_a_kind}
 use Rattle.fare_scheme.specs.Demo.{demo_refusal, demo_rule, demo_scheme}
 use Rattle.fare_scheme.specs.declared.fault.SealFault.TheVariants.{NothingRegistered, NoStart, NoZone}
-use Rattle.fare_world.specs.declared.event.Event.{Event}
-use Rattle.fare_world.specs.declared.event.Event.TheVariants as event
-use Rattle.fare_world.specs.declared.reply.Reply.{Reply}
-use Rattle.fare_world.specs.declared.reply.Reply.TheVariants.{Refused}
-use Rattle.fare_world.specs.declared.reply.Refusal.{Refusal}
-use Rattle.fare_world.specs.declared.reply.Refusal.TheVariants.{UnknownDevice}
+use Rattle.fare_event.specs.declared.event.Event.{Event}
+use Rattle.fare_event.specs.declared.event.Event.TheVariants as event
+use Rattle.fare_event.specs.declared.reply.Reply.{Reply}
+use Rattle.fare_event.specs.declared.reply.Reply.TheVariants.{Refused}
+use Rattle.fare_event.specs.declared.reply.Refusal.{Refusal}
+use Rattle.fare_event.specs.declared.reply.Refusal.TheVariants.{UnknownDevice}
 use Rattle.fare_world.specs.System.{System}
 use Rattle.fare_world.specs.Knowing.{knows_device}
 use Rattle.fare_world.specs.Steps.{step}
@@ -29,9 +28,7 @@ use Rattle.fare_lines.specs.declared.line.Line.TheVariants.{Setup, Step}
 use Rattle.fare_lines.specs.declared.line.SchemeLine.{SchemeLine}
 use Rattle.fare_lines.specs.declared.line.SchemeLine.TheVariants as scheme
 use Rattle.fare_lines.specs.Replies.{replies_text}
-use Rattle.fare_trace.specs.Replay.{IsOutput, Replays}
-use Rattle.fare_lines.proofs.Printing.{one_reading}
-use Rattle.fare_trace.specs.Answers.{Answers, AnswersAll, Demonstrates, Drafting, Running, Seals, Sets, SetsUp, SetsZone, Stage, accepted, begun, entered, first_stage, refused}
+use Rattle.fare_trace.specs.Answers.{Answers, AnswersAll, Demonstrates, Drafting, IsOutput, Running, Seals, Sets, SetsUp, SetsZone, Stage, accepted, begun, entered, first_stage, refused}
 
 -- EVENTS
 -- two clocks tell one traffic day at each moment
@@ -216,18 +213,7 @@ pub one_output : (lines : List Line) (first second : List ℕ) → IsOutput line
 one_output lines first second one other =
     one.is ∙ ap replies_text (one_answer lines one.replies other.replies one.answered other.answered) ∙ sym other.is
 
-one_text : (lines more : List Line) (first second : List ℕ) → lines ≡ more → IsOutput lines first → IsOutput more second → first ≡ second
+-- the same of lines that are the same
+pub one_text : (lines more : List Line) (first second : List ℕ) → lines ≡ more → IsOutput lines first → IsOutput more second → first ≡ second
 one_text lines more first second same one other =
     one_output more first second (subst (λ ls. IsOutput ls first) same one) other
-
-one_append : (old : List ℕ) (first second : Option (List ℕ)) (text more : List ℕ) → text ≡ more → Appends (Some old) first text → Appends (Some old) second more → first ≡ second
-one_append old None second text more same one other = absurd one
-one_append old (Some first) None text more same one other = absurd other
-one_append old (Some first) (Some second) text more same one other = ap Some (one ∙ ap (λ t. old ++ t) same ∙ sym other)
-
--- what a replay writes is determined by what it reads
-pub one_writing : (old : List ℕ) (first second : Option (List ℕ)) (input : List ℕ) → Replays (Some old) first input → Replays (Some old) second input → first ≡ second
-one_writing old first second input one other =
-    one_append old first second one.text other.text
-    (one_text one.lines other.lines one.text other.text (one_reading one.lines other.lines input one.spelled other.spelled) one.output other.output)
-    one.written other.written

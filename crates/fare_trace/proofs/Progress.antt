@@ -7,9 +7,9 @@ use Rattle.fare_store.specs.LedgerWords.{LedgerValue}
 use Rattle.fare_store.specs.OutboxWords.{OutboxValue}
 use Rattle.fare_store.specs.Standing.{Standing}
 use Rattle.fare_world.specs.declared.world.World.{World}
-use Rattle.fare_world.specs.declared.reply.Reply.{Reply}
-use Rattle.fare_world.specs.declared.reply.Reply.TheVariants.{Refused}
-use Rattle.fare_world.specs.declared.reply.Refusal.TheVariants.{Sealed}
+use Rattle.fare_event.specs.declared.reply.Reply.{Reply}
+use Rattle.fare_event.specs.declared.reply.Reply.TheVariants.{Refused}
+use Rattle.fare_event.specs.declared.reply.Refusal.TheVariants.{Sealed}
 use Rattle.fare_world.specs.System.{System, start}
 use Rattle.fare_world.specs.Steps.{step}
 use Rattle.fare_world.specs.Whole.{AreLive, CountsFailure, Follows, StandsAt}

@@ -10,10 +10,10 @@ use Rattle.fare_scheme.specs.Demo.{demo_refusal, demo_scheme}
 use Rattle.fare_scheme.specs.declared.demo.DemoFault.{DemoFault}
 use Rattle.fare_scheme.specs.declared.fault.SealFault.{SealFault}
 use Rattle.fare_day.specs.declared.zone.Zone.{Zone}
-use Rattle.fare_world.specs.declared.reply.Reply.{Reply}
-use Rattle.fare_world.specs.declared.reply.Reply.TheVariants as reply
-use Rattle.fare_world.specs.declared.reply.Refusal.{Refusal}
-use Rattle.fare_world.specs.declared.reply.Refusal.TheVariants.{Range, Taken, BadZone}
+use Rattle.fare_event.specs.declared.reply.Reply.{Reply}
+use Rattle.fare_event.specs.declared.reply.Reply.TheVariants as reply
+use Rattle.fare_event.specs.declared.reply.Refusal.{Refusal}
+use Rattle.fare_event.specs.declared.reply.Refusal.TheVariants.{Range, Taken, BadZone}
 use Rattle.fare_lines.specs.declared.line.Line.{Line}
 use Rattle.fare_lines.specs.declared.line.Line.TheVariants.{Setup, Step}
 use Rattle.fare_lines.specs.declared.line.SchemeLine.{SchemeLine}

@@ -18,16 +18,17 @@ use Rattle.fare_scheme.specs.Ranges.{IsCapacity}
 use Rattle.fare_scheme.specs.Registering.{empty_draft, owner_refusal, operator_refusal, station_refusal, product_refusal, caps_refusal, hop_refusal, device_refusal, with_owner, with_operator, with_station, with_product, with_caps, with_hop, with_device}
 use Rattle.fare_scheme.specs.Sealing.{IsSealedFrom, seal_refusal}
 use Rattle.fare_scheme.specs.Demo.{demo_refusal, demo_rule, demo_scheme}
-use Rattle.fare_world.specs.declared.reply.Reply.{Reply}
-use Rattle.fare_world.specs.declared.reply.Reply.TheVariants.{Done, Refused}
-use Rattle.fare_world.specs.declared.reply.Refusal.{Refusal}
-use Rattle.fare_world.specs.declared.reply.Refusal.TheVariants.{Unsealed, Sealed, Range, ZeroId, Taken, UnknownParent, TooMany, NothingRegistered, NoStart, NoZone, BadZone}
+use Rattle.fare_event.specs.declared.reply.Reply.{Reply}
+use Rattle.fare_event.specs.declared.reply.Reply.TheVariants.{Done, Refused}
+use Rattle.fare_event.specs.declared.reply.Refusal.{Refusal}
+use Rattle.fare_event.specs.declared.reply.Refusal.TheVariants.{Unsealed, Sealed, Range, ZeroId, Taken, UnknownParent, TooMany, NothingRegistered, NoStart, NoZone, BadZone}
 use Rattle.fare_world.specs.System.{System, start}
 use Rattle.fare_world.specs.Steps.{step}
 use Rattle.fare_lines.specs.declared.line.Line.{Line}
 use Rattle.fare_lines.specs.declared.line.Line.TheVariants.{Setup, Step}
 use Rattle.fare_lines.specs.declared.line.SchemeLine.{SchemeLine}
 use Rattle.fare_lines.specs.declared.line.SchemeLine.TheVariants as scheme
+use Rattle.fare_lines.specs.Replies.{replies_text}
 
 -- how far a trace is: a draft, with whether a scheme line was accepted, or the parts of the sealed scheme at a system
 pub data Stage : Type 0 where
@@ -136,3 +137,9 @@ AnswersAll stage [] [] = Unit {0}
 AnswersAll stage (line ∷ lines) (reply ∷ replies) = (next : Stage) × Answers stage line (next, reply) × AnswersAll next lines replies
 AnswersAll stage [] (reply ∷ replies) = ⊥
 AnswersAll stage (line ∷ lines) [] = ⊥
+
+-- the bytes of the replies to lines
+pub record IsOutput (lines : List Line) (text : List ℕ) : Type 0 where
+  pub replies : List Reply
+  pub answered : AnswersAll first_stage lines replies
+  pub is : text ≡ replies_text replies

@@ -2,7 +2,7 @@
 use Rattle.std.specs.Prelude.{◌≡◌, ◌≤◌, ◌+◌, ℕ, List, [], ◌∷◌, ◌++◌, Option, None, Some, length, map}
 use Rattle.std.specs.List.{AllByRecursion}
 use Rattle.fare_scheme.specs.declared.scheme.Scheme.{Scheme}
-use Rattle.fare_world.specs.declared.reply.Reply.{Reply}
+use Rattle.fare_event.specs.declared.reply.Reply.{Reply}
 use Rattle.fare_world.specs.System.{start}
 use Rattle.fare_lines.specs.declared.line.Line.{Line}
 use Rattle.fare_lines.specs.declared.text.ParseFault.{ParseFault}
@@ -12,9 +12,8 @@ use Rattle.fare_trace.specs.declared.running.RunFault.TheVariants.{Text, Store}
 use Rattle.fare_lines.specs.Grammar.{Fits, line_text}
 use Rattle.fare_lines.specs.Lines.{FirstBadLine, Spells, lines_of}
 use Rattle.fare_lines.specs.Replies.{reply_text, replies_text}
-use Rattle.fare_trace.specs.Replay.{IsOutput}
 use Rattle.fare_lines.specs.Unread.{ReadsOff, StopsIn, Unread, whole}
-use Rattle.fare_trace.specs.Answers.{Answers, AnswersAll, Running, Stage, first_stage}
+use Rattle.fare_trace.specs.Answers.{Answers, AnswersAll, IsOutput, Running, Stage, first_stage}
 
 -- what is still to be read spells lines
 abbrev pub IsRest : Unread → Type 0

@@ -2,8 +2,8 @@
 use Rattle.std.specs.Prelude.{◌≡◌, Bool, Some, Result, Ok, Err}
 use Rattle.fare_scheme.specs.declared.fault.AddFault.{AddFault}
 use Rattle.fare_scheme.specs.Values.{DraftValue}
-use Rattle.fare_world.specs.declared.reply.Refusal.{Refusal}
-use Rattle.fare_world.specs.declared.reply.Reply.{Reply}
+use Rattle.fare_event.specs.declared.reply.Refusal.{Refusal}
+use Rattle.fare_event.specs.declared.reply.Reply.{Reply}
 use Rattle.fare_world.specs.System.{start}
 use Rattle.fare_lines.specs.declared.line.SchemeLine.{SchemeLine}
 use Rattle.fare_lines.specs.declared.line.SchemeLine.TheVariants as scheme

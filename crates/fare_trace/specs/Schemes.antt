@@ -2,8 +2,8 @@
 use Rattle.std.specs.Prelude.{◌≡◌, Bool, List, [], ◌∷◌, ◌++◌, map}
 use Rattle.fare_scheme.specs.Values.{DraftValue, SchemeValue}
 use Rattle.fare_world.specs.System.{start}
-use Rattle.fare_world.specs.declared.reply.Reply.TheVariants as reply
-use Rattle.fare_world.specs.declared.reply.Refusal.{Refusal}
+use Rattle.fare_event.specs.declared.reply.Reply.TheVariants as reply
+use Rattle.fare_event.specs.declared.reply.Refusal.{Refusal}
 use Rattle.fare_lines.specs.declared.line.Line.{Line}
 use Rattle.fare_lines.specs.declared.line.Line.TheVariants.{Setup, Step}
 use Rattle.fare_lines.specs.declared.line.SchemeLine.{SchemeLine}

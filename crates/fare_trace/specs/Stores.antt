@@ -15,10 +15,10 @@ use Rattle.fare_outbox.specs.declared.tables.SqlOutbox.{SqlOutbox}
 use Rattle.fare_outbox.specs.Words as outbox_tables
 use Rattle.fare_ledger.specs.declared.tables.SqlLedger.{SqlLedger}
 use Rattle.fare_ledger.specs.Words as ledger_tables
-use Rattle.fare_world.specs.declared.reply.Reply.{Reply}
+use Rattle.fare_event.specs.declared.reply.Reply.{Reply}
 use Rattle.fare_world.specs.declared.world.World.{World}
-use Rattle.fare_world.specs.declared.reply.Reply.TheVariants.{Refused}
-use Rattle.fare_world.specs.declared.reply.Refusal.TheVariants.{Sealed}
+use Rattle.fare_event.specs.declared.reply.Reply.TheVariants.{Refused}
+use Rattle.fare_event.specs.declared.reply.Refusal.TheVariants.{Sealed}
 use Rattle.fare_world.specs.System.{start}
 use Rattle.fare_world.specs.Whole.{AreClean, AreLive, IsStepped, StandsAt}
 use Rattle.fare_lines.specs.declared.line.Line.{Line}

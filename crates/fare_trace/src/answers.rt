@@ -10,14 +10,14 @@ use crate::plain_run::run_plain;
 use crate::registering::{Answer, Registration, refuse, set_up};
 use crate::running::RunFault;
 use crate::sql_run::run_sql;
+use fare_event::Refusal;
 use fare_lines::{Line, Lines, ParseFault, print_reply};
 use fare_scheme::{Draft, Scheme};
-use fare_world::Refusal;
 use std::alloc::{AllocError, Global};
 
 /// Where a run keeps what is stored.
 #[derive(Clone, Copy, PartialEq, Eq, Debug)]
-pub enum Stores {
+pub enum StoreKind {
     /// In lists in memory.
     Plain,
     /// In databases in memory.
@@ -78,27 +78,27 @@ fn register(
 /// Answers the lines that follow the seal of a scheme.
 fn run_sealed(
     alloc: Global,
-    stores: Stores,
+    stores: StoreKind,
     scheme: Scheme,
     lines: &mut Lines,
     out: &mut Vec<u8>,
 ) -> Result<(), RunFault>
     ensures ok { OnOk result (GoesToEnd (Running scheme (start scheme)) lines.old lines.new out.old.items out.new.items) }
     ensures fault { IfErr result (Ends lines.old) }
-    ensures plain { stores ≡ Stores.Plain → result ≢ Err RunFault.Store }
+    ensures plain { stores ≡ StoreKind.Plain → result ≢ Err RunFault.Store }
 {
     match stores {
-        Stores::Plain => Ok(run_plain(alloc, scheme, lines, out)?),
-        Stores::Sql => run_sql(alloc, scheme, lines, out),
+        StoreKind::Plain => Ok(run_plain(alloc, scheme, lines, out)?),
+        StoreKind::Sql => run_sql(alloc, scheme, lines, out),
     }
 }
 
 /// The bytes that answer the lines that a text spells. `BadLine` with the first line that is none; `Memory`
 /// where there was none; `Store` where a store failed, which lists never do, and no line is bad.
-pub fn answer_text(alloc: Global, stores: Stores, text: &[u8]) -> Result<Vec<u8>, RunFault>
+pub fn answer_text(alloc: Global, stores: StoreKind, text: &[u8]) -> Result<Vec<u8>, RunFault>
     ensures answered { IfOk result (λ out. AnswersText text.now out.items) }
     ensures refused { IfErr result (RefusesRun text.now) }
-    ensures plain { stores ≡ Stores.Plain → result ≢ Err RunFault.Store }
+    ensures plain { stores ≡ StoreKind.Plain → result ≢ Err RunFault.Store }
 {
     // Replies take about as much room as their lines, some more, so the room is rarely made anew.
     let mut out = Vec::with_capacity(alloc, text.len())?;

@@ -1,6 +1,6 @@
-//! Traces, replayed: the lines of a text set a scheme up and let events happen, and each is answered. It promises
-//! that `replay` and `replay_sql`, which keep what is stored in lists and in tables, write the replies to the lines
-//! of their input and nothing else.
+//! Traces, answered: the lines of a text set a scheme up and let events happen, and each is answered. It promises
+//! that `answer_text`, which keeps what is stored in lists or in tables, gives the replies to the lines of its text and
+//! nothing else.
 #![tactic(auto)]
 
 mod answers;
@@ -10,7 +10,7 @@ mod registering;
 mod running;
 mod schemes;
 mod sql_run;
-mod stream;
 
+pub use answers::{StoreKind, answer_text};
+pub use running::RunFault;
 pub use schemes::{SchemeFault, scheme_of};
-pub use stream::{ReplayFault, read_lines, replay, replay_sql};

@@ -6,9 +6,9 @@ ghost use Rattle.fare_trace.specs.Answers.{Demonstrates, Seals, SetsUp, SetsZone
 ghost use Rattle.fare_trace.specs.Registration.{AddsNothing, AfterAdding, answer_of};
 
 use fare_day::Zone;
+use fare_event::{Refusal, Reply};
 use fare_lines::{SchemeLine, ZoneText};
 use fare_scheme::{AddFault, CapsFault, DemoFault, DemoSize, Draft, HopFault, Scheme, SealFault};
-use fare_world::{Refusal, Reply};
 use std::alloc::{AllocError, Global};
 
 /// How far the registration of a trace's scheme is.

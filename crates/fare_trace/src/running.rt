@@ -10,9 +10,10 @@ ghost use Rattle.fare_trace.specs.Stores.{IsNew, StaysLive, WritesStep};
 ghost use Rattle.fare_lines.specs.declared.text.ParseFault.TheVariants as parse;
 ghost use Rattle.fare_trace.specs.declared.running.RunFault.TheVariants.{Store, Text};
 
+use fare_event::{Refusal, Reply};
 use fare_lines::{Line, Lines, ParseFault, print_reply};
 use fare_store::{Fault, Ledger, Outbox};
-use fare_world::{Refusal, Reply, World};
+use fare_world::World;
 use std::alloc::{AllocError, Global};
 
 /// Why the lines of a text were not answered to their end.

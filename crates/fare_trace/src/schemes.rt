@@ -3,9 +3,9 @@ ghost use Rattle.fare_trace.specs.Schemes.{Makes, MakesNone};
 ghost use Rattle.fare_trace.specs.declared.schemes.SchemeFault.TheVariants.{Memory};
 
 use crate::registering::{Registration, set_up};
+use fare_event::{Refusal, Reply};
 use fare_lines::Line;
 use fare_scheme::{Draft, Scheme};
-use fare_world::{Refusal, Reply};
 use std::alloc::{AllocError, Global};
 
 /// Why lines make no scheme, in the order in which this is tested at each line.

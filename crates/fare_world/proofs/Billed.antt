@@ -16,10 +16,10 @@ use Rattle.fare_settle.specs.declared.settled.Settled.{Settled}
 use Rattle.fare_settle.specs.Settling.{settlement_of}
 use Rattle.fare_world.specs.declared.bill_fault.BillFault.{BillFault}
 use Rattle.fare_world.specs.declared.bill_fault.BillFault.TheVariants as fault
-use Rattle.fare_world.specs.declared.event.Event.{Event}
-use Rattle.fare_world.specs.declared.event.Event.TheVariants as event
-use Rattle.fare_world.specs.declared.reply.Reply.{Reply}
-use Rattle.fare_world.specs.declared.reply.Reply.TheVariants as reply
+use Rattle.fare_event.specs.declared.event.Event.{Event}
+use Rattle.fare_event.specs.declared.event.Event.TheVariants as event
+use Rattle.fare_event.specs.declared.reply.Reply.{Reply}
+use Rattle.fare_event.specs.declared.reply.Reply.TheVariants as reply
 use Rattle.fare_world.specs.System.{System, start, numbered_for, is_closed}
 use Rattle.fare_world.specs.Knowing.{knows_owner}
 use Rattle.fare_world.specs.Steps.{step, after, replies}

@@ -17,7 +17,7 @@ use Rattle.fare_store.specs.LedgerWords.{LedgerValue}
 use Rattle.fare_world.specs.declared.owner.Owner.{Owner}
 use Rattle.fare_world.specs.declared.station.Station.{Station}
 use Rattle.fare_world.specs.declared.world.World.{World}
-use Rattle.fare_world.specs.declared.reply.Reply.TheVariants.{Restarted}
+use Rattle.fare_event.specs.declared.reply.Reply.TheVariants.{Restarted}
 use Rattle.fare_world.specs.System.{System}
 use Rattle.fare_world.specs.Restarting.{fresh_owner, routed_again, hub_again, restart_hub}
 use Rattle.fare_world.specs.Shown.{entry, IsStationOf, IsOwnerOf, OwnerShape, Shows}

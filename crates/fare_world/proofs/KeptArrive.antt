@@ -6,10 +6,10 @@ use Rattle.fare_scheme.specs.Values.{SchemeValue}
 use Rattle.fare_scheme.specs.Words.{station_of}
 use Rattle.fare_collector.specs.Collecting.{is_id, collect_judged}
 use Rattle.fare_collector.specs.declared.fault.CollectRefusal.TheVariants as collect
-use Rattle.fare_world.specs.declared.event.Event.{Event}
-use Rattle.fare_world.specs.declared.event.Event.TheVariants as event
-use Rattle.fare_world.specs.declared.reply.Refusal.TheVariants.{NoPacket, Old, Ahead, Busy}
-use Rattle.fare_world.specs.declared.reply.Reply.TheVariants.{Idle, Refused, Accepted, Dropped, DroppedDay}
+use Rattle.fare_event.specs.declared.event.Event.{Event}
+use Rattle.fare_event.specs.declared.event.Event.TheVariants as event
+use Rattle.fare_event.specs.declared.reply.Refusal.TheVariants.{NoPacket, Old, Ahead, Busy}
+use Rattle.fare_event.specs.declared.reply.Reply.TheVariants.{Idle, Refused, Accepted, Dropped, DroppedDay}
 use Rattle.fare_world.specs.System.{put, Packet, Tapped, Stated, Acked, DayAcked, Tap_of, Statement_of, DeviceState, System}
 use Rattle.fare_world.specs.Knowing.{knows_owner}
 use Rattle.fare_world.specs.Tapping.{is_waiting}

@@ -5,11 +5,11 @@ use Rattle.std.specs.List.{AllByRecursion}
 use Rattle.fare_scheme.specs.Values.{SchemeValue}
 use Rattle.fare_scheme.specs.Words.{station_of}
 use Rattle.fare_collector.specs.Collecting.{is_id}
-use Rattle.fare_world.specs.declared.event.Event.{Event}
-use Rattle.fare_world.specs.declared.event.Event.TheVariants as event
-use Rattle.fare_world.specs.declared.reply.Refusal.TheVariants.{UnknownDevice, UnknownOwner, UnknownStation, NotWaiting}
-use Rattle.fare_world.specs.declared.reply.Reply.{Reply}
-use Rattle.fare_world.specs.declared.reply.Reply.TheVariants.{Idle, Refused, Sent, SentDay, Rewound, Resumed, Restarted}
+use Rattle.fare_event.specs.declared.event.Event.{Event}
+use Rattle.fare_event.specs.declared.event.Event.TheVariants as event
+use Rattle.fare_event.specs.declared.reply.Refusal.TheVariants.{UnknownDevice, UnknownOwner, UnknownStation, NotWaiting}
+use Rattle.fare_event.specs.declared.reply.Reply.{Reply}
+use Rattle.fare_event.specs.declared.reply.Reply.TheVariants.{Idle, Refused, Sent, SentDay, Rewound, Resumed, Restarted}
 use Rattle.fare_world.specs.System.{put, Packet, Tapped, Stated, DeviceState, System}
 use Rattle.fare_world.specs.Knowing.{knows_device, knows_station, knows_owner}
 use Rattle.fare_world.specs.Tapping.{sent, send, rewound, rewind, is_waiting, state}

@@ -9,10 +9,10 @@ use Rattle.fare_record.specs.Values.{RecordValue}
 use Rattle.fare_record.specs.Lanes.{part, of_device, day_count}
 use Rattle.fare_scheme.specs.Values.{SchemeValue}
 use Rattle.fare_scheme.specs.Words.{owner_of, station_of}
-use Rattle.fare_world.specs.declared.event.Event.{Event}
-use Rattle.fare_world.specs.declared.event.Event.TheVariants as event
-use Rattle.fare_world.specs.declared.reply.Refusal.TheVariants.{UnknownDevice, BadMoment, UnknownProduct, DayClosed, DayAhead, NumbersSpent, BufferFull, LastDay, StatementsFull}
-use Rattle.fare_world.specs.declared.reply.Reply.TheVariants.{Refused, Recorded, Opened}
+use Rattle.fare_event.specs.declared.event.Event.{Event}
+use Rattle.fare_event.specs.declared.event.Event.TheVariants as event
+use Rattle.fare_event.specs.declared.reply.Refusal.TheVariants.{UnknownDevice, BadMoment, UnknownProduct, DayClosed, DayAhead, NumbersSpent, BufferFull, LastDay, StatementsFull}
+use Rattle.fare_event.specs.declared.reply.Reply.TheVariants.{Refused, Recorded, Opened}
 use Rattle.fare_world.specs.System.{put, DeviceState, System, day_of, numbered_for, arrived_of, is_closed}
 use Rattle.fare_world.specs.Knowing.{knows_device}
 use Rattle.fare_world.specs.Storing.{are_all_held}

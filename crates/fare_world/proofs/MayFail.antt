@@ -6,7 +6,7 @@ use Rattle.fare_record.specs.declared.item.Item.{Item}
 use Rattle.fare_scheme.specs.Values.{SchemeValue}
 use Rattle.fare_scheme.specs.Words.{position_of_device, position_of_station, position_of_owner}
 use Rattle.fare_device.specs.DeviceWords.{DeviceValue, last_link}
-use Rattle.fare_world.specs.declared.event.Event.TheVariants as event
+use Rattle.fare_event.specs.declared.event.Event.TheVariants as event
 use Rattle.fare_world.specs.System.{System}
 use Rattle.fare_world.specs.Steps.{may_fail}
 use Rattle.fare_world.specs.Shown.{Both, IsArrivedOf, IsRoutedOf, IsDeviceOf, OwnerShape, StationShape, Shape, Shows}

@@ -6,8 +6,8 @@ use Rattle.std.proofs.lemmas.List.{take_more, length_push, length-take-le}
 use Rattle.fare_record.specs.Values.{RecordValue}
 use Rattle.fare_record.specs.Lanes.{part, lane_of}
 use Rattle.fare_scheme.specs.Values.{SchemeValue}
-use Rattle.fare_world.specs.declared.event.Event.{Event}
-use Rattle.fare_world.specs.declared.reply.Reply.{Reply}
+use Rattle.fare_event.specs.declared.event.Event.{Event}
+use Rattle.fare_event.specs.declared.reply.Reply.{Reply}
 use Rattle.fare_world.specs.declared.world.World.{World}
 use Rattle.fare_world.specs.System.{LaneState, System, start, arrived_of}
 use Rattle.fare_world.specs.Steps.{step, after, replies, may_fail}
@@ -17,7 +17,7 @@ use Rattle.fare_scheme.specs.declared.entry.Placement.{Placement}
 use Rattle.fare_cap.specs.Fares.{week_start}
 use Rattle.fare_cap.specs.Bills.{bill_of}
 use Rattle.fare_settle.specs.Settling.{settlement_of}
-use Rattle.fare_world.specs.declared.reply.Reply.TheVariants as reply
+use Rattle.fare_event.specs.declared.reply.Reply.TheVariants as reply
 use Rattle.fare_world.specs.Billing.{IsMet, BillsExactly}
 use Rattle.fare_world.specs.Headline.{of_days, numbered, numbered_by, with_first, IsOrderly, EachAnswer, IsAnswered, TakesNoneAfterClose}
 use Rattle.fare_world.specs.Shown.{entry, Shape, Shows, IsDeviceOf, IsOwnerOf}

@@ -8,10 +8,10 @@ use Rattle.fare_scheme.specs.Values.{SchemeValue}
 use Rattle.fare_scheme.specs.Words.{position_of_device, position_of_owner}
 use Rattle.fare_route.specs.Routing.{first_day}
 use Rattle.fare_store.specs.LedgerWords.{closed_through}
-use Rattle.fare_world.specs.declared.event.Event.TheVariants as event
-use Rattle.fare_world.specs.declared.reply.Refusal.TheVariants.{UnknownOwner}
-use Rattle.fare_world.specs.declared.reply.Reply.{Reply}
-use Rattle.fare_world.specs.declared.reply.Reply.TheVariants.{Refused, Restarted}
+use Rattle.fare_event.specs.declared.event.Event.TheVariants as event
+use Rattle.fare_event.specs.declared.reply.Refusal.TheVariants.{UnknownOwner}
+use Rattle.fare_event.specs.declared.reply.Reply.{Reply}
+use Rattle.fare_event.specs.declared.reply.Reply.TheVariants.{Refused, Restarted}
 use Rattle.fare_world.specs.System.{put, DeviceState, LaneState, System, numbered_for}
 use Rattle.fare_world.specs.Restarting.{resumed_device, fresh_owner, routed_again, owner_again, restart_owner, hub_again, restart_hub}
 use Rattle.fare_world.specs.Shown.{IsPacketOf, IsRoutedOf, Each2, Both, IsStationOf, IsLedgerOf, IsOwnerOf, count_of, OwnerShape, StationShape, Shape, Shows}

@@ -14,11 +14,11 @@ use Rattle.fare_store.specs.declared.fault.StatedFault.TheVariants as stated_fau
 use Rattle.fare_store.specs.Tables.{put3}
 use Rattle.fare_store.specs.OutboxWords.{store_judged, stated_judged_by, stated_judged}
 use Rattle.fare_store.specs.OutboxWords as outbox
-use Rattle.fare_world.specs.declared.event.Event.TheVariants as event
-use Rattle.fare_world.specs.declared.reply.Refusal.{Refusal}
-use Rattle.fare_world.specs.declared.reply.Refusal.TheVariants.{HandFull, Duplicate, Gap, Conflict, OutboxFull}
-use Rattle.fare_world.specs.declared.reply.Reply.{Reply}
-use Rattle.fare_world.specs.declared.reply.Reply.TheVariants.{Idle, Empty, Refused, Drawn, DrawnDay, Stored, StoredDay, Restarted}
+use Rattle.fare_event.specs.declared.event.Event.TheVariants as event
+use Rattle.fare_event.specs.declared.reply.Refusal.{Refusal}
+use Rattle.fare_event.specs.declared.reply.Refusal.TheVariants.{HandFull, Duplicate, Gap, Conflict, OutboxFull}
+use Rattle.fare_event.specs.declared.reply.Reply.{Reply}
+use Rattle.fare_event.specs.declared.reply.Reply.TheVariants.{Idle, Empty, Refused, Drawn, DrawnDay, Stored, StoredDay, Restarted}
 use Rattle.fare_world.specs.System.{put, put2, Arrived, Tap_of, Statement_of, DeviceState, System, numbered_for, arrived_of, stated_count}
 use Rattle.fare_world.specs.Arriving as arriving
 use Rattle.fare_world.specs.Restarting.{restart_writer}

@@ -21,10 +21,10 @@ use Rattle.fare_device.proofs.Numbering.{numbered_turn, numbered_day_ack, number
 use Rattle.fare_frame.specs.Grammar.{frame_bytes, IsFrame}
 use Rattle.fare_frame.specs.declared.frame.Frame.{Frame}
 use Rattle.fare_frame.specs.declared.frame.Frame.TheVariants as frame
-use Rattle.fare_world.specs.declared.event.Event.TheVariants as event
-use Rattle.fare_world.specs.declared.reply.Refusal.TheVariants.{UnknownDevice, UnknownOwner, LastDay, StatementsFull, NotWaiting, Stranger, Misrouted, Busy, Unstated}
-use Rattle.fare_world.specs.declared.reply.Reply.{Reply}
-use Rattle.fare_world.specs.declared.reply.Reply.TheVariants.{Idle, Refused, Opened, SentDay, Accepted, DroppedDay, AcknowledgedDay}
+use Rattle.fare_event.specs.declared.event.Event.TheVariants as event
+use Rattle.fare_event.specs.declared.reply.Refusal.TheVariants.{UnknownDevice, UnknownOwner, LastDay, StatementsFull, NotWaiting, Stranger, Misrouted, Busy, Unstated}
+use Rattle.fare_event.specs.declared.reply.Reply.{Reply}
+use Rattle.fare_event.specs.declared.reply.Reply.TheVariants.{Idle, Refused, Opened, SentDay, Accepted, DroppedDay, AcknowledgedDay}
 use Rattle.fare_record.specs.declared.ack_item.AckItem.TheVariants as ack_item
 use Rattle.fare_world.specs.System.{put, Stated, DayAcked, Statement_of, DayAck_of, DeviceState, System}
 use Rattle.fare_world.specs.Knowing.{knows_owner}

@@ -24,12 +24,12 @@ use Rattle.fare_store.specs.OutboxWords.{IsNextRow, behind, rows_upto}
 use Rattle.fare_store.specs.OutboxWords as outbox
 use Rattle.fare_store.specs.LedgerWords.{LedgerValue, is_mine, take_judged, state_judged, close_of}
 use Rattle.fare_store.specs.LedgerWords as ledger
-use Rattle.fare_world.specs.declared.event.Event.TheVariants as event
-use Rattle.fare_world.specs.declared.reply.Refusal.{Refusal}
-use Rattle.fare_world.specs.declared.reply.Refusal.TheVariants.{UnknownDevice, UnknownOwner, Busy, HandFull}
-use Rattle.fare_world.specs.declared.reply.Reply.{Reply}
-use Rattle.fare_world.specs.declared.reply.Reply.TheVariants as reply
-use Rattle.fare_world.specs.declared.reply.Reply.TheVariants.{Idle, Empty, Refused, Taken, Closed, Count, Pruned}
+use Rattle.fare_event.specs.declared.event.Event.TheVariants as event
+use Rattle.fare_event.specs.declared.reply.Refusal.{Refusal}
+use Rattle.fare_event.specs.declared.reply.Refusal.TheVariants.{UnknownDevice, UnknownOwner, Busy, HandFull}
+use Rattle.fare_event.specs.declared.reply.Reply.{Reply}
+use Rattle.fare_event.specs.declared.reply.Reply.TheVariants as reply
+use Rattle.fare_event.specs.declared.reply.Reply.TheVariants.{Idle, Empty, Refused, Taken, Closed, Count, Pruned}
 use Rattle.fare_world.specs.System.{put, put2, Routed, Lane_of, Day_of, OwnerState, LaneState, System, numbered_for, arrived_of, is_closed}
 use Rattle.fare_world.specs.Steps.{count}
 use Rattle.fare_world.specs.Arriving.{is_full}

@@ -14,10 +14,10 @@ use Rattle.fare_device.specs.DeviceWords as device
 use Rattle.fare_frame.specs.Grammar.{frame_bytes, tap_of, statement_of, ack_of, day_ack_of, IsFrame}
 use Rattle.fare_frame.specs.declared.frame.Frame.{Frame}
 use Rattle.fare_frame.specs.declared.frame.Frame.TheVariants as frame
-use Rattle.fare_world.specs.declared.event.Event.TheVariants as event
-use Rattle.fare_world.specs.declared.reply.Refusal.TheVariants.{NoPacket, Stranger, Busy, UnknownDevice, UnknownStation}
-use Rattle.fare_world.specs.declared.reply.Reply.{Reply}
-use Rattle.fare_world.specs.declared.reply.Reply.TheVariants.{Empty, Refused, Rewound, Accepted, Dropped, Acknowledged, Answered, AnsweredDay, Resumed, Restarted}
+use Rattle.fare_event.specs.declared.event.Event.TheVariants as event
+use Rattle.fare_event.specs.declared.reply.Refusal.TheVariants.{NoPacket, Stranger, Busy, UnknownDevice, UnknownStation}
+use Rattle.fare_event.specs.declared.reply.Reply.{Reply}
+use Rattle.fare_event.specs.declared.reply.Reply.TheVariants.{Empty, Refused, Rewound, Accepted, Dropped, Acknowledged, Answered, AnsweredDay, Resumed, Restarted}
 use Rattle.fare_world.specs.System.{put, Packet, Tapped, Stated, Acked, DayAcked, Tap_of, Answer, Ack_of, DayAck_of, DeviceState, System}
 use Rattle.fare_frame.specs.Grammar.{frame_of}
 use Rattle.fare_world.specs.Packets.{bytes_at, IsPacketRead}

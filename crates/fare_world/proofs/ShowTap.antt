@@ -14,11 +14,11 @@ use Rattle.fare_device.specs.Tapping.{IsTapped}
 use Rattle.fare_frame.specs.Grammar.{frame_bytes, IsFrame}
 use Rattle.fare_frame.specs.declared.frame.Frame.{Frame}
 use Rattle.fare_frame.specs.declared.frame.Frame.TheVariants as frame
-use Rattle.fare_world.specs.declared.event.Event.TheVariants as event
-use Rattle.fare_world.specs.declared.reply.Refusal.{Refusal}
-use Rattle.fare_world.specs.declared.reply.Refusal.TheVariants.{UnknownDevice, BadMoment, UnknownProduct, DayClosed, DayAhead, NumbersSpent, BufferFull}
-use Rattle.fare_world.specs.declared.reply.Reply.{Reply}
-use Rattle.fare_world.specs.declared.reply.Reply.TheVariants.{Idle, Refused, Recorded, Sent}
+use Rattle.fare_event.specs.declared.event.Event.TheVariants as event
+use Rattle.fare_event.specs.declared.reply.Refusal.{Refusal}
+use Rattle.fare_event.specs.declared.reply.Refusal.TheVariants.{UnknownDevice, BadMoment, UnknownProduct, DayClosed, DayAhead, NumbersSpent, BufferFull}
+use Rattle.fare_event.specs.declared.reply.Reply.{Reply}
+use Rattle.fare_event.specs.declared.reply.Reply.TheVariants.{Idle, Refused, Recorded, Sent}
 use Rattle.fare_world.specs.System.{put, Tapped, DeviceState, System, numbered_for, arrived_of}
 use Rattle.fare_world.specs.Tapping.{next_record, with_tap, room_of, waiting_count, tap_for, tap_on, tap, sent, send_next, send}
 use Rattle.std.proofs.lemmas.List.{set-get_or}

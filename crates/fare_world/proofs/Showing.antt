@@ -12,7 +12,7 @@ use Rattle.fare_scheme.specs.Words.{station_of, position_of_owner}
 use Rattle.fare_collector.specs.Collecting.{is_id}
 use Rattle.fare_device.specs.DeviceWords.{DeviceValue, last_link}
 use Rattle.fare_device.specs.Numbered.{HasNumbered}
-use Rattle.fare_world.specs.declared.reply.Reply.{Reply}
+use Rattle.fare_event.specs.declared.reply.Reply.{Reply}
 use Rattle.fare_frame.specs.Grammar.{frame_bytes, IsFrame, tap_of, statement_of, ack_of, day_ack_of}
 use Rattle.fare_frame.specs.declared.frame.Frame.{Frame}
 use Rattle.fare_frame.specs.declared.frame.Frame.TheVariants as frame

@@ -13,10 +13,10 @@ use Rattle.fare_device.specs.Turning as device
 use Rattle.fare_device.specs.declared.device.TurnRefusal.{TurnRefusal}
 use Rattle.fare_frame.specs.Grammar.{frame_bytes, IsFrame}
 use Rattle.fare_frame.specs.declared.frame.Frame.{Frame}
-use Rattle.fare_world.specs.declared.reply.Refusal.{Refusal}
-use Rattle.fare_world.specs.declared.reply.Refusal.TheVariants.{Busy}
-use Rattle.fare_world.specs.declared.reply.Reply.{Reply}
-use Rattle.fare_world.specs.declared.reply.Reply.TheVariants.{Idle, Refused, Opened, SentDay, Accepted, DroppedDay}
+use Rattle.fare_event.specs.declared.reply.Refusal.{Refusal}
+use Rattle.fare_event.specs.declared.reply.Refusal.TheVariants.{Busy}
+use Rattle.fare_event.specs.declared.reply.Reply.{Reply}
+use Rattle.fare_event.specs.declared.reply.Reply.TheVariants.{Idle, Refused, Opened, SentDay, Accepted, DroppedDay}
 use Rattle.fare_world.specs.declared.station.Station.{Station}
 use Rattle.fare_world.specs.System.{Stated, DayAcked, System}
 use Rattle.fare_world.specs.Tapping.{turn, state}

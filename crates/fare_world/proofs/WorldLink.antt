@@ -12,12 +12,12 @@ use Rattle.fare_collector.specs.declared.fault.CollectRefusal.{CollectRefusal}
 use Rattle.fare_frame.specs.Grammar.{frame_bytes, IsFrame}
 use Rattle.fare_record.specs.declared.ack_item.AckItem.{AckItem}
 use Rattle.fare_record.specs.declared.ack_item.AckItem.TheVariants as ack_item
-use Rattle.fare_world.specs.declared.reply.Reply.{Reply}
+use Rattle.fare_event.specs.declared.reply.Reply.{Reply}
 use Rattle.fare_world.specs.Acknowledging.{are_all_stated, answered_by}
 use Rattle.fare_frame.specs.Grammar.{frame_of}
-use Rattle.fare_world.specs.declared.reply.Refusal.{Refusal}
-use Rattle.fare_world.specs.declared.reply.Refusal.TheVariants.{Busy}
-use Rattle.fare_world.specs.declared.reply.Reply.TheVariants.{Refused, Accepted, Acknowledged, AcknowledgedDay, Resumed}
+use Rattle.fare_event.specs.declared.reply.Refusal.{Refusal}
+use Rattle.fare_event.specs.declared.reply.Refusal.TheVariants.{Busy}
+use Rattle.fare_event.specs.declared.reply.Reply.TheVariants.{Refused, Accepted, Acknowledged, AcknowledgedDay, Resumed}
 use Rattle.fare_world.specs.declared.station.Station.{Station}
 use Rattle.fare_world.specs.System.{Tapped, System}
 use Rattle.fare_world.specs.Arriving.{refusal_of, comes}

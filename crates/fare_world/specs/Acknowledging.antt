@@ -5,8 +5,8 @@ use Rattle.fare_scheme.specs.Values.{SchemeValue}
 use Rattle.fare_store.specs.OutboxWords.{OutboxValue}
 use Rattle.fare_record.specs.declared.ack_item.AckItem.{AckItem}
 use Rattle.fare_record.specs.declared.ack_item.AckItem.TheVariants.{Upto, Day}
-use Rattle.fare_world.specs.declared.reply.Reply.{Reply}
-use Rattle.fare_world.specs.declared.reply.Reply.TheVariants.{Answered, AnsweredDay}
+use Rattle.fare_event.specs.declared.reply.Reply.{Reply}
+use Rattle.fare_event.specs.declared.reply.Reply.TheVariants.{Answered, AnsweredDay}
 
 -- the outbox holds a device's statements of a day for all owners of the scheme
 abbrev pub are_all_stated : SchemeValue → OutboxValue → ℕ → ℕ → Bool

@@ -8,10 +8,10 @@ use Rattle.fare_collector.specs.declared.fault.CollectRefusal.{CollectRefusal}
 use Rattle.fare_collector.specs.declared.fault.CollectRefusal.TheVariants as collect
 use Rattle.fare_collector.specs.declared.fault.StatementRefusal.{StatementRefusal}
 use Rattle.fare_collector.specs.declared.fault.StatementRefusal.TheVariants as statement
-use Rattle.fare_world.specs.declared.reply.Refusal.{Refusal}
-use Rattle.fare_world.specs.declared.reply.Refusal.TheVariants.{NoPacket, Stranger, Misrouted, Old, Ahead, AckAhead, Busy}
-use Rattle.fare_world.specs.declared.reply.Reply.{Reply}
-use Rattle.fare_world.specs.declared.reply.Reply.TheVariants.{Idle, Refused, Accepted, Dropped, DroppedDay}
+use Rattle.fare_event.specs.declared.reply.Refusal.{Refusal}
+use Rattle.fare_event.specs.declared.reply.Refusal.TheVariants.{NoPacket, Stranger, Misrouted, Old, Ahead, AckAhead, Busy}
+use Rattle.fare_event.specs.declared.reply.Reply.{Reply}
+use Rattle.fare_event.specs.declared.reply.Reply.TheVariants.{Idle, Refused, Accepted, Dropped, DroppedDay}
 use Rattle.fare_world.specs.System.{put, Packet, Tapped, Stated, Acked, DayAcked, Tap_of, Statement_of, DeviceState, System}
 use Rattle.fare_world.specs.Knowing.{knows_owner}
 use Rattle.fare_world.specs.Tapping.{is_waiting}

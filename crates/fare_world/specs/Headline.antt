@@ -5,11 +5,11 @@ use Rattle.fare_record.specs.Values.{RecordValue}
 use Rattle.fare_record.specs.Lanes.{of_device, lane_of, day_count}
 use Rattle.fare_scheme.specs.Values.{SchemeValue}
 use Rattle.fare_scheme.specs.Words.{owner_of}
-use Rattle.fare_world.specs.declared.event.Event.{Event}
-use Rattle.fare_world.specs.declared.event.Event.TheVariants as event
-use Rattle.fare_world.specs.declared.reply.Reply.{Reply}
-use Rattle.fare_world.specs.declared.reply.Reply.TheVariants.{Refused, Recorded, Taken, Closed}
-use Rattle.fare_world.specs.declared.reply.Refusal.TheVariants.{Stranger, Misrouted, AckAhead, NotMine, AfterClose, Conflict, CountsOver, Duplicate, Gap}
+use Rattle.fare_event.specs.declared.event.Event.{Event}
+use Rattle.fare_event.specs.declared.event.Event.TheVariants as event
+use Rattle.fare_event.specs.declared.reply.Reply.{Reply}
+use Rattle.fare_event.specs.declared.reply.Reply.TheVariants.{Refused, Recorded, Taken, Closed}
+use Rattle.fare_event.specs.declared.reply.Refusal.TheVariants.{Stranger, Misrouted, AckAhead, NotMine, AfterClose, Conflict, CountsOver, Duplicate, Gap}
 use Rattle.fare_world.specs.System.{put, System, day_of, numbered_for, taken_by, is_closed}
 
 -- THE NUMBERED TAPS, as the events and their replies alone tell

@@ -14,8 +14,8 @@ use Rattle.fare_store.specs.declared.fault.Refused.TheVariants as refused
 use Rattle.fare_store.specs.Standing.{Standing, fault_in}
 use Rattle.fare_store.specs.OutboxWords.{OutboxValue}
 use Rattle.fare_store.specs.LedgerWords.{LedgerValue}
-use Rattle.fare_world.specs.declared.event.Event.{Event}
-use Rattle.fare_world.specs.declared.reply.Reply.{Reply}
+use Rattle.fare_event.specs.declared.event.Event.{Event}
+use Rattle.fare_event.specs.declared.reply.Reply.{Reply}
 use Rattle.fare_world.specs.declared.owner.Owner.{Owner}
 use Rattle.fare_world.specs.declared.station.Station.{Station}
 use Rattle.fare_world.specs.declared.world.World.{World}

@@ -1,7 +1,7 @@
 ghost use Rattle.std.specs.Prelude.{◌≡◌};
 ghost use Rattle.fare_world.specs.ItemReplies.{drawn_item, forwarded_item, fetched_item};
 
-use crate::Reply;
+use fare_event::Reply;
 use fare_record::Item;
 
 // The reply where the writer drew this item.

@@ -1,7 +1,7 @@
 ghost use Rattle.std.specs.Prelude.{◌≡◌, ◌<◌, ℕ, List};
 ghost use Rattle.fare_record.specs.Lanes.{lane_of};
 ghost use Rattle.fare_scheme.specs.Values.{SchemeValue};
-ghost use Rattle.fare_world.specs.declared.event.Event.{Event};
+ghost use Rattle.fare_event.specs.declared.event.Event.{Event};
 ghost use Rattle.fare_world.specs.System.{System, start, taken_by, stated_count};
 ghost use Rattle.fare_world.specs.Steps.{step, after, replies};
 ghost use Rattle.fare_world.specs.Headline.{Lane, IsLaneStep, IsLaneRun, lane_at, numbered, NumbersByReply, IsPrefixOf, IsOrderly, EachAnswer, IsWholeWhereClosed, IsWholeAfterClose, BillsNumberedTaps, TakesNoneAfterClose};

@@ -13,7 +13,7 @@ use fare_store::{Fault, Ledger};
 
 /// An owner's side of the hub: its ledger, its lane queue, the item in its hand, and the forwarder that feeds
 /// the queue.
-#[derive(Debug, Drop)]
+#[derive(Drop)]
 pub struct Owner<L> {
     pub ledger: L,
     pub queue: HeapCircularBuffer<Item>,

@@ -6,7 +6,7 @@ use fare_frame::Frame;
 use std::marker::Model;
 
 /// A packet of the air: the bytes of one frame. It keeps the frame, of which they are the only spelling.
-#[derive(Debug, Drop)]
+#[derive(Drop)]
 pub struct Packet {
     frame: Frame,
 }

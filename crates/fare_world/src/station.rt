@@ -11,7 +11,7 @@ use fare_record::AckItem;
 use fare_scheme::Scheme;
 
 /// A station's side of the hub: its collector, and the acknowledgements that wait to be sent to its devices.
-#[derive(Debug, Drop)]
+#[derive(Drop)]
 pub struct Station {
     pub collector: Collector,
     pub line: HeapCircularBuffer<AckItem>,

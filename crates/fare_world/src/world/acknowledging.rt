@@ -5,11 +5,11 @@ ghost use Rattle.fare_world.specs.Arriving.{comes};
 ghost use Rattle.fare_world.specs.Kept.{IsAck, IsDayAck};
 ghost use Rattle.fare_world.specs.Acknowledging.{are_all_stated, answered_by};
 ghost use Rattle.fare_world.specs.Whole.{Applied, Does};
-ghost use Rattle.fare_world.specs.declared.event.Event.TheVariants as event;
+ghost use Rattle.fare_event.specs.declared.event.Event.TheVariants as event;
 
 use crate::packet::Packet;
 use crate::world::World;
-use crate::{Refusal, Reply};
+use fare_event::{Refusal, Reply};
 use fare_frame::Frame;
 use fare_record::{Ack, AckItem, Day, DayAck, DeviceId, StationId};
 use fare_scheme::Scheme;

@@ -6,11 +6,12 @@ ghost use Rattle.fare_cap.specs.Order.{in_order};
 ghost use Rattle.fare_world.specs.Billing.{reaches as reaches_day, first_open as first_open_of, where_open, bill_judged, bill_refusal, basis as basis_of, billed, settled};
 ghost use Rattle.fare_world.specs.Steps.{may_bill};
 ghost use Rattle.fare_world.specs.Whole.{Answered, Asks, Applied};
-ghost use Rattle.fare_world.specs.declared.event.Event.TheVariants as event;
+ghost use Rattle.fare_event.specs.declared.event.Event.TheVariants as event;
 
+use crate::BillFault;
 use crate::world::World;
-use crate::{BillFault, Refusal, Reply};
 use fare_cap::{Bill, day_bill, week_start};
+use fare_event::{Refusal, Reply};
 use fare_record::{Day, DeviceId, OwnerId, Record};
 use fare_scheme::Scheme;
 use fare_settle::{Settlement, settle};

@@ -8,13 +8,13 @@ ghost use Rattle.fare_world.specs.Kept.{IsPacket};
 ghost use Rattle.fare_world.specs.Shown.{IsAt, IsStatementOf};
 ghost use Rattle.fare_world.specs.Rooms.{HasStation};
 ghost use Rattle.fare_world.specs.Whole.{Applied, Does, IsStepped};
-ghost use Rattle.fare_world.specs.declared.event.Event.TheVariants as event;
+ghost use Rattle.fare_event.specs.declared.event.Event.TheVariants as event;
 
 use crate::item_reply::drawn;
 use crate::packet::Packet;
 use crate::world::World;
-use crate::{Refusal, Reply};
 use fare_collector::{CollectRefusal, StatementRefusal};
+use fare_event::{Refusal, Reply};
 use fare_frame::Frame;
 use fare_record::{DeviceId, Item, Record, Statement};
 use fare_store::{Fault, Ledger, Outbox, Refused, StatedFault, StoreFault};

@@ -3,11 +3,11 @@ ghost use Rattle.fare_record.specs.declared.item.Item.TheVariants as item;
 ghost use Rattle.fare_scheme.specs.Words.{position_of_owner};
 ghost use Rattle.fare_world.specs.Owning.{tap_refusal, statement_refusal, close_refusal};
 ghost use Rattle.fare_world.specs.Whole.{Applied, Holds, IsStepped};
-ghost use Rattle.fare_world.specs.declared.event.Event.TheVariants as event;
+ghost use Rattle.fare_event.specs.declared.event.Event.TheVariants as event;
 
 use crate::item_reply::{fetched, forwarded};
 use crate::world::World;
-use crate::{Refusal, Reply};
+use fare_event::{Refusal, Reply};
 use fare_owner::{CloseFault, StatementFault, TapFault};
 use fare_record::{Day, DeviceId, OwnerId, Record, Statement};
 use fare_store::{Fault, Ledger, Outbox, Refused};

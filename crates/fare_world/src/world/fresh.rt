@@ -13,7 +13,7 @@ use fare_scheme::Scheme;
 use std::alloc::{AllocError, Global};
 
 // An owner's side of a new world, but for its ledger.
-#[derive(Debug, Drop)]
+#[derive(Drop)]
 pub(super) struct Side {
     queue: HeapCircularBuffer<Item>,
     forwarder: Forwarder,

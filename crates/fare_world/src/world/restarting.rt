@@ -4,12 +4,12 @@ ghost use Rattle.fare_store.specs.Standing.{Reads, fault_of};
 ghost use Rattle.fare_world.specs.Rooms.{AreUptos};
 ghost use Rattle.fare_world.specs.Restarts.{Paired, AreAsked, IsOwnerAgain, IsStationAgain};
 ghost use Rattle.fare_world.specs.Whole.{Applied, IsStepped};
-ghost use Rattle.fare_world.specs.declared.event.Event.TheVariants as event;
+ghost use Rattle.fare_event.specs.declared.event.Event.TheVariants as event;
 
 use crate::owner::Owner;
 use crate::station::Station;
 use crate::world::World;
-use crate::{Refusal, Reply};
+use fare_event::{Refusal, Reply};
 use fare_record::{DeviceId, OwnerId, StationId};
 use fare_scheme::Scheme;
 use fare_store::{Fault, Ledger, Outbox};

@@ -1,11 +1,11 @@
 ghost use Rattle.fare_world.specs.Whole.{Applied, IsStepped};
-ghost use Rattle.fare_world.specs.declared.event.Event.TheVariants as event;
+ghost use Rattle.fare_event.specs.declared.event.Event.TheVariants as event;
 
 use crate::packet::Packet;
 use crate::world::World;
-use crate::{Refusal, Reply};
 use fare_day::traffic_day;
 use fare_device::{TapRefusal, TurnRefusal};
+use fare_event::{Refusal, Reply};
 use fare_record::{Day, DeviceId, Moment, OwnerId, ProductId, Token};
 use fare_store::{Fault, Ledger, Outbox};
 

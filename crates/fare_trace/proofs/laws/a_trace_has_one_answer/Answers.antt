@@ -1,4 +1,4 @@
-use Rattle.fare_trace.proofs.Clocks.{one_answer, one_output, one_writing}
+use Rattle.fare_trace.proofs.Clocks.{one_answer, one_output}
 use Rattle.fare_trace.proofs.laws.a_trace_has_one_answer.Goals as goal
 
 pub returns-clause-replies : goal.returns-clause-replies
@@ -6,6 +6,3 @@ returns-clause-replies c = one_answer
 
 pub returns-clause-output : goal.returns-clause-output
 returns-clause-output c = one_output
-
-pub returns-clause-written : goal.returns-clause-written
-returns-clause-written c = one_writing

@@ -1,5 +1,5 @@
 use Rattle.std.proofs.Common.{subst}
-use Rattle.fare_world.specs.declared.reply.Reply.{Reply}
+use Rattle.fare_event.specs.declared.reply.Reply.{Reply}
 use Rattle.fare_trace.specs.Answers.{SetsUp}
 use Rattle.fare_trace.specs.Registration.{stage_of}
 use Rattle.fare_trace.specs.declared.registering.Registration.{Registration}

@@ -6,7 +6,7 @@ use Rattle.fare_world.proofs.ShowLink.{shown_ack_unknown}
 use Rattle.std.proofs.Common.{◌≡◌, ◌<◌, ◌≤◌, ◌++◌, ◌∷◌, [], length, refl, sym, ap, ◌∙◌, subst, arith}
 use Rattle.std.specs.Prelude.{Ok, Err}
 use Rattle.fare_store.specs.Standing.{Reads}
-use Rattle.fare_world.specs.declared.reply.Reply.TheVariants as reply
+use Rattle.fare_event.specs.declared.reply.Reply.TheVariants as reply
 use Rattle.fare_world.specs.declared.station.Station.{Station}
 use Rattle.fare_world.specs.Rooms.{HasStation}
 use Rattle.fare_world.specs.Whole.{seen, station_shape, shape}

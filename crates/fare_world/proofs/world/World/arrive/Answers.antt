@@ -1,5 +1,5 @@
 use Rattle.std.proofs.Common.{Some, refl, sym, ◌∙◌, subst}
-use Rattle.fare_world.specs.declared.event.Event.TheVariants as event
+use Rattle.fare_event.specs.declared.event.Event.TheVariants as event
 use Rattle.fare_world.specs.System.{Tapped, Stated, Acked, DayAcked}
 use Rattle.fare_world.specs.Arriving.{comes}
 use Rattle.fare_world.specs.Packets.{bytes_at, IsPacketRead}

@@ -6,7 +6,7 @@ use Rattle.fare_store.specs.Standing.{Writes}
 use Rattle.fare_store.specs.LedgerWords.{close_of, with_close}
 use Rattle.fare_store.specs.declared.fault.Refused.{Refused}
 use Rattle.fare_store.specs.declared.fault.Refused.TheVariants as refused
-use Rattle.fare_world.specs.declared.reply.Reply.TheVariants as reply
+use Rattle.fare_event.specs.declared.reply.Reply.TheVariants as reply
 use Rattle.fare_world.specs.Owning.{close, close_refusal}
 use Rattle.fare_world.specs.Shown.{entry}
 use Rattle.fare_world.specs.Whole.{seen, owner_seen, shape}

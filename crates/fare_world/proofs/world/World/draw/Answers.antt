@@ -5,7 +5,7 @@ use Rattle.fare_world.proofs.Lists.{none_left, front_and_rest}
 use Rattle.fare_world.proofs.ShowCollect.{shown_hand_full}
 use Rattle.fare_world.proofs.Showing.{some_of}
 use Rattle.std.proofs.Common.{◌≡◌, [], None, Some, refl, sym, ◌∙◌, subst}
-use Rattle.fare_world.specs.declared.reply.Reply.TheVariants.{Empty}
+use Rattle.fare_event.specs.declared.reply.Reply.TheVariants.{Empty}
 use Rattle.fare_world.specs.Storing.{draw}
 use Rattle.fare_world.proofs.ShowCollect.{shown_empty, shown_draw}
 use Rattle.fare_world.proofs.Showing.{Answers, none_of}

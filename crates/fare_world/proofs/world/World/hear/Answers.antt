@@ -2,7 +2,7 @@ use Rattle.std.proofs.Common.{◌≡◌, ◌<◌, Some, None, length, refl, sym,
 use Rattle.fare_scheme.specs.Words.{position_of_device}
 use Rattle.fare_device.specs.DeviceWords.{last_link}
 use Rattle.fare_device.specs.DeviceWords as device
-use Rattle.fare_world.specs.declared.reply.Reply.TheVariants.{Dropped}
+use Rattle.fare_event.specs.declared.reply.Reply.TheVariants.{Dropped}
 use Rattle.fare_world.specs.System.{Acked}
 use Rattle.fare_world.specs.Arriving.{comes}
 use Rattle.fare_world.proofs.ShowLink.{shown_heard, never_ahead, never_unknown}

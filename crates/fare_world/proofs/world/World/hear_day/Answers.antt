@@ -1,5 +1,5 @@
 use Rattle.fare_world.proofs.Showing.{Answers}
-use Rattle.fare_world.specs.declared.reply.Reply.TheVariants.{DroppedDay}
+use Rattle.fare_event.specs.declared.reply.Reply.TheVariants.{DroppedDay}
 use Rattle.fare_world.specs.Shown.{entry}
 use Rattle.fare_world.specs.System.{DayAcked}
 use Rattle.std.proofs.Common.{◌≡◌, ◌<◌, Some, None, length, refl, sym, ap, ◌∙◌, arith, true, false, subst, set}

@@ -3,7 +3,7 @@ use Rattle.std.specs.Prelude.{◌&&◌, Ok, Err, is_some, slice_get}
 use Rattle.fare_scheme.specs.Words.{position_of_device, position_of_owner}
 use Rattle.fare_store.specs.Standing.{Reads, Removes}
 use Rattle.fare_world.specs.declared.owner.Owner.{Owner}
-use Rattle.fare_world.specs.declared.reply.Reply.TheVariants as reply
+use Rattle.fare_event.specs.declared.reply.Reply.TheVariants as reply
 use Rattle.fare_world.specs.Whole.{seen, owner_seen, shape}
 use Rattle.fare_world.proofs.Showing.{Answers}
 use Rattle.fare_world.proofs.OwnersSeen.{owner_at, within_seen, owners_kept, owner_here, over}

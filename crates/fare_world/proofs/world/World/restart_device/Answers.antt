@@ -1,6 +1,6 @@
 use Rattle.std.proofs.Common.{◌<◌, length, refl, sym, ◌∙◌, arith}
 use Rattle.fare_world.specs.Restarting.{restart_device}
-use Rattle.fare_world.specs.declared.reply.Reply.TheVariants.{Restarted}
+use Rattle.fare_event.specs.declared.reply.Reply.TheVariants.{Restarted}
 use Rattle.fare_world.proofs.ShowLink.{shown_restart_device_unknown, shown_restart_device}
 use Rattle.fare_world.proofs.ShowStation.{device_written}
 use Rattle.fare_world.proofs.ShowTap.{device_read}

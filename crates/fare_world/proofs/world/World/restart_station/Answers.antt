@@ -9,7 +9,7 @@ use Rattle.fare_collector.specs.Collecting.{next_in}
 use Rattle.fare_scheme.specs.Words.{position_of_device, position_of_station}
 use Rattle.fare_world.specs.Shown.{entry}
 use Rattle.fare_store.specs.Standing.{Reads}
-use Rattle.fare_world.specs.declared.reply.Reply.TheVariants.{Restarted}
+use Rattle.fare_event.specs.declared.reply.Reply.TheVariants.{Restarted}
 use Rattle.fare_world.specs.Rooms.{AreUptos, upto_at}
 use Rattle.fare_world.specs.Restarting.{restart_station}
 use Rattle.fare_world.specs.Whole.{seen, station_shape, shape}

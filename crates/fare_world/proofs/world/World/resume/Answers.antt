@@ -4,7 +4,7 @@ use Rattle.fare_world.proofs.ShowLink.{shown_resume_unknown}
 use Rattle.std.proofs.Common.{◌≡◌, refl, sym, subst}
 use Rattle.std.specs.Prelude.{Ok, Err}
 use Rattle.fare_store.specs.Standing.{Reads}
-use Rattle.fare_world.specs.declared.reply.Reply.TheVariants as reply
+use Rattle.fare_event.specs.declared.reply.Reply.TheVariants as reply
 use Rattle.fare_world.specs.Whole.{seen, shape}
 use Rattle.fare_world.proofs.WorldLink.{with_station, world_resumed}
 use Rattle.fare_world.proofs.Known.{placed}

@@ -1,6 +1,6 @@
 use Rattle.std.proofs.Common.{◌<◌, length, refl, sym, ◌∙◌, arith}
 use Rattle.fare_world.specs.Tapping.{rewind}
-use Rattle.fare_world.specs.declared.reply.Reply.TheVariants.{Rewound}
+use Rattle.fare_event.specs.declared.reply.Reply.TheVariants.{Rewound}
 use Rattle.fare_world.proofs.ShowLink.{shown_rewind_unknown, shown_rewind}
 use Rattle.fare_world.proofs.ShowStation.{device_written}
 use Rattle.fare_world.proofs.ShowTap.{device_read}

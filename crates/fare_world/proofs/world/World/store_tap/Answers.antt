@@ -7,8 +7,8 @@ use Rattle.fare_store.specs.declared.fault.Refused.TheVariants as refused
 use Rattle.fare_store.specs.Standing.{Writes}
 use Rattle.fare_store.specs.OutboxWords.{store_judged, stored}
 use Rattle.fare_record.specs.declared.item.Item.TheVariants as item
-use Rattle.fare_world.specs.declared.reply.Refusal.TheVariants as refusal
-use Rattle.fare_world.specs.declared.reply.Reply.TheVariants as reply
+use Rattle.fare_event.specs.declared.reply.Refusal.TheVariants as refusal
+use Rattle.fare_event.specs.declared.reply.Reply.TheVariants as reply
 use Rattle.fare_world.specs.Storing.{store}
 use Rattle.fare_world.specs.Whole.{seen, shape}
 use Rattle.fare_world.proofs.ShowCollect.{Judged, shown_store}

@@ -2,7 +2,7 @@ use Rattle.std.proofs.Common.{◌≡◌, ◌<◌, Some, None, length, refl, sym,
 use Rattle.std.specs.Prelude.{◌↔◌, Ok, Err, Result, true, false, slice_get}
 use Rattle.fare_scheme.specs.Words.{position_of_owner}
 use Rattle.fare_store.specs.Standing.{Writes}
-use Rattle.fare_world.specs.declared.reply.Reply.TheVariants as reply
+use Rattle.fare_event.specs.declared.reply.Reply.TheVariants as reply
 use Rattle.fare_world.specs.Whole.{seen, owner_seen, shape}
 use Rattle.fare_world.proofs.Showing.{Answers}
 use Rattle.fare_world.proofs.OwnersSeen.{owner_at, within_seen, owners_set, owners_kept, owner_here, over}

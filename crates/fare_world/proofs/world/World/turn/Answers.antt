@@ -2,8 +2,8 @@ use Rattle.std.proofs.Common.{◌≡◌, ◌<◌, Some, Err, length, refl, sym, 
 use Rattle.fare_scheme.specs.Words.{position_of_device}
 use Rattle.fare_device.specs.declared.device.TurnRefusal.TheVariants as turn_refusal
 use Rattle.fare_world.specs.Tapping.{turn}
-use Rattle.fare_world.specs.declared.reply.Refusal.TheVariants.{LastDay, StatementsFull}
-use Rattle.fare_world.specs.declared.reply.Reply.TheVariants.{Refused}
+use Rattle.fare_event.specs.declared.reply.Refusal.TheVariants.{LastDay, StatementsFull}
+use Rattle.fare_event.specs.declared.reply.Reply.TheVariants.{Refused}
 use Rattle.fare_world.specs.Whole.{seen, shape}
 use Rattle.fare_world.proofs.RoomLemmas.{rooms_of_device}
 use Rattle.fare_world.proofs.ShowDays.{shown_turn_unknown}

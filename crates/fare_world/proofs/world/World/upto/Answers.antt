@@ -2,7 +2,7 @@ use Rattle.std.proofs.Common.{◌≡◌, true, false, refl, sym, ap, ◌∙◌, 
 use Rattle.std.specs.Prelude.{Ok, Err, is_some}
 use Rattle.fare_scheme.specs.Words.{position_of_device}
 use Rattle.fare_store.specs.Standing.{Reads}
-use Rattle.fare_world.specs.declared.reply.Reply.TheVariants as reply
+use Rattle.fare_event.specs.declared.reply.Reply.TheVariants as reply
 use Rattle.fare_world.specs.Whole.{seen, shape}
 use Rattle.fare_world.proofs.Showing.{Answers}
 use Rattle.fare_world.proofs.ShowAsk.{shown_upto, shown_upto_unknown}

@@ -1,0 +1,18 @@
+//! The tests of the core's public calls: bills and settlements, a world over stores in memory, and the lines of traces and
+//! replies. They need neither databases nor threads. It promises nothing.
+#![tactic(auto)]
+
+#[cfg(test)]
+mod bills;
+#[cfg(test)]
+mod checking;
+#[cfg(test)]
+mod lines;
+#[cfg(test)]
+mod settlements;
+#[cfg(test)]
+mod windows;
+#[cfg(test)]
+mod world;
+#[cfg(test)]
+mod world_bills;

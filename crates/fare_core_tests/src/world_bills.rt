@@ -1,0 +1,79 @@
+use crate::checking::same;
+use crate::world::{PlainWorld, many_journeys, small_world};
+use fare_cap::{Bill, Row};
+use fare_event::Event;
+use fare_record::{Day, DeviceId, OwnerId};
+use fare_settle::Settlement;
+use fare_store::Refused;
+use fare_world::BillFault;
+use std::alloc::Global;
+
+// What states the first day of device 1 to owner 1, and closes it, behind these journeys.
+fn closing() -> Option<[Event; 9]> {
+    let device = DeviceId::new(1)?;
+    let owner = OwnerId::new(1)?;
+    let day = Day::new(19_723)?;
+    Some([
+        Event::Turn { device },
+        Event::State { device, day, owner },
+        Event::Arrive { packet: 901 },
+        Event::Draw,
+        Event::Store,
+        Event::Forward { owner, device },
+        Event::Fetch { owner },
+        Event::Take { owner },
+        Event::Close { owner, device, day },
+    ])
+}
+
+// A world of one device, whose owner has 450 taps of the first day.
+fn busy_world(alloc: Global) -> Option<PlainWorld> {
+    let (world, _replies) = small_world(alloc)?.run(&many_journeys(alloc)?).ok()?;
+    Some(world)
+}
+
+// The same, and the day is closed.
+fn closed_world(alloc: Global) -> Option<PlainWorld> {
+    let (world, _replies) = busy_world(alloc)?.run(&closing()?).ok()?;
+    Some(world)
+}
+
+// An owner's bill of a day.
+fn bill(world: &mut PlainWorld, owner: u64, day: u64) -> Option<Result<Bill, Refused<BillFault>>> {
+    Some(world.bill(OwnerId::new(owner)?, Day::new(day)?))
+}
+
+// How many accounts a bill has, the rides and the amount of the first, and the total.
+type Read = (usize, u64, u64, u128);
+
+fn read(bill: &Bill) -> Option<Read> {
+    let row: &Row = bill.rows().first()?;
+    Some((bill.rows().len(), row.rides, row.amount.get(), bill.total()))
+}
+
+// The one share of a settlement: operator, taps and amount.
+fn share(settlement: &Settlement) -> Option<(u16, u64, u128)> {
+    let [share] = settlement.shares() else {
+        return None;
+    };
+    Some((share.operator.get(), share.taps, share.amount))
+}
+
+// The bill of the closed day, asked twice, and its settlement.
+fn closed_day(alloc: Global) -> Option<(Read, Read, (u16, u64, u128))> {
+    let mut world = closed_world(alloc)?;
+    let first = read(&bill(&mut world, 1, 19_723)?.ok()?)?;
+    let again = read(&bill(&mut world, 1, 19_723)?.ok()?)?;
+    let settlement = world.settlement(OwnerId::new(1)?, Day::new(19_723)?).ok()?;
+    Some((first, again, share(&settlement)?))
+}
+
+#[test]
+fn a_closed_day_has_a_bill(rt: HostRuntime) {
+    let all = (1, 450, 525, 525);
+    same(
+        &rt,
+        &closed_day(rt.alloc()),
+        &Some((all, all, (1, 450, 525))),
+    );
+}

@@ -1,0 +1,20 @@
+//! The tests of the stores' public calls, in memory and in tables, of what finds a store's tables in a database, and of
+//! the forwarder over a store. It promises nothing.
+#![tactic(auto)]
+
+#[cfg(test)]
+mod checking;
+#[cfg(test)]
+mod files;
+#[cfg(test)]
+mod layout;
+#[cfg(test)]
+mod ledger_tables;
+#[cfg(test)]
+mod outbox_tables;
+#[cfg(test)]
+mod route;
+#[cfg(test)]
+mod stops;
+#[cfg(test)]
+mod stores;

@@ -1,0 +1,191 @@
+use crate::checking::same;
+use crate::stores::{Answer, Asked, Call, Said, answer_to, ask};
+use fare_ledger::SqlLedger;
+use fare_outbox::SqlOutbox;
+use fare_record::{Day, OwnerId};
+use fare_scheme::{DemoSize, Scheme};
+use fare_store::{Fault, Ledger, Outbox, Refused};
+use sqlite::{Alter, Connection, FileStore, Files, Options};
+use sqlite_disk::{Fuse, Memory};
+use sqlite_trees::store::Reopen;
+use std::alloc::Global;
+
+/// How many steps were acknowledged before the disks failed, how many an open then finds, and whether each of these is
+/// there whole.
+type Stopped = (u64, u64, bool);
+
+// What an outbox is asked, and what it answers.
+const STORED: [(Asked, Said); 3] = [
+    (Asked::Store(1, 1), Said::Stored(Ok(()))),
+    (Asked::Store(2, 2), Said::Stored(Ok(()))),
+    (Asked::State(2), Said::Stated(Ok(()))),
+];
+
+// What a ledger is asked, and what it answers.
+const TAKEN: [(Call, Answer); 4] = [
+    (Call::Take(1), Answer::Taken(Ok(()))),
+    (Call::Take(2), Answer::Taken(Ok(()))),
+    (Call::State(2), Answer::Stated(Ok(()))),
+    (Call::Close, Answer::Closed(Ok(()))),
+];
+
+// How many steps an outbox acknowledges until one fails, which has to answer Store.
+fn stored_in<O: Outbox>(outbox: &mut O) -> Option<u64> {
+    let mut done = 0_u64;
+    for (asked, want) in STORED {
+        let said = ask(outbox, asked)?;
+        if said != want {
+            return match said {
+                Said::Stored(Err(Refused::Failed(Fault::Store)))
+                | Said::Stated(Err(Refused::Failed(Fault::Store))) => Some(done),
+                _ => None,
+            };
+        }
+        done = done.saturating_add(1);
+    }
+    Some(done)
+}
+
+// How many steps an outbox holds, and whether the row of the greatest link and no later one is there.
+fn found_in<O: Outbox>(outbox: &mut O) -> Option<(u64, bool)> {
+    let Said::Number(Ok(upto)) = ask(outbox, Asked::Upto)? else {
+        return None;
+    };
+    let last = ask(outbox, Asked::NextRow(upto.saturating_sub(1)))?;
+    let next = ask(outbox, Asked::NextRow(upto))?;
+    let whole = last == Said::Found(Ok(if upto == 0 { None } else { Some(upto) }));
+    let stated = match ask(outbox, Asked::NextStatement(0))? {
+        Said::Found(Ok(None)) => 0,
+        Said::Found(Ok(Some(2))) => 1,
+        _ => return None,
+    };
+    let found = upto.saturating_add(stated);
+    Some((found, whole && next == Said::Found(Ok(None))))
+}
+
+// How many steps a ledger acknowledges until one fails, which has to answer Store.
+fn taken_in<L: Ledger>(ledger: &mut L) -> Option<u64> {
+    let mut done = 0_u64;
+    for (call, want) in TAKEN {
+        let answer = answer_to(ledger, call)?;
+        if answer != want {
+            return match answer {
+                Answer::Taken(Err(Refused::Failed(Fault::Store)))
+                | Answer::Stated(Err(Refused::Failed(Fault::Store)))
+                | Answer::Closed(Err(Refused::Failed(Fault::Store))) => Some(done),
+                _ => None,
+            };
+        }
+        done = done.saturating_add(1);
+    }
+    Some(done)
+}
+
+// One where there is such a number, and nothing where there is none.
+fn is_there(answer: Answer, number: u64) -> Option<u64> {
+    match answer {
+        Answer::Maybe(Ok(None)) => Some(0),
+        Answer::Maybe(Ok(Some(found))) if found == number => Some(1),
+        _ => None,
+    }
+}
+
+// How many steps a ledger holds, and whether it has as many rows as the device's number says.
+fn held_in<L: Ledger>(ledger: &mut L) -> Option<(u64, bool)> {
+    let Answer::Number(Ok(count)) = answer_to(ledger, Call::Count)? else {
+        return None;
+    };
+    let day = Day::new(19_723)?;
+    let rows = ledger.taps_between(day, day).ok()?.len() as u64;
+    let stated = is_there(answer_to(ledger, Call::Stated)?, 2)?;
+    let closed = is_there(answer_to(ledger, Call::ClosedThrough)?, 19_723)?;
+    let held = count.saturating_add(stated).saturating_add(closed);
+    Some((held, rows == count))
+}
+
+// The database after the machine stopped and came back.
+fn reopened<S: Alter + Reopen + Drop>(alloc: Global, conn: Connection<S>) -> Option<Connection<S>> {
+    let mut store = conn.into_store();
+    store.crash_and_reopen().ok()?;
+    Connection::over(alloc, store).ok()
+}
+
+// An outbox in a database, stopped where its disks fail.
+fn outbox_stopped<S: Alter + Reopen + Drop>(alloc: Global, conn: Connection<S>) -> Option<Stopped> {
+    let Ok(mut outbox) = SqlOutbox::open(alloc, conn) else {
+        return Some((0, 0, true));
+    };
+    let done = stored_in(&mut outbox)?;
+    let conn = reopened(alloc, outbox.into_connection())?;
+    let mut outbox = SqlOutbox::open(alloc, conn).ok()?;
+    let (found, whole) = found_in(&mut outbox)?;
+    Some((done, found, whole))
+}
+
+// Owner 1's ledger in a database, by the demonstration scheme.
+fn ledger_in<S: Alter + Drop>(alloc: Global, conn: Connection<S>) -> Option<SqlLedger<S>> {
+    let scheme = Scheme::demo(alloc, DemoSize::OneDevice, 4, 4, 4).ok()?;
+    SqlLedger::open(alloc, &scheme, OwnerId::new(1)?, conn).ok()
+}
+
+// A ledger in a database, stopped where its disks fail.
+fn ledger_stopped<S: Alter + Reopen + Drop>(alloc: Global, conn: Connection<S>) -> Option<Stopped> {
+    let Some(mut ledger) = ledger_in(alloc, conn) else {
+        return Some((0, 0, true));
+    };
+    let done = taken_in(&mut ledger)?;
+    let conn = reopened(alloc, ledger.into_connection())?;
+    let (found, whole) = held_in(&mut ledger_in(alloc, conn)?)?;
+    Some((done, found, whole))
+}
+
+// An outbox and a ledger, each in a database of its own, if these are open.
+fn stopped<S: Alter + Reopen + Drop>(
+    alloc: Global,
+    outbox: Option<Connection<S>>,
+    ledger: Option<Connection<S>>,
+) -> Option<[Stopped; 2]> {
+    let (Some(outbox), Some(ledger)) = (outbox, ledger) else {
+        return Some([(0, 0, true); 2]);
+    };
+    Some([
+        outbox_stopped(alloc, outbox)?,
+        ledger_stopped(alloc, ledger)?,
+    ])
+}
+
+// A database in two disks in memory that fail after so many calls, if they last until it is open.
+fn burning(alloc: Global, calls: u64) -> Option<Connection<FileStore<Fuse<Memory>>>> {
+    let files = Files {
+        log: Fuse::new(Memory::new(alloc), calls),
+        db: Fuse::new(Memory::new(alloc), calls),
+    };
+    Connection::open_files(alloc, files, Options::new(1)).ok()
+}
+
+// An outbox and a ledger in such databases. It alone names their kind, since a function that does is slow to prove.
+fn stopped_after(alloc: Global, calls: u64) -> Option<[Stopped; 2]> {
+    stopped(alloc, burning(alloc, calls), burning(alloc, calls))
+}
+
+// The disks fail at each of their calls in turn, from the first on until all steps are acknowledged. The step at which
+// they fail is kept whole or not at all, and those before it are kept.
+#[test]
+fn a_failure_at_any_call_leaves_each_step_whole_or_not_at_all(rt: HostRuntime) {
+    let mut early = 0u64;
+    let mut full = false;
+    for calls in 0..1_000 {
+        let stops = stopped_after(rt.alloc(), calls).expect(&rt, "a failing store");
+        for (done, found, whole) in stops {
+            let kept = found == done || found == done.saturating_add(1);
+            same(&rt, &(calls, (kept, whole)), &(calls, (true, true)));
+        }
+        let [(stored, _, _), (taken, _, _)] = stops;
+        if (stored, taken) == (3, 4) {
+            full = true;
+            break;
+        }
+        early = early.saturating_add(stored.min(taken));
+    }
+    same(&rt, &(early > 0, full), &(true, true));
+}
