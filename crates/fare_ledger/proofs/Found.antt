@@ -1,5 +1,5 @@
 -- What the questions of a ledger find.
-use Rattle.std.proofs.Common.{◌≡◌, ◌⊎◌, inl, inr, ℕ, suc, pos, ◌==◌, ◌<◌, ◌^◌, ◌||◌, nat_lt, nat_le, Bool, true, false, List, [], ◌∷◌, map, filter, length, Option, Some, None, Ok, Err, Result, IfOk, refl, sym, ap, subst, ◌∙◌, arith}
+use Rattle.std.proofs.Common.{◌≡◌, ◌⊎◌, inl, inr, ℕ, suc, pos, ◌==◌, ◌||◌, nat_lt, Bool, true, false, List, [], ◌∷◌, map, filter, length, Option, Some, None, Ok, Err, Result, IfOk, refl, sym, ap, subst, ◌∙◌, arith}
 use Rattle.std.specs.List.{AllByRecursion, flat_map}
 use Rattle.std.specs.List.Sorted.{IsPermutation}
 use Rattle.std.proofs.lemmas.Bool.{cases_Bool}
@@ -14,8 +14,7 @@ use Rattle.sqlite_sql.specs.declared.ops.CompareOp.TheVariants as cmp
 use Rattle.sqlite.specs.Collation.TheVariants.{Binary}
 use Rattle.std.specs.Ordering.{is_gt, int_cmp}
 use Rattle.sqlite_value.proofs.OrderLemmas.{value_cmp-Int}
-use Rattle.sqlite.specs.Query.{IsAnswer, Query, matches_as, inner, end, output, page, Output}
-use Rattle.sqlite_sql.specs.Group.{IsGrouped}
+use Rattle.sqlite.specs.Query.{IsAnswer, Query, matches_as, end, output, page, Output}
 use Rattle.sqlite.specs.Program.{overlay}
 use Rattle.sqlite.specs.State.{State, QueriesRow, Shown}
 use Rattle.sqlite.proofs.Callers.{first_as, reads_as, one_permutation}
@@ -29,7 +28,9 @@ use Rattle.fare_ledger.specs.declared.lane.Lane.{Lane}
 use Rattle.fare_layout.specs.declared.place.Kind.TheVariants as kind
 use Rattle.fare_ledger.specs.declared.layout.Layout.{Layout}
 use Rattle.fare_ledger.specs.Layouts.{schema_in, tree_in, ours, at_tree}
-use Rattle.fare_ledger.proofs.Placed.{each_low}
+use Rattle.fare_opening.proofs.Asked.{asked_at}
+use Rattle.fare_ledger.specs.Making.{site_of}
+use Rattle.fare_ledger.specs.Statements.{ledger_parts}
 use Rattle.fare_ledger.specs.Tables.{lane_query, stated_terms, stated_query, day_terms, begun_terms}
 use Rattle.fare_ledger.specs.Held.{TapRow, StatedRow, lane_row, IsLane, lane_of, tap_cells, tap_of, IsTap, stated_cells, stated_of, IsStated, is_of, stated_in, is_on, is_begun}
 use Rattle.fare_ledger.specs.Words.{AreApart}
@@ -38,51 +39,19 @@ use Rattle.fare_ledger.proofs.Texts.{lane_text, lane_meant, stated_text, stated_
 pub lane_ids : (r : Row) → IsLane r → column r 0 ≡ int (id_of r)
 lane_ids r ok = ap (λ x. column x 0) ok
 
-pub number_is : {E : Type 0} (r : Result ℕ E) (row : Row) (n : ℕ) → row ≡ int n ∷ [] → IfOk r (λ k. column row 0 ≡ int k) → IfOk r (λ k. k ≡ n)
-number_is (Ok k) row n is h = ap nat_in (sym h ∙ ap (λ r. column r 0) is)
-number_is (Err e) row n is h = tt
-
--- a count below the greatest integer is exact
-pub total_is : {E : Type 0} (r : Result ℕ E) (row : Row) (size : ℕ) → row ≡ int (counted size) ∷ [] → IfOk r (λ k. column row 0 ≡ int k) → IfOk r (λ k. k < 9223372036854775807) → IfOk r (λ k. k ≡ size)
-total_is (Ok k) row size is shown low =
-    let k_is : k ≡ counted size = ap nat_in (sym shown ∙ ap (λ r. column r 0) is) in
-    grind (arith, nat_tests)
-total_is (Err e) row size is shown low = tt
-
 -- ---- a table, wherever its tree is
-
--- the rows of a query over one table are read of that table alone
-pub moved : (q : Query) (tree number : ℕ) (db other : Trees) (params : Row) (rows : List Row) → overlay db [] tree ≡ other number → IsAnswer (at_tree tree q) (overlay db []) params rows → IsAnswer (at_tree number q) other params rows
-moved q tree number db other params rows same a = record {
-  staged = a.staged;
-  grouped = subst (λ (table : List Row). IsGrouped q.group params (matches_as Null (λ _. table) q.filter (inner 0 end) (params ∷ [])) a.staged) same a.grouped;
-  kept = a.kept;
-  distinct = a.distinct;
-  ordered = a.ordered;
-  same = a.same;
-  sorted = a.sorted;
-  shown = a.shown;
-}
-
--- no tree is one of the tables that a statement computes
-over : (db : Trees) (tree : ℕ) → nat_le (2 ^ 31) tree ≡ false → overlay db [] tree ≡ db tree
-over db tree low = rw low refl
-
-pub at_meta : (w : Layout) (q : Query) (db : Trees) (params : Row) (rows : List Row) → IsAnswer (at_tree (tree_in w kind.Meta) q) (overlay db []) params rows → IsAnswer (at_tree 0 q) (overlay (ours w db) []) params rows
-unfolding ours
-at_meta w q db params rows = moved q (tree_in w kind.Meta) 0 db (overlay (ours w db) []) params rows (over db (tree_in w kind.Meta) (each_low w).meta)
 
 pub at_lane : (w : Layout) (q : Query) (db : Trees) (params : Row) (rows : List Row) → IsAnswer (at_tree (tree_in w kind.Device) q) (overlay db []) params rows → IsAnswer (at_tree 1 q) (overlay (ours w db) []) params rows
 unfolding ours
-at_lane w q db params rows = moved q (tree_in w kind.Device) 1 db (overlay (ours w db) []) params rows (over db (tree_in w kind.Device) (each_low w).lane)
+at_lane w q db params rows = asked_at ledger_parts (site_of w) w.fits kind.Device q 1 db (overlay (ours w db) []) params rows refl
 
 pub at_tap : (w : Layout) (q : Query) (db : Trees) (params : Row) (rows : List Row) → IsAnswer (at_tree (tree_in w kind.Tap) q) (overlay db []) params rows → IsAnswer (at_tree 2 q) (overlay (ours w db) []) params rows
 unfolding ours
-at_tap w q db params rows = moved q (tree_in w kind.Tap) 2 db (overlay (ours w db) []) params rows (over db (tree_in w kind.Tap) (each_low w).tap)
+at_tap w q db params rows = asked_at ledger_parts (site_of w) w.fits kind.Tap q 2 db (overlay (ours w db) []) params rows refl
 
 pub at_stated : (w : Layout) (q : Query) (db : Trees) (params : Row) (rows : List Row) → IsAnswer (at_tree (tree_in w kind.Stated) q) (overlay db []) params rows → IsAnswer (at_tree 4 q) (overlay (ours w db) []) params rows
 unfolding ours
-at_stated w q db params rows = moved q (tree_in w kind.Stated) 4 db (overlay (ours w db) []) params rows (over db (tree_in w kind.Stated) (each_low w).stated)
+at_stated w q db params rows = asked_at ledger_parts (site_of w) w.fits kind.Stated q 4 db (overlay (ours w db) []) params rows refl
 
 -- ---- the numbers of a device
 

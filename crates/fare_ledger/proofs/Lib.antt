@@ -4,7 +4,6 @@ pub mod Found
 pub mod Links
 pub mod Puts
 pub mod Own
-pub mod Makes
 pub mod Taken
 pub mod Days
 pub mod Stored
@@ -13,7 +12,5 @@ pub mod Empty
 pub mod Listed
 pub mod Between
 pub mod Known
-pub mod Vacant
 pub mod Opened
-pub mod Meta
 pub mod AnyOrder

@@ -33,13 +33,14 @@ use Rattle.fare_tables.proofs.Lists.{member, of_filter}
 use Rattle.fare_tables.proofs.Rows.{all_of, held_one}
 use Rattle.fare_tables.proofs.Statements.{made, cast_int, cast_null, went, same_value}
 use Rattle.fare_tables.proofs.Terms.{chosen, matched, eq_holds, one_term}
-use Rattle.fare_layout.specs.declared.place.Kind.TheVariants.{Device}
+use Rattle.fare_layout.specs.declared.place.Kind.TheVariants.{Meta, Device, Tap, Stated}
 use Rattle.fare_ledger.specs.declared.layout.Layout.{Layout}
 use Rattle.fare_ledger.specs.Layouts.{schema_in, tree_in, ours, at_tree}
 use Rattle.fare_ledger.specs.Tables.{lane_table, renew_query}
 use Rattle.fare_ledger.specs.Held.{PutsLane, lane_row, IsLane}
 use Rattle.fare_ledger.proofs.Texts.{lane_terms, put_lane_text, put_lane_command, put_lane_meant}
-use Rattle.fare_ledger.proofs.Placed.{no_works, no_shares, lane_placed, each, at_found, tap_is_not_lane, stated_is_not_lane, meta_is_not_lane}
+use Rattle.fare_opening.proofs.Standing.{at_found}
+use Rattle.fare_ledger.proofs.Placed.{no_works, no_shares, lane_placed, each, apart}
 use Rattle.fare_ledger.proofs.Found.{lane_ids, at_lane}
 
 -- ---- the row that the update reads
@@ -114,9 +115,9 @@ module _ (way : Layout) (limit : Option ℕ) (keys : Keys) (d k c : ℕ) where
       let kept = each (λ tree. tree ≢ tree_in way Device → it.0 tree ≡ db tree) way step.tables in
       let is : edited db edit ≡ put_row (lane_row d k c) (ours way db 1) = simp (cast_int, cast_null) in (
         inl (ap (λ (t : Trees). ours way t 1) next ∙ step.rows ∙ is),
-        ap (λ (t : Trees). ours way t 0) next ∙ kept.meta (meta_is_not_lane way),
-        ap (λ (t : Trees). ours way t 2) next ∙ kept.tap (tap_is_not_lane way),
-        ap (λ (t : Trees). ours way t 4) next ∙ kept.stated (stated_is_not_lane way),
+        ap (λ (t : Trees). ours way t 0) next ∙ kept Meta (apart way Meta Device refl),
+        ap (λ (t : Trees). ours way t 2) next ∙ kept Tap (apart way Tap Device refl),
+        ap (λ (t : Trees). ours way t 4) next ∙ kept Stated (apart way Stated Device refl),
       )
 
   clears : (db : Trees) (w : Written) (found : List Row) → Clears task Abort (lane_row d k c) db found (Ok w) → IsPut way db w.trees d k c
@@ -135,9 +136,9 @@ module _ (way : Layout) (limit : Option ℕ) (keys : Keys) (d k c : ℕ) where
       let kept = each (λ tree. tree ≢ tree_in way Device → done.0 tree ≡ db tree) way step.tables in
       let is : edited db edit ≡ put_row (lane_row d k c) (without_rowid (pos d) (ours way db 1)) = ap (λ all. edited db (edit_of db (lane_table (tree_in way Device)) (ids_of all) Given 1 all)) rows ∙ simp (cast_int, cast_null) in (
         inr (ap (λ (t : Trees). ours way t 1) next ∙ step.rows ∙ is),
-        ap (λ (t : Trees). ours way t 0) next ∙ kept.meta (meta_is_not_lane way),
-        ap (λ (t : Trees). ours way t 2) next ∙ kept.tap (tap_is_not_lane way),
-        ap (λ (t : Trees). ours way t 4) next ∙ kept.stated (stated_is_not_lane way),
+        ap (λ (t : Trees). ours way t 0) next ∙ kept Meta (apart way Meta Device refl),
+        ap (λ (t : Trees). ours way t 2) next ∙ kept Tap (apart way Tap Device refl),
+        ap (λ (t : Trees). ours way t 4) next ∙ kept Stated (apart way Stated Device refl),
       )
 
   abbrev clause : Upsert
@@ -196,4 +197,4 @@ puts_lane way old new d k c count has ok h =
     let done = made (task way old.step_limit Enforced d k c) (mode_of old) command old.now.trees run.tally new.now (at_found (task way old.step_limit Enforced d k c) (mode_of old) command old.now.trees _ (run.tally, new.now) (lane_placed way) (subst (λ s. Does old.step_limit (mode_of old) params (record old.now { schema = s }) text None command (Ok (run.tally, new.now))) has run.changed)) in
     let put = inserts_or way old.step_limit Enforced d k c old.now.trees done.written ok done.wrote in
     let trees = subst (λ t. IsPut way old.now.trees t d k c) (sym (ap (λ (d : Database). d.trees) done.after_is)) put in
-    record { schema = ap (λ (d : Database). d.schema) done.after_is; lanes = trees.0; taps = trees.2; statements = trees.3 }
+    record { schema = ap (λ (d : Database). d.schema) done.after_is; lanes = trees.0; taps = trees.2; statements = trees.3; meta = trees.1 }

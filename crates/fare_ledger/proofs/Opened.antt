@@ -1,55 +1,65 @@
 -- What an open finds, and what it makes.
-use Rattle.std.proofs.Common.{◌≡◌, ◌≢◌, ◌⊎◌, inl, inr, ℕ, Bool, [], map, length, Option, Some, None, Result, Ok, Err, IfOk, OnErr, sym, ap, subst, ◌∙◌, arith}
-use Rattle.std.specs.Prelude.{IfSome}
+use Rattle.std.proofs.Common.{◌≡◌, ◌≢◌, ◌⊎◌, inl, inr, ℕ, Bool, [], ◌∷◌, map, length, refl, sym, ap, subst, ◌∙◌, arith}
 use Rattle.sqlite.specs.Schema.{Schema}
 use Rattle.sqlite.specs.Effect.{Database}
-use Rattle.sqlite.specs.Change.{KeepsRows}
-use Rattle.sqlite.specs.State.{State, HasCleanDisk}
-use Rattle.sqlite.specs.Tree.{Trees}
+use Rattle.sqlite.specs.State.{State}
 use Rattle.fare_store.specs.LedgerWords.{IsEmptyLedger}
-use Rattle.fare_tables.specs.Asking.{IsAtRest, SameRows}
-use Rattle.fare_tables.specs.Cells.{AreRows, held}
+use Rattle.fare_tables.specs.Cells.{AreRows, held, int}
 use Rattle.fare_tables.specs.Making.{no_schema}
 use Rattle.fare_tables.specs.Tabled.{IsFit}
+use Rattle.fare_layout.specs.declared.place.Kind.TheVariants.{Meta, Device, Tap, Stated}
+use Rattle.fare_layout.specs.Growing.{HasNone}
 use Rattle.fare_layout.proofs.Others.{all_kept}
+use Rattle.fare_opening.specs.declared.opening.Opened.{Opened}
+use Rattle.fare_opening.specs.declared.opening.Opened.TheVariants as opened
+use Rattle.fare_opening.specs.declared.site.Site.{Site}
+use Rattle.fare_opening.specs.Sites.{IsSite}
+use Rattle.fare_opening.specs.Making as store
+use Rattle.fare_opening.specs.Opening.{StandsAt, IsPlaced, WasMade, Opens, place_in}
+use Rattle.fare_opening.proofs.Vacant as vacant
 use Rattle.fare_ledger.specs.declared.layout.Layout.{Layout}
 use Rattle.fare_ledger.specs.Layouts.{schema_in, ours}
-use Rattle.fare_ledger.specs.Held.{AreReadable, IsReady, IsLane, IsTap, IsStated, lane_of, tap_of, stated_of, stated_in, held_of}
-use Rattle.fare_ledger.specs.Making.{Makes, MayGrow, IsNew, MadeFrom}
-use Rattle.fare_ledger.specs.Opening.{IsOurs, IsLedger, IsVacant, IsBlankOrOurs, IsOpened, Settles, MayMake}
+use Rattle.fare_ledger.specs.Held.{AreReadable, IsLane, IsTap, IsStated, lane_of, tap_of, stated_of, stated_in, held_of}
+use Rattle.fare_ledger.specs.Making.{site_of}
+use Rattle.fare_ledger.specs.Opening.{IsLedger, IsBlankOrOurs, IsVacant, IsOpened, Settles}
 use Rattle.fare_ledger.specs.Words.{taken_in, value_at, value_in, AreNext, AreApart, FitTogether, IsLawful}
-use Rattle.fare_layout.specs.Growing.{HasNone}
-use Rattle.fare_ledger.specs.Statements.{tables}
+use Rattle.fare_ledger.specs.Statements.{tables, ledger_parts}
 use Rattle.fare_ledger.proofs.Placed.{same_trees}
-use Rattle.fare_ledger.proofs.Own.{blank_is_vacant, not_vacant}
+use Rattle.fare_ledger.proofs.Own.{ledger_design}
 
--- no schema is both
-pub not_both : (w : Layout) → ¬ (no_schema ≡ schema_in w)
-not_both w same = not_vacant w no_schema blank_is_vacant same
+lane_not : Device ≢ Meta
+lane_not e = let e = e in cc
 
-pub same_then : (a b c : State) → SameRows a b → SameRows b c → SameRows a c
-same_then a b c first second = (second.0 ∙ first.0, second.1 ∙ first.1)
+tap_not : Tap ≢ Meta
+tap_not e = let e = e in cc
 
-pub new_fits : (w : Layout) (o start : ℕ) (known : ℕ → Bool) (new : State) → IsNew o w new.now × (new.now ≡ new.committed) → IsFit (schema_in w) (IsLawful w o start) new × IsEmptyLedger (value_at w o start known new.now.trees)
+stated_not : Stated ≢ Meta
+stated_not e = let e = e in cc
+
+pub new_fits : (w : Layout) (o start : ℕ) (known : ℕ → Bool) (old new : State) → WasMade ledger_parts o old new (site_of w) → IsFit (schema_in w) (IsLawful w o start) new × IsEmptyLedger (value_at w o start known new.now.trees)
 unfolding ours
-new_fits w o start known new it =
+new_fits w o start known old new it =
     let db = ours w new.now.trees in
-    let taps : (held_of db).taps ≡ [] = ap (map tap_of) it.0.taps in
-    let said : (held_of db).statements ≡ [] = ap (map stated_of) it.0.stated in
-    let none : (d : ℕ) → lane_of (held (db 1) d) ≡ record { taken = 0; closed = 0 } = λ d. ap (λ rows. lane_of (held rows d)) it.0.lanes in (
+    let lanes_none : db 1 ≡ [] = it.is_new.bare Device lane_not in
+    let taps_none : db 2 ≡ [] = it.is_new.bare Tap tap_not in
+    let stated_none : db 4 ≡ [] = it.is_new.bare Stated stated_not in
+    let taps : (held_of db).taps ≡ [] = ap (map tap_of) taps_none in
+    let said : (held_of db).statements ≡ [] = ap (map stated_of) stated_none in
+    let none : (d : ℕ) → lane_of (held (db 1) d) ≡ record { taken = 0; closed = 0 } = λ d. ap (λ rows. lane_of (held rows d)) lanes_none in (
       record {
-        rest = record { settled = it.1; schema_is = it.0.schema };
+        rest = record { settled = it.settled; schema_is = it.is_new.schema };
         fits = record {
           readable = record {
-            lanes = subst (AreRows IsLane) (sym it.0.lanes) tt;
-            taps = subst (AreRows IsTap) (sym it.0.taps) tt;
-            statements = subst (AreRows IsStated) (sym it.0.stated) tt;
+            lanes = subst (AreRows IsLane) (sym lanes_none) tt;
+            taps = subst (AreRows IsTap) (sym taps_none) tt;
+            statements = subst (AreRows IsStated) (sym stated_none) tt;
           };
           together = record {
             counted = λ d. ap (λ l. l.taken) (none d) ∙ sym (ap (λ ts. length (taken_in o ts d)) taps);
             numbered = subst (AreNext (λ d. 0)) (sym taps) tt;
             single = subst AreApart (sym said) tt;
             days = λ d y low high. absurd (let closed = ap (λ l. l.closed) (none d) in omega (arith, low, high, closed));
+            meta = record { row = int 1 ∷ int 1 ∷ int o ∷ []; only = it.is_new.meta; format_is = refl; owner_is = refl };
           };
         };
       },
@@ -60,74 +70,55 @@ new_fits w o start known new it =
       },
     )
 
-pub on_err : {X E P : Type 0} (r : Result X E) → P → OnErr r P
-on_err (Ok x) p = tt
-on_err (Err e) p = p
-
--- what is committed where the tables can be made
-pub makes_all : (owner : ℕ) (old new : State) (w : Layout) → IsVacant old → Makes old.now.schema w → HasCleanDisk new → (trees : Trees) → MadeFrom owner old.now trees → MayMake owner old trees
-makes_all owner old new w vacant makes clean trees from = (
-  vacant,
-  (w, makes, from.0, from.1.each w makes, from.2),
-  subst (KeepsRows old.now.schema.tables old.now.trees) (sym from.2) (from.1.others (record { layout = w; makes = makes })),
-)
-
--- the tables are a ledger's already
-pub taken_over : {E : Type 0} (owner : ℕ) (old new : State) (o : Layout) (r : Result (Option Layout) E) → old.now.schema ≡ schema_in o → IfOk r (λ found. IfSome found (λ p. p ≡ o)) → (IsAtRest (schema_in o) old → SameRows old new)
-    → IfOk r (λ found. IfSome found (Settles owner old new))
-taken_over owner old new o (Ok (Some p)) has at same = record {
-  made = λ none. absurd (not_vacant o old.now.schema none has);
-  kept = λ ready. (let it : IsReady o old = subst (λ w. IsReady w old) at ready in same it.rest);
-  others = λ settled. all_kept old.now.schema.tables old.now.trees new.now.trees (ap (λ (d : Database). d.trees) (same (record { settled = settled; schema_is = has })).0);
+-- what an open of the tables makes of a database
+pub settles_as : (owner : ℕ) (old new : State) (w : Layout) (o : Opened) → site_of w ≡ place_in o → IsPlaced ledger_parts old.now.schema o → Opens ledger_parts owner old new o → Settles owner old new w
+settles_as owner old new w (opened.Kept site) at placed it =
+    let has : old.now.schema ≡ schema_in w = placed.1 ∙ ap (λ (s : Site). s.schema) (sym at) in
+    record {
+      made = λ free. absurd (vacant.not_vacant ledger_parts site old.now.schema ledger_design placed.0 free placed.1);
+      kept = λ ready. it.1 ready.rest.settled;
+      others = λ settled. all_kept old.now.schema.tables old.now.trees new.now.trees (ap (λ (d : Database). d.trees) (it.1 settled).0);
+    }
+settles_as owner old new w (opened.Made site) at placed it = record {
+  made = λ free. (subst (store.Makes ledger_parts old.now.schema) (sym at) placed.1, subst (WasMade ledger_parts owner old new) (sym at) it);
+  kept = λ ready. absurd (vacant.not_vacant ledger_parts (site_of w) old.now.schema ledger_design w.fits placed.0 ready.rest.schema_is);
+  others = λ settled. it.others;
 }
-taken_over owner old new o (Ok None) has at same = tt
-taken_over owner old new o (Err e) has at same = tt
 
--- what has the tables of a ledger isn't without tables
-pub not_blank : {E : Type 0} (old : State) (o : Layout) (r : Result (Option Layout) E) → old.now.schema ≡ schema_in o → IfOk r (λ found. found ≡ None → old.now.schema ≢ no_schema)
-not_blank old o (Ok found) has = λ none blank. not_both o (sym blank ∙ has)
-not_blank old o (Err e) has = tt
+pub opened_as : (owner : ℕ) (old new : State) (w : Layout) (o : Opened) → site_of w ≡ place_in o → IsPlaced ledger_parts old.now.schema o → Opens ledger_parts owner old new o → IsOpened owner old w
+opened_as owner old new w (opened.Kept site) at placed it = inr (subst (StandsAt ledger_parts owner old) (sym at) it.0)
+opened_as owner old new w (opened.Made site) at placed it = inl placed.0
 
-pub not_free : {E : Type 0} (old : State) (o : Layout) (r : Result (Option Layout) E) → old.now.schema ≡ schema_in o → IfOk r (λ found. found ≡ None → IsVacant old → ¬ MayGrow old.now.schema)
-not_free old o (Ok found) has = λ none vacant. absurd (not_vacant o old.now.schema vacant has)
-not_free old o (Err e) has = tt
-
-pub ours_too : {E : Type 0} (owner : ℕ) (old : State) (o : Layout) (r : Result (Option Layout) E) → old.now.schema ≡ schema_in o → IfOk r (λ found. IfSome found (λ p. p ≡ o)) → IfOk r (λ found. IfSome found (λ p. IsOurs owner (ours o old.now.trees)))
-    → IfOk r (λ found. IfSome found (IsOpened owner old))
-ours_too owner old o (Ok (Some p)) has at are = subst (IsOpened owner old) (sym at) (inr (has, are))
-ours_too owner old o (Ok None) has at are = tt
-ours_too owner old o (Err e) has at are = tt
-
--- what is neither without tables nor the store's own
-pub neither : (owner : ℕ) (old : State) → old.now.schema ≢ no_schema → ((o : Layout) → old.now.schema ≡ schema_in o → ¬ IsOurs owner (ours o old.now.trees)) → ¬ IsBlankOrOurs owner old
-neither owner old some other (inl blank) = some blank
-neither owner old some other (inr are) = other are.0 are.1 are.2
-
-pub none_lacks : {E : Type 0} (owner : ℕ) (old : State) (o : Layout) (r : Result (Option Layout) E) → old.now.schema ≡ schema_in o → IfOk r (λ found. found ≡ None → ¬ IsOurs owner (ours o old.now.trees)) → IfOk r (λ found. found ≡ None → ¬ IsBlankOrOurs owner old)
-none_lacks owner old o (Ok found) has lacks = λ none. neither owner old (λ blank. not_both o (sym blank ∙ has)) (λ p is are. lacks none (subst (IsOurs owner) (same_trees p o old.now.trees (sym is ∙ has)) are))
-none_lacks owner old o (Err e) has lacks = tt
+pub site_placed : (s : Schema) (o : Opened) → IsPlaced ledger_parts s o → IsSite ledger_parts (place_in o)
+site_placed s (opened.Kept site) placed = placed.0
+site_placed s (opened.Made site) placed = placed.1.site
 
 -- a ledger that was there goes on as it was, whichever layout it is taken for
 pub kept_fits : (owner start : ℕ) (known : ℕ → Bool) (old new : State) (o p : Layout) → Settles owner old new o → IsOpened owner old o → IsFit (schema_in p) (IsLawful p owner start) old
     → IsFit (schema_in o) (IsLawful o owner start) new × (value_at o owner start known new.now.trees ≡ value_at p owner start known old.now.trees)
-kept_fits owner start known old new o p settles (inl vacant) fit = absurd (not_vacant p old.now.schema vacant fit.rest.schema_is)
+kept_fits owner start known old new o p settles (inl free) fit = absurd (vacant.not_vacant ledger_parts (site_of p) old.now.schema ledger_design p.fits free fit.rest.schema_is)
 kept_fits owner start known old new o p settles (inr are) fit =
-    let trees = same_trees p o old.now.trees (sym fit.rest.schema_is ∙ are.0) in
+    let trees = same_trees p o old.now.trees (sym fit.rest.schema_is ∙ are.schema) in
     let readable = subst AreReadable trees fit.fits.readable in
     let together = subst (λ t. FitTogether owner start (held_of t)) trees fit.fits.together in
-    let same = settles.kept (record { rest = record { settled = fit.rest.settled; schema_is = are.0 }; fits = readable }) in
+    let same = settles.kept (record { rest = record { settled = fit.rest.settled; schema_is = are.schema }; fits = readable }) in
     let now : ours o new.now.trees ≡ ours o old.now.trees = ap (λ (d : Database). ours o d.trees) same.0 in (
       record {
-        rest = record { settled = same.0 ∙ fit.rest.settled ∙ sym same.1; schema_is = ap (λ (d : Database). d.schema) same.0 ∙ are.0 };
+        rest = record { settled = same.0 ∙ fit.rest.settled ∙ sym same.1; schema_is = ap (λ (d : Database). d.schema) same.0 ∙ are.schema };
         fits = record { readable = subst AreReadable (sym now) readable; together = subst (λ t. FitTogether owner start (held_of t)) (sym now) together };
       },
       ap (λ t. value_in owner start known (held_of t)) (now ∙ sym trees),
     )
 
 pub vacant_or_ours : (owner : ℕ) (s : State) (w : Layout) → IsOpened owner s w → IsVacant s ⊎ IsLedger owner s
-vacant_or_ours owner s w (inl vacant) = inl vacant
-vacant_or_ours owner s w (inr are) = inr (w, are.0, are.1)
+vacant_or_ours owner s w (inl free) = inl free
+vacant_or_ours owner s w (inr are) = inr (site_of w, are)
+
+-- a lawful ledger is one that an open finds
+pub lawful_is_ours : (w : Layout) (owner start : ℕ) (s : State) → IsFit (schema_in w) (IsLawful w owner start) s → IsBlankOrOurs owner s
+unfolding ours
+lawful_is_ours w owner start s fit = inr (site_of w, record { site = w.fits; schema = fit.rest.schema_is; meta = fit.fits.together.meta })
 
 -- a database with no table has none of the names
 pub vacant_of : (s : Schema) → s ≡ no_schema → HasNone tables s
-vacant_of s blank = subst (HasNone tables) (sym blank) blank_is_vacant
+vacant_of s blank = vacant.vacant_of ledger_parts s blank

@@ -17,13 +17,14 @@ use Rattle.sqlite.proofs.Callers.{statement_of, runs_as, one_step}
 use Rattle.fare_tables.specs.Cells.{int, id_of, AreRows, held}
 use Rattle.fare_tables.proofs.Rows.{appended, rows_put, rows_without, held_put, held_replaced}
 use Rattle.fare_tables.proofs.Statements.{made, cast_int, cast_null, went, same_value}
-use Rattle.fare_layout.specs.declared.place.Kind.TheVariants.{Device, Tap, Stated}
+use Rattle.fare_layout.specs.declared.place.Kind.TheVariants.{Meta, Device, Tap, Stated}
 use Rattle.fare_ledger.specs.declared.layout.Layout.{Layout}
 use Rattle.fare_ledger.specs.Layouts.{schema_in, tree_in, ours}
 use Rattle.fare_ledger.specs.Tables.{tap_table, stated_table}
 use Rattle.fare_ledger.specs.Held.{TapRow, StatedRow, PutsTap, PutsLane, PutsStated, Becomes, AreReadable, IsLane, IsTap, IsStated, lane_row, lane_of, tap_cells, tap_of, stated_cells, stated_of, held_of, with_lane, with_tap, with_stated, with_numbers}
 use Rattle.fare_ledger.proofs.Texts.{put_tap_text, put_tap_command, put_tap_meant, put_stated_text, put_stated_command, put_stated_meant}
-use Rattle.fare_ledger.proofs.Placed.{no_works, tap_placed, stated_placed, each, at_found, lane_is_not_tap, stated_is_not_tap, lane_is_not_stated, tap_is_not_stated}
+use Rattle.fare_opening.proofs.Standing.{at_found}
+use Rattle.fare_ledger.proofs.Placed.{no_works, tap_placed, stated_placed, each, apart}
 use Rattle.fare_ledger.proofs.Found.{lane_ids}
 
 pub tap_ids : (r : Row) → IsTap r → column r 0 ≡ int (id_of r)
@@ -54,9 +55,10 @@ puts_tap w old new t count has h =
     let at : (k : ℕ) → new.now.trees k ≡ written.0 k = λ k. ap (λ (t : Trees). t k) trees in
     record {
       schema = ap (λ (d : Database). d.schema) done.after_is;
-      lanes = at (tree_in w Device) ∙ kept.lane (lane_is_not_tap w);
+      lanes = at (tree_in w Device) ∙ kept Device (apart w Device Tap refl);
       taps = at (tree_in w Tap) ∙ step.rows ∙ edit;
-      statements = at (tree_in w Stated) ∙ kept.stated (stated_is_not_tap w);
+      statements = at (tree_in w Stated) ∙ kept Stated (apart w Stated Tap refl);
+      meta = at (tree_in w Meta) ∙ kept Meta (apart w Meta Tap refl);
     }
 
 pub puts_stated : (w : Layout) (old new : State) (s : StatedRow) (count : ℕ) → old.now.schema ≡ schema_in w → Executes put_stated_text (stated_cells s) old new (Ok count) → PutsStated w old.now new.now s
@@ -81,9 +83,10 @@ puts_stated w old new s count has h =
     let at : (k : ℕ) → new.now.trees k ≡ written.0 k = λ k. ap (λ (t : Trees). t k) trees in
     record {
       schema = ap (λ (d : Database). d.schema) done.after_is;
-      lanes = at (tree_in w Device) ∙ kept.lane (lane_is_not_stated w);
-      taps = at (tree_in w Tap) ∙ kept.tap (tap_is_not_stated w);
+      lanes = at (tree_in w Device) ∙ kept Device (apart w Device Stated refl);
+      taps = at (tree_in w Tap) ∙ kept Tap (apart w Tap Stated refl);
       statements = at (tree_in w Stated) ∙ step.rows ∙ edit;
+      meta = at (tree_in w Meta) ∙ kept Meta (apart w Meta Stated refl);
     }
 
 -- ---- what is held then
@@ -115,6 +118,7 @@ both w old mid new t c ok first second =
         lanes = λ x. (lanes.1 x ∙ ap (λ all. with_lane t.device t.lane c (λ y. lane_of (held all y)) x) first.lanes) i;
         taps = (ap (map tap_of) taps.1 ∙ map-append tap_of (ours w old.trees 2) _) i;
         statements = ap (map stated_of) statements i;
+        meta = (second.meta ∙ first.meta) i;
       };
     }
 
@@ -128,6 +132,7 @@ one_more w old new s ok puts =
         lanes = λ x. lane_of (held (puts.lanes i) x);
         taps = map tap_of (puts.taps i);
         statements = (ap (map stated_of) statements.1 ∙ map-append stated_of (ours w old.trees 4) _) i;
+        meta = puts.meta i;
       };
     }
 
@@ -141,5 +146,6 @@ other_numbers w old new d k c ok puts =
         lanes = λ x. lanes.1 x i;
         taps = map tap_of (puts.taps i);
         statements = map stated_of (puts.statements i);
+        meta = puts.meta i;
       };
     }

@@ -97,6 +97,7 @@ take_fits o start known h r c may fit = record {
       let before : y < start + (h.lanes d).closed = subst (λ n. y < start + n) (closed_stays h.lanes r.device r.lane c d may.closed_is) high in
       fit.days d y low before
       ∙ ap {B = Option ℕ} Some (sym (same_count o h.taps r d y may.mine (λ same. day_apart start (h.lanes r.device).closed y r.tap.day may.open_day low (subst (λ e. y < start + (h.lanes e).closed) same before))));
+  meta = fit.meta;
 }
 
 -- ---- a statement more
@@ -117,6 +118,7 @@ state_fits o start h s none fit = record {
   numbered = fit.numbered;
   single = apart_pushed h.statements (row_stated s) fit.single none;
   days = λ d y low high. stays_stated h.statements (row_stated s) d y _ none (fit.days d y low high);
+  meta = fit.meta;
 }
 
 -- ---- a day closed
@@ -163,4 +165,5 @@ close_fits o start known h d lane may fit = record {
   numbered = fit.numbered;
   single = fit.single;
   days = close_days o start h d lane.taken (lane.closed + 1) (ap (λ n. n + 1) may.numbers.closed) may.stated fit.days;
+  meta = fit.meta;
 }

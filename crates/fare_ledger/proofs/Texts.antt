@@ -1,7 +1,7 @@
 -- What the texts of a ledger mean where its tables stand.
-use Rattle.std.proofs.Common.{[], ◌∷◌, codes, List, ℕ, refl, Some, pos}
+use Rattle.std.proofs.Common.{[], ◌∷◌, codes, List, ℕ, refl, Some}
 use Rattle.sqlite_tied.specs.Compute.{everything}
-use Rattle.sqlite.specs.declared.types.Value.TheVariants.{Null, Int}
+use Rattle.sqlite.specs.declared.types.Value.TheVariants.{Null}
 use Rattle.sqlite.specs.Term.{Term, lit, col}
 use Rattle.sqlite.specs.Command.TheVariants.{Insert, InsertOr, Select}
 use Rattle.sqlite.specs.Source.TheVariants.{Values}
@@ -16,10 +16,11 @@ use Rattle.fare_layout.specs.Places.{place_of}
 use Rattle.fare_layout.specs.Commands.{IsMeant, IsSimpleCommand}
 use Rattle.fare_layout.proofs.Meant.{Meant, meant}
 use Rattle.fare_layout.specs.Layouts.{AreUnderstood}
+use Rattle.fare_opening.specs.Parts.{reads_meta, puts_meta}
 use Rattle.fare_ledger.specs.declared.layout.Layout.{Layout}
 use Rattle.fare_ledger.specs.Layouts.{schema_in, at_tree}
 use Rattle.fare_ledger.specs.Statements.{texts}
-use Rattle.fare_ledger.specs.Tables.{ledger_schema, meta_query, lane_query, stated_query, day_terms, between_query, renew_query, begun_terms}
+use Rattle.fare_ledger.specs.Tables.{ledger_schema, lane_query, stated_query, day_terms, between_query, renew_query, begun_terms}
 
 -- where the tables stand in a database of a ledger alone
 abbrev pub own_places : Places
@@ -192,42 +193,21 @@ abbrev pub meta_text : List ℕ
 meta_text = codes "SELECT format, owner FROM meta"
 
 abbrev pub meta_at : Place → Command
-meta_at p = Select (record { lets = []; body = at_tree p.tree meta_query }) (codes "format" ∷ codes "owner" ∷ [])
-
-abbrev pub meta_command : Layout → Command
-meta_command o = meta_at (place_of o.places Meta)
+meta_at p = reads_meta p.tree
 
 pub meta_own : IsMeant ledger_schema meta_text (meta_at (place_of own_places Meta))
 unfolding everything ledger_schema
 meta_own = refl
 
-meta_means : (o : Layout) → IsMeant (schema_in o) meta_text (meta_command o)
-meta_means o = o.fits.keeps.1.1.1.1.1.1.1.0 (meta_at (place_of own_places Meta)) meta_own
-
-pub meta_meant : (o : Layout) → Meant (schema_in o) meta_text (meta_command o)
-meta_meant o = meant (schema_in o) meta_text (meta_command o) (meta_means o)
-
-pub meta_reads : (o : Layout) → Reads (schema_in o) meta_text
-meta_reads o = ((meta_meant o).plain, (meta_meant o).selects)
-
 abbrev pub put_meta_text : List ℕ
-put_meta_text = codes "INSERT INTO meta (format, owner) VALUES (1, ?1)"
+put_meta_text = codes "INSERT INTO meta (format, owner) VALUES (?1, ?2)"
 
 abbrev pub put_meta_at : Place → Command
-put_meta_at p = Insert p.at (Values (lit Null ∷ lit (Int (pos 1)) ∷ col 0 0 ∷ []) 3)
-
-abbrev pub put_meta_command : Layout → Command
-put_meta_command o = put_meta_at (place_of o.places Meta)
+put_meta_at p = puts_meta p.at
 
 pub put_meta_own : IsMeant ledger_schema put_meta_text (put_meta_at (place_of own_places Meta))
 unfolding everything ledger_schema
 put_meta_own = refl
-
-put_meta_means : (o : Layout) → IsMeant (schema_in o) put_meta_text (put_meta_command o)
-put_meta_means o = o.fits.keeps.1.1.1.1.1.1.1.1.0 (put_meta_at (place_of own_places Meta)) put_meta_own
-
-pub put_meta_meant : (o : Layout) → Meant (schema_in o) put_meta_text (put_meta_command o)
-put_meta_meant o = meant (schema_in o) put_meta_text (put_meta_command o) (put_meta_means o)
 
 abbrev pub put_lane_text : List ℕ
 put_lane_text = codes "INSERT INTO lane (device, taken, closed) VALUES (?1, ?2, ?3) ON CONFLICT (device) DO UPDATE SET taken = excluded.taken, closed = excluded.closed"
@@ -287,41 +267,41 @@ pub put_stated_meant : (o : Layout) → Meant (schema_in o) put_stated_text (put
 put_stated_meant o = meant (schema_in o) put_stated_text (put_stated_command o) (put_stated_means o)
 
 -- each means something of the usual form
-lane_simple : IsSimpleCommand (lane_at (place_of own_places Device))
+pub lane_simple : IsSimpleCommand (lane_at (place_of own_places Device))
 lane_simple = search
 
-stated_simple : IsSimpleCommand (stated_at (place_of own_places Stated))
+pub stated_simple : IsSimpleCommand (stated_at (place_of own_places Stated))
 stated_simple = search
 
-day_simple : IsSimpleCommand (day_at (place_of own_places Tap))
+pub day_simple : IsSimpleCommand (day_at (place_of own_places Tap))
 day_simple = search
 
-between_simple : IsSimpleCommand (between_at (place_of own_places Tap))
+pub between_simple : IsSimpleCommand (between_at (place_of own_places Tap))
 between_simple = search
 
-begun_simple : IsSimpleCommand (begun_at (place_of own_places Device))
+pub begun_simple : IsSimpleCommand (begun_at (place_of own_places Device))
 begun_simple = search
 
-taps_simple : IsSimpleCommand (taps_at (place_of own_places Tap))
+pub taps_simple : IsSimpleCommand (taps_at (place_of own_places Tap))
 taps_simple = search
 
-statements_simple : IsSimpleCommand (statements_at (place_of own_places Stated))
+pub statements_simple : IsSimpleCommand (statements_at (place_of own_places Stated))
 statements_simple = search
 
-meta_simple : IsSimpleCommand (meta_at (place_of own_places Meta))
+pub meta_simple : IsSimpleCommand (meta_at (place_of own_places Meta))
 meta_simple = search
 
-put_meta_simple : IsSimpleCommand (put_meta_at (place_of own_places Meta))
+pub put_meta_simple : IsSimpleCommand (put_meta_at (place_of own_places Meta))
 put_meta_simple = search
 
-put_lane_simple : IsSimpleCommand (put_lane_at (place_of own_places Device))
+pub put_lane_simple : IsSimpleCommand (put_lane_at (place_of own_places Device))
 put_lane_simple = search
 
-put_tap_simple : IsSimpleCommand (put_tap_at (place_of own_places Tap))
+pub put_tap_simple : IsSimpleCommand (put_tap_at (place_of own_places Tap))
 put_tap_simple = search
 
-put_stated_simple : IsSimpleCommand (put_stated_at (place_of own_places Stated))
+pub put_stated_simple : IsSimpleCommand (put_stated_at (place_of own_places Stated))
 put_stated_simple = search
 
-pub understood_all : AreUnderstood ledger_schema texts
+unfoldable pub understood_all : AreUnderstood ledger_schema texts
 understood_all = ((lane_at (place_of own_places Device), lane_own, lane_simple), ((stated_at (place_of own_places Stated), stated_own, stated_simple), ((day_at (place_of own_places Tap), day_own, day_simple), ((between_at (place_of own_places Tap), between_own, between_simple), ((begun_at (place_of own_places Device), begun_own, begun_simple), ((taps_at (place_of own_places Tap), taps_own, taps_simple), ((statements_at (place_of own_places Stated), statements_own, statements_simple), ((meta_at (place_of own_places Meta), meta_own, meta_simple), ((put_meta_at (place_of own_places Meta), put_meta_own, put_meta_simple), ((put_lane_at (place_of own_places Device), put_lane_own, put_lane_simple), ((put_tap_at (place_of own_places Tap), put_tap_own, put_tap_simple), ((put_stated_at (place_of own_places Stated), put_stated_own, put_stated_simple), tt))))))))))))

@@ -85,6 +85,8 @@ pub record Held : Type 0 where
   pub lanes : ℕ → Lane
   pub taps : List TapRow
   pub statements : List StatedRow
+  -- the rows that say whose tables these are
+  pub meta : List Row
 
 -- the rows of all tables can be read
 pub record AreReadable (trees : Trees) : Type 0 where
@@ -93,7 +95,7 @@ pub record AreReadable (trees : Trees) : Type 0 where
   pub statements : AreRows IsStated (trees 4)
 
 abbrev pub held_of : Trees → Held
-held_of trees = record { lanes = λ device. lane_of (held (trees 1) device); taps = map tap_of (trees 2); statements = map stated_of (trees 4) }
+held_of trees = record { lanes = λ device. lane_of (held (trees 1) device); taps = map tap_of (trees 2); statements = map stated_of (trees 4); meta = trees 0 }
 
 -- between calls, over the tables of a ledger with rows that can be read
 abbrev pub IsReady : Layout → State → Type 0
@@ -143,13 +145,13 @@ with_lane device taken closed lanes x = if device == x then record { taken = tak
 
 -- a tap more, and its device's numbers
 abbrev pub with_tap : TapRow → ℕ → Held → Held
-with_tap t closed h = record { lanes = with_lane t.device t.lane closed h.lanes; taps = h.taps ++ t ∷ []; statements = h.statements }
+with_tap t closed h = record { lanes = with_lane t.device t.lane closed h.lanes; taps = h.taps ++ t ∷ []; statements = h.statements; meta = h.meta }
 
 abbrev pub with_stated : StatedRow → Held → Held
-with_stated s h = record { lanes = h.lanes; taps = h.taps; statements = h.statements ++ s ∷ [] }
+with_stated s h = record { lanes = h.lanes; taps = h.taps; statements = h.statements ++ s ∷ []; meta = h.meta }
 
 abbrev pub with_numbers : ℕ → ℕ → ℕ → Held → Held
-with_numbers device taken closed h = record { lanes = with_lane device taken closed h.lanes; taps = h.taps; statements = h.statements }
+with_numbers device taken closed h = record { lanes = with_lane device taken closed h.lanes; taps = h.taps; statements = h.statements; meta = h.meta }
 
 -- the database holds this, in rows that can be read
 pub record Becomes (o : Layout) (db : Database) (h : Held) : Type 0 where
@@ -163,15 +165,18 @@ pub record PutsTap (o : Layout) (old new : Database) (t : TapRow) : Type 0 where
   pub lanes : ours o new.trees 1 ≡ ours o old.trees 1
   pub taps : ours o new.trees 2 ≡ put_row (Int (next_rowid (ours o old.trees 2)) ∷ tap_cells t) (ours o old.trees 2)
   pub statements : ours o new.trees 4 ≡ ours o old.trees 4
+  pub meta : ours o new.trees 0 ≡ ours o old.trees 0
 
 pub record PutsStated (o : Layout) (old new : Database) (s : StatedRow) : Type 0 where
   pub schema : new.schema ≡ schema_in o
   pub lanes : ours o new.trees 1 ≡ ours o old.trees 1
   pub taps : ours o new.trees 2 ≡ ours o old.trees 2
   pub statements : ours o new.trees 4 ≡ put_row (Int (next_rowid (ours o old.trees 4)) ∷ stated_cells s) (ours o old.trees 4)
+  pub meta : ours o new.trees 0 ≡ ours o old.trees 0
 
 pub record PutsLane (o : Layout) (old new : Database) (device taken closed : ℕ) : Type 0 where
   pub schema : new.schema ≡ schema_in o
   pub lanes : (ours o new.trees 1 ≡ put_row (lane_row device taken closed) (ours o old.trees 1)) ⊎ (ours o new.trees 1 ≡ put_row (lane_row device taken closed) (without_rowid (pos device) (ours o old.trees 1)))
   pub taps : ours o new.trees 2 ≡ ours o old.trees 2
   pub statements : ours o new.trees 4 ≡ ours o old.trees 4
+  pub meta : ours o new.trees 0 ≡ ours o old.trees 0

@@ -5,6 +5,7 @@ use Rattle.fare_layout.specs.declared.place.Kind.{Kind}
 use Rattle.fare_layout.specs.declared.place.Kind.TheVariants.{Meta, Device, Tap, Stated}
 use Rattle.fare_layout.specs.declared.place.Places.{Places}
 use Rattle.fare_layout.specs.Layouts.{Fits}
+use Rattle.fare_opening.specs.Parts.{Parts}
 use Rattle.fare_ledger.specs.Tables.{ledger_schema}
 
 -- what makes the tables, each with its name
@@ -27,7 +28,7 @@ texts =
     ∷ (Tap, codes "SELECT count(*) FROM tap")
     ∷ (Stated, codes "SELECT count(*) FROM stated")
     ∷ (Meta, codes "SELECT format, owner FROM meta")
-    ∷ (Meta, codes "INSERT INTO meta (format, owner) VALUES (1, ?1)")
+    ∷ (Meta, codes "INSERT INTO meta (format, owner) VALUES (?1, ?2)")
     ∷ (Device, codes "INSERT INTO lane (device, taken, closed) VALUES (?1, ?2, ?3) ON CONFLICT (device) DO UPDATE SET taken = excluded.taken, closed = excluded.closed")
     ∷ (Tap, codes "INSERT INTO tap (device, lane, link, product, token, moment, day) VALUES (?1, ?2, ?3, ?4, ?5, ?6, ?7)")
     ∷ (Stated, codes "INSERT INTO stated (device, day, total) VALUES (?1, ?2, ?3)")
@@ -36,3 +37,7 @@ texts =
 -- a schema has the ledger's tables at these places, and its statements mean there what they should
 abbrev pub FitsLedger : Schema → Places → Type 0
 FitsLedger schema places = Fits ledger_schema texts schema places
+
+-- what a ledger is made of
+abbrev pub ledger_parts : Parts
+ledger_parts = record { own = ledger_schema; tables = tables; texts = texts; format = 1 }

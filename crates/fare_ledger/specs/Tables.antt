@@ -46,10 +46,6 @@ ledger_schema = record {
   views = [];
 }
 
--- the row of meta
-abbrev pub meta_query : Query
-meta_query = query 0 [] (col 1 1 ∷ col 1 2 ∷ []) []
-
 -- how many taps of a device are taken, and how many of its days closed
 abbrev pub lane_query : Query
 lane_query = query 1 (is_given 0 0 ∷ []) (col 1 2 ∷ col 1 3 ∷ []) []

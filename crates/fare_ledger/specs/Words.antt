@@ -12,6 +12,7 @@ use Rattle.fare_owner.specs.declared.closing.CloseFault.{CloseFault}
 use Rattle.fare_store.specs.Standing.{Standing}
 use Rattle.fare_store.specs.LedgerWords.{LedgerValue, is_closed, take_judged, close_of}
 use Rattle.fare_tables.specs.Tabled.{tabled}
+use Rattle.fare_opening.specs.Opening.{IsMeta}
 use Rattle.fare_ledger.specs.declared.tables.SqlLedger.{SqlLedger}
 use Rattle.fare_ledger.specs.declared.lane.Lane.{Lane}
 use Rattle.fare_ledger.specs.Held.{Held, TapRow, StatedRow, AreReadable, held_of, is_of, stated_in, record_of}
@@ -53,6 +54,8 @@ pub record FitTogether (owner start : ℕ) (h : Held) : Type 0 where
   pub numbered : AreNext (λ device. 0) h.taps
   pub single : AreApart h.statements
   pub days : AreCounted owner start h
+  -- they are this owner's, of format 1
+  pub meta : IsMeta 1 owner h.meta
 
 pub record IsLawful (o : Layout) (owner start : ℕ) (trees : Trees) : Type 0 where
   pub readable : AreReadable (ours o trees)

@@ -1,8 +1,10 @@
+ghost use Rattle.std.specs.Prelude.{◌≡◌};
 ghost use Rattle.fare_layout.specs.Layouts.{Fits-prop};
 ghost use Rattle.fare_ledger.specs.Statements.{FitsLedger, texts};
 ghost use Rattle.fare_ledger.specs.Tables.{ledger_schema};
 
 use fare_layout::Places;
+use fare_opening::Site;
 use sqlite_schema::schema::Schema;
 
 /// Where the tables of a ledger stand in a database, which may hold others too: each statement of the ledger
@@ -12,6 +14,18 @@ pub struct Layout {
     pub(crate) schema: Schema,
     pub(crate) places: Places,
     ghost fits: { FitsLedger schema places } by { Fits-prop ledger_schema texts schema places },
+}
+
+impl Layout {
+    // Where they stand.
+    pub(crate) fn at(site: Site) -> Layout
+        requires { FitsLedger site.schema site.places }
+        ensures schema { result.schema ≡ site.schema }
+        ensures places { result.places ≡ site.places }
+    {
+        let (schema, places) = site.into_parts();
+        Layout { schema, places }
+    }
 }
 
 // It is written out, so that a caller doesn't prove again how each part is let go.

@@ -4,8 +4,8 @@
 //! connection.
 #![tactic(auto)]
 
-mod asking;
 mod calls;
+mod design;
 mod devices;
 mod finding;
 mod judging;
@@ -13,8 +13,6 @@ mod lane;
 pub mod laws;
 mod layout;
 mod listing;
-mod looking;
-mod making;
 mod opening;
 mod reading;
 mod statements;

@@ -9,8 +9,8 @@ ghost use Rattle.fare_ledger.specs.Held.{held_of, IsReady, IsListedOf};
 ghost use Rattle.fare_ledger.specs.Shown.{ShowsRow, ShowRows};
 
 use crate::Layout;
-use crate::asking::ask_rows;
 use crate::statements::READ_BETWEEN;
+use fare_opening::ask_rows;
 use fare_record::{Day, DeviceId, OwnerId, Record};
 use fare_store::Fault;
 use fare_tables::{cell_number, cell_tap_number, parameter, tap_in_cells};
@@ -70,6 +70,6 @@ pub(crate) fn read_between<S: Alter>(
         parameter(u64::from(from.get())),
         parameter(u64::from(to.get())),
     ];
-    let rows = ask_rows(conn, layout, READ_BETWEEN, &asked)?;
+    let rows = ask_rows(conn, &layout.schema, READ_BETWEEN, &asked)?;
     records_in(alloc, rows.as_slice(), owner)
 }

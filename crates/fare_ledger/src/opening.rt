@@ -3,26 +3,23 @@ ghost use Rattle.sqlite.specs.State.{HasCleanDisk, Survives};
 ghost use Rattle.sqlite.specs.Held.{state};
 ghost use Rattle.fare_scheme.specs.Words.{position_of_owner};
 ghost use Rattle.fare_store.specs.LedgerWords.{IsEmptyLedger, IsOfScheme};
-ghost use Rattle.fare_tables.specs.Asking.{IsLive, IsAtRest, SameRows};
+ghost use Rattle.fare_tables.specs.Asking.{IsLive, SameRows};
 ghost use Rattle.fare_tables.specs.Making.{no_schema};
 ghost use Rattle.fare_tables.specs.Tabled.{IsFit};
 ghost use Rattle.fare_ledger.specs.declared.layout.Layout.{Layout};
-ghost use Rattle.fare_ledger.specs.Layouts.{schema_in, ours};
+ghost use Rattle.fare_ledger.specs.Layouts.{schema_in};
 ghost use Rattle.fare_ledger.specs.Making.{Makes, MayGrow, KeepsOthers};
-ghost use Rattle.fare_ledger.specs.Opening.{IsMetaRow, AreMeta, IsOurs, IsLedger, IsVacant, IsBlankOrOurs, IsOpened, Sees, Settles, MayMake};
+ghost use Rattle.fare_ledger.specs.Opening.{IsLedger, IsVacant, IsBlankOrOurs, IsOpened, Settles, MayMake};
 ghost use Rattle.fare_ledger.specs.Words.{IsLawful, value_at, connected, stands};
 
-use crate::asking::ask_rows;
+use crate::design::LedgerDesign;
 use crate::devices::devices_of;
-use crate::looking::{Seen, look_at};
-use crate::making::make_ledger;
-use crate::statements::READ_META;
 use crate::{Layout, SqlLedger};
+use fare_opening::open_tables;
 use fare_record::OwnerId;
 use fare_scheme::Scheme;
 use fare_store::Fault;
-use sqlite::types::ValueRef;
-use sqlite::{Alter, Connection, Row};
+use sqlite::{Alter, Connection};
 use std::alloc::Global;
 use thiserror::Error;
 
@@ -56,74 +53,14 @@ fn open_fault(fault: Fault) -> LedgerOpenFault
     }
 }
 
-// Whether the row is that of format 1 and the owner.
-fn is_meta(row: &Row, owner: OwnerId) -> bool
-    ensures { IsTrue result ↔ IsMetaRow owner row.now }
-{
-    match (row.get_ref(0), row.get_ref(1)) {
-        (Ok(ValueRef::Int(format)), Ok(ValueRef::Int(id))) => {
-            format == 1 && id == i64::from(owner.get())
-        }
-        _ => false,
-    }
-}
-
-// Whether the rows are that one.
-fn are_meta(rows: &[Row], owner: OwnerId) -> bool
-    ensures { IsTrue result ↔ AreMeta owner rows.now }
-{
-    match rows {
-        [first, rest @ ..] => rest.is_empty() && is_meta(first, owner),
-        [] => false,
-    }
-}
-
-// Whether `meta` holds its one row.
-fn has_meta<S: Alter>(
-    conn: &mut Connection<S>,
-    layout: &Layout,
-    owner: OwnerId,
-) -> Result<bool, Fault>
-    ensures meta { HasCleanDisk (state S.Store conn.new) → (state S.Store conn.old).now.schema ≡ schema_in layout.now → IfOk result (λ right. IsTrue right ↔ IsOurs owner (ours layout.now (state S.Store conn.old).now.trees)) }
-    ensures same { IsLive (state S.Store conn.new) → IsAtRest (schema_in layout.now) (state S.Store conn.old) → SameRows (state S.Store conn.old) (state S.Store conn.new) }
-    ensures crash { Survives (state S.Store conn.old) (state S.Store conn.new) (λ _. ¬ ((state S.Store conn.old).now.schema ≡ schema_in layout.now)) }
-    ensures live { IsLive (state S.Store conn.new) → IsLive (state S.Store conn.old) }
-    ensures stays { HasCleanDisk (state S.Store conn.new) → OnOk result (IsTrue (state S.Store conn.new).is_open) }
-    ensures mode { conn.old.in_transaction ≡ false → conn.new.in_transaction ≡ false }
-{
-    let rows = ask_rows(conn, layout, READ_META, &[])?;
-    Ok(are_meta(rows.as_slice(), owner))
-}
-
-// Where the tables stand, if the ledger that they are is the owner's.
-fn if_mine<S: Alter>(
-    conn: &mut Connection<S>,
-    layout: Layout,
-    owner: OwnerId,
-) -> Result<Option<Layout>, Fault>
-    ensures of_layout { IfOk result (λ found. IfSome found (λ w. w ≡ layout)) }
-    ensures ours { IsLive (state S.Store conn.new) → (state S.Store conn.old).now.schema ≡ schema_in layout → IfOk result (λ found. IfSome found (λ w. IsOurs owner (ours layout (state S.Store conn.old).now.trees))) }
-    ensures lacks { IsLive (state S.Store conn.new) → (state S.Store conn.old).now.schema ≡ schema_in layout → IfOk result (λ found. found ≡ None → ¬ IsOurs owner (ours layout (state S.Store conn.old).now.trees)) }
-    ensures same { IsLive (state S.Store conn.new) → IsAtRest (schema_in layout) (state S.Store conn.old) → SameRows (state S.Store conn.old) (state S.Store conn.new) }
-    ensures crash { Survives (state S.Store conn.old) (state S.Store conn.new) (λ _. ¬ ((state S.Store conn.old).now.schema ≡ schema_in layout)) }
-    ensures live { IsLive (state S.Store conn.new) → IsLive (state S.Store conn.old) }
-    ensures mode { conn.old.in_transaction ≡ false → conn.new.in_transaction ≡ false }
-{
-    if has_meta(conn, &layout, owner)? {
-        return Ok(Some(layout));
-    }
-    Ok(None)
-}
-
 // Makes the tables where nothing has their names, and looks whose ledger it is where it is one; none if it isn't
 // the owner's.
 fn settle<S: Alter>(
+    alloc: Global,
     conn: &mut Connection<S>,
-    found: Seen,
     owner: OwnerId,
 ) -> Result<Option<Layout>, Fault>
     requires idle { conn.old.in_transaction ≡ false }
-    requires found { Sees (state S.Store conn.old).now.schema found }
     ensures opens { IsLive (state S.Store conn.new) → IfOk result (λ found. IfSome found (Settles owner (state S.Store conn.old) (state S.Store conn.new))) }
     ensures ours { IsLive (state S.Store conn.new) → IfOk result (λ found. IfSome found (IsOpened owner (state S.Store conn.old))) }
     ensures refused { IsLive (state S.Store conn.new) → (state S.Store conn.old).now ≡ (state S.Store conn.old).committed → IfOk result (λ found. found ≡ None → SameRows (state S.Store conn.old) (state S.Store conn.new)) }
@@ -132,15 +69,12 @@ fn settle<S: Alter>(
     ensures vacant { IfOk result (λ found. found ≡ None → IsVacant (state S.Store conn.old) → ¬ MayGrow (state S.Store conn.old).now.schema) }
     ensures crash { Survives (state S.Store conn.old) (state S.Store conn.new) (MayMake owner (state S.Store conn.old)) }
     ensures failed { IsLive (state S.Store conn.new) → (state S.Store conn.old).now ≡ (state S.Store conn.old).committed → OnErr result (SameRows (state S.Store conn.old) (state S.Store conn.new)) }
+    ensures stays { HasCleanDisk (state S.Store conn.new) → IfOk result (λ found. IfSome found (λ _. IsTrue (state S.Store conn.new).is_open)) }
     ensures idle { conn.new.in_transaction ≡ false }
 {
-    match found {
-        Seen::Ours(layout) => if_mine(conn, layout, owner),
-        Seen::Vacant(layout) => {
-            make_ledger(conn, owner)?;
-            Ok(Some(layout))
-        }
-        Seen::Other => Ok(None),
+    match open_tables::<LedgerDesign, S>(alloc, conn, owner.get())? {
+        Some(opened) => Ok(Some(Layout::at(opened.into_site()))),
+        None => Ok(None),
     }
 }
 
@@ -167,9 +101,11 @@ impl<S: Alter> SqlLedger<S> {
         ensures kept { IfOk result (λ l. (stands S.Store l).live → (w : Layout) → IsFit (schema_in w) (IsLawful w owner scheme.now.start) (state S.Store conn) → (stands S.Store l).lawful × ((stands S.Store l).value ≡ value_at w owner scheme.now.start (stands S.Store l).value.knows (state S.Store conn).now.trees)) }
         ensures ours { IfOk result (λ l. (stands S.Store l).live → IsVacant (state S.Store conn) ⊎ IsLedger owner (state S.Store conn)) }
         ensures failures { IfOk result (λ l. (stands S.Store l).failures ≡ 0) }
+        ensures alive { IfOk result (λ l. (stands S.Store l).clean → (stands S.Store l).live) }
         ensures inside { conn.in_transaction ≡ true → IsSome (position_of_owner scheme.now owner) → result ≡ Err (conn, LedgerOpenFault.Store) }
         ensures foreign { IfErr result (λ e. e.1 ≡ LedgerOpenFault.Foreign → (state S.Store conn).now.schema ≢ no_schema) }
         ensures lacks { IfErr result (λ e. e.1 ≡ LedgerOpenFault.Foreign → IsLive (state S.Store e.0) → ¬ IsBlankOrOurs owner (state S.Store conn)) }
+        ensures found { IfErr result (λ e. e.1 ≡ LedgerOpenFault.Foreign → IsLive (state S.Store e.0) → (w : Layout) → ¬ IsFit (schema_in w) (IsLawful w owner scheme.now.start) (state S.Store conn)) }
         ensures vacant { IfErr result (λ e. e.1 ≡ LedgerOpenFault.Foreign → IsVacant (state S.Store conn) → ¬ MayGrow (state S.Store conn).now.schema) }
         ensures crash { IfOk result (λ l. Survives (state S.Store conn) (connected S.Store l) (MayMake owner (state S.Store conn))) }
         ensures crash_refused { IfErr result (λ e. Survives (state S.Store conn) (state S.Store e.0) (MayMake owner (state S.Store conn))) }
@@ -182,14 +118,10 @@ impl<S: Alter> SqlLedger<S> {
         if !conn.is_autocommit() {
             return Err((conn, LedgerOpenFault::Store));
         }
-        let found = match look_at(conn.schema(), alloc) {
-            Ok(found) => found,
-            Err(fault) => return Err((conn, open_fault(fault))),
-        };
         let Ok(devices) = devices_of(alloc, scheme) else {
             return Err((conn, LedgerOpenFault::Memory));
         };
-        match settle(&mut conn, found, owner) {
+        match settle(alloc, &mut conn, owner) {
             Ok(Some(layout)) => Ok(SqlLedger {
                 alloc,
                 conn,

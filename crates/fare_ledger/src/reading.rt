@@ -9,11 +9,11 @@ ghost use Rattle.fare_ledger.specs.Held.{held_of, IsReady, stated_in, is_on, is_
 ghost use Rattle.fare_ledger.specs.Words.{AreApart};
 
 use crate::Layout;
-use crate::asking::ask;
 use crate::lane::Lane;
 use crate::statements::{
     COUNT_BEGUN, COUNT_DAY, COUNT_STATEMENTS, COUNT_TAPS, READ_LANE, READ_STATED,
 };
+use fare_opening::ask;
 use fare_record::{Day, DeviceId};
 use fare_store::Fault;
 use fare_tables::{cell_count, cell_number, cell_total, parameter};
@@ -52,7 +52,7 @@ pub(crate) fn read_lane<S: Alter>(
 {
     match ask(
         conn,
-        layout,
+        &layout.schema,
         READ_LANE,
         &[parameter(u64::from(device.get()))],
     )? {
@@ -114,7 +114,7 @@ pub(crate) fn read_stated<S: Alter>(
         parameter(u64::from(device.get())),
         parameter(u64::from(day.get())),
     ];
-    match ask(conn, layout, READ_STATED, &asked)? {
+    match ask(conn, &layout.schema, READ_STATED, &asked)? {
         Some(row) => Ok(Some(cell_count(&row, 0)?)),
         None => Ok(None),
     }
@@ -138,7 +138,7 @@ pub(crate) fn count_day<S: Alter>(
         parameter(u64::from(device.get())),
         parameter(u64::from(day.get())),
     ];
-    match ask(conn, layout, COUNT_DAY, &asked)? {
+    match ask(conn, &layout.schema, COUNT_DAY, &asked)? {
         Some(row) => cell_total(&row, 0),
         None => Err(Fault::Store),
     }
@@ -153,7 +153,7 @@ pub(crate) fn count_begun<S: Alter>(conn: &mut Connection<S>, layout: &Layout) -
     ensures stays { HasCleanDisk (state S.Store conn.new) → OnOk result (IsTrue (state S.Store conn.new).is_open) }
     ensures mode { conn.old.in_transaction ≡ false → conn.new.in_transaction ≡ false }
 {
-    match ask(conn, layout, COUNT_BEGUN, &[])? {
+    match ask(conn, &layout.schema, COUNT_BEGUN, &[])? {
         Some(row) => cell_number(&row, 0),
         None => Err(Fault::Store),
     }
@@ -168,7 +168,7 @@ pub(crate) fn count_taps<S: Alter>(conn: &mut Connection<S>, layout: &Layout) ->
     ensures stays { HasCleanDisk (state S.Store conn.new) → OnOk result (IsTrue (state S.Store conn.new).is_open) }
     ensures mode { conn.old.in_transaction ≡ false → conn.new.in_transaction ≡ false }
 {
-    match ask(conn, layout, COUNT_TAPS, &[])? {
+    match ask(conn, &layout.schema, COUNT_TAPS, &[])? {
         Some(row) => cell_number(&row, 0),
         None => Err(Fault::Store),
     }
@@ -186,7 +186,7 @@ pub(crate) fn count_statements<S: Alter>(
     ensures stays { HasCleanDisk (state S.Store conn.new) → OnOk result (IsTrue (state S.Store conn.new).is_open) }
     ensures mode { conn.old.in_transaction ≡ false → conn.new.in_transaction ≡ false }
 {
-    match ask(conn, layout, COUNT_STATEMENTS, &[])? {
+    match ask(conn, &layout.schema, COUNT_STATEMENTS, &[])? {
         Some(row) => cell_number(&row, 0),
         None => Err(Fault::Store),
     }

@@ -1,11 +1,9 @@
 use fare_layout::Kind;
+use fare_opening::{META_TABLE, PUT_META, READ_META};
 
 /// The texts that make the tables, each with the name of its table.
 pub(crate) const TABLES: [(&str, &str); 4] = [
-    (
-        "meta",
-        "CREATE TABLE meta (format INTEGER NOT NULL, owner INTEGER NOT NULL) STRICT",
-    ),
+    META_TABLE,
     (
         "lane",
         "CREATE TABLE lane (device INTEGER PRIMARY KEY, taken INTEGER NOT NULL CHECK (taken >= 0), closed INTEGER NOT NULL CHECK (closed >= 0)) STRICT",
@@ -41,12 +39,6 @@ pub(crate) const COUNT_TAPS: &str = "SELECT count(*) FROM tap";
 
 /// How many statements there are.
 pub(crate) const COUNT_STATEMENTS: &str = "SELECT count(*) FROM stated";
-
-/// Whose tables these are.
-pub(crate) const READ_META: &str = "SELECT format, owner FROM meta";
-
-/// They are a ledger's of this owner, of format 1.
-pub(crate) const PUT_META: &str = "INSERT INTO meta (format, owner) VALUES (1, ?1)";
 
 /// A device's numbers.
 pub(crate) const PUT_LANE: &str =

@@ -27,13 +27,14 @@ use Rattle.fare_tables.proofs.Rows.{all_of, rows_filter}
 use Rattle.fare_tables.proofs.Removing.{id_shown, left_over}
 use Rattle.fare_tables.proofs.Statements.{made, went, same_value}
 use Rattle.fare_tables.proofs.Terms.{chosen, matched, eq_holds, le_holds, three_terms}
-use Rattle.fare_layout.specs.declared.place.Kind.TheVariants.{Device, Tap, Stated}
+use Rattle.fare_layout.specs.declared.place.Kind.TheVariants.{Meta, Device, Tap, Stated}
 use Rattle.fare_outbox.specs.declared.layout.Layout.{Layout}
 use Rattle.fare_outbox.specs.Layouts.{schema_in, tree_in, ours}
 use Rattle.fare_outbox.specs.Tables.{tap_table, cut_terms, cut_query}
 use Rattle.fare_outbox.specs.Held.{AreReadable, Becomes, IsDevice, IsTap, IsStated, upto_of, tap_cells, tap_of, stated_of, held_of, is_cut, without_lane}
 use Rattle.fare_outbox.proofs.Texts.{cut_text, cut_command, cut_meant}
-use Rattle.fare_outbox.proofs.Placed.{no_works, tap_placed, each, at_found, device_is_not_tap, stated_is_not_tap}
+use Rattle.fare_opening.proofs.Standing.{at_found}
+use Rattle.fare_outbox.proofs.Placed.{no_works, tap_placed, each, apart}
 use Rattle.fare_outbox.proofs.Found.{asked, at_tap}
 use Rattle.fare_outbox.proofs.Puts.{tap_ids}
 
@@ -89,8 +90,8 @@ cuts w old new o d l count has ok h =
     let at : (k : ℕ) → new.now.trees k ≡ step.0 k = λ k. ap (λ (t : Trees). t k) trees in
     let answer : IsAnswer cut_query (overlay all []) params it.0 = at_tap w cut_query db params it.0 (it.1.answer Null) in
     let taps : ours w new.now.trees 2 ≡ filter (λ r. not (goes o d l r)) (all 2) = at (tree_in w Tap) ∙ one.rows ∙ left all o d l it.0 ok.taps answer in
-    let devices : ours w new.now.trees 1 ≡ all 1 = at (tree_in w Device) ∙ kept.device (device_is_not_tap w) in
-    let statements : ours w new.now.trees 5 ≡ all 5 = at (tree_in w Stated) ∙ kept.stated (stated_is_not_tap w) in
+    let devices : ours w new.now.trees 1 ≡ all 1 = at (tree_in w Device) ∙ kept Device (apart w Device Tap refl) in
+    let statements : ours w new.now.trees 5 ≡ all 5 = at (tree_in w Stated) ∙ kept Stated (apart w Stated Tap refl) in
     let gone : length done.written.rows ≡ length it.0 = ap (λ (x : Written). length x.rows) (same_value step.2) ∙ length-map (ids_of it.0) _ ∙ length-map it.0 _ in
     record {
       becomes = record {
@@ -104,6 +105,7 @@ cuts w old new o d l count has ok h =
           upto = λ x. upto_of (held (devices i) x);
           taps = (ap (map tap_of) taps ∙ sym (filter_of_map tap_of (λ t. not (is_cut o d l t)) (all 2))) i;
           statements = map stated_of (statements i);
+          meta = (at (tree_in w Meta) ∙ kept Meta (apart w Meta Tap refl)) i;
         };
       };
       counted = run.counted ∙ ap (λ n. unwrap_or n 0) done.told ∙ gone ∙ answer_length all o d l it.0 ok.taps answer;

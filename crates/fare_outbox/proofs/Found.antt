@@ -1,5 +1,5 @@
 -- What the questions of the outbox find.
-use Rattle.std.proofs.Common.{◌≡◌, ◌⊎◌, inl, inr, ℕ, suc, ◌==◌, ◌<◌, ◌^◌, false, nat_lt, nat_le, List, [], ◌∷◌, map, filter, length, true, Some, None, Ok, Err, Result, IfOk, refl, sym, ap, subst, ◌∙◌, arith}
+use Rattle.std.proofs.Common.{◌≡◌, ◌⊎◌, inl, inr, ℕ, suc, ◌==◌, nat_lt, nat_le, List, [], ◌∷◌, map, filter, length, true, Some, None, Ok, refl, sym, ap, subst, ◌∙◌, arith}
 use Rattle.std.specs.List.{flat_map}
 use Rattle.std.specs.List.Sorted.{IsPermutation}
 use Rattle.std.proofs.lemmas.Bool.Decides.{nat_tests}
@@ -7,8 +7,7 @@ use Rattle.std.proofs.lemmas.List.{length-map}
 use Rattle.sqlite.specs.declared.types.Value.TheVariants.{Null}
 use Rattle.sqlite_value.specs.Order.{Row, column}
 use Rattle.sqlite.specs.Tree.{Trees}
-use Rattle.sqlite.specs.Query.{IsAnswer, Query, matches_as, inner, end, output, page, Output}
-use Rattle.sqlite_sql.specs.Group.{IsGrouped}
+use Rattle.sqlite.specs.Query.{IsAnswer, Query, matches_as, end, output, page, Output}
 use Rattle.sqlite.specs.Program.{overlay}
 use Rattle.sqlite.specs.State.{State, QueriesRow, Shown}
 use Rattle.sqlite.proofs.Callers.{first_as, reads_as, one_permutation}
@@ -20,10 +19,12 @@ use Rattle.fare_tables.proofs.Terms.{chosen, matched, eq_holds, gt_holds, ge_hol
 use Rattle.fare_tables.proofs.Rows.{all_of, held_one}
 use Rattle.fare_tables.proofs.Counting.{found, count_answer}
 use Rattle.fare_tables.proofs.Least.{IsLeastOf, least_answer}
-use Rattle.fare_layout.specs.declared.place.Kind.TheVariants.{Meta, Device, Tap, Stated}
+use Rattle.fare_layout.specs.declared.place.Kind.TheVariants.{Device, Tap, Stated}
 use Rattle.fare_outbox.specs.declared.layout.Layout.{Layout}
 use Rattle.fare_outbox.specs.Layouts.{schema_in, tree_in, ours, at_tree}
-use Rattle.fare_outbox.proofs.Placed.{each_low}
+use Rattle.fare_opening.proofs.Asked.{asked_at}
+use Rattle.fare_outbox.specs.Making.{site_of}
+use Rattle.fare_outbox.specs.Statements.{outbox_parts}
 use Rattle.fare_outbox.specs.Tables.{link_query, row_terms, row_columns, row_query, day_terms, day_columns, day_query, seen_terms}
 use Rattle.fare_outbox.specs.Held.{device_row, IsDevice, upto_of, tap_cells, tap_of, IsTap, stated_cells, stated_of, IsStated, is_past, IsNext, is_from, IsNextStated, is_seen}
 use Rattle.fare_outbox.specs.Shown.{ShowsRow, ShowsStatement}
@@ -32,51 +33,19 @@ use Rattle.fare_outbox.proofs.Texts.{link_text, link_meant, next_text, next_mean
 pub device_ids : (r : Row) → IsDevice r → column r 0 ≡ int (id_of r)
 device_ids r ok = ap (λ x. column x 0) ok
 
-pub number_is : {E : Type 0} (r : Result ℕ E) (row : Row) (n : ℕ) → row ≡ int n ∷ [] → IfOk r (λ k. column row 0 ≡ int k) → IfOk r (λ k. k ≡ n)
-number_is (Ok k) row n is h = ap nat_in (sym h ∙ ap (λ r. column r 0) is)
-number_is (Err e) row n is h = tt
-
--- a count below the greatest integer is exact
-pub total_is : {E : Type 0} (r : Result ℕ E) (row : Row) (size : ℕ) → row ≡ int (counted size) ∷ [] → IfOk r (λ k. column row 0 ≡ int k) → IfOk r (λ k. k < 9223372036854775807) → IfOk r (λ k. k ≡ size)
-total_is (Ok k) row size is shown low =
-    let k_is : k ≡ counted size = ap nat_in (sym shown ∙ ap (λ r. column r 0) is) in
-    grind (arith, nat_tests)
-total_is (Err e) row size is shown low = tt
-
 -- ---- a table, wherever its tree is
-
--- the rows of a query over one table are read of that table alone
-pub moved : (q : Query) (tree number : ℕ) (db other : Trees) (params : Row) (rows : List Row) → overlay db [] tree ≡ other number → IsAnswer (at_tree tree q) (overlay db []) params rows → IsAnswer (at_tree number q) other params rows
-moved q tree number db other params rows same a = record {
-  staged = a.staged;
-  grouped = subst (λ (table : List Row). IsGrouped q.group params (matches_as Null (λ _. table) q.filter (inner 0 end) (params ∷ [])) a.staged) same a.grouped;
-  kept = a.kept;
-  distinct = a.distinct;
-  ordered = a.ordered;
-  same = a.same;
-  sorted = a.sorted;
-  shown = a.shown;
-}
-
--- no tree is one of the tables that a statement computes
-over : (db : Trees) (tree : ℕ) → nat_le (2 ^ 31) tree ≡ false → overlay db [] tree ≡ db tree
-over db tree low = rw low refl
-
-pub at_meta : (w : Layout) (q : Query) (db : Trees) (params : Row) (rows : List Row) → IsAnswer (at_tree (tree_in w Meta) q) (overlay db []) params rows → IsAnswer (at_tree 0 q) (overlay (ours w db) []) params rows
-unfolding ours
-at_meta w q db params rows = moved q (tree_in w Meta) 0 db (overlay (ours w db) []) params rows (over db (tree_in w Meta) (each_low w).meta)
 
 pub at_device : (w : Layout) (q : Query) (db : Trees) (params : Row) (rows : List Row) → IsAnswer (at_tree (tree_in w Device) q) (overlay db []) params rows → IsAnswer (at_tree 1 q) (overlay (ours w db) []) params rows
 unfolding ours
-at_device w q db params rows = moved q (tree_in w Device) 1 db (overlay (ours w db) []) params rows (over db (tree_in w Device) (each_low w).device)
+at_device w q db params rows = asked_at outbox_parts (site_of w) w.fits Device q 1 db (overlay (ours w db) []) params rows refl
 
 pub at_tap : (w : Layout) (q : Query) (db : Trees) (params : Row) (rows : List Row) → IsAnswer (at_tree (tree_in w Tap) q) (overlay db []) params rows → IsAnswer (at_tree 2 q) (overlay (ours w db) []) params rows
 unfolding ours
-at_tap w q db params rows = moved q (tree_in w Tap) 2 db (overlay (ours w db) []) params rows (over db (tree_in w Tap) (each_low w).tap)
+at_tap w q db params rows = asked_at outbox_parts (site_of w) w.fits Tap q 2 db (overlay (ours w db) []) params rows refl
 
 pub at_stated : (w : Layout) (q : Query) (db : Trees) (params : Row) (rows : List Row) → IsAnswer (at_tree (tree_in w Stated) q) (overlay db []) params rows → IsAnswer (at_tree 5 q) (overlay (ours w db) []) params rows
 unfolding ours
-at_stated w q db params rows = moved q (tree_in w Stated) 5 db (overlay (ours w db) []) params rows (over db (tree_in w Stated) (each_low w).stated)
+at_stated w q db params rows = asked_at outbox_parts (site_of w) w.fits Stated q 5 db (overlay (ours w db) []) params rows refl
 
 -- ---- the greatest link of a device
 

@@ -5,14 +5,11 @@ pub mod Found
 pub mod Links
 pub mod Puts
 pub mod Cuts
-pub mod Makes
 pub mod Keyed
 pub mod Lanes
 pub mod Pruned
 pub mod Stored
 pub mod Seen
 pub mod Judged
-pub mod Vacant
 pub mod Opened
-pub mod Meta
 pub mod AnyOrder

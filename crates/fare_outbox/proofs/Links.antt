@@ -34,14 +34,15 @@ use Rattle.fare_tables.proofs.Lists.{member, of_filter}
 use Rattle.fare_tables.proofs.Rows.{all_of, held_one}
 use Rattle.fare_tables.proofs.Statements.{made, cast_int, cast_null, went, same_value}
 use Rattle.fare_tables.proofs.Terms.{chosen, matched, eq_holds, one_term}
-use Rattle.fare_layout.specs.declared.place.Kind.TheVariants.{Device}
+use Rattle.fare_layout.specs.declared.place.Kind.TheVariants.{Meta, Device, Tap, Stated}
 use Rattle.fare_outbox.specs.declared.layout.Layout.{Layout}
 use Rattle.fare_outbox.specs.Layouts.{schema_in, tree_in, ours}
 use Rattle.fare_outbox.specs.Layouts.{at_tree}
 use Rattle.fare_outbox.specs.Tables.{device_table, renew_query}
 use Rattle.fare_outbox.specs.Held.{PutsLink, device_row, IsDevice}
 use Rattle.fare_outbox.proofs.Texts.{put_link_text, put_link_command, put_link_meant}
-use Rattle.fare_outbox.proofs.Placed.{no_works, no_shares, device_placed, each, at_found, tap_is_not_device, stated_is_not_device, meta_is_not_device}
+use Rattle.fare_opening.proofs.Standing.{at_found}
+use Rattle.fare_outbox.proofs.Placed.{no_works, no_shares, device_placed, each, apart}
 use Rattle.fare_outbox.proofs.Found.{device_ids, at_device}
 
 -- ---- the row that the update reads
@@ -116,9 +117,9 @@ module _ (way : Layout) (limit : Option ℕ) (keys : Keys) (d u : ℕ) where
       let kept = each (λ tree. tree ≢ tree_in way Device → it.0 tree ≡ db tree) way step.tables in
       let is : edited db edit ≡ put_row (device_row d u) (ours way db 1) = simp (cast_int, cast_null) in (
         inl (ap (λ (t : Trees). ours way t 1) next ∙ step.rows ∙ is),
-        ap (λ (t : Trees). ours way t 0) next ∙ kept.meta (meta_is_not_device way),
-        ap (λ (t : Trees). ours way t 2) next ∙ kept.tap (tap_is_not_device way),
-        ap (λ (t : Trees). ours way t 5) next ∙ kept.stated (stated_is_not_device way),
+        ap (λ (t : Trees). ours way t 0) next ∙ kept Meta (apart way Meta Device refl),
+        ap (λ (t : Trees). ours way t 2) next ∙ kept Tap (apart way Tap Device refl),
+        ap (λ (t : Trees). ours way t 5) next ∙ kept Stated (apart way Stated Device refl),
       )
 
   clears : (db : Trees) (w : Written) (found : List Row) → Clears task Abort (device_row d u) db found (Ok w) → IsPut way db w.trees d u
@@ -137,9 +138,9 @@ module _ (way : Layout) (limit : Option ℕ) (keys : Keys) (d u : ℕ) where
       let kept = each (λ tree. tree ≢ tree_in way Device → done.0 tree ≡ db tree) way step.tables in
       let is : edited db edit ≡ put_row (device_row d u) (without_rowid (pos d) (ours way db 1)) = ap (λ all. edited db (edit_of db (device_table (tree_in way Device)) (ids_of all) Given 1 all)) rows ∙ simp (cast_int, cast_null) in (
         inr (ap (λ (t : Trees). ours way t 1) next ∙ step.rows ∙ is),
-        ap (λ (t : Trees). ours way t 0) next ∙ kept.meta (meta_is_not_device way),
-        ap (λ (t : Trees). ours way t 2) next ∙ kept.tap (tap_is_not_device way),
-        ap (λ (t : Trees). ours way t 5) next ∙ kept.stated (stated_is_not_device way),
+        ap (λ (t : Trees). ours way t 0) next ∙ kept Meta (apart way Meta Device refl),
+        ap (λ (t : Trees). ours way t 2) next ∙ kept Tap (apart way Tap Device refl),
+        ap (λ (t : Trees). ours way t 5) next ∙ kept Stated (apart way Stated Device refl),
       )
 
   abbrev clause : Upsert
@@ -198,4 +199,4 @@ puts_link way old new d u count has ok h =
     let done = made (task way old.step_limit Enforced d u) (mode_of old) command old.now.trees run.tally new.now (at_found (task way old.step_limit Enforced d u) (mode_of old) command old.now.trees _ (run.tally, new.now) (device_placed way) (subst (λ s. Does old.step_limit (mode_of old) params (record old.now { schema = s }) text None command (Ok (run.tally, new.now))) has run.changed)) in
     let put = inserts_or way old.step_limit Enforced d u old.now.trees done.written ok done.wrote in
     let trees = subst (λ t. IsPut way old.now.trees t d u) (sym (ap (λ (d : Database). d.trees) done.after_is)) put in
-    record { schema = ap (λ (d : Database). d.schema) done.after_is; devices = trees.0; taps = trees.2; statements = trees.3 }
+    record { schema = ap (λ (d : Database). d.schema) done.after_is; devices = trees.0; taps = trees.2; statements = trees.3; meta = trees.1 }

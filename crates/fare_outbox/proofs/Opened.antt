@@ -1,64 +1,75 @@
 -- What an open finds, and what it makes.
-use Rattle.std.proofs.Common.{◌≡◌, ◌≢◌, inl, inr, ℕ, List, [], map, length, sym, ap, subst, ◌∙◌}
+use Rattle.std.proofs.Common.{◌≡◌, ◌≢◌, inl, inr, ℕ, List, [], ◌∷◌, refl, map, length, IsTrue, sym, ap, subst, ◌∙◌, arith}
 use Rattle.std.specs.List.{AllByRecursion}
 use Rattle.sqlite.specs.Schema.{Schema}
 use Rattle.sqlite.specs.Effect.{Database}
-use Rattle.sqlite.specs.Change.{KeepsRows}
-use Rattle.sqlite.specs.State.{State, Survives}
+use Rattle.sqlite.specs.State.{State, HasCleanDisk, Survives}
+use Rattle.sqlite.proofs.StateLemmas.{survives_weaker, survives_then}
 use Rattle.fare_store.specs.OutboxWords.{IsEmptyOutbox}
-use Rattle.fare_tables.specs.Asking.{IsAtRest, SameRows}
-use Rattle.fare_tables.specs.Cells.{AreRows, held}
+use Rattle.fare_tables.specs.Asking.{IsLive, IsUp, IsAtRest, SameRows}
+use Rattle.fare_tables.specs.Cells.{AreRows, held, int}
 use Rattle.fare_tables.specs.Making.{no_schema}
 use Rattle.fare_tables.specs.Tabled.{IsFit}
+use Rattle.fare_layout.specs.declared.place.Kind.TheVariants.{Meta, Device, Tap, Stated}
 use Rattle.fare_layout.proofs.Others.{all_kept}
 use Rattle.fare_outbox.specs.declared.layout.Layout.{Layout}
 use Rattle.fare_outbox.specs.Layouts.{schema_in, ours}
 use Rattle.fare_layout.specs.Growing.{HasNone}
-use Rattle.fare_outbox.specs.Statements.{tables}
+use Rattle.fare_opening.specs.declared.site.Site.{Site}
+use Rattle.fare_opening.specs.Making as store
+use Rattle.fare_opening.specs.Opening.{StandsAt, WasMade}
+use Rattle.fare_opening.proofs.Vacant as vacant
+use Rattle.fare_outbox.specs.Statements.{tables, outbox_parts}
 use Rattle.fare_outbox.proofs.Placed.{same_trees}
-use Rattle.fare_outbox.proofs.Own.{blank_is_vacant, not_vacant}
+use Rattle.fare_outbox.proofs.Own.{outbox_design}
 use Rattle.fare_outbox.specs.Held.{AreReadable, IsReady, IsDevice, IsTap, IsStated, upto_of, tap_of, stated_of, held_of}
-use Rattle.fare_outbox.specs.Making.{Makes, MayGrow, IsNew, MadeFrom}
-use Rattle.fare_outbox.specs.Opening.{IsOurs, IsVacant, IsBlankOrOurs, IsOpened, IsCounted, Settles, MayMake}
+use Rattle.fare_outbox.specs.Making.{site_of}
+use Rattle.fare_outbox.specs.Opening.{IsBlankOrOurs, IsOpened, IsCounted, Settles}
 use Rattle.fare_outbox.specs.Words.{tap_key, stated_key, first_at, itself, count_of, value_at, value_in, AreApart, IsKnown, FitTogether, IsLawful, IsWell}
-
--- no schema is both
-pub not_both : (w : Layout) → ¬ (no_schema ≡ schema_in w)
-not_both w same = not_vacant w no_schema blank_is_vacant same
-
-pub same_then : (a b c : State) → SameRows a b → SameRows b c → SameRows a c
-same_then a b c first second = (second.0 ∙ first.0, second.1 ∙ first.1)
 
 map_none : {X Y : Type 0} (f : X → Y) (xs : List X) → xs ≡ [] → map f xs ≡ []
 map_none f xs is = ap (map f) is
 
-pub new_fits : (w : Layout) (new : State) (rows statements : ℕ) → IsNew w new.now × (new.now ≡ new.committed) × (rows ≡ 0) × (statements ≡ 0) → IsFit (schema_in w) (IsWell w rows statements) new × IsEmptyOutbox (value_at w new.now.trees)
+device_not : Device ≢ Meta
+device_not e = let e = e in cc
+
+tap_not : Tap ≢ Meta
+tap_not e = let e = e in cc
+
+stated_not : Stated ≢ Meta
+stated_not e = let e = e in cc
+
+pub new_fits : (w : Layout) (old new : State) (rows statements : ℕ) → WasMade outbox_parts 0 old new (site_of w) → rows ≡ 0 → statements ≡ 0 → IsFit (schema_in w) (IsWell w rows statements) new × IsEmptyOutbox (value_at w new.now.trees)
 unfolding ours
-new_fits w new rows statements it =
+new_fits w old new rows statements it no_rows no_statements =
     let db = ours w new.now.trees in
-    let taps : (held_of db).taps ≡ [] = map_none tap_of (db 2) it.0.taps in
-    let said : (held_of db).statements ≡ [] = map_none stated_of (db 5) it.0.stated in (
+    let devices_none : db 1 ≡ [] = it.is_new.bare Device device_not in
+    let taps_none : db 2 ≡ [] = it.is_new.bare Tap tap_not in
+    let stated_none : db 5 ≡ [] = it.is_new.bare Stated stated_not in
+    let taps : (held_of db).taps ≡ [] = map_none tap_of (db 2) taps_none in
+    let said : (held_of db).statements ≡ [] = map_none stated_of (db 5) stated_none in (
       record {
-        rest = record { settled = it.1; schema_is = it.0.schema };
+        rest = record { settled = it.settled; schema_is = it.is_new.schema };
         fits = record {
           lawful = record {
             readable = record {
-              devices = subst (AreRows IsDevice) (sym it.0.devices) tt;
-              taps = subst (AreRows IsTap) (sym it.0.taps) tt;
-              statements = subst (AreRows IsStated) (sym it.0.stated) tt;
+              devices = subst (AreRows IsDevice) (sym devices_none) tt;
+              taps = subst (AreRows IsTap) (sym taps_none) tt;
+              statements = subst (AreRows IsStated) (sym stated_none) tt;
             };
             together = record {
               apart = subst (AreApart tap_key) (sym taps) tt;
               known = subst (AllByRecursion (IsKnown (held_of db).upto)) (sym taps) tt;
               single = subst (AreApart stated_key) (sym said) tt;
+              meta = record { row = int 1 ∷ int 1 ∷ int 0 ∷ []; only = it.is_new.meta; format_is = refl; owner_is = refl };
             };
           };
-          rows_are = it.2 ∙ sym (ap length taps);
-          statements_are = it.3 ∙ sym (ap length said);
+          rows_are = no_rows ∙ sym (ap length taps);
+          statements_are = no_statements ∙ sym (ap length said);
         };
       },
       record {
-        upto = λ d. ap (λ rows. upto_of (held rows d)) it.0.devices;
+        upto = λ d. ap (λ rows. upto_of (held rows d)) devices_none;
         rows = λ o d l. ap (λ ts. first_at tap_key itself ts o d l) taps;
         row_count = ap length taps;
         stated = λ o d y. ap (λ ss. first_at stated_key count_of ss o d y) said;
@@ -67,42 +78,42 @@ new_fits w new rows statements it =
     )
 
 -- the tables are an outbox's already
-pub taken_over : (old new : State) (w : Layout) (rows statements : ℕ) → old.now.schema ≡ schema_in w → (IsReady w old → IsCounted w old.now.trees rows statements) → (IsAtRest (schema_in w) old → SameRows old new) → Settles old new w rows statements
-taken_over old new w rows statements has counted same = record {
-  made = λ none. absurd (not_vacant w old.now.schema none has);
-  kept = λ ready. (same ready.rest, counted ready);
-  others = λ settled. all_kept old.now.schema.tables old.now.trees new.now.trees (ap (λ (d : Database). d.trees) (same (record { settled = settled; schema_is = has })).0);
+pub taken_over : (old mid new : State) (w : Layout) (rows statements : ℕ) → old.now.schema ≡ schema_in w → (old.now ≡ old.committed → SameRows old mid) → (IsReady w mid → IsCounted w mid.now.trees rows statements) → (IsAtRest (schema_in w) mid → SameRows mid new)
+    → Settles old new w rows statements
+taken_over old mid new w rows statements has first counted second = record {
+  made = λ none. absurd (vacant.not_vacant outbox_parts (site_of w) old.now.schema outbox_design w.fits none has);
+  kept = λ ready. (stays ready.rest.settled, count ready);
+  others = λ settled. all_kept old.now.schema.tables old.now.trees new.now.trees (ap (λ (d : Database). d.trees) (stays settled).0);
 }
+  where
+    at_rest : old.now ≡ old.committed → IsAtRest (schema_in w) mid
+    at_rest settled = let same = first settled in record { settled = same.0 ∙ settled ∙ sym same.1; schema_is = ap (λ (d : Database). d.schema) same.0 ∙ has }
 
--- what has the tables of an outbox isn't without tables
-pub not_blank : (old : State) (w : Layout) → old.now.schema ≡ schema_in w → old.now.schema ≢ no_schema
-not_blank old w has = λ blank. not_both w (sym blank ∙ has)
+    stays : old.now ≡ old.committed → SameRows old new
+    stays settled =
+        let one = first settled in
+        let two = second (at_rest settled) in (two.0 ∙ one.0, two.1 ∙ one.1)
 
-pub not_free : (old : State) (w : Layout) → old.now.schema ≡ schema_in w → IsVacant old → ¬ MayGrow old.now.schema
-not_free old w has = λ vacant. absurd (not_vacant w old.now.schema vacant has)
-
--- what is neither without tables nor the store's own
-pub neither : (old : State) → old.now.schema ≢ no_schema → ((o : Layout) → old.now.schema ≡ schema_in o → ¬ IsOurs (ours o old.now.trees)) → ¬ IsBlankOrOurs old
-neither old some other (inl blank) = some blank
-neither old some other (inr are) = other are.0 are.1 are.2
-
-pub none_lacks : (old : State) (w : Layout) → old.now.schema ≡ schema_in w → ¬ IsOurs (ours w old.now.trees) → ¬ IsBlankOrOurs old
-none_lacks old w has lacks = neither old (not_blank old w has) (λ p is are. lacks (subst IsOurs (same_trees p w old.now.trees (sym is ∙ has)) are))
+    count : IsReady w old → IsCounted w old.now.trees rows statements
+    count ready =
+        let same = first ready.rest.settled in
+        let trees : mid.now.trees ≡ old.now.trees = ap (λ (d : Database). d.trees) same.0 in
+        subst (λ t. IsCounted w t rows statements) trees (counted (record { rest = at_rest ready.rest.settled; fits = subst (λ t. AreReadable (ours w t)) (sym trees) ready.fits }))
 
 -- an outbox that was there goes on as it was, whichever layout it is taken for
 pub kept_fits : (old new : State) (o p : Layout) (rows statements : ℕ) → Settles old new o rows statements → IsOpened old o → IsFit (schema_in p) (IsLawful p) old
     → IsFit (schema_in o) (IsWell o rows statements) new × (value_at o new.now.trees ≡ value_at p old.now.trees)
-kept_fits old new o p rows statements settles (inl vacant) fit = absurd (not_vacant p old.now.schema vacant fit.rest.schema_is)
+kept_fits old new o p rows statements settles (inl free) fit = absurd (vacant.not_vacant outbox_parts (site_of p) old.now.schema outbox_design p.fits free fit.rest.schema_is)
 kept_fits old new o p rows statements settles (inr are) fit =
-    let trees = same_trees p o old.now.trees (sym fit.rest.schema_is ∙ are.0) in
+    let trees = same_trees p o old.now.trees (sym fit.rest.schema_is ∙ are.schema) in
     let readable = subst AreReadable trees fit.fits.readable in
     let together = subst (λ t. FitTogether (held_of t)) trees fit.fits.together in
-    let kept = settles.kept (record { rest = record { settled = fit.rest.settled; schema_is = are.0 }; fits = readable }) in
+    let kept = settles.kept (record { rest = record { settled = fit.rest.settled; schema_is = are.schema }; fits = readable }) in
     let same = kept.0 in
     let counted = kept.1 in
     let now : ours o new.now.trees ≡ ours o old.now.trees = ap (λ (d : Database). ours o d.trees) same.0 in (
       record {
-        rest = record { settled = same.0 ∙ fit.rest.settled ∙ sym same.1; schema_is = ap (λ (d : Database). d.schema) same.0 ∙ are.0 };
+        rest = record { settled = same.0 ∙ fit.rest.settled ∙ sym same.1; schema_is = ap (λ (d : Database). d.schema) same.0 ∙ are.schema };
         fits = record {
           lawful = record { readable = subst AreReadable (sym now) readable; together = subst (λ t. FitTogether (held_of t)) (sym now) together };
           rows_are = counted.rows_are ∙ ap (λ t. length (held_of t).taps) (sym now);
@@ -112,20 +123,43 @@ kept_fits old new o p rows statements settles (inr are) fit =
       ap (λ t. value_in (held_of t)) (now ∙ sym trees),
     )
 
--- what making the tables may leave, where nothing has their names
-pub makes_survives : (old new : State) (w : Layout) → IsVacant old → Makes old.now.schema w → Survives old new (λ trees. MayGrow old.now.schema → MadeFrom old.now trees) → Survives old new (MayMake old)
-makes_survives old new w vacant makes s = record {
-  clean = s.clean;
-  shield = s.shield;
-  counts = s.counts;
-  limit = s.limit;
-  closes = s.closes;
-  crash = λ clean db may. elim (s.crash clean db may) [
-    | inl before ↦ inl before
-    | inr from ↦ (let it = from (record { layout = w; makes = makes }) in inr (vacant, (w, makes, it.0, it.1.each w makes, it.2), subst (KeepsRows old.now.schema.tables old.now.trees) (sym it.2) it.1.others))
-  ];
-}
+-- a lawful outbox is one that an open finds
+pub lawful_is_ours : (w : Layout) (s : State) → IsFit (schema_in w) (IsLawful w) s → IsBlankOrOurs s
+unfolding ours
+lawful_is_ours w s fit = inr (site_of w, record { site = w.fits; schema = fit.rest.schema_is; meta = fit.fits.together.meta })
 
 -- a database with no table has none of the names
 pub vacant_of : (s : Schema) → s ≡ no_schema → HasNone tables s
-vacant_of s blank = subst (HasNone tables) (sym blank) blank_is_vacant
+vacant_of s blank = vacant.vacant_of outbox_parts s blank
+
+-- a question on a connection that is open, where what is committed is what is seen
+pub asks_up : (schema : Schema) (a b : State) → IsUp a → (IsLive a → a.now ≡ a.committed) → Survives a b (λ _. ¬ IsAtRest schema a) → Survives a b (λ _. ¬ (a.now.schema ≡ schema))
+asks_up schema a b up settled one = survives_weaker a b _ _ (λ clean db not_rest has.
+    let late : HasCleanDisk b = clean in
+    let early : HasCleanDisk a = omega (arith, late, one.clean) in
+    not_rest (record { settled = settled (early, up early); schema_is = has })) one
+
+-- and one more
+pub asks_again : (schema : Schema) (a b c : State) → (IsLive a → a.now ≡ a.committed) → (IsLive b → IsLive a) → (HasCleanDisk b → IsTrue b.is_open) → (IsLive b → IsAtRest schema a → SameRows a b)
+    → Survives a b (λ _. ¬ (a.now.schema ≡ schema)) → Survives b c (λ _. ¬ IsAtRest schema b) → Survives a c (λ _. ¬ (a.now.schema ≡ schema))
+asks_again schema a b c settled was is_up same one two =
+    survives_then a b c _ _ _ (λ _ db not_ours. not_ours) (λ clean db not_rest has.
+    let late : HasCleanDisk c = clean in
+    let early : HasCleanDisk b = omega (arith, late, two.clean) in
+    let live : IsLive b = (early, is_up early) in
+    let rest : IsAtRest schema a = record { settled = settled (was live); schema_is = has } in
+    let kept = same live rest in
+    not_rest (record { settled = kept.0 ∙ rest.settled ∙ sym kept.1; schema_is = ap (λ (d : Database). d.schema) kept.0 ∙ has })) one two
+
+-- what an open of the tables finds where they stood
+pub found_rows : (old mid : State) (site : Site) (w : Layout) (rows statements : ℕ) (new : State) → site_of w ≡ site → StandsAt outbox_parts 0 old site × (old.now ≡ old.committed → SameRows old mid) → (IsReady w mid → IsCounted w mid.now.trees rows statements)
+    → (IsAtRest (schema_in w) mid → SameRows mid new) → Settles old new w rows statements
+found_rows old mid site w rows statements new at it counted second = taken_over old mid new w rows statements (it.0.schema ∙ ap (λ (s : Site). s.schema) (sym at)) it.1 counted second
+
+-- and what it makes where they didn't
+pub made_rows : (old new : State) (site : Site) (w : Layout) → site_of w ≡ site → HasNone tables old.now.schema × store.Makes outbox_parts old.now.schema site → WasMade outbox_parts 0 old new site → Settles old new w 0 0
+made_rows old new site w at placed it = record {
+  made = λ free. (subst (store.Makes outbox_parts old.now.schema) (sym at) placed.1, subst (WasMade outbox_parts 0 old new) (sym at) it, refl, refl);
+  kept = λ ready. absurd (vacant.not_vacant outbox_parts (site_of w) old.now.schema outbox_design w.fits placed.0 ready.rest.schema_is);
+  others = λ settled. it.others;
+}

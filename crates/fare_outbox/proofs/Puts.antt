@@ -18,13 +18,14 @@ use Rattle.fare_record.specs.Values.{RecordValue, StatementValue}
 use Rattle.fare_tables.specs.Cells.{nat_in, int, id_of, AreRows, held}
 use Rattle.fare_tables.proofs.Rows.{appended, rows_put, rows_without, held_put, held_replaced}
 use Rattle.fare_tables.proofs.Statements.{made, cast_int, cast_null, went, same_value}
-use Rattle.fare_layout.specs.declared.place.Kind.TheVariants.{Device, Tap, Stated}
+use Rattle.fare_layout.specs.declared.place.Kind.TheVariants.{Meta, Device, Tap, Stated}
 use Rattle.fare_outbox.specs.declared.layout.Layout.{Layout}
 use Rattle.fare_outbox.specs.Layouts.{schema_in, tree_in, ours}
 use Rattle.fare_outbox.specs.Tables.{tap_table, stated_table}
 use Rattle.fare_outbox.specs.Held.{PutsTap, PutsLink, PutsStated, Becomes, AreReadable, IsDevice, IsTap, IsStated, device_row, upto_of, tap_cells, tap_of, stated_cells, stated_of, held_of, with_tap, with_statement}
 use Rattle.fare_outbox.proofs.Texts.{put_tap_text, put_tap_command, put_tap_meant, put_statement_text, put_statement_command, put_statement_meant}
-use Rattle.fare_outbox.proofs.Placed.{no_works, tap_placed, stated_placed, each, at_found, device_is_not_tap, stated_is_not_tap, device_is_not_stated, tap_is_not_stated}
+use Rattle.fare_opening.proofs.Standing.{at_found}
+use Rattle.fare_outbox.proofs.Placed.{no_works, tap_placed, stated_placed, each, apart}
 use Rattle.fare_outbox.proofs.Found.{device_ids}
 
 pub tap_ids : (r : Row) → IsTap r → column r 0 ≡ int (id_of r)
@@ -55,9 +56,10 @@ puts_tap w old new t count has h =
     let at : (k : ℕ) → new.now.trees k ≡ written.0 k = λ k. ap (λ (t : Trees). t k) trees in
     record {
       schema = ap (λ (d : Database). d.schema) done.after_is;
-      devices = at (tree_in w Device) ∙ kept.device (device_is_not_tap w);
+      devices = at (tree_in w Device) ∙ kept Device (apart w Device Tap refl);
       taps = at (tree_in w Tap) ∙ step.rows ∙ edit;
-      statements = at (tree_in w Stated) ∙ kept.stated (stated_is_not_tap w);
+      statements = at (tree_in w Stated) ∙ kept Stated (apart w Stated Tap refl);
+      meta = at (tree_in w Meta) ∙ kept Meta (apart w Meta Tap refl);
     }
 
 pub puts_stated : (w : Layout) (old new : State) (s : StatementValue) (count : ℕ) → old.now.schema ≡ schema_in w → Executes put_statement_text (stated_cells s) old new (Ok count) → PutsStated w old.now new.now s
@@ -82,9 +84,10 @@ puts_stated w old new s count has h =
     let at : (k : ℕ) → new.now.trees k ≡ written.0 k = λ k. ap (λ (t : Trees). t k) trees in
     record {
       schema = ap (λ (d : Database). d.schema) done.after_is;
-      devices = at (tree_in w Device) ∙ kept.device (device_is_not_stated w);
-      taps = at (tree_in w Tap) ∙ kept.tap (tap_is_not_stated w);
+      devices = at (tree_in w Device) ∙ kept Device (apart w Device Stated refl);
+      taps = at (tree_in w Tap) ∙ kept Tap (apart w Tap Stated refl);
       statements = at (tree_in w Stated) ∙ step.rows ∙ edit;
+      meta = at (tree_in w Meta) ∙ kept Meta (apart w Meta Stated refl);
     }
 
 -- ---- what is held then
@@ -119,6 +122,7 @@ both w old mid new t ok first second =
         upto = λ x. (devices.1 x ∙ ap (λ all. if t.device == x then t.link else upto_of (held all x)) first.devices) i;
         taps = (ap (map tap_of) taps.1 ∙ map-append tap_of (ours w old.trees 2) _) i;
         statements = ap (map stated_of) statements i;
+        meta = (second.meta ∙ first.meta) i;
       };
     }
 
@@ -132,5 +136,6 @@ one_more w old new s ok puts =
         upto = λ x. upto_of (held (puts.devices i) x);
         taps = map tap_of (puts.taps i);
         statements = (ap (map stated_of) statements.1 ∙ map-append stated_of (ours w old.trees 5) _) i;
+        meta = puts.meta i;
       };
     }

@@ -1,7 +1,7 @@
 -- What the texts of the outbox mean where its tables stand.
-use Rattle.std.proofs.Common.{[], ◌∷◌, codes, List, ℕ, refl, Some, pos}
+use Rattle.std.proofs.Common.{[], ◌∷◌, codes, List, ℕ, refl, Some}
 use Rattle.sqlite_tied.specs.Compute.{everything}
-use Rattle.sqlite.specs.declared.types.Value.TheVariants.{Null, Int}
+use Rattle.sqlite.specs.declared.types.Value.TheVariants.{Null}
 use Rattle.sqlite.specs.Term.{Term, lit, col}
 use Rattle.sqlite.specs.Command.TheVariants.{Insert, InsertOr, Select, Delete}
 use Rattle.sqlite.specs.Source.TheVariants.{Values}
@@ -16,10 +16,11 @@ use Rattle.fare_layout.specs.Places.{place_of}
 use Rattle.fare_layout.specs.Commands.{IsMeant, IsSimpleCommand}
 use Rattle.fare_layout.proofs.Meant.{Meant, meant}
 use Rattle.fare_layout.specs.Layouts.{AreUnderstood}
+use Rattle.fare_opening.specs.Parts.{reads_meta, puts_meta}
 use Rattle.fare_outbox.specs.declared.layout.Layout.{Layout}
 use Rattle.fare_outbox.specs.Layouts.{schema_in, at_tree}
 use Rattle.fare_outbox.specs.Statements.{texts}
-use Rattle.fare_outbox.specs.Tables.{outbox_schema, meta_query, link_query, row_query, day_query, cut_query, renew_query, seen_terms}
+use Rattle.fare_outbox.specs.Tables.{outbox_schema, link_query, row_query, day_query, cut_query, renew_query, seen_terms}
 
 -- where the tables stand in a database of an outbox alone
 abbrev pub own_places : Places
@@ -167,42 +168,21 @@ abbrev pub meta_asked_text : List ℕ
 meta_asked_text = codes "SELECT format, owner FROM meta"
 
 abbrev pub meta_at : Place → Command
-meta_at p = Select (record { lets = []; body = at_tree p.tree meta_query }) (codes "format" ∷ codes "owner" ∷ [])
-
-abbrev pub meta_command : Layout → Command
-meta_command o = meta_at (place_of o.places Meta)
+meta_at p = reads_meta p.tree
 
 pub meta_own : IsMeant outbox_schema meta_asked_text (meta_at (place_of own_places Meta))
 unfolding everything outbox_schema
 meta_own = refl
 
-meta_means : (o : Layout) → IsMeant (schema_in o) meta_asked_text (meta_command o)
-meta_means o = o.fits.keeps.1.1.1.1.1.1.0 (meta_at (place_of own_places Meta)) meta_own
-
-pub meta_meant : (o : Layout) → Meant (schema_in o) meta_asked_text (meta_command o)
-meta_meant o = meant (schema_in o) meta_asked_text (meta_command o) (meta_means o)
-
-pub meta_reads : (o : Layout) → Reads (schema_in o) meta_asked_text
-meta_reads o = ((meta_meant o).plain, (meta_meant o).selects)
-
 abbrev pub put_meta_text : List ℕ
-put_meta_text = codes "INSERT INTO meta (format, owner) VALUES (1, 0)"
+put_meta_text = codes "INSERT INTO meta (format, owner) VALUES (?1, ?2)"
 
 abbrev pub put_meta_at : Place → Command
-put_meta_at p = Insert p.at (Values (lit Null ∷ lit (Int (pos 1)) ∷ lit (Int (pos 0)) ∷ []) 3)
-
-abbrev pub put_meta_command : Layout → Command
-put_meta_command o = put_meta_at (place_of o.places Meta)
+put_meta_at p = puts_meta p.at
 
 pub put_meta_own : IsMeant outbox_schema put_meta_text (put_meta_at (place_of own_places Meta))
 unfolding everything outbox_schema
 put_meta_own = refl
-
-put_meta_means : (o : Layout) → IsMeant (schema_in o) put_meta_text (put_meta_command o)
-put_meta_means o = o.fits.keeps.1.1.1.1.1.1.1.0 (put_meta_at (place_of own_places Meta)) put_meta_own
-
-pub put_meta_meant : (o : Layout) → Meant (schema_in o) put_meta_text (put_meta_command o)
-put_meta_meant o = meant (schema_in o) put_meta_text (put_meta_command o) (put_meta_means o)
 
 abbrev pub put_link_text : List ℕ
 put_link_text = codes "INSERT INTO device (id, upto) VALUES (?1, ?2) ON CONFLICT (id) DO UPDATE SET upto = excluded.upto"
@@ -281,41 +261,41 @@ pub cut_meant : (o : Layout) → Meant (schema_in o) cut_text (cut_command o)
 cut_meant o = meant (schema_in o) cut_text (cut_command o) (cut_means o)
 
 -- each means something of the usual form
-link_simple : IsSimpleCommand (link_at (place_of own_places Device))
+pub link_simple : IsSimpleCommand (link_at (place_of own_places Device))
 link_simple = search
 
-next_simple : IsSimpleCommand (next_at (place_of own_places Tap))
+pub next_simple : IsSimpleCommand (next_at (place_of own_places Tap))
 next_simple = search
 
-next_day_simple : IsSimpleCommand (next_day_at (place_of own_places Stated))
+pub next_day_simple : IsSimpleCommand (next_day_at (place_of own_places Stated))
 next_day_simple = search
 
-rows_simple : IsSimpleCommand (rows_at (place_of own_places Tap))
+pub rows_simple : IsSimpleCommand (rows_at (place_of own_places Tap))
 rows_simple = search
 
-statements_simple : IsSimpleCommand (statements_at (place_of own_places Stated))
+pub statements_simple : IsSimpleCommand (statements_at (place_of own_places Stated))
 statements_simple = search
 
-seen_simple : IsSimpleCommand (seen_at (place_of own_places Device))
+pub seen_simple : IsSimpleCommand (seen_at (place_of own_places Device))
 seen_simple = search
 
-meta_simple : IsSimpleCommand (meta_at (place_of own_places Meta))
+pub meta_simple : IsSimpleCommand (meta_at (place_of own_places Meta))
 meta_simple = search
 
-put_meta_simple : IsSimpleCommand (put_meta_at (place_of own_places Meta))
+pub put_meta_simple : IsSimpleCommand (put_meta_at (place_of own_places Meta))
 put_meta_simple = search
 
-put_link_simple : IsSimpleCommand (put_link_at (place_of own_places Device))
+pub put_link_simple : IsSimpleCommand (put_link_at (place_of own_places Device))
 put_link_simple = search
 
-put_tap_simple : IsSimpleCommand (put_tap_at (place_of own_places Tap))
+pub put_tap_simple : IsSimpleCommand (put_tap_at (place_of own_places Tap))
 put_tap_simple = search
 
-put_statement_simple : IsSimpleCommand (put_statement_at (place_of own_places Stated))
+pub put_statement_simple : IsSimpleCommand (put_statement_at (place_of own_places Stated))
 put_statement_simple = search
 
-cut_simple : IsSimpleCommand (cut_at (place_of own_places Tap))
+pub cut_simple : IsSimpleCommand (cut_at (place_of own_places Tap))
 cut_simple = search
 
-pub understood_all : AreUnderstood outbox_schema texts
+unfoldable pub understood_all : AreUnderstood outbox_schema texts
 understood_all = ((link_at (place_of own_places Device), link_own, link_simple), ((next_at (place_of own_places Tap), next_own, next_simple), ((next_day_at (place_of own_places Stated), next_day_own, next_day_simple), ((rows_at (place_of own_places Tap), rows_own, rows_simple), ((statements_at (place_of own_places Stated), statements_own, statements_simple), ((seen_at (place_of own_places Device), seen_own, seen_simple), ((meta_at (place_of own_places Meta), meta_own, meta_simple), ((put_meta_at (place_of own_places Meta), put_meta_own, put_meta_simple), ((put_link_at (place_of own_places Device), put_link_own, put_link_simple), ((put_tap_at (place_of own_places Tap), put_tap_own, put_tap_simple), ((put_statement_at (place_of own_places Stated), put_statement_own, put_statement_simple), ((cut_at (place_of own_places Tap), cut_own, cut_simple), tt))))))))))))

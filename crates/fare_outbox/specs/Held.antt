@@ -56,6 +56,8 @@ pub record Held : Type 0 where
   pub upto : ℕ → ℕ
   pub taps : List RecordValue
   pub statements : List StatementValue
+  -- the rows that say whose tables these are
+  pub meta : List Row
 
 -- the rows of all tables can be read
 pub record AreReadable (trees : Trees) : Type 0 where
@@ -64,7 +66,7 @@ pub record AreReadable (trees : Trees) : Type 0 where
   pub statements : AreRows IsStated (trees 5)
 
 abbrev pub held_of : Trees → Held
-held_of trees = record { upto = λ device. upto_of (held (trees 1) device); taps = map tap_of (trees 2); statements = map stated_of (trees 5) }
+held_of trees = record { upto = λ device. upto_of (held (trees 1) device); taps = map tap_of (trees 2); statements = map stated_of (trees 5); meta = trees 0 }
 
 -- between calls, over the tables of the outbox with rows that can be read
 abbrev pub IsReady : Layout → State → Type 0
@@ -95,17 +97,17 @@ is_seen r = nat_lt 0 (nat_in (column r 2))
 
 -- WRITES
 abbrev pub with_tap : RecordValue → Held → Held
-with_tap t h = record { upto = λ device. if t.device == device then t.link else h.upto device; taps = h.taps ++ t ∷ []; statements = h.statements }
+with_tap t h = record { upto = λ device. if t.device == device then t.link else h.upto device; taps = h.taps ++ t ∷ []; statements = h.statements; meta = h.meta }
 
 abbrev pub with_statement : StatementValue → Held → Held
-with_statement s h = record { upto = h.upto; taps = h.taps; statements = h.statements ++ s ∷ [] }
+with_statement s h = record { upto = h.upto; taps = h.taps; statements = h.statements ++ s ∷ []; meta = h.meta }
 
 -- a row of a lane up to a lane number
 abbrev pub is_cut : ℕ → ℕ → ℕ → RecordValue → Bool
 is_cut owner device lane t = (t.owner == owner) && (t.device == device) && nat_le t.lane lane
 
 abbrev pub without_lane : ℕ → ℕ → ℕ → Held → Held
-without_lane owner device lane h = record { upto = h.upto; taps = filter (λ t. not (is_cut owner device lane t)) h.taps; statements = h.statements }
+without_lane owner device lane h = record { upto = h.upto; taps = filter (λ t. not (is_cut owner device lane t)) h.taps; statements = h.statements; meta = h.meta }
 
 -- the database holds this, in rows that can be read
 pub record Becomes (o : Layout) (db : Database) (h : Held) : Type 0 where
@@ -119,15 +121,18 @@ pub record PutsTap (o : Layout) (old new : Database) (t : RecordValue) : Type 0 
   pub devices : ours o new.trees 1 ≡ ours o old.trees 1
   pub taps : ours o new.trees 2 ≡ put_row (Int (next_rowid (ours o old.trees 2)) ∷ tap_cells t) (ours o old.trees 2)
   pub statements : ours o new.trees 5 ≡ ours o old.trees 5
+  pub meta : ours o new.trees 0 ≡ ours o old.trees 0
 
 pub record PutsStated (o : Layout) (old new : Database) (s : StatementValue) : Type 0 where
   pub schema : new.schema ≡ schema_in o
   pub devices : ours o new.trees 1 ≡ ours o old.trees 1
   pub taps : ours o new.trees 2 ≡ ours o old.trees 2
   pub statements : ours o new.trees 5 ≡ put_row (Int (next_rowid (ours o old.trees 5)) ∷ stated_cells s) (ours o old.trees 5)
+  pub meta : ours o new.trees 0 ≡ ours o old.trees 0
 
 pub record PutsLink (o : Layout) (old new : Database) (device upto : ℕ) : Type 0 where
   pub schema : new.schema ≡ schema_in o
   pub devices : (ours o new.trees 1 ≡ put_row (device_row device upto) (ours o old.trees 1)) ⊎ (ours o new.trees 1 ≡ put_row (device_row device upto) (without_rowid (pos device) (ours o old.trees 1)))
   pub taps : ours o new.trees 2 ≡ ours o old.trees 2
   pub statements : ours o new.trees 5 ≡ ours o old.trees 5
+  pub meta : ours o new.trees 0 ≡ ours o old.trees 0

@@ -5,6 +5,7 @@ use Rattle.fare_layout.specs.declared.place.Kind.{Kind}
 use Rattle.fare_layout.specs.declared.place.Kind.TheVariants.{Meta, Device, Tap, Stated}
 use Rattle.fare_layout.specs.declared.place.Places.{Places}
 use Rattle.fare_layout.specs.Layouts.{Fits}
+use Rattle.fare_opening.specs.Parts.{Parts}
 use Rattle.fare_outbox.specs.Tables.{outbox_schema}
 
 -- what makes the tables, each with its name
@@ -26,7 +27,7 @@ texts =
     ∷ (Stated, codes "SELECT count(*) FROM stated")
     ∷ (Device, codes "SELECT count(*) FROM device WHERE upto > 0")
     ∷ (Meta, codes "SELECT format, owner FROM meta")
-    ∷ (Meta, codes "INSERT INTO meta (format, owner) VALUES (1, 0)")
+    ∷ (Meta, codes "INSERT INTO meta (format, owner) VALUES (?1, ?2)")
     ∷ (Device, codes "INSERT INTO device (id, upto) VALUES (?1, ?2) ON CONFLICT (id) DO UPDATE SET upto = excluded.upto")
     ∷ (Tap, codes "INSERT INTO tap (owner, device, lane, link, product, token, moment, day) VALUES (?1, ?2, ?3, ?4, ?5, ?6, ?7, ?8)")
     ∷ (Stated, codes "INSERT INTO stated (owner, device, day, total) VALUES (?1, ?2, ?3, ?4)")
@@ -36,3 +37,7 @@ texts =
 -- a schema has the outbox's tables at these places, and its statements mean there what they should
 abbrev pub FitsOutbox : Schema → Places → Type 0
 FitsOutbox schema places = Fits outbox_schema texts schema places
+
+-- what an outbox is made of
+abbrev pub outbox_parts : Parts
+outbox_parts = record { own = outbox_schema; tables = tables; texts = texts; format = 1 }

@@ -41,10 +41,6 @@ outbox_schema = record {
   views = [];
 }
 
--- the row of meta
-abbrev pub meta_query : Query
-meta_query = query 0 [] (col 1 1 ∷ col 1 2 ∷ []) []
-
 -- the greatest link of a device
 abbrev pub link_query : Query
 link_query = query 1 (is_given 0 0 ∷ []) (col 1 2 ∷ []) []

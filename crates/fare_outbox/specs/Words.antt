@@ -9,6 +9,7 @@ use Rattle.fare_record.specs.Values.{RecordValue, StatementValue}
 use Rattle.fare_store.specs.Standing.{Standing}
 use Rattle.fare_store.specs.OutboxWords.{OutboxValue}
 use Rattle.fare_tables.specs.Tabled.{tabled}
+use Rattle.fare_opening.specs.Opening.{IsMeta}
 use Rattle.fare_outbox.specs.declared.tables.SqlOutbox.{SqlOutbox}
 use Rattle.fare_outbox.specs.Held.{Held, AreReadable, held_of}
 use Rattle.fare_outbox.specs.declared.layout.Layout.{Layout}
@@ -60,6 +61,8 @@ pub record FitTogether (h : Held) : Type 0 where
   pub apart : AreApart tap_key h.taps
   pub known : AllByRecursion (IsKnown h.upto) h.taps
   pub single : AreApart stated_key h.statements
+  -- they are an outbox's, of format 1
+  pub meta : IsMeta 1 0 h.meta
 
 pub record IsLawful (o : Layout) (trees : Trees) : Type 0 where
   pub readable : AreReadable (ours o trees)

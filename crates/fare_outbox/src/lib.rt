@@ -3,11 +3,10 @@
 //! the connection. Each write is one transaction. The value alone holds its connection.
 #![tactic(auto)]
 
-mod asking;
 mod calls;
+mod design;
 pub mod laws;
 mod layout;
-mod making;
 mod opening;
 mod reading;
 mod statements;

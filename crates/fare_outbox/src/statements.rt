@@ -1,11 +1,9 @@
 use fare_layout::Kind;
+use fare_opening::{META_TABLE, PUT_META, READ_META};
 
 /// The texts that make the tables, each with the name of its table.
 pub(crate) const TABLES: [(&str, &str); 4] = [
-    (
-        "meta",
-        "CREATE TABLE meta (format INTEGER NOT NULL, owner INTEGER NOT NULL) STRICT",
-    ),
+    META_TABLE,
     (
         "device",
         "CREATE TABLE device (id INTEGER PRIMARY KEY, upto INTEGER NOT NULL CHECK (upto >= 0)) STRICT",
@@ -39,12 +37,6 @@ pub(crate) const COUNT_STATEMENTS: &str = "SELECT count(*) FROM stated";
 
 /// How many devices were seen.
 pub(crate) const COUNT_SEEN: &str = "SELECT count(*) FROM device WHERE upto > 0";
-
-/// Whose tables these are.
-pub(crate) const READ_META: &str = "SELECT format, owner FROM meta";
-
-/// They are an outbox's, of format 1.
-pub(crate) const PUT_META: &str = "INSERT INTO meta (format, owner) VALUES (1, 0)";
 
 /// A device's greatest link.
 pub(crate) const PUT_LINK: &str =

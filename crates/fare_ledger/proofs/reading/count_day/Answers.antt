@@ -2,7 +2,8 @@ use Rattle.std.proofs.Common.{Ok}
 use Rattle.sqlite.specs.Held.{state}
 use Rattle.sqlite.specs.State.{QueriesRow}
 use Rattle.fare_ledger.proofs.Texts.{day_text, day_reads}
-use Rattle.fare_ledger.proofs.Found.{asked, day_counted, total_is}
+use Rattle.fare_opening.proofs.Asked.{total_is}
+use Rattle.fare_ledger.proofs.Found.{asked, day_counted}
 use Rattle.fare_ledger.proofs.reading.count_day.Goals as goal
 
 pub ask-requires : goal.ask-requires

@@ -2,7 +2,8 @@ use Rattle.std.proofs.Common.{[], Ok}
 use Rattle.sqlite.specs.Held.{state}
 use Rattle.sqlite.specs.State.{QueriesRow}
 use Rattle.fare_ledger.proofs.Texts.{statements_text, statements_reads}
-use Rattle.fare_ledger.proofs.Found.{statements_counted, number_is}
+use Rattle.fare_opening.proofs.Asked.{number_is}
+use Rattle.fare_ledger.proofs.Found.{statements_counted}
 use Rattle.fare_ledger.proofs.reading.count_statements.Goals as goal
 
 pub ask-requires : goal.ask-requires

@@ -1,57 +1,38 @@
-use Rattle.std.proofs.Common.{◌≢◌, refl}
+use Rattle.std.proofs.Common.{◌≡◌, ◌∙◌, sym, subst}
 use Rattle.sqlite.specs.Held.{state}
-use Rattle.fare_outbox.specs.declared.opening.Seen.TheVariants.{Ours, Vacant, Other}
-use Rattle.fare_tables.specs.Asking.{SameRows}
-use Rattle.fare_tables.specs.Making.{no_schema}
-use Rattle.fare_outbox.specs.Making.{MayGrow}
-use Rattle.fare_outbox.specs.Opening.{IsVacant, Sees}
-use Rattle.fare_outbox.proofs.Own.{not_vacant, for_none, for_err}
-use Rattle.fare_outbox.proofs.Opened.{not_blank, not_free, neither, makes_survives}
+use Rattle.fare_opening.specs.declared.opening.Opened.TheVariants.{Kept, Made}
+use Rattle.fare_opening.specs.Opening.{IsPlaced, Opens}
+use Rattle.fare_opening.proofs.Standing.{some_is}
+use Rattle.fare_outbox.specs.Making.{site_of}
+use Rattle.fare_outbox.specs.Statements.{outbox_parts}
+use Rattle.fare_outbox.proofs.Opened.{found_rows, made_rows}
 use Rattle.fare_outbox.proofs.opening.settle.Goals as goal
 
-pub returns-in_err-make_outbox-in-Vacant-clause-crash : goal.returns-in_err-make_outbox-in-Vacant-clause-crash
-returns-in_err-make_outbox-in-Vacant-clause-crash g c =
-    let it : Sees (state g.S.Store c.args.conn.now).now.schema (Vacant c.in-Vacant.layout) = rw c.in-Vacant.is at c.requires.found in
-    makes_survives (state g.S.Store c.args.conn.now) (state g.S.Store c.make_outbox.new.conn) c.in-Vacant.layout it.0 it.1 c.make_outbox.ensures.crash
-
-pub returns-in-Ours-clause-foreign : goal.returns-in-Ours-clause-foreign
-returns-in-Ours-clause-foreign g c =
-    let it : Sees (state g.S.Store c.args.conn.now).now.schema (Ours c.in-Ours.layout) = rw c.in-Ours.is at c.requires.found in
-    for_none c.settle_ours.result ((state g.S.Store c.args.conn.now).now.schema ≢ no_schema) (not_blank (state g.S.Store c.args.conn.now) c.in-Ours.layout it)
-
-pub returns-in_ok-make_outbox-in-Vacant-clause-opens : goal.returns-in_ok-make_outbox-in-Vacant-clause-opens
-returns-in_ok-make_outbox-in-Vacant-clause-opens g c live =
-    let it : Sees (state g.S.Store c.args.conn.now).now.schema (Vacant c.in-Vacant.layout) = rw c.in-Vacant.is at c.requires.found in
-    let made = c.in_ok-make_outbox-in-Vacant.ensures.made live (record { layout = c.in-Vacant.layout; makes = it.1 }) in
-    record {
-      made = λ vacant. (it.1, made.0.each c.in-Vacant.layout it.1, made.1, refl, refl);
-      others = λ settled. made.0.others;
-      kept = λ ready. absurd (not_vacant c.in-Vacant.layout (state g.S.Store c.args.conn.now).now.schema it.0 ready.rest.schema_is);
-    }
-
-pub returns-in_ok-make_outbox-in-Vacant-clause-crash : goal.returns-in_ok-make_outbox-in-Vacant-clause-crash
-returns-in_ok-make_outbox-in-Vacant-clause-crash g c =
-    let it : Sees (state g.S.Store c.args.conn.now).now.schema (Vacant c.in-Vacant.layout) = rw c.in-Vacant.is at c.requires.found in
-    makes_survives (state g.S.Store c.args.conn.now) (state g.S.Store c.make_outbox.new.conn) c.in-Vacant.layout it.0 it.1 c.make_outbox.ensures.crash
-
-pub returns-in-Other-clause-lacks : goal.returns-in-Other-clause-lacks
-returns-in-Other-clause-lacks g c live none =
-    let it : Sees (state g.S.Store c.args.conn.now).now.schema Other = rw c.in-Other.is at c.requires.found in
-    neither (state g.S.Store c.args.conn.now) it.0 (λ w has are. it.1 w has)
-
-pub returns-in_err-make_outbox-in-Vacant-clause-failed : goal.returns-in_err-make_outbox-in-Vacant-clause-failed
-returns-in_err-make_outbox-in-Vacant-clause-failed g c live settled =
-    let it : Sees (state g.S.Store c.args.conn.now).now.schema (Vacant c.in-Vacant.layout) = rw c.in-Vacant.is at c.requires.found in
-    let same : SameRows (state g.S.Store c.args.conn.now) (state g.S.Store c.make_outbox.new.conn) = c.in_err-make_outbox-in-Vacant.ensures.same live (record { layout = c.in-Vacant.layout; makes = it.1 }) settled in
-    for_err c.from_residual.result (SameRows (state g.S.Store c.args.conn.now) (state g.S.Store c.make_outbox.new.conn)) same
-
-pub returns-in-Ours-clause-vacant : goal.returns-in-Ours-clause-vacant
-returns-in-Ours-clause-vacant g c =
+pub counts-requires-clause-settled : goal.counts-requires-clause-settled
+counts-requires-clause-settled g c live =
     let old = state g.S.Store c.args.conn.now in
-    let it : Sees old.now.schema (Ours c.in-Ours.layout) = rw c.in-Ours.is at c.requires.found in
-    for_none c.settle_ours.result (IsVacant old → ¬ MayGrow old.now.schema) (not_free old c.in-Ours.layout it)
+    let mid = state g.S.Store c.open_tables.new.conn in
+    let it = some_is c.in_ok-site.field-0 c.in-Some-Kept.field-0 (Opens outbox_parts 0 old mid) c.in-Some-Kept.is (c.in_ok-site.ensures.opens live) in
+    let kept : Opens outbox_parts 0 old mid (Kept c.in-Some-Kept.site) = subst (Opens outbox_parts 0 old mid) c.in-Some-Kept.field-0-is it in
+    let settled = c.requires.settled (c.open_tables.ensures.live live).1 in
+    let same = kept.1 settled in
+    same.0 ∙ settled ∙ sym same.1
 
-pub returns-in-Other-clause-vacant : goal.returns-in-Other-clause-vacant
-returns-in-Other-clause-vacant g c =
-    let it : Sees (state g.S.Store c.args.conn.now).now.schema Other = rw c.in-Other.is at c.requires.found in
-    λ none. it.2
+pub returns-in_ok-rows-in-Some-Kept-clause-opens : goal.returns-in_ok-rows-in-Some-Kept-clause-opens
+returns-in_ok-rows-in-Some-Kept-clause-opens g c live =
+    let old = state g.S.Store c.args.conn.now in
+    let mid = state g.S.Store c.open_tables.new.conn in
+    let it = some_is c.in_ok-site.field-0 c.in-Some-Kept.field-0 (Opens outbox_parts 0 old mid) c.in-Some-Kept.is (c.in_ok-site.ensures.opens (c.counts.ensures.live live)) in
+    let kept : Opens outbox_parts 0 old mid (Kept c.in-Some-Kept.site) = subst (Opens outbox_parts 0 old mid) c.in-Some-Kept.field-0-is it in
+    let at : site_of c.at-layout.result ≡ c.in-Some-Kept.site = λ i. record { schema = c.at-layout.ensures.schema i; places = c.at-layout.ensures.places i } in
+    found_rows old mid c.in-Some-Kept.site c.at-layout.result c.in_ok-rows-in-Some-Kept.rows c.in_ok-rows-in-Some-Kept.statements (state g.S.Store c.counts.new.conn) at kept (c.in_ok-rows-in-Some-Kept.ensures.counted live) (c.counts.ensures.same live)
+
+pub returns-in-Some-Made-clause-opens : goal.returns-in-Some-Made-clause-opens
+returns-in-Some-Made-clause-opens g c live =
+    let old = state g.S.Store c.args.conn.now in
+    let new = state g.S.Store c.open_tables.new.conn in
+    let it = some_is c.in_ok-site.field-0 c.in-Some-Made.field-0 (Opens outbox_parts 0 old new) c.in-Some-Made.is (c.in_ok-site.ensures.opens live) in
+    let made : Opens outbox_parts 0 old new (Made c.in-Some-Made.site) = subst (Opens outbox_parts 0 old new) c.in-Some-Made.field-0-is it in
+    let where_it : IsPlaced outbox_parts old.now.schema (Made c.in-Some-Made.site) = subst (IsPlaced outbox_parts old.now.schema) c.in-Some-Made.field-0-is (some_is c.in_ok-site.field-0 c.in-Some-Made.field-0 (IsPlaced outbox_parts old.now.schema) c.in-Some-Made.is c.in_ok-site.ensures.placed) in
+    let at : site_of c.at.result ≡ c.in-Some-Made.site = λ i. record { schema = c.at.ensures.schema i; places = c.at.ensures.places i } in
+    made_rows old new c.in-Some-Made.site c.at.result at where_it made

@@ -1,27 +1,26 @@
 use Rattle.std.proofs.Common.{◌≡◌, sym, ap, subst, ◌∙◌}
 use Rattle.sqlite.specs.Held.{state}
-use Rattle.sqlite.specs.Schema.{Schema}
 use Rattle.fare_tables.specs.Tabled.{IsFit}
 use Rattle.fare_ledger.specs.Known.{knows}
 use Rattle.fare_ledger.specs.Layouts.{schema_in}
-use Rattle.fare_ledger.specs.Opening.{IsOpened, Sees, Settles}
+use Rattle.fare_ledger.specs.Opening.{IsOpened, Settles}
 use Rattle.fare_ledger.specs.Words.{IsLawful, value_at}
-use Rattle.fare_ledger.proofs.Opened.{new_fits, kept_fits, vacant_or_ours}
+use Rattle.fare_ledger.proofs.Opened.{new_fits, kept_fits, vacant_or_ours, lawful_is_ours}
 use Rattle.fare_ledger.proofs.tables.SqlLedger.open.Goals as goal
 
 pub returns-in-Ok-Some-clause-made : goal.returns-in-Ok-Some-clause-made
 returns-in-Ok-Some-clause-made g c live blank =
     let new = state g.S.Store c.settle.new.conn in
-    let known = knows c.in-Ok-devices_of.devices in
+    let known = knows c.in-Ok.devices in
     let settles : Settles c.args.owner (state g.S.Store c.args.conn) new c.in-Ok-Some.layout = rw c.in-Ok-Some.field-0-is at (c.in-Ok-Some.ensures.opens live) in
     let made = settles.made blank in
-    new_fits c.in-Ok-Some.layout c.args.owner c.start.result known new (made.1, made.2)
+    new_fits c.in-Ok-Some.layout c.args.owner c.start.result known (state g.S.Store c.args.conn) new made.1
 
 pub returns-in-Ok-Some-clause-kept : goal.returns-in-Ok-Some-clause-kept
 returns-in-Ok-Some-clause-kept g c live w fit =
     let old = state g.S.Store c.args.conn in
     let new = state g.S.Store c.settle.new.conn in
-    let known = knows c.in-Ok-devices_of.devices in
+    let known = knows c.in-Ok.devices in
     let start : c.start.result ≡ c.args.scheme.now.start = c.start.ensures.value in
     let settles : Settles c.args.owner old new c.in-Ok-Some.layout = rw c.in-Ok-Some.field-0-is at (c.in-Ok-Some.ensures.opens live) in
     let opened : IsOpened c.args.owner old c.in-Ok-Some.layout = rw c.in-Ok-Some.field-0-is at (c.in-Ok-Some.ensures.ours live) in
@@ -29,10 +28,10 @@ returns-in-Ok-Some-clause-kept g c live w fit =
     let kept = kept_fits c.args.owner c.start.result known old new c.in-Ok-Some.layout w settles opened same in
     (kept.0, kept.1 ∙ ap (λ day. value_at w c.args.owner day known old.now.trees) start)
 
-pub settle-requires-clause-found : goal.settle-requires-clause-found
-settle-requires-clause-found g c = subst (λ (s : Schema). Sees s c.in-Ok.found) c.schema.ensures.value c.in-Ok.ensures
-
 pub returns-in-Ok-Some-clause-ours : goal.returns-in-Ok-Some-clause-ours
 returns-in-Ok-Some-clause-ours g c live =
     let opened : IsOpened c.args.owner (state g.S.Store c.args.conn) c.in-Ok-Some.layout = rw c.in-Ok-Some.field-0-is at (c.in-Ok-Some.ensures.ours live) in
     vacant_or_ours c.args.owner (state g.S.Store c.args.conn) c.in-Ok-Some.layout opened
+
+pub returns-in-Ok-None-clause-found : goal.returns-in-Ok-None-clause-found
+returns-in-Ok-None-clause-found g c why live w fit = c.in-Ok-None.ensures.lacks live c.in-Ok-None.field-0-is (lawful_is_ours w c.args.owner c.args.scheme.now.start (state g.S.Store c.args.conn) fit)

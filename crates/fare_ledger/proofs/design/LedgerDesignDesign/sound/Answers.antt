@@ -1,0 +1,5 @@
+use Rattle.fare_ledger.proofs.Own.{ledger_design}
+use Rattle.fare_ledger.proofs.design.LedgerDesignDesign.sound.Goals as goal
+
+pub returns : goal.returns
+returns c = ledger_design

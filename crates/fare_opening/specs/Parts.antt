@@ -1,0 +1,78 @@
+-- What a store in tables is made of.
+use Rattle.std.specs.Prelude.{◌≡◌, ◌<◌, ℕ, codes, List, [], ◌∷◌, length, slice_get, Some, IfOk}
+use Rattle.std.specs.List.{AllByRecursion}
+use Rattle.sqlite.specs.declared.types.Value.TheVariants.{Null}
+use Rattle.sqlite.specs.Command.TheVariants.{Insert, Select}
+use Rattle.sqlite.specs.Compile.{table_defined_by}
+use Rattle.sqlite.specs.Query.{Query}
+use Rattle.sqlite.specs.Schema.{Schema}
+use Rattle.sqlite.specs.Source.TheVariants.{Values}
+use Rattle.sqlite.specs.Term.{lit, col}
+use Rattle.sqlite_rules.specs.Lists.{Has}
+use Rattle.sqlite_schema.specs.declared.command.Command.{Command}
+use Rattle.fare_tables.specs.Making.{no_schema}
+use Rattle.fare_tables.specs.Queries.{query, meta_table}
+use Rattle.fare_layout.specs.declared.place.Kind.{Kind}
+use Rattle.fare_layout.specs.declared.place.Kind.TheVariants.{Meta}
+use Rattle.fare_layout.specs.declared.place.Places.{Places}
+use Rattle.fare_layout.specs.Commands.{IsMeant}
+use Rattle.fare_layout.specs.Growing.{CanMakeAll, GrowsBy, AreLast}
+use Rattle.fare_layout.specs.Layouts.{Fits, AreUnderstood}
+use Rattle.fare_layout.specs.Schemas.{IsSimpleTable}
+
+pub record Parts : Type 0 where
+  -- its schema in a database of its own
+  pub own : Schema
+  -- what makes its tables, each with its name
+  pub tables : List (List ℕ × List ℕ)
+  -- what is asked of them and written to them, each with its table
+  pub texts : List (Kind × List ℕ)
+  -- its format
+  pub format : ℕ
+
+-- META: the table that says whose tables these are, and of what format
+abbrev pub meta_name : List ℕ
+meta_name = codes "meta"
+
+abbrev pub meta_text : List ℕ
+meta_text = codes "CREATE TABLE meta (format INTEGER NOT NULL, owner INTEGER NOT NULL) STRICT"
+
+abbrev pub read_meta : List ℕ
+read_meta = codes "SELECT format, owner FROM meta"
+
+abbrev pub put_meta : List ℕ
+put_meta = codes "INSERT INTO meta (format, owner) VALUES (?1, ?2)"
+
+abbrev pub meta_query : ℕ → Query
+meta_query tree = query tree [] (col 1 1 ∷ col 1 2 ∷ []) []
+
+-- its rows, read
+abbrev pub reads_meta : ℕ → Command
+reads_meta tree = Select (record { lets = []; body = meta_query tree }) (codes "format" ∷ codes "owner" ∷ [])
+
+-- a row, written to the table at this place
+abbrev pub puts_meta : ℕ → Command
+puts_meta at = Insert at (Values (lit Null ∷ col 0 0 ∷ col 0 1 ∷ []) 3)
+
+-- a text makes a table with few keys, so that there are numbers for their trees
+abbrev pub HasFewKeys : List ℕ → Type 0
+HasFewKeys sql = IfOk (table_defined_by sql) (λ table. length table.uniques < 1000)
+
+-- its tables can be made, its statements mean what they should where they are, and none needs another table
+pub record IsDesign (d : Parts) : Type 0 where
+  pub rest : List (List ℕ × List ℕ)
+  pub tables_are : d.tables ≡ (meta_name, meta_text) ∷ rest
+  pub meta_is : slice_get d.own.tables 0 ≡ Some (meta_table 0)
+  pub many : length d.own.tables ≡ length d.tables
+  pub can : CanMakeAll no_schema d.tables
+  pub grows : GrowsBy no_schema d.tables d.own
+  pub few : AllByRecursion (λ (t : List ℕ × List ℕ). HasFewKeys t.1) d.tables
+  pub simple : AllByRecursion IsSimpleTable d.own.tables
+  pub understood : AreUnderstood d.own d.texts
+  pub home : Places
+  pub at_home : Fits d.own d.texts d.own home
+  pub last : AreLast no_schema home
+  pub asks : Has d.texts (Meta, read_meta)
+  pub asks_meant : IsMeant d.own read_meta (reads_meta 0)
+  pub puts : Has d.texts (Meta, put_meta)
+  pub puts_meant : IsMeant d.own put_meta (puts_meta 0)
