@@ -1,5 +1,5 @@
 //! Where each device's lanes stand.
-ghost use Rattle.std.specs.Prelude.{◌≡◌, ◌≢◌, ◌+◌, ◌<◌, ◌++◌, ◌∷◌, [], None, length, string_bytes, IfOk, IfErr, IfSome, IfNone, OnOk};
+ghost use Rattle.std.specs.Prelude.{◌≡◌, ◌≢◌, ◌+◌, ◌++◌, ◌∷◌, [], None, length, string_bytes, IfOk, IfErr, OnOk};
 ghost use Rattle.std.specs.Io.KnownBytes.{Keeps};
 ghost use Rattle.std.specs.Map.{keys_of};
 ghost use Rattle.fare_history.specs.Stores.{StoresValue};
@@ -16,7 +16,7 @@ ghost use Rattle.fare_desk.specs.declared.fault.DeskFault.TheVariants.{Write};
 use crate::fault::DeskFault;
 use crate::writing::write_text;
 use fare_record::{Day, DeviceId, OwnerId};
-use fare_sessions::Hub;
+use fare_sessions::{Hub, day_after};
 use fare_store::{Fault, Ledger, Outbox};
 use std::alloc::{AllocError, Global};
 use std::io::Write;
@@ -91,17 +91,6 @@ fn statements_from<O: Outbox>(
     }
 }
 
-// The day behind the last closed one, if there is one; the first one where none is closed.
-fn first_unclosed(closed: Option<Day>, start: Day) -> Option<Day>
-    ensures day { IfSome result (λ day. day ≡ day_behind closed start) }
-    ensures none { IfNone result (100000 < day_behind closed start) }
-{
-    match closed {
-        Some(last) => Day::new(u64::from(last.get()) + 1),
-        None => Some(start),
-    }
-}
-
 // How many taps of a device an owner has taken, and the last day that it has closed.
 fn ask_ledger<O: Outbox, L: Ledger>(
     hub: &mut Hub<O, L>,
@@ -142,7 +131,7 @@ fn ask_statements<O: Outbox, L: Ledger>(
     ensures asks { OnlyAsks O.standing L.standing hub.old hub.new }
     ensures tells { AreClean O.standing L.standing hub.new → AreSound O.standing L.standing hub.old → IfOk result (λ statements. (h : StoresValue) → MayStandAs O.standing L.standing hub.old h → HasFrom (stated_days h.outbox owner device) (day_behind closed hub.old.scheme.start) statements) }
 {
-    match first_unclosed(closed, hub.scheme.start()) {
+    match day_after(closed, hub.scheme.start()) {
         Some(first) => statements_from(&mut hub.outbox, owner, device, first),
         None => Ok(0),
     }

@@ -26,8 +26,9 @@ pub enum ClosingFault {
     Ledger(CloseFault),
 }
 
-// The day behind the last closed one, if there is one; the first one where none is closed.
-fn day_after(last: Option<Day>, start: Day) -> Option<Day>
+/// The day behind the last closed one, which is an owner's next to close; the first one where none is closed. None
+/// behind the greatest day that there is.
+pub fn day_after(last: Option<Day>, start: Day) -> Option<Day>
     ensures day { IfSome result (λ day. day ≡ day_behind last start) }
     ensures none { IfNone result (100000 < day_behind last start) }
 {

@@ -13,7 +13,7 @@ mod report;
 mod running;
 mod session;
 
-pub use closing::ClosingFault;
+pub use closing::{ClosingFault, day_after};
 pub use hub::Hub;
 pub use report::SessionsReport;
 pub use session::Session;
