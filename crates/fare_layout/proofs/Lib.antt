@@ -1,5 +1,4 @@
 mod Nodes
-mod Four
 mod Creation
 mod Unread
 pub mod Meant

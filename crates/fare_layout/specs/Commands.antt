@@ -12,7 +12,7 @@ use Rattle.sqlite_schema.specs.declared.code.Op.{Op}
 use Rattle.sqlite_schema.specs.Code.{term_in}
 use Rattle.sqlite_schema.specs.declared.program.Program.{Program}
 use Rattle.sqlite_schema.specs.declared.command.Command.{Command}
-use Rattle.sqlite_schema.specs.declared.command.Command.TheVariants.{Select, Insert, InsertOr, Delete}
+use Rattle.sqlite_schema.specs.declared.command.Command.TheVariants.{Select, Insert, InsertOr, Update, Delete}
 use Rattle.sqlite_schema.specs.declared.command.Source.{Source}
 use Rattle.sqlite_schema.specs.declared.command.Source.TheVariants as source
 use Rattle.sqlite_schema.specs.declared.command.Upsert.{Upsert}
@@ -44,6 +44,7 @@ abbrev pub moved : Place → Command → Command
 moved p (Select q names) = Select (moved_program p.tree q) names
 moved p (Insert at rows) = Insert p.at rows
 moved p (InsertOr at by rows upserts) = InsertOr p.at by rows (map (moved_upsert p.tree) upserts)
+moved p (Update at q) = Update p.at (moved_program p.tree q)
 moved p (Delete at q) = Delete p.at (moved_program p.tree q)
 moved p c = c
 
@@ -92,6 +93,7 @@ abbrev pub IsSimpleCommand : Command → Type 0
 IsSimpleCommand (Select q names) = IsSimpleProgram q
 IsSimpleCommand (Insert at rows) = IsSimpleSource rows
 IsSimpleCommand (InsertOr at by rows upserts) = IsSimpleSource rows × AreSimpleUpserts upserts
+IsSimpleCommand (Update at q) = IsSimpleProgram q
 IsSimpleCommand (Delete at q) = IsSimpleProgram q
 IsSimpleCommand c = ⊥
 

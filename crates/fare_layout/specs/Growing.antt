@@ -3,7 +3,7 @@ use Rattle.std.specs.Prelude.{◌≡◌, ◌+◌, ◌<◌, ◌^◌, ℕ, false, 
 use Rattle.std.specs.List.{AllByRecursion}
 use Rattle.sqlite.specs.Change.{created, next_tree}
 use Rattle.sqlite_catalog.specs.Change.{is_used}
-use Rattle.fare_layout.specs.declared.place.Places.{Places}
+use Rattle.fare_layout.specs.declared.place.Place.{Place}
 use Rattle.sqlite.specs.Compile.{table_defined_by}
 use Rattle.sqlite.specs.Does.{lacks_sequence}
 use Rattle.sqlite.specs.Schema.{Schema}
@@ -53,9 +53,17 @@ GrowsBy schema (t ∷ texts) last = (next : Schema) × Grows schema t.1 next × 
 abbrev pub HasNone : List (List ℕ × List ℕ) → Schema → Type 0
 HasNone texts schema = AllByRecursion (λ (t : List ℕ × List ℕ). is_used schema t.0 ≡ false) texts
 
--- the last four tables, in the order in which a store makes them
-pub record AreLast (schema : Schema) (p : Places) : Type 0 where
-  pub meta : p.meta.at ≡ length schema.tables
-  pub device : p.device.at ≡ length schema.tables + 1
-  pub tap : p.tap.at ≡ length schema.tables + 2
-  pub stated : p.stated.at ≡ length schema.tables + 3
+-- the places are those from a number on, one after the other
+abbrev pub AreFrom : ℕ → List Place → Type 0
+AreFrom at [] = Unit {0}
+AreFrom at (p ∷ places) = (p.at ≡ at) × AreFrom (at + 1) places
+
+-- the last tables of a schema that this one grew to, in the order in which a store makes them
+abbrev pub AreLast : Schema → List Place → Type 0
+AreLast schema places = AreFrom (length schema.tables) places
+
+-- places are these, and behind them those of the last tables of a schema that this one grew to
+abbrev pub GoOn : Schema → List Place → List Place → Type 0
+GoOn schema [] to = AreLast schema to
+GoOn schema (p ∷ from) [] = ⊥
+GoOn schema (p ∷ from) (q ∷ to) = (p ≡ q) × GoOn schema from to

@@ -1,24 +1,26 @@
 -- Where a store's tables stand.
-use Rattle.std.specs.Prelude.{◌≢◌, List, [], ◌∷◌}
-use Rattle.fare_layout.specs.declared.place.Kind.{Kind}
-use Rattle.fare_layout.specs.declared.place.Kind.TheVariants.{Meta, Device, Tap, Stated}
+use Rattle.std.specs.Prelude.{◌≢◌, ℕ, List, [], ◌∷◌, slice_get, Option, Some, None}
+use Rattle.std.specs.List.{AllByRecursion}
 use Rattle.fare_layout.specs.declared.place.Place.{Place}
 use Rattle.fare_layout.specs.declared.place.Places.{Places}
-
-abbrev pub place_of : Places → Kind → Place
-place_of p Meta = p.meta
-place_of p Device = p.device
-place_of p Tap = p.tap
-place_of p Stated = p.stated
+use Rattle.fare_layout.specs.declared.place.TableNumber.{TableNumber}
 
 abbrev pub all_of : Places → List Place
-all_of p = p.meta ∷ p.device ∷ p.tap ∷ p.stated ∷ []
+all_of p = p.all
 
--- each table has a tree of its own
-pub record AreApart (p : Places) : Type 0 where
-  pub meta_device : p.meta.tree ≢ p.device.tree
-  pub meta_tap : p.meta.tree ≢ p.tap.tree
-  pub meta_stated : p.meta.tree ≢ p.stated.tree
-  pub device_tap : p.device.tree ≢ p.tap.tree
-  pub device_stated : p.device.tree ≢ p.stated.tree
-  pub tap_stated : p.tap.tree ≢ p.stated.tree
+-- a place, or one where nothing stands
+abbrev pub or_nowhere : Option Place → Place
+or_nowhere (Some place) = place
+or_nowhere None = record { at = 0; tree = 0 }
+
+abbrev pub place_of : Places → TableNumber → Place
+place_of p k = or_nowhere (slice_get (all_of p) k.number)
+
+-- none of the places has this tree
+abbrev pub IsApartFrom : ℕ → List Place → Type 0
+IsApartFrom tree places = AllByRecursion (λ (q : Place). tree ≢ q.tree) places
+
+-- each place has a tree of its own
+abbrev pub AreApart : List Place → Type 0
+AreApart [] = Unit {0}
+AreApart (p ∷ places) = IsApartFrom p.tree places × AreApart places

@@ -10,7 +10,7 @@ use sqlite_schema::program::Program;
 use sqlite_value::value::Bytes;
 
 // Whether a command is the command `b`, over the table at this place. It may say no where `b` has what no statement of
-// a store has: an UPDATE or a change of tables, a query that computes a table first, an INSERT from a query, or a
+// a store has: a change of tables, a query that computes a table first, an INSERT from a query, or a
 // literal other than NULL and integers.
 pub(crate) fn same_command(a: &Command, place: Place, b: &Command) -> bool
     ensures same { IsTrue result → a.now ≡ moved place b.now }
@@ -31,6 +31,9 @@ pub(crate) fn same_command(a: &Command, place: Place, b: &Command) -> bool
                     && same_source(rows, others)
                     && same_upserts(upserts.as_slice(), place.tree, wanted.as_slice())
             }
+        (Command::Update(at, query), Command::Update(_, other)) => {
+            *at == place.at && same_program(query, place.tree, other)
+        }
         (Command::Delete(at, query), Command::Delete(_, other)) => {
             *at == place.at && same_program(query, place.tree, other)
         }

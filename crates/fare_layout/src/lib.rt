@@ -16,5 +16,5 @@ mod schemas;
 mod statement;
 
 pub use growing::{grow_by, has_none};
-pub use layout::{are_last, find_places};
-pub use place::{Kind, Place, Places};
+pub use layout::{are_last, find_places, go_on};
+pub use place::{Place, Places, TableNumber};

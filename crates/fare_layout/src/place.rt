@@ -1,17 +1,13 @@
 ghost use Rattle.std.specs.Prelude.{◌≡◌, ◌↔◌, IsTrue};
-ghost use Rattle.fare_layout.specs.Places.{place_of, AreApart};
+ghost use Rattle.std.specs.List.{AllByRecursion};
+ghost use Rattle.fare_layout.specs.Places.{all_of, place_of, IsApartFrom, AreApart};
 
-/// A table of a store. Each store has these four.
+use sqlite_items::Items;
+
+/// A table of a store: which of the store's tables it is, in the order in which the store makes them, from 0 on.
 #[derive(Clone, Copy, PartialEq, Eq, Debug)]
-pub enum Kind {
-    /// The row that says whose tables these are.
-    Meta,
-    /// One row for each device.
-    Device,
-    /// The taps.
-    Tap,
-    /// The statements.
-    Stated,
+pub struct TableNumber {
+    pub number: usize,
 }
 
 /// Where a table stands in a database: its place among the tables of the schema, and the tree of its rows.
@@ -21,37 +17,43 @@ pub struct Place {
     pub tree: u32,
 }
 
-/// Where a store's four tables stand.
-#[derive(Clone, Copy, PartialEq, Eq, Debug)]
+/// Where the tables of a store stand, in the order in which it makes them.
+#[derive(Drop)]
 pub struct Places {
-    pub meta: Place,
-    pub device: Place,
-    pub tap: Place,
-    pub stated: Place,
+    pub all: Items<Place>,
 }
 
+// A place where nothing stands.
+const NOWHERE: Place = Place { at: 0, tree: 0 };
+
 impl Places {
-    /// Where the table of a kind stands.
-    pub fn of(self, kind: Kind) -> Place
-        ensures { result ≡ place_of self kind }
+    /// Where a table stands.
+    pub fn of(&self, table: TableNumber) -> Place
+        ensures { result ≡ place_of self.now table }
     {
-        match kind {
-            Kind::Meta => self.meta,
-            Kind::Device => self.device,
-            Kind::Tap => self.tap,
-            Kind::Stated => self.stated,
+        match self.all.get(table.number) {
+            Some(place) => *place,
+            None => NOWHERE,
         }
     }
+}
 
-    // Whether each has a tree of its own.
-    pub(crate) fn are_apart(self) -> bool
-        ensures { IsTrue result ↔ AreApart self }
-    {
-        self.meta.tree != self.device.tree
-            && self.meta.tree != self.tap.tree
-            && self.meta.tree != self.stated.tree
-            && self.device.tree != self.tap.tree
-            && self.device.tree != self.stated.tree
-            && self.tap.tree != self.stated.tree
+// Whether none of the places has this tree.
+fn is_apart(tree: u32, places: &[Place]) -> bool
+    ensures { IsTrue result ↔ IsApartFrom tree places.now }
+{
+    match places {
+        [] => true,
+        [first, rest @ ..] => tree != first.tree && is_apart(tree, rest),
+    }
+}
+
+// Whether each place has a tree of its own.
+pub(crate) fn are_apart(places: &[Place]) -> bool
+    ensures { IsTrue result ↔ AreApart places.now }
+{
+    match places {
+        [] => true,
+        [first, rest @ ..] => is_apart(first.tree, rest) && are_apart(rest),
     }
 }

@@ -1,14 +1,18 @@
-ghost use Rattle.std.specs.Prelude.{◌≡◌, ◌≢◌, ◌↔◌, ◌^◌, [], ◌∷◌, ℕ, List, find, IsTrue, IfSome, None, Some};
+ghost use Rattle.std.specs.Prelude.{◌≡◌, ◌≢◌, ◌↔◌, ◌++◌, [], ◌∷◌, List, find, IsTrue, IsSome, IfOk, IfErr, IfSome, Some};
 ghost use Rattle.std.specs.List.{AllByRecursion, AllZip};
 ghost use Rattle.sqlite_schema.specs.Names.{same_name};
 ghost use Rattle.fare_layout.specs.Places.{all_of};
+ghost use Rattle.fare_layout.specs.declared.place.Place.{Place};
+ghost use Rattle.fare_layout.specs.declared.place.Places.{Places};
 ghost use Rattle.fare_layout.specs.Schemas.{IsSimpleTable};
 ghost use Rattle.fare_layout.specs.Layouts.{Stands, RefersElsewhere, IsFree, AreFree};
 
 use crate::schemas::same_shape;
 use crate::{Place, Places};
+use fare_store::Fault;
 use sqlite_items::Items;
 use sqlite_schema::schema::{Index, Reference, Schema, Table};
+use std::alloc::{AllocError, Global};
 
 /// From here on a tree's number is that of a table that a statement computes.
 const FIRST_COMPUTED: u32 = 0x8000_0000;
@@ -30,19 +34,42 @@ fn stand(schema: &Schema, table: &Table) -> Option<Place>
     }
 }
 
-// Where a schema has four tables.
-pub(crate) fn stand_all(schema: &Schema, tables: &[Table]) -> Option<Places>
-    ensures found { IfSome result (λ p. AllZip (Stands schema.now) tables.now (all_of p)) }
-    ensures lacks { AllByRecursion IsSimpleTable tables.now → (p : _) → AllZip (Stands schema.now) tables.now (all_of p) → result ≡ Some p }
+// Adds where a schema has the tables, as far as it has them; whether it has them all.
+fn stand_more(
+    schema: &Schema,
+    tables: &[Table],
+    found: &mut Items<Place>,
+) -> Result<bool, AllocError>
+    ensures found { IfOk result (λ all. IsTrue all → (more : List Place) × (found.new ≡ found.old ++ more) × AllZip (Stands schema.now) tables.now more) }
+    ensures lacks { IfOk result (λ all. AllByRecursion IsSimpleTable tables.now → (more : List Place) → AllZip (Stands schema.now) tables.now more → IsTrue all × (found.new ≡ found.old ++ more)) }
 {
     match tables {
-        [meta, device, tap, stated] => Some(Places {
-            meta: stand(schema, meta)?,
-            device: stand(schema, device)?,
-            tap: stand(schema, tap)?,
-            stated: stand(schema, stated)?,
-        }),
-        _ => None,
+        [] => Ok(true),
+        [first, rest @ ..] => match stand(schema, first) {
+            Some(place) => {
+                found.push(place)?;
+                stand_more(schema, rest, found)
+            }
+            None => Ok(false),
+        },
+    }
+}
+
+// Where a schema has the tables, if it has them all. The fault is Memory.
+pub(crate) fn stand_all(
+    alloc: Global,
+    schema: &Schema,
+    tables: &[Table],
+) -> Result<Option<Places>, Fault>
+    ensures found { IfOk result (λ found. IfSome found (λ p. AllZip (Stands schema.now) tables.now (all_of p))) }
+    ensures lacks { IfOk result (λ found. AllByRecursion IsSimpleTable tables.now → (p : Places) → AllZip (Stands schema.now) tables.now (all_of p) → IfSome found (λ q. all_of q ≡ all_of p) × IsSome found) }
+    ensures memory { IfErr result (λ e. e ≡ Fault.Memory) }
+{
+    let mut all = Items::new(alloc);
+    if stand_more(schema, tables, &mut all)? {
+        Ok(Some(Places { all }))
+    } else {
+        Ok(None)
     }
 }
 
@@ -99,13 +126,13 @@ fn is_free(schema: &Schema, tree: u32) -> bool
 }
 
 // Whether no foreign key refers to one of the tables.
-pub(crate) fn all_free(schema: &Schema, places: Places) -> bool
-    ensures { IsTrue result ↔ AreFree schema.now places }
+pub(crate) fn all_free(schema: &Schema, places: &[Place]) -> bool
+    ensures { IsTrue result ↔ AreFree schema.now places.now }
 {
-    is_free(schema, places.meta.tree)
-        && is_free(schema, places.device.tree)
-        && is_free(schema, places.tap.tree)
-        && is_free(schema, places.stated.tree)
+    match places {
+        [] => true,
+        [first, rest @ ..] => is_free(schema, first.tree) && all_free(schema, rest),
+    }
 }
 
 fn is_by_rowid(columns: &Items<usize>) -> bool
@@ -115,13 +142,25 @@ fn is_by_rowid(columns: &Items<usize>) -> bool
 }
 
 // Whether none of the indexes is one of a table of this tree by its rowid.
-pub(crate) fn has_no_rowid_index(indexes: &[Index], tree: u32) -> bool
+fn has_no_rowid_index(indexes: &[Index], tree: u32) -> bool
     ensures { IsTrue result ↔ AllByRecursion (λ i. i.table ≡ tree → i.columns ≢ 0 ∷ []) indexes.now }
 {
     match indexes {
         [] => true,
         [first, rest @ ..] => {
             (first.table != tree || !is_by_rowid(&first.columns)) && has_no_rowid_index(rest, tree)
+        }
+    }
+}
+
+// Whether none of the indexes is one of these tables by its rowid.
+pub(crate) fn have_no_rowid_index(indexes: &[Index], places: &[Place]) -> bool
+    ensures { IsTrue result ↔ AllByRecursion (λ (q : Place). AllByRecursion (λ i. i.table ≡ q.tree → i.columns ≢ 0 ∷ []) indexes.now) places.now }
+{
+    match places {
+        [] => true,
+        [first, rest @ ..] => {
+            has_no_rowid_index(indexes, first.tree) && have_no_rowid_index(indexes, rest)
         }
     }
 }

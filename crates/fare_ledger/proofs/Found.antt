@@ -25,10 +25,11 @@ use Rattle.fare_tables.proofs.Terms.{chosen, matched, eq_holds, one_term, two_te
 use Rattle.fare_tables.proofs.Rows.{all_of, held_one}
 use Rattle.fare_tables.proofs.Counting.{found, count_answer}
 use Rattle.fare_ledger.specs.declared.lane.Lane.{Lane}
-use Rattle.fare_layout.specs.declared.place.Kind.TheVariants as kind
+use Rattle.fare_opening.specs.Numbers as kind
 use Rattle.fare_ledger.specs.declared.layout.Layout.{Layout}
 use Rattle.fare_ledger.specs.Layouts.{schema_in, tree_in, ours, at_tree}
 use Rattle.fare_opening.proofs.Asked.{asked_at}
+use Rattle.fare_ledger.proofs.Placed.{within}
 use Rattle.fare_ledger.specs.Making.{site_of}
 use Rattle.fare_ledger.specs.Statements.{ledger_parts}
 use Rattle.fare_ledger.specs.Tables.{lane_query, stated_terms, stated_query, day_terms, begun_terms}
@@ -43,15 +44,15 @@ lane_ids r ok = ap (λ x. column x 0) ok
 
 pub at_lane : (w : Layout) (q : Query) (db : Trees) (params : Row) (rows : List Row) → IsAnswer (at_tree (tree_in w kind.Device) q) (overlay db []) params rows → IsAnswer (at_tree 1 q) (overlay (ours w db) []) params rows
 unfolding ours
-at_lane w q db params rows = asked_at ledger_parts (site_of w) w.fits kind.Device q 1 db (overlay (ours w db) []) params rows refl
+at_lane w q db params rows = asked_at ledger_parts (site_of w) w.fits kind.Device (within w kind.Device refl) q 1 db (overlay (ours w db) []) params rows refl
 
 pub at_tap : (w : Layout) (q : Query) (db : Trees) (params : Row) (rows : List Row) → IsAnswer (at_tree (tree_in w kind.Tap) q) (overlay db []) params rows → IsAnswer (at_tree 2 q) (overlay (ours w db) []) params rows
 unfolding ours
-at_tap w q db params rows = asked_at ledger_parts (site_of w) w.fits kind.Tap q 2 db (overlay (ours w db) []) params rows refl
+at_tap w q db params rows = asked_at ledger_parts (site_of w) w.fits kind.Tap (within w kind.Tap refl) q 2 db (overlay (ours w db) []) params rows refl
 
 pub at_stated : (w : Layout) (q : Query) (db : Trees) (params : Row) (rows : List Row) → IsAnswer (at_tree (tree_in w kind.Stated) q) (overlay db []) params rows → IsAnswer (at_tree 4 q) (overlay (ours w db) []) params rows
 unfolding ours
-at_stated w q db params rows = asked_at ledger_parts (site_of w) w.fits kind.Stated q 4 db (overlay (ours w db) []) params rows refl
+at_stated w q db params rows = asked_at ledger_parts (site_of w) w.fits kind.Stated (within w kind.Stated refl) q 4 db (overlay (ours w db) []) params rows refl
 
 -- ---- the numbers of a device
 

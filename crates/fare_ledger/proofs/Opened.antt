@@ -1,5 +1,5 @@
 -- What an open finds, and what it makes.
-use Rattle.std.proofs.Common.{◌≡◌, ◌≢◌, ◌⊎◌, inl, inr, ℕ, Bool, [], ◌∷◌, map, length, refl, sym, ap, subst, ◌∙◌, arith}
+use Rattle.std.proofs.Common.{◌≡◌, ◌⊎◌, inl, inr, ℕ, Bool, [], ◌∷◌, map, length, refl, sym, ap, subst, ◌∙◌, arith}
 use Rattle.sqlite.specs.Schema.{Schema}
 use Rattle.sqlite.specs.Effect.{Database}
 use Rattle.sqlite.specs.State.{State}
@@ -7,15 +7,14 @@ use Rattle.fare_store.specs.LedgerWords.{IsEmptyLedger}
 use Rattle.fare_tables.specs.Cells.{AreRows, held, int}
 use Rattle.fare_tables.specs.Making.{no_schema}
 use Rattle.fare_tables.specs.Tabled.{IsFit}
-use Rattle.fare_layout.specs.declared.place.Kind.TheVariants.{Meta, Device, Tap, Stated}
+use Rattle.fare_opening.specs.Numbers.{Device, Tap, Stated}
 use Rattle.fare_layout.specs.Growing.{HasNone}
 use Rattle.fare_layout.proofs.Others.{all_kept}
 use Rattle.fare_opening.specs.declared.opening.Opened.{Opened}
 use Rattle.fare_opening.specs.declared.opening.Opened.TheVariants as opened
 use Rattle.fare_opening.specs.declared.site.Site.{Site}
-use Rattle.fare_opening.specs.Sites.{IsSite}
 use Rattle.fare_opening.specs.Making as store
-use Rattle.fare_opening.specs.Opening.{StandsAt, IsPlaced, WasMade, Opens, place_in}
+use Rattle.fare_opening.specs.Opening.{IsPlaced, WasMade, Opens, place_in}
 use Rattle.fare_opening.proofs.Vacant as vacant
 use Rattle.fare_ledger.specs.declared.layout.Layout.{Layout}
 use Rattle.fare_ledger.specs.Layouts.{schema_in, ours}
@@ -24,25 +23,16 @@ use Rattle.fare_ledger.specs.Making.{site_of}
 use Rattle.fare_ledger.specs.Opening.{IsLedger, IsBlankOrOurs, IsVacant, IsOpened, Settles}
 use Rattle.fare_ledger.specs.Words.{taken_in, value_at, value_in, AreNext, AreApart, FitTogether, IsLawful}
 use Rattle.fare_ledger.specs.Statements.{tables, ledger_parts}
-use Rattle.fare_ledger.proofs.Placed.{same_trees}
+use Rattle.fare_ledger.proofs.Placed.{same_trees, within}
 use Rattle.fare_ledger.proofs.Own.{ledger_design}
-
-lane_not : Device ≢ Meta
-lane_not e = let e = e in cc
-
-tap_not : Tap ≢ Meta
-tap_not e = let e = e in cc
-
-stated_not : Stated ≢ Meta
-stated_not e = let e = e in cc
 
 pub new_fits : (w : Layout) (o start : ℕ) (known : ℕ → Bool) (old new : State) → WasMade ledger_parts o old new (site_of w) → IsFit (schema_in w) (IsLawful w o start) new × IsEmptyLedger (value_at w o start known new.now.trees)
 unfolding ours
 new_fits w o start known old new it =
     let db = ours w new.now.trees in
-    let lanes_none : db 1 ≡ [] = it.is_new.bare Device lane_not in
-    let taps_none : db 2 ≡ [] = it.is_new.bare Tap tap_not in
-    let stated_none : db 4 ≡ [] = it.is_new.bare Stated stated_not in
+    let lanes_none : db 1 ≡ [] = it.is_new.bare Device (omega arith) (within w Device refl) in
+    let taps_none : db 2 ≡ [] = it.is_new.bare Tap (omega arith) (within w Tap refl) in
+    let stated_none : db 4 ≡ [] = it.is_new.bare Stated (omega arith) (within w Stated refl) in
     let taps : (held_of db).taps ≡ [] = ap (map tap_of) taps_none in
     let said : (held_of db).statements ≡ [] = ap (map stated_of) stated_none in
     let none : (d : ℕ) → lane_of (held (db 1) d) ≡ record { taken = 0; closed = 0 } = λ d. ap (λ rows. lane_of (held rows d)) lanes_none in (
@@ -59,7 +49,7 @@ new_fits w o start known old new it =
             numbered = subst (AreNext (λ d. 0)) (sym taps) tt;
             single = subst AreApart (sym said) tt;
             days = λ d y low high. absurd (let closed = ap (λ l. l.closed) (none d) in omega (arith, low, high, closed));
-            meta = record { row = int 1 ∷ int 1 ∷ int o ∷ []; only = it.is_new.meta; format_is = refl; owner_is = refl };
+            meta = record { row = int 1 ∷ int 1 ∷ int o ∷ []; only = it.is_new.meta; is = record { id_is = tt; format_is = refl; owner_is = refl } };
           };
         };
       },
@@ -84,14 +74,7 @@ settles_as owner old new w (opened.Made site) at placed it = record {
   kept = λ ready. absurd (vacant.not_vacant ledger_parts (site_of w) old.now.schema ledger_design w.fits placed.0 ready.rest.schema_is);
   others = λ settled. it.others;
 }
-
-pub opened_as : (owner : ℕ) (old new : State) (w : Layout) (o : Opened) → site_of w ≡ place_in o → IsPlaced ledger_parts old.now.schema o → Opens ledger_parts owner old new o → IsOpened owner old w
-opened_as owner old new w (opened.Kept site) at placed it = inr (subst (StandsAt ledger_parts owner old) (sym at) it.0)
-opened_as owner old new w (opened.Made site) at placed it = inl placed.0
-
-pub site_placed : (s : Schema) (o : Opened) → IsPlaced ledger_parts s o → IsSite ledger_parts (place_in o)
-site_placed s (opened.Kept site) placed = placed.0
-site_placed s (opened.Made site) placed = placed.1.site
+settles_as owner old new w (opened.Raised site) at placed it = absurd it.1
 
 -- a ledger that was there goes on as it was, whichever layout it is taken for
 pub kept_fits : (owner start : ℕ) (known : ℕ → Bool) (old new : State) (o p : Layout) → Settles owner old new o → IsOpened owner old o → IsFit (schema_in p) (IsLawful p owner start) old

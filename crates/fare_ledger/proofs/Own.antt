@@ -10,12 +10,13 @@ use Rattle.sqlite_schema.specs.Names.{same_name}
 use Rattle.fare_tables.specs.Making.{no_schema}
 use Rattle.fare_tables.specs.Queries.{meta_table}
 use Rattle.fare_layout.specs.Schemas.{IsSimpleTable}
+use Rattle.fare_layout.specs.Places.{all_of}
 use Rattle.fare_layout.specs.Growing.{CanMake, CanMakeAll, Grows, GrowsBy, AreLast}
 use Rattle.fare_opening.specs.Parts.{IsDesign, HasFewKeys}
 use Rattle.fare_opening.proofs.Orders.{fit_as}
 use Rattle.fare_ledger.specs.Statements.{tables, texts, FitsLedger, ledger_parts}
 use Rattle.fare_ledger.specs.Tables.{one_table, two_tables, three_tables, ledger_schema, lane_table, tap_table, stated_table}
-use Rattle.fare_ledger.proofs.Texts.{own_places, meta_own, put_meta_own, understood_all}
+use Rattle.fare_ledger.proofs.Texts.{own_places, meta_own, put_meta_own, set_meta_own, understood_all}
 
 -- TABLES
 abbrev pub make_meta_text : List ℕ
@@ -86,8 +87,8 @@ pub own_fits : FitsLedger ledger_schema own_places
 unfolding everything ledger_schema same_name understood_all
 own_fits = fit_as ledger_schema texts understood_all ledger_schema own_places refl refl refl (refl, (refl, (refl, (refl, tt)))) refl refl
 
-own_last : AreLast no_schema own_places
-own_last = record { meta = refl; device = refl; tap = refl; stated = refl }
+own_last : AreLast no_schema (all_of own_places)
+own_last = (refl, (refl, (refl, (refl, tt))))
 
 -- the tables refer to no other, and have no default
 pub simple_tables : AllByRecursion IsSimpleTable ledger_schema.tables
@@ -123,4 +124,6 @@ ledger_design = record {
   asks_meant = meta_own;
   puts = inr (inr (inr (inr (inr (inr (inr (inr (inl refl))))))));
   puts_meant = put_meta_own;
+  sets = inr (inr (inr (inr (inr (inr (inr (inr (inr (inl refl)))))))));
+  sets_meant = set_meta_own;
 }

@@ -9,14 +9,14 @@ use Rattle.sqlite_schema.specs.declared.command.Conflict.TheVariants.{Abort}
 use Rattle.fare_tables.specs.Queries.{count_query}
 use Rattle.sqlite_schema.specs.declared.command.Command.{Command}
 use Rattle.fare_tables.specs.Asking.{Reads}
-use Rattle.fare_layout.specs.declared.place.Kind.TheVariants.{Meta, Device, Tap, Stated}
+use Rattle.fare_opening.specs.Numbers.{Meta, Device, Tap, Stated}
 use Rattle.fare_layout.specs.declared.place.Place.{Place}
 use Rattle.fare_layout.specs.declared.place.Places.{Places}
 use Rattle.fare_layout.specs.Places.{place_of}
 use Rattle.fare_layout.specs.Commands.{IsMeant, IsSimpleCommand}
 use Rattle.fare_layout.proofs.Meant.{Meant, meant}
 use Rattle.fare_layout.specs.Layouts.{AreUnderstood}
-use Rattle.fare_opening.specs.Parts.{reads_meta, puts_meta}
+use Rattle.fare_opening.specs.Parts.{reads_meta, puts_meta, sets_meta}
 use Rattle.fare_ledger.specs.declared.layout.Layout.{Layout}
 use Rattle.fare_ledger.specs.Layouts.{schema_in, at_tree}
 use Rattle.fare_ledger.specs.Statements.{texts}
@@ -24,7 +24,7 @@ use Rattle.fare_ledger.specs.Tables.{ledger_schema, lane_query, stated_query, da
 
 -- where the tables stand in a database of a ledger alone
 abbrev pub own_places : Places
-own_places = record { meta = record { at = 0; tree = 0 }; device = record { at = 1; tree = 1 }; tap = record { at = 2; tree = 2 }; stated = record { at = 3; tree = 4 } }
+own_places = record { all = record { at = 0; tree = 0 } ∷ record { at = 1; tree = 1 } ∷ record { at = 2; tree = 2 } ∷ record { at = 3; tree = 4 } ∷ [] }
 
 abbrev pub tap_terms : List Term
 tap_terms = lit Null ∷ col 0 0 ∷ col 0 1 ∷ col 0 2 ∷ col 0 3 ∷ col 0 4 ∷ col 0 5 ∷ col 0 6 ∷ []
@@ -190,7 +190,7 @@ pub statements_reads : (o : Layout) → Reads (schema_in o) statements_text
 statements_reads o = ((statements_meant o).plain, (statements_meant o).selects)
 
 abbrev pub meta_text : List ℕ
-meta_text = codes "SELECT format, owner FROM meta"
+meta_text = codes "SELECT rowid, format, owner FROM meta"
 
 abbrev pub meta_at : Place → Command
 meta_at p = reads_meta p.tree
@@ -209,6 +209,16 @@ pub put_meta_own : IsMeant ledger_schema put_meta_text (put_meta_at (place_of ow
 unfolding everything ledger_schema
 put_meta_own = refl
 
+abbrev pub set_meta_text : List ℕ
+set_meta_text = codes "UPDATE meta SET format = ?1"
+
+abbrev pub set_meta_at : Place → Command
+set_meta_at p = sets_meta p.at p.tree
+
+pub set_meta_own : IsMeant ledger_schema set_meta_text (set_meta_at (place_of own_places Meta))
+unfolding everything ledger_schema
+set_meta_own = refl
+
 abbrev pub put_lane_text : List ℕ
 put_lane_text = codes "INSERT INTO lane (device, taken, closed) VALUES (?1, ?2, ?3) ON CONFLICT (device) DO UPDATE SET taken = excluded.taken, closed = excluded.closed"
 
@@ -223,7 +233,7 @@ unfolding everything ledger_schema
 put_lane_own = refl
 
 put_lane_means : (o : Layout) → IsMeant (schema_in o) put_lane_text (put_lane_command o)
-put_lane_means o = o.fits.keeps.1.1.1.1.1.1.1.1.1.0 (put_lane_at (place_of own_places Device)) put_lane_own
+put_lane_means o = o.fits.keeps.1.1.1.1.1.1.1.1.1.1.0 (put_lane_at (place_of own_places Device)) put_lane_own
 
 pub put_lane_meant : (o : Layout) → Meant (schema_in o) put_lane_text (put_lane_command o)
 put_lane_meant o = meant (schema_in o) put_lane_text (put_lane_command o) (put_lane_means o)
@@ -242,7 +252,7 @@ unfolding everything ledger_schema
 put_tap_own = refl
 
 put_tap_means : (o : Layout) → IsMeant (schema_in o) put_tap_text (put_tap_command o)
-put_tap_means o = o.fits.keeps.1.1.1.1.1.1.1.1.1.1.0 (put_tap_at (place_of own_places Tap)) put_tap_own
+put_tap_means o = o.fits.keeps.1.1.1.1.1.1.1.1.1.1.1.0 (put_tap_at (place_of own_places Tap)) put_tap_own
 
 pub put_tap_meant : (o : Layout) → Meant (schema_in o) put_tap_text (put_tap_command o)
 put_tap_meant o = meant (schema_in o) put_tap_text (put_tap_command o) (put_tap_means o)
@@ -261,7 +271,7 @@ unfolding everything ledger_schema
 put_stated_own = refl
 
 put_stated_means : (o : Layout) → IsMeant (schema_in o) put_stated_text (put_stated_command o)
-put_stated_means o = o.fits.keeps.1.1.1.1.1.1.1.1.1.1.1.0 (put_stated_at (place_of own_places Stated)) put_stated_own
+put_stated_means o = o.fits.keeps.1.1.1.1.1.1.1.1.1.1.1.1.0 (put_stated_at (place_of own_places Stated)) put_stated_own
 
 pub put_stated_meant : (o : Layout) → Meant (schema_in o) put_stated_text (put_stated_command o)
 put_stated_meant o = meant (schema_in o) put_stated_text (put_stated_command o) (put_stated_means o)
@@ -294,6 +304,9 @@ meta_simple = search
 pub put_meta_simple : IsSimpleCommand (put_meta_at (place_of own_places Meta))
 put_meta_simple = search
 
+pub set_meta_simple : IsSimpleCommand (set_meta_at (place_of own_places Meta))
+set_meta_simple = search
+
 pub put_lane_simple : IsSimpleCommand (put_lane_at (place_of own_places Device))
 put_lane_simple = search
 
@@ -304,4 +317,4 @@ pub put_stated_simple : IsSimpleCommand (put_stated_at (place_of own_places Stat
 put_stated_simple = search
 
 unfoldable pub understood_all : AreUnderstood ledger_schema texts
-understood_all = ((lane_at (place_of own_places Device), lane_own, lane_simple), ((stated_at (place_of own_places Stated), stated_own, stated_simple), ((day_at (place_of own_places Tap), day_own, day_simple), ((between_at (place_of own_places Tap), between_own, between_simple), ((begun_at (place_of own_places Device), begun_own, begun_simple), ((taps_at (place_of own_places Tap), taps_own, taps_simple), ((statements_at (place_of own_places Stated), statements_own, statements_simple), ((meta_at (place_of own_places Meta), meta_own, meta_simple), ((put_meta_at (place_of own_places Meta), put_meta_own, put_meta_simple), ((put_lane_at (place_of own_places Device), put_lane_own, put_lane_simple), ((put_tap_at (place_of own_places Tap), put_tap_own, put_tap_simple), ((put_stated_at (place_of own_places Stated), put_stated_own, put_stated_simple), tt))))))))))))
+understood_all = ((lane_at (place_of own_places Device), lane_own, lane_simple), ((stated_at (place_of own_places Stated), stated_own, stated_simple), ((day_at (place_of own_places Tap), day_own, day_simple), ((between_at (place_of own_places Tap), between_own, between_simple), ((begun_at (place_of own_places Device), begun_own, begun_simple), ((taps_at (place_of own_places Tap), taps_own, taps_simple), ((statements_at (place_of own_places Stated), statements_own, statements_simple), ((meta_at (place_of own_places Meta), meta_own, meta_simple), ((put_meta_at (place_of own_places Meta), put_meta_own, put_meta_simple), ((set_meta_at (place_of own_places Meta), set_meta_own, set_meta_simple), ((put_lane_at (place_of own_places Device), put_lane_own, put_lane_simple), ((put_tap_at (place_of own_places Tap), put_tap_own, put_tap_simple), ((put_stated_at (place_of own_places Stated), put_stated_own, put_stated_simple), tt)))))))))))))

@@ -1,8 +1,8 @@
 -- The statements of a ledger, and the schemas that they are made for.
 use Rattle.std.specs.Prelude.{ℕ, [], ◌∷◌, codes, List}
 use Rattle.sqlite.specs.Schema.{Schema}
-use Rattle.fare_layout.specs.declared.place.Kind.{Kind}
-use Rattle.fare_layout.specs.declared.place.Kind.TheVariants.{Meta, Device, Tap, Stated}
+use Rattle.fare_layout.specs.declared.place.TableNumber.{TableNumber}
+use Rattle.fare_opening.specs.Numbers.{Meta, Device, Tap, Stated}
 use Rattle.fare_layout.specs.declared.place.Places.{Places}
 use Rattle.fare_layout.specs.Layouts.{Fits}
 use Rattle.fare_opening.specs.Parts.{Parts}
@@ -17,8 +17,8 @@ tables =
     ∷ (codes "stated", codes "CREATE TABLE stated (device INTEGER NOT NULL, day INTEGER NOT NULL, total INTEGER NOT NULL, PRIMARY KEY (device, day)) STRICT")
     ∷ []
 
--- what is asked of the tables and written to them, each with its table: that of kind Device is lane
-abbrev pub texts : List (Kind × List ℕ)
+-- what is asked of the tables and written to them, each with its table: Device is lane here
+abbrev pub texts : List (TableNumber × List ℕ)
 texts =
     (Device, codes "SELECT taken, closed FROM lane WHERE device = ?1")
     ∷ (Stated, codes "SELECT total FROM stated WHERE device = ?1 AND day = ?2")
@@ -27,8 +27,9 @@ texts =
     ∷ (Device, codes "SELECT count(*) FROM lane WHERE taken > 0 OR closed > 0")
     ∷ (Tap, codes "SELECT count(*) FROM tap")
     ∷ (Stated, codes "SELECT count(*) FROM stated")
-    ∷ (Meta, codes "SELECT format, owner FROM meta")
+    ∷ (Meta, codes "SELECT rowid, format, owner FROM meta")
     ∷ (Meta, codes "INSERT INTO meta (format, owner) VALUES (?1, ?2)")
+    ∷ (Meta, codes "UPDATE meta SET format = ?1")
     ∷ (Device, codes "INSERT INTO lane (device, taken, closed) VALUES (?1, ?2, ?3) ON CONFLICT (device) DO UPDATE SET taken = excluded.taken, closed = excluded.closed")
     ∷ (Tap, codes "INSERT INTO tap (device, lane, link, product, token, moment, day) VALUES (?1, ?2, ?3, ?4, ?5, ?6, ?7)")
     ∷ (Stated, codes "INSERT INTO stated (device, day, total) VALUES (?1, ?2, ?3)")
@@ -40,4 +41,4 @@ FitsLedger schema places = Fits ledger_schema texts schema places
 
 -- what a ledger is made of
 abbrev pub ledger_parts : Parts
-ledger_parts = record { own = ledger_schema; tables = tables; texts = texts; format = 1 }
+ledger_parts = record { own = ledger_schema; tables = tables; texts = texts; format = 1; older = [] }

@@ -12,7 +12,7 @@ use Rattle.fare_owner.specs.declared.closing.CloseFault.{CloseFault}
 use Rattle.fare_store.specs.Standing.{Standing}
 use Rattle.fare_store.specs.LedgerWords.{LedgerValue, is_closed, take_judged, close_of}
 use Rattle.fare_tables.specs.Tabled.{tabled}
-use Rattle.fare_opening.specs.Opening.{IsMeta}
+use Rattle.fare_opening.specs.MetaRow.{IsMeta}
 use Rattle.fare_ledger.specs.declared.tables.SqlLedger.{SqlLedger}
 use Rattle.fare_ledger.specs.declared.lane.Lane.{Lane}
 use Rattle.fare_ledger.specs.Held.{Held, TapRow, StatedRow, AreReadable, held_of, is_of, stated_in, record_of}

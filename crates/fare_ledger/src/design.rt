@@ -1,8 +1,8 @@
 ghost use Rattle.fare_ledger.specs.Statements.{ledger_parts};
 
 use crate::statements::{TABLES, TEXTS};
-use fare_layout::Kind;
-use fare_opening::Design;
+use fare_layout::TableNumber;
+use fare_opening::{Design, Older};
 
 // What a ledger is made of: an owner's, of format 1.
 pub(crate) struct LedgerDesign;
@@ -14,12 +14,16 @@ impl Design for LedgerDesign {
         &TABLES
     }
 
-    fn texts() -> &'static [(Kind, &'static str)] {
+    fn texts() -> &'static [(TableNumber, &'static str)] {
         &TEXTS
     }
 
     fn format() -> u8 {
         1
+    }
+
+    fn older() -> &'static [Older] {
+        &[]
     }
 
     fn sound() {}

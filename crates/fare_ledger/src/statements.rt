@@ -1,5 +1,5 @@
-use fare_layout::Kind;
-use fare_opening::{META_TABLE, PUT_META, READ_META};
+use fare_layout::TableNumber;
+use fare_opening::{DEVICE, META, META_TABLE, PUT_META, READ_META, SET_META, STATED, TAP};
 
 /// The texts that make the tables, each with the name of its table.
 pub(crate) const TABLES: [(&str, &str); 4] = [
@@ -51,18 +51,19 @@ pub(crate) const PUT_TAP: &str =
 /// A statement.
 pub(crate) const PUT_STATED: &str = "INSERT INTO stated (device, day, total) VALUES (?1, ?2, ?3)";
 
-/// All statements of a ledger, each with its table: that of kind Device is `lane`.
-pub(crate) const TEXTS: [(Kind, &str); 12] = [
-    (Kind::Device, READ_LANE),
-    (Kind::Stated, READ_STATED),
-    (Kind::Tap, COUNT_DAY),
-    (Kind::Tap, READ_BETWEEN),
-    (Kind::Device, COUNT_BEGUN),
-    (Kind::Tap, COUNT_TAPS),
-    (Kind::Stated, COUNT_STATEMENTS),
-    (Kind::Meta, READ_META),
-    (Kind::Meta, PUT_META),
-    (Kind::Device, PUT_LANE),
-    (Kind::Tap, PUT_TAP),
-    (Kind::Stated, PUT_STATED),
+/// All statements of a ledger, each with its table: `DEVICE` is `lane` here.
+pub(crate) const TEXTS: [(TableNumber, &str); 13] = [
+    (DEVICE, READ_LANE),
+    (STATED, READ_STATED),
+    (TAP, COUNT_DAY),
+    (TAP, READ_BETWEEN),
+    (DEVICE, COUNT_BEGUN),
+    (TAP, COUNT_TAPS),
+    (STATED, COUNT_STATEMENTS),
+    (META, READ_META),
+    (META, PUT_META),
+    (META, SET_META),
+    (DEVICE, PUT_LANE),
+    (TAP, PUT_TAP),
+    (STATED, PUT_STATED),
 ];

@@ -1,5 +1,5 @@
 -- What questions find: a table wherever it stands, and the row of meta.
-use Rattle.std.proofs.Common.{◌≡◌, ◌<◌, ℕ, List, [], ◌∷◌, map, filter, false, true, nat_le, ◌^◌, Ok, Err, Result, IfOk, refl, sym, ap, subst, ◌∙◌, arith}
+use Rattle.std.proofs.Common.{◌≡◌, ◌<◌, ℕ, List, [], ◌∷◌, length, map, filter, false, true, nat_le, ◌^◌, Ok, Err, Result, IfOk, refl, sym, ap, subst, ◌∙◌, arith}
 use Rattle.std.proofs.lemmas.Bool.Decides.{nat_tests}
 use Rattle.std.specs.List.{AllByRecursion}
 use Rattle.std.specs.List.Sorted.{IsPermutation}
@@ -14,13 +14,14 @@ use Rattle.sqlite.specs.State.{State, Shown}
 use Rattle.sqlite.proofs.Callers.{reads_as, one_permutation}
 use Rattle.fare_tables.specs.Cells.{nat_in, int, counted}
 use Rattle.fare_tables.proofs.Terms.{matched}
-use Rattle.fare_layout.specs.declared.place.Kind.{Kind}
+use Rattle.fare_layout.specs.declared.place.TableNumber.{TableNumber}
 use Rattle.fare_layout.specs.Commands.{moved_query}
-use Rattle.fare_layout.specs.declared.place.Kind.TheVariants.{Meta}
+use Rattle.fare_layout.specs.Places.{all_of}
 use Rattle.fare_opening.specs.declared.site.Site.{Site}
 use Rattle.fare_opening.specs.Parts.{Parts, IsDesign, read_meta, meta_query}
+use Rattle.fare_opening.specs.Numbers.{Meta}
 use Rattle.fare_opening.specs.Sites.{IsSite, tree_at, rows_at}
-use Rattle.fare_opening.specs.Opening.{AreMeta, IsMeta}
+use Rattle.fare_opening.specs.MetaRow.{AreMeta, IsMeta}
 use Rattle.fare_opening.proofs.Standing.{meta_stands, low_tree, asks_meant}
 
 -- ---- what a cell shows
@@ -55,34 +56,34 @@ moved q tree number db other params rows same a = record {
 pub over : (db : Trees) (tree : ℕ) → nat_le (2 ^ 31) tree ≡ false → overlay db [] tree ≡ db tree
 over db tree low = rw low refl
 
-pub asked_at : (d : Parts) (w : Site) → IsSite d w → (k : Kind) (q : Query) (number : ℕ) (db other : Trees) (params : Row) (rows : List Row) → db (tree_at w k) ≡ other number → IsAnswer (moved_query (tree_at w k) q) (overlay db []) params rows
+pub asked_at : (d : Parts) (w : Site) → IsSite d w → (k : TableNumber) → k.number < length (all_of w.places) → (q : Query) (number : ℕ) (db other : Trees) (params : Row) (rows : List Row) → db (tree_at w k) ≡ other number → IsAnswer (moved_query (tree_at w k) q) (overlay db []) params rows
     → IsAnswer (moved_query number q) other params rows
-asked_at d w site k q number db other params rows same = moved q (tree_at w k) number db other params rows (over db (tree_at w k) (low_tree d w site k) ∙ same)
+asked_at d w site k within q number db other params rows same = moved q (tree_at w k) number db other params rows (over db (tree_at w k) (low_tree d w site k within) ∙ same)
 
 -- ---- the row of meta
 
-all_rows : (rows : List Row) → AllByRecursion (λ r. Unit {0}) rows
+pub all_rows : (rows : List Row) → AllByRecursion (λ r. Unit {0}) rows
 all_rows [] = tt
 all_rows (r ∷ rows) = (tt, all_rows rows)
 
-filter_all : (rows : List Row) → filter (λ r. true) rows ≡ rows
+pub filter_all : (rows : List Row) → filter (λ r. true) rows ≡ rows
 filter_all [] = refl
 filter_all (r ∷ rows) = ap (λ more. r ∷ more) (filter_all rows)
 
 abbrev shown : Row → Output
-shown r = ([], column r 1 ∷ column r 2 ∷ [])
+shown r = ([], column r 0 ∷ column r 1 ∷ column r 2 ∷ [])
 
 shown_all : (tree : ℕ) (rows : List Row) → map (output (meta_query tree)) (map (λ r. [] ∷ r ∷ []) rows) ≡ map shown rows
 shown_all tree [] = refl
 shown_all tree (r ∷ rows) = ap (λ more. shown r ∷ more) (shown_all tree rows)
 
 -- one output is of one row
-one_row : (format owner : ℕ) (stored : List Row) (ordered : List Output) → IsPermutation (map shown stored) ordered → AreMeta format owner (map (λ (p : Output). p.1) ordered) → (r : Row) × (stored ≡ r ∷ []) × AreMeta format owner ((column r 1 ∷ column r 2 ∷ []) ∷ [])
+one_row : (format owner : ℕ) (stored : List Row) (ordered : List Output) → IsPermutation (map shown stored) ordered → AreMeta format owner (map (λ (p : Output). p.1) ordered) → (r : Row) × (stored ≡ r ∷ []) × AreMeta format owner ((column r 0 ∷ column r 1 ∷ column r 2 ∷ []) ∷ [])
 one_row format owner stored [] same are = absurd are
 one_row format owner stored (o ∷ x ∷ more) same are = absurd are
 one_row format owner stored (o ∷ []) same are = by stored (one_permutation o (map shown stored) (IsPermutation-sym (map shown stored) (o ∷ []) same))
   where
-    by : (rows : List Row) → map shown rows ≡ o ∷ [] → (r : Row) × (rows ≡ r ∷ []) × AreMeta format owner ((column r 1 ∷ column r 2 ∷ []) ∷ [])
+    by : (rows : List Row) → map shown rows ≡ o ∷ [] → (r : Row) × (rows ≡ r ∷ []) × AreMeta format owner ((column r 0 ∷ column r 1 ∷ column r 2 ∷ []) ∷ [])
     by [] is = absurd cc
     by (r ∷ []) is = let one : shown r ≡ o = cc in (r, refl, subst (λ (y : Output). AreMeta format owner (y.1 ∷ [])) (sym one) are)
     by (r ∷ s ∷ rows) is = absurd cc
@@ -99,18 +100,18 @@ kept_rows d w old new rows design site has shows =
     let kept : a.kept ≡ map shown stored = a.distinct ∙ ap (map (output (meta_query tree))) staged ∙ shown_all tree stored in
     (a, kept ∙ ap (map shown) (over old.now.trees tree (meta_stands d w design site).low))
 
-pub meta_is : (d : Parts) (owner : ℕ) (w : Site) (old new : State) (rows : List Row) → IsDesign d → IsSite d w → old.now.schema ≡ w.schema → Shown read_meta [] old new rows → AreMeta d.format owner rows → IsMeta d.format owner (rows_at w Meta old.now.trees)
-meta_is d owner w old new rows design site has shows are =
+pub meta_is : (d : Parts) (format owner : ℕ) (w : Site) (old new : State) (rows : List Row) → IsDesign d → IsSite d w → old.now.schema ≡ w.schema → Shown read_meta [] old new rows → AreMeta format owner rows → IsMeta format owner (rows_at w Meta old.now.trees)
+meta_is d format owner w old new rows design site has shows are =
     let k = kept_rows d w old new rows design site has shows in
     let a = k.0 in
-    let it = one_row d.format owner (rows_at w Meta old.now.trees) a.ordered (subst (λ x. IsPermutation x a.ordered) k.1 a.same) (subst (AreMeta d.format owner) a.shown are) in
-    record { row = it.0; only = it.1; format_is = it.2.0; owner_is = it.2.1 }
+    let it = one_row format owner (rows_at w Meta old.now.trees) a.ordered (subst (λ x. IsPermutation x a.ordered) k.1 a.same) (subst (AreMeta format owner) a.shown are) in
+    record { row = it.0; only = it.1; is = record { id_is = it.2.id_is; format_is = it.2.format_is; owner_is = it.2.owner_is } }
 
 -- and where meta holds the row, the answer is that row
-pub meta_found : (d : Parts) (owner : ℕ) (w : Site) (old new : State) (rows : List Row) → IsDesign d → IsSite d w → old.now.schema ≡ w.schema → Shown read_meta [] old new rows → IsMeta d.format owner (rows_at w Meta old.now.trees) → AreMeta d.format owner rows
-meta_found d owner w old new rows design site has shows it =
+pub meta_found : (d : Parts) (format owner : ℕ) (w : Site) (old new : State) (rows : List Row) → IsDesign d → IsSite d w → old.now.schema ≡ w.schema → Shown read_meta [] old new rows → IsMeta format owner (rows_at w Meta old.now.trees) → AreMeta format owner rows
+meta_found d format owner w old new rows design site has shows it =
     let k = kept_rows d w old new rows design site has shows in
     let a = k.0 in
     let kept : a.kept ≡ shown it.row ∷ [] = k.1 ∙ ap (map shown) it.only in
     let one : a.ordered ≡ shown it.row ∷ [] = one_permutation (shown it.row) a.ordered (subst (λ x. IsPermutation x a.ordered) kept a.same) in
-    subst (AreMeta d.format owner) (sym (a.shown ∙ ap (map (λ (p : Output). p.1)) one)) (it.format_is, it.owner_is)
+    subst (AreMeta format owner) (sym (a.shown ∙ ap (map (λ (p : Output). p.1)) one)) (record { id_is = it.is.id_is; format_is = it.is.format_is; owner_is = it.is.owner_is })

@@ -8,19 +8,19 @@ use Rattle.sqlite.specs.Table.{Table}
 use Rattle.sqlite_trees.proofs.ListLemmas.{all-slice_get}
 use Rattle.fare_tables.specs.Making.{Defines, Made}
 use Rattle.fare_tables.proofs.Making.{on_ok}
-use Rattle.fare_layout.specs.declared.place.Kind.{Kind}
-use Rattle.fare_layout.specs.declared.place.Kind.TheVariants.{Meta, Device, Tap, Stated}
-use Rattle.fare_layout.specs.declared.place.Places.{Places}
-use Rattle.fare_layout.specs.Places.{place_of}
-use Rattle.fare_layout.specs.Growing.{Grows, GrowsBy, AreLast}
+use Rattle.fare_layout.specs.declared.place.Place.{Place}
+use Rattle.fare_layout.specs.declared.place.TableNumber.{TableNumber}
+use Rattle.fare_layout.specs.Places.{place_of, all_of, or_nowhere}
+use Rattle.fare_layout.specs.Growing.{Grows, GrowsBy, AreFrom}
 use Rattle.fare_layout.proofs.Grown.{first_made, one_longer}
 use Rattle.fare_layout.proofs.Meant.{same_some}
 use Rattle.fare_layout.proofs.Others.{others_then, all_kept, grown_at}
 use Rattle.fare_opening.specs.declared.site.Site.{Site}
-use Rattle.fare_opening.specs.Parts.{Parts}
+use Rattle.fare_opening.specs.Numbers.{Meta}
+use Rattle.fare_opening.specs.Parts.{Parts, IsDesign}
 use Rattle.fare_opening.specs.Sites.{rows_at}
 use Rattle.fare_opening.specs.Making.{Makes, HasGrown, IsBlank}
-use Rattle.fare_opening.proofs.Standing.{each_stands}
+use Rattle.fare_opening.proofs.Standing.{each_stands, meta_within}
 
 none_past : {X : Type 0} (xs : List X) (at : ℕ) (x : X) → length xs ≤ at → slice_get xs at ≡ Some x → ⊥
 none_past [] at x low is = absurd (let e = is in cc)
@@ -59,20 +59,19 @@ more_grown rest a b c next grown table made is grows later =
     }
 
 -- the places past those that were there
-past_those : (s : Schema) (p : Places) → AreLast s p → (k : Kind) → length s.tables ≤ (place_of p k).at
-past_those s p last Meta = let e = last.meta in omega (arith, e)
-past_those s p last Device = let e = last.device in omega (arith, e)
-past_those s p last Tap = let e = last.tap in omega (arith, e)
-past_those s p last Stated = let e = last.stated in omega (arith, e)
+pub past_nth : (at : ℕ) (ps : List Place) → AreFrom at ps → (k : ℕ) → k < length ps → at ≤ (or_nowhere (slice_get ps k)).at
+past_nth at [] from k low = absurd (omega (arith, low))
+past_nth at (p ∷ ps) from zero low = let e = from.0 in omega (arith, e)
+past_nth at (p ∷ ps) from (suc k) low = let e = past_nth (at + 1) ps from.1 k (omega (arith, low)) in omega (arith, e)
 
 -- the tables of a store that were made have no row
-pub grown_blank : (d : Parts) (w : Site) (a b : Database) → Makes d a.schema w → HasGrown w.schema a b → IsBlank w b
-grown_blank d w a b makes grown = record { schema = grown.schema; meta = none Meta; bare = λ k not. none k }
+pub grown_blank : (d : Parts) (w : Site) (a b : Database) → IsDesign d → Makes d a.schema w → HasGrown w.schema a b → IsBlank w b
+grown_blank d w a b design makes grown = record { schema = grown.schema; meta = none Meta (meta_within d w design makes.site); bare = λ k past low. none k low }
   where
-    none : (k : Kind) → rows_at w k b.trees ≡ []
-    none k =
-        let s = each_stands w.schema d.own.tables w.places makes.site.stands k in
-        grown.empty (place_of w.places k).at (record s.0 { tree = (place_of w.places k).tree }) (past_those a.schema w.places makes.last k) s.1.there
+    none : (k : TableNumber) → k.number < length (all_of w.places) → rows_at w k b.trees ≡ []
+    none k low =
+        let s = each_stands w.schema d.own.tables w.places makes.site.stands k low in
+        grown.empty (place_of w.places k).at (record s.0 { tree = (place_of w.places k).tree }) (past_nth (length a.schema.tables) (all_of w.places) makes.last k.number low) s.1.there
 
 -- with no text, nothing is made
 pub empty_grown : {X : Type 0} (f : X → List ℕ × List ℕ) (ts : List X) (a : Database) (grown : Schema) → length ts < 1 → GrowsBy a.schema (map f ts) grown → HasGrown grown a a

@@ -2,6 +2,9 @@ pub mod Standing
 pub mod Grown
 pub mod Makes
 pub mod Vacant
+pub mod Risen
 pub mod Asked
 pub mod Finds
+pub mod Raised
+pub mod Olders
 pub mod Orders

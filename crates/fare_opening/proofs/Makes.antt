@@ -1,5 +1,6 @@
 -- The row of meta, after the tables.
-use Rattle.std.proofs.Common.{◌≡◌, ◌≢◌, ◌<◌, ℕ, List, [], ◌∷◌, None, Ok, Err, Result, OnOk, refl, ap, sym, subst, ◌∙◌, arith}
+use Rattle.std.proofs.Common.{◌≡◌, ◌≢◌, ◌<◌, ℕ, List, [], ◌∷◌, length, None, Ok, Err, Result, OnOk, refl, ap, sym, subst, ◌∙◌, arith}
+use Rattle.std.specs.Prelude.{slice_get}
 use Rattle.std.specs.List.{AllByRecursion}
 use Rattle.sqlite.specs.declared.types.Value.TheVariants.{Null}
 use Rattle.sqlite_value.specs.Order.{Row}
@@ -19,14 +20,16 @@ use Rattle.sqlite.proofs.Callers.{statement_of, runs_as, one_step}
 use Rattle.fare_tables.specs.Cells.{int}
 use Rattle.fare_tables.specs.Queries.{meta_table}
 use Rattle.fare_tables.proofs.Statements.{made, cast_int, cast_null, went, same_value}
-use Rattle.fare_layout.specs.declared.place.Kind.TheVariants.{Meta}
-use Rattle.fare_layout.specs.Growing.{GrowsBy}
+use Rattle.fare_layout.specs.declared.place.Place.{Place}
+use Rattle.fare_layout.specs.Places.{place_of, all_of, or_nowhere}
+use Rattle.fare_layout.specs.Growing.{GrowsBy, AreFrom}
 use Rattle.fare_layout.proofs.Others.{all_two, all_below, grown_all, tree_next}
 use Rattle.fare_opening.specs.declared.site.Site.{Site}
 use Rattle.fare_opening.specs.Parts.{Parts, IsDesign, put_meta, puts_meta}
+use Rattle.fare_opening.specs.Numbers.{Meta}
 use Rattle.fare_opening.specs.Sites.{IsSite, tree_at}
 use Rattle.fare_opening.specs.Making.{Makes, MayGrow, KeepsOthers, KeepsAllButMeta, IsBlank, IsNew, MakesNew}
-use Rattle.fare_opening.proofs.Standing.{meta_stands, meta_placed, each_tree, is_not_meta, no_works, at_found, puts_meant}
+use Rattle.fare_opening.proofs.Standing.{meta_stands, meta_placed, meta_within, each_tree, is_not_meta, no_works, at_found, puts_meant}
 
 inserted : (format owner : ℕ) (db : Trees) (tree : ℕ) (rows : List Row) → db tree ≡ [] → rows ≡ (Null ∷ int format ∷ int owner ∷ []) ∷ [] → edited db (edit_of db (meta_table tree) [] Chosen 0 rows) ≡ (int 1 ∷ int format ∷ int owner ∷ []) ∷ []
 inserted format owner db tree rows none is = ap (λ all. edited db (edit_of db (meta_table tree) [] Chosen 0 all)) is ∙ rw none (simp (cast_int, cast_null))
@@ -37,7 +40,7 @@ puts_row d owner w old new count design site blank h =
     let db = old.now.trees in
     let tree = tree_at w Meta in
     let table = meta_table tree in
-    let command = puts_meta w.places.meta.at in
+    let command = puts_meta (place_of w.places Meta).at in
     let means = puts_meant d w design site in
     let run = runs_as put_meta params old new w.schema blank.schema command means.command_is means.plain count h in
     let text = statement_of put_meta (understood w.schema put_meta) in
@@ -47,21 +50,25 @@ puts_row d owner w old new count design site blank h =
     let written = went (went given.2).2 in
     let counted = went written.2 in
     let trees : new.now.trees ≡ written.0 = ap (λ (d : Database). d.trees) done.after_is ∙ ap (λ (it : Written). it.trees) (same_value counted.2) ∙ same_value counted.1 in
-    let step = one_step w.schema Enforced db written.0 (edit_of db table [] Chosen 0 given.0) (no_works d w site Meta Enforced db (edit_of db table [] Chosen 0 given.0) refl) written.1 in
+    let step = one_step w.schema Enforced db written.0 (edit_of db table [] Chosen 0 given.0) (no_works d w site Meta (meta_within d w design site) Enforced db (edit_of db table [] Chosen 0 given.0) refl) written.1 in
     let at : (k : ℕ) → new.now.trees k ≡ written.0 k = λ k. ap (λ (t : Trees). t k) trees in (
       record {
         schema = ap (λ (d : Database). d.schema) done.after_is;
         meta = at tree ∙ step.rows ∙ inserted d.format owner db tree given.0 blank.meta given.1.1;
-        bare = λ k not. at (tree_at w k) ∙ each_tree (λ n. n ≢ tree → written.0 n ≡ db n) d w site step.tables k (is_not_meta d w site k not) ∙ blank.bare k not;
+        bare = λ k past low. at (tree_at w k) ∙ each_tree (λ n. n ≢ tree → written.0 n ≡ db n) d w site step.tables k low (is_not_meta d w site k past low) ∙ blank.bare k past low;
       },
       subst (λ (t : Trees). AllByRecursion (λ (x : Table). x.tree ≢ tree → t x.tree ≡ db x.tree) w.schema.tables) (sym trees) step.tables,
     )
+
+first_at : (at : ℕ) (ps : List Place) → AreFrom at ps → 0 < length ps → (or_nowhere (slice_get ps 0)).at ≡ at
+first_at at [] from low = absurd (omega (arith, low))
+first_at at (p ∷ ps) from low = from.0
 
 -- the tree of meta is a new one
 meta_tree : (d : Parts) (w : Site) (s : Schema) → IsDesign d → Makes d s w → tree_at w Meta ≡ next_tree s
 meta_tree d w s design makes =
     let grows = subst (λ tables. GrowsBy s tables w.schema) design.tables_are makes.grows in
-    tree_next design.rest (meta_table 0) w.places.meta s grows.0 w.schema _ (meta_stands d w design makes.site) makes.last.meta grows.1 grows.2
+    tree_next design.rest (meta_table 0) (place_of w.places Meta) s grows.0 w.schema _ (meta_stands d w design makes.site) (first_at (length s.tables) (all_of w.places) makes.last (meta_within d w design makes.site)) grows.1 grows.2
 
 -- so what was there before keeps its rows
 pub others_kept : (d : Parts) (w : Site) (a b c : Database) → IsDesign d → Makes d a.schema w → KeepsOthers a b → KeepsAllButMeta w b c → KeepsOthers a c

@@ -1,5 +1,5 @@
 -- What has to be computed so that tables fit.
-use Rattle.std.proofs.Common.{◌≡◌, ◌≢◌, ◌+◌, ◌==◌, ◌&&◌, ◌||◌, ◌^◌, ℕ, nat_le, not, Bool, true, false, if◌then◌else◌, List, [], ◌∷◌, map, Option, Some, None, inl, inr, refl, sym, ap, subst, ◌∙◌, arith}
+use Rattle.std.proofs.Common.{◌≡◌, ◌≢◌, ◌+◌, ◌==◌, ◌&&◌, ◌||◌, ◌^◌, ℕ, nat_le, not, Bool, true, false, if◌then◌else◌, List, [], ◌∷◌, Option, Some, None, inl, inr, sym, ap, subst, ◌∙◌, arith}
 use Rattle.std.specs.Prelude.{slice_get}
 use Rattle.std.specs.List.{AllByRecursion, AllZip}
 use Rattle.std.proofs.lemmas.Bool.{cases_Bool}
@@ -10,17 +10,15 @@ use Rattle.sqlite_resolve.specs.Compile.{compiled}
 use Rattle.sqlite_schema.specs.Names.{table_named}
 use Rattle.sqlite_schema.specs.declared.command.Command.{Command}
 use Rattle.sqlite_schema.specs.declared.schema.Index.{Index}
-use Rattle.fare_layout.specs.declared.place.Kind.{Kind}
-use Rattle.fare_layout.specs.declared.place.Kind.TheVariants.{Meta, Device, Tap, Stated}
+use Rattle.fare_layout.specs.declared.place.TableNumber.{TableNumber}
 use Rattle.fare_layout.specs.declared.place.Place.{Place}
 use Rattle.fare_layout.specs.declared.place.Places.{Places}
-use Rattle.fare_layout.specs.Places.{place_of, all_of, AreApart}
+use Rattle.fare_layout.specs.Places.{place_of, all_of, IsApartFrom, AreApart}
 use Rattle.fare_layout.specs.Commands.{moved, Essence, essence, IsMeant, KeepsMeaning}
-use Rattle.fare_layout.specs.Layouts.{Stands, RefersElsewhere, IsFree, KeepsMeanings, Fits, AreUnderstood}
+use Rattle.fare_layout.specs.Layouts.{Stands, RefersElsewhere, IsFree, HasNoRowidIndex, KeepsMeanings, Fits, AreUnderstood}
 use Rattle.fare_layout.proofs.Meant.{same_some}
 use Rattle.fare_opening.specs.Parts.{Parts}
 use Rattle.fare_opening.specs.Orders.{Tables, width, made_of}
-use Rattle.fare_opening.proofs.Standing.{number_of}
 
 -- ---- where each table stands
 
@@ -56,18 +54,21 @@ stand_all s (t ∷ ts) (p ∷ ps) many is =
 
 -- ---- nothing else reaches into them
 
-abbrev pub have_own_trees : Places → Bool
-have_own_trees p = not (p.meta.tree == p.device.tree) && not (p.meta.tree == p.tap.tree) && not (p.meta.tree == p.stated.tree) && not (p.device.tree == p.tap.tree) && not (p.device.tree == p.stated.tree) && not (p.tap.tree == p.stated.tree)
+abbrev pub is_own_tree : ℕ → List Place → Bool
+is_own_tree tree [] = true
+is_own_tree tree (p ∷ ps) = not (tree == p.tree) && is_own_tree tree ps
 
-apart_all : (p : Places) → have_own_trees p ≡ true → AreApart p
-apart_all p is = record {
-  meta_device = λ e. grind (arith, nat_tests);
-  meta_tap = λ e. grind (arith, nat_tests);
-  meta_stated = λ e. grind (arith, nat_tests);
-  device_tap = λ e. grind (arith, nat_tests);
-  device_stated = λ e. grind (arith, nat_tests);
-  tap_stated = λ e. grind (arith, nat_tests);
-}
+abbrev pub have_own_trees : List Place → Bool
+have_own_trees [] = true
+have_own_trees (p ∷ ps) = is_own_tree p.tree ps && have_own_trees ps
+
+apart_from : (tree : ℕ) (ps : List Place) → is_own_tree tree ps ≡ true → IsApartFrom tree ps
+apart_from tree [] is = tt
+apart_from tree (p ∷ ps) is = (λ e. grind (arith, nat_tests), apart_from tree ps (grind (arith, nat_tests)))
+
+apart_all : (ps : List Place) → have_own_trees ps ≡ true → AreApart ps
+apart_all [] is = tt
+apart_all (p ∷ ps) is = (apart_from p.tree ps (grind (arith, nat_tests)), apart_all ps (grind (arith, nat_tests)))
 
 -- no table refers to another
 abbrev pub refer_to_none : List Table → Type 0
@@ -98,11 +99,11 @@ no_rowid tree (i ∷ is) none = elim (cases_Bool (is_rowid_first i.columns)) [
 
 -- ---- what the texts mean there
 
-abbrev pub meant_there : (own : Schema) → Places → (texts : List (Kind × List ℕ)) → AreUnderstood own texts → List (Option Essence)
+abbrev pub meant_there : (own : Schema) → Places → (texts : List (TableNumber × List ℕ)) → AreUnderstood own texts → List (Option Essence)
 meant_there own p [] u = []
 meant_there own p (t ∷ ts) u = Some (moved (place_of p t.0) u.0.0, None, []) ∷ meant_there own p ts u.1
 
-abbrev pub meanings : Schema → List (Kind × List ℕ) → List (Option Essence)
+abbrev pub meanings : Schema → List (TableNumber × List ℕ) → List (Option Essence)
 meanings s [] = []
 meanings s (t ∷ ts) = essence (compiled s t.1) ∷ meanings s ts
 
@@ -110,20 +111,24 @@ meanings s (t ∷ ts) = essence (compiled s t.1) ∷ meanings s ts
 keeps_as : (own s : Schema) (sql : List ℕ) (place : Place) (c : Command) → IsMeant own sql c → IsMeant s sql (moved place c) → KeepsMeaning own s place sql
 keeps_as own s sql place c is there d means = subst (λ x. IsMeant s sql (moved place x)) (ap (λ (e : Essence). e.0) (same_some (sym is ∙ means))) there
 
-keep_all : (own s : Schema) (p : Places) (texts : List (Kind × List ℕ)) (u : AreUnderstood own texts) → meanings s texts ≡ meant_there own p texts u → KeepsMeanings own s p texts
+keep_all : (own s : Schema) (p : Places) (texts : List (TableNumber × List ℕ)) (u : AreUnderstood own texts) → meanings s texts ≡ meant_there own p texts u → KeepsMeanings own s p texts
 keep_all own s p [] u is = tt
 keep_all own s p (t ∷ ts) u is = (keeps_as own s t.1 (place_of p t.0) u.0.0 u.0.1 (same_head is), keep_all own s p ts u.1 (same_tail is))
 
 -- ---- so they fit
 
-pub fit_as : (own : Schema) (texts : List (Kind × List ℕ)) (u : AreUnderstood own texts) (s : Schema) (p : Places) → are_as_many own.tables (all_of p) ≡ true → standing_there s own.tables (all_of p) ≡ should_stand own.tables (all_of p) → have_own_trees p ≡ true → refer_to_none s.tables
+each_place : (P : Place → Type 0) → ((q : Place) → P q) → (ps : List Place) → AllByRecursion P ps
+each_place P all [] = tt
+each_place P all (q ∷ ps) = (all q, each_place P all ps)
+
+pub fit_as : (own : Schema) (texts : List (TableNumber × List ℕ)) (u : AreUnderstood own texts) (s : Schema) (p : Places) → are_as_many own.tables (all_of p) ≡ true → standing_there s own.tables (all_of p) ≡ should_stand own.tables (all_of p) → have_own_trees (all_of p) ≡ true → refer_to_none s.tables
     → rowid_first s.indexes ≡ false → meanings s texts ≡ meant_there own p texts u → Fits own texts s p
 fit_as own texts u s p many stands apart none rowids means = record {
   stands = stand_all s own.tables (all_of p) many stands;
   untouched = record {
-    apart = apart_all p apart;
-    free = record { meta = free_all s p.meta.tree s.tables none; device = free_all s p.device.tree s.tables none; tap = free_all s p.tap.tree s.tables none; stated = free_all s p.stated.tree s.tables none };
-    by_rowid = no_rowid p.device.tree s.indexes rowids;
+    apart = apart_all (all_of p) apart;
+    free = each_place (λ (q : Place). IsFree s q.tree) (λ q. free_all s q.tree s.tables none) (all_of p);
+    by_rowid = each_place (λ (q : Place). HasNoRowidIndex s q.tree) (λ q. no_rowid q.tree s.indexes rowids) (all_of p);
   };
   keeps = keep_all own s p texts u means;
 }
@@ -131,14 +136,19 @@ fit_as own texts u s p many stands apart none rowids means = record {
 -- ---- in an order
 
 -- where a table comes to stand
-abbrev place_from : Tables → ℕ → ℕ → List Kind → Kind → Place
+abbrev place_from : Tables → ℕ → ℕ → List ℕ → ℕ → Place
 place_from table_of at tree [] k = record { at = 0; tree = 0 }
-place_from table_of at tree (j ∷ ks) k = if number_of j == number_of k then record { at = at; tree = tree } else place_from table_of (at + 1) (tree + width table_of j) ks k
+place_from table_of at tree (j ∷ ks) k = if j == k then record { at = at; tree = tree } else place_from table_of (at + 1) (tree + width table_of j) ks k
 
-abbrev pub places_of : Tables → List Kind → Places
-places_of table_of ks = record { meta = place_from table_of 0 0 ks Meta; device = place_from table_of 0 0 ks Device; tap = place_from table_of 0 0 ks Tap; stated = place_from table_of 0 0 ks Stated }
+-- and those from a number on
+abbrev places_from : Tables → List ℕ → ℕ → List Table → List Place
+places_from table_of ks k [] = []
+places_from table_of ks k (t ∷ tables) = place_from table_of 0 0 ks k ∷ places_from table_of ks (k + 1) tables
 
-pub in_order : (d : Parts) (u : AreUnderstood d.own d.texts) (table_of : Tables) (ks : List Kind) → are_as_many d.own.tables (all_of (places_of table_of ks)) ≡ true
-    → standing_there (made_of table_of ks) d.own.tables (all_of (places_of table_of ks)) ≡ should_stand d.own.tables (all_of (places_of table_of ks)) → have_own_trees (places_of table_of ks) ≡ true → refer_to_none (made_of table_of ks).tables
-    → rowid_first (made_of table_of ks).indexes ≡ false → meanings (made_of table_of ks) d.texts ≡ meant_there d.own (places_of table_of ks) d.texts u → (p : Places) × Fits d.own d.texts (made_of table_of ks) p
-in_order d u table_of ks many stands apart none rowids means = (places_of table_of ks, fit_as d.own d.texts u (made_of table_of ks) (places_of table_of ks) many stands apart none rowids means)
+abbrev pub places_of : Parts → Tables → List ℕ → Places
+places_of d table_of ks = record { all = places_from table_of ks 0 d.own.tables }
+
+pub in_order : (d : Parts) (u : AreUnderstood d.own d.texts) (table_of : Tables) (ks : List ℕ) → are_as_many d.own.tables (all_of (places_of d table_of ks)) ≡ true
+    → standing_there (made_of table_of ks) d.own.tables (all_of (places_of d table_of ks)) ≡ should_stand d.own.tables (all_of (places_of d table_of ks)) → have_own_trees (all_of (places_of d table_of ks)) ≡ true → refer_to_none (made_of table_of ks).tables
+    → rowid_first (made_of table_of ks).indexes ≡ false → meanings (made_of table_of ks) d.texts ≡ meant_there d.own (places_of d table_of ks) d.texts u → (p : Places) × Fits d.own d.texts (made_of table_of ks) p
+in_order d u table_of ks many stands apart none rowids means = (places_of d table_of ks, fit_as d.own d.texts u (made_of table_of ks) (places_of d table_of ks) many stands apart none rowids means)

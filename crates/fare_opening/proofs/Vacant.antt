@@ -10,31 +10,19 @@ use Rattle.sqlite_catalog.specs.Change.{is_used}
 use Rattle.sqlite_schema.specs.Names.{table_named}
 use Rattle.fare_tables.specs.Making.{no_schema}
 use Rattle.fare_layout.specs.declared.place.Place.{Place}
-use Rattle.fare_layout.specs.declared.place.Places.{Places}
-use Rattle.fare_layout.specs.Places.{all_of}
-use Rattle.fare_layout.specs.Growing.{CanMakeAll, GrowsBy, HasNone, AreLast}
+use Rattle.fare_layout.specs.Places.{place_of, all_of}
+use Rattle.fare_layout.specs.Growing.{CanMakeAll, GrowsBy, HasNone, AreFrom, AreLast}
 use Rattle.fare_layout.specs.Layouts.{Stands}
 use Rattle.fare_layout.proofs.Again.{can_again, same_grown}
 use Rattle.fare_layout.proofs.Others.{tree_next, longer}
 use Rattle.fare_opening.specs.declared.site.Site.{Site}
 use Rattle.fare_opening.specs.Parts.{Parts, IsDesign, HasFewKeys, meta_name}
+use Rattle.fare_opening.specs.Numbers.{Meta}
 use Rattle.fare_opening.specs.Sites.{IsSite}
 use Rattle.fare_opening.specs.Making.{Makes}
 use Rattle.fare_opening.proofs.Standing.{meta_stands, same_at}
 
 -- ---- the tables can be made again
-
--- one place after the other
-abbrev AreFrom : ℕ → List Place → Type 0
-AreFrom at [] = Unit {0}
-AreFrom at (p ∷ places) = (p.at ≡ at) × AreFrom (at + 1) places
-
-last_from : (s : Schema) (p : Places) → AreLast s p → AreFrom (length s.tables) (all_of p)
-last_from s p last =
-    let n = length s.tables in
-    let device = last.device in
-    let tap = last.tap in
-    let stated = last.stated in (last.meta, (device, (omega (arith, tap), (omega (arith, stated), tt))))
 
 -- a tree below those that a statement computes leaves numbers for the keys
 room_of : (tree next more : ℕ) → nat_le (2 ^ 31) tree ≡ false → tree ≡ next → more < 1000 → next + more + 1 < 2 ^ 32
@@ -43,7 +31,7 @@ room_of tree next more low is few = grind (arith, nat_tests)
 few_of : (sql : List ℕ) (table : Table) → table_defined_by sql ≡ Ok table → HasFewKeys sql → length table.uniques < 1000
 few_of sql table is few = subst (λ r. IfOk r (λ t. length t.uniques < 1000)) is few
 
-again_all : (texts : List (List ℕ × List ℕ)) (s t last : Schema) (owns : List Table) (places : List Place) → length owns ≡ length texts → GrowsBy s texts last → CanMakeAll t texts → AllByRecursion (λ (x : List ℕ × List ℕ). HasFewKeys x.1) texts
+pub again_all : (texts : List (List ℕ × List ℕ)) (s t last : Schema) (owns : List Table) (places : List Place) → length owns ≡ length texts → GrowsBy s texts last → CanMakeAll t texts → AllByRecursion (λ (x : List ℕ × List ℕ). HasFewKeys x.1) texts
     → AllZip (Stands last) owns places → AreFrom (length s.tables) places → CanMakeAll s texts
 again_all [] s t last owns places many grows can few stands from = tt
 again_all (text ∷ texts) s t last [] places many grows can few stands from = absurd (let e = many in cc)
@@ -62,7 +50,7 @@ again_all (text ∷ texts) s t last (own ∷ owns) (p ∷ places) many grows can
     same_less {n = n} {m = m} e = omega (arith, e)
 
 pub can_make_again : (d : Parts) (w : Site) (s : Schema) → IsDesign d → Makes d s w → CanMakeAll s d.tables
-can_make_again d w s design makes = again_all d.tables s no_schema w.schema d.own.tables (all_of w.places) design.many makes.grows design.can design.few makes.site.stands (last_from s w.places makes.last)
+can_make_again d w s design makes = again_all d.tables s no_schema w.schema d.own.tables (all_of w.places) design.many makes.grows design.can design.few makes.site.stands makes.last
 
 -- ---- and are made alike
 
@@ -70,7 +58,7 @@ pub made_alike : (d : Parts) (w : Site) (s grown : Schema) → Makes d s w → G
 made_alike d w s grown makes grows = same_grown d.tables s s grown w.schema refl grows makes.grows
 
 -- and stand there last
-pub last_alike : (d : Parts) (v w : Site) (s grown : Schema) → IsSite d v → Makes d s w → GrowsBy s d.tables grown → grown ≡ v.schema → AreLast s v.places
+pub last_alike : (d : Parts) (v w : Site) (s grown : Schema) → IsSite d v → Makes d s w → GrowsBy s d.tables grown → grown ≡ v.schema → AreLast s (all_of v.places)
 last_alike d v w s grown site makes grows is = subst (AreLast s) (sym (same_at d v w site makes.site (sym is ∙ made_alike d w s grown makes grows))) makes.last
 
 -- ---- in a database with no table
@@ -82,11 +70,11 @@ abbrev pub home_of : (d : Parts) → IsDesign d → Site
 home_of d design = record { schema = d.own; places = design.home }
 
 -- they stand there as in a database of the store alone
-pub blank_last : (d : Parts) (w : Site) (s grown : Schema) → IsDesign d → IsSite d w → s ≡ no_schema → GrowsBy s d.tables grown → grown ≡ w.schema → AreLast s w.places
+pub blank_last : (d : Parts) (w : Site) (s grown : Schema) → IsDesign d → IsSite d w → s ≡ no_schema → GrowsBy s d.tables grown → grown ≡ w.schema → AreLast s (all_of w.places)
 blank_last d w s grown design site blank grows is =
     let own : w.schema ≡ d.own = sym is ∙ own_grown d s grown design blank grows in
-    let places : w.places ≡ design.home = same_at d w (home_of d design) site design.at_home own in
-    subst (λ x. AreLast x w.places) (sym blank) (subst (AreLast no_schema) (sym places) design.last)
+    let places : all_of w.places ≡ all_of design.home = same_at d w (home_of d design) site design.at_home own in
+    subst (λ x. AreLast x (all_of w.places)) (sym blank) (subst (AreLast no_schema) (sym places) design.last)
 
 -- ---- names
 
@@ -101,7 +89,7 @@ vacant_of d s blank = subst (HasNone d.tables) (sym blank) (all_free d.tables)
 -- where the tables stand, their names are taken
 pub not_vacant : (d : Parts) (w : Site) (s : Schema) → IsDesign d → IsSite d w → HasNone d.tables s → s ≡ w.schema → ⊥
 not_vacant d w s design site none is =
-    let named : table_named w.schema meta_name ≡ Some w.places.meta.at = (meta_stands d w design site).named in
+    let named : table_named w.schema meta_name ≡ Some (place_of w.places Meta).at = (meta_stands d w design site).named in
     let names = subst (λ tables. HasNone tables s) design.tables_are none in
     let free : is_used w.schema meta_name ≡ false = subst (λ x. is_used x meta_name ≡ false) is names.0 in
     let used : is_used w.schema meta_name ≡ true = rw named refl in

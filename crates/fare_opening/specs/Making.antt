@@ -7,8 +7,9 @@ use Rattle.sqlite.specs.Schema.{Schema}
 use Rattle.sqlite.specs.Table.{Table}
 use Rattle.sqlite.specs.Tree.{Trees}
 use Rattle.fare_tables.specs.Cells.{int}
-use Rattle.fare_layout.specs.declared.place.Kind.TheVariants.{Meta}
+use Rattle.fare_opening.specs.Numbers.{Meta}
 use Rattle.fare_layout.specs.Growing.{GrowsBy, AreLast}
+use Rattle.fare_layout.specs.Places.{all_of}
 use Rattle.fare_opening.specs.declared.site.Site.{Site}
 use Rattle.fare_opening.specs.Parts.{Parts}
 use Rattle.fare_opening.specs.Sites.{IsSite, tree_at, rows_at, IsBare}
@@ -17,7 +18,7 @@ use Rattle.fare_opening.specs.Sites.{IsSite, tree_at, rows_at, IsBare}
 pub record Makes (d : Parts) (schema : Schema) (w : Site) : Type 0 where
   pub site : IsSite d w
   pub grows : GrowsBy schema d.tables w.schema
-  pub last : AreLast schema w.places
+  pub last : AreLast schema (all_of w.places)
 
 -- the tables can be made in a schema
 pub record MayGrow (d : Parts) (schema : Schema) : Type 0 where

@@ -1,8 +1,8 @@
 -- What a store in tables is made of.
-use Rattle.std.specs.Prelude.{◌≡◌, ◌<◌, ℕ, codes, List, [], ◌∷◌, length, slice_get, Some, IfOk}
+use Rattle.std.specs.Prelude.{◌≡◌, ◌<◌, ◌++◌, ℕ, codes, List, [], ◌∷◌, map, length, slice_get, Some, IfOk}
 use Rattle.std.specs.List.{AllByRecursion}
 use Rattle.sqlite.specs.declared.types.Value.TheVariants.{Null}
-use Rattle.sqlite.specs.Command.TheVariants.{Insert, Select}
+use Rattle.sqlite.specs.Command.TheVariants.{Insert, Select, Update}
 use Rattle.sqlite.specs.Compile.{table_defined_by}
 use Rattle.sqlite.specs.Query.{Query}
 use Rattle.sqlite.specs.Schema.{Schema}
@@ -12,13 +12,24 @@ use Rattle.sqlite_rules.specs.Lists.{Has}
 use Rattle.sqlite_schema.specs.declared.command.Command.{Command}
 use Rattle.fare_tables.specs.Making.{no_schema}
 use Rattle.fare_tables.specs.Queries.{query, meta_table}
-use Rattle.fare_layout.specs.declared.place.Kind.{Kind}
-use Rattle.fare_layout.specs.declared.place.Kind.TheVariants.{Meta}
+use Rattle.fare_layout.specs.declared.place.TableNumber.{TableNumber}
+use Rattle.fare_opening.specs.declared.design.Older.{Older}
+use Rattle.fare_opening.specs.Numbers.{Meta}
 use Rattle.fare_layout.specs.declared.place.Places.{Places}
 use Rattle.fare_layout.specs.Commands.{IsMeant}
 use Rattle.fare_layout.specs.Growing.{CanMakeAll, GrowsBy, AreLast}
 use Rattle.fare_layout.specs.Layouts.{Fits, AreUnderstood}
+use Rattle.fare_layout.specs.Places.{all_of}
 use Rattle.fare_layout.specs.Schemas.{IsSimpleTable}
+
+-- an older format
+pub record OlderParts : Type 0 where
+  pub own : Schema
+  pub tables : List (List ℕ × List ℕ)
+  pub texts : List (TableNumber × List ℕ)
+  pub format : ℕ
+  -- what makes the tables that it lacks
+  pub missing : List (List ℕ × List ℕ)
 
 pub record Parts : Type 0 where
   -- its schema in a database of its own
@@ -26,9 +37,15 @@ pub record Parts : Type 0 where
   -- what makes its tables, each with its name
   pub tables : List (List ℕ × List ℕ)
   -- what is asked of them and written to them, each with its table
-  pub texts : List (Kind × List ℕ)
+  pub texts : List (TableNumber × List ℕ)
   -- its format
   pub format : ℕ
+  -- those from which it is raised
+  pub older : List OlderParts
+
+-- what a store of an older format is made of
+abbrev pub parts_of : OlderParts → Parts
+parts_of o = record { own = o.own; tables = o.tables; texts = o.texts; format = o.format; older = [] }
 
 -- META: the table that says whose tables these are, and of what format
 abbrev pub meta_name : List ℕ
@@ -38,21 +55,31 @@ abbrev pub meta_text : List ℕ
 meta_text = codes "CREATE TABLE meta (format INTEGER NOT NULL, owner INTEGER NOT NULL) STRICT"
 
 abbrev pub read_meta : List ℕ
-read_meta = codes "SELECT format, owner FROM meta"
+read_meta = codes "SELECT rowid, format, owner FROM meta"
 
 abbrev pub put_meta : List ℕ
 put_meta = codes "INSERT INTO meta (format, owner) VALUES (?1, ?2)"
 
+abbrev pub set_meta : List ℕ
+set_meta = codes "UPDATE meta SET format = ?1"
+
 abbrev pub meta_query : ℕ → Query
-meta_query tree = query tree [] (col 1 1 ∷ col 1 2 ∷ []) []
+meta_query tree = query tree [] (col 1 0 ∷ col 1 1 ∷ col 1 2 ∷ []) []
 
 -- its rows, read
 abbrev pub reads_meta : ℕ → Command
-reads_meta tree = Select (record { lets = []; body = meta_query tree }) (codes "format" ∷ codes "owner" ∷ [])
+reads_meta tree = Select (record { lets = []; body = meta_query tree }) (codes "rowid" ∷ codes "format" ∷ codes "owner" ∷ [])
 
 -- a row, written to the table at this place
 abbrev pub puts_meta : ℕ → Command
 puts_meta at = Insert at (Values (lit Null ∷ col 0 0 ∷ col 0 1 ∷ []) 3)
+
+-- the format in each row, set: a row's rowid, and the row that takes its place
+abbrev pub set_query : ℕ → Query
+set_query tree = query tree [] (col 1 0 ∷ col 1 0 ∷ col 0 0 ∷ col 1 2 ∷ []) []
+
+abbrev pub sets_meta : ℕ → ℕ → Command
+sets_meta at tree = Update at (record { lets = []; body = set_query tree })
 
 -- a text makes a table with few keys, so that there are numbers for their trees
 abbrev pub HasFewKeys : List ℕ → Type 0
@@ -71,8 +98,22 @@ pub record IsDesign (d : Parts) : Type 0 where
   pub understood : AreUnderstood d.own d.texts
   pub home : Places
   pub at_home : Fits d.own d.texts d.own home
-  pub last : AreLast no_schema home
+  pub last : AreLast no_schema (all_of home)
   pub asks : Has d.texts (Meta, read_meta)
   pub asks_meant : IsMeant d.own read_meta (reads_meta 0)
   pub puts : Has d.texts (Meta, put_meta)
   pub puts_meant : IsMeant d.own put_meta (puts_meta 0)
+  pub sets : Has d.texts (Meta, set_meta)
+  pub sets_meant : IsMeant d.own set_meta (sets_meta 0 0)
+
+-- an older format is a store's too, and the newest has its tables first, and then those that it lacks
+pub record IsOlder (d : Parts) (o : OlderParts) : Type 0 where
+  pub design : IsDesign (parts_of o)
+  pub tables_are : d.tables ≡ o.tables ++ o.missing
+
+-- and it is told so
+pub record IsTold (told : Older) (o : OlderParts) : Type 0 where
+  pub format : told.format ≡ o.format
+  pub tables : map (λ t. (t.0.now, t.1.now)) told.tables.now ≡ o.tables
+  pub missing : map (λ t. (t.0.now, t.1.now)) told.missing.now ≡ o.missing
+  pub texts : map (λ t. (t.0, t.1.now)) told.texts.now ≡ o.texts

@@ -1,11 +1,10 @@
 -- Where a store's tables stand.
-use Rattle.std.specs.Prelude.{◌≡◌, ◌≢◌, ℕ, List, []}
+use Rattle.std.specs.Prelude.{◌≡◌, ◌<◌, ℕ, List, [], length}
 use Rattle.sqlite_value.specs.Order.{Row}
 use Rattle.sqlite.specs.Tree.{Trees}
-use Rattle.fare_layout.specs.declared.place.Kind.{Kind}
-use Rattle.fare_layout.specs.declared.place.Kind.TheVariants.{Meta}
+use Rattle.fare_layout.specs.declared.place.TableNumber.{TableNumber}
 use Rattle.fare_layout.specs.Layouts.{Fits}
-use Rattle.fare_layout.specs.Places.{place_of}
+use Rattle.fare_layout.specs.Places.{place_of, all_of}
 use Rattle.fare_opening.specs.declared.site.Site.{Site}
 use Rattle.fare_opening.specs.Parts.{Parts}
 
@@ -14,13 +13,13 @@ abbrev pub IsSite : Parts → Site → Type 0
 IsSite d w = Fits d.own d.texts w.schema w.places
 
 -- the tree of a table
-abbrev pub tree_at : Site → Kind → ℕ
-tree_at w kind = (place_of w.places kind).tree
+abbrev pub tree_at : Site → TableNumber → ℕ
+tree_at w table = (place_of w.places table).tree
 
 -- its rows
-abbrev pub rows_at : Site → Kind → Trees → List Row
-rows_at w kind trees = trees (tree_at w kind)
+abbrev pub rows_at : Site → TableNumber → Trees → List Row
+rows_at w table trees = trees (tree_at w table)
 
 -- each table but meta has no row
 abbrev pub IsBare : Site → Trees → Type 0
-IsBare w trees = (k : Kind) → k ≢ Meta → rows_at w k trees ≡ []
+IsBare w trees = (k : TableNumber) → 0 < k.number → k.number < length (all_of w.places) → rows_at w k trees ≡ []

@@ -1,7 +1,8 @@
 ghost use Rattle.std.specs.Prelude.{◌≡◌, map};
-ghost use Rattle.fare_opening.specs.Parts.{Parts, IsDesign};
+ghost use Rattle.std.specs.List.{AllByRecursion, AllZip};
+ghost use Rattle.fare_opening.specs.Parts.{Parts, IsDesign, IsOlder, IsTold};
 
-use fare_layout::Kind;
+use fare_layout::TableNumber;
 
 /// The text that makes the table that says whose tables these are, with its name. Each store has it first.
 pub const META_TABLE: (&str, &str) = (
@@ -9,15 +10,31 @@ pub const META_TABLE: (&str, &str) = (
     "CREATE TABLE meta (format INTEGER NOT NULL, owner INTEGER NOT NULL) STRICT",
 );
 
-/// Whose tables these are, and of what format.
-pub const READ_META: &str = "SELECT format, owner FROM meta";
+/// Whose tables these are, and of what format, with the row's number.
+pub const READ_META: &str = "SELECT rowid, format, owner FROM meta";
 
 /// They are of this format, and this owner's.
 pub const PUT_META: &str = "INSERT INTO meta (format, owner) VALUES (?1, ?2)";
 
+/// They are of this format now.
+pub const SET_META: &str = "UPDATE meta SET format = ?1";
+
+/// An older format of a store, which has the first of its tables.
+pub struct Older {
+    /// The format, which its row of `meta` has.
+    pub format: u8,
+    /// The texts that make its tables, each with the name of its table.
+    pub tables: &'static [(&'static str, &'static str)],
+    /// Those that make the tables which it lacks.
+    pub missing: &'static [(&'static str, &'static str)],
+    /// The texts of its statements, each with the table that it is of: `READ_META`, `PUT_META` and `SET_META` among
+    /// them.
+    pub texts: &'static [(TableNumber, &'static str)],
+}
+
 /// What a store in tables is made of.
 pub trait Design {
-    /// Its schema in a database of its own, its tables, its statements and its format.
+    /// Its schema in a database of its own, its tables, its statements, its format and its older ones.
     ghost parts: { Parts };
 
     /// The texts that make its tables, each with the name of its table, in the order in which they are made: first
@@ -25,16 +42,23 @@ pub trait Design {
     fn tables() -> &'static [(&'static str, &'static str)]
         ensures { map (λ t. (t.0.now, t.1.now)) result.now ≡ parts.tables };
 
-    /// The texts of its statements, each with the table that it is of: `READ_META` and `PUT_META` among them.
-    fn texts() -> &'static [(Kind, &'static str)]
+    /// The texts of its statements, each with the table that it is of: `READ_META`, `PUT_META` and `SET_META` among
+    /// them.
+    fn texts() -> &'static [(TableNumber, &'static str)]
         ensures { map (λ t. (t.0, t.1.now)) result.now ≡ parts.texts };
 
     /// Its format, which its row of `meta` has.
     fn format() -> u8
         ensures { result ≡ parts.format };
 
-    /// Its tables can be made, its statements mean what they should where they are, and no text needs another table.
-    /// This does nothing, and its contract says it.
+    /// Its older formats, which an open raises to this one.
+    fn older() -> &'static [Older]
+        ensures { AllZip IsTold result.now parts.older };
+
+    /// Its tables can be made, its statements mean what they should where they are, and no text needs another table;
+    /// so it is of each older format too, and the tables that this one lacks are the last of them. This does
+    /// nothing, and its contract says it.
     fn sound()
-        ensures { IsDesign parts };
+        ensures design { IsDesign parts }
+        ensures older { AllByRecursion (IsOlder parts) parts.older };
 }

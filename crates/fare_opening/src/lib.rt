@@ -1,18 +1,24 @@
 //! What opens a store in tables, whatever the store is: the store is told by its `Design`, its tables' texts, its
-//! statements' texts and its format. It promises that a database in which the tables stand, with their one row of
-//! `meta`, is found and stays as it is; that one in which nothing has a name of theirs gets them in one transaction,
-//! past what it holds, which stays; and that anything else is told apart from both and stays.
+//! statements' texts, its format and its older ones. It promises that a database in which the tables stand, with their
+//! one row of `meta`, is found and stays as it is; that one in which nothing has a name of theirs gets them in one
+//! transaction, past what it holds, which stays; that a store of an older format gets the tables that it lacks, and the
+//! newest format, in one transaction, and keeps its rows; and that anything else is told apart from these and stays.
 #![tactic(auto)]
 
+mod ascent;
 mod asking;
 mod design;
 mod looking;
 mod making;
 mod meta;
+mod numbers;
 mod opening;
+mod raising;
+mod rising;
 mod site;
 
 pub use asking::{ask, ask_rows};
-pub use design::{Design, META_TABLE, PUT_META, READ_META};
+pub use design::{Design, META_TABLE, Older, PUT_META, READ_META, SET_META};
+pub use numbers::{DEVICE, META, STATED, TAP};
 pub use opening::{Opened, open_tables};
 pub use site::Site;

@@ -1,12 +1,14 @@
-ghost use Rattle.std.specs.Prelude.{◌≡◌, ◌≢◌, None, IfOk, IfSome};
-ghost use Rattle.fare_layout.specs.Layouts.{Fits};
+ghost use Rattle.std.specs.Prelude.{◌≡◌, ◌≢◌, None, IfOk, IfSome, map};
+ghost use Rattle.fare_layout.specs.Growing.{CanMakeAll, GrowsBy};
 ghost use Rattle.fare_tables.specs.Making.{no_schema};
+ghost use Rattle.fare_opening.specs.declared.site.Site.{Site};
+ghost use Rattle.fare_opening.specs.Parts.{Parts, IsDesign};
 ghost use Rattle.fare_opening.specs.Sites.{IsSite};
 ghost use Rattle.fare_opening.specs.Making.{Makes, MayGrow};
 ghost use Rattle.fare_opening.specs.Opening.{Sees};
 
 use crate::{Design, Site};
-use fare_layout::{Places, are_last, find_places, grow_by, has_none};
+use fare_layout::{Places, TableNumber, are_last, find_places, grow_by, has_none};
 use fare_store::Fault;
 use sqlite_schema::schema::Schema;
 use std::alloc::Global;
@@ -22,17 +24,6 @@ pub(crate) enum Seen {
     Other,
 }
 
-// The schema of a database of the store alone.
-fn own_schema<D: Design>(alloc: Global) -> Result<Schema, Fault>
-    ensures own { IfOk result (λ schema. schema ≡ D.parts.own) }
-{
-    D::sound();
-    match grow_by(alloc, &Schema::new(alloc), D::tables())? {
-        Some(schema) => Ok(schema),
-        None => unreachable!(),
-    }
-}
-
 // A schema and the places in it.
 fn site_at(alloc: Global, schema: &Schema, places: Places) -> Result<Site, Fault>
     ensures schema { IfOk result (λ site. site.schema ≡ schema.now) }
@@ -44,15 +35,46 @@ fn site_at(alloc: Global, schema: &Schema, places: Places) -> Result<Site, Fault
     }
 }
 
+// Where tables stand in a schema, if they do: those that these texts make, with these statements.
+pub(crate) fn find_site(
+    alloc: Global,
+    schema: &Schema,
+    tables: &[(&str, &str)],
+    texts: &[(TableNumber, &str)],
+) -> Result<Option<Site>, Fault>
+    ensures found { IfOk result (λ found. IfSome found (λ site. (p : Parts) → IsDesign p → map (λ t. (t.0.now, t.1.now)) tables.now ≡ p.tables → map (λ t. (t.0, t.1.now)) texts.now ≡ p.texts → IsSite p site × (schema.now ≡ site.schema))) }
+    ensures at { IfOk result (λ found. IfSome found (λ site. schema.now ≡ site.schema)) }
+    ensures lacks { IfOk result (λ found. found ≡ None → (p : Parts) → IsDesign p → map (λ t. (t.0.now, t.1.now)) tables.now ≡ p.tables → map (λ t. (t.0, t.1.now)) texts.now ≡ p.texts → (w : Site) → IsSite p w → schema.now ≢ w.schema) }
+{
+    let Some(own) = grow_by(alloc, &Schema::new(alloc), tables)? else {
+        return Ok(None);
+    };
+    match find_places(alloc, &own, schema, texts)? {
+        Some(places) => Ok(Some(site_at(alloc, schema, places)?)),
+        None => Ok(None),
+    }
+}
+
 // Where the store's tables stand in a schema, if they do.
 fn site_in<D: Design>(alloc: Global, schema: &Schema) -> Result<Option<Site>, Fault>
     ensures found { IfOk result (λ found. IfSome found (λ site. IsSite D.parts site × (schema.now ≡ site.schema))) }
     ensures lacks { IfOk result (λ found. found ≡ None → (w : Site) → IsSite D.parts w → schema.now ≢ w.schema) }
 {
     D::sound();
-    let own = own_schema::<D>(alloc)?;
-    match find_places(alloc, &own, schema, D::texts())? {
-        Some(places) => Ok(Some(site_at(alloc, schema, places)?)),
+    find_site(alloc, schema, D::tables(), D::texts())
+}
+
+// Where the store's tables would stand if these were made in a schema, if they would.
+pub(crate) fn grown_site<D: Design>(
+    alloc: Global,
+    schema: &Schema,
+    tables: &[(&str, &str)],
+) -> Result<Option<Site>, Fault>
+    ensures found { IfOk result (λ found. IfSome found (λ w. IsSite D.parts w × GrowsBy schema.now (map (λ t. (t.0.now, t.1.now)) tables.now) w.schema)) }
+    ensures lacks { IfOk result (λ found. found ≡ None → CanMakeAll schema.now (map (λ t. (t.0.now, t.1.now)) tables.now) → (w : Site) → IsSite D.parts w → ¬ GrowsBy schema.now (map (λ t. (t.0.now, t.1.now)) tables.now) w.schema) }
+{
+    match grow_by(alloc, schema, tables)? {
+        Some(grown) => site_in::<D>(alloc, &grown),
         None => Ok(None),
     }
 }
@@ -64,13 +86,10 @@ fn site_after<D: Design>(alloc: Global, schema: &Schema) -> Result<Option<Site>,
     ensures vacant { IfOk result (λ found. found ≡ None → ¬ MayGrow D.parts schema.now) }
 {
     D::sound();
-    let Some(grown) = grow_by(alloc, schema, D::tables())? else {
+    let Some(site) = grown_site::<D>(alloc, schema, D::tables())? else {
         return Ok(None);
     };
-    let Some(site) = site_in::<D>(alloc, &grown)? else {
-        return Ok(None);
-    };
-    if are_last(schema, site.places) {
+    if are_last(schema, site.places.all.as_slice()) {
         Ok(Some(site))
     } else {
         Ok(None)

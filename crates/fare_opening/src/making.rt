@@ -16,7 +16,10 @@ use fare_tables::{change, fault_of, make_table, parameter};
 use sqlite::{Alter, Connection, Transaction};
 
 // Tables, one after the other, after those that are there.
-fn make_tables<S: Alter>(tx: &mut Transaction<'_, S>, tables: &[(&str, &str)]) -> Result<(), Fault>
+pub(crate) fn make_tables<S: Alter>(
+    tx: &mut Transaction<'_, S>,
+    tables: &[(&str, &str)],
+) -> Result<(), Fault>
     ensures same_reference { tx.new.conn.ghost_name ≡ tx.old.conn.ghost_name }
     ensures made { HasCleanDisk (state S.Store tx.new.conn.now) → IsTrue (state S.Store tx.old.conn.now).in_transaction → (grown : Schema) → GrowsBy (state S.Store tx.old.conn.now).now.schema (map (λ t. (t.0.now, t.1.now)) tables.now) grown
         → OnOk result (HasGrown grown (state S.Store tx.old.conn.now).now (state S.Store tx.new.conn.now).now × IsTrue (state S.Store tx.new.conn.now).in_transaction) }
@@ -65,7 +68,7 @@ fn make_all<D: Design, S: Alter>(tx: &mut Transaction<'_, S>, owner: u16) -> Res
 }
 
 // The end of a transaction.
-fn commit<S: Alter>(tx: Transaction<'_, S>) -> Result<(), Fault>
+pub(crate) fn commit<S: Alter>(tx: Transaction<'_, S>) -> Result<(), Fault>
     ensures ended { tx.exit.0.now.in_transaction ≡ false }
     ensures ok { HasCleanDisk (state S.Store tx.exit.0.now) → OnOk result (IsTrue (state S.Store tx.entry.conn.now).in_transaction
         × Shows (state S.Store tx.entry.conn.now) (state S.Store tx.exit.0.now) (state S.Store tx.entry.conn.now).now (state S.Store tx.entry.conn.now).now false) }

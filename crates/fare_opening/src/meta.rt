@@ -2,11 +2,12 @@ ghost use Rattle.std.specs.Prelude.{◌≡◌, ◌↔◌, false, IsTrue, IfOk, O
 ghost use Rattle.sqlite.specs.State.{HasCleanDisk, Survives};
 ghost use Rattle.sqlite.specs.Held.{state};
 ghost use Rattle.fare_tables.specs.Asking.{IsLive, IsAtRest, SameRows};
-ghost use Rattle.fare_layout.specs.declared.place.Kind.TheVariants.{Meta};
+ghost use Rattle.fare_opening.specs.Numbers.{Meta};
+ghost use Rattle.fare_opening.specs.Parts.{Parts, IsDesign};
 ghost use Rattle.fare_opening.specs.Sites.{IsSite, rows_at};
-ghost use Rattle.fare_opening.specs.Opening.{IsMetaRow, AreMeta, IsMeta};
+ghost use Rattle.fare_opening.specs.MetaRow.{IsMetaRow, AreMeta, IsMeta};
 
-use crate::{Design, READ_META, Site, ask_rows};
+use crate::{READ_META, Site, ask_rows};
 use fare_store::Fault;
 use sqlite::types::ValueRef;
 use sqlite::{Alter, Connection, Row};
@@ -15,8 +16,8 @@ use sqlite::{Alter, Connection, Row};
 fn is_meta(row: &Row, format: u8, owner: u16) -> bool
     ensures { IsTrue result ↔ IsMetaRow format owner row.now }
 {
-    match (row.get_ref(0), row.get_ref(1)) {
-        (Ok(ValueRef::Int(number)), Ok(ValueRef::Int(id))) => {
+    match (row.get_ref(0), row.get_ref(1), row.get_ref(2)) {
+        (Ok(ValueRef::Int(_)), Ok(ValueRef::Int(number)), Ok(ValueRef::Int(id))) => {
             number == i64::from(format) && id == i64::from(owner)
         }
         _ => false,
@@ -33,21 +34,22 @@ fn are_meta(rows: &[Row], format: u8, owner: u16) -> bool
     }
 }
 
-// Whether `meta` holds its one row.
-pub(crate) fn has_meta<D: Design, S: Alter>(
+// Whether `meta` holds its one row, of this format.
+pub(crate) fn has_meta<S: Alter>(
     conn: &mut Connection<S>,
     site: &Site,
+    format: u8,
     owner: u16,
 ) -> Result<bool, Fault>
-    requires { IsSite D.parts site.now }
-    ensures meta { HasCleanDisk (state S.Store conn.new) → (state S.Store conn.old).now.schema ≡ site.now.schema → IfOk result (λ right. IsTrue right ↔ IsMeta D.parts.format owner (rows_at site.now Meta (state S.Store conn.old).now.trees)) }
+    requires { (p : Parts) × IsDesign p × IsSite p site.now }
+    ensures meta { HasCleanDisk (state S.Store conn.new) → (state S.Store conn.old).now.schema ≡ site.now.schema → IfOk result (λ right. IsTrue right ↔ IsMeta format owner (rows_at site.now Meta (state S.Store conn.old).now.trees)) }
+    ensures read { HasCleanDisk (state S.Store conn.new) → (state S.Store conn.old).now.schema ≡ site.now.schema → OnOk result (SameRows (state S.Store conn.old) (state S.Store conn.new)) }
     ensures same { IsLive (state S.Store conn.new) → IsAtRest site.now.schema (state S.Store conn.old) → SameRows (state S.Store conn.old) (state S.Store conn.new) }
     ensures crash { Survives (state S.Store conn.old) (state S.Store conn.new) (λ _. ¬ ((state S.Store conn.old).now.schema ≡ site.now.schema)) }
     ensures live { IsLive (state S.Store conn.new) → IsLive (state S.Store conn.old) }
     ensures stays { HasCleanDisk (state S.Store conn.new) → OnOk result (IsTrue (state S.Store conn.new).is_open) }
     ensures mode { conn.old.in_transaction ≡ false → conn.new.in_transaction ≡ false }
 {
-    D::sound();
     let rows = ask_rows(conn, &site.schema, READ_META, &[])?;
-    Ok(are_meta(rows.as_slice(), D::format(), owner))
+    Ok(are_meta(rows.as_slice(), format, owner))
 }

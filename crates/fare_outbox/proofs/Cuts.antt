@@ -27,7 +27,7 @@ use Rattle.fare_tables.proofs.Rows.{all_of, rows_filter}
 use Rattle.fare_tables.proofs.Removing.{id_shown, left_over}
 use Rattle.fare_tables.proofs.Statements.{made, went, same_value}
 use Rattle.fare_tables.proofs.Terms.{chosen, matched, eq_holds, le_holds, three_terms}
-use Rattle.fare_layout.specs.declared.place.Kind.TheVariants.{Meta, Device, Tap, Stated}
+use Rattle.fare_opening.specs.Numbers.{Meta, Device, Tap, Stated}
 use Rattle.fare_outbox.specs.declared.layout.Layout.{Layout}
 use Rattle.fare_outbox.specs.Layouts.{schema_in, tree_in, ours}
 use Rattle.fare_outbox.specs.Tables.{tap_table, cut_terms, cut_query}
@@ -85,13 +85,13 @@ cuts w old new o d l count has ok h =
     let it = went done.wrote in
     let step = went it.2 in
     let trees : new.now.trees ≡ step.0 = ap (λ (d : Database). d.trees) done.after_is ∙ ap (λ (x : Written). x.trees) (same_value step.2) in
-    let one = one_step (schema_in w) Enforced db step.0 (edit_of db table (ids_of it.0) Given 0 []) (no_works w Tap Enforced db (edit_of db table (ids_of it.0) Given 0 []) refl) step.1 in
+    let one = one_step (schema_in w) Enforced db step.0 (edit_of db table (ids_of it.0) Given 0 []) (no_works w Tap refl Enforced db (edit_of db table (ids_of it.0) Given 0 []) refl) step.1 in
     let kept = each (λ tree. tree ≢ tree_in w Tap → step.0 tree ≡ db tree) w one.tables in
     let at : (k : ℕ) → new.now.trees k ≡ step.0 k = λ k. ap (λ (t : Trees). t k) trees in
     let answer : IsAnswer cut_query (overlay all []) params it.0 = at_tap w cut_query db params it.0 (it.1.answer Null) in
     let taps : ours w new.now.trees 2 ≡ filter (λ r. not (goes o d l r)) (all 2) = at (tree_in w Tap) ∙ one.rows ∙ left all o d l it.0 ok.taps answer in
-    let devices : ours w new.now.trees 1 ≡ all 1 = at (tree_in w Device) ∙ kept Device (apart w Device Tap refl) in
-    let statements : ours w new.now.trees 5 ≡ all 5 = at (tree_in w Stated) ∙ kept Stated (apart w Stated Tap refl) in
+    let devices : ours w new.now.trees 1 ≡ all 1 = at (tree_in w Device) ∙ kept Device refl (apart w Device Tap refl refl refl) in
+    let statements : ours w new.now.trees 5 ≡ all 5 = at (tree_in w Stated) ∙ kept Stated refl (apart w Stated Tap refl refl refl) in
     let gone : length done.written.rows ≡ length it.0 = ap (λ (x : Written). length x.rows) (same_value step.2) ∙ length-map (ids_of it.0) _ ∙ length-map it.0 _ in
     record {
       becomes = record {
@@ -105,7 +105,7 @@ cuts w old new o d l count has ok h =
           upto = λ x. upto_of (held (devices i) x);
           taps = (ap (map tap_of) taps ∙ sym (filter_of_map tap_of (λ t. not (is_cut o d l t)) (all 2))) i;
           statements = map stated_of (statements i);
-          meta = (at (tree_in w Meta) ∙ kept Meta (apart w Meta Tap refl)) i;
+          meta = (at (tree_in w Meta) ∙ kept Meta refl (apart w Meta Tap refl refl refl)) i;
         };
       };
       counted = run.counted ∙ ap (λ n. unwrap_or n 0) done.told ∙ gone ∙ answer_length all o d l it.0 ok.taps answer;

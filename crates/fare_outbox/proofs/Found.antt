@@ -19,10 +19,11 @@ use Rattle.fare_tables.proofs.Terms.{chosen, matched, eq_holds, gt_holds, ge_hol
 use Rattle.fare_tables.proofs.Rows.{all_of, held_one}
 use Rattle.fare_tables.proofs.Counting.{found, count_answer}
 use Rattle.fare_tables.proofs.Least.{IsLeastOf, least_answer}
-use Rattle.fare_layout.specs.declared.place.Kind.TheVariants.{Device, Tap, Stated}
+use Rattle.fare_opening.specs.Numbers.{Device, Tap, Stated}
 use Rattle.fare_outbox.specs.declared.layout.Layout.{Layout}
 use Rattle.fare_outbox.specs.Layouts.{schema_in, tree_in, ours, at_tree}
 use Rattle.fare_opening.proofs.Asked.{asked_at}
+use Rattle.fare_outbox.proofs.Placed.{within}
 use Rattle.fare_outbox.specs.Making.{site_of}
 use Rattle.fare_outbox.specs.Statements.{outbox_parts}
 use Rattle.fare_outbox.specs.Tables.{link_query, row_terms, row_columns, row_query, day_terms, day_columns, day_query, seen_terms}
@@ -37,15 +38,15 @@ device_ids r ok = ap (λ x. column x 0) ok
 
 pub at_device : (w : Layout) (q : Query) (db : Trees) (params : Row) (rows : List Row) → IsAnswer (at_tree (tree_in w Device) q) (overlay db []) params rows → IsAnswer (at_tree 1 q) (overlay (ours w db) []) params rows
 unfolding ours
-at_device w q db params rows = asked_at outbox_parts (site_of w) w.fits Device q 1 db (overlay (ours w db) []) params rows refl
+at_device w q db params rows = asked_at outbox_parts (site_of w) w.fits Device (within w Device refl) q 1 db (overlay (ours w db) []) params rows refl
 
 pub at_tap : (w : Layout) (q : Query) (db : Trees) (params : Row) (rows : List Row) → IsAnswer (at_tree (tree_in w Tap) q) (overlay db []) params rows → IsAnswer (at_tree 2 q) (overlay (ours w db) []) params rows
 unfolding ours
-at_tap w q db params rows = asked_at outbox_parts (site_of w) w.fits Tap q 2 db (overlay (ours w db) []) params rows refl
+at_tap w q db params rows = asked_at outbox_parts (site_of w) w.fits Tap (within w Tap refl) q 2 db (overlay (ours w db) []) params rows refl
 
 pub at_stated : (w : Layout) (q : Query) (db : Trees) (params : Row) (rows : List Row) → IsAnswer (at_tree (tree_in w Stated) q) (overlay db []) params rows → IsAnswer (at_tree 5 q) (overlay (ours w db) []) params rows
 unfolding ours
-at_stated w q db params rows = asked_at outbox_parts (site_of w) w.fits Stated q 5 db (overlay (ours w db) []) params rows refl
+at_stated w q db params rows = asked_at outbox_parts (site_of w) w.fits Stated (within w Stated refl) q 5 db (overlay (ours w db) []) params rows refl
 
 -- ---- the greatest link of a device
 

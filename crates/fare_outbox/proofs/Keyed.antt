@@ -81,9 +81,6 @@ module _ {T V : Type 0} (key : T → Key) (out : T → V) where
     ])
   ]
 
-  pub among_facts : (o d : ℕ) (counts : ℕ → Bool) (t : T) → is_among key o d counts t ≡ true → ((key t).0 ≡ o) × ((key t).1 ≡ d) × (counts (key t).2 ≡ true)
-  among_facts o d counts t is = grind (arith, nat_tests)
-
   pub apart_filter : (p : T → Bool) (ts : List T) → AreApart key ts → AreApart key (filter p ts)
   apart_filter p [] apart = tt
   apart_filter p (x ∷ ts) apart = elim (cases_Bool (p x)) [

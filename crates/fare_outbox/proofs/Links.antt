@@ -34,7 +34,7 @@ use Rattle.fare_tables.proofs.Lists.{member, of_filter}
 use Rattle.fare_tables.proofs.Rows.{all_of, held_one}
 use Rattle.fare_tables.proofs.Statements.{made, cast_int, cast_null, went, same_value}
 use Rattle.fare_tables.proofs.Terms.{chosen, matched, eq_holds, one_term}
-use Rattle.fare_layout.specs.declared.place.Kind.TheVariants.{Meta, Device, Tap, Stated}
+use Rattle.fare_opening.specs.Numbers.{Meta, Device, Tap, Stated}
 use Rattle.fare_outbox.specs.declared.layout.Layout.{Layout}
 use Rattle.fare_outbox.specs.Layouts.{schema_in, tree_in, ours}
 use Rattle.fare_outbox.specs.Layouts.{at_tree}
@@ -113,13 +113,13 @@ module _ (way : Layout) (limit : Option ℕ) (keys : Keys) (d u : ℕ) where
       let it = went h in
       let edit = edit_of db (device_table (tree_in way Device)) [] Given 0 (device_row d u ∷ []) in
       let next : w.trees ≡ it.0 = ap (λ (x : Written). x.trees) (same_value it.2) in
-      let step = one_step (schema_in way) keys db it.0 edit (no_works way Device keys db edit refl) it.1 in
+      let step = one_step (schema_in way) keys db it.0 edit (no_works way Device refl keys db edit refl) it.1 in
       let kept = each (λ tree. tree ≢ tree_in way Device → it.0 tree ≡ db tree) way step.tables in
       let is : edited db edit ≡ put_row (device_row d u) (ours way db 1) = simp (cast_int, cast_null) in (
         inl (ap (λ (t : Trees). ours way t 1) next ∙ step.rows ∙ is),
-        ap (λ (t : Trees). ours way t 0) next ∙ kept Meta (apart way Meta Device refl),
-        ap (λ (t : Trees). ours way t 2) next ∙ kept Tap (apart way Tap Device refl),
-        ap (λ (t : Trees). ours way t 5) next ∙ kept Stated (apart way Stated Device refl),
+        ap (λ (t : Trees). ours way t 0) next ∙ kept Meta refl (apart way Meta Device refl refl refl),
+        ap (λ (t : Trees). ours way t 2) next ∙ kept Tap refl (apart way Tap Device refl refl refl),
+        ap (λ (t : Trees). ours way t 5) next ∙ kept Stated refl (apart way Stated Device refl refl refl),
       )
 
   clears : (db : Trees) (w : Written) (found : List Row) → Clears task Abort (device_row d u) db found (Ok w) → IsPut way db w.trees d u
@@ -134,13 +134,13 @@ module _ (way : Layout) (limit : Option ℕ) (keys : Keys) (d u : ℕ) where
       let edit = edit_of db (device_table (tree_in way Device)) (ids_of it.0) Given 1 it.0 in
       let done = went it.2 in
       let next : w.trees ≡ done.0 = ap (λ (x : Written). x.trees) (same_value done.2) in
-      let step = one_step (schema_in way) keys db done.0 edit (no_works way Device keys db edit refl) done.1 in
+      let step = one_step (schema_in way) keys db done.0 edit (no_works way Device refl keys db edit refl) done.1 in
       let kept = each (λ tree. tree ≢ tree_in way Device → done.0 tree ≡ db tree) way step.tables in
       let is : edited db edit ≡ put_row (device_row d u) (without_rowid (pos d) (ours way db 1)) = ap (λ all. edited db (edit_of db (device_table (tree_in way Device)) (ids_of all) Given 1 all)) rows ∙ simp (cast_int, cast_null) in (
         inr (ap (λ (t : Trees). ours way t 1) next ∙ step.rows ∙ is),
-        ap (λ (t : Trees). ours way t 0) next ∙ kept Meta (apart way Meta Device refl),
-        ap (λ (t : Trees). ours way t 2) next ∙ kept Tap (apart way Tap Device refl),
-        ap (λ (t : Trees). ours way t 5) next ∙ kept Stated (apart way Stated Device refl),
+        ap (λ (t : Trees). ours way t 0) next ∙ kept Meta refl (apart way Meta Device refl refl refl),
+        ap (λ (t : Trees). ours way t 2) next ∙ kept Tap refl (apart way Tap Device refl refl refl),
+        ap (λ (t : Trees). ours way t 5) next ∙ kept Stated refl (apart way Stated Device refl refl refl),
       )
 
   abbrev clause : Upsert

@@ -1,5 +1,5 @@
 -- What an open finds, and what it makes.
-use Rattle.std.proofs.Common.{◌≡◌, ◌≢◌, inl, inr, ℕ, List, [], ◌∷◌, refl, map, length, IsTrue, sym, ap, subst, ◌∙◌, arith}
+use Rattle.std.proofs.Common.{◌≡◌, inl, inr, ℕ, List, [], ◌∷◌, refl, map, length, IsTrue, sym, ap, subst, ◌∙◌, arith, true, false}
 use Rattle.std.specs.List.{AllByRecursion}
 use Rattle.sqlite.specs.Schema.{Schema}
 use Rattle.sqlite.specs.Effect.{Database}
@@ -10,17 +10,19 @@ use Rattle.fare_tables.specs.Asking.{IsLive, IsUp, IsAtRest, SameRows}
 use Rattle.fare_tables.specs.Cells.{AreRows, held, int}
 use Rattle.fare_tables.specs.Making.{no_schema}
 use Rattle.fare_tables.specs.Tabled.{IsFit}
-use Rattle.fare_layout.specs.declared.place.Kind.TheVariants.{Meta, Device, Tap, Stated}
+use Rattle.fare_opening.specs.Numbers.{Device, Tap, Stated}
 use Rattle.fare_layout.proofs.Others.{all_kept}
 use Rattle.fare_outbox.specs.declared.layout.Layout.{Layout}
 use Rattle.fare_outbox.specs.Layouts.{schema_in, ours}
 use Rattle.fare_layout.specs.Growing.{HasNone}
 use Rattle.fare_opening.specs.declared.site.Site.{Site}
 use Rattle.fare_opening.specs.Making as store
-use Rattle.fare_opening.specs.Opening.{StandsAt, WasMade}
+use Rattle.fare_opening.specs.declared.opening.Opened.{Opened}
+use Rattle.fare_opening.specs.declared.opening.Opened.TheVariants as opened
+use Rattle.fare_opening.specs.Opening.{StandsAt, WasMade, IsPlaced, Opens, place_in, was_made}
 use Rattle.fare_opening.proofs.Vacant as vacant
 use Rattle.fare_outbox.specs.Statements.{tables, outbox_parts}
-use Rattle.fare_outbox.proofs.Placed.{same_trees}
+use Rattle.fare_outbox.proofs.Placed.{same_trees, within}
 use Rattle.fare_outbox.proofs.Own.{outbox_design}
 use Rattle.fare_outbox.specs.Held.{AreReadable, IsReady, IsDevice, IsTap, IsStated, upto_of, tap_of, stated_of, held_of}
 use Rattle.fare_outbox.specs.Making.{site_of}
@@ -30,22 +32,13 @@ use Rattle.fare_outbox.specs.Words.{tap_key, stated_key, first_at, itself, count
 map_none : {X Y : Type 0} (f : X → Y) (xs : List X) → xs ≡ [] → map f xs ≡ []
 map_none f xs is = ap (map f) is
 
-device_not : Device ≢ Meta
-device_not e = let e = e in cc
-
-tap_not : Tap ≢ Meta
-tap_not e = let e = e in cc
-
-stated_not : Stated ≢ Meta
-stated_not e = let e = e in cc
-
 pub new_fits : (w : Layout) (old new : State) (rows statements : ℕ) → WasMade outbox_parts 0 old new (site_of w) → rows ≡ 0 → statements ≡ 0 → IsFit (schema_in w) (IsWell w rows statements) new × IsEmptyOutbox (value_at w new.now.trees)
 unfolding ours
 new_fits w old new rows statements it no_rows no_statements =
     let db = ours w new.now.trees in
-    let devices_none : db 1 ≡ [] = it.is_new.bare Device device_not in
-    let taps_none : db 2 ≡ [] = it.is_new.bare Tap tap_not in
-    let stated_none : db 5 ≡ [] = it.is_new.bare Stated stated_not in
+    let devices_none : db 1 ≡ [] = it.is_new.bare Device (omega arith) (within w Device refl) in
+    let taps_none : db 2 ≡ [] = it.is_new.bare Tap (omega arith) (within w Tap refl) in
+    let stated_none : db 5 ≡ [] = it.is_new.bare Stated (omega arith) (within w Stated refl) in
     let taps : (held_of db).taps ≡ [] = map_none tap_of (db 2) taps_none in
     let said : (held_of db).statements ≡ [] = map_none stated_of (db 5) stated_none in (
       record {
@@ -61,7 +54,7 @@ new_fits w old new rows statements it no_rows no_statements =
               apart = subst (AreApart tap_key) (sym taps) tt;
               known = subst (AllByRecursion (IsKnown (held_of db).upto)) (sym taps) tt;
               single = subst (AreApart stated_key) (sym said) tt;
-              meta = record { row = int 1 ∷ int 1 ∷ int 0 ∷ []; only = it.is_new.meta; format_is = refl; owner_is = refl };
+              meta = record { row = int 1 ∷ int 1 ∷ int 0 ∷ []; only = it.is_new.meta; is = record { id_is = tt; format_is = refl; owner_is = refl } };
             };
           };
           rows_are = no_rows ∙ sym (ap length taps);
@@ -163,3 +156,15 @@ made_rows old new site w at placed it = record {
   kept = λ ready. absurd (vacant.not_vacant outbox_parts (site_of w) old.now.schema outbox_design w.fits placed.0 ready.rest.schema_is);
   others = λ settled. it.others;
 }
+
+-- what an open of the tables makes of a database: it makes them, or finds them, and then counts their rows
+pub made_as : (old new : State) (w : Layout) (o : Opened) → site_of w ≡ place_in o → was_made o ≡ true → IsPlaced outbox_parts old.now.schema o → Opens outbox_parts 0 old new o → Settles old new w 0 0
+made_as old new w (opened.Kept site) at is placed it = absurd (let e = is in cc)
+made_as old new w (opened.Made site) at is placed it = made_rows old new site w at placed it
+made_as old new w (opened.Raised site) at is placed it = absurd (let e = is in cc)
+
+pub found_as : (old mid new : State) (w : Layout) (rows statements : ℕ) (o : Opened) → site_of w ≡ place_in o → was_made o ≡ false → Opens outbox_parts 0 old mid o → (IsReady w mid → IsCounted w mid.now.trees rows statements) → (IsAtRest (schema_in w) mid → SameRows mid new)
+    → Settles old new w rows statements
+found_as old mid new w rows statements (opened.Kept site) at is it counted second = found_rows old mid site w rows statements new at it counted second
+found_as old mid new w rows statements (opened.Made site) at is it counted second = absurd (let e = is in cc)
+found_as old mid new w rows statements (opened.Raised site) at is it counted second = absurd it.1

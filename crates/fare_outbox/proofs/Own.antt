@@ -10,12 +10,13 @@ use Rattle.sqlite_schema.specs.Names.{same_name}
 use Rattle.fare_tables.specs.Making.{no_schema}
 use Rattle.fare_tables.specs.Queries.{meta_table}
 use Rattle.fare_layout.specs.Schemas.{IsSimpleTable}
+use Rattle.fare_layout.specs.Places.{all_of}
 use Rattle.fare_layout.specs.Growing.{CanMake, CanMakeAll, Grows, GrowsBy, AreLast}
 use Rattle.fare_opening.specs.Parts.{IsDesign, HasFewKeys}
 use Rattle.fare_opening.proofs.Orders.{fit_as}
 use Rattle.fare_outbox.specs.Statements.{tables, texts, FitsOutbox, outbox_parts}
 use Rattle.fare_outbox.specs.Tables.{one_table, two_tables, three_tables, outbox_schema, device_table, tap_table, stated_table}
-use Rattle.fare_outbox.proofs.Texts.{own_places, meta_own, put_meta_own, understood_all}
+use Rattle.fare_outbox.proofs.Texts.{own_places, meta_own, put_meta_own, set_meta_own, understood_all}
 
 -- TABLES
 abbrev pub meta_text : List ℕ
@@ -86,8 +87,8 @@ pub own_fits : FitsOutbox outbox_schema own_places
 unfolding everything outbox_schema same_name understood_all
 own_fits = fit_as outbox_schema texts understood_all outbox_schema own_places refl refl refl (refl, (refl, (refl, (refl, tt)))) refl refl
 
-own_last : AreLast no_schema own_places
-own_last = record { meta = refl; device = refl; tap = refl; stated = refl }
+own_last : AreLast no_schema (all_of own_places)
+own_last = (refl, (refl, (refl, (refl, tt))))
 
 -- the tables refer to no other, and have no default
 pub simple_tables : AllByRecursion IsSimpleTable outbox_schema.tables
@@ -123,4 +124,6 @@ outbox_design = record {
   asks_meant = meta_own;
   puts = inr (inr (inr (inr (inr (inr (inr (inl refl)))))));
   puts_meant = put_meta_own;
+  sets = inr (inr (inr (inr (inr (inr (inr (inr (inl refl))))))));
+  sets_meant = set_meta_own;
 }

@@ -18,7 +18,7 @@ use Rattle.fare_record.specs.Values.{RecordValue, StatementValue}
 use Rattle.fare_tables.specs.Cells.{nat_in, int, id_of, AreRows, held}
 use Rattle.fare_tables.proofs.Rows.{appended, rows_put, rows_without, held_put, held_replaced}
 use Rattle.fare_tables.proofs.Statements.{made, cast_int, cast_null, went, same_value}
-use Rattle.fare_layout.specs.declared.place.Kind.TheVariants.{Meta, Device, Tap, Stated}
+use Rattle.fare_opening.specs.Numbers.{Meta, Device, Tap, Stated}
 use Rattle.fare_outbox.specs.declared.layout.Layout.{Layout}
 use Rattle.fare_outbox.specs.Layouts.{schema_in, tree_in, ours}
 use Rattle.fare_outbox.specs.Tables.{tap_table, stated_table}
@@ -50,16 +50,16 @@ puts_tap w old new t count has h =
     let written = went (went given.2).2 in
     let counted = went written.2 in
     let trees : new.now.trees ≡ written.0 = ap (λ (d : Database). d.trees) done.after_is ∙ ap (λ (it : Written). it.trees) (same_value counted.2) ∙ same_value counted.1 in
-    let step = one_step (schema_in w) Enforced db written.0 (edit_of db table [] Chosen 0 given.0) (no_works w Tap Enforced db (edit_of db table [] Chosen 0 given.0) refl) written.1 in
+    let step = one_step (schema_in w) Enforced db written.0 (edit_of db table [] Chosen 0 given.0) (no_works w Tap refl Enforced db (edit_of db table [] Chosen 0 given.0) refl) written.1 in
     let kept = each (λ tree. tree ≢ tree_in w Tap → written.0 tree ≡ db tree) w step.tables in
     let edit : edited db (edit_of db table [] Chosen 0 given.0) ≡ put_row (Int (next_rowid (db (tree_in w Tap))) ∷ tap_cells t) (db (tree_in w Tap)) = ap (λ all. edited db (edit_of db table [] Chosen 0 all)) given.1.1 ∙ simp (cast_int, cast_null) in
     let at : (k : ℕ) → new.now.trees k ≡ written.0 k = λ k. ap (λ (t : Trees). t k) trees in
     record {
       schema = ap (λ (d : Database). d.schema) done.after_is;
-      devices = at (tree_in w Device) ∙ kept Device (apart w Device Tap refl);
+      devices = at (tree_in w Device) ∙ kept Device refl (apart w Device Tap refl refl refl);
       taps = at (tree_in w Tap) ∙ step.rows ∙ edit;
-      statements = at (tree_in w Stated) ∙ kept Stated (apart w Stated Tap refl);
-      meta = at (tree_in w Meta) ∙ kept Meta (apart w Meta Tap refl);
+      statements = at (tree_in w Stated) ∙ kept Stated refl (apart w Stated Tap refl refl refl);
+      meta = at (tree_in w Meta) ∙ kept Meta refl (apart w Meta Tap refl refl refl);
     }
 
 pub puts_stated : (w : Layout) (old new : State) (s : StatementValue) (count : ℕ) → old.now.schema ≡ schema_in w → Executes put_statement_text (stated_cells s) old new (Ok count) → PutsStated w old.now new.now s
@@ -78,16 +78,16 @@ puts_stated w old new s count has h =
     let written = went (went given.2).2 in
     let counted = went written.2 in
     let trees : new.now.trees ≡ written.0 = ap (λ (d : Database). d.trees) done.after_is ∙ ap (λ (it : Written). it.trees) (same_value counted.2) ∙ same_value counted.1 in
-    let step = one_step (schema_in w) Enforced db written.0 (edit_of db table [] Chosen 0 given.0) (no_works w Stated Enforced db (edit_of db table [] Chosen 0 given.0) refl) written.1 in
+    let step = one_step (schema_in w) Enforced db written.0 (edit_of db table [] Chosen 0 given.0) (no_works w Stated refl Enforced db (edit_of db table [] Chosen 0 given.0) refl) written.1 in
     let kept = each (λ tree. tree ≢ tree_in w Stated → written.0 tree ≡ db tree) w step.tables in
     let edit : edited db (edit_of db table [] Chosen 0 given.0) ≡ put_row (Int (next_rowid (db (tree_in w Stated))) ∷ stated_cells s) (db (tree_in w Stated)) = ap (λ all. edited db (edit_of db table [] Chosen 0 all)) given.1.1 ∙ simp (cast_int, cast_null) in
     let at : (k : ℕ) → new.now.trees k ≡ written.0 k = λ k. ap (λ (t : Trees). t k) trees in
     record {
       schema = ap (λ (d : Database). d.schema) done.after_is;
-      devices = at (tree_in w Device) ∙ kept Device (apart w Device Stated refl);
-      taps = at (tree_in w Tap) ∙ kept Tap (apart w Tap Stated refl);
+      devices = at (tree_in w Device) ∙ kept Device refl (apart w Device Stated refl refl refl);
+      taps = at (tree_in w Tap) ∙ kept Tap refl (apart w Tap Stated refl refl refl);
       statements = at (tree_in w Stated) ∙ step.rows ∙ edit;
-      meta = at (tree_in w Meta) ∙ kept Meta (apart w Meta Stated refl);
+      meta = at (tree_in w Meta) ∙ kept Meta refl (apart w Meta Stated refl refl refl);
     }
 
 -- ---- what is held then

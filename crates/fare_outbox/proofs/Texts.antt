@@ -9,14 +9,14 @@ use Rattle.sqlite_schema.specs.declared.command.Conflict.TheVariants.{Abort}
 use Rattle.fare_tables.specs.Queries.{count_query}
 use Rattle.sqlite_schema.specs.declared.command.Command.{Command}
 use Rattle.fare_tables.specs.Asking.{Reads}
-use Rattle.fare_layout.specs.declared.place.Kind.TheVariants.{Meta, Device, Tap, Stated}
+use Rattle.fare_opening.specs.Numbers.{Meta, Device, Tap, Stated}
 use Rattle.fare_layout.specs.declared.place.Place.{Place}
 use Rattle.fare_layout.specs.declared.place.Places.{Places}
 use Rattle.fare_layout.specs.Places.{place_of}
 use Rattle.fare_layout.specs.Commands.{IsMeant, IsSimpleCommand}
 use Rattle.fare_layout.proofs.Meant.{Meant, meant}
 use Rattle.fare_layout.specs.Layouts.{AreUnderstood}
-use Rattle.fare_opening.specs.Parts.{reads_meta, puts_meta}
+use Rattle.fare_opening.specs.Parts.{reads_meta, puts_meta, sets_meta}
 use Rattle.fare_outbox.specs.declared.layout.Layout.{Layout}
 use Rattle.fare_outbox.specs.Layouts.{schema_in, at_tree}
 use Rattle.fare_outbox.specs.Statements.{texts}
@@ -24,7 +24,7 @@ use Rattle.fare_outbox.specs.Tables.{outbox_schema, link_query, row_query, day_q
 
 -- where the tables stand in a database of an outbox alone
 abbrev pub own_places : Places
-own_places = record { meta = record { at = 0; tree = 0 }; device = record { at = 1; tree = 1 }; tap = record { at = 2; tree = 2 }; stated = record { at = 3; tree = 5 } }
+own_places = record { all = record { at = 0; tree = 0 } ∷ record { at = 1; tree = 1 } ∷ record { at = 2; tree = 2 } ∷ record { at = 3; tree = 5 } ∷ [] }
 
 abbrev pub tap_terms : List Term
 tap_terms = lit Null ∷ col 0 0 ∷ col 0 1 ∷ col 0 2 ∷ col 0 3 ∷ col 0 4 ∷ col 0 5 ∷ col 0 6 ∷ col 0 7 ∷ []
@@ -165,7 +165,7 @@ pub seen_reads : (o : Layout) → Reads (schema_in o) seen_text
 seen_reads o = ((seen_meant o).plain, (seen_meant o).selects)
 
 abbrev pub meta_asked_text : List ℕ
-meta_asked_text = codes "SELECT format, owner FROM meta"
+meta_asked_text = codes "SELECT rowid, format, owner FROM meta"
 
 abbrev pub meta_at : Place → Command
 meta_at p = reads_meta p.tree
@@ -184,6 +184,16 @@ pub put_meta_own : IsMeant outbox_schema put_meta_text (put_meta_at (place_of ow
 unfolding everything outbox_schema
 put_meta_own = refl
 
+abbrev pub set_meta_text : List ℕ
+set_meta_text = codes "UPDATE meta SET format = ?1"
+
+abbrev pub set_meta_at : Place → Command
+set_meta_at p = sets_meta p.at p.tree
+
+pub set_meta_own : IsMeant outbox_schema set_meta_text (set_meta_at (place_of own_places Meta))
+unfolding everything outbox_schema
+set_meta_own = refl
+
 abbrev pub put_link_text : List ℕ
 put_link_text = codes "INSERT INTO device (id, upto) VALUES (?1, ?2) ON CONFLICT (id) DO UPDATE SET upto = excluded.upto"
 
@@ -198,7 +208,7 @@ unfolding everything outbox_schema
 put_link_own = refl
 
 put_link_means : (o : Layout) → IsMeant (schema_in o) put_link_text (put_link_command o)
-put_link_means o = o.fits.keeps.1.1.1.1.1.1.1.1.0 (put_link_at (place_of own_places Device)) put_link_own
+put_link_means o = o.fits.keeps.1.1.1.1.1.1.1.1.1.0 (put_link_at (place_of own_places Device)) put_link_own
 
 pub put_link_meant : (o : Layout) → Meant (schema_in o) put_link_text (put_link_command o)
 put_link_meant o = meant (schema_in o) put_link_text (put_link_command o) (put_link_means o)
@@ -217,7 +227,7 @@ unfolding everything outbox_schema
 put_tap_own = refl
 
 put_tap_means : (o : Layout) → IsMeant (schema_in o) put_tap_text (put_tap_command o)
-put_tap_means o = o.fits.keeps.1.1.1.1.1.1.1.1.1.0 (put_tap_at (place_of own_places Tap)) put_tap_own
+put_tap_means o = o.fits.keeps.1.1.1.1.1.1.1.1.1.1.0 (put_tap_at (place_of own_places Tap)) put_tap_own
 
 pub put_tap_meant : (o : Layout) → Meant (schema_in o) put_tap_text (put_tap_command o)
 put_tap_meant o = meant (schema_in o) put_tap_text (put_tap_command o) (put_tap_means o)
@@ -236,7 +246,7 @@ unfolding everything outbox_schema
 put_statement_own = refl
 
 put_statement_means : (o : Layout) → IsMeant (schema_in o) put_statement_text (put_statement_command o)
-put_statement_means o = o.fits.keeps.1.1.1.1.1.1.1.1.1.1.0 (put_statement_at (place_of own_places Stated)) put_statement_own
+put_statement_means o = o.fits.keeps.1.1.1.1.1.1.1.1.1.1.1.0 (put_statement_at (place_of own_places Stated)) put_statement_own
 
 pub put_statement_meant : (o : Layout) → Meant (schema_in o) put_statement_text (put_statement_command o)
 put_statement_meant o = meant (schema_in o) put_statement_text (put_statement_command o) (put_statement_means o)
@@ -255,7 +265,7 @@ unfolding everything outbox_schema
 cut_own = refl
 
 cut_means : (o : Layout) → IsMeant (schema_in o) cut_text (cut_command o)
-cut_means o = o.fits.keeps.1.1.1.1.1.1.1.1.1.1.1.0 (cut_at (place_of own_places Tap)) cut_own
+cut_means o = o.fits.keeps.1.1.1.1.1.1.1.1.1.1.1.1.0 (cut_at (place_of own_places Tap)) cut_own
 
 pub cut_meant : (o : Layout) → Meant (schema_in o) cut_text (cut_command o)
 cut_meant o = meant (schema_in o) cut_text (cut_command o) (cut_means o)
@@ -285,6 +295,9 @@ meta_simple = search
 pub put_meta_simple : IsSimpleCommand (put_meta_at (place_of own_places Meta))
 put_meta_simple = search
 
+pub set_meta_simple : IsSimpleCommand (set_meta_at (place_of own_places Meta))
+set_meta_simple = search
+
 pub put_link_simple : IsSimpleCommand (put_link_at (place_of own_places Device))
 put_link_simple = search
 
@@ -298,4 +311,4 @@ pub cut_simple : IsSimpleCommand (cut_at (place_of own_places Tap))
 cut_simple = search
 
 unfoldable pub understood_all : AreUnderstood outbox_schema texts
-understood_all = ((link_at (place_of own_places Device), link_own, link_simple), ((next_at (place_of own_places Tap), next_own, next_simple), ((next_day_at (place_of own_places Stated), next_day_own, next_day_simple), ((rows_at (place_of own_places Tap), rows_own, rows_simple), ((statements_at (place_of own_places Stated), statements_own, statements_simple), ((seen_at (place_of own_places Device), seen_own, seen_simple), ((meta_at (place_of own_places Meta), meta_own, meta_simple), ((put_meta_at (place_of own_places Meta), put_meta_own, put_meta_simple), ((put_link_at (place_of own_places Device), put_link_own, put_link_simple), ((put_tap_at (place_of own_places Tap), put_tap_own, put_tap_simple), ((put_statement_at (place_of own_places Stated), put_statement_own, put_statement_simple), ((cut_at (place_of own_places Tap), cut_own, cut_simple), tt))))))))))))
+understood_all = ((link_at (place_of own_places Device), link_own, link_simple), ((next_at (place_of own_places Tap), next_own, next_simple), ((next_day_at (place_of own_places Stated), next_day_own, next_day_simple), ((rows_at (place_of own_places Tap), rows_own, rows_simple), ((statements_at (place_of own_places Stated), statements_own, statements_simple), ((seen_at (place_of own_places Device), seen_own, seen_simple), ((meta_at (place_of own_places Meta), meta_own, meta_simple), ((put_meta_at (place_of own_places Meta), put_meta_own, put_meta_simple), ((set_meta_at (place_of own_places Meta), set_meta_own, set_meta_simple), ((put_link_at (place_of own_places Device), put_link_own, put_link_simple), ((put_tap_at (place_of own_places Tap), put_tap_own, put_tap_simple), ((put_statement_at (place_of own_places Stated), put_statement_own, put_statement_simple), ((cut_at (place_of own_places Tap), cut_own, cut_simple), tt)))))))))))))

@@ -3,8 +3,8 @@ use Rattle.std.specs.Prelude.{ℕ, ◌==◌, if◌then◌else◌}
 use Rattle.sqlite.specs.Query.{Query, inner, end}
 use Rattle.sqlite.specs.Schema.{Schema}
 use Rattle.sqlite.specs.Tree.{Trees}
-use Rattle.fare_layout.specs.declared.place.Kind.{Kind}
-use Rattle.fare_layout.specs.declared.place.Kind.TheVariants.{Meta, Device, Tap, Stated}
+use Rattle.fare_layout.specs.declared.place.TableNumber.{TableNumber}
+use Rattle.fare_opening.specs.Numbers.{Meta, Device, Tap, Stated}
 use Rattle.fare_layout.specs.Places.{place_of}
 use Rattle.fare_outbox.specs.declared.layout.Layout.{Layout}
 
@@ -12,12 +12,12 @@ abbrev pub schema_in : Layout → Schema
 schema_in w = w.schema
 
 -- the tree of a table
-abbrev pub tree_in : Layout → Kind → ℕ
-tree_in w kind = (place_of w.places kind).tree
+abbrev pub tree_in : Layout → TableNumber → ℕ
+tree_in w table = (place_of w.places table).tree
 
 -- its place among the tables
-abbrev pub place_in : Layout → Kind → ℕ
-place_in w kind = (place_of w.places kind).at
+abbrev pub place_in : Layout → TableNumber → ℕ
+place_in w table = (place_of w.places table).at
 
 -- the trees of the tables, numbered as in a database of an outbox alone
 unfoldable pub ours : Layout → Trees → Trees

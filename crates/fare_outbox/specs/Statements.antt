@@ -1,8 +1,8 @@
 -- The statements of an outbox, and the schemas that they are made for.
 use Rattle.std.specs.Prelude.{ℕ, [], ◌∷◌, codes, List}
 use Rattle.sqlite.specs.Schema.{Schema}
-use Rattle.fare_layout.specs.declared.place.Kind.{Kind}
-use Rattle.fare_layout.specs.declared.place.Kind.TheVariants.{Meta, Device, Tap, Stated}
+use Rattle.fare_layout.specs.declared.place.TableNumber.{TableNumber}
+use Rattle.fare_opening.specs.Numbers.{Meta, Device, Tap, Stated}
 use Rattle.fare_layout.specs.declared.place.Places.{Places}
 use Rattle.fare_layout.specs.Layouts.{Fits}
 use Rattle.fare_opening.specs.Parts.{Parts}
@@ -18,7 +18,7 @@ tables =
     ∷ []
 
 -- what is asked of the tables and written to them
-abbrev pub texts : List (Kind × List ℕ)
+abbrev pub texts : List (TableNumber × List ℕ)
 texts =
     (Device, codes "SELECT upto FROM device WHERE id = ?1")
     ∷ (Tap, codes "SELECT lane, link, product, token, moment, day FROM tap WHERE owner = ?1 AND device = ?2 AND lane > ?3 ORDER BY lane LIMIT 1")
@@ -26,8 +26,9 @@ texts =
     ∷ (Tap, codes "SELECT count(*) FROM tap")
     ∷ (Stated, codes "SELECT count(*) FROM stated")
     ∷ (Device, codes "SELECT count(*) FROM device WHERE upto > 0")
-    ∷ (Meta, codes "SELECT format, owner FROM meta")
+    ∷ (Meta, codes "SELECT rowid, format, owner FROM meta")
     ∷ (Meta, codes "INSERT INTO meta (format, owner) VALUES (?1, ?2)")
+    ∷ (Meta, codes "UPDATE meta SET format = ?1")
     ∷ (Device, codes "INSERT INTO device (id, upto) VALUES (?1, ?2) ON CONFLICT (id) DO UPDATE SET upto = excluded.upto")
     ∷ (Tap, codes "INSERT INTO tap (owner, device, lane, link, product, token, moment, day) VALUES (?1, ?2, ?3, ?4, ?5, ?6, ?7, ?8)")
     ∷ (Stated, codes "INSERT INTO stated (owner, device, day, total) VALUES (?1, ?2, ?3, ?4)")
@@ -40,4 +41,4 @@ FitsOutbox schema places = Fits outbox_schema texts schema places
 
 -- what an outbox is made of
 abbrev pub outbox_parts : Parts
-outbox_parts = record { own = outbox_schema; tables = tables; texts = texts; format = 1 }
+outbox_parts = record { own = outbox_schema; tables = tables; texts = texts; format = 1; older = [] }

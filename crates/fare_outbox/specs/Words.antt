@@ -9,7 +9,7 @@ use Rattle.fare_record.specs.Values.{RecordValue, StatementValue}
 use Rattle.fare_store.specs.Standing.{Standing}
 use Rattle.fare_store.specs.OutboxWords.{OutboxValue}
 use Rattle.fare_tables.specs.Tabled.{tabled}
-use Rattle.fare_opening.specs.Opening.{IsMeta}
+use Rattle.fare_opening.specs.MetaRow.{IsMeta}
 use Rattle.fare_outbox.specs.declared.tables.SqlOutbox.{SqlOutbox}
 use Rattle.fare_outbox.specs.Held.{Held, AreReadable, held_of}
 use Rattle.fare_outbox.specs.declared.layout.Layout.{Layout}

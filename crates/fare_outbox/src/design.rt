@@ -1,8 +1,8 @@
 ghost use Rattle.fare_outbox.specs.Statements.{outbox_parts};
 
 use crate::statements::{TABLES, TEXTS};
-use fare_layout::Kind;
-use fare_opening::Design;
+use fare_layout::TableNumber;
+use fare_opening::{Design, Older};
 
 // What an outbox is made of: no owner's, of format 1.
 pub(crate) struct OutboxDesign;
@@ -14,12 +14,16 @@ impl Design for OutboxDesign {
         &TABLES
     }
 
-    fn texts() -> &'static [(Kind, &'static str)] {
+    fn texts() -> &'static [(TableNumber, &'static str)] {
         &TEXTS
     }
 
     fn format() -> u8 {
         1
+    }
+
+    fn older() -> &'static [Older] {
+        &[]
     }
 
     fn sound() {}

@@ -15,7 +15,7 @@ ghost use Rattle.fare_outbox.specs.Words.{IsLawful, value_at, connected, stands}
 use crate::design::OutboxDesign;
 use crate::reading::{count_rows, count_statements};
 use crate::{Layout, SqlOutbox};
-use fare_opening::{Opened, open_tables};
+use fare_opening::open_tables;
 use fare_store::Fault;
 use fare_tables::{OpenFault, open_fault};
 use sqlite::{Alter, Connection};
@@ -55,15 +55,16 @@ fn settle<S: Alter>(
     ensures stays { HasCleanDisk (state S.Store conn.new) → IfOk result (λ found. IfSome found (λ _. IsTrue (state S.Store conn.new).is_open)) }
     ensures idle { conn.new.in_transaction ≡ false }
 {
-    match open_tables::<OutboxDesign, S>(alloc, conn, 0)? {
-        Some(Opened::Kept(site)) => {
-            let layout = Layout::at(site);
-            let (rows, statements) = counts(conn, &layout)?;
-            Ok(Some((layout, rows, statements)))
-        }
-        Some(Opened::Made(site)) => Ok(Some((Layout::at(site), 0, 0))),
-        None => Ok(None),
+    let Some(opened) = open_tables::<OutboxDesign, S>(alloc, conn, 0)? else {
+        return Ok(None);
+    };
+    let is_made = opened.is_made();
+    let layout = Layout::at(opened.into_site());
+    if is_made {
+        return Ok(Some((layout, 0, 0)));
     }
+    let (rows, statements) = counts(conn, &layout)?;
+    Ok(Some((layout, rows, statements)))
 }
 
 impl<S: Alter> SqlOutbox<S> {

@@ -1,5 +1,5 @@
-use fare_layout::Kind;
-use fare_opening::{META_TABLE, PUT_META, READ_META};
+use fare_layout::TableNumber;
+use fare_opening::{DEVICE, META, META_TABLE, PUT_META, READ_META, SET_META, STATED, TAP};
 
 /// The texts that make the tables, each with the name of its table.
 pub(crate) const TABLES: [(&str, &str); 4] = [
@@ -54,17 +54,18 @@ pub(crate) const PUT_STATEMENT: &str =
 pub(crate) const CUT_ROWS: &str = "DELETE FROM tap WHERE owner = ?1 AND device = ?2 AND lane <= ?3";
 
 /// All statements of an outbox, each with its table.
-pub(crate) const TEXTS: [(Kind, &str); 12] = [
-    (Kind::Device, READ_LINK),
-    (Kind::Tap, READ_NEXT),
-    (Kind::Stated, READ_STATEMENT),
-    (Kind::Tap, COUNT_ROWS),
-    (Kind::Stated, COUNT_STATEMENTS),
-    (Kind::Device, COUNT_SEEN),
-    (Kind::Meta, READ_META),
-    (Kind::Meta, PUT_META),
-    (Kind::Device, PUT_LINK),
-    (Kind::Tap, PUT_TAP),
-    (Kind::Stated, PUT_STATEMENT),
-    (Kind::Tap, CUT_ROWS),
+pub(crate) const TEXTS: [(TableNumber, &str); 13] = [
+    (DEVICE, READ_LINK),
+    (TAP, READ_NEXT),
+    (STATED, READ_STATEMENT),
+    (TAP, COUNT_ROWS),
+    (STATED, COUNT_STATEMENTS),
+    (DEVICE, COUNT_SEEN),
+    (META, READ_META),
+    (META, PUT_META),
+    (META, SET_META),
+    (DEVICE, PUT_LINK),
+    (TAP, PUT_TAP),
+    (STATED, PUT_STATEMENT),
+    (TAP, CUT_ROWS),
 ];

@@ -1,5 +1,5 @@
 use crate::checking::same;
-use fare_layout::{Kind, Places, are_last, find_places, grow_by, has_none};
+use fare_layout::{Places, TableNumber, are_last, find_places, grow_by, has_none};
 use sqlite_schema::schema::Schema;
 use std::alloc::Global;
 
@@ -20,22 +20,27 @@ const TABLES: [(&str, &str); 4] = [
     ),
 ];
 
+const META: TableNumber = TableNumber { number: 0 };
+
+const DEVICE: TableNumber = TableNumber { number: 1 };
+
+const TAP: TableNumber = TableNumber { number: 2 };
+
+const STATED: TableNumber = TableNumber { number: 3 };
+
 // Its statements, each with the table that it is over.
-const TEXTS: [(Kind, &str); 5] = [
-    (Kind::Meta, "SELECT format FROM meta"),
+const TEXTS: [(TableNumber, &str); 5] = [
+    (META, "SELECT format FROM meta"),
     (
-        Kind::Device,
+        DEVICE,
         "INSERT INTO device (id, upto) VALUES (?1, ?2) ON CONFLICT (id) DO UPDATE SET upto = excluded.upto",
     ),
     (
-        Kind::Tap,
+        TAP,
         "SELECT lane FROM tap WHERE device = ?1 AND lane > ?2 ORDER BY lane LIMIT 1",
     ),
-    (
-        Kind::Tap,
-        "DELETE FROM tap WHERE device = ?1 AND lane <= ?2",
-    ),
-    (Kind::Stated, "SELECT count(*) FROM stated"),
+    (TAP, "DELETE FROM tap WHERE device = ?1 AND lane <= ?2"),
+    (STATED, "SELECT count(*) FROM stated"),
 ];
 
 // A table that no store has.
@@ -79,16 +84,12 @@ fn places_in(alloc: Global, schema: &Schema) -> Option<Places> {
 fn behind_one(alloc: Global) -> Option<([usize; 4], bool, bool)> {
     let other = made(alloc, &RIDER)?;
     let places = places_behind(alloc, &other)?;
-    let at = [
-        places.meta.at,
-        places.device.at,
-        places.tap.at,
-        places.stated.at,
-    ];
+    let at = [META, DEVICE, TAP, STATED].map(|table| places.of(table).at);
+    let all = places.all.as_slice();
     Some((
         at,
-        are_last(&other, places),
-        are_last(&Schema::new(alloc), places),
+        are_last(&other, all),
+        are_last(&Schema::new(alloc), all),
     ))
 }
 

@@ -1,5 +1,5 @@
 //! The tests of the stores' public calls, in memory and in tables, of what finds a store's tables in a database, and of
-//! the forwarder over a store. It promises nothing.
+//! the forwarder over a store; with a small store of two formats, for the raising of one. It promises nothing.
 #![tactic(auto)]
 
 #[cfg(test)]
@@ -13,7 +13,10 @@ mod ledger_tables;
 #[cfg(test)]
 mod outbox_tables;
 #[cfg(test)]
+mod raising;
+#[cfg(test)]
 mod route;
+pub mod shelf;
 #[cfg(test)]
 mod stops;
 #[cfg(test)]

@@ -15,10 +15,11 @@ use std::alloc::Global;
 type Stopped = (u64, u64, bool);
 
 // What an outbox is asked, and what it answers.
-const STORED: [(Asked, Said); 3] = [
+const STORED: [(Asked, Said); 4] = [
     (Asked::Store(1, 1), Said::Stored(Ok(()))),
     (Asked::Store(2, 2), Said::Stored(Ok(()))),
     (Asked::State(2), Said::Stated(Ok(()))),
+    (Asked::Prune(1), Said::Number(Ok(1))),
 ];
 
 // What a ledger is asked, and what it answers.
@@ -37,7 +38,8 @@ fn stored_in<O: Outbox>(outbox: &mut O) -> Option<u64> {
         if said != want {
             return match said {
                 Said::Stored(Err(Refused::Failed(Fault::Store)))
-                | Said::Stated(Err(Refused::Failed(Fault::Store))) => Some(done),
+                | Said::Stated(Err(Refused::Failed(Fault::Store)))
+                | Said::Number(Err(Fault::Store)) => Some(done),
                 _ => None,
             };
         }
@@ -46,21 +48,29 @@ fn stored_in<O: Outbox>(outbox: &mut O) -> Option<u64> {
     Some(done)
 }
 
-// How many steps an outbox holds, and whether the row of the greatest link and no later one is there.
+// How many steps an outbox holds, and whether the rows from the first that isn't pruned to that of the greatest link,
+// and no later one, are there.
 fn found_in<O: Outbox>(outbox: &mut O) -> Option<(u64, bool)> {
     let Said::Number(Ok(upto)) = ask(outbox, Asked::Upto)? else {
         return None;
     };
+    let first = ask(outbox, Asked::NextRow(0))?;
     let last = ask(outbox, Asked::NextRow(upto.saturating_sub(1)))?;
     let next = ask(outbox, Asked::NextRow(upto))?;
-    let whole = last == Said::Found(Ok(if upto == 0 { None } else { Some(upto) }));
+    let (pruned, ends) = match (upto, first) {
+        (0, Said::Found(Ok(None))) => (0, None),
+        (1 | 2, Said::Found(Ok(Some(1)))) => (0, Some(upto)),
+        (2, Said::Found(Ok(Some(2)))) => (1, Some(upto)),
+        _ => return None,
+    };
     let stated = match ask(outbox, Asked::NextStatement(0))? {
         Said::Found(Ok(None)) => 0,
         Said::Found(Ok(Some(2))) => 1,
         _ => return None,
     };
-    let found = upto.saturating_add(stated);
-    Some((found, whole && next == Said::Found(Ok(None))))
+    let found = upto.saturating_add(stated).saturating_add(pruned);
+    let whole = last == Said::Found(Ok(ends)) && next == Said::Found(Ok(None));
+    Some((found, whole))
 }
 
 // How many steps a ledger acknowledges until one fails, which has to answer Store.
@@ -181,7 +191,7 @@ fn a_failure_at_any_call_leaves_each_step_whole_or_not_at_all(rt: HostRuntime) {
             same(&rt, &(calls, (kept, whole)), &(calls, (true, true)));
         }
         let [(stored, _, _), (taken, _, _)] = stops;
-        if (stored, taken) == (3, 4) {
+        if (stored, taken) == (4, 4) {
             full = true;
             break;
         }

@@ -11,7 +11,7 @@ use Rattle.fare_opening.proofs.making.make_all.Goals as goal
 pub returns-clause-made : goal.returns-clause-made
 returns-clause-made g c clean inside grows =
     let p = g.D.Design.parts in
-    let design = c.sound.ensures in
+    let design = c.sound.ensures.design in
     let a = (state g.S.Store c.args.tx.now.conn.now).now in
     let b = (state g.S.Store c.make_tables.new.tx.conn.now).now in
     let d = (state g.S.Store c.put_meta.new.tx.conn.now).now in
@@ -20,4 +20,4 @@ returns-clause-made g c clean inside grows =
     all_new p c.args.owner c.put_meta.result a d (IsTrue (state g.S.Store c.put_meta.new.tx.conn.now).in_transaction) grows (λ w makes. (
     let grown = c.in_ok-make_tables.ensures.made before inside w.schema (subst (λ t. GrowsBy a.schema t w.schema) (sym c.tables.ensures) makes.grows) in
     on_ok c.put_meta.result (λ (m : IsNew p c.args.owner w d × KeepsAllButMeta w b d × _). (m.0, others_kept p w a b d design makes grown.0.others m.1, m.2))
-    (c.put_meta.ensures.made clean grown.1 w makes.site (grown_blank p w a b makes grown.0))))
+    (c.put_meta.ensures.made clean grown.1 w makes.site (grown_blank p w a b design makes grown.0))))

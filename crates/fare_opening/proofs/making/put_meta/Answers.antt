@@ -12,4 +12,4 @@ returns-in-Ok-clause-made g c clean inside w site blank =
     let new = state g.S.Store c.change.new.tx.conn.now in
     let ran = c.in-Ok.ensures.ran clean inside in
     let h : Executes put_meta (int g.D.Design.parts.format ∷ int c.args.owner ∷ []) old new (Ok c.in-Ok.field-0) = rw (c.parameter.ensures, c.parameter-2.ensures, c.from.ensures, c.from-2.ensures, c.format.ensures) at ran.0 in
-    (let put = puts_row g.D.Design.parts c.args.owner w old new c.in-Ok.field-0 c.sound.ensures site blank h in (put.0, put.1, ran.1))
+    (let put = puts_row g.D.Design.parts c.args.owner w old new c.in-Ok.field-0 c.sound.ensures.design site blank h in (put.0, put.1, ran.1))

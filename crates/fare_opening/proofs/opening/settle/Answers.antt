@@ -13,11 +13,11 @@ returns-in-Ours-clause-foreign g c =
     let old = state g.S.Store c.args.conn.now in
     let d = g.D.Design.parts in
     let it : Sees d old.now.schema (Ours c.in-Ours.site) = rw c.in-Ours.is at c.requires.seen in
-    for_none c.keep.result (old.now.schema ≢ no_schema) (not_blank d c.in-Ours.site old.now.schema c.sound.ensures it.0 it.1)
+    for_none c.keep_or_raise.result (old.now.schema ≢ no_schema) (not_blank d c.in-Ours.site old.now.schema c.sound.ensures.design it.0 it.1)
 
 pub returns-in-Ours-clause-vacant : goal.returns-in-Ours-clause-vacant
 returns-in-Ours-clause-vacant g c =
     let old = state g.S.Store c.args.conn.now in
     let d = g.D.Design.parts in
     let it : Sees d old.now.schema (Ours c.in-Ours.site) = rw c.in-Ours.is at c.requires.seen in
-    for_none c.keep.result (IsVacant d old → ¬ MayGrow d old.now.schema) (λ vacant. absurd (not_vacant d c.in-Ours.site old.now.schema c.sound.ensures it.0 vacant it.1))
+    for_none c.keep_or_raise.result (IsVacant d old → ¬ MayGrow d old.now.schema) (λ vacant. absurd (not_vacant d c.in-Ours.site old.now.schema c.sound.ensures.design it.0 vacant it.1))

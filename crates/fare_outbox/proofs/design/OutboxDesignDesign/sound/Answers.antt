@@ -2,4 +2,4 @@ use Rattle.fare_outbox.proofs.Own.{outbox_design}
 use Rattle.fare_outbox.proofs.design.OutboxDesignDesign.sound.Goals as goal
 
 pub returns : goal.returns
-returns c = outbox_design
+returns c = record { design = outbox_design; older = tt }

@@ -1,0 +1,132 @@
+-- A store of an older format, found and raised.
+use Rattle.std.proofs.Common.{◌≡◌, ◌≤◌, inl, inr, ℕ, List, [], ◌∷◌, length, refl, sym, ap, subst, ◌∙◌, arith}
+use Rattle.std.specs.Prelude.{slice_index_or, take, drop, ◌-◌}
+use Rattle.std.proofs.Math.Seq.{take-length}
+use Rattle.std.specs.List.{AllByRecursion, AllZip}
+use Rattle.sqlite.specs.Effect.{Database}
+use Rattle.sqlite.specs.State.{State, HasCleanDisk, Survives}
+use Rattle.sqlite.specs.Tree.{Trees}
+use Rattle.sqlite.proofs.StateLemmas.{survives_weaker, survives_then}
+use Rattle.sqlite_rules.specs.Lists.{Has}
+use Rattle.fare_tables.specs.Asking.{SameRows}
+use Rattle.fare_tables.proofs.Steps.{was_clean}
+use Rattle.fare_opening.specs.declared.design.Older.{Older}
+use Rattle.fare_opening.specs.declared.site.Site.{Site}
+use Rattle.fare_opening.specs.MetaRow.{IsMeta}
+use Rattle.fare_opening.specs.Numbers.{Meta}
+use Rattle.fare_opening.specs.Opening.{MayMake, MayOpen}
+use Rattle.fare_opening.specs.Parts.{Parts, OlderParts, IsOlder, IsTold, parts_of}
+use Rattle.fare_opening.specs.Raising.{Rises, CanRise, IsRaised, IsRising, RaisesAll, RaisesFrom, Raises, RaisesTo, IsOlderStore, MayRaise, WasRaised}
+use Rattle.fare_opening.specs.Sites.{rows_at}
+use Rattle.fare_opening.proofs.Standing.{same_rows}
+
+module _ (d : Parts) (told : Older) (owner : ℕ) (old mid : State) (from to : Site) where
+  -- where its tables stand, and would stand
+  abbrev pub AreFound : Type 0
+  AreFound = (o : OlderParts) → IsOlder d o → IsTold told o → Rises d o old.now.schema from to
+
+  pub can_rise : AreFound → IsMeta told.format owner (rows_at from Meta old.now.trees) → (o : OlderParts) → IsOlder d o → IsTold told o → CanRise d o owner old.now from to
+  can_rise found meta o older is = record { rises = found o older is; meta = subst (λ f. IsMeta f owner (rows_at from Meta old.now.trees)) is.format meta }
+
+  pub is_rising : AreFound → IsMeta told.format owner (rows_at from Meta old.now.trees) → SameRows old mid → (o : OlderParts) → IsOlder d o → IsTold told o → IsRising d told mid.now
+  is_rising found meta same o older is = record { o = o; older = older; is_told = is; owner = owner; from = from; to = to; can = subst (λ db. CanRise d o owner db from to) (sym same.0) (can_rise found meta o older is) }
+
+  pub raises : AreFound → IsMeta told.format owner (rows_at from Meta old.now.trees) → SameRows old mid → (o : OlderParts) → IsOlder d o → IsTold told o → (e : Database) → RaisesAll d told mid.now e → Raises d o owner old.now e to
+  raises found meta same o older is e all =
+      let can = can_rise found meta o older is in
+      (from, can, subst (λ db. IsRaised d o owner to db e) same.0 (all.each o older is owner from to (subst (λ db. CanRise d o owner db from to) (sym same.0) can)))
+
+  -- a stop leaves it as it was, or raised
+  pub raises_survives : (new : State) → AreFound → (HasCleanDisk mid → IsMeta told.format owner (rows_at from Meta old.now.trees)) → (HasCleanDisk mid → SameRows old mid) → old.now.schema ≡ from.schema → Survives old mid (λ _. ¬ (old.now.schema ≡ from.schema))
+      → Survives mid new (λ trees. IsRising d told mid.now → RaisesFrom d told mid.now trees) → Survives old new (λ trees. (o : OlderParts) → IsOlder d o → IsTold told o → RaisesTo d o owner old.now trees)
+  raises_survives new found meta same has first second =
+      survives_then old mid new _ _ _ (λ clean trees other. absurd (other has))
+      (λ clean trees leaves o older is. (
+      let before = was_clean mid new _ second clean in
+      let it = leaves (is_rising found (meta before) (same before) o older is) in
+      (to, it.0, raises found (meta before) (same before) o older is it.0 it.1, it.2)))
+      first second
+
+-- a row of meta that isn't of this format and owner, wherever the older format's tables are found to stand
+pub none_rises : (d : Parts) (told : Older) (owner : ℕ) (old : State) (from to : Site) → AreFound d told owner old old from to → ¬ IsMeta told.format owner (rows_at from Meta old.now.trees)
+    → (o : OlderParts) → IsOlder d o → IsTold told o → (v w : Site) → ¬ CanRise d o owner old.now v w
+none_rises d told owner old from to found other o older is v w can =
+    let here = found o older is in
+    let same = same_rows (parts_of o) v from Meta old.now.trees can.rises.from here.from (sym can.rises.has ∙ here.has) in
+    other (subst (λ f. IsMeta f owner (rows_at from Meta old.now.trees)) (sym is.format) (subst (IsMeta o.format owner) same can.meta))
+
+-- ---- the first of several formats, and those behind it
+
+pub record AreFirst (d : Parts) (behind : List Older) (os : List OlderParts) : Type 0 where
+  pub o : OlderParts
+  pub rest : List OlderParts
+  pub all : os ≡ o ∷ rest
+  pub older : IsOlder d o
+  pub olders : AllByRecursion (IsOlder d) rest
+  pub are : AllZip IsTold behind rest
+
+pub are_first : (d : Parts) (ts : List Older) (os : List OlderParts) → 1 ≤ length ts → AllByRecursion (IsOlder d) os → AllZip IsTold ts os → AreFirst d (take (length ts - 1) (drop 1 ts)) os
+are_first d [] os some olders are = absurd (omega (arith, some))
+are_first d (t ∷ ts) [] some olders are = absurd are
+are_first d (t ∷ ts) (o ∷ os) some olders are = record { o = o; rest = os; all = refl; older = olders.0; olders = olders.1; are = subst (λ all. AllZip IsTold all os) (sym (ap (λ n. take n ts) (one_less t ts) ∙ take-length ts)) are.1 }
+  where
+    one_less : (t : Older) (ts : List Older) → length (t ∷ ts) - 1 ≡ length ts
+    one_less t ts = omega arith
+
+first_told : (ts : List Older) (x : Older) (o : OlderParts) (rest : List OlderParts) → 1 ≤ length ts → AllZip IsTold ts (o ∷ rest) → IsTold (slice_index_or ts 0 x) o
+first_told [] x o rest some are = absurd are
+first_told (t ∷ ts) x o rest some are = are.0
+
+module _ (d : Parts) (ts : List Older) (owner : ℕ) (old mid new : State) (some : 1 ≤ length ts) where
+  abbrev behind : List Older
+  behind = take (length ts - 1) (drop 1 ts)
+
+  -- one of the formats, raised
+  abbrev pub IsOneRaised : Database → Site → List Older → Type 0
+  IsOneRaised from w all = (os : List OlderParts) → AllByRecursion (IsOlder d) os → AllZip IsTold all os → (o : OlderParts) × Has os o × Raises d o owner from new.now w × (new.now ≡ new.committed)
+
+  pub later_raised : (w : Site) → SameRows old mid → IsOneRaised mid.now w behind → IsOneRaised old.now w ts
+  later_raised w same later os olders are =
+      let it = are_first d ts os some olders are in
+      let one = later it.rest it.olders it.are in
+      (one.0, subst (λ all. Has all one.0) (sym it.all) (inr one.1), subst (λ db. Raises d one.0 owner db new.now w) same.0 one.2, one.3)
+
+  -- what a stop leaves
+  abbrev pub OneMayRaise : Database → List Older → Trees → Type 0
+  OneMayRaise from all trees = (os : List OlderParts) → AllByRecursion (IsOlder d) os → AllZip IsTold all os → (o : OlderParts) × Has os o × RaisesTo d o owner from trees
+
+  first_leaves : (x : Older) (trees : Trees) → ((o : OlderParts) → IsOlder d o → IsTold (slice_index_or ts 0 x) o → RaisesTo d o owner old.now trees) → OneMayRaise old.now ts trees
+  first_leaves x trees leaves os olders are =
+      let it = are_first d ts os some olders are in
+      (it.o, subst (λ all. Has all it.o) (sym it.all) (inl refl), leaves it.o it.older (first_told ts x it.o it.rest some (subst (AllZip IsTold ts) it.all are)))
+
+  later_leaves : (trees : Trees) → SameRows old mid → OneMayRaise mid.now behind trees → OneMayRaise old.now ts trees
+  later_leaves trees same leaves os olders are =
+      let it = are_first d ts os some olders are in
+      let one = leaves it.rest it.olders it.are in
+      (one.0, subst (λ all. Has all one.0) (sym it.all) (inr one.1), subst (λ db. RaisesTo d one.0 owner db trees) same.0 one.2)
+
+  pub first_survives : (x : Older) → Survives old new (λ trees. (o : OlderParts) → IsOlder d o → IsTold (slice_index_or ts 0 x) o → RaisesTo d o owner old.now trees) → Survives old new (OneMayRaise old.now ts)
+  first_survives x = survives_weaker old new _ _ (λ clean trees leaves. first_leaves x trees leaves)
+
+  pub later_survives : (x : Older) → (HasCleanDisk mid → SameRows old mid) → Survives old mid (λ trees. (o : OlderParts) → IsOlder d o → IsTold (slice_index_or ts 0 x) o → RaisesTo d o owner old.now trees) → Survives mid new (OneMayRaise mid.now behind) → Survives old new (OneMayRaise old.now ts)
+  later_survives x same first second =
+      survives_then old mid new _ _ _ (λ clean trees leaves. first_leaves x trees leaves) (λ clean trees leaves. later_leaves trees (same (was_clean mid new _ second clean)) leaves) first second
+
+-- ---- after a question, which changes no row
+
+module _ (d : Parts) (owner : ℕ) (old mid new : State) where
+  pub raised_since : (w : Site) → SameRows old mid → WasRaised d owner mid new w → WasRaised d owner old new w
+  raised_since w same it = (it.0, it.1, subst (λ db. Raises d it.0 owner db new.now w) same.0 it.2, it.3)
+
+  pub none_since : SameRows old mid → ¬ IsOlderStore d owner mid → ¬ IsOlderStore d owner old
+  none_since same none it = none (it.0, it.1, it.2, it.3, subst (λ db. CanRise d it.0 owner db it.2 it.3) (sym same.0) it.4)
+
+  pub survives_since : (P : Type 0) → P → (HasCleanDisk mid → SameRows old mid) → Survives old mid (λ _. ¬ P) → Survives mid new (MayRaise d owner mid) → Survives old new (MayRaise d owner old)
+  survives_since P p same first second =
+      survives_then old mid new _ _ _ (λ clean trees none. absurd (none p)) (λ clean trees it. (it.0, it.1, subst (λ db. RaisesTo d it.0 owner db trees) (same (was_clean mid new _ second clean)).0 it.2)) first second
+
+-- ---- a store that has no older format
+
+pub none_raised : (d : Parts) (owner : ℕ) (old new : State) → d.older ≡ [] → Survives old new (MayOpen d owner old) → Survives old new (MayMake d owner old)
+none_raised d owner old new none = survives_weaker old new _ _ (λ clean trees may. elim may [ inl made ↦ made | inr it ↦ absurd (subst (λ os. Has os it.0) none it.1) ])

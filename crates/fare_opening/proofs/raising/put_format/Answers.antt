@@ -1,0 +1,16 @@
+use Rattle.std.proofs.Common.{Ok, [], ◌∷◌}
+use Rattle.sqlite.specs.Held.{state}
+use Rattle.sqlite.specs.State.{Executes}
+use Rattle.fare_tables.specs.Cells.{int}
+use Rattle.fare_opening.specs.Parts.{set_meta}
+use Rattle.fare_opening.proofs.Raised.{sets_row}
+use Rattle.fare_opening.proofs.raising.put_format.Goals as goal
+
+pub returns-in-Ok-clause-set : goal.returns-in-Ok-clause-set
+returns-in-Ok-clause-set g c clean inside w site has format owner meta =
+    let d = g.D.Design.parts in
+    let old = state g.S.Store c.args.tx.now.conn.now in
+    let new = state g.S.Store c.change.new.tx.conn.now in
+    let ran = c.in-Ok.ensures.ran clean inside in
+    let h : Executes set_meta (int d.format ∷ []) old new (Ok c.in-Ok.field-0) = rw (c.parameter.ensures, c.from.ensures, c.format.ensures) at ran.0 in
+    (sets_row d w old new format owner c.in-Ok.field-0 c.sound.ensures.design site has meta h, ran.1)

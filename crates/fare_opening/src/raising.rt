@@ -1,0 +1,62 @@
+ghost use Rattle.std.specs.Prelude.{◌≡◌, ℕ, false, IsTrue, OnOk, OnErr};
+ghost use Rattle.sqlite.specs.State.{HasCleanDisk, Survives};
+ghost use Rattle.sqlite.specs.Held.{state};
+ghost use Rattle.fare_tables.specs.Asking.{IsLive, SameRows, Inside};
+ghost use Rattle.fare_opening.specs.declared.site.Site.{Site};
+ghost use Rattle.fare_opening.specs.MetaRow.{IsMeta};
+ghost use Rattle.fare_opening.specs.Numbers.{Meta};
+ghost use Rattle.fare_opening.specs.Raising.{SetsMeta, IsRising, RaisesAll, RaisesFrom};
+ghost use Rattle.fare_opening.specs.Sites.{IsSite, rows_at};
+
+use crate::making::{commit, make_tables};
+use crate::{Design, Older, SET_META};
+use fare_store::Fault;
+use fare_tables::{change, parameter};
+use sqlite::{Alter, Connection, Transaction};
+
+// The newest format in the row of meta.
+fn put_format<D: Design, S: Alter>(tx: &mut Transaction<'_, S>) -> Result<(), Fault>
+    ensures same_reference { tx.new.conn.ghost_name ≡ tx.old.conn.ghost_name }
+    ensures set { HasCleanDisk (state S.Store tx.new.conn.now) → IsTrue (state S.Store tx.old.conn.now).in_transaction → (w : Site) → IsSite D.parts w → (state S.Store tx.old.conn.now).now.schema ≡ w.schema
+        → (format owner : ℕ) → IsMeta format owner (rows_at w Meta (state S.Store tx.old.conn.now).now.trees)
+        → OnOk result (SetsMeta D.parts owner w (state S.Store tx.old.conn.now).now (state S.Store tx.new.conn.now).now × IsTrue (state S.Store tx.new.conn.now).in_transaction) }
+    ensures inside { HasCleanDisk (state S.Store tx.new.conn.now) → Inside (state S.Store tx.old.conn.now) (state S.Store tx.new.conn.now) }
+    ensures survives { Survives (state S.Store tx.old.conn.now) (state S.Store tx.new.conn.now) (λ _. ⊥) }
+{
+    D::sound();
+    match change(tx, SET_META, &[parameter(u64::from(D::format()))]) {
+        Ok(_) => Ok(()),
+        Err(fault) => Err(fault),
+    }
+}
+
+// The tables that an older format lacks, and the newest format in the row of meta.
+fn raise_all<D: Design, S: Alter>(tx: &mut Transaction<'_, S>, older: &Older) -> Result<(), Fault>
+    ensures same_reference { tx.new.conn.ghost_name ≡ tx.old.conn.ghost_name }
+    ensures raised { HasCleanDisk (state S.Store tx.new.conn.now) → IsTrue (state S.Store tx.old.conn.now).in_transaction → IsRising D.parts older.now (state S.Store tx.old.conn.now).now
+        → OnOk result (RaisesAll D.parts older.now (state S.Store tx.old.conn.now).now (state S.Store tx.new.conn.now).now × IsTrue (state S.Store tx.new.conn.now).in_transaction) }
+    ensures inside { HasCleanDisk (state S.Store tx.new.conn.now) → Inside (state S.Store tx.old.conn.now) (state S.Store tx.new.conn.now) }
+    ensures survives { Survives (state S.Store tx.old.conn.now) (state S.Store tx.new.conn.now) (λ _. ⊥) }
+{
+    D::sound();
+    make_tables(tx, older.missing)?;
+    put_format::<D, S>(tx)
+}
+
+// A store of the newest format of one of an older format, in one transaction.
+pub(crate) fn raise_store<D: Design, S: Alter>(
+    conn: &mut Connection<S>,
+    older: &Older,
+) -> Result<(), Fault>
+    requires { conn.old.in_transaction ≡ false }
+    ensures raised { IsLive (state S.Store conn.new) → IsRising D.parts older.now (state S.Store conn.old).now → OnOk result (RaisesAll D.parts older.now (state S.Store conn.old).now (state S.Store conn.new).now × ((state S.Store conn.new).now ≡ (state S.Store conn.new).committed)) }
+    ensures same { IsLive (state S.Store conn.new) → IsRising D.parts older.now (state S.Store conn.old).now → (state S.Store conn.old).now ≡ (state S.Store conn.old).committed → OnErr result (SameRows (state S.Store conn.old) (state S.Store conn.new)) }
+    ensures crash { Survives (state S.Store conn.old) (state S.Store conn.new) (λ trees. IsRising D.parts older.now (state S.Store conn.old).now → RaisesFrom D.parts older.now (state S.Store conn.old).now trees) }
+    ensures live { IsLive (state S.Store conn.new) → IsLive (state S.Store conn.old) }
+    ensures stays { HasCleanDisk (state S.Store conn.new) → OnOk result (IsTrue (state S.Store conn.new).is_open) }
+    ensures idle { conn.new.in_transaction ≡ false }
+{
+    let mut tx = conn.transaction();
+    raise_all::<D, S>(&mut tx, older)?;
+    commit(tx)
+}
