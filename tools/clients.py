@@ -40,13 +40,13 @@ def scheme_of(stations):
 
 
 class Hub:
-    """The program, serving so many stations once."""
+    """The program, serving so many stations once, or for as long as a file isn't there."""
 
-    def __init__(self, folder, turns=2_000, read_ms=5, write_ms=200, stations=2, under=()):
+    def __init__(self, folder, turns=2_000, read_ms=5, write_ms=200, stations=2, under=(), until=None):
         self.path = os.path.join(folder, "outbox")
         self.program = subprocess.Popen(
             [*under, PROGRAM, "serve", "--port", "0", "--turns", str(turns), "--outbox", self.path,
-             "--read-ms", str(read_ms), "--write-ms", str(write_ms)],
+             "--read-ms", str(read_ms), "--write-ms", str(write_ms), *(["--until", until] if until else [])],
             stdin=subprocess.PIPE, stdout=subprocess.PIPE, stderr=subprocess.PIPE)
         self.program.stdin.write(scheme_of(stations).encode())
         self.program.stdin.close()
