@@ -1,5 +1,6 @@
 use crate::checking::same;
 use fare_layout::{Places, TableNumber, are_last, find_places, grow_by, has_none};
+use fare_opening::{DEVICE, META, STATED, TAP};
 use sqlite_schema::schema::Schema;
 use std::alloc::Global;
 
@@ -19,14 +20,6 @@ const TABLES: [(&str, &str); 4] = [
         "CREATE TABLE stated (day INTEGER NOT NULL) STRICT",
     ),
 ];
-
-const META: TableNumber = TableNumber { number: 0 };
-
-const DEVICE: TableNumber = TableNumber { number: 1 };
-
-const TAP: TableNumber = TableNumber { number: 2 };
-
-const STATED: TableNumber = TableNumber { number: 3 };
 
 // Its statements, each with the table that it is over.
 const TEXTS: [(TableNumber, &str); 5] = [

@@ -1,8 +1,8 @@
 use crate::checking::same;
 use crate::shelf::{OldShelf, Shelf};
+use crate::stops::{burning, reopened};
 use fare_opening::{Design, Opened, open_tables};
-use sqlite::{Alter, Connection, FileStore, Files, MemStore, Options};
-use sqlite_disk::{Fuse, Memory};
+use sqlite::{Alter, Connection, MemStore};
 use sqlite_trees::store::Reopen;
 use std::alloc::Global;
 
@@ -148,24 +148,17 @@ fn steps<S: Alter>(alloc: Global, conn: &mut Connection<S>) -> Option<u64> {
 fn stopped<S: Alter + Reopen + Drop>(alloc: Global, conn: Connection<S>) -> Option<Stopped> {
     let mut conn = conn;
     let done = steps(alloc, &mut conn)?;
-    let mut store = conn.into_store();
-    store.crash_and_reopen().ok()?;
-    let mut conn = Connection::over(alloc, store).ok()?;
+    let mut conn = reopened(alloc, conn)?;
     let seen = found_as::<Shelf, S>(alloc, &mut conn)?;
     let books = number(&mut conn, "SELECT count(*) FROM book")?;
     Some((done, seen, books))
 }
 
-// A database in two disks in memory that fail after so many calls; nothing if they fail before it is open. It alone
-// names its kind, since a function that does is slow to prove.
+// A database whose disks fail after so many calls; nothing if they fail before it is open.
 fn stopped_after(alloc: Global, calls: u64) -> Option<Option<Stopped>> {
-    let files = Files {
-        log: Fuse::new(Memory::new(alloc), calls),
-        db: Fuse::new(Memory::new(alloc), calls),
-    };
-    match Connection::<FileStore<Fuse<Memory>>>::open_files(alloc, files, Options::new(1)) {
-        Ok(conn) => Some(Some(stopped(alloc, conn)?)),
-        Err(_) => Some(None),
+    match burning(alloc, calls) {
+        Some(conn) => Some(Some(stopped(alloc, conn)?)),
+        None => Some(None),
     }
 }
 

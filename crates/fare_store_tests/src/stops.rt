@@ -114,7 +114,10 @@ fn held_in<L: Ledger>(ledger: &mut L) -> Option<(u64, bool)> {
 }
 
 // The database after the machine stopped and came back.
-fn reopened<S: Alter + Reopen + Drop>(alloc: Global, conn: Connection<S>) -> Option<Connection<S>> {
+pub(crate) fn reopened<S: Alter + Reopen + Drop>(
+    alloc: Global,
+    conn: Connection<S>,
+) -> Option<Connection<S>> {
     let mut store = conn.into_store();
     store.crash_and_reopen().ok()?;
     Connection::over(alloc, store).ok()
@@ -165,7 +168,7 @@ fn stopped<S: Alter + Reopen + Drop>(
 }
 
 // A database in two disks in memory that fail after so many calls, if they last until it is open.
-fn burning(alloc: Global, calls: u64) -> Option<Connection<FileStore<Fuse<Memory>>>> {
+pub(crate) fn burning(alloc: Global, calls: u64) -> Option<Connection<FileStore<Fuse<Memory>>>> {
     let files = Files {
         log: Fuse::new(Memory::new(alloc), calls),
         db: Fuse::new(Memory::new(alloc), calls),
