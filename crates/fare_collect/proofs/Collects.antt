@@ -420,6 +420,7 @@ ran {S} sc talks a b c n0 n1 zero_count unnoted before begun mid after left halt
     clean = λ clean. then_.wrote.clean (s.written.wrote.clean clean);
     live = λ live. then_.wrote.live (s.written.wrote.live live);
     lawful = λ live lawful. (s.written.wrote.value live (then_.wrote.value (s.written.wrote.live live) lawful).0).0;
+    lasts = λ clean lawful lasting. s.written.wrote.lasts clean (λ live. (then_.wrote.value live (lawful (then_.wrote.live live))).0) (then_.wrote.lasts (s.written.wrote.clean clean) lawful lasting);
   };
 }
   where

@@ -21,7 +21,8 @@ use Rattle.fare_collect.specs.declared.tally.Tally.{Tally}
 use Rattle.fare_collect.specs.declared.fault.WriterFault.TheVariants.{Refused}
 use Rattle.fare_collect.specs.declared.station.Teller.{Teller}
 use Rattle.fare_collect.specs.Noting.{noting}
-use Rattle.fare_collect.specs.Gathering.{item_of, is_new, done_by, storing, are_all_stated, IsAnswerTo}
+use Rattle.fare_collect.specs.Gathering.{item_of, is_new, done_by, storing, IsAnswerTo}
+use Rattle.fare_route.specs.Stating.{are_all_stated}
 use Rattle.fare_collect.specs.Writing.{Asks, Puts, as_writer, store_fault, Wrote}
 use Rattle.fare_collect.specs.Stations.{AreTellers, HasTold, HasWritten}
 use Rattle.fare_collect.proofs.Wrote.{entry, wrote_then, wrote_read, wrote_put, wrote_answered}

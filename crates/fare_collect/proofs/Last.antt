@@ -20,7 +20,7 @@ use Rattle.fare_source.specs.Talking.{Talk}
 use Rattle.fare_collect.specs.Writing.{Wrote, Asks}
 use Rattle.fare_collect.specs.Resuming.{AreStations}
 use Rattle.fare_store.specs.Keys.{Key}
-use Rattle.fare_collect.specs.Gathering.{are_all_stated}
+use Rattle.fare_route.specs.Stating.{are_all_stated}
 use Rattle.fare_collect.specs.Noting.{day_ack, day_acks}
 use Rattle.fare_collect.specs.Ending.{IsHanded, last_ack, acks_of, last_acks, AreSent, HaveSent, HaveLast}
 use Rattle.fare_collect.proofs.Wrote.{wrote_none, wrote_then, wrote_read}

@@ -1,5 +1,4 @@
 pub mod Asked
-pub mod Stating
 pub mod Wrote
 pub mod Read
 pub mod Told

@@ -139,7 +139,7 @@ nothing {S} sc talks a b f before after w wrote o other rose = record {
   at_end = λ e. absurd (cc);
   cause = λ e. let is : w ≡ writer.Store = cc in rose is;
   stays = λ e. absurd (cc);
-  follows = record { clean = wrote.clean; live = wrote.live; lawful = λ live lawful. (wrote.value live lawful).0 };
+  follows = record { clean = wrote.clean; live = wrote.live; lawful = λ live lawful. (wrote.value live lawful).0; lasts = wrote.lasts };
 }
 
 -- the outbox failed before the stations had gone on

@@ -38,6 +38,7 @@ wrote_none sc s sound = record {
   known = λ clean live lawful. tt;
   stop = λ clean live lawful v leaves. sound.settled live lawful v leaves;
   shut = λ clean lawful v leaves. inl leaves;
+  lasts = λ clean lawful lasting. lasting;
   clean = λ h. h;
   live = λ h. h;
   stays = λ e live clean. live;
@@ -68,6 +69,7 @@ wrote_then sc o m n es fs hand f first second = record {
     | inl before ↦ first.shut (second.clean clean) lawful v before
     | inr live ↦ inr (first.live live)
   ];
+  lasts = λ clean lawful lasting. second.lasts clean (λ live. (first.value live (lawful (first.live live))).0) (first.lasts (second.clean clean) lawful lasting);
   clean = λ h. first.clean (second.clean h);
   live = λ h. first.live (second.live h);
   stays = λ e live clean. second.stays e (first.stays refl live (second.clean clean)) clean;
@@ -87,6 +89,7 @@ wrote_read sc s t f P sound c = record {
     | inl before ↦ inl before
     | inr none ↦ absurd none.1
   ];
+  lasts = c.lasts;
   clean = c.clean;
   live = c.live;
   stays = c.stays;
@@ -106,6 +109,7 @@ wrote_put sc s t a new sound c = record {
     | inl before ↦ inl before
     | inr done ↦ inr done.0
   ];
+  lasts = c.lasts;
   clean = c.clean;
   live = c.live;
   stays = c.stays;
@@ -130,6 +134,7 @@ wrote_halt sc s t a f sound c = record {
     | inl before ↦ inl before
     | inr done ↦ inr done.0
   ];
+  lasts = c.lasts;
   clean = c.clean;
   live = c.live;
   stays = c.stays;
@@ -143,6 +148,7 @@ wrote_full sc s a sound = record {
   known = λ clean live lawful. tt;
   stop = λ clean live lawful v leaves. inl (sound.settled live lawful v leaves);
   shut = λ clean lawful v leaves. inl leaves;
+  lasts = λ clean lawful lasting. lasting;
   clean = λ h. h;
   live = λ h. h;
   stays = λ e. absurd (cc);
@@ -157,6 +163,7 @@ wrote_answered sc s t a answers w from = record {
   known = λ clean live lawful. (record { handled = (w.known clean live lawful).0.handled; answers = from (w.stays refl live clean) lawful }, tt);
   stop = w.stop;
   shut = w.shut;
+  lasts = w.lasts;
   clean = w.clean;
   live = w.live;
   stays = w.stays;

@@ -1,6 +1,6 @@
 -- What a session of the stations and the writer did, in the words of the outbox, of the inbox and of the acknowledgement lines.
-use Rattle.std.specs.Prelude.{◌≡◌, ◌⊎◌, ℕ, ◌+◌, Bool, true, List, [], ◌∷◌, ◌++◌, Option, None, Some, Err, is_some, if◌then◌else◌}
-use Rattle.std.specs.List.{AllByRecursion, list_all}
+use Rattle.std.specs.Prelude.{◌≡◌, ◌⊎◌, ℕ, ◌+◌, Bool, true, List, [], ◌∷◌, ◌++◌, Option, None, Some, Err, if◌then◌else◌}
+use Rattle.std.specs.List.{AllByRecursion}
 use Rattle.fare_record.specs.declared.item.Item.{Item}
 use Rattle.fare_record.specs.declared.item.Item.TheVariants as item
 use Rattle.fare_scheme.specs.Values.{SchemeValue}
@@ -9,6 +9,7 @@ use Rattle.fare_collector.specs.Collecting.{is_id}
 use Rattle.fare_store.specs.OutboxWords.{OutboxValue, store_judged, stated_judged}
 use Rattle.fare_store.specs.declared.fault.StoreFault.TheVariants as store
 use Rattle.fare_store.specs.declared.fault.StatedFault.TheVariants as stated
+use Rattle.fare_route.specs.Stating.{are_all_stated}
 use Rattle.fare_history.specs.Gathering as history
 use Rattle.fare_history.specs.Serving as serving
 use Rattle.fare_inbox_queue.specs.Inbox.{station_in}
@@ -49,10 +50,6 @@ abbrev pub storing : OutboxValue → Arrived → OutboxValue
 storing x a = history.storing x (item_of a)
 
 -- ANSWERS
--- the outbox holds a device's statements of a day for all owners of the scheme
-abbrev pub are_all_stated : SchemeValue → OutboxValue → ℕ → ℕ → Bool
-are_all_stated sc x device day = list_all (λ o. is_some (x.stated o.0 device day)) sc.owners
-
 -- an acknowledged number is the outbox's greatest link, and an acknowledged day has the statements of all owners
 abbrev pub IsAnswerFrom : SchemeValue → OutboxValue → AckItem → Type 0
 IsAnswerFrom sc x (Upto a) = a.upto ≡ x.upto a.device

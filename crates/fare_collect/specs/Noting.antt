@@ -10,7 +10,7 @@ use Rattle.fare_scheme.specs.Values.{SchemeValue}
 use Rattle.fare_scheme.specs.Words.{position_of_device}
 use Rattle.fare_store.specs.Keys.{Key, key_order}
 use Rattle.fare_store.specs.OutboxWords.{OutboxValue}
-use Rattle.fare_collect.specs.Gathering.{are_all_stated}
+use Rattle.fare_route.specs.Stating.{are_all_stated}
 
 -- A day of a device, with the device's place in the order of registration before them: so they stand by device, and then by day.
 abbrev pub noted_at : List Key → StatementValue → Option ℕ → List Key

@@ -58,6 +58,7 @@ pub record Wrote (sc : SchemeValue) (old new : Standing OutboxValue) (entries : 
   pub stop : new.clean → old.live → old.lawful → (v : OutboxValue) → new.may_leave v → Leaves old.value entries hand v
   -- where the outbox was shut before, a stop leaves what it could have left then
   pub shut : new.clean → (old.live → old.lawful) → (v : OutboxValue) → new.may_leave v → old.may_leave v ⊎ old.live
+  pub lasts : new.clean → (old.live → old.lawful) → old.lasting → new.lasting
   pub clean : new.clean → old.clean
   pub live : new.live → old.live
   pub stays : faulted ≡ None → old.live → new.clean → new.live

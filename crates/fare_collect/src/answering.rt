@@ -8,8 +8,8 @@ ghost use Rattle.fare_collect.specs.Resuming.{AreStations};
 
 use crate::ending::hand;
 use crate::station::Station;
-use crate::storing::are_stated;
 use fare_record::{Ack, AckItem, Day, DayAck, DeviceId};
+use fare_route::are_stated;
 use fare_scheme::Scheme;
 use fare_source::Source;
 use fare_store::{Fault, Outbox};

@@ -1,12 +1,10 @@
-ghost use Rattle.std.specs.Prelude.{◌≡◌, IsOk};
-ghost use Rattle.fare_collect.specs.Gathering.{are_all_stated};
-ghost use Rattle.fare_collect.specs.Writing.{Asks, Puts, as_writer};
+ghost use Rattle.std.specs.Prelude.{◌≡◌};
+ghost use Rattle.fare_collect.specs.Writing.{Puts, as_writer};
 ghost use Rattle.fare_inbox_queue.specs.declared.arrived.Arrived.TheVariants.{Tap, Stated};
 
 use crate::fault::WriterFault;
 use fare_inbox_queue::Arrived;
-use fare_record::{Day, DeviceId, Record, Statement};
-use fare_scheme::Scheme;
+use fare_record::{Record, Statement};
 use fare_store::{Fault, Outbox, Refused, StatedFault, StoreFault};
 
 // The writer's fault of a store's.
@@ -58,30 +56,4 @@ fn put_statement<O: Outbox>(outbox: &mut O, statement: &Statement) -> Result<boo
         },
         Err(Refused::Failed(fault)) => Err(writer_fault(fault)),
     }
-}
-
-// Whether the outbox holds a device's statements of a day for all owners.
-pub(crate) fn are_stated<O: Outbox>(
-    scheme: &Scheme,
-    outbox: &mut O,
-    device: DeviceId,
-    day: Day,
-) -> Result<bool, Fault>
-    ensures asks { Asks (O.standing outbox.old) (O.standing outbox.new) (λ all. all ≡ are_all_stated scheme.now (O.standing outbox.old).value device day) result }
-
-    // There is an owner to ask of: an outbox that answers and has kept what was committed was live.
-    ensures live { IsOk result → (O.standing outbox.new).clean → (O.standing outbox.old).live }
-{
-    for place in 0..scheme.owner_count() {
-        let Some(owner) = scheme.owner_at(place) else {
-            unreachable!()
-        };
-        let Some(statement) = outbox.next_statement(owner, device, day)? else {
-            return Ok(false);
-        };
-        if statement.day() != day {
-            return Ok(false);
-        }
-    }
-    Ok(true)
 }

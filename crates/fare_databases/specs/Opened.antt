@@ -3,7 +3,7 @@ use Rattle.std.specs.Prelude.{◌≡◌, ◌⊎◌, ℕ, List, Some, length, sli
 use Rattle.sqlite.specs.State.{State}
 use Rattle.fare_scheme.specs.Values.{SchemeValue}
 use Rattle.fare_scheme.specs.Words.{id_at}
-use Rattle.fare_tables.specs.Tabled.{IsFit}
+use Rattle.fare_tables.specs.Tabled.{IsFit, IsLeft}
 use Rattle.fare_store.specs.Standing.{Standing}
 use Rattle.fare_store.specs.OutboxWords.{OutboxValue, IsEmptyOutbox}
 use Rattle.fare_store.specs.LedgerWords.{LedgerValue, IsEmptyLedger, IsOfScheme}
@@ -22,6 +22,8 @@ pub record IsOpenedOutbox (was : State) (x : Standing OutboxValue) : Type 0 wher
   pub made : x.live → outbox_opening.IsVacant was → x.lawful × IsEmptyOutbox x.value
   pub kept : x.live → (w : outbox_layout.Layout) → IsFit (outbox_layouts.schema_in w) (outbox_words.IsLawful w) was → x.lawful × (x.value ≡ outbox_words.value_at w was.now.trees)
   pub ours : x.live → outbox_opening.IsVacant was ⊎ outbox_opening.IsOutbox was
+  -- of what a stop left of a lawful outbox, that one
+  pub again : x.clean → (w : outbox_layout.Layout) → IsLeft (outbox_layouts.schema_in w) (outbox_words.IsLawful w) was.now.trees → x.live × x.lawful × (x.value ≡ outbox_words.value_at w was.now.trees)
   pub failures : x.failures ≡ 0
 
 -- The same of an owner's ledger, which is that owner's, and made with this scheme.
@@ -31,6 +33,7 @@ pub record IsOpenedLedger (sc : SchemeValue) (owner : ℕ) (was : State) (x : St
   pub made : x.live → ledger_opening.IsVacant was → x.lawful × IsEmptyLedger x.value
   pub kept : x.live → (w : ledger_layout.Layout) → IsFit (ledger_layouts.schema_in w) (ledger_words.IsLawful w owner sc.start) was → x.lawful × (x.value ≡ ledger_words.value_at w owner sc.start x.value.knows was.now.trees)
   pub ours : x.live → ledger_opening.IsVacant was ⊎ ledger_opening.IsLedger owner was
+  pub again : x.clean → (w : ledger_layout.Layout) → IsLeft (ledger_layouts.schema_in w) (ledger_words.IsLawful w owner sc.start) was.now.trees → x.live × x.lawful × (x.value ≡ ledger_words.value_at w owner sc.start x.value.knows was.now.trees)
   pub failures : x.failures ≡ 0
 
 -- The ledgers of a scheme's owners, in its order, each opened in the database at its place.

@@ -2,6 +2,12 @@ ghost use Rattle.std.specs.Prelude.{◌≡◌, length, IfOk};
 ghost use Rattle.sqlite.specs.Held.{state};
 ghost use Rattle.fare_outbox.specs.Words as outbox_words;
 ghost use Rattle.fare_ledger.specs.Words.{stands};
+ghost use Rattle.fare_outbox.specs.declared.tables.SqlOutbox.{SqlOutbox};
+ghost use Rattle.fare_ledger.specs.declared.tables.SqlLedger.{SqlLedger};
+ghost use Rattle.fare_sessions.specs.declared.hub.Hub.{Hub};
+ghost use Rattle.fare_sessions.specs.Stores.{AreClean};
+ghost use Rattle.fare_sessions.specs.Reopening.{HasReopened};
+ghost use Rattle.fare_databases.specs.Reopened.{AreLeftOf};
 ghost use Rattle.fare_databases.specs.Opened.{AreOpened, IsOpenedLedger, IsOpenedOutbox};
 
 use fare_ledger::{LedgerOpenFault, SqlLedger};
@@ -69,7 +75,8 @@ fn ledgers_in<S: Alter + Drop>(
 /// scheme's order. Tables that aren't there are made.
 ///
 /// `Memory` where there was none for it, and `Store` where a database fails or holds something else, in that order;
-/// what was made before stays.
+/// what was made before stays. Over databases that show what a stop left of a hub's stores, the hub has those stores
+/// again.
 pub fn open_hub<S: Alter + Drop>(
     alloc: Global,
     scheme: Scheme,
@@ -80,7 +87,10 @@ pub fn open_hub<S: Alter + Drop>(
     ensures scheme { IfOk result (λ hub. hub.scheme ≡ scheme) }
     ensures outbox { IfOk result (λ hub. IsOpenedOutbox (state S.Store outbox) (outbox_words.stands S.Store hub.outbox)) }
     ensures ledgers { IfOk result (λ hub. AreOpened (λ d. state S.Store d) (λ l. stands S.Store l) scheme ledgers.items hub.ledgers.items) }
+    ensures again { IfOk result (λ hub. AreClean (outbox_words.stands S.Store) (stands S.Store) hub → (was : Hub (SqlOutbox S S.Store) (SqlLedger S S.Store)) → was.scheme ≡ scheme → AreLeftOf S.Store (λ d. state S.Store d) was (state S.Store outbox) ledgers.items → HasReopened (outbox_words.stands S.Store) (stands S.Store) was hub) }
 {
+    let owners = scheme.owner_count();
+    prove!(ledgers.len() == owners);
     let outbox = outbox_in(alloc, outbox)?;
     let ledgers = ledgers_in(alloc, &scheme, ledgers)?;
     Ok(Hub {

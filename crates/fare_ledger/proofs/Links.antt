@@ -197,4 +197,4 @@ puts_lane way old new d k c count has ok h =
     let done = made (task way old.step_limit Enforced d k c) (mode_of old) command old.now.trees run.tally new.now (at_found (task way old.step_limit Enforced d k c) (mode_of old) command old.now.trees _ (run.tally, new.now) (lane_placed way) (subst (λ s. Does old.step_limit (mode_of old) params (record old.now { schema = s }) text None command (Ok (run.tally, new.now))) has run.changed)) in
     let put = inserts_or way old.step_limit Enforced d k c old.now.trees done.written ok done.wrote in
     let trees = subst (λ t. IsPut way old.now.trees t d k c) (sym (ap (λ (d : Database). d.trees) done.after_is)) put in
-    record { schema = ap (λ (d : Database). d.schema) done.after_is; lanes = trees.0; taps = trees.2; statements = trees.3; meta = trees.1 }
+    record { schema = ap (λ (d : Database). d.schema) done.after_is; database = run.sound; lanes = trees.0; taps = trees.2; statements = trees.3; meta = trees.1 }

@@ -1,12 +1,15 @@
 -- What an open finds, and what it makes.
 use Rattle.std.proofs.Common.{◌≡◌, ◌⊎◌, inl, inr, ℕ, Bool, [], ◌∷◌, map, length, refl, sym, ap, subst, ◌∙◌, arith}
 use Rattle.sqlite.specs.Schema.{Schema}
-use Rattle.sqlite.specs.Effect.{Database}
+use Rattle.sqlite.specs.Effect.{Database, IsDatabase}
+use Rattle.sqlite.specs.Tree.{Trees}
 use Rattle.sqlite.specs.State.{State}
 use Rattle.fare_store.specs.LedgerWords.{IsEmptyLedger}
 use Rattle.fare_tables.specs.Cells.{AreRows, held, int}
 use Rattle.fare_tables.specs.Making.{no_schema}
-use Rattle.fare_tables.specs.Tabled.{IsFit}
+use Rattle.fare_tables.specs.Tabled.{IsFit, IsLawfulIn, IsLeft, left_of}
+use Rattle.fare_tables.proofs.Steps.{same_database}
+use Rattle.fare_tables.proofs.Reopened.{fit_again}
 use Rattle.fare_opening.specs.Numbers.{Device, Tap, Stated}
 use Rattle.fare_layout.specs.Growing.{HasNone}
 use Rattle.fare_layout.proofs.Others.{all_kept}
@@ -20,37 +23,34 @@ use Rattle.fare_ledger.specs.declared.layout.Layout.{Layout}
 use Rattle.fare_ledger.specs.Layouts.{schema_in, ours}
 use Rattle.fare_ledger.specs.Held.{AreReadable, IsLane, IsTap, IsStated, lane_of, tap_of, stated_of, stated_in, held_of}
 use Rattle.fare_ledger.specs.Making.{site_of}
-use Rattle.fare_ledger.specs.Opening.{IsLedger, IsBlankOrOurs, IsVacant, IsOpened, Settles}
+use Rattle.fare_ledger.specs.Opening.{IsLedger, IsBlankOrOurs, IsLeftEmpty, IsVacant, IsOpened, MayMake, Settles}
 use Rattle.fare_ledger.specs.Words.{taken_in, value_at, value_in, AreNext, AreApart, FitTogether, IsLawful}
 use Rattle.fare_ledger.specs.Statements.{tables, ledger_parts}
 use Rattle.fare_ledger.proofs.Placed.{same_trees, within}
 use Rattle.fare_ledger.proofs.Own.{ledger_design}
 
-pub new_fits : (w : Layout) (o start : ℕ) (known : ℕ → Bool) (old new : State) → WasMade ledger_parts o old new (site_of w) → IsFit (schema_in w) (IsLawful w o start) new × IsEmptyLedger (value_at w o start known new.now.trees)
+new_rows : (w : Layout) (o start : ℕ) (known : ℕ → Bool) (made : Database) → store.IsNew ledger_parts o (site_of w) made → IsLawful w o start made.trees × IsEmptyLedger (value_at w o start known made.trees)
 unfolding ours
-new_fits w o start known old new it =
-    let db = ours w new.now.trees in
-    let lanes_none : db 1 ≡ [] = it.is_new.bare Device (omega arith) (within w Device refl) in
-    let taps_none : db 2 ≡ [] = it.is_new.bare Tap (omega arith) (within w Tap refl) in
-    let stated_none : db 4 ≡ [] = it.is_new.bare Stated (omega arith) (within w Stated refl) in
+new_rows w o start known made is_new =
+    let db = ours w made.trees in
+    let lanes_none : db 1 ≡ [] = is_new.bare Device (omega arith) (within w Device refl) in
+    let taps_none : db 2 ≡ [] = is_new.bare Tap (omega arith) (within w Tap refl) in
+    let stated_none : db 4 ≡ [] = is_new.bare Stated (omega arith) (within w Stated refl) in
     let taps : (held_of db).taps ≡ [] = ap (map tap_of) taps_none in
     let said : (held_of db).statements ≡ [] = ap (map stated_of) stated_none in
     let none : (d : ℕ) → lane_of (held (db 1) d) ≡ record { taken = 0; closed = 0 } = λ d. ap (λ rows. lane_of (held rows d)) lanes_none in (
       record {
-        rest = record { settled = it.settled; schema_is = it.is_new.schema };
-        fits = record {
-          readable = record {
-            lanes = subst (AreRows IsLane) (sym lanes_none) tt;
-            taps = subst (AreRows IsTap) (sym taps_none) tt;
-            statements = subst (AreRows IsStated) (sym stated_none) tt;
-          };
-          together = record {
-            counted = λ d. ap (λ l. l.taken) (none d) ∙ sym (ap (λ ts. length (taken_in o ts d)) taps);
-            numbered = subst (AreNext (λ d. 0)) (sym taps) tt;
-            single = subst AreApart (sym said) tt;
-            days = λ d y low high. absurd (let closed = ap (λ l. l.closed) (none d) in omega (arith, low, high, closed));
-            meta = record { row = int 1 ∷ int 1 ∷ int o ∷ []; only = it.is_new.meta; is = record { id_is = tt; format_is = refl; owner_is = refl } };
-          };
+        readable = record {
+          lanes = subst (AreRows IsLane) (sym lanes_none) tt;
+          taps = subst (AreRows IsTap) (sym taps_none) tt;
+          statements = subst (AreRows IsStated) (sym stated_none) tt;
+        };
+        together = record {
+          counted = λ d. ap (λ l. l.taken) (none d) ∙ sym (ap (λ ts. length (taken_in o ts d)) taps);
+          numbered = subst (AreNext (λ d. 0)) (sym taps) tt;
+          single = subst AreApart (sym said) tt;
+          days = λ d y low high. absurd (let closed = ap (λ l. l.closed) (none d) in omega (arith, low, high, closed));
+          meta = record { row = int 1 ∷ int 1 ∷ int o ∷ []; only = is_new.meta; is = record { id_is = tt; format_is = refl; owner_is = refl } };
         };
       },
       record {
@@ -59,6 +59,23 @@ new_fits w o start known old new it =
         closed = λ d. ap (λ l. l.closed) (none d);
       },
     )
+
+pub new_fits : (w : Layout) (o start : ℕ) (known : ℕ → Bool) (old new : State) → WasMade ledger_parts o old new (site_of w) → IsLawfulIn (schema_in w) (IsLawful w o start) new × IsEmptyLedger (value_at w o start known new.now.trees)
+new_fits w o start known old new it =
+    let is = new_rows w o start known new.now it.is_new in
+    (record { fit = record { rest = record { settled = it.settled; schema_is = it.is_new.schema }; fits = is.0 }; database = it.is_new.database }, is.1)
+
+-- a stop in an open leaves what there was, or an empty ledger
+pub left_empty : (o start : ℕ) (known : ℕ → Bool) (old : State) (trees : Trees) → MayMake o old trees → IsLeftEmpty o start known trees
+left_empty o start known old trees it =
+    let site = it.1.0 in
+    let makes = it.1.1 in
+    let made = it.1.2 in
+    let is_new = it.1.3 in
+    let same : trees ≡ made.trees = it.1.4 in
+    let w : Layout = record { schema = site.schema; places = site.places; fits = makes.site } in
+    let is = new_rows w o start known made is_new in
+    (w, left_of (schema_in w) (IsLawful w o start) made trees is_new.schema is_new.database is.0 same, subst (λ t. IsEmptyLedger (value_at w o start known t)) (sym same) is.1)
 
 -- what an open of the tables makes of a database
 pub settles_as : (owner : ℕ) (old new : State) (w : Layout) (o : Opened) → site_of w ≡ place_in o → IsPlaced ledger_parts old.now.schema o → Opens ledger_parts owner old new o → Settles owner old new w
@@ -77,21 +94,29 @@ settles_as owner old new w (opened.Made site) at placed it = record {
 settles_as owner old new w (opened.Raised site) at placed it = absurd it.1
 
 -- a ledger that was there goes on as it was, whichever layout it is taken for
-pub kept_fits : (owner start : ℕ) (known : ℕ → Bool) (old new : State) (o p : Layout) → Settles owner old new o → IsOpened owner old o → IsFit (schema_in p) (IsLawful p owner start) old
-    → IsFit (schema_in o) (IsLawful o owner start) new × (value_at o owner start known new.now.trees ≡ value_at p owner start known old.now.trees)
-kept_fits owner start known old new o p settles (inl free) fit = absurd (vacant.not_vacant ledger_parts (site_of p) old.now.schema ledger_design p.fits free fit.rest.schema_is)
-kept_fits owner start known old new o p settles (inr are) fit =
+pub kept_fits : (owner start : ℕ) (known : ℕ → Bool) (old new : State) (o p : Layout) → Settles owner old new o → IsOpened owner old o → IsFit (schema_in p) (IsLawful p owner start) old → IsDatabase old.now
+    → IsLawfulIn (schema_in o) (IsLawful o owner start) new × (value_at o owner start known new.now.trees ≡ value_at p owner start known old.now.trees)
+kept_fits owner start known old new o p settles (inl free) fit database = absurd (vacant.not_vacant ledger_parts (site_of p) old.now.schema ledger_design p.fits free fit.rest.schema_is)
+kept_fits owner start known old new o p settles (inr are) fit database =
     let trees = same_trees p o old.now.trees (sym fit.rest.schema_is ∙ are.schema) in
     let readable = subst AreReadable trees fit.fits.readable in
     let together = subst (λ t. FitTogether owner start (held_of t)) trees fit.fits.together in
     let same = settles.kept (record { rest = record { settled = fit.rest.settled; schema_is = are.schema }; fits = readable }) in
     let now : ours o new.now.trees ≡ ours o old.now.trees = ap (λ (d : Database). ours o d.trees) same.0 in (
       record {
-        rest = record { settled = same.0 ∙ fit.rest.settled ∙ sym same.1; schema_is = ap (λ (d : Database). d.schema) same.0 ∙ are.schema };
-        fits = record { readable = subst AreReadable (sym now) readable; together = subst (λ t. FitTogether owner start (held_of t)) (sym now) together };
+        fit = record {
+          rest = record { settled = same.0 ∙ fit.rest.settled ∙ sym same.1; schema_is = ap (λ (d : Database). d.schema) same.0 ∙ are.schema };
+          fits = record { readable = subst AreReadable (sym now) readable; together = subst (λ t. FitTogether owner start (held_of t)) (sym now) together };
+        };
+        database = same_database old new same database;
       },
       ap (λ t. value_in owner start known (held_of t)) (now ∙ sym trees),
     )
+
+-- and so does one that a stop left
+pub opened_again : (owner start : ℕ) (known : ℕ → Bool) (old new : State) (o p : Layout) → Settles owner old new o → IsOpened owner old o → old.now ≡ old.committed → IsDatabase old.now → IsLeft (schema_in p) (IsLawful p owner start) old.now.trees
+    → IsLawfulIn (schema_in o) (IsLawful o owner start) new × (value_at o owner start known new.now.trees ≡ value_at p owner start known old.now.trees)
+opened_again owner start known old new o p settles are settled database left = kept_fits owner start known old new o p settles are (fit_again (schema_in p) (IsLawful p owner start) old settled database left) database
 
 pub vacant_or_ours : (owner : ℕ) (s : State) (w : Layout) → IsOpened owner s w → IsVacant s ⊎ IsLedger owner s
 vacant_or_ours owner s w (inl free) = inl free

@@ -55,6 +55,7 @@ puts_tap w old new t count has h =
     let at : (k : ℕ) → new.now.trees k ≡ written.0 k = λ k. ap (λ (t : Trees). t k) trees in
     record {
       schema = ap (λ (d : Database). d.schema) done.after_is;
+      database = run.sound;
       lanes = at (tree_in w Device) ∙ kept Device refl (apart w Device Tap refl refl refl);
       taps = at (tree_in w Tap) ∙ step.rows ∙ edit;
       statements = at (tree_in w Stated) ∙ kept Stated refl (apart w Stated Tap refl refl refl);
@@ -83,6 +84,7 @@ puts_stated w old new s count has h =
     let at : (k : ℕ) → new.now.trees k ≡ written.0 k = λ k. ap (λ (t : Trees). t k) trees in
     record {
       schema = ap (λ (d : Database). d.schema) done.after_is;
+      database = run.sound;
       lanes = at (tree_in w Device) ∙ kept Device refl (apart w Device Stated refl refl refl);
       taps = at (tree_in w Tap) ∙ kept Tap refl (apart w Tap Stated refl refl refl);
       statements = at (tree_in w Stated) ∙ step.rows ∙ edit;
@@ -113,6 +115,7 @@ both w old mid new t c ok first second =
     let statements = second.statements ∙ first.statements in
     record {
       schema = second.schema;
+      database = second.database;
       readable = record { lanes = lanes.0; taps = taps.0; statements = subst (AreRows IsStated) (sym statements) ok.statements };
       value = λ i. record {
         lanes = λ x. (lanes.1 x ∙ ap (λ all. with_lane t.device t.lane c (λ y. lane_of (held all y)) x) first.lanes) i;
@@ -127,6 +130,7 @@ one_more w old new s ok puts =
     let statements = appended IsStated stated_ids (ours w old.trees 4) (ours w new.trees 4) (stated_cells s) ok.statements (λ n. refl) puts.statements in
     record {
       schema = puts.schema;
+      database = puts.database;
       readable = record { lanes = subst (AreRows IsLane) (sym puts.lanes) ok.lanes; taps = subst (AreRows IsTap) (sym puts.taps) ok.taps; statements = statements.0 };
       value = λ i. record {
         lanes = λ x. lane_of (held (puts.lanes i) x);
@@ -141,6 +145,7 @@ other_numbers w old new d k c ok puts =
     let lanes = lanes_after (ours w old.trees 1) (ours w new.trees 1) d k c ok.lanes puts.lanes in
     record {
       schema = puts.schema;
+      database = puts.database;
       readable = record { lanes = lanes.0; taps = subst (AreRows IsTap) (sym puts.taps) ok.taps; statements = subst (AreRows IsStated) (sym puts.statements) ok.statements };
       value = λ i. record {
         lanes = λ x. lanes.1 x i;

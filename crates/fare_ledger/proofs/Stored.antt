@@ -4,22 +4,30 @@ use Rattle.std.proofs.lemmas.Bool.{cases_Bool}
 use Rattle.std.proofs.lemmas.Bool.Decides.{nat_tests}
 use Rattle.std.proofs.lemmas.List.{length_push}
 use Rattle.sqlite.specs.State.{State}
+use Rattle.sqlite.specs.Tree.{Trees}
 use Rattle.fare_record.specs.Values.{RecordValue, StatementValue}
 use Rattle.fare_record.specs.Lanes.{day_count}
 use Rattle.fare_store.specs.Tables.{put}
 use Rattle.fare_store.specs.LedgerWords.{took, with_statement, with_close}
 use Rattle.fare_store.proofs.Taps.{count_last}
-use Rattle.fare_tables.specs.Tabled.{IsFit}
+use Rattle.fare_tables.specs.Tabled.{IsFit, IsLeft, left_of}
 use Rattle.fare_ledger.specs.declared.lane.Lane.{Lane}
 use Rattle.fare_ledger.specs.declared.layout.Layout.{Layout}
-use Rattle.fare_ledger.specs.Layouts.{schema_in}
-use Rattle.fare_ledger.specs.Held.{Held, TapRow, Becomes, IsReady, row_of, record_of, row_stated, stated_in, with_lane, with_tap, with_stated, with_numbers}
+use Rattle.fare_ledger.specs.Layouts.{schema_in, ours}
+use Rattle.fare_ledger.specs.Held.{Held, TapRow, Becomes, MayBecome, IsReady, held_of, row_of, record_of, row_stated, stated_in, with_lane, with_tap, with_stated, with_numbers}
 use Rattle.fare_ledger.specs.Words.{taken_in, value_in, AreCounted, FitTogether, IsLawful, MayTake, MayClose}
 use Rattle.fare_ledger.proofs.Taken.{taken_pushed, next_pushed}
 use Rattle.fare_ledger.proofs.Days.{stated_put, apart_pushed, stays_stated}
 
 pub ready : (w : Layout) (o start : ℕ) (s : State) → IsFit (schema_in w) (IsLawful w o start) s → IsReady w s
 ready w o start s fit = record { rest = fit.rest; fits = fit.fits.readable }
+
+-- what a stop leaves of a transaction
+pub left_held : (w : Layout) (h : Held) (trees : Trees) → MayBecome w h trees → held_of (ours w trees) ≡ h
+left_held w h trees it = ap (λ t. held_of (ours w t)) it.2 ∙ it.1.value
+
+pub becomes_left : (w : Layout) (o start : ℕ) (h : Held) (trees : Trees) → MayBecome w h trees → FitTogether o start h → IsLeft (schema_in w) (IsLawful w o start) trees
+becomes_left w o start h trees it fit = left_of (schema_in w) (IsLawful w o start) it.0 trees it.1.schema it.1.database (record { readable = it.1.readable; together = subst (FitTogether o start) (sym it.1.value) fit }) it.2
 
 pub becomes_lawful : (w : Layout) (o start : ℕ) (new : State) (h : Held) → Becomes w new.now h × (new.now ≡ new.committed) → FitTogether o start h → IsFit (schema_in w) (IsLawful w o start) new
 becomes_lawful w o start new h wrote fit = record {

@@ -6,7 +6,7 @@ use Rattle.sqlite.specs.declared.types.Value.TheVariants.{Null, Int}
 use Rattle.sqlite_value.specs.Order.{Row, column}
 use Rattle.sqlite.specs.Tree.{Trees, put_row, without_rowid}
 use Rattle.sqlite_rules.specs.Edit.{next_rowid}
-use Rattle.sqlite.specs.Effect.{Database}
+use Rattle.sqlite.specs.Effect.{Database, IsDatabase}
 use Rattle.sqlite.specs.State.{State}
 use Rattle.fare_record.specs.Limits.{IsCount}
 use Rattle.fare_record.specs.Values.{TapValue, RecordValue, StatementValue}
@@ -156,12 +156,18 @@ with_numbers device taken closed h = record { lanes = with_lane device taken clo
 -- the database holds this, in rows that can be read
 pub record Becomes (o : Layout) (db : Database) (h : Held) : Type 0 where
   pub schema : db.schema ≡ schema_in o
+  pub database : IsDatabase db
   pub readable : AreReadable (ours o db.trees)
   pub value : held_of (ours o db.trees) ≡ h
+
+-- these are the trees of such a database
+abbrev pub MayBecome : Layout → Held → Trees → Type 0
+MayBecome o h trees = (db : Database) × Becomes o db h × (trees ≡ db.trees)
 
 -- what one statement writes
 pub record PutsTap (o : Layout) (old new : Database) (t : TapRow) : Type 0 where
   pub schema : new.schema ≡ schema_in o
+  pub database : IsDatabase new
   pub lanes : ours o new.trees 1 ≡ ours o old.trees 1
   pub taps : ours o new.trees 2 ≡ put_row (Int (next_rowid (ours o old.trees 2)) ∷ tap_cells t) (ours o old.trees 2)
   pub statements : ours o new.trees 4 ≡ ours o old.trees 4
@@ -169,6 +175,7 @@ pub record PutsTap (o : Layout) (old new : Database) (t : TapRow) : Type 0 where
 
 pub record PutsStated (o : Layout) (old new : Database) (s : StatedRow) : Type 0 where
   pub schema : new.schema ≡ schema_in o
+  pub database : IsDatabase new
   pub lanes : ours o new.trees 1 ≡ ours o old.trees 1
   pub taps : ours o new.trees 2 ≡ ours o old.trees 2
   pub statements : ours o new.trees 4 ≡ put_row (Int (next_rowid (ours o old.trees 4)) ∷ stated_cells s) (ours o old.trees 4)
@@ -176,6 +183,7 @@ pub record PutsStated (o : Layout) (old new : Database) (s : StatedRow) : Type 0
 
 pub record PutsLane (o : Layout) (old new : Database) (device taken closed : ℕ) : Type 0 where
   pub schema : new.schema ≡ schema_in o
+  pub database : IsDatabase new
   pub lanes : (ours o new.trees 1 ≡ put_row (lane_row device taken closed) (ours o old.trees 1)) ⊎ (ours o new.trees 1 ≡ put_row (lane_row device taken closed) (without_rowid (pos device) (ours o old.trees 1)))
   pub taps : ours o new.trees 2 ≡ ours o old.trees 2
   pub statements : ours o new.trees 4 ≡ ours o old.trees 4

@@ -1,10 +1,14 @@
 -- What an open finds in a database, and what it makes of it.
-use Rattle.std.specs.Prelude.{◌≡◌, ◌⊎◌, ℕ}
+use Rattle.std.specs.Prelude.{◌≡◌, ◌⊎◌, ℕ, Bool}
 use Rattle.sqlite.specs.State.{State}
 use Rattle.sqlite.specs.Tree.{Trees}
+use Rattle.fare_store.specs.LedgerWords.{IsEmptyLedger}
 use Rattle.fare_tables.specs.Asking.{SameRows}
+use Rattle.fare_tables.specs.Tabled.{IsLeft}
 use Rattle.fare_opening.specs.Opening as store
 use Rattle.fare_ledger.specs.declared.layout.Layout.{Layout}
+use Rattle.fare_ledger.specs.Layouts.{schema_in}
+use Rattle.fare_ledger.specs.Words.{IsLawful, value_at}
 use Rattle.fare_ledger.specs.Statements.{ledger_parts}
 use Rattle.fare_ledger.specs.Held.{IsReady}
 use Rattle.fare_ledger.specs.Making.{Makes, KeepsOthers, site_of}
@@ -24,6 +28,10 @@ IsVacant = store.IsVacant ledger_parts
 -- what an open may commit: the empty ledger, where nothing has a name of its tables, beside the rows that were there
 abbrev pub MayMake : ℕ → State → Trees → Type 0
 MayMake = store.MayMake ledger_parts
+
+-- the trees of an empty ledger of this owner that an open takes, wherever its tables stand
+abbrev pub IsLeftEmpty : ℕ → ℕ → (ℕ → Bool) → Trees → Type 0
+IsLeftEmpty owner start known trees = (w : Layout) × IsLeft (schema_in w) (IsLawful w owner start) trees × IsEmptyLedger (value_at w owner start known trees)
 
 -- a database without the ledger's names gets the tables of an empty ledger beside its own, and one that has them
 -- stays as it is

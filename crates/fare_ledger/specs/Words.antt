@@ -66,7 +66,7 @@ abbrev pub connected : {S : Type 0} → (g : Ghosts S) → SqlLedger S g → Sta
 connected g l = state g l.conn
 
 abbrev pub stands : {S : Type 0} → (g : Ghosts S) → SqlLedger S g → Standing LedgerValue
-stands g l = tabled (schema_in l.layout) (value_at l.layout l.owner l.start (knows l.devices)) (IsLawful l.layout l.owner l.start) (state g l.conn) l.failures
+stands g l = tabled (schema_in l.layout) (value_at l.layout l.owner l.start (knows l.devices)) (IsLawful l.layout l.owner l.start) (IsLawful l.layout l.owner l.start) (state g l.conn) l.failures
 
 -- WHAT A READ FINDS
 -- a device's numbers

@@ -1,8 +1,10 @@
 ghost use Rattle.std.proofs.Common.{refl, sym, ap, ◌∙◌};
 ghost use Rattle.std.proofs.Math.Logic.{∥∥₁_map};
 ghost use Rattle.sqlite.specs.Effect.{Database};
+ghost use Rattle.fare_tables.specs.Tabled.{left_now};
 ghost use Rattle.fare_ledger.specs.Known.{knows};
-ghost use Rattle.fare_ledger.specs.Words.{value_at, stands};
+ghost use Rattle.fare_ledger.specs.Layouts.{schema_in};
+ghost use Rattle.fare_ledger.specs.Words.{IsLawful, value_at, stands};
 
 use crate::SqlLedger;
 use crate::finding::are_nothing;
@@ -14,7 +16,7 @@ use sqlite::Alter;
 impl<S: Alter> Ledger for SqlLedger<S> {
     ghost standing = { λ l. stands S.Store l };
 
-    ghost sound = { λ l. record { clean = λ live. live.0; settled = λ live lawful v leaves. sym leaves.2 ∙ ap (value_at l.layout l.owner l.start (knows l.devices)) (S.Store.settled l.conn.store leaves.0 live.1 leaves.1 ∙ sym (ap (λ (d : Database). d.trees) lawful.rest.settled)); some = λ clean. ∥∥₁_map (S.Store.survives l.conn.store clean) (λ left. (value_at l.layout l.owner l.start (knows l.devices) left.0, (left.0, left.1, refl))) } };
+    ghost sound = { λ l. record { clean = λ live. live.0; settled = λ live lawful v leaves. sym leaves.2 ∙ ap (value_at l.layout l.owner l.start (knows l.devices)) (S.Store.settled l.conn.store leaves.0 live.1 leaves.1 ∙ sym (ap (λ (d : Database). d.trees) lawful.fit.rest.settled)); lasting = λ live lawful. record { each = λ trees leaves. left_now (schema_in l.layout) (IsLawful l.layout l.owner l.start) (IsLawful l.layout l.owner l.start) _ (λ fits. fits) lawful trees (S.Store.settled l.conn.store trees live.1 leaves) }; some = λ clean. ∥∥₁_map (S.Store.survives l.conn.store clean) (λ left. (value_at l.layout l.owner l.start (knows l.devices) left.0, (left.0, left.1, refl))) } };
 
     fn owner(&self) -> OwnerId {
         self.owner

@@ -1,15 +1,17 @@
-ghost use Rattle.std.specs.Prelude.{◌≡◌, ◌≢◌, ◌↔◌, ◌⊎◌, false, true, None, Err, IsTrue, IsNone, IsSome, IfOk, IfErr, IfSome, OnOk, OnErr};
+ghost use Rattle.std.specs.Prelude.{◌≡◌, ◌≢◌, ◌↔◌, ◌⊎◌, ℕ, Bool, false, true, None, Err, IsTrue, IsNone, IsSome, IfOk, IfErr, IfSome, OnOk, OnErr};
+ghost use Rattle.sqlite.specs.Effect.{IsDatabase};
 ghost use Rattle.sqlite.specs.State.{HasCleanDisk, Survives};
+ghost use Rattle.sqlite.specs.Tree.{Trees};
 ghost use Rattle.sqlite.specs.Held.{state};
 ghost use Rattle.fare_scheme.specs.Words.{position_of_owner};
 ghost use Rattle.fare_store.specs.LedgerWords.{IsEmptyLedger, IsOfScheme};
 ghost use Rattle.fare_tables.specs.Asking.{IsLive, SameRows};
 ghost use Rattle.fare_tables.specs.Making.{no_schema};
-ghost use Rattle.fare_tables.specs.Tabled.{IsFit};
+ghost use Rattle.fare_tables.specs.Tabled.{IsFit, IsLeft};
 ghost use Rattle.fare_ledger.specs.declared.layout.Layout.{Layout};
 ghost use Rattle.fare_ledger.specs.Layouts.{schema_in};
 ghost use Rattle.fare_ledger.specs.Making.{Makes, MayGrow, KeepsOthers};
-ghost use Rattle.fare_ledger.specs.Opening.{IsLedger, IsVacant, IsBlankOrOurs, IsOpened, Settles, MayMake};
+ghost use Rattle.fare_ledger.specs.Opening.{IsLedger, IsVacant, IsBlankOrOurs, IsOpened, IsLeftEmpty, Settles, MayMake};
 ghost use Rattle.fare_ledger.specs.Words.{IsLawful, value_at, connected, stands};
 
 use crate::design::LedgerDesign;
@@ -70,6 +72,9 @@ fn settle<S: Alter>(
     ensures crash { Survives (state S.Store conn.old) (state S.Store conn.new) (MayMake owner (state S.Store conn.old)) }
     ensures failed { IsLive (state S.Store conn.new) → (state S.Store conn.old).now ≡ (state S.Store conn.old).committed → OnErr result (SameRows (state S.Store conn.old) (state S.Store conn.new)) }
     ensures stays { HasCleanDisk (state S.Store conn.new) → IfOk result (λ found. IfSome found (λ _. IsTrue (state S.Store conn.new).is_open)) }
+    ensures up { HasCleanDisk (state S.Store conn.new) → IsTrue (state S.Store conn.old).is_open → IfOk result (λ _. IsTrue (state S.Store conn.new).is_open) }
+    ensures database { IsTrue (state S.Store conn.old).is_open → IsDatabase (state S.Store conn.old).now }
+    ensures live { IsLive (state S.Store conn.new) → IsLive (state S.Store conn.old) }
     ensures idle { conn.new.in_transaction ≡ false }
 {
     match open_tables::<LedgerDesign, S>(alloc, conn, owner.get())? {
@@ -102,13 +107,16 @@ impl<S: Alter> SqlLedger<S> {
         ensures ours { IfOk result (λ l. (stands S.Store l).live → IsVacant (state S.Store conn) ⊎ IsLedger owner (state S.Store conn)) }
         ensures failures { IfOk result (λ l. (stands S.Store l).failures ≡ 0) }
         ensures alive { IfOk result (λ l. (stands S.Store l).clean → (stands S.Store l).live) }
+        ensures again { IfOk result (λ l. (stands S.Store l).clean → (w : Layout) → IsLeft (schema_in w) (IsLawful w owner scheme.now.start) (state S.Store conn).now.trees → (stands S.Store l).lawful × ((stands S.Store l).value ≡ value_at w owner scheme.now.start (stands S.Store l).value.knows (state S.Store conn).now.trees)) }
         ensures inside { conn.in_transaction ≡ true → IsSome (position_of_owner scheme.now owner) → result ≡ Err (conn, LedgerOpenFault.Store) }
         ensures foreign { IfErr result (λ e. e.1 ≡ LedgerOpenFault.Foreign → (state S.Store conn).now.schema ≢ no_schema) }
         ensures lacks { IfErr result (λ e. e.1 ≡ LedgerOpenFault.Foreign → IsLive (state S.Store e.0) → ¬ IsBlankOrOurs owner (state S.Store conn)) }
         ensures found { IfErr result (λ e. e.1 ≡ LedgerOpenFault.Foreign → IsLive (state S.Store e.0) → (w : Layout) → ¬ IsFit (schema_in w) (IsLawful w owner scheme.now.start) (state S.Store conn)) }
+        ensures never { IfErr result (λ e. e.1 ≡ LedgerOpenFault.Foreign → HasCleanDisk (state S.Store e.0) → IsTrue (state S.Store conn).is_open → (w : Layout) → ¬ IsLeft (schema_in w) (IsLawful w owner scheme.now.start) (state S.Store conn).now.trees) }
         ensures vacant { IfErr result (λ e. e.1 ≡ LedgerOpenFault.Foreign → IsVacant (state S.Store conn) → ¬ MayGrow (state S.Store conn).now.schema) }
         ensures crash { IfOk result (λ l. Survives (state S.Store conn) (connected S.Store l) (MayMake owner (state S.Store conn))) }
         ensures crash_refused { IfErr result (λ e. Survives (state S.Store conn) (state S.Store e.0) (MayMake owner (state S.Store conn))) }
+        ensures leaves { IfErr result (λ e. HasCleanDisk (state S.Store e.0) → (trees : Trees) → (state S.Store e.0).may_leave trees → (state S.Store conn).may_leave trees ⊎ ((known : ℕ → Bool) → IsLeftEmpty owner scheme.now.start known trees)) }
         ensures refused { IfErr result (λ e. IsLive (state S.Store e.0) → (state S.Store conn).now ≡ (state S.Store conn).committed → SameRows (state S.Store conn) (state S.Store e.0)) }
     {
         let mut conn = conn;

@@ -5,7 +5,7 @@ ghost use Rattle.sqlite.specs.Values.{bound};
 ghost use Rattle.fare_tables.specs.Asking.{IsLive, SameRows, Inside};
 ghost use Rattle.fare_tables.specs.Cells.{AreRows};
 ghost use Rattle.fare_ledger.specs.Layouts.{schema_in, ours};
-ghost use Rattle.fare_ledger.specs.Held.{held_of, AreReadable, IsReady, IsLane, Becomes, PutsTap, PutsStated, PutsLane, tap_cells, stated_cells, row_of, row_stated, with_tap, with_stated, with_numbers};
+ghost use Rattle.fare_ledger.specs.Held.{held_of, AreReadable, IsReady, IsLane, Becomes, MayBecome, PutsTap, PutsStated, PutsLane, tap_cells, stated_cells, row_of, row_stated, with_tap, with_stated, with_numbers};
 
 use crate::Layout;
 use crate::statements::{PUT_LANE, PUT_STATED, PUT_TAP};
@@ -103,7 +103,7 @@ pub(crate) fn write_tap<S: Alter>(
     requires idle { conn.old.in_transaction ≡ false }
     ensures value { IsLive (state S.Store conn.new) → IsReady layout.now (state S.Store conn.old) → OnOk result (Becomes layout.now (state S.Store conn.new).now (with_tap (row_of row.now) closed (held_of (ours layout.now (state S.Store conn.old).now.trees))) × ((state S.Store conn.new).now ≡ (state S.Store conn.new).committed)) }
     ensures same { IsLive (state S.Store conn.new) → IsReady layout.now (state S.Store conn.old) → OnErr result (SameRows (state S.Store conn.old) (state S.Store conn.new)) }
-    ensures crash { Survives (state S.Store conn.old) (state S.Store conn.new) (λ trees. IsReady layout.now (state S.Store conn.old) → held_of (ours layout.now trees) ≡ with_tap (row_of row.now) closed (held_of (ours layout.now (state S.Store conn.old).now.trees))) }
+    ensures crash { Survives (state S.Store conn.old) (state S.Store conn.new) (λ trees. IsReady layout.now (state S.Store conn.old) → MayBecome layout.now (with_tap (row_of row.now) closed (held_of (ours layout.now (state S.Store conn.old).now.trees))) trees) }
     ensures live { IsLive (state S.Store conn.new) → IsLive (state S.Store conn.old) }
     ensures stays { HasCleanDisk (state S.Store conn.new) → OnOk result (IsTrue (state S.Store conn.new).is_open) }
     ensures idle { conn.new.in_transaction ≡ false }
@@ -153,7 +153,7 @@ pub(crate) fn write_statement<S: Alter>(
     requires { conn.old.in_transaction ≡ false }
     ensures value { IsLive (state S.Store conn.new) → IsReady layout.now (state S.Store conn.old) → OnOk result (Becomes layout.now (state S.Store conn.new).now (with_stated (row_stated statement.now) (held_of (ours layout.now (state S.Store conn.old).now.trees))) × ((state S.Store conn.new).now ≡ (state S.Store conn.new).committed)) }
     ensures same { IsLive (state S.Store conn.new) → IsReady layout.now (state S.Store conn.old) → OnErr result (SameRows (state S.Store conn.old) (state S.Store conn.new)) }
-    ensures crash { Survives (state S.Store conn.old) (state S.Store conn.new) (λ trees. IsReady layout.now (state S.Store conn.old) → held_of (ours layout.now trees) ≡ with_stated (row_stated statement.now) (held_of (ours layout.now (state S.Store conn.old).now.trees))) }
+    ensures crash { Survives (state S.Store conn.old) (state S.Store conn.new) (λ trees. IsReady layout.now (state S.Store conn.old) → MayBecome layout.now (with_stated (row_stated statement.now) (held_of (ours layout.now (state S.Store conn.old).now.trees))) trees) }
     ensures live { IsLive (state S.Store conn.new) → IsLive (state S.Store conn.old) }
     ensures stays { HasCleanDisk (state S.Store conn.new) → OnOk result (IsTrue (state S.Store conn.new).is_open) }
     ensures idle { conn.new.in_transaction ≡ false }
@@ -198,7 +198,7 @@ pub(crate) fn write_numbers<S: Alter>(
     requires idle { conn.old.in_transaction ≡ false }
     ensures value { IsLive (state S.Store conn.new) → IsReady layout.now (state S.Store conn.old) → OnOk result (Becomes layout.now (state S.Store conn.new).now (with_numbers device taken closed (held_of (ours layout.now (state S.Store conn.old).now.trees))) × ((state S.Store conn.new).now ≡ (state S.Store conn.new).committed)) }
     ensures same { IsLive (state S.Store conn.new) → IsReady layout.now (state S.Store conn.old) → OnErr result (SameRows (state S.Store conn.old) (state S.Store conn.new)) }
-    ensures crash { Survives (state S.Store conn.old) (state S.Store conn.new) (λ trees. IsReady layout.now (state S.Store conn.old) → held_of (ours layout.now trees) ≡ with_numbers device taken closed (held_of (ours layout.now (state S.Store conn.old).now.trees))) }
+    ensures crash { Survives (state S.Store conn.old) (state S.Store conn.new) (λ trees. IsReady layout.now (state S.Store conn.old) → MayBecome layout.now (with_numbers device taken closed (held_of (ours layout.now (state S.Store conn.old).now.trees))) trees) }
     ensures live { IsLive (state S.Store conn.new) → IsLive (state S.Store conn.old) }
     ensures stays { HasCleanDisk (state S.Store conn.new) → OnOk result (IsTrue (state S.Store conn.new).is_open) }
     ensures idle { conn.new.in_transaction ≡ false }

@@ -56,6 +56,7 @@ puts_row d owner w old new count design site blank h =
         schema = ap (λ (d : Database). d.schema) done.after_is;
         meta = at tree ∙ step.rows ∙ inserted d.format owner db tree given.0 blank.meta given.1.1;
         bare = λ k past low. at (tree_at w k) ∙ each_tree (λ n. n ≢ tree → written.0 n ≡ db n) d w site step.tables k low (is_not_meta d w site k past low) ∙ blank.bare k past low;
+        database = run.sound;
       },
       subst (λ (t : Trees). AllByRecursion (λ (x : Table). x.tree ≢ tree → t x.tree ≡ db x.tree) w.schema.tables) (sym trees) step.tables,
     )

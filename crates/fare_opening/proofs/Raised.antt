@@ -92,6 +92,7 @@ sets_row d w old new format owner count design site has meta h =
       schema = ap (λ (d : Database). d.schema) done.after_is;
       meta = record { row = v ∷ int d.format ∷ int owner ∷ []; only = ap (λ (t : Trees). t tree) trees ∙ one.rows ∙ is; is = record { id_is = meta.is.id_is; format_is = refl; owner_is = refl } };
       others = subst (λ (t : Trees). AllByRecursion (λ (x : Table). x.tree ≢ tree → t x.tree ≡ db x.tree) w.schema.tables) (sym trees) one.tables;
+      database = run.sound;
     }
 
 -- ---- the tables that are made, and then the format
@@ -127,6 +128,7 @@ module _ (d : Parts) (o : OlderParts) (owner : ℕ) (v w : Site) (a b : Database
         let least : 0 < length o.tables = subst (λ (ts : List (List ℕ × List ℕ)). 0 < length ts) (sym some) (omega arith) in
         let high : 0 < k.number = omega (arith, least, past) in
         each_tree (λ n. n ≢ tree_at w Meta → e.trees n ≡ b.trees n) d w can.rises.site sets.others k low (is_not_meta d w can.rises.site k high low) ∙ none_there k past low);
+    database = sets.database;
   }
 
 -- whoever's store it is

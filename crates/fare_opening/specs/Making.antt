@@ -2,7 +2,7 @@
 use Rattle.std.specs.Prelude.{◌≡◌, ◌≢◌, ◌≤◌, ℕ, [], ◌∷◌, length, slice_get, Some}
 use Rattle.std.specs.List.{AllByRecursion}
 use Rattle.sqlite.specs.Change.{KeepsRows}
-use Rattle.sqlite.specs.Effect.{Database}
+use Rattle.sqlite.specs.Effect.{Database, IsDatabase}
 use Rattle.sqlite.specs.Schema.{Schema}
 use Rattle.sqlite.specs.Table.{Table}
 use Rattle.sqlite.specs.Tree.{Trees}
@@ -45,11 +45,12 @@ pub record IsBlank (w : Site) (db : Database) : Type 0 where
   pub meta : rows_at w Meta db.trees ≡ []
   pub bare : IsBare w db.trees
 
--- with the one row of meta: the format, and the owner
+-- with the one row of meta: the format, and the owner; and the database keeps its rules
 pub record IsNew (d : Parts) (owner : ℕ) (w : Site) (db : Database) : Type 0 where
   pub schema : db.schema ≡ w.schema
   pub meta : rows_at w Meta db.trees ≡ (int 1 ∷ int d.format ∷ int owner ∷ []) ∷ []
   pub bare : IsBare w db.trees
+  pub database : IsDatabase db
 
 -- the database is an empty store now, wherever the tables stand that were made, beside what was there
 pub record MakesNew (d : Parts) (owner : ℕ) (old new : Database) : Type 0 where

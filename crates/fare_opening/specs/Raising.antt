@@ -1,7 +1,7 @@
 -- A store of an older format, and what an open makes of it.
 use Rattle.std.specs.Prelude.{◌≡◌, ◌≢◌, ◌≤◌, ◌<◌, ℕ, [], length}
 use Rattle.std.specs.List.{AllByRecursion}
-use Rattle.sqlite.specs.Effect.{Database}
+use Rattle.sqlite.specs.Effect.{Database, IsDatabase}
 use Rattle.sqlite.specs.Schema.{Schema}
 use Rattle.sqlite.specs.State.{State}
 use Rattle.sqlite.specs.Table.{Table}
@@ -42,14 +42,16 @@ pub record SetsMeta (d : Parts) (owner : ℕ) (w : Site) (old new : Database) : 
   pub schema : new.schema ≡ w.schema
   pub meta : IsMeta d.format owner (rows_at w Meta new.trees)
   pub others : KeepsAllButMeta w old new
+  pub database : IsDatabase new
 
 -- a store of the newest format was made of an older one: each table but meta that was there keeps its rows, and those
--- that it lacked have none
+-- that it lacked have none; and the database keeps its rules
 pub record IsRaised (d : Parts) (o : OlderParts) (owner : ℕ) (w : Site) (old new : Database) : Type 0 where
   pub schema : new.schema ≡ w.schema
   pub meta : IsMeta d.format owner (rows_at w Meta new.trees)
   pub others : AllByRecursion (λ (t : Table). t.tree ≢ tree_at w Meta → new.trees t.tree ≡ old.trees t.tree) old.schema.tables
   pub empty : (k : TableNumber) → length o.tables ≤ k.number → k.number < length (all_of w.places) → rows_at w k new.trees ≡ []
+  pub database : IsDatabase new
 
 -- a store of a format that is told so can be raised
 pub record IsRising (d : Parts) (told : Older) (db : Database) : Type 0 where

@@ -12,9 +12,9 @@ mod looking;
 mod making;
 mod meta;
 mod numbers;
+mod older;
 mod opening;
 mod raising;
-mod rising;
 mod site;
 
 pub use asking::{ask, ask_rows};

@@ -1,4 +1,5 @@
 ghost use Rattle.std.specs.Prelude.{◌≡◌, ◌≢◌, false, None, IsTrue, IfOk, IfSome, OnOk, OnErr};
+ghost use Rattle.sqlite.specs.Effect.{IsDatabase};
 ghost use Rattle.sqlite.specs.State.{HasCleanDisk, Survives};
 ghost use Rattle.sqlite.specs.Held.{state};
 ghost use Rattle.fare_tables.specs.Asking.{IsLive, SameRows};
@@ -11,7 +12,7 @@ ghost use Rattle.fare_opening.specs.Raising.{IsOlderStore, MayRaise};
 use crate::looking::{Seen, look_at};
 use crate::making::make_store;
 use crate::meta::has_meta;
-use crate::rising::raise;
+use crate::older::raise;
 use crate::{Design, Site};
 use fare_store::Fault;
 use sqlite::{Alter, Connection};
@@ -70,6 +71,7 @@ fn keep_or_raise<D: Design, S: Alter>(
     ensures crash { Survives (state S.Store conn.old) (state S.Store conn.new) (MayRaise D.parts owner (state S.Store conn.old)) }
     ensures live { IsLive (state S.Store conn.new) → IsLive (state S.Store conn.old) }
     ensures stays { HasCleanDisk (state S.Store conn.new) → IfOk result (λ found. IfSome found (λ _. IsTrue (state S.Store conn.new).is_open)) }
+    ensures up { HasCleanDisk (state S.Store conn.new) → IsTrue (state S.Store conn.old).is_open → IfOk result (λ _. IsTrue (state S.Store conn.new).is_open) }
     ensures idle { conn.new.in_transaction ≡ false }
 {
     D::sound();
@@ -103,6 +105,7 @@ fn settle<D: Design, S: Alter>(
     ensures crash { Survives (state S.Store conn.old) (state S.Store conn.new) (MayOpen D.parts owner (state S.Store conn.old)) }
     ensures live { IsLive (state S.Store conn.new) → IsLive (state S.Store conn.old) }
     ensures stays { HasCleanDisk (state S.Store conn.new) → IfOk result (λ found. IfSome found (λ _. IsTrue (state S.Store conn.new).is_open)) }
+    ensures up { HasCleanDisk (state S.Store conn.new) → IsTrue (state S.Store conn.old).is_open → IfOk result (λ _. IsTrue (state S.Store conn.new).is_open) }
     ensures idle { conn.new.in_transaction ≡ false }
 {
     D::sound();
@@ -139,6 +142,8 @@ pub fn open_tables<D: Design, S: Alter>(
     ensures crash { Survives (state S.Store conn.old) (state S.Store conn.new) (MayOpen D.parts owner (state S.Store conn.old)) }
     ensures live { IsLive (state S.Store conn.new) → IsLive (state S.Store conn.old) }
     ensures stays { HasCleanDisk (state S.Store conn.new) → IfOk result (λ found. IfSome found (λ _. IsTrue (state S.Store conn.new).is_open)) }
+    ensures up { HasCleanDisk (state S.Store conn.new) → IsTrue (state S.Store conn.old).is_open → IfOk result (λ _. IsTrue (state S.Store conn.new).is_open) }
+    ensures database { IsTrue (state S.Store conn.old).is_open → IsDatabase (state S.Store conn.old).now }
     ensures idle { conn.new.in_transaction ≡ false }
 {
     let seen = look_at::<D>(conn.schema(), alloc)?;

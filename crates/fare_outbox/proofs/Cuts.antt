@@ -96,6 +96,7 @@ cuts w old new o d l count has ok h =
     record {
       becomes = record {
         schema = ap (λ (d : Database). d.schema) done.after_is;
+        database = run.sound;
         readable = record {
           devices = subst (AreRows IsDevice) (sym devices) ok.devices;
           taps = subst (AreRows IsTap) (sym taps) (rows_filter IsTap tap_ids _ (all 2) ok.taps);

@@ -199,4 +199,4 @@ puts_link way old new d u count has ok h =
     let done = made (task way old.step_limit Enforced d u) (mode_of old) command old.now.trees run.tally new.now (at_found (task way old.step_limit Enforced d u) (mode_of old) command old.now.trees _ (run.tally, new.now) (device_placed way) (subst (λ s. Does old.step_limit (mode_of old) params (record old.now { schema = s }) text None command (Ok (run.tally, new.now))) has run.changed)) in
     let put = inserts_or way old.step_limit Enforced d u old.now.trees done.written ok done.wrote in
     let trees = subst (λ t. IsPut way old.now.trees t d u) (sym (ap (λ (d : Database). d.trees) done.after_is)) put in
-    record { schema = ap (λ (d : Database). d.schema) done.after_is; devices = trees.0; taps = trees.2; statements = trees.3; meta = trees.1 }
+    record { schema = ap (λ (d : Database). d.schema) done.after_is; database = run.sound; devices = trees.0; taps = trees.2; statements = trees.3; meta = trees.1 }

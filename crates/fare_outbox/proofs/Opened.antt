@@ -2,14 +2,17 @@
 use Rattle.std.proofs.Common.{◌≡◌, inl, inr, ℕ, List, [], ◌∷◌, refl, map, length, IsTrue, sym, ap, subst, ◌∙◌, arith, true, false}
 use Rattle.std.specs.List.{AllByRecursion}
 use Rattle.sqlite.specs.Schema.{Schema}
-use Rattle.sqlite.specs.Effect.{Database}
+use Rattle.sqlite.specs.Effect.{Database, IsDatabase}
 use Rattle.sqlite.specs.State.{State, HasCleanDisk, Survives}
+use Rattle.sqlite.specs.Tree.{Trees}
 use Rattle.sqlite.proofs.StateLemmas.{survives_weaker, survives_then}
 use Rattle.fare_store.specs.OutboxWords.{IsEmptyOutbox}
 use Rattle.fare_tables.specs.Asking.{IsLive, IsUp, IsAtRest, SameRows}
 use Rattle.fare_tables.specs.Cells.{AreRows, held, int}
 use Rattle.fare_tables.specs.Making.{no_schema}
-use Rattle.fare_tables.specs.Tabled.{IsFit}
+use Rattle.fare_tables.specs.Tabled.{IsFit, IsLawfulIn, IsLeft, left_of}
+use Rattle.fare_tables.proofs.Steps.{same_database}
+use Rattle.fare_tables.proofs.Reopened.{fit_again}
 use Rattle.fare_opening.specs.Numbers.{Device, Tap, Stated}
 use Rattle.fare_layout.proofs.Others.{all_kept}
 use Rattle.fare_outbox.specs.declared.layout.Layout.{Layout}
@@ -26,49 +29,77 @@ use Rattle.fare_outbox.proofs.Placed.{same_trees, within}
 use Rattle.fare_outbox.proofs.Own.{outbox_design}
 use Rattle.fare_outbox.specs.Held.{AreReadable, IsReady, IsDevice, IsTap, IsStated, upto_of, tap_of, stated_of, held_of}
 use Rattle.fare_outbox.specs.Making.{site_of}
-use Rattle.fare_outbox.specs.Opening.{IsBlankOrOurs, IsOpened, IsCounted, Settles}
+use Rattle.fare_outbox.specs.Opening.{IsBlankOrOurs, IsOpened, IsCounted, IsLeftEmpty, MayMake, Settles}
 use Rattle.fare_outbox.specs.Words.{tap_key, stated_key, first_at, itself, count_of, value_at, value_in, AreApart, IsKnown, FitTogether, IsLawful, IsWell}
 
 map_none : {X Y : Type 0} (f : X → Y) (xs : List X) → xs ≡ [] → map f xs ≡ []
 map_none f xs is = ap (map f) is
 
-pub new_fits : (w : Layout) (old new : State) (rows statements : ℕ) → WasMade outbox_parts 0 old new (site_of w) → rows ≡ 0 → statements ≡ 0 → IsFit (schema_in w) (IsWell w rows statements) new × IsEmptyOutbox (value_at w new.now.trees)
+-- what there is of an outbox that was made
+pub record IsEmptyAt (w : Layout) (trees : Trees) : Type 0 where
+  pub lawful : IsLawful w trees
+  pub rows : length (held_of (ours w trees)).taps ≡ 0
+  pub statements : length (held_of (ours w trees)).statements ≡ 0
+  pub empty : IsEmptyOutbox (value_at w trees)
+
+new_rows : (w : Layout) (made : Database) → store.IsNew outbox_parts 0 (site_of w) made → IsEmptyAt w made.trees
 unfolding ours
-new_fits w old new rows statements it no_rows no_statements =
-    let db = ours w new.now.trees in
-    let devices_none : db 1 ≡ [] = it.is_new.bare Device (omega arith) (within w Device refl) in
-    let taps_none : db 2 ≡ [] = it.is_new.bare Tap (omega arith) (within w Tap refl) in
-    let stated_none : db 5 ≡ [] = it.is_new.bare Stated (omega arith) (within w Stated refl) in
+new_rows w made is_new =
+    let db = ours w made.trees in
+    let devices_none : db 1 ≡ [] = is_new.bare Device (omega arith) (within w Device refl) in
+    let taps_none : db 2 ≡ [] = is_new.bare Tap (omega arith) (within w Tap refl) in
+    let stated_none : db 5 ≡ [] = is_new.bare Stated (omega arith) (within w Stated refl) in
     let taps : (held_of db).taps ≡ [] = map_none tap_of (db 2) taps_none in
-    let said : (held_of db).statements ≡ [] = map_none stated_of (db 5) stated_none in (
-      record {
-        rest = record { settled = it.settled; schema_is = it.is_new.schema };
-        fits = record {
-          lawful = record {
-            readable = record {
-              devices = subst (AreRows IsDevice) (sym devices_none) tt;
-              taps = subst (AreRows IsTap) (sym taps_none) tt;
-              statements = subst (AreRows IsStated) (sym stated_none) tt;
-            };
-            together = record {
-              apart = subst (AreApart tap_key) (sym taps) tt;
-              known = subst (AllByRecursion (IsKnown (held_of db).upto)) (sym taps) tt;
-              single = subst (AreApart stated_key) (sym said) tt;
-              meta = record { row = int 1 ∷ int 1 ∷ int 0 ∷ []; only = it.is_new.meta; is = record { id_is = tt; format_is = refl; owner_is = refl } };
-            };
-          };
-          rows_are = no_rows ∙ sym (ap length taps);
-          statements_are = no_statements ∙ sym (ap length said);
+    let said : (held_of db).statements ≡ [] = map_none stated_of (db 5) stated_none in
+    record {
+      lawful = record {
+        readable = record {
+          devices = subst (AreRows IsDevice) (sym devices_none) tt;
+          taps = subst (AreRows IsTap) (sym taps_none) tt;
+          statements = subst (AreRows IsStated) (sym stated_none) tt;
         };
-      },
-      record {
+        together = record {
+          apart = subst (AreApart tap_key) (sym taps) tt;
+          known = subst (AllByRecursion (IsKnown (held_of db).upto)) (sym taps) tt;
+          single = subst (AreApart stated_key) (sym said) tt;
+          meta = record { row = int 1 ∷ int 1 ∷ int 0 ∷ []; only = is_new.meta; is = record { id_is = tt; format_is = refl; owner_is = refl } };
+        };
+      };
+      rows = ap length taps;
+      statements = ap length said;
+      empty = record {
         upto = λ d. ap (λ rows. upto_of (held rows d)) devices_none;
         rows = λ o d l. ap (λ ts. first_at tap_key itself ts o d l) taps;
         row_count = ap length taps;
         stated = λ o d y. ap (λ ss. first_at stated_key count_of ss o d y) said;
         stated_count = ap length said;
+      };
+    }
+
+pub new_fits : (w : Layout) (old new : State) (rows statements : ℕ) → WasMade outbox_parts 0 old new (site_of w) → rows ≡ 0 → statements ≡ 0 → IsLawfulIn (schema_in w) (IsWell w rows statements) new × IsEmptyOutbox (value_at w new.now.trees)
+new_fits w old new rows statements it no_rows no_statements =
+    let is = new_rows w new.now it.is_new in (
+      record {
+        fit = record {
+          rest = record { settled = it.settled; schema_is = it.is_new.schema };
+          fits = record { lawful = is.lawful; rows_are = no_rows ∙ sym is.rows; statements_are = no_statements ∙ sym is.statements };
+        };
+        database = it.is_new.database;
       },
+      is.empty,
     )
+
+-- a stop in an open leaves what there was, or an empty outbox
+pub left_empty : (old : State) (trees : Trees) → MayMake old trees → IsLeftEmpty trees
+left_empty old trees it =
+    let site = it.1.0 in
+    let makes = it.1.1 in
+    let made = it.1.2 in
+    let is_new = it.1.3 in
+    let same : trees ≡ made.trees = it.1.4 in
+    let w : Layout = record { schema = site.schema; places = site.places; fits = makes.site } in
+    let is = new_rows w made is_new in
+    (w, left_of (schema_in w) (IsLawful w) made trees is_new.schema is_new.database is.lawful same, subst (λ t. IsEmptyOutbox (value_at w t)) (sym same) is.empty)
 
 -- the tables are an outbox's already
 pub taken_over : (old mid new : State) (w : Layout) (rows statements : ℕ) → old.now.schema ≡ schema_in w → (old.now ≡ old.committed → SameRows old mid) → (IsReady w mid → IsCounted w mid.now.trees rows statements) → (IsAtRest (schema_in w) mid → SameRows mid new)
@@ -94,10 +125,10 @@ taken_over old mid new w rows statements has first counted second = record {
         subst (λ t. IsCounted w t rows statements) trees (counted (record { rest = at_rest ready.rest.settled; fits = subst (λ t. AreReadable (ours w t)) (sym trees) ready.fits }))
 
 -- an outbox that was there goes on as it was, whichever layout it is taken for
-pub kept_fits : (old new : State) (o p : Layout) (rows statements : ℕ) → Settles old new o rows statements → IsOpened old o → IsFit (schema_in p) (IsLawful p) old
-    → IsFit (schema_in o) (IsWell o rows statements) new × (value_at o new.now.trees ≡ value_at p old.now.trees)
-kept_fits old new o p rows statements settles (inl free) fit = absurd (vacant.not_vacant outbox_parts (site_of p) old.now.schema outbox_design p.fits free fit.rest.schema_is)
-kept_fits old new o p rows statements settles (inr are) fit =
+pub kept_fits : (old new : State) (o p : Layout) (rows statements : ℕ) → Settles old new o rows statements → IsOpened old o → IsFit (schema_in p) (IsLawful p) old → IsDatabase old.now
+    → IsLawfulIn (schema_in o) (IsWell o rows statements) new × (value_at o new.now.trees ≡ value_at p old.now.trees)
+kept_fits old new o p rows statements settles (inl free) fit database = absurd (vacant.not_vacant outbox_parts (site_of p) old.now.schema outbox_design p.fits free fit.rest.schema_is)
+kept_fits old new o p rows statements settles (inr are) fit database =
     let trees = same_trees p o old.now.trees (sym fit.rest.schema_is ∙ are.schema) in
     let readable = subst AreReadable trees fit.fits.readable in
     let together = subst (λ t. FitTogether (held_of t)) trees fit.fits.together in
@@ -106,15 +137,23 @@ kept_fits old new o p rows statements settles (inr are) fit =
     let counted = kept.1 in
     let now : ours o new.now.trees ≡ ours o old.now.trees = ap (λ (d : Database). ours o d.trees) same.0 in (
       record {
-        rest = record { settled = same.0 ∙ fit.rest.settled ∙ sym same.1; schema_is = ap (λ (d : Database). d.schema) same.0 ∙ are.schema };
-        fits = record {
-          lawful = record { readable = subst AreReadable (sym now) readable; together = subst (λ t. FitTogether (held_of t)) (sym now) together };
-          rows_are = counted.rows_are ∙ ap (λ t. length (held_of t).taps) (sym now);
-          statements_are = counted.statements_are ∙ ap (λ t. length (held_of t).statements) (sym now);
+        fit = record {
+          rest = record { settled = same.0 ∙ fit.rest.settled ∙ sym same.1; schema_is = ap (λ (d : Database). d.schema) same.0 ∙ are.schema };
+          fits = record {
+            lawful = record { readable = subst AreReadable (sym now) readable; together = subst (λ t. FitTogether (held_of t)) (sym now) together };
+            rows_are = counted.rows_are ∙ ap (λ t. length (held_of t).taps) (sym now);
+            statements_are = counted.statements_are ∙ ap (λ t. length (held_of t).statements) (sym now);
+          };
         };
+        database = same_database old new same database;
       },
       ap (λ t. value_in (held_of t)) (now ∙ sym trees),
     )
+
+-- and so does one that a stop left
+pub opened_again : (old new : State) (o p : Layout) (rows statements : ℕ) → Settles old new o rows statements → IsOpened old o → old.now ≡ old.committed → IsDatabase old.now → IsLeft (schema_in p) (IsLawful p) old.now.trees
+    → IsLawfulIn (schema_in o) (IsWell o rows statements) new × (value_at o new.now.trees ≡ value_at p old.now.trees)
+opened_again old new o p rows statements settles are settled database left = kept_fits old new o p rows statements settles are (fit_again (schema_in p) (IsLawful p) old settled database left) database
 
 -- a lawful outbox is one that an open finds
 pub lawful_is_ours : (w : Layout) (s : State) → IsFit (schema_in w) (IsLawful w) s → IsBlankOrOurs s

@@ -56,6 +56,7 @@ puts_tap w old new t count has h =
     let at : (k : ℕ) → new.now.trees k ≡ written.0 k = λ k. ap (λ (t : Trees). t k) trees in
     record {
       schema = ap (λ (d : Database). d.schema) done.after_is;
+      database = run.sound;
       devices = at (tree_in w Device) ∙ kept Device refl (apart w Device Tap refl refl refl);
       taps = at (tree_in w Tap) ∙ step.rows ∙ edit;
       statements = at (tree_in w Stated) ∙ kept Stated refl (apart w Stated Tap refl refl refl);
@@ -84,6 +85,7 @@ puts_stated w old new s count has h =
     let at : (k : ℕ) → new.now.trees k ≡ written.0 k = λ k. ap (λ (t : Trees). t k) trees in
     record {
       schema = ap (λ (d : Database). d.schema) done.after_is;
+      database = run.sound;
       devices = at (tree_in w Device) ∙ kept Device refl (apart w Device Stated refl refl refl);
       taps = at (tree_in w Tap) ∙ kept Tap refl (apart w Tap Stated refl refl refl);
       statements = at (tree_in w Stated) ∙ step.rows ∙ edit;
@@ -117,6 +119,7 @@ both w old mid new t ok first second =
     let statements = second.statements ∙ first.statements in
     record {
       schema = second.schema;
+      database = second.database;
       readable = record { devices = devices.0; taps = taps.0; statements = subst (AreRows IsStated) (sym statements) ok.statements };
       value = λ i. record {
         upto = λ x. (devices.1 x ∙ ap (λ all. if t.device == x then t.link else upto_of (held all x)) first.devices) i;
@@ -131,6 +134,7 @@ one_more w old new s ok puts =
     let statements = appended IsStated stated_ids (ours w old.trees 5) (ours w new.trees 5) (stated_cells s) ok.statements (λ n. refl) puts.statements in
     record {
       schema = puts.schema;
+      database = puts.database;
       readable = record { devices = subst (AreRows IsDevice) (sym puts.devices) ok.devices; taps = subst (AreRows IsTap) (sym puts.taps) ok.taps; statements = statements.0 };
       value = λ i. record {
         upto = λ x. upto_of (held (puts.devices i) x);

@@ -3,18 +3,26 @@ use Rattle.std.proofs.Common.{◌≡◌, ◌⊎◌, ℕ, ◌+◌, ◌-◌, ◌�
 use Rattle.std.specs.Prelude.{length, filter}
 use Rattle.std.proofs.lemmas.List.{length_push}
 use Rattle.sqlite.specs.State.{State}
+use Rattle.sqlite.specs.Tree.{Trees}
 use Rattle.fare_record.specs.Values.{RecordValue, StatementValue}
 use Rattle.fare_store.specs.OutboxWords.{pruned}
-use Rattle.fare_tables.specs.Tabled.{IsFit}
+use Rattle.fare_tables.specs.Tabled.{IsFit, IsLeft, left_of}
 use Rattle.fare_outbox.specs.declared.layout.Layout.{Layout}
 use Rattle.fare_outbox.specs.Layouts.{schema_in, ours}
-use Rattle.fare_outbox.specs.Held.{Held, Becomes, IsReady, held_of, with_tap, with_statement, without_lane, is_cut}
-use Rattle.fare_outbox.specs.Words.{first_at, stated_key, count_of, value_at, value_in, FitTogether, IsWell, MayStore}
+use Rattle.fare_outbox.specs.Held.{Held, Becomes, MayBecome, IsReady, held_of, with_tap, with_statement, without_lane, is_cut}
+use Rattle.fare_outbox.specs.Words.{first_at, stated_key, count_of, value_at, value_in, FitTogether, IsLawful, IsWell, MayStore}
 use Rattle.fare_outbox.proofs.Lanes.{store_fits, statement_fits}
 use Rattle.fare_outbox.proofs.Pruned.{left_count, same_without, prune_value, prune_fits}
 
 pub ready : (w : Layout) (s : State) (rows statements : ℕ) → IsFit (schema_in w) (IsWell w rows statements) s → IsReady w s
 ready w s rows statements fit = record { rest = fit.rest; fits = fit.fits.lawful.readable }
+
+-- what a stop leaves of a transaction
+pub left_held : (w : Layout) (h : Held) (trees : Trees) → MayBecome w h trees → held_of (ours w trees) ≡ h
+left_held w h trees it = ap (λ t. held_of (ours w t)) it.2 ∙ it.1.value
+
+pub becomes_left : (w : Layout) (h : Held) (trees : Trees) → MayBecome w h trees → FitTogether h → IsLeft (schema_in w) (IsLawful w) trees
+becomes_left w h trees it fit = left_of (schema_in w) (IsLawful w) it.0 trees it.1.schema it.1.database (record { readable = it.1.readable; together = subst FitTogether (sym it.1.value) fit }) it.2
 
 becomes_well : (w : Layout) (new : State) (rows statements : ℕ) (h : Held) → Becomes w new.now h × (new.now ≡ new.committed) → FitTogether h → rows ≡ length h.taps → statements ≡ length h.statements → IsFit (schema_in w) (IsWell w rows statements) new
 becomes_well w new rows statements h wrote fit rows_are statements_are = record {

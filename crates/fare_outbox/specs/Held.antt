@@ -6,7 +6,7 @@ use Rattle.sqlite_value.specs.Order.{Row, column}
 use Rattle.sqlite.specs.Tree.{Trees, put_row, without_rowid}
 use Rattle.sqlite_rules.specs.Edit.{next_rowid}
 use Rattle.sqlite_rules.specs.Lists.{Has}
-use Rattle.sqlite.specs.Effect.{Database}
+use Rattle.sqlite.specs.Effect.{Database, IsDatabase}
 use Rattle.sqlite.specs.State.{State}
 use Rattle.fare_record.specs.Values.{RecordValue, StatementValue}
 use Rattle.fare_tables.specs.Cells.{nat_in, int, id_of, AreRows, held}
@@ -112,12 +112,18 @@ without_lane owner device lane h = record { upto = h.upto; taps = filter (λ t. 
 -- the database holds this, in rows that can be read
 pub record Becomes (o : Layout) (db : Database) (h : Held) : Type 0 where
   pub schema : db.schema ≡ schema_in o
+  pub database : IsDatabase db
   pub readable : AreReadable (ours o db.trees)
   pub value : held_of (ours o db.trees) ≡ h
+
+-- these are the trees of such a database
+abbrev pub MayBecome : Layout → Held → Trees → Type 0
+MayBecome o h trees = (db : Database) × Becomes o db h × (trees ≡ db.trees)
 
 -- what one statement writes
 pub record PutsTap (o : Layout) (old new : Database) (t : RecordValue) : Type 0 where
   pub schema : new.schema ≡ schema_in o
+  pub database : IsDatabase new
   pub devices : ours o new.trees 1 ≡ ours o old.trees 1
   pub taps : ours o new.trees 2 ≡ put_row (Int (next_rowid (ours o old.trees 2)) ∷ tap_cells t) (ours o old.trees 2)
   pub statements : ours o new.trees 5 ≡ ours o old.trees 5
@@ -125,6 +131,7 @@ pub record PutsTap (o : Layout) (old new : Database) (t : RecordValue) : Type 0 
 
 pub record PutsStated (o : Layout) (old new : Database) (s : StatementValue) : Type 0 where
   pub schema : new.schema ≡ schema_in o
+  pub database : IsDatabase new
   pub devices : ours o new.trees 1 ≡ ours o old.trees 1
   pub taps : ours o new.trees 2 ≡ ours o old.trees 2
   pub statements : ours o new.trees 5 ≡ put_row (Int (next_rowid (ours o old.trees 5)) ∷ stated_cells s) (ours o old.trees 5)
@@ -132,6 +139,7 @@ pub record PutsStated (o : Layout) (old new : Database) (s : StatementValue) : T
 
 pub record PutsLink (o : Layout) (old new : Database) (device upto : ℕ) : Type 0 where
   pub schema : new.schema ≡ schema_in o
+  pub database : IsDatabase new
   pub devices : (ours o new.trees 1 ≡ put_row (device_row device upto) (ours o old.trees 1)) ⊎ (ours o new.trees 1 ≡ put_row (device_row device upto) (without_rowid (pos device) (ours o old.trees 1)))
   pub taps : ours o new.trees 2 ≡ ours o old.trees 2
   pub statements : ours o new.trees 5 ≡ ours o old.trees 5

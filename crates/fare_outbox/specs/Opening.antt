@@ -2,10 +2,13 @@
 use Rattle.std.specs.Prelude.{◌≡◌, ◌⊎◌, ℕ, length}
 use Rattle.sqlite.specs.State.{State}
 use Rattle.sqlite.specs.Tree.{Trees}
+use Rattle.fare_store.specs.OutboxWords.{IsEmptyOutbox}
 use Rattle.fare_tables.specs.Asking.{SameRows}
+use Rattle.fare_tables.specs.Tabled.{IsLeft}
 use Rattle.fare_opening.specs.Opening as store
 use Rattle.fare_outbox.specs.declared.layout.Layout.{Layout}
-use Rattle.fare_outbox.specs.Layouts.{ours}
+use Rattle.fare_outbox.specs.Layouts.{ours, schema_in}
+use Rattle.fare_outbox.specs.Words.{IsLawful, value_at}
 use Rattle.fare_outbox.specs.Statements.{outbox_parts}
 use Rattle.fare_outbox.specs.Held.{IsReady, held_of}
 use Rattle.fare_outbox.specs.Making.{Makes, KeepsOthers, site_of}
@@ -25,6 +28,10 @@ IsVacant = store.IsVacant outbox_parts
 -- what an open may commit: the empty outbox, where nothing has a name of its tables, beside the rows that were there
 abbrev pub MayMake : State → Trees → Type 0
 MayMake = store.MayMake outbox_parts 0
+
+-- the trees of an empty outbox that an open takes, wherever its tables stand
+abbrev pub IsLeftEmpty : Trees → Type 0
+IsLeftEmpty trees = (w : Layout) × IsLeft (schema_in w) (IsLawful w) trees × IsEmptyOutbox (value_at w trees)
 
 pub record IsCounted (w : Layout) (trees : Trees) (rows statements : ℕ) : Type 0 where
   pub rows_are : rows ≡ length (held_of (ours w trees)).taps

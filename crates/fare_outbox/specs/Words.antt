@@ -79,7 +79,7 @@ abbrev pub connected : {S : Type 0} → (g : Ghosts S) → SqlOutbox S g → Sta
 connected g o = state g o.conn
 
 abbrev pub stands : {S : Type 0} → (g : Ghosts S) → SqlOutbox S g → Standing OutboxValue
-stands g o = tabled (schema_in o.layout) (value_at o.layout) (IsWell o.layout o.rows o.statements) (state g o.conn) o.failures
+stands g o = tabled (schema_in o.layout) (value_at o.layout) (IsWell o.layout o.rows o.statements) (IsLawful o.layout) (state g o.conn) o.failures
 
 -- a row may be written: none of its key is held, and its link is the next one of its device
 pub record MayStore (v : OutboxValue) (r : RecordValue) : Type 0 where

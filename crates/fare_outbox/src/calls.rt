@@ -1,7 +1,9 @@
 ghost use Rattle.std.proofs.Common.{refl, sym, ap, ◌∙◌};
 ghost use Rattle.std.proofs.Math.Logic.{∥∥₁_map};
 ghost use Rattle.sqlite.specs.Effect.{Database};
-ghost use Rattle.fare_outbox.specs.Words.{value_at, stands};
+ghost use Rattle.fare_tables.specs.Tabled.{left_now};
+ghost use Rattle.fare_outbox.specs.Layouts.{schema_in};
+ghost use Rattle.fare_outbox.specs.Words.{IsLawful, IsWell, value_at, stands};
 
 use crate::SqlOutbox;
 use crate::storing::is_nothing;
@@ -12,7 +14,7 @@ use sqlite::Alter;
 impl<S: Alter> Outbox for SqlOutbox<S> {
     ghost standing = { λ o. stands S.Store o };
 
-    ghost sound = { λ o. record { clean = λ live. live.0; settled = λ live lawful v leaves. sym leaves.2 ∙ ap (value_at o.layout) (S.Store.settled o.conn.store leaves.0 live.1 leaves.1 ∙ sym (ap (λ (d : Database). d.trees) lawful.rest.settled)); some = λ clean. ∥∥₁_map (S.Store.survives o.conn.store clean) (λ left. (value_at o.layout left.0, (left.0, left.1, refl))) } };
+    ghost sound = { λ o. record { clean = λ live. live.0; settled = λ live lawful v leaves. sym leaves.2 ∙ ap (value_at o.layout) (S.Store.settled o.conn.store leaves.0 live.1 leaves.1 ∙ sym (ap (λ (d : Database). d.trees) lawful.fit.rest.settled)); lasting = λ live lawful. record { each = λ trees leaves. left_now (schema_in o.layout) (IsWell o.layout o.rows o.statements) (IsLawful o.layout) _ (λ well. well.lawful) lawful trees (S.Store.settled o.conn.store trees live.1 leaves) }; some = λ clean. ∥∥₁_map (S.Store.survives o.conn.store clean) (λ left. (value_at o.layout left.0, (left.0, left.1, refl))) } };
 
     fn is_empty(&mut self) -> Result<bool, Fault> {
         self.begin()?;

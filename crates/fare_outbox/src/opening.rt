@@ -1,15 +1,17 @@
 ghost use Rattle.std.specs.Prelude.{◌≡◌, ◌≢◌, ◌⊎◌, false, true, None, Err, IsTrue, IfOk, IfErr, IfSome, OnOk, OnErr};
+ghost use Rattle.sqlite.specs.Effect.{IsDatabase};
 ghost use Rattle.sqlite.specs.State.{HasCleanDisk, Survives};
+ghost use Rattle.sqlite.specs.Tree.{Trees};
 ghost use Rattle.sqlite.specs.Held.{state};
 ghost use Rattle.fare_tables.specs.Asking.{IsLive, IsUp, IsAtRest, SameRows};
 ghost use Rattle.fare_tables.specs.Making.{no_schema};
 ghost use Rattle.fare_outbox.specs.declared.layout.Layout.{Layout};
 ghost use Rattle.fare_outbox.specs.Layouts.{schema_in};
 ghost use Rattle.fare_store.specs.OutboxWords.{IsEmptyOutbox};
-ghost use Rattle.fare_tables.specs.Tabled.{IsFit};
+ghost use Rattle.fare_tables.specs.Tabled.{IsFit, IsLeft};
 ghost use Rattle.fare_outbox.specs.Held.{IsReady};
 ghost use Rattle.fare_outbox.specs.Making.{Makes, MayGrow, KeepsOthers};
-ghost use Rattle.fare_outbox.specs.Opening.{IsOutbox, IsVacant, IsBlankOrOurs, IsCounted, IsOpened, Settles, MayMake};
+ghost use Rattle.fare_outbox.specs.Opening.{IsOutbox, IsVacant, IsBlankOrOurs, IsCounted, IsOpened, IsLeftEmpty, Settles, MayMake};
 ghost use Rattle.fare_outbox.specs.Words.{IsLawful, value_at, connected, stands};
 
 use crate::design::OutboxDesign;
@@ -53,6 +55,9 @@ fn settle<S: Alter>(
     ensures crash { Survives (state S.Store conn.old) (state S.Store conn.new) (MayMake (state S.Store conn.old)) }
     ensures failed { IsLive (state S.Store conn.new) → (state S.Store conn.old).now ≡ (state S.Store conn.old).committed → OnErr result (SameRows (state S.Store conn.old) (state S.Store conn.new)) }
     ensures stays { HasCleanDisk (state S.Store conn.new) → IfOk result (λ found. IfSome found (λ _. IsTrue (state S.Store conn.new).is_open)) }
+    ensures up { HasCleanDisk (state S.Store conn.new) → IsTrue (state S.Store conn.old).is_open → IfOk result (λ _. IsTrue (state S.Store conn.new).is_open) }
+    ensures database { IsTrue (state S.Store conn.old).is_open → IsDatabase (state S.Store conn.old).now }
+    ensures live { IsLive (state S.Store conn.new) → IsLive (state S.Store conn.old) }
     ensures idle { conn.new.in_transaction ≡ false }
 {
     let Some(opened) = open_tables::<OutboxDesign, S>(alloc, conn, 0)? else {
@@ -83,13 +88,16 @@ impl<S: Alter> SqlOutbox<S> {
         ensures ours { IfOk result (λ o. (stands S.Store o).live → IsVacant (state S.Store conn) ⊎ IsOutbox (state S.Store conn)) }
         ensures failures { IfOk result (λ o. (stands S.Store o).failures ≡ 0) }
         ensures alive { IfOk result (λ o. (stands S.Store o).clean → (stands S.Store o).live) }
+        ensures again { IfOk result (λ o. (stands S.Store o).clean → (w : Layout) → IsLeft (schema_in w) (IsLawful w) (state S.Store conn).now.trees → (stands S.Store o).lawful × ((stands S.Store o).value ≡ value_at w (state S.Store conn).now.trees)) }
         ensures inside { conn.in_transaction ≡ true → result ≡ Err (conn, OpenFault.Store) }
         ensures foreign { IfErr result (λ e. e.1 ≡ OpenFault.Foreign → (state S.Store conn).now.schema ≢ no_schema) }
         ensures lacks { IfErr result (λ e. e.1 ≡ OpenFault.Foreign → IsLive (state S.Store e.0) → ¬ IsBlankOrOurs (state S.Store conn)) }
         ensures found { IfErr result (λ e. e.1 ≡ OpenFault.Foreign → IsLive (state S.Store e.0) → (w : Layout) → ¬ IsFit (schema_in w) (IsLawful w) (state S.Store conn)) }
+        ensures never { IfErr result (λ e. e.1 ≡ OpenFault.Foreign → HasCleanDisk (state S.Store e.0) → IsTrue (state S.Store conn).is_open → (w : Layout) → ¬ IsLeft (schema_in w) (IsLawful w) (state S.Store conn).now.trees) }
         ensures vacant { IfErr result (λ e. e.1 ≡ OpenFault.Foreign → IsVacant (state S.Store conn) → ¬ MayGrow (state S.Store conn).now.schema) }
         ensures crash { IfOk result (λ o. Survives (state S.Store conn) (connected S.Store o) (MayMake (state S.Store conn))) }
         ensures crash_refused { IfErr result (λ e. Survives (state S.Store conn) (state S.Store e.0) (MayMake (state S.Store conn))) }
+        ensures leaves { IfErr result (λ e. HasCleanDisk (state S.Store e.0) → (trees : Trees) → (state S.Store e.0).may_leave trees → (state S.Store conn).may_leave trees ⊎ IsLeftEmpty trees) }
         ensures refused { IfErr result (λ e. IsLive (state S.Store e.0) → (state S.Store conn).now ≡ (state S.Store conn).committed → SameRows (state S.Store conn) (state S.Store e.0)) }
     {
         let mut conn = conn;

@@ -5,7 +5,7 @@ ghost use Rattle.sqlite.specs.Values.{bound};
 ghost use Rattle.fare_tables.specs.Asking.{IsLive, SameRows, Inside};
 ghost use Rattle.fare_tables.specs.Cells.{AreRows};
 ghost use Rattle.fare_outbox.specs.Layouts.{schema_in, ours};
-ghost use Rattle.fare_outbox.specs.Held.{held_of, AreReadable, IsReady, IsDevice, Becomes, PutsTap, PutsLink, PutsStated, tap_cells, stated_cells, with_tap, with_statement, without_lane, is_cut};
+ghost use Rattle.fare_outbox.specs.Held.{held_of, AreReadable, IsReady, IsDevice, Becomes, MayBecome, PutsTap, PutsLink, PutsStated, tap_cells, stated_cells, with_tap, with_statement, without_lane, is_cut};
 
 use crate::Layout;
 use crate::statements::{CUT_ROWS, PUT_LINK, PUT_STATEMENT, PUT_TAP};
@@ -94,7 +94,7 @@ pub(crate) fn write_row<S: Alter>(
     requires { conn.old.in_transaction ≡ false }
     ensures value { IsLive (state S.Store conn.new) → IsReady layout.now (state S.Store conn.old) → OnOk result (Becomes layout.now (state S.Store conn.new).now (with_tap row.now (held_of (ours layout.now (state S.Store conn.old).now.trees))) × ((state S.Store conn.new).now ≡ (state S.Store conn.new).committed)) }
     ensures same { IsLive (state S.Store conn.new) → IsReady layout.now (state S.Store conn.old) → OnErr result (SameRows (state S.Store conn.old) (state S.Store conn.new)) }
-    ensures crash { Survives (state S.Store conn.old) (state S.Store conn.new) (λ trees. IsReady layout.now (state S.Store conn.old) → held_of (ours layout.now trees) ≡ with_tap row.now (held_of (ours layout.now (state S.Store conn.old).now.trees))) }
+    ensures crash { Survives (state S.Store conn.old) (state S.Store conn.new) (λ trees. IsReady layout.now (state S.Store conn.old) → MayBecome layout.now (with_tap row.now (held_of (ours layout.now (state S.Store conn.old).now.trees))) trees) }
     ensures live { IsLive (state S.Store conn.new) → IsLive (state S.Store conn.old) }
     ensures stays { HasCleanDisk (state S.Store conn.new) → OnOk result (IsTrue (state S.Store conn.new).is_open) }
     ensures idle { conn.new.in_transaction ≡ false }
@@ -145,7 +145,7 @@ pub(crate) fn write_statement<S: Alter>(
     requires { conn.old.in_transaction ≡ false }
     ensures value { IsLive (state S.Store conn.new) → IsReady layout.now (state S.Store conn.old) → OnOk result (Becomes layout.now (state S.Store conn.new).now (with_statement statement.now (held_of (ours layout.now (state S.Store conn.old).now.trees))) × ((state S.Store conn.new).now ≡ (state S.Store conn.new).committed)) }
     ensures same { IsLive (state S.Store conn.new) → IsReady layout.now (state S.Store conn.old) → OnErr result (SameRows (state S.Store conn.old) (state S.Store conn.new)) }
-    ensures crash { Survives (state S.Store conn.old) (state S.Store conn.new) (λ trees. IsReady layout.now (state S.Store conn.old) → held_of (ours layout.now trees) ≡ with_statement statement.now (held_of (ours layout.now (state S.Store conn.old).now.trees))) }
+    ensures crash { Survives (state S.Store conn.old) (state S.Store conn.new) (λ trees. IsReady layout.now (state S.Store conn.old) → MayBecome layout.now (with_statement statement.now (held_of (ours layout.now (state S.Store conn.old).now.trees))) trees) }
     ensures live { IsLive (state S.Store conn.new) → IsLive (state S.Store conn.old) }
     ensures stays { HasCleanDisk (state S.Store conn.new) → OnOk result (IsTrue (state S.Store conn.new).is_open) }
     ensures idle { conn.new.in_transaction ≡ false }
@@ -198,7 +198,7 @@ pub(crate) fn write_cut<S: Alter>(
     requires idle { conn.old.in_transaction ≡ false }
     ensures value { IsLive (state S.Store conn.new) → IsReady layout.now (state S.Store conn.old) → OnOk result (Becomes layout.now (state S.Store conn.new).now (without_lane owner device upto (held_of (ours layout.now (state S.Store conn.old).now.trees))) × ((state S.Store conn.new).now ≡ (state S.Store conn.new).committed)) }
     ensures same { IsLive (state S.Store conn.new) → IsReady layout.now (state S.Store conn.old) → OnErr result (SameRows (state S.Store conn.old) (state S.Store conn.new)) }
-    ensures crash { Survives (state S.Store conn.old) (state S.Store conn.new) (λ trees. IsReady layout.now (state S.Store conn.old) → held_of (ours layout.now trees) ≡ without_lane owner device upto (held_of (ours layout.now (state S.Store conn.old).now.trees))) }
+    ensures crash { Survives (state S.Store conn.old) (state S.Store conn.new) (λ trees. IsReady layout.now (state S.Store conn.old) → MayBecome layout.now (without_lane owner device upto (held_of (ours layout.now (state S.Store conn.old).now.trees))) trees) }
     ensures live { IsLive (state S.Store conn.new) → IsLive (state S.Store conn.old) }
     ensures stays { HasCleanDisk (state S.Store conn.new) → OnOk result (IsTrue (state S.Store conn.new).is_open) }
     ensures idle { conn.new.in_transaction ≡ false }

@@ -30,14 +30,16 @@ pub const FIRST: Numbers = Numbers {
     day: 19_723,
 };
 
-fn tap(of: Numbers) -> Option<Tap> {
+fn tap(of: Numbers) -> Option<Tap>
+    ensures { IfSome result (λ t. t ≡ record { product = of.product; token = of.token; moment = of.moment; day = of.day }) }
+{
     let (product, token) = (ProductId::new(of.product)?, Token::new(of.token)?);
     Some(Tap::new(product, token, Moment::new(of.moment)?, Day::new(of.day)?))
 }
 
 /// The record of these numbers.
 pub fn record(of: Numbers) -> Option<Record>
-    ensures { IfSome result (λ r. (r.device ≡ of.device) × (r.lane ≡ of.lane)) }
+    ensures { IfSome result (λ r. r ≡ record { device = of.device; link = of.link; owner = of.owner; lane = of.lane; tap = record { product = of.product; token = of.token; moment = of.moment; day = of.day } }) }
 {
     if of.link == 0 || of.link > LAST_NUMBER || of.lane == 0 || of.lane > LAST_NUMBER {
         return None;
@@ -48,7 +50,7 @@ pub fn record(of: Numbers) -> Option<Record>
 
 /// A statement of a device's day to an owner.
 pub fn statement(device: u64, day: u64, owner: u64, count: u64) -> Option<Statement>
-    ensures { IfSome result (λ s. (s.device ≡ device) × (s.day ≡ day) × (s.owner ≡ owner) × (s.count ≡ count)) }
+    ensures { IfSome result (λ s. s ≡ record { device = device; day = day; owner = owner; count = count }) }
 {
     if count > LAST_NUMBER {
         return None;

@@ -1,4 +1,7 @@
 //! One frame of each type, and its bytes.
+ghost use Rattle.std.specs.Prelude.{◌≡◌, IfSome};
+ghost use Rattle.fare_frame.specs.Grammar.{frame_bytes};
+
 use crate::samples::{FIRST, record, statement};
 use fare_frame::Frame;
 use fare_record::{Ack, Day, DayAck, DeviceId, Hello};
@@ -24,26 +27,36 @@ pub const DAY_ACKED: [u8; 11] = [0x00, 0x09, 0x04, 0, 0, 0, 1, 0, 0, 0x4d, 0x0b]
 pub const GREETED: [u8; 9] = [0x00, 0x07, 0x05, 0, 0, 0, 1, 0, 1];
 
 /// The frame of the first tap.
-pub fn tapped() -> Option<Frame> {
+pub fn tapped() -> Option<Frame>
+    ensures { IfSome result (λ frame. frame_bytes frame ≡ TAPPED) }
+{
     Some(Frame::Tapped(record(FIRST)?))
 }
 
 /// The frame of a statement of three taps.
-pub fn stated() -> Option<Frame> {
+pub fn stated() -> Option<Frame>
+    ensures { IfSome result (λ frame. frame_bytes frame ≡ STATED) }
+{
     Some(Frame::Stated(statement(1, 19_723, 1, 3)?))
 }
 
 /// The frame of an acknowledgement of one tap.
-pub fn acked() -> Option<Frame> {
+pub fn acked() -> Option<Frame>
+    ensures { IfSome result (λ frame. frame_bytes frame ≡ ACKED) }
+{
     Some(Frame::Acked(Ack::new(DeviceId::new(1)?, 1)))
 }
 
 /// The frame of an acknowledgement of a day.
-pub fn day_acked() -> Option<Frame> {
+pub fn day_acked() -> Option<Frame>
+    ensures { IfSome result (λ frame. frame_bytes frame ≡ DAY_ACKED) }
+{
     Some(Frame::DayAcked(DayAck::new(DeviceId::new(1)?, Day::new(19_723)?)))
 }
 
 /// The frame of a greeting.
-pub fn greeted() -> Option<Frame> {
+pub fn greeted() -> Option<Frame>
+    ensures { IfSome result (λ frame. frame_bytes frame ≡ GREETED) }
+{
     Some(Frame::Greeted(Hello::new(DeviceId::new(1)?, 1)))
 }

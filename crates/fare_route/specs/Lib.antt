@@ -1,2 +1,3 @@
 pub mod Cursors
 pub mod Routing
+pub mod Stating

@@ -1,5 +1,5 @@
 -- What a forwarder hands on.
-use Rattle.std.specs.Prelude.{◌≡◌, ℕ, ◌+◌, ◌<◌, ◌≤◌, ◌==◌, nat_eq, length, slice_get, is_none, if◌then◌else◌, List, Option, Some, None, option_map, option_and_then, Result, Ok, Err, IfOk}
+use Rattle.std.specs.Prelude.{◌≡◌, ℕ, ◌+◌, ◌<◌, ◌≤◌, ◌==◌, nat_eq, length, slice_get, is_none, if◌then◌else◌, List, Option, Some, None, option_map, option_and_then, Result, Ok, Err}
 use Rattle.std.specs.HashMap.{get}
 use Rattle.fare_record.specs.Limits.{IsDay}
 use Rattle.fare_record.specs.declared.item.Item.{Item}

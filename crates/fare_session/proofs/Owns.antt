@@ -52,6 +52,7 @@ tap_foreign a r other = (
   record {
     value = λ live lawful. (lawful, (refl, λ e. (tap_fault.NotMine, ap (λ b. tap_judged b (length (a.value.taken r.device)) (is_closed a.value r.device r.tap.day) r.lane) other)));
     stop = λ clean lawful v leaves. inl leaves;
+    lasts = λ clean lawful lasting. lasting;
     clean = λ h. h;
     live = λ h. h;
     stays = λ e live clean. live;
@@ -105,6 +106,7 @@ statement_foreign a s other = (
   record {
     value = λ live lawful. (lawful, (refl, λ e. inl (ap (λ b. statement_judged b (a.value.stated s.device s.day) s.count) other)));
     stop = λ clean lawful v leaves. inl leaves;
+    lasts = λ clean lawful lasting. lasting;
     clean = λ h. h;
     live = λ h. h;
     stays = λ e live clean. live;

@@ -7,12 +7,12 @@ use Rattle.fare_session.specs.Stores.{Called, Follows, Keeps, Leaves, Stays}
 
 -- one call is such calls
 pub called : {V : Type 0} (a b : Standing V) (f : Option Fault) (did : Type 0) (commits : V → Type 0) → Calls a b f did commits → Called a b f did commits
-called a b f did commits c = record { value = c.value; stop = c.stop; clean = c.clean; live = c.live; stays = λ e live clean. c.stays e clean; cause = c.cause }
+called a b f did commits c = record { value = c.value; stop = c.stop; lasts = c.lasts; clean = c.clean; live = c.live; stays = λ e live clean. c.stays e clean; cause = c.cause }
 
 -- a call that was done, and is what it commits
 pub leaves_done : {V : Type 0} (a b : Standing V) (did : Type 0) (v : V) → IsSound b → Called a b None did (λ w. w ≡ v) → (did → b.value ≡ v) → Leaves a b None v (λ w. w ≡ v)
 leaves_done a b did v sound c is = record {
-  calls = record { value = λ live lawful. let x = c.value live lawful in (x.0, is x.1); stop = c.stop; clean = c.clean; live = c.live; stays = c.stays; cause = c.cause };
+  calls = record { value = λ live lawful. let x = c.value live lawful in (x.0, is x.1); stop = c.stop; lasts = c.lasts; clean = c.clean; live = c.live; stays = c.stays; cause = c.cause };
   left = λ k w leaves.
       let live = c.stays refl k.live k.clean in
       let x = c.value live k.lawful in
@@ -28,6 +28,7 @@ leaves_kept a b f did commits sound c is = record {
       | inl before ↦ inl before
       | inr done ↦ inr (done.0, inr done.1)
     ];
+    lasts = c.lasts;
     clean = c.clean;
     live = c.live;
     stays = c.stays;
@@ -48,6 +49,7 @@ leaves_say a b f v P Q say l = record {
       | inl before ↦ inl before
       | inr done ↦ inr (done.0, say w done.1)
     ];
+    lasts = l.calls.lasts;
     clean = l.calls.clean;
     live = l.calls.live;
     stays = l.calls.stays;
@@ -63,7 +65,7 @@ stays_read a b f said sound c = leaves_say a b f a.value (λ w. (w ≡ a.value) 
 -- nothing was called
 pub stays_none : {V : Type 0} (a : Standing V) → IsSound a → Stays a a None
 stays_none a sound = record {
-  calls = record { value = λ live lawful. (lawful, refl); stop = λ clean lawful v leaves. inl leaves; clean = λ h. h; live = λ h. h; stays = λ e live clean. live; cause = refl };
+  calls = record { value = λ live lawful. (lawful, refl); stop = λ clean lawful v leaves. inl leaves; lasts = λ clean lawful lasting. lasting; clean = λ h. h; live = λ h. h; stays = λ e live clean. live; cause = refl };
   left = λ k w leaves. sound.settled k.live k.lawful w leaves;
 }
 
@@ -97,6 +99,7 @@ leaves_then a b c f u v w P Q R first second same image = record {
           let old = first.calls.live done.0 in
           inr (old, whole (record { live = old; lawful = lawful old; clean = clean }) x leaves)
     ];
+    lasts = λ clean lawful lasting. second.calls.lasts clean (λ live. (first.calls.value live (lawful (first.calls.live live))).0) (first.calls.lasts (second.calls.clean clean) lawful lasting);
     clean = λ h. first.calls.clean (second.calls.clean h);
     live = λ h. first.calls.live (second.calls.live h);
     stays = λ e live clean. second.calls.stays e (first.calls.stays refl live (second.calls.clean clean)) clean;
@@ -118,10 +121,15 @@ leaves_fault a b f g v P e l = subst (λ q. Leaves a b q v P) e l
 
 -- WHATEVER WAS CALLED
 pub follows_none : {V : Type 0} (a : Standing V) → Follows a a
-follows_none a = record { clean = λ h. h; live = λ h. h; lawful = λ live lawful. lawful }
+follows_none a = record { clean = λ h. h; live = λ h. h; lawful = λ live lawful. lawful; lasts = λ clean lawful lasting. lasting }
 
 pub follows_call : {V : Type 0} (a b : Standing V) (f : Option Fault) (did : Type 0) (commits : V → Type 0) → Called a b f did commits → Follows a b
-follows_call a b f did commits c = record { clean = c.clean; live = c.live; lawful = λ live lawful. (c.value live lawful).0 }
+follows_call a b f did commits c = record { clean = c.clean; live = c.live; lawful = λ live lawful. (c.value live lawful).0; lasts = c.lasts }
 
 pub follows_then : {V : Type 0} (a b c : Standing V) → Follows a b → Follows b c → Follows a c
-follows_then a b c first second = record { clean = λ h. first.clean (second.clean h); live = λ h. first.live (second.live h); lawful = λ live lawful. second.lawful live (first.lawful (second.live live) lawful) }
+follows_then a b c first second = record {
+  clean = λ h. first.clean (second.clean h);
+  live = λ h. first.live (second.live h);
+  lawful = λ live lawful. second.lawful live (first.lawful (second.live live) lawful);
+  lasts = λ clean lawful lasting. second.lasts clean (λ live. first.lawful live (lawful (first.live live))) (first.lasts (second.clean clean) lawful lasting);
+}

@@ -32,6 +32,7 @@ called_say a b f g P Q commits images e say image c = subst (λ z. Called a b z 
     | inl before ↦ inl before
     | inr done ↦ inr (done.0, image v done.1)
   ];
+  lasts = c.lasts;
   clean = c.clean;
   live = c.live;
   stays = λ e live clean. c.stays e clean;
@@ -40,7 +41,7 @@ called_say a b f g P Q commits images e say image c = subst (λ z. Called a b z 
 
 -- of which other images are said
 called_image : {V : Type 0} (a b : Standing V) (f : Option Fault) (did : Type 0) (P Q : V → Type 0) → ((v : V) → P v → Q v) → Called a b f did P → Called a b f did Q
-called_image a b f did P Q say c = record { value = c.value; stop = λ clean lawful v leaves. elim (c.stop clean lawful v leaves) [ inl before ↦ inl before | inr done ↦ inr (done.0, say v done.1) ]; clean = c.clean; live = c.live; stays = c.stays; cause = c.cause }
+called_image a b f did P Q say c = record { value = c.value; stop = λ clean lawful v leaves. elim (c.stop clean lawful v leaves) [ inl before ↦ inl before | inr done ↦ inr (done.0, say v done.1) ]; lasts = c.lasts; clean = c.clean; live = c.live; stays = c.stays; cause = c.cause }
 
 pub stored_is : (f : Fault) → Some f ≡ stored_fault (Some (session_fault f))
 stored_is fault.Memory = refl
@@ -120,7 +121,7 @@ kept_failed a b i f n sound c = record {
 pub taken_none : (a : Standing LedgerValue) (n : ℕ) → IsSound a → IsTaken a a [] None None n n
 taken_none a n sound = record {
   leaves = record {
-    calls = record { value = λ live lawful. (lawful, refl); stop = λ clean lawful v leaves. inl leaves; clean = λ h. h; live = λ h. h; stays = λ e live clean. live; cause = refl };
+    calls = record { value = λ live lawful. (lawful, refl); stop = λ clean lawful v leaves. inl leaves; lasts = λ clean lawful lasting. lasting; clean = λ h. h; live = λ h. h; stays = λ e live clean. live; cause = refl };
     left = λ k w leaves. inl (sound.settled k.live k.lawful w leaves);
   };
   tally = λ k. tallied_same n;

@@ -39,12 +39,15 @@ pub record Follows {V : Type 0} (old new : Standing V) : Type 0 where
   pub clean : new.clean → old.clean
   pub live : new.live → old.live
   pub lawful : new.live → old.lawful → new.lawful
+  -- and what a stop may leave of it fits together as before
+  pub lasts : new.clean → (old.live → old.lawful) → old.lasting → new.lasting
 
 -- Calls of a store, or none, of which the last one may have failed: what they did, and what they committed. It is what
 -- one call says, but that a store of which nothing was asked may have been shut all along.
 pub record Called {V : Type 0} (old new : Standing V) (faulted : Option Fault) (did : Type 0) (commits : V → Type 0) : Type 0 where
   pub value : new.live → old.lawful → new.lawful × did
   pub stop : new.clean → (old.live → old.lawful) → (v : V) → new.may_leave v → old.may_leave v ⊎ (old.live × commits v)
+  pub lasts : new.clean → (old.live → old.lawful) → old.lasting → new.lasting
   pub clean : new.clean → old.clean
   pub live : new.live → old.live
   pub stays : faulted ≡ None → old.live → new.clean → new.live

@@ -100,10 +100,10 @@ module _ {O L : Type 0} (outbox : O → Standing OutboxValue) (ledger : L → St
   module _ {V : Type 0} (old new : Hub O L) (owner day : ℕ) (r : ReplacesLedger old new owner) (same_outbox : new.outbox ≡ old.outbox) (sound_ledger : IsSound (ledger r.own_old)) (late : old.scheme.start ≤ day) (tells : LedgerValue → Result V BillFault → Type 0) (result : Result V (Refused BillFault))
       (call : Calls (ledger r.own_old) (ledger r.own_new) (fault_in result) (((ledger r.own_new).value ≡ (ledger r.own_old).value) × ((ledger r.own_old).value.start ≤ day → Answered (tells (ledger r.own_old).value) result)) (λ v. ⊥)) where
     follows : StoresFollow outbox ledger old new
-    follows = replaced_follow outbox ledger old new owner r (subst (λ x. Follows (outbox old.outbox) (outbox x)) (sym same_outbox) same) (record { clean = call.clean; live = call.live; lawful = λ live lawful. (call.value live lawful).0 })
+    follows = replaced_follow outbox ledger old new owner r (subst (λ x. Follows (outbox old.outbox) (outbox x)) (sym same_outbox) same) (record { clean = call.clean; live = call.live; lawful = λ live lawful. (call.value live lawful).0; lasts = call.lasts })
       where
         same : Follows (outbox old.outbox) (outbox old.outbox)
-        same = record { clean = λ c. c; live = λ l. l; lawful = λ l is. is }
+        same = record { clean = λ c. c; live = λ l. l; lawful = λ l is. is; lasts = λ clean lawful lasting. lasting }
 
     -- what it may hold it might have held
     read : (ledger r.own_new).clean → ((ledger r.own_old).live → (ledger r.own_old).lawful) → (v : LedgerValue) → MayHold (ledger r.own_new) v → MayHold (ledger r.own_old) v

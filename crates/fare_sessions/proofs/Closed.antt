@@ -29,10 +29,10 @@ use Rattle.fare_sessions.proofs.Billed.{put_self}
 
 module _ {O L : Type 0} (outbox : O → Standing OutboxValue) (ledger : L → Standing LedgerValue) (old new : Hub O L) (owner device day : ℕ) (result : Result Unit (Refused ClosingFault)) (h : HasClosed ledger old new owner device day result) where
   pub closed_follow : StoresFollow outbox ledger old new
-  closed_follow = replaced_follow outbox ledger old new owner h.one (subst (λ x. Follows (outbox old.outbox) (outbox x)) (sym h.outbox_same) same) (record { clean = h.writes.clean; live = h.writes.live; lawful = λ live lawful. (h.writes.value live lawful).0 })
+  closed_follow = replaced_follow outbox ledger old new owner h.one (subst (λ x. Follows (outbox old.outbox) (outbox x)) (sym h.outbox_same) same) (record { clean = h.writes.clean; live = h.writes.live; lawful = λ live lawful. (h.writes.value live lawful).0; lasts = h.writes.lasts })
     where
       same : Follows (outbox old.outbox) (outbox old.outbox)
-      same = record { clean = λ c. c; live = λ l. l; lawful = λ l is. is }
+      same = record { clean = λ c. c; live = λ l. l; lawful = λ l is. is; lasts = λ clean lawful lasting. lasting }
 
   pub closed_sound : AreSound outbox ledger old → AreSound outbox ledger new
   closed_sound sound = replaced_sound outbox ledger old new owner h.one closed_follow sound (λ other live was. by other was h.answer (h.writes.value live (sound.lawful.ledgers_are h.one.place h.one.own_old h.one.was (h.writes.live live))).1)

@@ -52,10 +52,15 @@ abbrev pub IsOwn : SchemeValue → ℕ → LedgerValue → Type 0
 IsOwn sc owner v = (v.owner ≡ owner) × IsOfScheme sc v
 
 follows_self : {V : Type 0} (s : Standing V) → Follows s s
-follows_self s = record { clean = λ c. c; live = λ l. l; lawful = λ l is. is }
+follows_self s = record { clean = λ c. c; live = λ l. l; lawful = λ l is. is; lasts = λ clean lawful lasting. lasting }
 
 follows_join : {V : Type 0} (s t u : Standing V) → Follows s t → Follows t u → Follows s u
-follows_join s t u f g = record { clean = λ c. f.clean (g.clean c); live = λ l. f.live (g.live l); lawful = λ l is. g.lawful l (f.lawful (g.live l) is) }
+follows_join s t u f g = record {
+  clean = λ c. f.clean (g.clean c);
+  live = λ l. f.live (g.live l);
+  lawful = λ l is. g.lawful l (f.lawful (g.live l) is);
+  lasts = λ clean lawful lasting. g.lasts clean (λ l. f.lawful l (lawful (f.live l))) (f.lasts (g.clean clean) lawful lasting);
+}
 
 module _ {O L : Type 0} (outbox : O → Standing OutboxValue) (ledger : L → Standing LedgerValue) where
   same_ledgers : (old new : Hub O L) → new.ledgers ≡ old.ledgers → (place : ℕ) (x y : L) → slice_get old.ledgers.items place ≡ Some x → slice_get new.ledgers.items place ≡ Some y → y ≡ x

@@ -8,3 +8,5 @@ pub mod Billed
 pub mod NextClose
 pub mod Closed
 pub mod Going
+pub mod Lasting
+pub mod Again

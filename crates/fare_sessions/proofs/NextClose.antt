@@ -1,11 +1,11 @@
 -- The next day to close, of one ledger and of a hub.
-use Rattle.std.proofs.Common.{◌≡◌, ℕ, zero, suc, ◌+◌, ◌<◌, ◌≤◌, Some, None, Bool, true, false, refl, sym, ap, ◌∙◌, subst, arith}
-use Rattle.std.specs.Prelude.{nat_le, Option, is_some, Result, Ok, Err, MatchResult, IfOk, if◌then◌else◌}
+use Rattle.std.proofs.Common.{◌≡◌, ℕ, zero, suc, ◌+◌, ◌<◌, ◌≤◌, None, Bool, true, false, refl, sym, ap, ◌∙◌, subst, arith}
+use Rattle.std.specs.Prelude.{nat_le, Option, Result, Ok, Err, MatchResult, IfOk, if◌then◌else◌}
 use Rattle.std.proofs.lemmas.Bool.Decides.{nat_tests}
 use Rattle.fare_store.specs.declared.fault.Fault.{Fault}
 use Rattle.fare_store.specs.declared.fault.Refused.{Refused}
-use Rattle.fare_store.specs.declared.fault.Refused.TheVariants.{Because, Failed}
-use Rattle.fare_store.specs.Standing.{Standing, Calls, Reads, IsSound, fault_of, fault_in}
+use Rattle.fare_store.specs.declared.fault.Refused.TheVariants.{Failed}
+use Rattle.fare_store.specs.Standing.{Standing, Calls, Reads, IsSound, fault_in}
 use Rattle.fare_store.specs.OutboxWords.{OutboxValue}
 use Rattle.fare_store.specs.LedgerWords.{LedgerValue, closed_through}
 use Rattle.fare_world.specs.declared.bill_fault.BillFault.{BillFault}
@@ -47,8 +47,8 @@ Tells P v r = MatchResult r (P v) (λ why. ⊥)
 
 pub asked_call : {A : Type 0} (a b : Standing LedgerValue) (day : ℕ) (P : LedgerValue → A → Type 0) (result : Result A Fault) → Reads a b (P a.value) result
     → Calls a b (fault_in (as_asked result)) ((b.value ≡ a.value) × (a.value.start ≤ day → Answered (Tells P a.value) (as_asked result))) (λ v. ⊥)
-asked_call a b day P (Ok x) c = record { value = λ live lawful. let is = c.value live lawful in (is.0, (is.1.0, λ le. is.1.1)); stop = c.stop; clean = c.clean; live = c.live; stays = c.stays; cause = c.cause }
-asked_call a b day P (Err f) c = record { value = λ live lawful. let is = c.value live lawful in (is.0, (is.1.0, λ le. tt)); stop = c.stop; clean = c.clean; live = c.live; stays = c.stays; cause = c.cause }
+asked_call a b day P (Ok x) c = record { value = λ live lawful. let is = c.value live lawful in (is.0, (is.1.0, λ le. is.1.1)); stop = c.stop; lasts = c.lasts; clean = c.clean; live = c.live; stays = c.stays; cause = c.cause }
+asked_call a b day P (Err f) c = record { value = λ live lawful. let is = c.value live lawful in (is.0, (is.1.0, λ le. tt)); stop = c.stop; lasts = c.lasts; clean = c.clean; live = c.live; stays = c.stays; cause = c.cause }
 
 module _ {O L A : Type 0} (outbox : O → Standing OutboxValue) (ledger : L → Standing LedgerValue) (old new : Hub O L) (owner : ℕ) (r : ReplacesLedger old new owner) (same_outbox : new.outbox ≡ old.outbox) (sound_ledger : IsSound (ledger r.own_old)) (P : LedgerValue → A → Type 0) (result : Result A Fault)
     (call : Reads (ledger r.own_old) (ledger r.own_new) (P (ledger r.own_old).value) result) where

@@ -1,5 +1,6 @@
 pub mod Course
 pub mod Stores
+pub mod Reopening
 pub mod Running
 pub mod Boundaries
 pub mod Promises

@@ -7,6 +7,7 @@ ghost use Rattle.fare_history.specs.Stores.{StoresValue};
 ghost use Rattle.fare_store.specs.Standing.{IsSound};
 ghost use Rattle.fare_sessions.specs.Course.{Shows, no_tally};
 ghost use Rattle.fare_sessions.specs.Stores.{HasLedgers, AreClean, AreLive, AreSound, StoresFollow, MayStandAs, IsAgreed, HasGrown, held_by_all};
+ghost use Rattle.fare_sessions.specs.Reopening.{AreLasting, AreOwned};
 ghost use Rattle.fare_sessions.specs.Running.{AreRunnable, HaveAllRun};
 ghost use Rattle.fare_sessions.specs.Promises.{GaveOf, AreCovered, ran, AreInOrder, AreUntouched, IsAdded, CameOf};
 
@@ -63,6 +64,8 @@ impl<O: Outbox + Send, L: Ledger + Send> Hub<O, L> {
         ensures scheme { self.new.scheme ≡ self.old.scheme }
         ensures follow { StoresFollow O.standing L.standing self.old self.new }
         ensures sound { AreClean O.standing L.standing self.new → AreSound O.standing L.standing self.old → AreSound O.standing L.standing self.new }
+        ensures lasting { AreClean O.standing L.standing self.new → AreSound O.standing L.standing self.old → AreLasting O.standing L.standing self.old → AreLasting O.standing L.standing self.new }
+        ensures owned { AreClean O.standing L.standing self.new → AreSound O.standing L.standing self.old → AreOwned O.standing L.standing self.old → AreOwned O.standing L.standing self.new }
         ensures agrees { AreClean O.standing L.standing self.new → AreSound O.standing L.standing self.old → (lists : ℕ → List RecordValue) → AreNumberedLists self.old.scheme lists → GaveOf S.talk self.old.scheme lists sessions.old sessions.new → IsAgreed O.standing L.standing lists self.old → IsAgreed O.standing L.standing lists self.new }
         ensures grows { AreClean O.standing L.standing self.new → AreSound O.standing L.standing self.old → (lists : ℕ → List RecordValue) → AreNumberedLists self.old.scheme lists → GaveOf S.talk self.old.scheme lists sessions.old sessions.new → IsAgreed O.standing L.standing lists self.old → HasGrown O.standing L.standing self.old self.new }
         ensures covered { AreClean O.standing L.standing self.new → AreSound O.standing L.standing self.old → (lists : ℕ → List RecordValue) → AreNumberedLists self.old.scheme lists → GaveOf S.talk self.old.scheme lists sessions.old sessions.new → IsAgreed O.standing L.standing lists self.old → (k : StoresValue) → MayStandAs O.standing L.standing self.new k → AreCovered S.talk self.old.scheme k.outbox sessions.old sessions.new }

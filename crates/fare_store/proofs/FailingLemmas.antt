@@ -24,6 +24,7 @@ pub passed_on : {V : Type 0} (left after : ℕ) (old new : Standing V) (f : Opti
 passed_on left after old new f did commits one_less other c = record {
   value = c.value;
   stop = c.stop;
+  lasts = c.lasts;
   clean = c.clean;
   live = c.live;
   stays = c.stays;

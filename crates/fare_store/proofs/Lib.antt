@@ -2,6 +2,7 @@ pub mod FailingLemmas
 pub mod PlainLemmas
 pub mod Tables
 pub mod Keys
+pub mod Readings
 pub mod Rows
 pub mod Lanes
 pub mod NextRows

@@ -19,6 +19,7 @@ pub plain_call : {V : Type 0} (old new : V) (f : Option Fault) (did : Type 0) (c
 plain_call old new f did commits not d kept = record {
   value = λ live lawful. (tt, d);
   stop = λ clean lawful v is. elim kept [ inl same ↦ inl (is ∙ same) | inr done ↦ inr (tt, subst commits (sym is) done) ];
+  lasts = λ clean lawful lasting. tt;
   clean = λ h. h;
   live = λ h. h;
   stays = λ e clean. tt;

@@ -18,6 +18,8 @@ pub record Standing (V : Type 0) : Type 1 where
   pub failures : ℕ
   -- what an open after a stop at this moment may find
   pub may_leave : V → Type 0
+  -- whatever that is, it fits together, so that an open takes it
+  pub lasting : Type 0
 
 -- the count of failures rises where the answer is Store, up to the greatest count, and nowhere else
 abbrev pub Counted : ℕ → ℕ → Option Fault → Type 0
@@ -32,6 +34,8 @@ pub record Calls {V : Type 0} (old new : Standing V) (faulted : Option Fault) (d
   pub value : new.live → old.lawful → new.lawful × did
   -- a stop leaves what it could have left before the call, or what the call commits
   pub stop : new.clean → (old.live → old.lawful) → (v : V) → new.may_leave v → old.may_leave v ⊎ (old.live × commits v)
+  -- and that fits together as before
+  pub lasts : new.clean → (old.live → old.lawful) → old.lasting → new.lasting
   -- what is spoiled or shut stays so
   pub clean : new.clean → old.clean
   pub live : new.live → old.live
@@ -40,11 +44,18 @@ pub record Calls {V : Type 0} (old new : Standing V) (faulted : Option Fault) (d
   -- Store is answered only where the count of failures rises
   pub cause : Counted old.failures new.failures faulted
 
--- the laws of a store: while it is live it is clean, and a stop leaves what it holds; and a stop leaves something as long as it is clean, also once a failure has shut it
+-- the laws of a store: while it is live it is clean, and a stop leaves what it holds, which fits together where the store is lawful; and a stop leaves something as long as it is clean, also once a failure has shut it
 pub record IsSound {V : Type 0} (s : Standing V) : Type 0 where
   pub clean : s.live → s.clean
   pub settled : s.live → s.lawful → (v : V) → s.may_leave v → v ≡ s.value
+  pub lasting : s.live → s.lawful → s.lasting
   pub some : s.clean → ∥ ((v : V) × s.may_leave v) ∥₁
+
+-- a store was opened again after a stop: it is live and lawful, and holds what the stop might have left
+pub record Reopens {V : Type 0} (old new : Standing V) : Type 0 where
+  pub live : new.live
+  pub lawful : new.lawful
+  pub value : old.may_leave new.value
 
 -- the fault of an answer, if it is one
 abbrev pub fault_of : {A : Type 0} → Result A Fault → Option Fault
@@ -81,4 +92,4 @@ Removes old new done count result = Calls old new (fault_of result) (Counts old.
 
 -- a store in memory: nothing spoils it, and a stop leaves what it holds
 abbrev pub plain : {V : Type 0} → V → Standing V
-plain v = record { value = v; clean = Unit {0}; live = Unit {0}; lawful = Unit {0}; failures = 0; may_leave = λ w. w ≡ v }
+plain v = record { value = v; clean = Unit {0}; live = Unit {0}; lawful = Unit {0}; failures = 0; may_leave = λ w. w ≡ v; lasting = Unit {0} }

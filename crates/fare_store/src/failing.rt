@@ -39,7 +39,7 @@ pub(crate) fn fails_now(left: &mut u64) -> bool
 impl<O: Outbox> Outbox for FailingOutbox<O> {
     ghost standing = { λ s. failing s.left (O.standing s.outbox) };
 
-    ghost sound = { λ s. record { clean = (O.sound s.outbox).clean; settled = (O.sound s.outbox).settled; some = (O.sound s.outbox).some } };
+    ghost sound = { λ s. record { clean = (O.sound s.outbox).clean; settled = (O.sound s.outbox).settled; lasting = (O.sound s.outbox).lasting; some = (O.sound s.outbox).some } };
 
     fn is_empty(&mut self) -> Result<bool, Fault> {
         if fails_now(&mut self.left) {

@@ -35,7 +35,7 @@ impl FailingLedger {
 impl Ledger for FailingLedger {
     ghost standing = { λ l. failing l.left (plain (plain_ledger l.ledger)) };
 
-    ghost sound = { λ l. record { clean = λ h. h; settled = λ live lawful v e. e; some = λ clean. ∣ (plain_ledger l.ledger, refl) ∣₁ } };
+    ghost sound = { λ l. record { clean = λ h. h; settled = λ live lawful v e. e; lasting = λ live lawful. tt; some = λ clean. ∣ (plain_ledger l.ledger, refl) ∣₁ } };
 
     fn owner(&self) -> OwnerId {
         self.ledger.owner()

@@ -68,6 +68,7 @@ pub trait Ledger {
     fn taps_between(&mut self, from: Day, to: Day) -> Result<Vec<Record>, Fault>
         ensures { Reads (standing self.old) (standing self.new) (λ taps. AreTapsBetween (standing self.old).value from to taps.items) result };
 
-    /// While it is live it is clean, and a stop leaves what it holds; while it is clean, a stop leaves something.
+    /// While it is live it is clean, and a stop leaves what it holds, which fits together where it is lawful; while it
+    /// is clean, a stop leaves something.
     ghost sound: { (s : Self) → IsSound (standing s) };
 }

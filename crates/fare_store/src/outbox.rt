@@ -55,6 +55,7 @@ pub trait Outbox {
     fn prune(&mut self, owner: OwnerId, device: DeviceId, upto: u64) -> Result<u64, Fault>
         ensures { Removes (standing self.old) (standing self.new) (pruned owner device upto (standing self.old).value) (rows_upto upto ((standing self.old).value.rows owner device)) result };
 
-    /// While it is live it is clean, and a stop leaves what it holds; while it is clean, a stop leaves something.
+    /// While it is live it is clean, and a stop leaves what it holds, which fits together where it is lawful; while it
+    /// is clean, a stop leaves something.
     ghost sound: { (s : Self) → IsSound (standing s) };
 }

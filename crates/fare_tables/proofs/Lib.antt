@@ -3,6 +3,7 @@ pub mod Questions
 pub mod Statements
 pub mod Making
 pub mod Terms
+pub mod Reopened
 pub mod Rows
 pub mod Counting
 pub mod Least

@@ -1,20 +1,24 @@
 -- One call on a connection as a call of a store, and several in turn.
-use Rattle.std.proofs.Common.{◌≡◌, inl, inr, ℕ, Ok, Err, Some, None, refl, sym, ap, subst, ◌∙◌, arith}
+use Rattle.std.proofs.Common.{◌≡◌, inl, inr, ℕ, Ok, Err, Some, None, sym, ap, subst, ◌∙◌, arith}
 use Rattle.std.specs.Prelude.{Option, Result, IfOk, IsErrAnd, IsTrue}
 use Rattle.sqlite_trees.specs.Tree.{Trees}
 use Rattle.sqlite.specs.Schema.{Schema}
-use Rattle.sqlite.specs.Effect.{Database}
+use Rattle.sqlite.specs.Effect.{Database, IsDatabase}
 use Rattle.sqlite.specs.State.{State, Survives, HasCleanDisk}
 use Rattle.fare_store.specs.declared.fault.Fault.{Fault}
 use Rattle.fare_store.specs.Standing.{Standing, Calls, Counted, Counts, Reads, Removes, fault_of}
+pub use Rattle.fare_store.proofs.Readings.{read_then, read_failed, says}
 use Rattle.fare_tables.specs.Asking.{IsLive, IsUp, SameRows, IsAtRest}
-use Rattle.fare_tables.specs.Tabled.{IsFit, tabled, given}
+use Rattle.fare_tables.specs.Tabled.{IsFit, IsLawfulIn, IsLeft, tabled, given}
 
 pub same_rest : (schema : Schema) (old new : State) → SameRows old new → IsAtRest schema old → IsAtRest schema new
 same_rest schema old new same rest = record { settled = same.0 ∙ rest.settled ∙ sym same.1; schema_is = ap (λ (d : Database). d.schema) same.0 ∙ rest.schema_is }
 
 pub was_clean : (old new : State) (P : Trees → Type 0) → Survives old new P → HasCleanDisk new → HasCleanDisk old
 was_clean old new P survives clean = let later = survives.clean in let now = clean in omega (arith, later, now)
+
+pub same_database : (old new : State) → SameRows old new → IsDatabase old.now → IsDatabase new.now
+same_database old new same database = subst IsDatabase (sym same.0) database
 
 module _ {V : Type 0} (schema : Schema) (value : Trees → V) where
   pub same_at : (old new : State) → SameRows old new → value new.now.trees ≡ value old.now.trees
@@ -23,8 +27,11 @@ module _ {V : Type 0} (schema : Schema) (value : Trees → V) where
   pub same_fit : (Fits : Trees → Type 0) (old new : State) → SameRows old new → IsFit schema Fits old → IsFit schema Fits new
   same_fit Fits old new same fit = record { rest = same_rest schema old new same fit.rest; fits = subst (λ (d : Database). Fits d.trees) (sym same.0) fit.fits }
 
+  same_lawful : (Fits : Trees → Type 0) (old new : State) → SameRows old new → IsLawfulIn schema Fits old → IsLawfulIn schema Fits new
+  same_lawful Fits old new same lawful = record { fit = same_fit Fits old new same lawful.fit; database = same_database old new same lawful.database }
+
   -- a question to a connection that is open, if it is clean
-  pub read_step : (Fits : Trees → Type 0) (old new : State) (n m : ℕ) (f : Option Fault) (did : Type 0)
+  pub read_step : (Fits Alone : Trees → Type 0) (old new : State) (n m : ℕ) (f : Option Fault) (did : Type 0)
       → IsUp old
       → (IsLive new → IsFit schema Fits old → did)
       → (IsLive new → IsAtRest schema old → SameRows old new)
@@ -32,103 +39,90 @@ module _ {V : Type 0} (schema : Schema) (value : Trees → V) where
       → (IsLive new → IsLive old)
       → (f ≡ None → HasCleanDisk new → IsTrue new.is_open)
       → Counted n m f
-      → Calls (tabled schema value Fits old n) (tabled schema value Fits new m) f ((value new.now.trees ≡ value old.now.trees) × did) (λ v. ⊥)
-  read_step Fits old new n m f did up answers same survives live stays cause = record {
-    value = λ now fit. (same_fit Fits old new (same now fit.rest) fit, (same_at old new (same now fit.rest), answers now fit));
-    stop = λ clean lawful v leaves.
-        let before = was_clean old new _ survives clean in
-        elim (survives.crash clean leaves.0 leaves.1) [
-          | inl was ↦ inl (leaves.0, was, leaves.2)
-          | inr not_at_rest ↦ absurd (not_at_rest (lawful (before, up before)).rest)
-        ];
+      → Calls (tabled schema value Fits Alone old n) (tabled schema value Fits Alone new m) f ((value new.now.trees ≡ value old.now.trees) × did) (λ v. ⊥)
+  read_step Fits Alone old new n m f did up answers same survives live stays cause = record {
+    value = λ now lawful. let rows = same now lawful.fit.rest in (same_lawful Fits old new rows lawful, (same_at old new rows, answers now lawful.fit));
+    stop = λ clean lawful v leaves. inl (leaves.0, left clean lawful leaves.0 leaves.1, leaves.2);
+    lasts = λ clean lawful lasting. record { each = λ trees leaves. lasting.each trees (left clean lawful trees leaves) };
     clean = λ clean. was_clean old new _ survives clean;
     live = live;
     stays = λ e clean. (clean, stays e clean);
     cause = cause;
   }
+    where
+      left : HasCleanDisk new → (IsLive old → IsLawfulIn schema Fits old) → (trees : Trees) → new.may_leave trees → old.may_leave trees
+      left clean lawful trees leaves =
+          let before = was_clean old new _ survives clean in
+          elim (survives.crash clean trees leaves) [
+            | inl was ↦ was
+            | inr not_at_rest ↦ absurd (not_at_rest (lawful (before, up before)).fit.rest)
+          ]
 
   -- a call that commits nothing, whatever the connection is
-  pub touch_step : (Fits : Trees → Type 0) (old new : State) (n m : ℕ) (f : Option Fault)
+  pub touch_step : (Fits Alone : Trees → Type 0) (old new : State) (n m : ℕ) (f : Option Fault)
       → (IsLive new → old.now ≡ old.committed → SameRows old new)
       → Survives old new (λ _. ⊥)
       → (IsLive new → IsLive old)
       → (f ≡ None → HasCleanDisk new → IsTrue new.is_open)
       → Counted n m f
-      → Calls (tabled schema value Fits old n) (tabled schema value Fits new m) f ((value new.now.trees ≡ value old.now.trees) × Unit {0}) (λ v. ⊥)
-  touch_step Fits old new n m f same survives live stays cause = record {
-    value = λ now fit. let rows = same now fit.rest.settled in (same_fit Fits old new rows fit, (same_at old new rows, tt));
-    stop = λ clean lawful v leaves.
-        elim (survives.crash clean leaves.0 leaves.1) [
-          | inl was ↦ inl (leaves.0, was, leaves.2)
-          | inr none ↦ absurd none
-        ];
+      → Calls (tabled schema value Fits Alone old n) (tabled schema value Fits Alone new m) f ((value new.now.trees ≡ value old.now.trees) × Unit {0}) (λ v. ⊥)
+  touch_step Fits Alone old new n m f same survives live stays cause = record {
+    value = λ now lawful. let rows = same now lawful.fit.rest.settled in (same_lawful Fits old new rows lawful, (same_at old new rows, tt));
+    stop = λ clean lawful v leaves. inl (leaves.0, left clean leaves.0 leaves.1, leaves.2);
+    lasts = λ clean lawful lasting. record { each = λ trees leaves. lasting.each trees (left clean trees leaves) };
     clean = λ clean. was_clean old new _ survives clean;
     live = live;
     stays = λ e clean. (clean, stays e clean);
     cause = cause;
   }
+    where
+      left : HasCleanDisk new → (trees : Trees) → new.may_leave trees → old.may_leave trees
+      left clean trees leaves = elim (survives.crash clean trees leaves) [
+        | inl was ↦ was
+        | inr none ↦ absurd none
+      ]
 
   -- a transaction on a connection that is open, if it is clean
-  pub write_step : (Before After : Trees → Type 0) (old new : State) (n m : ℕ) (f : Option Fault) (fact did : Type 0) (done : V) (Wrote : Trees → Type 0)
+  pub write_step : (Before After Alone : Trees → Type 0) (old new : State) (n m : ℕ) (f : Option Fault) (fact did : Type 0) (done : V) (Wrote : Trees → Type 0)
       → IsUp old
       → (IsLive new → IsFit schema Before old × fact → IsFit schema After new × did)
+      → (IsLive new → IsFit schema Before old → IsDatabase old.now → IsDatabase new.now)
       → Survives old new Wrote
-      → (IsFit schema Before old → (trees : Trees) → Wrote trees → fact → value trees ≡ done)
+      → (IsFit schema Before old → (trees : Trees) → Wrote trees → fact → (value trees ≡ done) × IsLeft schema Alone trees)
       → (IsLive new → IsLive old)
       → (f ≡ None → HasCleanDisk new → IsTrue new.is_open)
       → Counted n m f
-      → Calls (given fact (tabled schema value Before old n)) (tabled schema value After new m) f did (λ v. v ≡ done)
-  write_step Before After old new n m f fact did done Wrote up does survives commits live stays cause = record {
-    value = does;
-    stop = λ clean lawful v leaves.
-        let before = was_clean old new _ survives clean in
-        let fit = lawful (before, up before) in
-        elim (survives.crash clean leaves.0 leaves.1) [
-          | inl was ↦ inl (leaves.0, was, leaves.2)
-          | inr wrote ↦ inr ((before, up before), sym leaves.2 ∙ commits fit.0 leaves.0 wrote fit.1)
-        ];
+      → Calls (given fact (tabled schema value Before Alone old n)) (tabled schema value After Alone new m) f did (λ v. v ≡ done)
+  write_step Before After Alone old new n m f fact did done Wrote up does obeys survives commits live stays cause = record {
+    value = λ now known. let did = does now (known.0.fit, known.1) in (record { fit = did.0; database = obeys now known.0.fit known.0.database }, did.1);
+    stop = λ clean lawful v leaves. elim (survives.crash clean leaves.0 leaves.1) [
+      | inl was ↦ inl (leaves.0, was, leaves.2)
+      | inr wrote ↦ inr (was_live clean, sym leaves.2 ∙ (left clean lawful leaves.0 wrote).0)
+    ];
+    lasts = λ clean lawful lasting. record {
+      each = λ trees leaves. elim (survives.crash clean trees leaves) [
+        | inl was ↦ lasting.each trees was
+        | inr wrote ↦ (left clean lawful trees wrote).1
+      ];
+    };
     clean = λ clean. was_clean old new _ survives clean;
     live = live;
     stays = λ e clean. (clean, stays e clean);
     cause = cause;
   }
+    where
+      was_live : HasCleanDisk new → IsLive old
+      was_live clean = let before = was_clean old new _ survives clean in (before, up before)
 
--- reads that answered, and then a read
-pub read_then : {V : Type 0} (a b c : Standing V) (P Q : Type 0) (f : Option Fault) → Calls a b None ((b.value ≡ a.value) × P) (λ v. ⊥) → Calls b c f ((c.value ≡ b.value) × Q) (λ v. ⊥) → Calls a c f ((c.value ≡ a.value) × ((b.value ≡ a.value) × P × Q)) (λ v. ⊥)
-read_then a b c P Q f first second = record {
-  value = λ live lawful.
-      let one = first.value (second.live live) lawful in
-      let two = second.value live one.0 in
-      (two.0, (two.1.0 ∙ one.1.0, (one.1.0, one.1.1, two.1.1)));
-  stop = λ clean lawful v leaves. elim (second.stop clean (λ live. (first.value live (lawful (first.live live))).0) v leaves) [
-    | inl before ↦ first.stop (second.clean clean) lawful v before
-    | inr none ↦ absurd none.1
-  ];
-  clean = λ h. first.clean (second.clean h);
-  live = λ h. first.live (second.live h);
-  stays = second.stays;
-  cause = subst (λ n. Counted n c.failures f) first.cause second.cause;
-}
-
--- the same call, of which something else is said
-pub says : {V : Type 0} (a b : Standing V) (f : Option Fault) (P Q : Type 0) (C D : V → Type 0) → (a.lawful → P → Q) → ((v : V) → C v → D v) → Calls a b f P C → Calls a b f Q D
-says a b f P Q C D say commits c = record {
-  value = λ live lawful. let is = c.value live lawful in (is.0, say lawful is.1);
-  stop = λ clean lawful v leaves. elim (c.stop clean lawful v leaves) [
-    | inl was ↦ inl was
-    | inr new ↦ inr (new.0, commits v new.1)
-  ];
-  clean = c.clean;
-  live = c.live;
-  stays = c.stays;
-  cause = c.cause;
-}
+      left : HasCleanDisk new → (IsLive old → IsLawfulIn schema Before old × fact) → (trees : Trees) → Wrote trees → (value trees ≡ done) × IsLeft schema Alone trees
+      left clean lawful trees wrote = let known = lawful (was_live clean) in commits known.0.fit trees wrote known.1
 
 -- a call that asks less
 pub given_more : {V : Type 0} (b c : Standing V) (less more did : Type 0) (f : Option Fault) (commits : V → Type 0) → (more → less) → Calls (given less b) c f did commits → Calls (given more b) c f did commits
 given_more b c less more did f commits gives call = record {
   value = λ live lawful. call.value live (lawful.0, gives lawful.1);
   stop = λ clean lawful v leaves. call.stop clean (λ live. let it = lawful live in (it.0, gives it.1)) v leaves;
+  lasts = λ clean lawful lasting. call.lasts clean (λ live. let it = lawful live in (it.0, gives it.1)) lasting;
   clean = call.clean;
   live = call.live;
   stays = call.stays;
@@ -153,6 +147,7 @@ write_then a b c P did f C D commits first second = record {
     ])
     | inr wrote ↦ (let one = first.value wrote.0 (lawful (first.live wrote.0)) in inr (first.live wrote.0, commits one.1 v wrote.1))
   ];
+  lasts = λ clean lawful lasting. second.lasts clean (λ live. first.value live (lawful (first.live live))) (first.lasts (second.clean clean) lawful lasting);
   clean = λ h. first.clean (second.clean h);
   live = λ h. first.live (second.live h);
   stays = second.stays;
@@ -168,6 +163,7 @@ pub given_any : {V : Type 0} (b c : Standing V) (more did : Type 0) (f : Option 
 given_any b c more did f commits call = record {
   value = λ live lawful. call.value live lawful.0;
   stop = λ clean lawful v leaves. call.stop clean (λ live. (lawful live).0) v leaves;
+  lasts = λ clean lawful lasting. call.lasts clean (λ live. (lawful live).0) lasting;
   clean = call.clean;
   live = call.live;
   stays = call.stays;
@@ -178,6 +174,7 @@ pub given_none : {V : Type 0} (b c : Standing V) (did : Type 0) (f : Option Faul
 given_none b c did f commits call = record {
   value = λ live lawful. call.value live (lawful, tt);
   stop = λ clean lawful v leaves. call.stop clean (λ live. (lawful live, tt)) v leaves;
+  lasts = λ clean lawful lasting. call.lasts clean (λ live. (lawful live, tt)) lasting;
   clean = call.clean;
   live = call.live;
   stays = call.stays;
@@ -190,11 +187,6 @@ pub remove_on : {V : Type 0} (a b c : Standing V) (done : V → V) (count : V �
 remove_on {V} a b c done count r first second =
     says a c (fault_of r) _ _ (λ v. v ≡ done a.value) (λ v. v ≡ done a.value) (λ lawful p. subst (λ (v : V). Counts v c.value (done v) (count v) r) p.0 p.2) (λ v is. is)
     (write_then a b c (Unit {0}) (Counts b.value c.value (done b.value) (count b.value) r) (fault_of r) (λ v. v ≡ done b.value) (λ v. v ≡ done a.value) (λ p v is. is ∙ ap done p.0) first (given_any b c _ _ (fault_of r) _ second))
-
--- a read that failed, whatever else is said
-pub read_failed : {V A : Type 0} (a b : Standing V) (P : Type 0) (answer : A → Type 0) (r : Result A Fault) (f : Fault) → IsErrAnd r (λ q. q ≡ f) → Calls a b (Some f) ((b.value ≡ a.value) × P) (λ v. ⊥) → Reads a b answer r
-read_failed a b P answer (Ok x) f is c = absurd is
-read_failed a b P answer (Err q) f is c = subst (λ (z : Fault). Calls a b (Some z) ((b.value ≡ a.value) × Unit {0}) (λ v. ⊥)) (sym is) (record { value = λ live lawful. let did = c.value live lawful in (did.0, (did.1.0, tt)); stop = c.stop; clean = c.clean; live = c.live; stays = c.stays; cause = c.cause })
 
 -- a removal that failed before it began
 pub remove_failed : {V : Type 0} (a b : Standing V) (P : Type 0) (done : V) (count : ℕ) (r : Result ℕ Fault) (f : Fault) → IsErrAnd r (λ q. q ≡ f) → Calls a b (Some f) ((b.value ≡ a.value) × P) (λ v. ⊥) → Removes a b done count r

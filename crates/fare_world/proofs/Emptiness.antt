@@ -17,13 +17,14 @@ use Rattle.fare_world.proofs.TableLemmas.{set_cases, slice_get-set_same, slice_g
 
 -- a store that was not reached
 pub kept_itself : {V : Type 0} (s : Standing V) (f : Option Fault) → IsKept s s f
-kept_itself s f = record { same = λ live lawful. (lawful, refl); stop = λ clean lawful v leaves. leaves; live = λ h. h; clean = λ h. h; stays = λ e live clean. live; counts = λ not. refl }
+kept_itself s f = record { same = λ live lawful. (lawful, refl); stop = λ clean lawful v leaves. leaves; lasts = λ clean lawful lasting. lasting; live = λ h. h; clean = λ h. h; stays = λ e live clean. live; counts = λ not. refl }
 
 -- one that was asked
 pub kept_asked : {V : Type 0} (old new : Standing V) (f : Option Fault) (P : Type 0) → Calls old new f ((new.value ≡ old.value) × P) (λ v. ⊥) → IsKept old new f
 kept_asked {V} old new f P c = record {
   same = λ live lawful. let is = c.value live lawful in (is.0, is.1.0);
   stop = λ clean lawful v leaves. left (c.stop clean lawful v leaves);
+  lasts = c.lasts;
   live = c.live;
   clean = c.clean;
   stays = λ e live. c.stays e;
@@ -36,7 +37,7 @@ kept_asked {V} old new f P c = record {
 
 -- one that met no fault, told beside another that did
 pub kept_beside : {V : Type 0} (old new : Standing V) (f : Option Fault) → IsKept old new None → IsKept old new f
-kept_beside old new f k = record { same = k.same; stop = k.stop; live = k.live; clean = k.clean; stays = λ e. k.stays refl; counts = λ not. k.counts (λ e. absurd (cc)) }
+kept_beside old new f k = record { same = k.same; stop = k.stop; lasts = k.lasts; live = k.live; clean = k.clean; stays = λ e. k.stays refl; counts = λ not. k.counts (λ e. absurd (cc)) }
 
 -- the fault that `?` passed on
 pub fault_is : {A : Type 0} (r : Result A Fault) (f : Fault) → IsErrAnd r (λ q. q ≡ f) → fault_of r ≡ Some f

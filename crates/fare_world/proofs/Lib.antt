@@ -45,8 +45,7 @@ pub mod ShowAsk
 pub mod MayFail
 pub mod Running
 pub mod Resuming
-pub mod ReadsThen
-pub mod Stating
+pub mod Told
 pub mod Pairs
 pub mod Emptiness
 pub mod Queues

@@ -31,7 +31,7 @@ use Rattle.fare_world.specs.Knowing.{knows_owner}
 use Rattle.fare_world.specs.Tapping.{is_waiting, turned, turn_on, turn, state_on, state}
 use Rattle.fare_world.specs.Arriving.{without, statement_refusal_of, statement_comes, heard_day, comes}
 use Rattle.fare_world.specs.Storing.{gains_answer, are_all_held, day_ack_by, day_ack}
-use Rattle.fare_world.specs.Acknowledging.{are_all_stated}
+use Rattle.fare_route.specs.Stating.{are_all_stated}
 use Rattle.fare_world.specs.Kept.{IsSystem, IsTurned, IsDayAck, IsPacket}
 use Rattle.fare_world.specs.Shown.{statement_of, IsStatementOf, IsPacketOf, IsArrivedOf, IsDeviceOf, count_of, StationShape, Shape, Shows}
 use Rattle.fare_world.proofs.Known.{no_station}

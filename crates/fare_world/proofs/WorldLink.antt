@@ -13,7 +13,8 @@ use Rattle.fare_frame.specs.Grammar.{frame_bytes, IsFrame}
 use Rattle.fare_record.specs.declared.ack_item.AckItem.{AckItem}
 use Rattle.fare_record.specs.declared.ack_item.AckItem.TheVariants as ack_item
 use Rattle.fare_event.specs.declared.reply.Reply.{Reply}
-use Rattle.fare_world.specs.Acknowledging.{are_all_stated, answered_by}
+use Rattle.fare_route.specs.Stating.{are_all_stated}
+use Rattle.fare_world.specs.Acknowledging.{answered_by}
 use Rattle.fare_frame.specs.Grammar.{frame_of}
 use Rattle.fare_event.specs.declared.reply.Refusal.{Refusal}
 use Rattle.fare_event.specs.declared.reply.Refusal.TheVariants.{Busy}

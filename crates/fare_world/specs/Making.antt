@@ -13,10 +13,11 @@ use Rattle.fare_world.specs.declared.world.WorldFault.{WorldFault}
 use Rattle.fare_world.specs.declared.world.WorldFault.TheVariants as world
 use Rattle.fare_world.specs.Restarts.{Paired, Rose}
 
--- a store that was asked whether it is empty, or that was not reached: while it is live it holds what it held, a stop leaves what it could have left, and its failures are counted as ever
+-- a store that was asked whether it is empty, or that was not reached: while it is live it holds what it held, a stop leaves what it could have left, which fits together as before, and its failures are counted as ever
 pub record IsKept {V : Type 0} (old new : Standing V) (faulted : Option Fault) : Type 0 where
   pub same : new.live → old.lawful → new.lawful × (new.value ≡ old.value)
   pub stop : new.clean → (old.live → old.lawful) → (v : V) → new.may_leave v → old.may_leave v
+  pub lasts : new.clean → (old.live → old.lawful) → old.lasting → new.lasting
   pub live : new.live → old.live
   pub clean : new.clean → old.clean
   pub stays : faulted ≡ None → old.live → new.clean → new.live

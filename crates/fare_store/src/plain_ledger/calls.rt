@@ -10,7 +10,7 @@ use fare_record::{Day, DeviceId, OwnerId, Record, Statement};
 impl Ledger for PlainLedger {
     ghost standing = { λ l. plain (plain_ledger l) };
 
-    ghost sound = { λ l. record { clean = λ h. h; settled = λ live lawful v e. e; some = λ clean. ∣ (plain_ledger l, refl) ∣₁ } };
+    ghost sound = { λ l. record { clean = λ h. h; settled = λ live lawful v e. e; lasting = λ live lawful. tt; some = λ clean. ∣ (plain_ledger l, refl) ∣₁ } };
 
     fn owner(&self) -> OwnerId {
         self.owner

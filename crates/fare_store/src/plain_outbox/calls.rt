@@ -9,7 +9,7 @@ use fare_record::{Day, DeviceId, OwnerId, Record, Statement};
 impl Outbox for PlainOutbox {
     ghost standing = { λ o. plain (plain_outbox o) };
 
-    ghost sound = { λ o. record { clean = λ h. h; settled = λ live lawful v e. e; some = λ clean. ∣ (plain_outbox o, refl) ∣₁ } };
+    ghost sound = { λ o. record { clean = λ h. h; settled = λ live lawful v e. e; lasting = λ live lawful. tt; some = λ clean. ∣ (plain_outbox o, refl) ∣₁ } };
 
     fn is_empty(&mut self) -> Result<bool, Fault> {
         Ok(self.holds_nothing())

@@ -1,9 +1,8 @@
 ghost use Rattle.std.specs.Prelude.{◌≡◌, Some};
-ghost use Rattle.fare_store.specs.Standing.{Reads};
 ghost use Rattle.fare_world.specs.System.{Acked, DayAcked};
 ghost use Rattle.fare_world.specs.Arriving.{comes};
 ghost use Rattle.fare_world.specs.Kept.{IsAck, IsDayAck};
-ghost use Rattle.fare_world.specs.Acknowledging.{are_all_stated, answered_by};
+ghost use Rattle.fare_world.specs.Acknowledging.{answered_by};
 ghost use Rattle.fare_world.specs.Whole.{Applied, Does};
 ghost use Rattle.fare_event.specs.declared.event.Event.TheVariants as event;
 
@@ -12,7 +11,7 @@ use crate::world::World;
 use fare_event::{Refusal, Reply};
 use fare_frame::Frame;
 use fare_record::{Ack, AckItem, Day, DayAck, DeviceId, StationId};
-use fare_scheme::Scheme;
+use fare_route::are_stated;
 use fare_store::{Fault, Ledger, Outbox};
 
 impl<O: Outbox + Drop, L: Ledger + Drop> World<O, L> {
@@ -115,27 +114,4 @@ fn answered(packet: u64, answer: &AckItem) -> Reply
             day: ack.day(),
         },
     }
-}
-
-// Whether the outbox holds a device's statements of a day for all owners.
-fn are_stated<O: Outbox>(
-    scheme: &Scheme,
-    outbox: &mut O,
-    device: DeviceId,
-    day: Day,
-) -> Result<bool, Fault>
-    ensures { Reads (O.standing outbox.old) (O.standing outbox.new) (λ all. all ≡ are_all_stated scheme.now (O.standing outbox.old).value device day) result }
-{
-    for place in 0..scheme.owner_count() {
-        let Some(owner) = scheme.owner_at(place) else {
-            unreachable!()
-        };
-        let Some(statement) = outbox.next_statement(owner, device, day)? else {
-            return Ok(false);
-        };
-        if statement.day() != day {
-            return Ok(false);
-        }
-    }
-    Ok(true)
 }

@@ -1,12 +1,13 @@
-use Rattle.std.proofs.Common.{◌≡◌, ◌∷◌, ◌++◌, [], List, true, false, refl, sym, ap, subst, ◌∙◌, append_assoc, rules}
+use Rattle.std.proofs.Common.{◌≡◌, Err, ◌∷◌, ◌++◌, [], List, true, false, refl, sym, ap, subst, ◌∙◌, append_assoc, rules}
 use Rattle.std.proofs.lemmas.List.{append-nil}
 use Rattle.std.proofs.lemmas.Map.Iter.{rest_more}
 use Rattle.std.specs.Map.Iter.{deref}
 use Rattle.std.specs.Prelude.{Ok, Bool}
 use Rattle.fare_record.specs.declared.ack_item.AckItem.TheVariants.{Day}
 use Rattle.fare_store.specs.Keys.{Key}
-use Rattle.fare_collect.specs.Gathering.{are_all_stated}
-use Rattle.fare_collect.specs.Writing.{Asks}
+use Rattle.fare_store.specs.Standing.{Reads}
+use Rattle.fare_route.specs.Stating.{are_all_stated}
+use Rattle.fare_collect.proofs.Asked.{asks_of}
 use Rattle.fare_collect.specs.Ending.{AreSent}
 use Rattle.fare_collect.specs.Noting.{day_acks, AreNoted}
 use Rattle.fare_collect.proofs.Last.{have_none, have_more, have_same, have_failed, asked_failed, day_told, day_untold, days_append, stations_after}
@@ -26,7 +27,7 @@ returns-in-Err g c =
     let d = g.O.Outbox.standing c.are_stated.new.outbox in
     let k = c.in-Some.field-0.now in
     have_failed sc g.S.Source.talk (g.O.Outbox.standing c.args.outbox.now) b d c.args.stations.now c.loop-position.stations (λ x. day_acks sc x inv.0) (λ x. day_acks sc x c.args.days.now.keys) c.in-Err.fault inv.3
-    (asked_failed sc b d k c.in-Err.fault (g.met.O.Outbox.sound c.loop-position.outbox) c.in-Err.ensures.asks)
+    (asked_failed sc b d k c.in-Err.fault (g.met.O.Outbox.sound c.loop-position.outbox) (asks_of b d (λ all. all ≡ are_all_stated sc b.value k.1 k.2) (Err c.in-Err.fault) c.in-Err.ensures))
 
 pub send-requires-clause-order : goal.send-requires-clause-order
 send-requires-clause-order g c = stations_after c.args.scheme.now g.S.Source.talk c.loop-position.invariant.3.answers c.args.stations.now c.loop-position.stations c.requires.order c.loop-position.invariant.3.sent
@@ -49,14 +50,14 @@ loop-position-preserved-then-held g c =
     let next = c.send.new.stations in
     let k = c.in-Some.field-0.now in
     let rest : c.loop-position.position-iterator ≡ k ∷ c.next.new.self = rest_more deref _ _ _ _ c.in-Some.is c.next.ensures.steps in
-    let asks : Asks b d (λ all. all ≡ are_all_stated sc b.value k.1 k.2) (Ok true) = subst (λ (x : Bool). Asks b d (λ all. all ≡ are_all_stated sc b.value k.1 k.2) (Ok x)) c.if-held.true c.in-Ok.ensures.asks in
+    let asks : Reads b d (λ all. all ≡ are_all_stated sc b.value k.1 k.2) (Ok true) = subst (λ (x : Bool). Reads b d (λ all. all ≡ are_all_stated sc b.value k.1 k.2) (Ok x)) c.if-held.true c.in-Ok.ensures in
     let sent = subst (λ (v : _). AreSent sc talks (Day v ∷ []) now next) c.new.ensures c.send.ensures.sent in (
       inv.0 ++ k ∷ [],
       append_assoc inv.0 (k ∷ []) c.next.new.self ∙ (ap (λ (l : List Key). inv.0 ++ l) (sym rest) ∙ inv.1),
       noted_rest sc k c.next.new.self (subst (AreNoted sc) rest inv.2),
       have_same sc talks a d first next (λ x. day_acks sc x inv.0 ++ day_acks sc x (k ∷ [])) (λ x. day_acks sc x (inv.0 ++ k ∷ [])) (Ok tt) (λ x. days_append sc x inv.0 (k ∷ []))
           (have_more sc talks a b d first now next (λ x. day_acks sc x inv.0) (λ x. day_acks sc x (k ∷ [])) (Ok tt) inv.3
-          (day_told sc talks b d now next k (g.met.O.Outbox.sound c.loop-position.outbox) asks (c.in-Ok.ensures.live refl) c.send.ensures.known sent)).have,
+          (day_told sc talks b d now next k (g.met.O.Outbox.sound c.loop-position.outbox) (asks_of b d (λ all. all ≡ are_all_stated sc b.value k.1 k.2) (Ok true) asks) (λ clean. asks.live (asks.stays refl clean)) c.send.ensures.known sent)).have,
     )
 
 pub loop-position-preserved : goal.loop-position-preserved
@@ -71,13 +72,13 @@ loop-position-preserved g c =
     let now = c.loop-position.stations in
     let k = c.in-Some.field-0.now in
     let rest : c.loop-position.position-iterator ≡ k ∷ c.next.new.self = rest_more deref _ _ _ _ c.in-Some.is c.next.ensures.steps in
-    let asks : Asks b d (λ all. all ≡ are_all_stated sc b.value k.1 k.2) (Ok false) = subst (λ (x : Bool). Asks b d (λ all. all ≡ are_all_stated sc b.value k.1 k.2) (Ok x)) c.if-held.false c.in-Ok.ensures.asks in (
+    let asks : Reads b d (λ all. all ≡ are_all_stated sc b.value k.1 k.2) (Ok false) = subst (λ (x : Bool). Reads b d (λ all. all ≡ are_all_stated sc b.value k.1 k.2) (Ok x)) c.if-held.false c.in-Ok.ensures in (
       inv.0 ++ k ∷ [],
       append_assoc inv.0 (k ∷ []) c.next.new.self ∙ (ap (λ (l : List Key). inv.0 ++ l) (sym rest) ∙ inv.1),
       noted_rest sc k c.next.new.self (subst (AreNoted sc) rest inv.2),
       have_same sc talks a d first now (λ x. day_acks sc x inv.0 ++ day_acks sc x (k ∷ [])) (λ x. day_acks sc x (inv.0 ++ k ∷ [])) (Ok tt) (λ x. days_append sc x inv.0 (k ∷ []))
           (have_more sc talks a b d first now now (λ x. day_acks sc x inv.0) (λ x. day_acks sc x (k ∷ [])) (Ok tt) inv.3
-          (day_untold sc talks b d now k (g.met.O.Outbox.sound c.loop-position.outbox) asks (c.in-Ok.ensures.live refl))).have,
+          (day_untold sc talks b d now k (g.met.O.Outbox.sound c.loop-position.outbox) (asks_of b d (λ all. all ≡ are_all_stated sc b.value k.1 k.2) (Ok false) asks) (λ clean. asks.live (asks.stays refl clean)))).have,
     )
 
 pub returns : goal.returns

@@ -6,7 +6,9 @@ use Rattle.fare_inbox_queue.specs.declared.arrived.Arrived.TheVariants.{Tap, Sta
 use Rattle.fare_record.specs.declared.ack_item.AckItem.TheVariants.{Upto, Day}
 use Rattle.fare_collect.specs.declared.fault.WriterFault.{WriterFault}
 use Rattle.fare_collect.specs.declared.station.Teller.{Teller}
-use Rattle.fare_collect.specs.Gathering.{are_all_stated}
+use Rattle.fare_store.specs.Standing.{Reads}
+use Rattle.fare_route.specs.Stating.{are_all_stated}
+use Rattle.fare_collect.proofs.Asked.{asks_of}
 use Rattle.fare_collect.specs.Writing.{Puts}
 use Rattle.fare_collect.specs.Stations.{HasWritten}
 use Rattle.fare_collect.proofs.Told.{written_halt, written_full}
@@ -59,8 +61,8 @@ returns-in-Err-are_stated-clause-written g c =
     let s = c.in-Stated.statement in
     let sound = g.met.O.Outbox.sound c.put_item.new.outbox in
     let step : Counts sc c.args.item n0 n1 new = elim c.if-new.branch [ then-new w ↦ counted_new sc c.args.item n0 c.note.new.self w.count.new.self n1 new (when_noted c.note.result _ (sym c.is_err.ensures.value ∙ c.if-is_err.false) c.note.ensures.ok) c.note.ensures.stored w.if-new.true w.count.ensures.stored w.count.ensures.days w.tally-is | else-new w ↦ counted_old sc c.args.item n0 c.note.new.self n1 new (when_noted c.note.result _ (sym c.is_err.ensures.value ∙ c.if-is_err.false) c.note.ensures.ok) c.note.ensures.stored w.if-new.false w.tally-is ] in
-    let reads : Asks b d (λ held. held ≡ are_all_stated sc b.value s.device s.day) (Err c.in-Err-are_stated.fault) =
-    subst (λ (x : ℕ × ℕ). Asks b d (λ held. held ≡ are_all_stated sc b.value x.0 x.1) (Err c.in-Err-are_stated.fault)) (λ i. (c.device-device.ensures i, c.day-day.ensures i)) c.in-Err-are_stated.ensures.asks in
+    let reads = asks_of b d (λ held. held ≡ are_all_stated sc b.value s.device s.day) (Err c.in-Err-are_stated.fault)
+    (subst (λ (x : ℕ × ℕ). Reads b d (λ held. held ≡ are_all_stated sc b.value x.0 x.1) (Err c.in-Err-are_stated.fault)) (λ i. (c.device-device.ensures i, c.day-day.ensures i)) c.in-Err-are_stated.ensures) in
     subst (λ (f : WriterFault). HasWritten sc a d (c.args.item ∷ []) t t n0 n1 (Some (record { hand = None; fault = f }))) (sym c.writer_fault.ensures)
     (written_failed sc a b d c.args.item s new c.in-Err-are_stated.fault t n0 n1 sound c.in-Ok.ensures reads step)
 
@@ -81,8 +83,8 @@ returns-after-held-clause-written g c =
     let step : Counts sc c.args.item n0 n1 new = elim c.if-new.branch [ then-new w ↦ counted_new sc c.args.item n0 c.note.new.self w.count.new.self n1 new (when_noted c.note.result _ (sym c.is_err.ensures.value ∙ c.if-is_err.false) c.note.ensures.ok) c.note.ensures.stored w.if-new.true w.count.ensures.stored w.count.ensures.days w.tally-is | else-new w ↦ counted_old sc c.args.item n0 c.note.new.self n1 new (when_noted c.note.result _ (sym c.is_err.ensures.value ∙ c.if-is_err.false) c.note.ensures.ok) c.note.ensures.stored w.if-new.false w.tally-is ] in
     let counts : Counts sc (Stated station s) n0 n1 new = subst (λ (i : Arrived). Counts sc i n0 n1 new) c.in-Stated.is step in
     let puts : Puts a b (Stated station s) (Ok new) = subst (λ (i : Arrived). Puts a b i (Ok new)) c.in-Stated.is c.in-Ok.ensures in
-    let reads : Asks b d (λ all. all ≡ are_all_stated sc b.value s.device s.day) (Ok held) =
-    subst (λ (x : ℕ × ℕ). Asks b d (λ all. all ≡ are_all_stated sc b.value x.0 x.1) (Ok held)) (λ i. (c.device-device.ensures i, c.day-day.ensures i)) c.in-Ok-are_stated.ensures.asks in
+    let reads = asks_of b d (λ all. all ≡ are_all_stated sc b.value s.device s.day) (Ok held)
+    (subst (λ (x : ℕ × ℕ). Reads b d (λ all. all ≡ are_all_stated sc b.value x.0 x.1) (Ok held)) (λ i. (c.device-device.ensures i, c.day-day.ensures i)) c.in-Ok-are_stated.ensures) in
     subst (λ (i : Arrived). HasWritten sc a d (i ∷ []) t c.if-held.tellers n0 n1 None) (sym c.in-Stated.is)
     (elim c.if-held.branch [
       | then-held w ↦

@@ -3,7 +3,7 @@ use Rattle.std.specs.Prelude.{Option, Ok}
 use Rattle.fare_record.specs.Values.{RecordValue}
 use Rattle.fare_store.specs.OutboxWords.{OutboxValue, IsNextRow}
 use Rattle.fare_store.specs.Standing.{Reads}
-use Rattle.fare_world.proofs.ReadsThen.{reads_none, reads_since, since_calls, reads_say}
+use Rattle.fare_store.proofs.Readings.{reads_none, reads_since, since_calls, reads_say}
 use Rattle.fare_desk.specs.Showing.{HasFrom}
 use Rattle.fare_desk.proofs.Held.{Found, found_none, row_more, row_none}
 use Rattle.fare_desk.proofs.standing.rows_behind.Goals as goal

@@ -1,5 +1,5 @@
 use Rattle.std.proofs.Common.{◌+◌, ◌-◌, ◌<◌, ◌≤◌}
-use Rattle.fare_world.proofs.ReadsThen.{Since}
+use Rattle.fare_store.proofs.Readings.{Since}
 use Rattle.fare_desk.proofs.Held.{Found}
 use Rattle.fare_desk.proofs.standing.rows_behind.Given as goal
 

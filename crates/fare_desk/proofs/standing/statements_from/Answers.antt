@@ -3,7 +3,7 @@ use Rattle.std.specs.Prelude.{Option, Ok}
 use Rattle.fare_record.specs.Values.{StatementValue}
 use Rattle.fare_store.specs.OutboxWords.{OutboxValue, IsNextStatement}
 use Rattle.fare_store.specs.Standing.{Reads}
-use Rattle.fare_world.proofs.ReadsThen.{reads_none, reads_since, since_calls, reads_say}
+use Rattle.fare_store.proofs.Readings.{reads_none, reads_since, since_calls, reads_say}
 use Rattle.fare_sessions.proofs.Billed.{from_not_less}
 use Rattle.fare_desk.specs.Showing.{HasFrom, stated_days}
 use Rattle.fare_desk.proofs.Held.{Found, found_none, statement_more, statement_none}

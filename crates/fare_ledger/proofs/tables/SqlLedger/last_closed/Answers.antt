@@ -17,6 +17,6 @@ returns-in-Ok-clause-does g c =
     let known = knows self.devices in
     let v = value_at self.layout self.owner self.start known old.now.trees in
     let h = held_of (ours self.layout old.now.trees) in
-    read_step (schema_in self.layout) (value_at self.layout self.owner self.start known) (IsLawful self.layout self.owner self.start) old new self.failures self.failures None (c.in-Ok.day ≡ closed_through v c.args.device) c.requires
+    read_step (schema_in self.layout) (value_at self.layout self.owner self.start known) (IsLawful self.layout self.owner self.start) (IsLawful self.layout self.owner self.start) old new self.failures self.failures None (c.in-Ok.day ≡ closed_through v c.args.device) c.requires
     (λ live fit. c.in-Ok.ensures.value live (ready self.layout self.owner self.start old fit))
     c.read_last.ensures.same c.read_last.ensures.crash c.read_last.ensures.live (λ e. c.in-Ok.ensures.stays) refl

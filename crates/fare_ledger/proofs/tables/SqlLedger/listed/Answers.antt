@@ -18,6 +18,6 @@ returns-in-Ok-clause-does g c =
     let known = knows self.devices in
     let v = value_at self.layout self.owner self.start known old.now.trees in
     let h = held_of (ours self.layout old.now.trees) in
-    read_step (schema_in self.layout) (value_at self.layout self.owner self.start known) (IsLawful self.layout self.owner self.start) old new self.failures self.failures None (AreTapsBetween v c.args.from c.args.to c.in-Ok.taps.items) c.requires
+    read_step (schema_in self.layout) (value_at self.layout self.owner self.start known) (IsLawful self.layout self.owner self.start) (IsLawful self.layout self.owner self.start) old new self.failures self.failures None (AreTapsBetween v c.args.from c.args.to c.in-Ok.taps.items) c.requires
     (λ live fit. taps_between self.owner self.start known h c.args.from c.args.to c.in-Ok.taps.items fit.fits.together (c.in-Ok.ensures.value live (ready self.layout self.owner self.start old fit)))
     c.read_between.ensures.same c.read_between.ensures.crash c.read_between.ensures.live (λ e. c.in-Ok.ensures.stays) refl

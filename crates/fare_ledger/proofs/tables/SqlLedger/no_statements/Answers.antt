@@ -18,6 +18,6 @@ returns-in-Ok-clause-does g c =
     let known = knows self.devices in
     let v = value_at self.layout self.owner self.start known old.now.trees in
     let h = held_of (ours self.layout old.now.trees) in
-    read_step (schema_in self.layout) (value_at self.layout self.owner self.start known) (IsLawful self.layout self.owner self.start) old new self.failures self.failures None (IsTrue (c.in-Ok.statements == 0) ↔ AreUnstated v) c.requires
+    read_step (schema_in self.layout) (value_at self.layout self.owner self.start known) (IsLawful self.layout self.owner self.start) (IsLawful self.layout self.owner self.start) old new self.failures self.failures None (IsTrue (c.in-Ok.statements == 0) ↔ AreUnstated v) c.requires
     (λ live fit. unstated self.owner self.start known h c.in-Ok.statements (c.in-Ok.ensures.value live (ready self.layout self.owner self.start old fit)))
     c.count_statements.ensures.same c.count_statements.ensures.crash c.count_statements.ensures.live (λ e. c.in-Ok.ensures.stays) refl

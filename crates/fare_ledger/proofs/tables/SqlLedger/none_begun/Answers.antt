@@ -18,6 +18,6 @@ returns-in-Ok-clause-does g c =
     let known = knows self.devices in
     let v = value_at self.layout self.owner self.start known old.now.trees in
     let h = held_of (ours self.layout old.now.trees) in
-    read_step (schema_in self.layout) (value_at self.layout self.owner self.start known) (IsLawful self.layout self.owner self.start) old new self.failures self.failures None (IsTrue (c.in-Ok.begun == 0) ↔ AreUnbegun v) c.requires
+    read_step (schema_in self.layout) (value_at self.layout self.owner self.start known) (IsLawful self.layout self.owner self.start) (IsLawful self.layout self.owner self.start) old new self.failures self.failures None (IsTrue (c.in-Ok.begun == 0) ↔ AreUnbegun v) c.requires
     (λ live fit. unbegun self.owner self.start known h (ours self.layout old.now.trees 1) c.in-Ok.begun fit.fits.together refl fit.fits.readable.lanes (c.in-Ok.ensures.value live (ready self.layout self.owner self.start old fit)))
     c.count_begun.ensures.same c.count_begun.ensures.crash c.count_begun.ensures.live (λ e. c.in-Ok.ensures.stays) refl

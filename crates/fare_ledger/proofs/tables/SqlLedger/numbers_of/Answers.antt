@@ -17,6 +17,6 @@ returns-in-Ok-clause-does g c =
     let known = knows self.devices in
     let v = value_at self.layout self.owner self.start known old.now.trees in
     let h = held_of (ours self.layout old.now.trees) in
-    read_step (schema_in self.layout) (value_at self.layout self.owner self.start known) (IsLawful self.layout self.owner self.start) old new self.failures self.failures None (HasNumbers v c.args.device c.in-Ok.lane) c.requires
+    read_step (schema_in self.layout) (value_at self.layout self.owner self.start known) (IsLawful self.layout self.owner self.start) (IsLawful self.layout self.owner self.start) old new self.failures self.failures None (HasNumbers v c.args.device c.in-Ok.lane) c.requires
     (λ live fit. let is = c.in-Ok.ensures.value live (ready self.layout self.owner self.start old fit) in record { taken = ap (λ (l : Lane). l.taken) is ∙ fit.fits.together.counted c.args.device; closed = ap (λ (l : Lane). l.closed) is })
     c.read_lane.ensures.same c.read_lane.ensures.crash c.read_lane.ensures.live (λ e. c.in-Ok.ensures.stays) refl

@@ -23,7 +23,7 @@ returns g c =
     says a d None _ _ (λ v. ⊥) (λ v. ⊥) (λ lawful p. (
       p.0,
       empty_is (held_of (ours c.args.self.now.layout (state g.S.Store c.args.self.now.conn).now.trees)) c.in_ok-none.none c.is_nothing.result c.saw_none.new.self.rows c.saw_none.new.self.statements
-          (subst (λ (v : OutboxValue). IsTrue c.in_ok-none.none ↔ ((device : ℕ) → v.upto device ≡ 0)) p.1.0 p.1.2) (rows ∙ lawful.fits.rows_are) (statements ∙ lawful.fits.statements_are) c.is_nothing.ensures,
+          (subst (λ (v : OutboxValue). IsTrue c.in_ok-none.none ↔ ((device : ℕ) → v.upto device ≡ 0)) p.1.0 p.1.2) (rows ∙ lawful.fit.fits.rows_are) (statements ∙ lawful.fit.fits.statements_are) c.is_nothing.ensures,
     )) (λ v none. none)
     (read_then a b d (Unit {0}) Q None first second)
 

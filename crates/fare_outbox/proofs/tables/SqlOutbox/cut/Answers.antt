@@ -2,12 +2,12 @@ use Rattle.std.proofs.Common.{◌≡◌, Some, None, refl, ap, ◌∙◌}
 use Rattle.sqlite_trees.specs.Tree.{Trees}
 use Rattle.sqlite.specs.Held.{state}
 use Rattle.fare_store.specs.OutboxWords.{pruned, rows_upto}
-use Rattle.fare_tables.proofs.Steps.{write_step, given_none, same_fit, same_at}
+use Rattle.fare_tables.proofs.Steps.{write_step, given_none, same_database, same_fit, same_at}
 use Rattle.fare_outbox.specs.Layouts.{schema_in, ours}
-use Rattle.fare_outbox.specs.Held.{IsReady, held_of, without_lane}
-use Rattle.fare_outbox.specs.Words.{tap_key, first_at, itself, value_at, value_in, IsWell}
-use Rattle.fare_outbox.proofs.Stored.{ready, cut_fits, cut_value}
-use Rattle.fare_outbox.proofs.Pruned.{cut_count}
+use Rattle.fare_outbox.specs.Held.{MayBecome, IsReady, held_of, without_lane}
+use Rattle.fare_outbox.specs.Words.{tap_key, first_at, itself, value_at, value_in, IsLawful, IsWell}
+use Rattle.fare_outbox.proofs.Stored.{ready, left_held, becomes_left, cut_fits, cut_value}
+use Rattle.fare_outbox.proofs.Pruned.{prune_fits, cut_count}
 use Rattle.fare_outbox.proofs.tables.SqlOutbox.cut.Goals as goal
 
 pub returns-in-Ok : goal.returns-in-Ok
@@ -24,16 +24,17 @@ returns-in-Ok g c =
     let h = held_of (ours self.layout old.now.trees) in
     let done = pruned o d n (value_at self.layout old.now.trees) in
     let count = c.in-Ok.count in
-    given_none _ _ _ None _ (write_step (schema_in self.layout) (value_at self.layout) (IsWell self.layout self.rows self.statements) (IsWell self.layout c.saturating_sub-self.result self.statements) old new self.failures self.failures None (Unit {0}) ((count ≡ rows_upto n (first_at tap_key itself h.taps o d)) × (value_at self.layout new.now.trees ≡ done)) done
-    (λ (trees : Trees). IsReady self.layout old → held_of (ours self.layout trees) ≡ without_lane o d last h) c.requires
+    given_none _ _ _ None _ (write_step (schema_in self.layout) (value_at self.layout) (IsWell self.layout self.rows self.statements) (IsWell self.layout c.saturating_sub-self.result self.statements) (IsLawful self.layout) old new self.failures self.failures None (Unit {0}) ((count ≡ rows_upto n (first_at tap_key itself h.taps o d)) × (value_at self.layout new.now.trees ≡ done)) done
+    (λ (trees : Trees). IsReady self.layout old → MayBecome self.layout (without_lane o d last h) trees) c.requires
     (λ live known.
     let fit = known.0 in
     let together = fit.fits.lawful.together in
     let wrote = c.in-Ok.ensures.value live (ready self.layout old self.rows self.statements fit) in
     let is = c.in-Ok.ensures.count live (ready self.layout old self.rows self.statements fit) in
     (rw c.saturating_sub-self.ensures (cut_fits self.layout old new self.rows self.statements o d last count fit wrote is), (is ∙ cut_count o d last n h together low which, ap value_in wrote.0.value ∙ cut_value h o d last n together low which)))
+    (λ live fit database. (c.in-Ok.ensures.value live (ready self.layout old self.rows self.statements fit)).0.database)
     c.write_cut.ensures.crash
-    (λ fit trees wrote may. ap value_in (wrote (ready self.layout old self.rows self.statements fit)) ∙ cut_value h o d last n fit.fits.lawful.together low which)
+    (λ fit trees wrote may. let it = wrote (ready self.layout old self.rows self.statements fit) in (ap value_in (left_held self.layout (without_lane o d last h) trees it) ∙ cut_value h o d last n fit.fits.lawful.together low which, becomes_left self.layout (without_lane o d last h) trees it (prune_fits h o d last fit.fits.lawful.together)))
     c.write_cut.ensures.live (λ e. c.in-Ok.ensures.stays) refl)
 
 pub returns-in-Err : goal.returns-in-Err
@@ -47,11 +48,12 @@ returns-in-Err g c =
     let last = c.within-last.result in
     let h = held_of (ours self.layout old.now.trees) in
     let done = pruned o d n (value_at self.layout old.now.trees) in
-    given_none _ _ _ (Some c.note.result) _ (write_step (schema_in self.layout) (value_at self.layout) (IsWell self.layout self.rows self.statements) (IsWell self.layout self.rows self.statements) old new self.failures c.note.new.failures (Some c.note.result) (Unit {0}) (value_at self.layout new.now.trees ≡ value_at self.layout old.now.trees) done
-    (λ (trees : Trees). IsReady self.layout old → held_of (ours self.layout trees) ≡ without_lane o d last h) c.requires
+    given_none _ _ _ (Some c.note.result) _ (write_step (schema_in self.layout) (value_at self.layout) (IsWell self.layout self.rows self.statements) (IsWell self.layout self.rows self.statements) (IsLawful self.layout) old new self.failures c.note.new.failures (Some c.note.result) (Unit {0}) (value_at self.layout new.now.trees ≡ value_at self.layout old.now.trees) done
+    (λ (trees : Trees). IsReady self.layout old → MayBecome self.layout (without_lane o d last h) trees) c.requires
     (λ live known.
     let same = c.in-Err.ensures.same live (ready self.layout old self.rows self.statements known.0) in
     (same_fit (schema_in self.layout) (value_at self.layout) (IsWell self.layout self.rows self.statements) old new same known.0, same_at (schema_in self.layout) (value_at self.layout) old new same))
+    (λ live fit database. same_database old new (c.in-Err.ensures.same live (ready self.layout old self.rows self.statements fit)) database)
     c.write_cut.ensures.crash
-    (λ fit trees wrote may. ap value_in (wrote (ready self.layout old self.rows self.statements fit)) ∙ cut_value h o d last n fit.fits.lawful.together c.within-last.ensures.low c.within-last.ensures.which)
+    (λ fit trees wrote may. let it = wrote (ready self.layout old self.rows self.statements fit) in (ap value_in (left_held self.layout (without_lane o d last h) trees it) ∙ cut_value h o d last n fit.fits.lawful.together c.within-last.ensures.low c.within-last.ensures.which, becomes_left self.layout (without_lane o d last h) trees it (prune_fits h o d last fit.fits.lawful.together)))
     c.write_cut.ensures.live (λ e. absurd (cc)) c.note.ensures.counted)

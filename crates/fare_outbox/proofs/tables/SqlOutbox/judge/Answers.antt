@@ -93,7 +93,7 @@ returns-then-self-ge-MOST_ROWS-clause-does g c =
     let next : r.link ≡ c.in_ok-upto.upto + 1 = omega (arith, not_low, not_high, link, again, valid) in
     let kept : c.holds.new.self.rows ≡ c.args.self.now.rows = c.in_ok-held.ensures.rows ∙ c.in_ok-upto.ensures.rows ∙ c.in_ok-begin.ensures.rows in
     let many = c.if-self-ge-MOST_ROWS.true in
-    answered a d r c.in_ok-upto.upto c.in_ok-held.held (Err store.OutboxFull) (λ lawful seen. full a.value r _ c.holds.new.self.rows next (kept ∙ lawful.fits.rows_are) many (rw c.if-held.false at seen)) all
+    answered a d r c.in_ok-upto.upto c.in_ok-held.held (Err store.OutboxFull) (λ lawful seen. full a.value r _ c.holds.new.self.rows next (kept ∙ lawful.fit.fits.rows_are) many (rw c.if-held.false at seen)) all
 
 pub returns-clause-does : goal.returns-clause-does
 returns-clause-does g c =
@@ -113,4 +113,4 @@ returns-clause-does g c =
     let next : r.link ≡ c.in_ok-upto.upto + 1 = omega (arith, not_low, not_high, link, again, valid) in
     let kept : c.holds.new.self.rows ≡ c.args.self.now.rows = c.in_ok-held.ensures.rows ∙ c.in_ok-upto.ensures.rows ∙ c.in_ok-begin.ensures.rows in
     let few = c.if-self-ge-MOST_ROWS.false in
-    answered a d r c.in_ok-upto.upto c.in_ok-held.held (Ok tt) (λ lawful seen. welcome a.value r _ c.holds.new.self.rows next (kept ∙ lawful.fits.rows_are) (omega (arith, few)) (rw c.if-held.false at seen)) all
+    answered a d r c.in_ok-upto.upto c.in_ok-held.held (Ok tt) (λ lawful seen. welcome a.value r _ c.holds.new.self.rows next (kept ∙ lawful.fit.fits.rows_are) (omega (arith, few)) (rw c.if-held.false at seen)) all

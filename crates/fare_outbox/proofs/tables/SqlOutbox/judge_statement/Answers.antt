@@ -47,7 +47,7 @@ returns-then-self-ge-MOST_ROWS-clause-does g c =
     let second : Calls b d None ((d.value ≡ b.value) × (◌≡◌ {A = Option ℕ} None (b.value.stated s.owner s.device s.day))) (λ v. ⊥) = rw c.in-None.is at c.in_ok-held.ensures.does in
     let kept : c.held_count.new.self.statements ≡ c.args.self.now.statements = c.in_ok-held.ensures.statements ∙ c.in_ok-begin.ensures.statements in
     let many = c.if-self-ge-MOST_ROWS.true in
-    said a d s None (Err stated.OutboxFull) (λ lawful seen. stated_full a.value s c.held_count.new.self.statements (kept ∙ lawful.fits.statements_are) many seen) (held_then a b d s None first second)
+    said a d s None (Err stated.OutboxFull) (λ lawful seen. stated_full a.value s c.held_count.new.self.statements (kept ∙ lawful.fit.fits.statements_are) many seen) (held_then a b d s None first second)
 
 pub returns-else-self-ge-MOST_ROWS-clause-does : goal.returns-else-self-ge-MOST_ROWS-clause-does
 returns-else-self-ge-MOST_ROWS-clause-does g c =
@@ -59,4 +59,4 @@ returns-else-self-ge-MOST_ROWS-clause-does g c =
     let second : Calls b d None ((d.value ≡ b.value) × (◌≡◌ {A = Option ℕ} None (b.value.stated s.owner s.device s.day))) (λ v. ⊥) = rw c.in-None.is at c.in_ok-held.ensures.does in
     let kept : c.held_count.new.self.statements ≡ c.args.self.now.statements = c.in_ok-held.ensures.statements ∙ c.in_ok-begin.ensures.statements in
     let few = c.if-self-ge-MOST_ROWS.false in
-    said a d s None (Ok tt) (λ lawful seen. stated_welcome a.value s c.held_count.new.self.statements (kept ∙ lawful.fits.statements_are) (omega (arith, few)) seen) (held_then a b d s None first second)
+    said a d s None (Ok tt) (λ lawful seen. stated_welcome a.value s c.held_count.new.self.statements (kept ∙ lawful.fit.fits.statements_are) (omega (arith, few)) seen) (held_then a b d s None first second)

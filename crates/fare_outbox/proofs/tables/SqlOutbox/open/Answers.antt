@@ -1,8 +1,13 @@
 use Rattle.std.proofs.Common.{inl, inr}
+use Rattle.std.specs.Prelude.{IsTrue}
 use Rattle.sqlite.specs.Held.{state}
+use Rattle.fare_tables.specs.Asking.{IsLive}
+use Rattle.fare_tables.proofs.Reopened.{fit_again}
+use Rattle.fare_outbox.specs.Layouts.{schema_in}
+use Rattle.fare_outbox.specs.Words.{IsLawful}
 use Rattle.fare_outbox.specs.Opening.{IsOpened, Settles}
 use Rattle.fare_outbox.specs.Making.{site_of}
-use Rattle.fare_outbox.proofs.Opened.{new_fits, kept_fits, lawful_is_ours}
+use Rattle.fare_outbox.proofs.Opened.{new_fits, kept_fits, opened_again, left_empty, lawful_is_ours}
 use Rattle.fare_outbox.proofs.tables.SqlOutbox.open.Goals as goal
 
 pub returns-in-Ok-Some-clause-made : goal.returns-in-Ok-Some-clause-made
@@ -18,7 +23,18 @@ returns-in-Ok-Some-clause-kept g c live w fit =
     let new = state g.S.Store c.settle.new.conn in
     let settles : Settles old new c.in-Ok-Some.layout c.in-Ok-Some.rows c.in-Ok-Some.statements = rw c.in-Ok-Some.field-0-is at (c.in-Ok-Some.ensures.opens live) in
     let opened : IsOpened old c.in-Ok-Some.layout = rw c.in-Ok-Some.field-0-is at (c.in-Ok-Some.ensures.ours live) in
-    kept_fits old new c.in-Ok-Some.layout w c.in-Ok-Some.rows c.in-Ok-Some.statements settles opened fit
+    kept_fits old new c.in-Ok-Some.layout w c.in-Ok-Some.rows c.in-Ok-Some.statements settles opened fit (c.in-Ok-Some.ensures.database (c.in-Ok-Some.ensures.live live).1)
+
+pub returns-in-Ok-Some-clause-again : goal.returns-in-Ok-Some-clause-again
+returns-in-Ok-Some-clause-again g c clean w left =
+    let old = state g.S.Store c.args.conn in
+    let new = state g.S.Store c.settle.new.conn in
+    let live : IsLive new = (clean, rw c.in-Ok-Some.field-0-is at (c.in-Ok-Some.ensures.stays clean)) in
+    let before = c.in-Ok-Some.ensures.live live in
+    let settles : Settles old new c.in-Ok-Some.layout c.in-Ok-Some.rows c.in-Ok-Some.statements = rw c.in-Ok-Some.field-0-is at (c.in-Ok-Some.ensures.opens live) in
+    let opened : IsOpened old c.in-Ok-Some.layout = rw c.in-Ok-Some.field-0-is at (c.in-Ok-Some.ensures.ours live) in
+    let whole : IsTrue c.is_autocommit.result = search in
+    opened_again old new c.in-Ok-Some.layout w c.in-Ok-Some.rows c.in-Ok-Some.statements settles opened (c.is_autocommit.ensures.settled whole before.1) (c.in-Ok-Some.ensures.database before.1) left
 
 pub returns-in-Ok-Some-clause-ours : goal.returns-in-Ok-Some-clause-ours
 returns-in-Ok-Some-clause-ours g c live =
@@ -32,3 +48,15 @@ returns-in-Ok-Some-clause-placed g c live vacant =
 
 pub returns-in-Ok-None-clause-found : goal.returns-in-Ok-None-clause-found
 returns-in-Ok-None-clause-found g c why live w fit = c.in-Ok-None.ensures.lacks live c.in-Ok-None.field-0-is (lawful_is_ours w (state g.S.Store c.args.conn) fit)
+
+pub returns-in-Ok-None-clause-never : goal.returns-in-Ok-None-clause-never
+returns-in-Ok-None-clause-never g c why clean up w left =
+    let old = state g.S.Store c.args.conn in
+    let whole : IsTrue c.is_autocommit.result = search in
+    c.in-Ok-None.ensures.lacks (clean, c.in-Ok-None.ensures.up clean up) c.in-Ok-None.field-0-is (lawful_is_ours w old (fit_again (schema_in w) (IsLawful w) old (c.is_autocommit.ensures.settled whole up) (c.in-Ok-None.ensures.database up) left))
+
+pub returns-in-Ok-None-clause-leaves : goal.returns-in-Ok-None-clause-leaves
+returns-in-Ok-None-clause-leaves g c clean trees leaves = elim (c.settle.ensures.crash.crash clean trees leaves) [ inl was ↦ inl was | inr made ↦ inr (left_empty (state g.S.Store c.args.conn) trees made) ]
+
+pub returns-in-Err-clause-leaves : goal.returns-in-Err-clause-leaves
+returns-in-Err-clause-leaves g c clean trees leaves = elim (c.settle.ensures.crash.crash clean trees leaves) [ inl was ↦ inl was | inr made ↦ inr (left_empty (state g.S.Store c.args.conn) trees made) ]

@@ -2,12 +2,12 @@ use Rattle.std.proofs.Common.{◌≡◌, Some, None, refl, ◌+◌, ap, ◌∙�
 use Rattle.sqlite_trees.specs.Tree.{Trees}
 use Rattle.sqlite.specs.Held.{state}
 use Rattle.fare_store.specs.OutboxWords.{stored_statement}
-use Rattle.fare_tables.proofs.Steps.{write_step, same_fit, same_at}
+use Rattle.fare_tables.proofs.Steps.{write_step, same_database, same_fit, same_at}
 use Rattle.fare_outbox.specs.Layouts.{schema_in, ours}
-use Rattle.fare_outbox.specs.Held.{IsReady, held_of, with_statement}
-use Rattle.fare_outbox.specs.Words.{value_at, value_in, first_at, stated_key, count_of, IsWell}
-use Rattle.fare_outbox.proofs.Stored.{ready, statement_put_fits}
-use Rattle.fare_outbox.proofs.Lanes.{statement_value}
+use Rattle.fare_outbox.specs.Held.{MayBecome, IsReady, held_of, with_statement}
+use Rattle.fare_outbox.specs.Words.{value_at, value_in, first_at, stated_key, count_of, IsLawful, IsWell}
+use Rattle.fare_outbox.proofs.Stored.{ready, left_held, becomes_left, statement_put_fits}
+use Rattle.fare_outbox.proofs.Lanes.{statement_fits, statement_value}
 use Rattle.fare_outbox.proofs.tables.SqlOutbox.put_statement.Goals as goal
 
 pub returns-in-Ok : goal.returns-in-Ok
@@ -17,12 +17,13 @@ returns-in-Ok g c =
     let self = c.args.self.now in
     let r = c.args.statement.now in
     let h = held_of (ours self.layout old.now.trees) in
-    write_step (schema_in self.layout) (value_at self.layout) (IsWell self.layout self.rows self.statements) (IsWell self.layout self.rows (self.statements + 1)) old new self.failures self.failures None (first_at stated_key count_of h.statements r.owner r.device r.day ≡ None) (value_at self.layout new.now.trees ≡ stored_statement r (value_at self.layout old.now.trees)) (stored_statement r (value_at self.layout old.now.trees)) (λ (trees : Trees). IsReady self.layout old → held_of (ours self.layout trees) ≡ with_statement r h) c.requires.up
+    write_step (schema_in self.layout) (value_at self.layout) (IsWell self.layout self.rows self.statements) (IsWell self.layout self.rows (self.statements + 1)) (IsLawful self.layout) old new self.failures self.failures None (first_at stated_key count_of h.statements r.owner r.device r.day ≡ None) (value_at self.layout new.now.trees ≡ stored_statement r (value_at self.layout old.now.trees)) (stored_statement r (value_at self.layout old.now.trees)) (λ (trees : Trees). IsReady self.layout old → MayBecome self.layout (with_statement r h) trees) c.requires.up
     (λ live known.
     let wrote = c.in-Ok.ensures.value live (ready self.layout old self.rows self.statements known.0) in
     (statement_put_fits self.layout old new self.rows self.statements r known.0 known.1 wrote, ap value_in wrote.0.value ∙ statement_value h r known.1))
+    (λ live fit database. (c.in-Ok.ensures.value live (ready self.layout old self.rows self.statements fit)).0.database)
     c.write_statement.ensures.crash
-    (λ fit trees wrote may. ap value_in (wrote (ready self.layout old self.rows self.statements fit)) ∙ statement_value h r may)
+    (λ fit trees wrote may. let it = wrote (ready self.layout old self.rows self.statements fit) in (ap value_in (left_held self.layout (with_statement r h) trees it) ∙ statement_value h r may, becomes_left self.layout (with_statement r h) trees it (statement_fits h r may fit.fits.lawful.together)))
     c.write_statement.ensures.live (λ e. c.in-Ok.ensures.stays) refl
 
 pub returns-in-Err : goal.returns-in-Err
@@ -32,10 +33,11 @@ returns-in-Err g c =
     let self = c.args.self.now in
     let r = c.args.statement.now in
     let h = held_of (ours self.layout old.now.trees) in
-    write_step (schema_in self.layout) (value_at self.layout) (IsWell self.layout self.rows self.statements) (IsWell self.layout self.rows self.statements) old new self.failures c.note.new.failures (Some c.note.result) (first_at stated_key count_of h.statements r.owner r.device r.day ≡ None) (value_at self.layout new.now.trees ≡ value_at self.layout old.now.trees) (stored_statement r (value_at self.layout old.now.trees)) (λ (trees : Trees). IsReady self.layout old → held_of (ours self.layout trees) ≡ with_statement r h) c.requires.up
+    write_step (schema_in self.layout) (value_at self.layout) (IsWell self.layout self.rows self.statements) (IsWell self.layout self.rows self.statements) (IsLawful self.layout) old new self.failures c.note.new.failures (Some c.note.result) (first_at stated_key count_of h.statements r.owner r.device r.day ≡ None) (value_at self.layout new.now.trees ≡ value_at self.layout old.now.trees) (stored_statement r (value_at self.layout old.now.trees)) (λ (trees : Trees). IsReady self.layout old → MayBecome self.layout (with_statement r h) trees) c.requires.up
     (λ live known.
     let same = c.in-Err.ensures.same live (ready self.layout old self.rows self.statements known.0) in
     (same_fit (schema_in self.layout) (value_at self.layout) (IsWell self.layout self.rows self.statements) old new same known.0, same_at (schema_in self.layout) (value_at self.layout) old new same))
+    (λ live fit database. same_database old new (c.in-Err.ensures.same live (ready self.layout old self.rows self.statements fit)) database)
     c.write_statement.ensures.crash
-    (λ fit trees wrote may. ap value_in (wrote (ready self.layout old self.rows self.statements fit)) ∙ statement_value h r may)
+    (λ fit trees wrote may. let it = wrote (ready self.layout old self.rows self.statements fit) in (ap value_in (left_held self.layout (with_statement r h) trees it) ∙ statement_value h r may, becomes_left self.layout (with_statement r h) trees it (statement_fits h r may fit.fits.lawful.together)))
     c.write_statement.ensures.live (λ e. absurd (cc)) c.note.ensures.counted

@@ -1,7 +1,5 @@
-use Rattle.std.proofs.Common.{◌≡◌, ℕ, sym, subst, refl}
-use Rattle.std.specs.Prelude.{Option}
+use Rattle.std.proofs.Common.{◌≡◌, sym, refl}
 use Rattle.std.specs.Vec.{with_item}
-use Rattle.fare_store.specs.LedgerWords.{LedgerValue}
 use Rattle.fare_sessions.specs.declared.hub.Hub.{Hub}
 use Rattle.fare_sessions.specs.Billing.{IsToClose}
 use Rattle.fare_sessions.proofs.Going.{one_replaced}

@@ -1,6 +1,7 @@
 use Rattle.std.proofs.Common.{sym, subst}
 use Rattle.fare_sessions.specs.Running.{HaveAllRun}
 use Rattle.fare_sessions.proofs.Follow.{run_scheme, run_follow, run_sound}
+use Rattle.fare_sessions.proofs.Lasting.{run_lasting, run_owned}
 use Rattle.fare_sessions.proofs.Reported.{gave_up_exactly, faults_in_order, rest_untouched, none_left, stored_is, taken_is, agrees, grows, covered, came}
 use Rattle.fare_sessions.proofs.hub.Hub.sessions.Goals as goal
 
@@ -18,6 +19,16 @@ pub returns-clause-sound : goal.returns-clause-sound
 returns-clause-sound g c =
     let a = subst (HaveAllRun g.S.Source.talk g.O.Outbox.standing g.L.Ledger.standing c.args.supervisor c.args.self.now c.run_all.new.self c.args.sessions.now c.run_all.new.sessions) (sym c.into_report.ensures) (c.run_all.ensures c.args.supervisor c.new-course.ensures.shows) in
     λ clean sound. run_sound g.S.Source.talk g.O.Outbox.standing g.L.Ledger.standing c.args.self.now c.args.sessions.now c.run_all.new.sessions a.count c.run_all.new.self a.tally a.ran clean sound
+
+pub returns-clause-lasting : goal.returns-clause-lasting
+returns-clause-lasting g c =
+    let a = subst (HaveAllRun g.S.Source.talk g.O.Outbox.standing g.L.Ledger.standing c.args.supervisor c.args.self.now c.run_all.new.self c.args.sessions.now c.run_all.new.sessions) (sym c.into_report.ensures) (c.run_all.ensures c.args.supervisor c.new-course.ensures.shows) in
+    λ clean sound lasting. run_lasting g.S.Source.talk g.O.Outbox.standing g.L.Ledger.standing c.args.self.now c.args.sessions.now c.run_all.new.sessions a.count c.run_all.new.self a.tally a.ran clean sound lasting
+
+pub returns-clause-owned : goal.returns-clause-owned
+returns-clause-owned g c =
+    let a = subst (HaveAllRun g.S.Source.talk g.O.Outbox.standing g.L.Ledger.standing c.args.supervisor c.args.self.now c.run_all.new.self c.args.sessions.now c.run_all.new.sessions) (sym c.into_report.ensures) (c.run_all.ensures c.args.supervisor c.new-course.ensures.shows) in
+    λ clean sound owned. run_owned g.S.Source.talk g.O.Outbox.standing g.L.Ledger.standing c.args.self.now c.args.sessions.now c.run_all.new.sessions a.count c.run_all.new.self a.tally a.ran clean sound owned
 
 pub returns-clause-agrees : goal.returns-clause-agrees
 returns-clause-agrees g c =

@@ -3,7 +3,8 @@ use Rattle.std.specs.Prelude.{Ok, Err}
 use Rattle.fare_store.specs.Standing.{Reads}
 use Rattle.fare_store.specs.LedgerWords.{LedgerValue, closed_through}
 use Rattle.fare_world.specs.Rooms.{AreStandings}
-use Rattle.fare_world.proofs.ReadsThen.{read_failed, reads_none, reads_since, since_calls, calls_since, reads_then, reads_say, ToldTo, one_told, standing_of, standings_told}
+use Rattle.fare_store.proofs.Readings.{read_failed, reads_none, reads_since, since_calls, calls_since, read_then, reads_say}
+use Rattle.fare_world.proofs.Told.{ToldTo, one_told, standing_of, standings_told}
 use Rattle.fare_world.proofs.owner.Owner.ask.Goals as goal
 
 pub loop-place-init : goal.loop-place-init
@@ -40,7 +41,7 @@ loop-place-preserved g c =
             one_told sc (standing_of first.value) xs k device (n, day) is.1.1.1 c.in-Some.ensures.placed
                 (λ j. ((is.1.1.2 ∙ ap (λ (v : LedgerValue). length (v.taken device)) is.1.1.0) j, (is.1.2 ∙ ap (λ (v : LedgerValue). closed_through v device) is.1.0) j)),
           ))
-          (reads_then first mid now ((before.value ≡ first.value) × ToldTo sc (standing_of first.value) k xs × (n ≡ length (before.value.taken device))) (day ≡ closed_through mid.value device) None counted two));
+          (read_then first mid now ((before.value ≡ first.value) × ToldTo sc (standing_of first.value) k xs × (n ≡ length (before.value.taken device))) (day ≡ closed_through mid.value device) None counted two));
       count = length-set xs k (n, day) ∙ i.count;
       queue = i.queue;
       hand = i.hand;
@@ -83,4 +84,4 @@ returns-in_err-closed-clause-read g c =
     let two : Reads mid now (λ d. d ≡ closed_through mid.value device) (Err c.in_err-closed.field-0.0) = c.in_err-closed.ensures in
     let counted = reads_since first before mid (0 < c.loop-place.place) (ToldTo sc (standing_of first.value) c.loop-place.place c.loop-place.self.standings.items) (n ≡ length (before.value.taken device)) None i.read one in
     read_failed first now _ _ c.from_residual-in_err-closed.result c.in_err-closed.field-0.0 c.from_residual-in_err-closed.ensures.1
-    (reads_then first mid now ((before.value ≡ first.value) × ToldTo sc (standing_of first.value) c.loop-place.place c.loop-place.self.standings.items × (n ≡ length (before.value.taken device))) (Unit {0}) (Some c.in_err-closed.field-0.0) counted two)
+    (read_then first mid now ((before.value ≡ first.value) × ToldTo sc (standing_of first.value) c.loop-place.place c.loop-place.self.standings.items × (n ≡ length (before.value.taken device))) (Unit {0}) (Some c.in_err-closed.field-0.0) counted two)

@@ -1,5 +1,6 @@
 use Rattle.std.proofs.Common.{◌≡◌, ◌<◌, length}
-use Rattle.fare_world.proofs.ReadsThen.{Since, ToldTo, standing_of}
+use Rattle.fare_store.proofs.Readings.{Since}
+use Rattle.fare_world.proofs.Told.{ToldTo, standing_of}
 use Rattle.fare_world.proofs.owner.Owner.ask.Given as goal
 
 abbrev pub invariant-loop-place : goal.invariant-loop-place

@@ -7,7 +7,7 @@ use Rattle.fare_record.specs.declared.ack_item.AckItem.{AckItem}
 use Rattle.fare_record.specs.declared.ack_item.AckItem.TheVariants as ack_item
 use Rattle.fare_event.specs.declared.reply.Refusal.TheVariants as refusal
 use Rattle.fare_event.specs.declared.reply.Reply.TheVariants as reply
-use Rattle.fare_world.specs.Acknowledging.{are_all_stated}
+use Rattle.fare_route.specs.Stating.{are_all_stated}
 use Rattle.fare_world.specs.Rooms.{HasStation}
 use Rattle.fare_world.specs.Whole.{seen, shape}
 use Rattle.fare_world.proofs.Queues.{pushed, refused, same_room}

@@ -4,7 +4,7 @@ use Rattle.fare_scheme.specs.Words.{id_at}
 use Rattle.fare_store.specs.LedgerWords.{LedgerValue, closed_through}
 use Rattle.fare_store.specs.Standing.{Reads}
 use Rattle.fare_world.specs.Billing.{reaches, first_open}
-use Rattle.fare_world.proofs.ReadsThen.{reads_none, reads_since, since_calls, calls_since, reads_say, read_failed}
+use Rattle.fare_store.proofs.Readings.{reads_none, reads_since, since_calls, calls_since, reads_say, read_failed}
 use Rattle.fare_world.proofs.Opens.{closed_by, AreClosedBefore, one_closed, one_open, none_open}
 use Rattle.fare_world.proofs.world.billing.first_open.Goals as goal
 

@@ -1,5 +1,5 @@
 use Rattle.std.proofs.Common.{◌<◌, ◌≤◌}
-use Rattle.fare_world.proofs.ReadsThen.{Since}
+use Rattle.fare_store.proofs.Readings.{Since}
 use Rattle.fare_world.proofs.Opens.{AreClosedBefore}
 use Rattle.fare_world.proofs.world.billing.first_open.Given as goal
 

@@ -6,7 +6,8 @@ use Rattle.fare_store.specs.Standing.{Reads}
 use Rattle.fare_store.specs.OutboxWords.{OutboxValue}
 use Rattle.fare_world.specs.Rooms.{AreUptos}
 use Rattle.fare_world.proofs.TableLemmas.{set_cases}
-use Rattle.fare_world.proofs.ReadsThen.{read_failed, reads_none, reads_since, since_calls, calls_since, reads_say, ToldTo, one_told, told_all}
+use Rattle.fare_store.proofs.Readings.{read_failed, reads_none, reads_since, since_calls, calls_since, reads_say}
+use Rattle.fare_world.proofs.Told.{ToldTo, one_told, told_all}
 use Rattle.fare_world.proofs.world.restarting.ask_uptos.Goals as goal
 
 less : (j place : ℕ) → j < place + 1 → j ≢ place → j < place

@@ -6,7 +6,7 @@ use Rattle.fare_opening.specs.Parts.{OlderParts, IsOlder, IsTold}
 use Rattle.fare_opening.specs.Raising.{Rises}
 use Rattle.fare_opening.proofs.Olders.{AreFound, none_rises, is_rising, raises, raises_survives}
 use Rattle.fare_opening.proofs.Standing.{some_is, not_true, for_err}
-use Rattle.fare_opening.proofs.rising.raise_from.Goals as goal
+use Rattle.fare_opening.proofs.older.raise_from.Goals as goal
 
 pub returns-in_default-clause-lacks : goal.returns-in_default-clause-lacks
 returns-in_default-clause-lacks g c clean none o older told v w can = c.in_ok-ascent.ensures.lacks c.in_default.is o older told v w (subst (λ s. Rises g.D.Design.parts o s v w) (sym c.schema.ensures.value) can.rises)

@@ -34,6 +34,7 @@ fn raise_from<D: Design, S: Alter>(
     ensures crash { Survives (state S.Store conn.old) (state S.Store conn.new) (λ trees. (o : OlderParts) → IsOlder D.parts o → IsTold older.now o → RaisesTo D.parts o owner (state S.Store conn.old).now trees) }
     ensures live { IsLive (state S.Store conn.new) → IsLive (state S.Store conn.old) }
     ensures stays { HasCleanDisk (state S.Store conn.new) → IfOk result (λ found. IfSome found (λ _. IsTrue (state S.Store conn.new).is_open)) }
+    ensures up { HasCleanDisk (state S.Store conn.new) → IsTrue (state S.Store conn.old).is_open → IfOk result (λ _. IsTrue (state S.Store conn.new).is_open) }
     ensures idle { conn.new.in_transaction ≡ false }
 {
     D::sound();
@@ -64,6 +65,7 @@ fn raise_any<D: Design, S: Alter>(
     ensures crash { Survives (state S.Store conn.old) (state S.Store conn.new) (λ trees. (os : List OlderParts) → AllByRecursion (IsOlder D.parts) os → AllZip IsTold olders.now os → (o : OlderParts) × Has os o × RaisesTo D.parts o owner (state S.Store conn.old).now trees) }
     ensures live { IsLive (state S.Store conn.new) → IsLive (state S.Store conn.old) }
     ensures stays { HasCleanDisk (state S.Store conn.new) → IfOk result (λ found. IfSome found (λ _. IsTrue (state S.Store conn.new).is_open)) }
+    ensures up { HasCleanDisk (state S.Store conn.new) → IsTrue (state S.Store conn.old).is_open → IfOk result (λ _. IsTrue (state S.Store conn.new).is_open) }
     ensures idle { conn.new.in_transaction ≡ false }
 {
     match olders {
@@ -90,6 +92,7 @@ pub(crate) fn raise<D: Design, S: Alter>(
     ensures crash { Survives (state S.Store conn.old) (state S.Store conn.new) (MayRaise D.parts owner (state S.Store conn.old)) }
     ensures live { IsLive (state S.Store conn.new) → IsLive (state S.Store conn.old) }
     ensures stays { HasCleanDisk (state S.Store conn.new) → IfOk result (λ found. IfSome found (λ _. IsTrue (state S.Store conn.new).is_open)) }
+    ensures up { HasCleanDisk (state S.Store conn.new) → IsTrue (state S.Store conn.old).is_open → IfOk result (λ _. IsTrue (state S.Store conn.new).is_open) }
     ensures idle { conn.new.in_transaction ≡ false }
 {
     D::sound();

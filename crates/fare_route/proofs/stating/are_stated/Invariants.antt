@@ -1,8 +1,8 @@
 use Rattle.std.proofs.Common.{◌≡◌, ◌<◌, true, take}
 use Rattle.std.specs.Prelude.{is_some}
 use Rattle.std.specs.List.{list_all}
-use Rattle.fare_world.proofs.ReadsThen.{Since}
-use Rattle.fare_world.proofs.world.acknowledging.are_stated.Given as goal
+use Rattle.fare_store.proofs.Readings.{Since}
+use Rattle.fare_route.proofs.stating.are_stated.Given as goal
 
 abbrev pub invariant-loop-place : goal.invariant-loop-place
 invariant-loop-place g l = Since (g.O.Outbox.standing l.fn.outbox) (g.O.Outbox.standing l.outbox) (0 < l.place) (list_all (λ o. is_some ((g.O.Outbox.standing l.fn.outbox).value.stated o.0 l.device l.day)) (take l.place l.scheme.owners) ≡ true)

@@ -7,10 +7,10 @@ use Rattle.std.proofs.lemmas.Bool.Decides.{nat_tests}
 use Rattle.fare_record.specs.Values.{StatementValue}
 use Rattle.fare_store.specs.Standing.{Reads}
 use Rattle.fare_store.specs.OutboxWords.{OutboxValue, IsNextStatement}
-use Rattle.fare_world.specs.Acknowledging.{are_all_stated}
-use Rattle.fare_world.proofs.ReadsThen.{reads_none, reads_since, since_calls, calls_since, reads_say}
-use Rattle.fare_world.proofs.Stating.{here, later, missing, one_more, none_of_all}
-use Rattle.fare_world.proofs.world.acknowledging.are_stated.Goals as goal
+use Rattle.fare_route.specs.Stating.{are_all_stated}
+use Rattle.fare_store.proofs.Readings.{reads_none, reads_since, since_calls, calls_since, reads_say}
+use Rattle.fare_route.proofs.AllStated.{here, later, missing, one_more, none_of_all}
+use Rattle.fare_route.proofs.stating.are_stated.Goals as goal
 
 take_all : {X : Type 0} (n : ℕ) (xs : List X) → length xs ≤ n → take n xs ≡ xs
 take_all zero [] le = refl

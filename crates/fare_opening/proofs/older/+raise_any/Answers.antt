@@ -4,7 +4,7 @@ use Rattle.sqlite.specs.State.{HasCleanDisk}
 use Rattle.fare_tables.proofs.Steps.{was_clean}
 use Rattle.fare_opening.proofs.Olders.{later_raised, first_survives, later_survives}
 use Rattle.fare_opening.proofs.Standing.{some_weaker}
-use Rattle.fare_opening.proofs.rising.+raise_any.Goals as goal
+use Rattle.fare_opening.proofs.older.+raise_any.Goals as goal
 
 pub returns-in-Some-clause-crash : goal.returns-in-Some-clause-crash
 returns-in-Some-clause-crash g t c =
