@@ -18,7 +18,8 @@ use Rattle.fare_history.specs.Serving.{in_hand}
 use Rattle.fare_history.specs.Gathering.{links_of, CountsFrom, is_new, done_by, storing, IsHandled, IsAnswerFrom, Entry, items_of, answers_of, storing_all, AreStored, stored_hand}
 use Rattle.fare_history.specs.Plainly.{IsCovered}
 use Rattle.fare_history.specs.Stores.{StoresValue}
-use Rattle.fare_history.proofs.Entries.{if_all, put_all, put_here, put3_here, is_one, is_self, other_way, list_all-weaken, all-weaken, all-append}
+use Rattle.fare_store.proofs.Entries.{if_all, put_all, put_here, put3_here, is_one, is_self, other_way}
+use Rattle.fare_history.proofs.Entries.{list_all-weaken, all-weaken, all-append}
 use Rattle.fare_history.proofs.Judged.{stored_new, stored_old, repeated_is_old, tap_is_new, new_statement, statement_again}
 use Rattle.fare_history.proofs.Counting.{due, counted_on, follows, same_upto}
 use Rattle.fare_agreement.specs.Agreeing.{AreNumberedLists, IsOf, AreCountsOf, LaneAgrees, Agrees}

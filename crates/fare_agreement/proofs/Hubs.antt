@@ -14,7 +14,7 @@ use Rattle.fare_history.specs.Serving.{given_all, pruned_to_all, Service, IsServ
 use Rattle.fare_history.specs.Gathering.{Gathering, accepted_by, storing_all, hand_stored, IsGathering}
 use Rattle.fare_history.specs.Holding.{MayHold, Leads}
 use Rattle.fare_history.specs.Stores.{StoresValue, MayClose, Session, Collects, Serves_owner, Closes_day, stores_after}
-use Rattle.fare_history.proofs.Entries.{put_here, is_one}
+use Rattle.fare_store.proofs.Entries.{put_here, is_one}
 use Rattle.fare_agreement.specs.Agreeing.{AreNumberedLists, IsOf}
 use Rattle.fare_agreement.specs.Stopping.{pruned_too, IsLeftBy, AreLeft}
 use Rattle.fare_agreement.specs.Together.{MayStand, Became, StandAgreed, StandGrown, IsStoredFrom, IsTakenFrom, IsPrunedFrom, IsClosedFrom}

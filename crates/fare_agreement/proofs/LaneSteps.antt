@@ -11,7 +11,7 @@ use Rattle.fare_store.specs.OutboxWords.{behind}
 use Rattle.fare_world.specs.Headline.{IsPrefixOf}
 use Rattle.fare_world.proofs.Lanes.{day_count-other, day_count-same}
 use Rattle.fare_world.proofs.RowPlaces.{row_push, row_pruned, row_held}
-use Rattle.fare_history.proofs.Entries.{put_all, not_below}
+use Rattle.fare_store.proofs.Entries.{put_all, not_below}
 use Rattle.fare_agreement.specs.Agreeing.{LaneAgrees}
 use Rattle.fare_agreement.proofs.Prefixes.{prefix_trans, prefix_more, prefix_push, prefix_length, prefix_count}
 

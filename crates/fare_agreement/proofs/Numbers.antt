@@ -6,7 +6,7 @@ use Rattle.fare_record.specs.Values.{RecordValue}
 use Rattle.fare_record.specs.Lanes.{part}
 use Rattle.fare_world.proofs.Lists.{part-push, take-one_more, slice_get-past}
 use Rattle.fare_world.proofs.Places.{slice_get-push_cases}
-use Rattle.fare_world.proofs.Tables.{if_all}
+use Rattle.fare_store.proofs.Entries.{if_all}
 use Rattle.fare_agreement.specs.Agreeing.{IsNumberedAt}
 
 pub take_past : {X : Type 0} (n : ℕ) (xs : List X) → length xs ≤ n → take n xs ≡ xs

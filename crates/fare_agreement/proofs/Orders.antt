@@ -15,7 +15,7 @@ use Rattle.fare_world.specs.Shown.{row_at, IsAt}
 use Rattle.fare_world.proofs.Places.{slice_get-end}
 use Rattle.fare_world.proofs.RowPlaces.{row_here, row_past}
 use Rattle.fare_history.specs.Stores.{StoresValue}
-use Rattle.fare_history.proofs.Entries.{put_here, put2_here, put3_here, is_one, is_self}
+use Rattle.fare_store.proofs.Entries.{put_here, put2_here, put3_here, is_one, is_self}
 use Rattle.fare_agreement.specs.Agreeing.{AreNumberedLists, had, Agrees, lane_agrees}
 use Rattle.fare_agreement.specs.Stopping.{with_link_alone, with_row_alone}
 use Rattle.fare_agreement.proofs.LaneSteps.{by_tests}

@@ -13,7 +13,7 @@ use Rattle.fare_history.specs.Gathering.{Gathering, storing_all, stored_hand, Is
 use Rattle.fare_history.specs.Plainly.{ServesPlainly, IsFinished, IsWholeService, GathersPlainly}
 use Rattle.fare_history.specs.Stores.{StoresValue, Collects, Serves_owner, stores_after}
 use Rattle.fare_history.proofs.Committed.{committed_is}
-use Rattle.fare_history.proofs.Entries.{put_here}
+use Rattle.fare_store.proofs.Entries.{put_here}
 use Rattle.fare_history.proofs.GatheredPlainly.{gathers_plainly}
 use Rattle.fare_history.proofs.ServedPlainly.{serves_plainly, finished_is_whole, all_pruned, upto_stays, stated_stays, stated_count_stays, each_pruned}
 use Rattle.fare_agreement.specs.Stopping.{IsMaybeCommitted, pruned_too, IsLeftBy}

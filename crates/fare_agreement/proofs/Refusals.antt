@@ -17,7 +17,7 @@ use Rattle.fare_world.proofs.RowPlaces.{row_past}
 use Rattle.fare_history.specs.Serving.{Cursors, AreNextItems, moved_by, given, device_of, IsOfDevice, IsUnrefused, AreUnrefused}
 use Rattle.fare_history.specs.Gathering.{Entry, items_of, storing, storing_all, AreStored, IsFree, AreFree}
 use Rattle.fare_history.specs.Serving.{in_hand}
-use Rattle.fare_history.proofs.Entries.{is_self}
+use Rattle.fare_store.proofs.Entries.{is_self}
 use Rattle.fare_agreement.specs.Agreeing.{AreNumberedLists, IsOf, had, AreCountsOf, lane_agrees, Agrees}
 use Rattle.fare_agreement.specs.Stopping.{is_known}
 use Rattle.fare_agreement.proofs.LaneSteps.{lane_next, lane_open}

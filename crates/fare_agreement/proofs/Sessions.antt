@@ -17,7 +17,8 @@ use Rattle.fare_history.specs.Serving.{behind_ledger, AreNextItems, given_all, p
 use Rattle.fare_history.specs.Gathering.{Entry, Gathering, items_of, accepted_by, answers_of, all_answers, storing, storing_all, stored_hand, hand_stored, IsAnswerFrom, IsGathering}
 use Rattle.fare_history.specs.Plainly.{IsCovered}
 use Rattle.fare_history.specs.Stores.{StoresValue, Session, Collects, Serves_owner, Closes_day, MayClose, stores_after, stores_after_all}
-use Rattle.fare_history.proofs.Entries.{put_all, put_here, is_one, all-weaken, all-append, all-left, all-right}
+use Rattle.fare_store.proofs.Entries.{put_all, put_here, is_one}
+use Rattle.fare_history.proofs.Entries.{all-weaken, all-append, all-left, all-right}
 use Rattle.fare_history.proofs.Growing.{items_first}
 use Rattle.fare_history.proofs.ServedPlainly.{upto_stays, stated_stays}
 use Rattle.fare_agreement.specs.Agreeing.{AreNumberedLists, IsOf, lane_agrees, Agrees}

@@ -12,7 +12,7 @@ use Rattle.fare_store.specs.LedgerWords.{LedgerValue}
 use Rattle.fare_world.specs.Knowing.{knows_owner}
 use Rattle.fare_history.specs.Holding.{MayHold}
 use Rattle.fare_history.specs.Stores.{StoresValue}
-use Rattle.fare_history.proofs.Entries.{is_one, is_self, put_here}
+use Rattle.fare_store.proofs.Entries.{is_one, is_self, put_here}
 use Rattle.fare_agreement.specs.Together.{MayStand}
 
 -- a clean store may hold what a stop would leave of it

@@ -18,10 +18,10 @@ use Rattle.fare_world.proofs.Known.{station_where_placed}
 use Rattle.fare_world.proofs.OneOrder.{In}
 use Rattle.fare_history.specs.Serving.{device_of, IsOfDevice, IsDated, given, given_all}
 use Rattle.fare_history.specs.Gathering.{Entry, is_new, done_by, storing, storing_all, items_of}
-use Rattle.fare_history.proofs.Entries.{is_one, other_way, put_here}
+use Rattle.fare_store.proofs.Entries.{is_one, other_way, put_here}
 use Rattle.fare_history.proofs.Judged.{judged_by}
 use Rattle.fare_agreement.specs.Totals.{over, days_stated, had_by, held_by, is_taken_new, stored_new, taken_new}
-use Rattle.fare_agreement.proofs.WeekTaken.{entry_of, distinct_parts}
+use Rattle.fare_world.proofs.WeekInOrder.{entry_of, distinct_parts}
 
 -- SUMS
 over_others : (ds : List (ℕ × Placement)) (f g : ℕ → ℕ) (d : ℕ) → AllByRecursion (λ j. nat_eq d j ≡ false) (keys_of ds) → ((j : ℕ) → (j == d) ≡ false → g j ≡ f j) → over ds g ≡ over ds f

@@ -14,7 +14,7 @@ use Rattle.fare_world.specs.Headline.{IsPrefixOf}
 use Rattle.fare_world.specs.Knowing.{knows_owner}
 use Rattle.fare_world.proofs.Lanes.{closed_more}
 use Rattle.fare_world.proofs.Places.{slice_get-end}
-use Rattle.fare_history.proofs.Entries.{put_all, put_both, put_here, is_one}
+use Rattle.fare_store.proofs.Entries.{put_all, put_both, put_here, is_one}
 use Rattle.fare_history.specs.Serving.{Cursors, IsComingRow, AreNextItems, moved_by, given, given_all, pruned_to, pruned_to_all}
 use Rattle.fare_history.specs.Stores.{StoresValue}
 use Rattle.fare_agreement.specs.Agreeing.{had, AreCountsOf, LaneAgrees, lane_agrees, Agrees}

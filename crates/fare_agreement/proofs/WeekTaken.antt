@@ -30,94 +30,13 @@ use Rattle.fare_world.specs.Billing.{first_open}
 use Rattle.fare_world.specs.Headline.{IsPrefixOf, of_days}
 use Rattle.fare_world.proofs.Lanes.{day_count-append, closed_past, closed_within}
 use Rattle.fare_world.proofs.Showing.{part_get}
-use Rattle.fare_world.proofs.Tables.{if_all}
 use Rattle.fare_agreement.specs.Agreeing.{AreNumberedLists, AreCountsOf, AreClosedOf}
 use Rattle.fare_agreement.specs.Parts.{parts_of}
 use Rattle.fare_agreement.proofs.Numbers.{lanes_count}
 use Rattle.fare_agreement.proofs.Prefixes.{prefix_at}
+use Rattle.fare_world.proofs.Closing.{of_days-none}
+use Rattle.fare_world.proofs.WeekInOrder as world
 use Rattle.fare_world.proofs.OneOrder.{In, in_from, in_at, in_filter, of_filter, in_flat, of_flat, AreApart, apart_from, apart_append, apart_filter, one_order}
-
--- TAPS THAT TIE
-then_equal : (x y : Ordering) → ordering_then x y ≡ Equal → (x ≡ Equal) × (y ≡ Equal)
-then_equal Less y e = absurd (cc)
-then_equal Equal y e = (refl, e)
-then_equal Greater y e = absurd (cc)
-
-equal_from : (x y : Ordering) → x ≡ Less → is_lt x ≡ false → x ≡ y
-equal_from x y less none =
-    let both : true ≡ false = sym (ap is_lt less) ∙ none in
-    absurd (cc)
-
-compared : (a b : RecordValue) → ties is_before a b ≡ true → compare_taps a b ≡ Equal
-compared a b tie = by (compare_taps a b) refl
-  where
-    parts : (not (is_before a b) ≡ true) × (not (is_before b a) ≡ true)
-    parts = and_parts (not (is_before a b)) (not (is_before b a)) tie
-
-    by : (r : Ordering) → compare_taps a b ≡ r → compare_taps a b ≡ Equal
-    by Equal e = e
-    by Less e = equal_from (compare_taps a b) Equal e (not-true (is_before a b) parts.0)
-    by Greater e =
-        let back : compare_taps b a ≡ Less = compare_total.antisymm b a ∙ ap ordering_reverse e in
-        let none : Less ≡ Equal = sym back ∙ equal_from (compare_taps b a) Equal back (not-true (is_before b a) parts.1) in
-        absurd (cc)
-
--- they are of one device and have one lane number
-ties_tell : (a b : RecordValue) → ties is_before a b ≡ true → (a.device ≡ b.device) × (a.lane ≡ b.lane)
-ties_tell a b tie =
-    let outer = then_equal (ordering_then (nat_cmp a.tap.moment b.tap.moment) (nat_cmp a.device b.device)) (nat_cmp a.lane b.lane) (compared a b tie) in
-    let inner = then_equal (nat_cmp a.tap.moment b.tap.moment) (nat_cmp a.device b.device) outer.0 in
-    (exact_unsigned a.device b.device inner.1, exact_unsigned a.lane b.lane outer.1)
-
--- none is before itself
-before_itself : (a : RecordValue) → ledger.is_before a a ≡ false
-before_itself a = (λ i. if less a.tap.day i then true else if less a.tap.day i then false else if less a.tap.moment i then true else if less a.tap.moment i then false else if less a.device i then true else if less a.device i then false else less a.lane i)
-  where
-    less : (n : ℕ) → nat_lt n n ≡ false
-    less n = grind (arith, nat_tests)
-
-pub distinct_parts : (k : ℕ) (ks : List ℕ) → IsDistinct nat_eq (k ∷ ks) → AllByRecursion (λ j. nat_eq k j ≡ false) ks × IsDistinct nat_eq ks
-unfolding IsDistinct
-distinct_parts k ks h = h
-
--- where there is no tap of any of the days, the taps of these days are none
-of_days-none : (from to : ℕ) (rs : List RecordValue) → ((day : ℕ) → from ≤ day → day ≤ to → day_count rs day ≡ 0) → of_days from to rs ≡ []
-of_days-none from to [] none = refl
-of_days-none from to (r ∷ rs) none =
-    if_all (nat_le from r.tap.day && nat_le r.tap.day to) (λ l. l ≡ []) (r ∷ of_days from to rs) (of_days from to rs)
-    (λ is. absurd (here (within is).0 (within is).1))
-    (λ _. of_days-none from to rs (λ day first last. omega (arith, none day first last, day_count-append (r ∷ []) rs day)))
-  where
-    within : (nat_le from r.tap.day && nat_le r.tap.day to) ≡ true → (from ≤ r.tap.day) × (r.tap.day ≤ to)
-    within is = (grind (arith, nat_tests), grind (arith, nat_tests))
-
-    here : from ≤ r.tap.day → r.tap.day ≤ to → ⊥
-    here first last =
-        let one : day_count (r ∷ []) r.tap.day ≡ 1 = grind (arith, nat_tests) in
-        omega (arith, none r.tap.day first last, day_count-append (r ∷ []) rs r.tap.day, one)
-
--- a registered device
-pub entry_of : (ds : List (ℕ × Placement)) (d : ℕ) → (option_map (λ (p : Placement). p.station) (lookup (nat_eq d) ds) ≡ None) ⊎ ((e : ℕ × Placement) × In e ds × (e.0 ≡ d))
-entry_of [] d = inl refl
-entry_of (e ∷ ds) d = by (nat_eq d e.0) refl (entry_of ds d)
-  where
-    by : (t : Bool) → nat_eq d e.0 ≡ t → (option_map (λ (p : Placement). p.station) (lookup (nat_eq d) ds) ≡ None) ⊎ ((x : ℕ × Placement) × In x ds × (x.0 ≡ d))
-        → (option_map (λ (p : Placement). p.station) (lookup (nat_eq d) (e ∷ ds)) ≡ None) ⊎ ((x : ℕ × Placement) × In x (e ∷ ds) × (x.0 ≡ d))
-    by true same rest = inr (e, inl refl, grind (arith, nat_tests))
-    by false differ (inr there) = inr (there.0, inr there.1, there.2)
-    by false differ (inl none) = inl (ap (λ t. option_map (λ (p : Placement). p.station) (if t then Some e.1 else lookup (nat_eq d) ds)) differ ∙ none)
-
--- where no device is open, each is closed
-closed_all : (start : ℕ) (closed : ℕ → ℕ) (day : ℕ) (ds : List (ℕ × Placement)) → first_open start closed day ds ≡ None → (d : ℕ × Placement) → In d ds → (nat_le start day && nat_lt day (start + closed d.0)) ≡ true
-closed_all start closed day [] none d i = absurd i
-closed_all start closed day (e ∷ ds) none d i = by (λ rest there. closed_all start closed day ds rest d there) (nat_le start day && nat_lt day (start + closed e.0)) refl i
-  where
-    by : (first_open start closed day ds ≡ None → In d ds → (nat_le start day && nat_lt day (start + closed d.0)) ≡ true) → (t : Bool) → (nat_le start day && nat_lt day (start + closed e.0)) ≡ t → In d (e ∷ ds) → (nat_le start day && nat_lt day (start + closed d.0)) ≡ true
-    by rest true holds (inl same) = ap (λ (x : ℕ × Placement). nat_le start day && nat_lt day (start + closed x.0)) (sym same) ∙ holds
-    by rest true holds (inr there) = rest (sym (ap (λ t. if t then first_open start closed day ds else Some e.0) holds) ∙ none) there
-    by rest false fails there =
-        let unclosed : Some e.0 ≡ None = sym (ap (λ t. if t then first_open start closed day ds else Some e.0) fails) ∙ none in
-        absurd (cc)
 
 -- what is kept of several lists is what is kept of each
 filter_flat : {X : Type 0} (p : RecordValue → Bool) (f : X → List RecordValue) (xs : List X) → filter p (flat_map f xs) ≡ flat_map (λ x. filter p (f x)) xs
@@ -135,51 +54,6 @@ module _ (sc : SchemeValue) (lists : ℕ → List RecordValue) (all : AreNumbere
         lanes_count d taps (all.numbered d) o (length taps) k r (ap (λ l. slice_get (part o l) k) whole ∙ at),
         (all.numbered d found.0 r found.1).of_device,
       )
-
-  -- no two of a device tie
-  lane_apart : (d : ℕ) → AreApart (part o (lists d))
-  lane_apart d = apart_from (part o (lists d)) far
-    where
-      far : (j k : ℕ) (a b : RecordValue) → j < k → slice_get (part o (lists d)) j ≡ Some a → slice_get (part o (lists d)) k ≡ Some b → ties is_before a b ≡ false
-      far j k a b lt first second = by (ties is_before a b) refl
-        where
-          by : (t : Bool) → ties is_before a b ≡ t → ties is_before a b ≡ false
-          by false e = e
-          by true e = absurd (omega (arith, lt, (placed d j a first).0, (placed d k b second).0, (ties_tell a b e).1))
-
-  -- nor two of several
-  flat_apart : (f : ℕ → List RecordValue) → ((d : ℕ) → AreApart (f d)) → ((d : ℕ) (r : RecordValue) → In r (f d) → r.device ≡ d) → (ds : List (ℕ × Placement)) → IsDistinct nat_eq (keys_of ds) → AreApart (flat_map (λ (d : ℕ × Placement). f d.0) ds)
-  flat_apart f apart of [] distinct = tt
-  flat_apart f apart of (d ∷ ds) distinct =
-      apart_append (f d.0) (flat_map (λ (e : ℕ × Placement). f e.0) ds) (apart d.0) (flat_apart f apart of ds (distinct_parts d.0 (keys_of ds) distinct).1) across
-    where
-      others : (es : List (ℕ × Placement)) (e : ℕ × Placement) → AllByRecursion (λ k. nat_eq d.0 k ≡ false) (keys_of es) → In e es → nat_eq d.0 e.0 ≡ false
-      others [] e every i = absurd i
-      others (x ∷ es) e every (inl same) = ap (λ (y : ℕ × Placement). nat_eq d.0 y.0) (sym same) ∙ every.0
-      others (x ∷ es) e every (inr i) = others es e every.1 i
-
-      across : (a b : RecordValue) → In a (f d.0) → In b (flat_map (λ (e : ℕ × Placement). f e.0) ds) → ties is_before a b ≡ false
-      across a b i j = by (ties is_before a b) refl
-        where
-          by : (t : Bool) → ties is_before a b ≡ t → ties is_before a b ≡ false
-          by false e = e
-          by true e =
-              let there = of_flat (λ (x : ℕ × Placement). f x.0) ds b j in
-              let differ : nat_eq d.0 there.0.0 ≡ false = others ds there.0 (distinct_parts d.0 (keys_of ds) distinct).0 there.1 in
-              let same : d.0 ≡ there.0.0 = sym (of d.0 a i) ∙ (ties_tell a b e).0 ∙ of there.0.0 b there.2 in
-              absurd (grind (arith, nat_tests))
-
-  -- a registered device, where it has numbered a tap
-  registered : (d k : ℕ) (r : RecordValue) → slice_get (part o (lists d)) k ≡ Some r → (e : ℕ × Placement) × In e sc.devices × (e.0 ≡ d)
-  registered d k r at = elim (entry_of sc.devices d) [
-    | inl none ↦ absurd (nothing (all.known d none))
-    | inr found ↦ found
-  ]
-    where
-      nothing : lists d ≡ [] → ⊥
-      nothing none =
-          let empty : None ≡ Some r = sym (ap (λ l. slice_get (part o l) k) none) ∙ at in
-          absurd (cc)
 
   -- A LEDGER
   module _ (v : ledger.LedgerValue) (taken : (d : ℕ) → IsPrefixOf (v.taken d) (part o (lists d))) (stated : (d : ℕ) → AreCountsOf (part o (lists d)) (v.stated d)) (closed : (d : ℕ) → AreClosedOf (v.taken d) (v.stated d) (ledger.is_closed v d)) where
@@ -202,65 +76,8 @@ module _ (sc : SchemeValue) (lists : ℕ → List RecordValue) (all : AreNumbere
             omega (arith, counted, day_count-append (v.taken d) (taken d).0 day, ap (λ l. day_count l day) (taken d).1)
 
     module _ (from to : ℕ) (rows : List RecordValue) (between : ledger.AreTapsBetween v from to rows) where
-      rows_apart : AreApart rows
-      rows_apart = apart_from rows far
-        where
-          far : (j k : ℕ) (a b : RecordValue) → j < k → slice_get rows j ≡ Some a → slice_get rows k ≡ Some b → ties is_before a b ≡ false
-          far j k a b lt first second = by (ties is_before a b) refl
-            where
-              by : (t : Bool) → ties is_before a b ≡ t → ties is_before a b ≡ false
-              by false e = e
-              by true e =
-                  let tell = ties_tell a b e in
-                  let one = (between.taken j a first).0 in
-                  let other = (between.taken k b second).0 in
-                  let at_a = taken_at a.device one.0 a one.1 in
-                  let at_b = taken_at b.device other.0 b other.1 in
-                  let place : one.0 ≡ other.0 = omega (arith, (placed a.device one.0 a at_a).0, (placed b.device other.0 b at_b).0, tell.1) in
-                  let same : Some a ≡ Some b = sym at_a ∙ (λ i. slice_get (part o (lists (tell.0 i))) (place i)) ∙ at_b in
-                  let equal : a ≡ b = cc in
-                  let never : true ≡ false = sym (between.sorted j k a b lt first second) ∙ ap (λ x. ledger.is_before a x) (sym equal) ∙ before_itself a in
-                  absurd (cc)
-
       pub week_in_order : IsScheme sc → v.start ≤ from → first_open v.start v.closed to sc.devices ≡ None → in_order rows ≡ in_order (flat_map (λ (d : ℕ × Placement). of_days from to (part o (lists d.0))) sc.devices)
-      week_in_order valid first none = one_order rows _ rows_apart
-          (flat_apart (λ d. of_days from to (part o (lists d))) (λ d. apart_filter among (part o (lists d)) (lane_apart d)) of_one sc.devices valid.devices.distinct) forth back
-        where
-          among : RecordValue → Bool
-          among r = nat_le from r.tap.day && nat_le r.tap.day to
-
-          of_one : (d : ℕ) (r : RecordValue) → In r (of_days from to (part o (lists d))) → r.device ≡ d
-          of_one d r i =
-              let there = in_at (part o (lists d)) r (of_filter among (part o (lists d)) r i).0 in
-              (placed d there.0 r there.1).1
-
-          forth : (r : RecordValue) → In r rows → In r (flat_map (λ (d : ℕ × Placement). of_days from to (part o (lists d.0))) sc.devices)
-          forth r i =
-              let at = in_at rows r i in
-              let tells = between.taken at.0 r at.1 in
-              let numbered = taken_at r.device tells.0.0 r tells.0.1 in
-              let entry = registered r.device tells.0.0 r numbered in
-              let of_week : among r ≡ true = and_from (nat_le from r.tap.day) (nat_le r.tap.day to) (within tells.1) (within tells.2) in
-              in_flat (λ (d : ℕ × Placement). of_days from to (part o (lists d.0))) sc.devices entry.0 r entry.1
-              (subst (λ d. In r (of_days from to (part o (lists d)))) (sym entry.2) (in_filter among (part o (lists r.device)) r (in_from (part o (lists r.device)) tells.0.0 r numbered) of_week))
-            where
-              within : {a b : ℕ} → a ≤ b → nat_le a b ≡ true
-              within le = grind (arith, nat_tests)
-
-          back : (r : RecordValue) → In r (flat_map (λ (d : ℕ × Placement). of_days from to (part o (lists d.0))) sc.devices) → In r rows
-          back r i =
-              let there = of_flat (λ (d : ℕ × Placement). of_days from to (part o (lists d.0))) sc.devices r i in
-              let d = there.0.0 in
-              let shut : ledger.is_closed v d to ≡ true = closed_all v.start v.closed to sc.devices none there.0 there.1 in
-              let both = of_filter among (v.taken d) r (subst (In r) (sym (whole d from to first shut)) there.2) in
-              let at = in_at (v.taken d) r both.0 in
-              let days = and_parts (nat_le from r.tap.day) (nat_le r.tap.day to) both.1 in
-              let same : d ≡ r.device = sym (placed d at.0 r (taken_at d at.0 r at.1)).1 in
-              let found = between.all d at.0 r at.1 (within days.0) (within days.1) in
-              in_from rows found.0 r found.1
-            where
-              within : {a b : ℕ} → nat_le a b ≡ true → a ≤ b
-              within holds = grind (arith, nat_tests)
+      week_in_order valid first none = world.week_in_order sc (λ d. part o (lists d)) placed (λ d unknown. ap (part o) (all.known d unknown)) v taken_at from to rows between v.start v.closed valid (λ d shut. whole d from to first shut) none
 
     -- THE BILL
     pub bill_is : (day : ℕ) (rows : List RecordValue) → IsScheme sc → v.start ≡ sc.start → first_open v.start v.closed day sc.devices ≡ None → ledger.AreTapsBetween v (week_start sc day) day rows → bill_of sc rows day ≡ bill_of sc (parts_of sc lists o) day

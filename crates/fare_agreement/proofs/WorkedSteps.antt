@@ -9,7 +9,7 @@ use Rattle.fare_world.specs.Knowing.{knows_owner}
 use Rattle.fare_world.proofs.Known.{station_where_placed}
 use Rattle.fare_history.specs.Serving.{IsOfDevice}
 use Rattle.fare_history.specs.Stores.{Serves_owner, stores_after}
-use Rattle.fare_history.proofs.Entries.{is_one}
+use Rattle.fare_store.proofs.Entries.{is_one}
 use Rattle.fare_agreement.specs.Agreeing.{IsNumberedAt, AreNumberedLists, Agrees}
 use Rattle.fare_agreement.specs.Stopping.{IsBegunOf, IsLeftBy, AreLeft}
 use Rattle.fare_agreement.specs.WorkedStop.{first_tap, second_tap, two_taps, empty_outbox, empty_ledger, both_stored, takes_both, prunes_alone}

@@ -4,6 +4,7 @@ use Rattle.std.specs.Prelude.{Option, is_some, nat_le, if◌then◌else◌}
 use Rattle.std.proofs.lemmas.Bool.Decides.{nat_tests}
 use Rattle.fare_record.specs.Values.{RecordValue, StatementValue}
 use Rattle.fare_store.specs.OutboxWords.{OutboxValue, IsNextRow, IsNextStatement}
+use Rattle.fare_sessions.proofs.NextClose.{there_is, there_is_none}
 use Rattle.fare_desk.specs.Showing.{HasFrom, stated_days}
 
 -- so many entries are found, and the others stand from here on
@@ -31,9 +32,6 @@ pub row_none : (rows : ℕ → ℕ → ℕ → Option RecordValue) (owner device
 row_none rows owner device from found last was is = found_all (rows owner device) from found (last + 1) was (λ place le. is place (omega (arith, le)))
 
 -- STATEMENTS
-there : (x : OutboxValue) (owner device day : ℕ) → day ≤ 100000 → stated_days x owner device day ≡ x.stated owner device day
-there x owner device day le = let yes : nat_le day 100000 ≡ true = grind (arith, nat_tests) in ap (λ (b : Bool). if b then x.stated owner device day else None) yes
-
 not_there : (x : OutboxValue) (owner device day : ℕ) → x.stated owner device day ≡ None → stated_days x owner device day ≡ None
 not_there x owner device day none = by (nat_le day 100000)
   where
@@ -41,18 +39,15 @@ not_there x owner device day none = by (nat_le day 100000)
     by true = none
     by false = refl
 
-late : (x : OutboxValue) (owner device day : ℕ) → 100000 < day → stated_days x owner device day ≡ None
-late x owner device day lt = let no : nat_le day 100000 ≡ false = grind (arith, nat_tests) in ap (λ (b : Bool). if b then x.stated owner device day else None) no
-
 pub statement_more : (x : OutboxValue) (owner device from found here : ℕ) (s : StatementValue) → s.day ≤ 100000 → Found (stated_days x owner device) from found here → IsNextStatement x.stated owner device here (Some s) → Found (stated_days x owner device) from (found + 1) (s.day + 1)
 statement_more x owner device from found here s le was is =
-    found_more (stated_days x owner device) from found here s.day was is.not_before (ap is_some (there x owner device s.day le ∙ is.is_held)) (λ place first last. not_there x owner device place (is.least place first last))
+    found_more (stated_days x owner device) from found here s.day was is.not_before (ap is_some (there_is (x.stated owner device) s.day le ∙ is.is_held)) (λ place first last. not_there x owner device place (is.least place first last))
 
 pub statement_none : (x : OutboxValue) (owner device from found here : ℕ) → Found (stated_days x owner device) from found here → IsNextStatement x.stated owner device here None → HasFrom (stated_days x owner device) from found
 statement_none x owner device from found here was is = found_all (stated_days x owner device) from found here was (λ place le. not_there x owner device place (is place le))
 
 pub statement_last : (x : OutboxValue) (owner device from found here : ℕ) → 100000 < here → Found (stated_days x owner device) from found here → HasFrom (stated_days x owner device) from found
-statement_last x owner device from found here lt was = found_all (stated_days x owner device) from found here was (λ place le. late x owner device place (omega (arith, lt, le)))
+statement_last x owner device from found here lt was = found_all (stated_days x owner device) from found here was (λ place le. there_is_none (x.stated owner device) place (omega (arith, lt, le)))
 
 pub none_late : (x : OutboxValue) (owner device from : ℕ) → 100000 < from → HasFrom (stated_days x owner device) from 0
-none_late x owner device from lt = λ place le. late x owner device place (omega (arith, lt, le))
+none_late x owner device from lt = λ place le. there_is_none (x.stated owner device) place (omega (arith, lt, le))

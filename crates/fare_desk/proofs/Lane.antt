@@ -16,7 +16,7 @@ use Rattle.fare_store.specs.Tables.{put}
 use Rattle.fare_store.specs.OutboxWords.{OutboxValue}
 use Rattle.fare_store.specs.LedgerWords.{LedgerValue, close_of, is_closed}
 use Rattle.fare_history.specs.Stores.{StoresValue}
-use Rattle.fare_history.proofs.Entries.{put_here, is_self}
+use Rattle.fare_store.proofs.Entries.{put_here, is_self}
 use Rattle.fare_sessions.specs.declared.hub.Hub.{Hub}
 use Rattle.fare_sessions.specs.Billing.{IsToClose, OnlyReads, first_unclosed, stated_of}
 use Rattle.fare_sessions.specs.Stores.{AreClean, AreSound, MayStandAs}
@@ -329,7 +329,7 @@ module _ {O L : Type 0} (outbox : O → Standing OutboxValue) (ledger : L → St
         let h = e.0 in
         let v = h.ledgers owner in
         let late : 100000 < unclosed_day v device n = omega (arith, le) in
-        let none = there_is_none v device (unclosed_day v device n) late in (
+        let none = there_is_none (v.stated device) (unclosed_day v device n) late in (
           h,
           e.1,
           (

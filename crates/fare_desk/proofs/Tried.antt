@@ -10,7 +10,7 @@ use Rattle.fare_store.specs.OutboxWords.{OutboxValue}
 use Rattle.fare_store.specs.LedgerWords.{LedgerValue, close_of, with_close}
 use Rattle.fare_history.specs.Holding.{MayHold}
 use Rattle.fare_history.specs.Stores.{StoresValue}
-use Rattle.fare_history.proofs.Entries.{put_here}
+use Rattle.fare_store.proofs.Entries.{put_here}
 use Rattle.fare_sessions.specs.declared.closing.ClosingFault.{ClosingFault}
 use Rattle.fare_sessions.specs.declared.closing.ClosingFault.TheVariants as closing
 use Rattle.fare_sessions.specs.declared.hub.Hub.{Hub}

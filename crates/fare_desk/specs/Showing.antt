@@ -9,7 +9,7 @@ use Rattle.fare_store.specs.OutboxWords.{OutboxValue}
 use Rattle.fare_store.specs.LedgerWords.{LedgerValue, closed_through}
 use Rattle.fare_history.specs.Stores.{StoresValue}
 use Rattle.fare_sessions.specs.declared.hub.Hub.{Hub}
-use Rattle.fare_sessions.specs.Billing.{first_unclosed}
+use Rattle.fare_sessions.specs.Billing.{first_unclosed, of_a_day}
 use Rattle.fare_sessions.specs.Stores.{AreClean, AreSound, StoresFollow, MayStandAs}
 use Rattle.fare_desk.specs.Closing.{lanes_of}
 use Rattle.fare_desk.specs.declared.standing.Lane.{Lane}
@@ -23,9 +23,9 @@ HasFrom table from (suc n) = (first : ℕ) × (from ≤ first) × (is_some (tabl
 abbrev pub HasRows : StoresValue → ℕ → ℕ → ℕ → Type 0
 HasRows h owner device n = HasFrom (h.outbox.rows owner device) (length ((h.ledgers owner).taken device) + 1) n
 
--- the counts of a device's days, of which the last is 100,000
+-- the counts of a device's days
 abbrev pub stated_days : OutboxValue → ℕ → ℕ → ℕ → Option ℕ
-stated_days x owner device day = if nat_le day 100000 then x.stated owner device day else None
+stated_days x owner device = of_a_day (x.stated owner device)
 
 abbrev pub HasStatements : StoresValue → ℕ → ℕ → ℕ → Type 0
 HasStatements h owner device n = HasFrom (stated_days h.outbox owner device) (first_unclosed (h.ledgers owner) device) n

@@ -16,7 +16,7 @@ use Rattle.std.specs.List.{AllByRecursion}
 use Rattle.std.proofs.lemmas.List.{append-nil}
 use Rattle.fare_history.specs.Gathering.{links_of, CountsFrom, IsHandled, IsAnswerFrom, Entry, Gathering, items_of, stored_hand, hand_stored, storing_all, AreStored, IsGathering}
 use Rattle.fare_history.proofs.Growing.{stored-push}
-use Rattle.fare_history.proofs.Entries.{is_one}
+use Rattle.fare_store.proofs.Entries.{is_one}
 
 put_same : {A : Type 0} (f : ℕ → A) (k : ℕ) (v : A) → f k ≡ v → put f k v ≡ f
 put_same f k v same = λ i j. by j (j == k) refl i

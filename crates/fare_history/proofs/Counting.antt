@@ -7,7 +7,7 @@ use Rattle.fare_store.specs.Tables.{put}
 use Rattle.fare_store.specs.OutboxWords.{OutboxValue, stored_statement}
 use Rattle.fare_history.specs.Gathering.{with_link, links_of, CountsFrom, is_new, storing, IsHandled}
 use Rattle.fare_history.proofs.Judged.{stored_new, tap_is_new}
-use Rattle.fare_history.proofs.Entries.{is_self, other_way, put_apart, put_both}
+use Rattle.fare_store.proofs.Entries.{is_self, other_way, put_apart, put_both}
 
 -- what a station accepts next of each device, after an item
 abbrev pub next_after : (ℕ → ℕ) → Item → ℕ → ℕ

@@ -18,7 +18,8 @@ use Rattle.fare_store.specs.declared.fault.StatedFault.{StatedFault}
 use Rattle.fare_store.specs.declared.fault.StatedFault.TheVariants as stated
 use Rattle.fare_store.specs.OutboxWords.{OutboxValue, store_judged, stored, stored_statement, stated_judged_by}
 use Rattle.fare_store.specs.LedgerWords.{IsAmong}
-use Rattle.fare_history.proofs.Entries.{is_one, is_self, other_way, put_here, put3_all, put3_here, list_all-weaken, all-weaken, all-append}
+use Rattle.fare_store.proofs.Entries.{is_one, is_self, other_way, put_here, put3_all, put3_here}
+use Rattle.fare_history.proofs.Entries.{list_all-weaken, all-weaken, all-append}
 use Rattle.fare_history.specs.Gathering.{with_link, links_of, CountsFrom, is_new, storing, IsHandled, IsAnswerFrom, Entry, Gathering, items_of, answers_of, accepted_by, storing_all, AreStored, IsGathering}
 use Rattle.fare_history.specs.Serving.{in_hand}
 use Rattle.fare_history.specs.Plainly.{with_tap, taps_in, IsStatedIn, IsCovered, GathersPlainly, IsRefusedByOutbox, ShowsWhyNot}

@@ -11,7 +11,7 @@ use Rattle.fare_store.specs.declared.fault.StatedFault.{StatedFault}
 use Rattle.fare_store.specs.declared.fault.StatedFault.TheVariants as stated
 use Rattle.fare_store.specs.OutboxWords.{OutboxValue, stated_judged_by}
 use Rattle.fare_history.specs.Gathering.{is_new, done_by, IsRepeated, storing, IsHandled}
-use Rattle.fare_history.proofs.Entries.{is_one}
+use Rattle.fare_store.proofs.Entries.{is_one}
 
 -- WHAT IT LEAVES
 pub stored_new : (x : OutboxValue) (i : Item) → is_new x i ≡ true → storing x i ≡ done_by i x

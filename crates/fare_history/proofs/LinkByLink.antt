@@ -18,7 +18,8 @@ use Rattle.fare_collector.specs.declared.fault.StatementRefusal.{StatementRefusa
 use Rattle.fare_history.specs.Gathering.{links_of, CountsFrom}
 use Rattle.fare_history.specs.Plainly.{taps_in}
 use Rattle.fare_history.specs.AcceptedLinks.{IsLink, IsNotLink, IsFirstLink, AreAcceptedLinks, tap_judged, stating_judged, arrived_if, moved_if, arrivals}
-use Rattle.fare_history.proofs.Entries.{is_one, is_self, other_way, is_own_id, all-right}
+use Rattle.fare_store.proofs.Entries.{is_one, is_self, other_way}
+use Rattle.fare_history.proofs.Entries.{is_own_id, all-right}
 
 -- ONE TAP
 -- the verdict by the owner's test, and whether the link is before or behind the next one

@@ -18,7 +18,8 @@ use Rattle.fare_owner.specs.declared.statement.StatementFault.TheVariants.{NotMi
 use Rattle.fare_store.specs.Tables.{put, put2}
 use Rattle.fare_store.specs.OutboxWords.{OutboxValue, behind}
 use Rattle.fare_store.specs.LedgerWords.{LedgerValue, IsOfScheme, is_mine, is_closed, took, with_statement}
-use Rattle.fare_history.proofs.Entries.{if_all, is_one, is_self, put_all, put_both, put2_all, put2_here, put2_apart, put_here, element_at, all-right}
+use Rattle.fare_store.proofs.Entries.{if_all, is_one, is_self, put_all, put_both, put2_all, put2_here, put2_apart, put_here}
+use Rattle.fare_history.proofs.Entries.{element_at, all-right}
 use Rattle.fare_history.specs.Serving.{Cursors, behind_ledger, moved_by, moved_by_all, IsNextItem, AreNextItems, given_all, pruned_to, pruned_to_all, Service, in_hand, IsComingStatement, device_of, IsOfDevice, IsService, IsUnrefused, AreUnrefused}
 use Rattle.fare_history.specs.Plainly.{ExtendsBy, IsKeptOrPruned, ServesPlainly, IsFinished, IsWholeService, IsRefused, ShowsWhy}
 use Rattle.fare_history.proofs.Growing.{items_first, items_then}

@@ -9,7 +9,8 @@ use Rattle.fare_record.specs.declared.item.Item.{Item}
 use Rattle.fare_record.specs.declared.item.Item.TheVariants as item
 use Rattle.fare_history.specs.Serving.{device_of}
 use Rattle.fare_history.specs.Gathering.{with_link, links_of, CountsFrom, of_station}
-use Rattle.fare_history.proofs.Entries.{is_one, is_own_id}
+use Rattle.fare_store.proofs.Entries.{is_one}
+use Rattle.fare_history.proofs.Entries.{is_own_id}
 
 -- a device's links are those in its station's list
 links_of_station : (sc : SchemeValue) (d st : ℕ) → station_of sc d ≡ Some st → (is : List Item) → links_of d (of_station sc st is) ≡ links_of d is

@@ -14,7 +14,7 @@ use Rattle.fare_history.specs.Serving.{Cursors, behind_ledger, moved_by_all, IsS
 use Rattle.fare_history.specs.Gathering.{CountsFrom, IsGathering}
 use Rattle.fare_history.specs.Plainly.{IsFinished}
 use Rattle.fare_history.specs.Examples.{one_device, two_devices, tap_number, day_statement, new_outbox, full_outbox, new_ledger, closed_ledger, whole_service, cut_service, crowded_service, taking, had_upto, had_day, tap_entry, whole_gathering, holding_back, storing_only}
-use Rattle.fare_history.proofs.Entries.{if_all, is_one, above}
+use Rattle.fare_store.proofs.Entries.{if_all, is_one, above}
 
 -- TABLES
 -- the entry of a place above the one that was written

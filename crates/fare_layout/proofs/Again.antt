@@ -15,7 +15,7 @@ use Rattle.sqlite_schema.specs.declared.command.Returning.{Returning}
 use Rattle.fare_tables.specs.Making.{IsWhole, Defines}
 use Rattle.fare_layout.specs.Growing.{Creates, CanMake, Grows, GrowsBy}
 
-same_ok : {X : Type 0} {x y : X} → ◌≡◌ {A = Result X CompileError} (Ok x) (Ok y) → x ≡ y
+pub same_ok : {X : Type 0} {x y : X} → ◌≡◌ {A = Result X CompileError} (Ok x) (Ok y) → x ≡ y
 same_ok e = cc
 
 -- a text is read alike under any schema

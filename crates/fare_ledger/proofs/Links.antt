@@ -30,7 +30,7 @@ use Rattle.sqlite_schema.specs.declared.schema.Keys.{Keys}
 use Rattle.sqlite.proofs.Callers.{statement_of, runs_as, one_step, one_permutation}
 use Rattle.fare_tables.specs.Cells.{nat_in, int, id_of, AreRows}
 use Rattle.fare_tables.proofs.Lists.{member, of_filter}
-use Rattle.fare_tables.proofs.Rows.{all_of, held_one}
+use Rattle.fare_tables.proofs.Rows.{has_none, one_id, all_of, held_one}
 use Rattle.fare_tables.proofs.Statements.{made, cast_int, cast_null, went, same_value}
 use Rattle.fare_tables.proofs.Terms.{chosen, matched, eq_holds, one_term}
 use Rattle.fare_opening.specs.Numbers.{Meta, Device, Tap, Stated}
@@ -55,14 +55,6 @@ renew_cell a v w d k c = rw (eq_holds a d) (one_term (a == d) (given d k c ∷ l
 renew_each : (d k c : ℕ) (r : Row) → IsLane r → matches_as Null (λ _. []) renew_query.filter end (given d k c ∷ r ∷ []) ≡ chosen (id_of r == d) (given d k c ∷ r ∷ [])
 renew_each d k c r ok = subst (λ x. matches_as Null (λ _. []) renew_query.filter end (given d k c ∷ x ∷ []) ≡ chosen (id_of x == d) (given d k c ∷ x ∷ [])) (sym ok) (renew_cell (id_of r) (nat_in (column r 2)) (nat_in (column r 3)) d k c)
 
-has_none : (rows : List Row) (x : Row) (d : ℕ) → Has rows x → id_of x ≡ d → filter (λ r. id_of r == d) rows ≡ [] → ⊥
-has_none [] x d has is none = absurd has
-has_none (r ∷ rows) x d (inl here) is none = let same : (id_of r == d) ≡ true = let e = ap id_of (sym here) ∙ is in grind (arith, nat_tests) in absurd (let e = rw same at none in cc)
-has_none (r ∷ rows) x d (inr there) is none = elim (cases_Bool (id_of r == d)) [
-  | inl same ↦ absurd (let e = rw same at none in cc)
-  | inr other ↦ has_none rows x d there is (rw other at none)
-]
-
 -- the one row that takes the place of the device's own, with its old rowid first
 renews : (db : Trees) (d k c : ℕ) (x : Row) (rows : List Row) → AreRows IsLane (db 1) → Has (db 1) x → id_of x ≡ d → IsAnswer renew_query (overlay db []) (given d k c) rows → rows ≡ (int d ∷ int d ∷ Null ∷ int k ∷ int c ∷ []) ∷ []
 renews db d k c x rows ok has is a =
@@ -76,9 +68,6 @@ renews db d k c x rows ok has is a =
           let id : column one.0 0 ≡ int d = lane_ids one.0 one.1 ∙ ap int (one_id (db 1) one.0 d one.2) in
           a.shown ∙ ap (λ xs. page renew_query (given d k c) (map (λ (p : Output). p.1) xs)) ordered ∙ ap (λ v. (v ∷ v ∷ Null ∷ int k ∷ int c ∷ []) ∷ []) id)
     ]
-  where
-    one_id : (rows : List Row) (r : Row) (d : ℕ) → filter (λ y. id_of y == d) rows ≡ r ∷ [] → id_of r ≡ d
-    one_id rows r d is = let it = (of_filter (λ y. id_of y == d) rows r (subst (λ ys. Has ys r) (sym is) (inl refl))).1 in grind (arith, nat_tests)
 
 -- ---- the conflict
 

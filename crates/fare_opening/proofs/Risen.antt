@@ -6,13 +6,12 @@ use Rattle.std.proofs.lemmas.List.{length-append}
 use Rattle.sqlite.specs.Change.{created}
 use Rattle.sqlite.specs.Schema.{Schema}
 use Rattle.sqlite.specs.Table.{Table}
-use Rattle.sqlite_resolve.specs.declared.error.CompileError.{CompileError}
 use Rattle.fare_tables.specs.Making.{no_schema}
 use Rattle.fare_layout.specs.declared.place.Place.{Place}
 use Rattle.fare_layout.specs.Places.{all_of, or_nowhere}
 use Rattle.fare_layout.specs.Growing.{CanMakeAll, GrowsBy, AreLast, GoOn}
 use Rattle.fare_layout.specs.Layouts.{Stands}
-use Rattle.fare_layout.proofs.Again.{same_grown}
+use Rattle.fare_layout.proofs.Again.{same_grown, same_ok}
 use Rattle.fare_opening.specs.declared.site.Site.{Site}
 use Rattle.fare_opening.specs.Parts.{Parts, OlderParts, IsDesign, IsOlder, HasFewKeys, parts_of}
 use Rattle.fare_opening.specs.Raising.{Rises}
@@ -22,9 +21,6 @@ use Rattle.fare_opening.proofs.Standing.{same_at, place_count}
 use Rattle.fare_opening.proofs.Vacant.{again_all}
 
 -- ---- the tables that it lacks can be made
-
-same_ok : {X : Type 0} {x y : X} → ◌≡◌ {A = Result X CompileError} (Ok x) (Ok y) → x ≡ y
-same_ok e = cc
 
 can_behind : (xs ys : List (List ℕ × List ℕ)) (s mid : Schema) → CanMakeAll s (xs ++ ys) → GrowsBy s xs mid → CanMakeAll mid ys
 can_behind [] ys s mid can same = subst (λ x. CanMakeAll x ys) same can

@@ -2,6 +2,7 @@
 use Rattle.std.proofs.Common.{◌≡◌, ◌≢◌, ◌<◌, inl, inr, ℕ, zero, suc, length, IsSome, arith, List, [], ◌∷◌, Option, Some, None, Ok, Result, IfSome, IfOk, OnErr, Bool, false, IsTrue, refl, sym, ap, subst, ◌∙◌, Err, nat_le, ◌^◌}
 use Rattle.std.specs.Prelude.{slice_get}
 use Rattle.std.specs.List.{AllByRecursion, AllZip}
+use Rattle.sqlite.specs.Compile.{table_defined_by}
 use Rattle.sqlite.specs.Does.{AtPlace, OnRows, Tally}
 use Rattle.sqlite.specs.Effect.{Database}
 use Rattle.sqlite.specs.Rows.{Task}
@@ -28,14 +29,16 @@ use Rattle.fare_layout.proofs.Untouched as untouched
 use Rattle.fare_layout.proofs.Grown.{same_places}
 use Rattle.fare_layout.proofs.Meant.{Meant, meant, same_some}
 use Rattle.fare_opening.specs.declared.site.Site.{Site}
-use Rattle.fare_opening.specs.Parts.{Parts, IsDesign, read_meta, put_meta, set_meta, reads_meta, puts_meta, sets_meta}
+use Rattle.fare_opening.specs.Parts.{Parts, IsDesign, HasFewKeys, read_meta, put_meta, set_meta, reads_meta, puts_meta, sets_meta}
 use Rattle.fare_opening.specs.Numbers.{Meta}
 use Rattle.fare_opening.specs.Sites.{IsSite, tree_at, rows_at}
 
--- ---- what an answer holds
+-- ---- a table's keys
 
-pub some_is : {X : Type 0} (o : Option X) (x : X) (P : X → Type 0) → o ≡ Some x → IfSome o P → P x
-some_is {X = X} o x P is holds = subst (λ (f : Option X). IfSome f P) is holds
+pub few_keys : (sql : List ℕ) (table : Table) → table_defined_by sql ≡ Ok table → length table.uniques < 1000 → HasFewKeys sql
+few_keys sql table is low = subst (λ r. IfOk r (λ t. length t.uniques < 1000)) (sym is) low
+
+-- ---- what an answer holds
 
 pub some_weaker : {X : Type 0} (o : Option X) (P Q : X → Type 0) → ((x : X) → P x → Q x) → IfSome o P → IfSome o Q
 some_weaker (Some x) P Q f p = f x p

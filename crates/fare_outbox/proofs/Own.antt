@@ -12,6 +12,7 @@ use Rattle.fare_tables.specs.Queries.{meta_table}
 use Rattle.fare_layout.specs.Schemas.{IsSimpleTable}
 use Rattle.fare_layout.specs.Places.{all_of}
 use Rattle.fare_layout.specs.Growing.{CanMake, CanMakeAll, Grows, GrowsBy, AreLast}
+use Rattle.fare_opening.proofs.Standing.{few_keys}
 use Rattle.fare_opening.specs.Parts.{IsDesign, HasFewKeys}
 use Rattle.fare_opening.proofs.Orders.{fit_as}
 use Rattle.fare_outbox.specs.Statements.{tables, texts, FitsOutbox, outbox_parts}
@@ -76,11 +77,8 @@ own_grows =
     let stated : Grows three_tables stated_text outbox_schema = record { table = stated_table 0; defines = record { plain = (refl, refl); whole = (refl, refl); defined = stated_is; uncounted = refl }; next_is = refl } in
     (one_table, meta, (two_tables, device, (three_tables, tap, (outbox_schema, stated, refl))))
 
-few : (sql : List ℕ) (table : Table) → table_defined_by sql ≡ Ok table → length table.uniques < 1000 → HasFewKeys sql
-few sql table is low = subst (λ r. IfOk r (λ t. length t.uniques < 1000)) (sym is) low
-
 own_few : AllByRecursion (λ t. HasFewKeys t.1) tables
-own_few = (few meta_text (meta_table 0) meta_is (omega arith), (few device_text (device_table 0) device_is (omega arith), (few tap_text (tap_table 0) tap_is (omega arith), (few stated_text (stated_table 0) stated_is (omega arith), tt))))
+own_few = (few_keys meta_text (meta_table 0) meta_is (omega arith), (few_keys device_text (device_table 0) device_is (omega arith), (few_keys tap_text (tap_table 0) tap_is (omega arith), (few_keys stated_text (stated_table 0) stated_is (omega arith), tt))))
 
 -- IT FITS
 pub own_fits : FitsOutbox outbox_schema own_places

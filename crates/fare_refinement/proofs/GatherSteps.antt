@@ -16,7 +16,8 @@ use Rattle.fare_event.specs.declared.event.Event.TheVariants as event
 use Rattle.fare_event.specs.declared.reply.Refusal.TheVariants.{Busy, Duplicate, Conflict, OutboxFull, Gap, UnknownStation, Unstated, Misrouted}
 use Rattle.fare_event.specs.declared.reply.Reply.{Reply}
 use Rattle.fare_event.specs.declared.reply.Reply.TheVariants as reply
-use Rattle.fare_world.specs.System.{put, Packet, Stated, Acked, Arrived, Statement_of, Answer, Ack_of, DayAck_of, DeviceState, System, stated_count}
+use Rattle.fare_store.specs.Tables.{put}
+use Rattle.fare_world.specs.System.{Packet, Stated, Acked, Arrived, Statement_of, Answer, Ack_of, DayAck_of, DeviceState, System, stated_count}
 use Rattle.fare_world.specs.Arriving.{tap_at, next_at, is_full, accepted, judged, tap_comes, statement_comes, comes, packet_at}
 use Rattle.fare_world.specs.Storing.{drawn_reply, draw_from, let_go, is_held, stored, store_tap, stored_day, store_statement, store_from, gains_answer, ack_by, are_all_held, day_ack_by, packet_of, answered_reply, answer_from}
 use Rattle.fare_world.specs.Steps.{step}
@@ -34,7 +35,7 @@ use Rattle.fare_history.proofs.Counting.{next_after, IsDue, FollowsOutbox}
 use Rattle.fare_world.proofs.Known.{is_own_id}
 use Rattle.fare_world.proofs.Places.{slice_get-front}
 use Rattle.fare_world.proofs.Lists.{AllByRecursion-at, list_all-weaken}
-use Rattle.fare_world.proofs.Tables.{is_self, put_all, put_apart, put_both, put_here}
+use Rattle.fare_store.proofs.Entries.{is_self, put_all, put_apart, put_both, put_here}
 use Rattle.fare_world.proofs.KeptArrive.{tap_owned}
 use Rattle.fare_world.proofs.Kept.{moves_step}
 use Rattle.fare_refinement.proofs.ShownCalls.{outbox_stores, outbox_states}

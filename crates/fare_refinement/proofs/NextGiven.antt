@@ -15,11 +15,11 @@ use Rattle.fare_refinement.specs.ShownStores.{ShowsOutbox}
 use Rattle.fare_history.specs.Serving.{Cursors}
 use Rattle.fare_refinement.specs.Served.{ComesNext, IsAsFar}
 use Rattle.fare_world.proofs.Lists.{element_at}
-use Rattle.fare_world.proofs.Tables.{below, not_below}
+use Rattle.fare_store.proofs.Entries.{below, not_below}
 use Rattle.fare_world.proofs.Lanes.{Runs-le}
 use Rattle.fare_world.proofs.Showing.{lane_tap_at}
 use Rattle.fare_refinement.proofs.ServeSteps.{arrived_front}
-use Rattle.fare_refinement.proofs.NextDays.{IsNextDay, finds_next_day}
+use Rattle.fare_world.proofs.NextDay.{IsNextDay, finds_next_day}
 
 -- WHAT THE EVENT GIVES
 counted_here : (b : Bool) (rs : List RecordValue) (day : ℕ) → count_of b rs day ≢ None → count_of b rs day ≡ Some (day_count rs day)
@@ -87,4 +87,4 @@ forward_comes sc t o d x c y h shows far e = by (nat_lt forward (length arrived)
       where
         same : Lane_of d (forward + 1) ≡ y
         same = cc
-    by false ge f = stated (first_held (t.held o d) from ((t.devices d).day - from)) (not_below forward (length arrived) ge) (finds_next_day sc t x o d h shows) f
+    by false ge f = stated (first_held (t.held o d) from ((t.devices d).day - from)) (not_below forward (length arrived) ge) (finds_next_day sc t (x.stated o d) o d h (shows.stated o d)) f

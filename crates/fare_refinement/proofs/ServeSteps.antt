@@ -20,7 +20,8 @@ use Rattle.fare_event.specs.declared.event.Event.TheVariants as event
 use Rattle.fare_event.specs.declared.reply.Refusal.TheVariants.{UnknownDevice, UnknownOwner, Busy}
 use Rattle.fare_event.specs.declared.reply.Reply.{Reply}
 use Rattle.fare_event.specs.declared.reply.Reply.TheVariants as reply
-use Rattle.fare_world.specs.System.{put, Routed, Lane_of, Day_of, DeviceState, OwnerState, LaneState, System, numbered_for, arrived_of, stated_count}
+use Rattle.fare_store.specs.Tables.{put}
+use Rattle.fare_world.specs.System.{Routed, Lane_of, Day_of, DeviceState, OwnerState, LaneState, System, numbered_for, arrived_of, stated_count}
 use Rattle.fare_world.specs.Knowing.{knows_device, knows_owner}
 use Rattle.fare_world.specs.Arriving.{is_full}
 use Rattle.fare_world.specs.Owning.{next_routed, passed, forwarded_reply, forwarded, lane_room, forward_item, forward, fetched_reply, fetch_from, emptied, with_lane, is_of_closed_day, take_tap, taken_count, take_statement, take_from, take_event, pruned}
@@ -42,12 +43,11 @@ use Rattle.fare_refinement.specs.Served.{routed_of, IsBeside}
 use Rattle.fare_world.proofs.Known.{placed}
 use Rattle.fare_world.proofs.Places.{slice_get-front}
 use Rattle.fare_world.proofs.Lists.{AllByRecursion-push, element_at, length-part-take}
-use Rattle.fare_world.proofs.Tables.{if_all, below, put_all, put_both, put2_all, put_here}
+use Rattle.fare_store.proofs.Entries.{if_all, below, put_all, put_both, put2_all, put_here}
 use Rattle.fare_world.proofs.Lanes.{Runs-le, lane_number_here}
-use Rattle.fare_world.proofs.NextDay.{day_found}
+use Rattle.fare_world.proofs.NextDay.{day_found, next_day_is}
 use Rattle.fare_world.proofs.KeptParts.{took_numbered}
 use Rattle.fare_world.proofs.Kept.{moves_step}
-use Rattle.fare_refinement.proofs.NextDays.{next_day_is}
 use Rattle.fare_refinement.proofs.ShownCalls.{outbox_prunes, ledger_takes, ledger_states}
 
 -- an item is the record or the statement of its number
@@ -176,7 +176,7 @@ next_stated sc t o x c v h shows lanes days is = (next, known_station sc v.devic
     arrived = arrived_of o (t.devices d)
 
     found : (day_found t o d ≡ Some v.day) × IsStatementOf t.devices d v.day o v
-    found = next_day_is sc t x o d (c.day d) v h shows (sym (days d)) (record { of_owner = is.mine; of_device = refl; not_before = is.from_there; is_held = is.held; least = is.least })
+    found = next_day_is sc t x.stated o d (c.day d) v h (shows.stated o d) (sym (days d)) (record { of_owner = is.mine; of_device = refl; not_before = is.from_there; is_held = is.held; least = is.least })
 
     held : t.held o d v.day ≡ true
     held = is_it_held (t.held o d v.day) (numbered_for t o d) v.day v.count (sym (shows.stated o d v.day) ∙ is.held)

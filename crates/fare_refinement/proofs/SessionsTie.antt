@@ -4,7 +4,8 @@ use Rattle.std.specs.Prelude.{◌==◌, if◌then◌else◌}
 use Rattle.std.proofs.lemmas.List.{append-nil}
 use Rattle.fare_record.specs.Lanes.{part, day_count}
 use Rattle.fare_scheme.specs.Values.{SchemeValue}
-use Rattle.fare_world.specs.System.{put, Packet, DeviceState, LaneState, System, is_closed}
+use Rattle.fare_store.specs.Tables.{put}
+use Rattle.fare_world.specs.System.{Packet, DeviceState, LaneState, System, is_closed}
 use Rattle.fare_world.specs.Knowing.{knows_owner}
 use Rattle.fare_world.specs.Steps.{step, after}
 use Rattle.fare_world.specs.Kept.{IsSystem}
@@ -26,7 +27,7 @@ use Rattle.fare_world.specs.Owning.{closed_day, close_by, close_on}
 use Rattle.fare_refinement.proofs.ServeSteps.{system_answered, outbox_same, beside_self, beside_lanes}
 use Rattle.fare_refinement.proofs.ShownCalls.{ledger_closes}
 use Rattle.fare_world.proofs.Lists.{AllByRecursion-weaken}
-use Rattle.fare_world.proofs.Tables.{put_apart, put2_all}
+use Rattle.fare_store.proofs.Entries.{put_apart, put2_all}
 use Rattle.fare_refinement.proofs.ServeTie.{after-append, service_is_run}
 use Rattle.fare_refinement.proofs.GatherSteps.{packet_stays, named_stays}
 use Rattle.fare_refinement.proofs.GatherTie.{gathering_is_run}

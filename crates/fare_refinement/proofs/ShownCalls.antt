@@ -7,14 +7,15 @@ use Rattle.fare_scheme.specs.Values.{SchemeValue}
 use Rattle.fare_store.specs.OutboxWords.{OutboxValue, behind, rows_upto}
 use Rattle.fare_store.specs.OutboxWords as outbox
 use Rattle.fare_store.specs.LedgerWords.{LedgerValue, took, with_statement, with_close}
-use Rattle.fare_world.specs.System.{put, put2, DeviceState, LaneState, System, numbered_for, arrived_of, stated_count}
+use Rattle.fare_store.specs.Tables.{put, put2}
+use Rattle.fare_world.specs.System.{DeviceState, LaneState, System, numbered_for, arrived_of, stated_count}
 use Rattle.fare_world.specs.Storing.{stored, stored_day}
 use Rattle.fare_world.specs.Owning.{with_lane, closed_day, pruned}
 use Rattle.fare_world.specs.Kept.{IsSystem}
 use Rattle.fare_world.specs.Shown.{row_at, count_of, IsAt, IsLedgerOf}
 use Rattle.fare_world.proofs.RowPlaces.{row_push, row_pruned, rows_pruned}
 use Rattle.fare_world.proofs.Lists.{part-push, take-one_more}
-use Rattle.fare_world.proofs.Tables.{is_self, other_way, put_all, put_apart, put_both, put_here}
+use Rattle.fare_store.proofs.Entries.{is_self, other_way, put_all, put_apart, put_both, put_here}
 use Rattle.fare_world.proofs.ShowForward.{took_arrived}
 use Rattle.fare_refinement.specs.ShownStores.{ShowsOutbox, ShowsLedger}
 

@@ -29,7 +29,7 @@ use Rattle.fare_store.specs.LedgerWords as ledger
 use Rattle.fare_refinement.specs.ShownStores.{ShowsOutbox, ShowsLedger}
 use Rattle.fare_history.specs.Serving.{Cursors, behind_ledger, moved_by, AreNextItems, given, device_of, IsUnrefused, AreUnrefused}
 use Rattle.fare_world.proofs.Known.{placed}
-use Rattle.fare_world.proofs.Tables.{is_self}
+use Rattle.fare_store.proofs.Entries.{is_self}
 use Rattle.fare_world.proofs.Showing.{lane_tap_at}
 use Rattle.fare_world.proofs.KeptParts.{took_numbered}
 use Rattle.fare_world.proofs.Kept.{moves_step}

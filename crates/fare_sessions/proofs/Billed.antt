@@ -32,7 +32,7 @@ use Rattle.fare_world.specs.Knowing.{knows_owner}
 use Rattle.fare_world.specs.Whole.{Answered}
 use Rattle.fare_history.specs.Holding.{MayHold}
 use Rattle.fare_history.specs.Stores.{StoresValue}
-use Rattle.fare_history.proofs.Entries.{is_one}
+use Rattle.fare_store.proofs.Entries.{is_one}
 use Rattle.fare_session.specs.Stores.{Follows}
 use Rattle.fare_agreement.specs.Agreeing.{AreNumberedLists, had, Agrees}
 use Rattle.fare_agreement.specs.Parts.{parts_of}

@@ -13,7 +13,7 @@ use Rattle.fare_store.specs.LedgerWords.{LedgerValue, close_of, with_close}
 use Rattle.fare_history.specs.Holding.{MayHold, Leads}
 use Rattle.fare_history.specs.Stores as history
 use Rattle.fare_history.specs.Stores.{StoresValue, MayClose, stores_after}
-use Rattle.fare_history.proofs.Entries.{put_here}
+use Rattle.fare_store.proofs.Entries.{put_here}
 use Rattle.fare_history.proofs.Holds.{write_leads}
 use Rattle.fare_session.specs.Stores.{Follows}
 use Rattle.fare_agreement.specs.Agreeing.{AreNumberedLists, Agrees}

@@ -12,7 +12,8 @@ use Rattle.fare_store.specs.Standing.{Standing}
 use Rattle.fare_store.specs.OutboxWords.{OutboxValue}
 use Rattle.fare_store.specs.LedgerWords.{LedgerValue, IsOfScheme, took, with_statement}
 use Rattle.fare_history.specs.Serving.{given_all}
-use Rattle.fare_history.proofs.Entries.{is_one, is_self, element_at}
+use Rattle.fare_store.proofs.Entries.{is_one, is_self}
+use Rattle.fare_history.proofs.Entries.{element_at}
 use Rattle.fare_session.specs.Stores.{Follows}
 use Rattle.fare_session.specs.Served.{AreFit}
 use Rattle.fare_collect.specs.declared.station.Station.{Station}

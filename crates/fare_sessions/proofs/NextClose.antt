@@ -12,7 +12,7 @@ use Rattle.fare_world.specs.declared.bill_fault.BillFault.{BillFault}
 use Rattle.fare_world.specs.Whole.{Answered}
 use Rattle.fare_history.specs.Stores.{StoresValue}
 use Rattle.fare_sessions.specs.declared.hub.Hub.{Hub}
-use Rattle.fare_sessions.specs.Billing.{IsToClose, OnlyReads, day_behind, first_unclosed, stated_of}
+use Rattle.fare_sessions.specs.Billing.{IsToClose, OnlyReads, day_behind, first_unclosed, of_a_day, stated_of}
 use Rattle.fare_sessions.specs.Stores.{ReplacesLedger, AreClean, AreSound, MayStandAs}
 use Rattle.fare_sessions.proofs.Billed.{reads_one, told}
 
@@ -30,11 +30,11 @@ behind_last v device = by (v.closed device) refl
         some : day_behind (closed_through v device) v.start ≡ v.start + v.closed device
         some = grind (arith, e)
 
-pub there_is : (v : LedgerValue) (device day : ℕ) → day ≤ 100000 → stated_of v device day ≡ v.stated device day
-there_is v device day le = let yes : nat_le day 100000 ≡ true = grind (arith, nat_tests) in ap (λ (b : Bool). if b then v.stated device day else None) yes
+pub there_is : (stated : ℕ → Option ℕ) (day : ℕ) → day ≤ 100000 → of_a_day stated day ≡ stated day
+there_is stated day le = let yes : nat_le day 100000 ≡ true = grind (arith, nat_tests) in ap (λ (b : Bool). if b then stated day else None) yes
 
-pub there_is_none : (v : LedgerValue) (device day : ℕ) → 100000 < day → stated_of v device day ≡ None
-there_is_none v device day lt = let no : nat_le day 100000 ≡ false = grind (arith, nat_tests) in ap (λ (b : Bool). if b then v.stated device day else None) no
+pub there_is_none : (stated : ℕ → Option ℕ) (day : ℕ) → 100000 < day → of_a_day stated day ≡ None
+there_is_none stated day lt = let no : nat_le day 100000 ≡ false = grind (arith, nat_tests) in ap (λ (b : Bool). if b then stated day else None) no
 
 -- A HUB
 -- the answer of a read, as one of a bill would be

@@ -16,7 +16,7 @@ use Rattle.fare_history.specs.Holding.{MayHold}
 use Rattle.fare_history.specs.Serving.{Service, committed, given_all, in_hand, pruned_to_all}
 use Rattle.fare_history.specs.Stores as history
 use Rattle.fare_history.specs.Stores.{StoresValue, stores_after}
-use Rattle.fare_history.proofs.Entries.{is_one, put_here}
+use Rattle.fare_store.proofs.Entries.{is_one, put_here}
 use Rattle.fare_session.specs.declared.fault.SessionFault.{SessionFault}
 use Rattle.fare_session.specs.Served.{AreFit, IsServed, IsTakenBy, IsPrunedBy}
 use Rattle.fare_session.specs.Served as served

@@ -34,9 +34,13 @@ pub record HasBasis (sc : SchemeValue) (l : LedgerValue) (day : ℕ) (rows : Lis
   pub taps : AreTapsBetween l (week_start sc day) day rows
 
 -- CLOSES
--- the count that is stated of a day, if there is such a day
+-- what is stated of a day, if there is such a day: the last is 100,000
+abbrev pub of_a_day : (ℕ → Option ℕ) → ℕ → Option ℕ
+of_a_day stated day = if nat_le day 100000 then stated day else None
+
+-- the count that is stated of it in a ledger
 abbrev pub stated_of : LedgerValue → ℕ → ℕ → Option ℕ
-stated_of v device day = if nat_le day 100000 then v.stated device day else None
+stated_of v device = of_a_day (v.stated device)
 
 -- the first day of a device that is not closed
 abbrev pub first_unclosed : LedgerValue → ℕ → ℕ

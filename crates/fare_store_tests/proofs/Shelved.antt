@@ -14,6 +14,7 @@ use Rattle.fare_layout.specs.Commands.{IsMeant, IsSimpleCommand}
 use Rattle.fare_layout.specs.Growing.{CanMake, CanMakeAll, Grows, GrowsBy}
 use Rattle.fare_layout.specs.Layouts.{AreUnderstood, Fits}
 use Rattle.fare_layout.specs.Schemas.{IsSimpleTable}
+use Rattle.fare_opening.proofs.Standing.{few_keys}
 use Rattle.fare_opening.specs.Parts.{IsDesign, IsOlder, HasFewKeys, meta_name, meta_text, read_meta, put_meta, set_meta, reads_meta, puts_meta, sets_meta}
 use Rattle.fare_opening.proofs.Orders.{fit_as}
 use Rattle.fare_store_tests.specs.Shelves.{book_table, loan_table, meta_alone, old_schema, new_schema, book_text, loan_text, old_tables, new_tables, shelf_texts, old_parts, first_format, new_parts}
@@ -69,14 +70,11 @@ old_grows = (meta_alone, meta_grows, (old_schema, book_grows, refl))
 new_grows : GrowsBy no_schema new_tables new_schema
 new_grows = (meta_alone, meta_grows, (old_schema, book_grows, (new_schema, loan_grows, refl)))
 
-few : (sql : List ℕ) (table : Table) → table_defined_by sql ≡ Ok table → length table.uniques < 1000 → HasFewKeys sql
-few sql table is low = subst (λ r. IfOk r (λ t. length t.uniques < 1000)) (sym is) low
-
 old_few : AllByRecursion (λ t. HasFewKeys t.1) old_tables
-old_few = (few meta_text (meta_table 0) meta_is (omega arith), (few book_text (book_table 0) book_is (omega arith), tt))
+old_few = (few_keys meta_text (meta_table 0) meta_is (omega arith), (few_keys book_text (book_table 0) book_is (omega arith), tt))
 
 new_few : AllByRecursion (λ t. HasFewKeys t.1) new_tables
-new_few = (few meta_text (meta_table 0) meta_is (omega arith), (few book_text (book_table 0) book_is (omega arith), (few loan_text (loan_table 0) loan_is (omega arith), tt)))
+new_few = (few_keys meta_text (meta_table 0) meta_is (omega arith), (few_keys book_text (book_table 0) book_is (omega arith), (few_keys loan_text (loan_table 0) loan_is (omega arith), tt)))
 
 old_simple : AllByRecursion IsSimpleTable old_schema.tables
 unfolding old_schema

@@ -9,7 +9,9 @@ use Rattle.sqlite_value.specs.Order.{Row, column, value_cmp}
 use Rattle.sqlite_value.proofs.OrderLemmas.{value_cmp-Int}
 use Rattle.sqlite.specs.Tree.{put_row, rowid, has_rowid, without_rowid}
 use Rattle.sqlite_rules.specs.Edit.{next_rowid, id_in}
+use Rattle.sqlite_rules.specs.Lists.{Has}
 use Rattle.fare_tables.specs.Cells.{int, id_of, AreAbove, AreRows, held}
+use Rattle.fare_tables.proofs.Lists.{of_filter}
 use Rattle.fare_tables.proofs.Terms.{pos_eq}
 
 pos_less : (a b : ℕ) → a < b → int_cmp (pos a) (pos b) ≡ Less
@@ -185,3 +187,16 @@ module _ (Kind : Row → Type 0) (ids : (r : Row) → Kind r → column r 0 ≡ 
       let low = below_next rows 1 ok in
       let end : now ≡ rows ++ (int (next_from 1 rows) ∷ c) ∷ [] = put ∙ ap (λ n. put_row (Int n ∷ c) rows) (next_is rows ok) ∙ put_end rows (next_from 1 rows) c ok low in
       (subst (AreRows Kind) (sym end) (rows_push rows (int (next_from 1 rows) ∷ c) ok (is (next_from 1 rows)) low), end)
+
+-- ---- the one row of an id
+
+pub has_none : (rows : List Row) (x : Row) (d : ℕ) → Has rows x → id_of x ≡ d → filter (λ r. id_of r == d) rows ≡ [] → ⊥
+has_none [] x d has is none = absurd has
+has_none (r ∷ rows) x d (inl here) is none = let same : (id_of r == d) ≡ true = let e = ap id_of (sym here) ∙ is in grind (arith, nat_tests) in absurd (let e = rw same at none in cc)
+has_none (r ∷ rows) x d (inr there) is none = elim (cases_Bool (id_of r == d)) [
+  | inl same ↦ absurd (let e = rw same at none in cc)
+  | inr other ↦ has_none rows x d there is (rw other at none)
+]
+
+pub one_id : (rows : List Row) (r : Row) (d : ℕ) → filter (λ y. id_of y == d) rows ≡ r ∷ [] → id_of r ≡ d
+one_id rows r d is = let it = (of_filter (λ y. id_of y == d) rows r (subst (λ ys. Has ys r) (sym is) (inl refl))).1 in grind (arith, nat_tests)

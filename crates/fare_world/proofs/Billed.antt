@@ -27,13 +27,13 @@ use Rattle.fare_world.specs.Headline.{Lane, lane_at, IsLaneStep, of_days, IsAnsw
 use Rattle.std.proofs.lemmas.Option.{slice_get_within, get_or_from_slice_get}
 use Rattle.fare_world.specs.Billing.{first_open, first_open_of, ClosedBefore, IsMet, where_open, bill_judged, unless, told, bill_refusal, basis, basis_told, BillsExactly}
 use Rattle.fare_world.specs.Kept.{IsSystem}
-use Rattle.fare_world.proofs.Tables.{if_all}
+use Rattle.fare_store.proofs.Entries.{if_all}
 use Rattle.fare_world.proofs.Kept.{moves_step}
 use Rattle.fare_world.proofs.Showing.{stated_past}
 use Rattle.fare_world.proofs.Stepping.{start_is, taps_after}
 use Rattle.fare_world.proofs.Closing.{stays_closed, close_tells}
 use Rattle.fare_world.proofs.OneOrder.{In, in_at}
-use Rattle.fare_world.proofs.Bills.{closed_all}
+use Rattle.fare_world.proofs.WeekInOrder.{closed_all}
 use Rattle.fare_world.proofs.BillsShown.{none_is_open}
 
 -- A CLOSED DAY GAINS NO TAP
@@ -79,7 +79,7 @@ flat_same f g (x ∷ xs) same = (λ i. same x (inl refl) i ++ flat_same f g xs (
 basis_stays : (sc : SchemeValue) (s : System) (es : List Event) → IsSystem sc s → (o day : ℕ) → first_open_of sc s o day ≡ None → basis sc s o day ≡ basis sc (after sc s es) o day
 basis_stays sc s es h o day none =
     flat_same (λ (d : ℕ × Placement). of_days (week_start sc day) day (numbered_for s o d.0)) (λ (d : ℕ × Placement). of_days (week_start sc day) day (numbered_for (after sc s es) o d.0)) sc.devices
-    (λ d i. sym (stays_numbered sc s es h o d.0 (week_start sc day) day (closed_all sc s h o sc.start (λ e. (s.lanes o e).closed) day sc.devices none d i)))
+    (λ d i. sym (stays_numbered sc s es h o d.0 (week_start sc day) day (closed_all sc.start (λ e. (s.lanes o e).closed) day sc.devices none d i)))
 
 pub basis_after : (sc : SchemeValue) (es : List Event) (o day : ℕ) → basis sc (after sc (start sc) es) o day ≡ basis_told sc es (replies sc (start sc) es) o day
 basis_after sc es o day =

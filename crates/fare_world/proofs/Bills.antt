@@ -27,50 +27,8 @@ use Rattle.fare_world.specs.Kept.{IsSystem}
 use Rattle.fare_world.proofs.Places.{slice_get-front}
 use Rattle.fare_world.proofs.Showing.{lanes_of_part, part_get}
 use Rattle.fare_world.proofs.Closing.{whole}
+use Rattle.fare_world.proofs.WeekInOrder as week
 use Rattle.fare_world.proofs.OneOrder.{In, in_from, in_at, in_filter, of_filter, in_flat, of_flat, AreApart, apart_from, apart_append, apart_filter, one_order}
-
--- TAPS THAT TIE
-then_equal : (x y : Ordering) → ordering_then x y ≡ Equal → (x ≡ Equal) × (y ≡ Equal)
-then_equal Less y e = absurd (cc)
-then_equal Equal y e = (refl, e)
-then_equal Greater y e = absurd (cc)
-
-equal_from : (x y : Ordering) → x ≡ Less → is_lt x ≡ false → x ≡ y
-equal_from x y less none =
-    let both : true ≡ false = sym (ap is_lt less) ∙ none in
-    absurd (cc)
-
-compared : (a b : RecordValue) → ties is_before a b ≡ true → compare_taps a b ≡ Equal
-compared a b tie = by (compare_taps a b) refl
-  where
-    parts : (not (is_before a b) ≡ true) × (not (is_before b a) ≡ true)
-    parts = and_parts (not (is_before a b)) (not (is_before b a)) tie
-
-    by : (r : Ordering) → compare_taps a b ≡ r → compare_taps a b ≡ Equal
-    by Equal e = e
-    by Less e = equal_from (compare_taps a b) Equal e (not-true (is_before a b) parts.0)
-    by Greater e =
-        let back : compare_taps b a ≡ Less = compare_total.antisymm b a ∙ ap ordering_reverse e in
-        let none : Less ≡ Equal = sym back ∙ equal_from (compare_taps b a) Equal back (not-true (is_before b a) parts.1) in
-        absurd (cc)
-
--- they are of one device and have one lane number
-ties_tell : (a b : RecordValue) → ties is_before a b ≡ true → (a.device ≡ b.device) × (a.lane ≡ b.lane)
-ties_tell a b tie =
-    let outer = then_equal (ordering_then (nat_cmp a.tap.moment b.tap.moment) (nat_cmp a.device b.device)) (nat_cmp a.lane b.lane) (compared a b tie) in
-    let inner = then_equal (nat_cmp a.tap.moment b.tap.moment) (nat_cmp a.device b.device) outer.0 in
-    (exact_unsigned a.device b.device inner.1, exact_unsigned a.lane b.lane outer.1)
-
--- none is before itself
-before_itself : (a : RecordValue) → ledger.is_before a a ≡ false
-before_itself a = (λ i. if less a.tap.day i then true else if less a.tap.day i then false else if less a.tap.moment i then true else if less a.tap.moment i then false else if less a.device i then true else if less a.device i then false else less a.lane i)
-  where
-    less : (n : ℕ) → nat_lt n n ≡ false
-    less n = grind (arith, nat_tests)
-
-distinct_parts : (k : ℕ) (ks : List ℕ) → IsDistinct nat_eq (k ∷ ks) → AllByRecursion (λ j. nat_eq k j ≡ false) ks × IsDistinct nat_eq ks
-unfolding IsDistinct
-distinct_parts k ks h = h
 
 -- NUMBERED TAPS
 module _ (sc : SchemeValue) (s : System) (is : IsSystem sc s) (o : ℕ) where
@@ -90,133 +48,12 @@ module _ (sc : SchemeValue) (s : System) (is : IsSystem sc s) (o : ℕ) where
       let n = numbered_for s o d in
       ap (λ l. slice_get l k) (sym (take-append-drop took n)) ∙ slice_get-front (take took n) (drop took n) k r at
 
-  -- no two of a device tie
-  lane_apart : (d : ℕ) → AreApart (numbered_for s o d)
-  lane_apart d = apart_from (numbered_for s o d) far
-    where
-      far : (j k : ℕ) (a b : RecordValue) → j < k → slice_get (numbered_for s o d) j ≡ Some a → slice_get (numbered_for s o d) k ≡ Some b → ties is_before a b ≡ false
-      far j k a b lt first second = by (ties is_before a b) refl
-        where
-          by : (t : Bool) → ties is_before a b ≡ t → ties is_before a b ≡ false
-          by false e = e
-          by true e = absurd (omega (arith, lt, (placed d j a first).0, (placed d k b second).0, (ties_tell a b e).1))
-
-  -- nor two of several
-  flat_apart : (f : ℕ → List RecordValue) → ((d : ℕ) → AreApart (f d)) → ((d : ℕ) (r : RecordValue) → In r (f d) → r.device ≡ d) → (ds : List (ℕ × Placement)) → IsDistinct nat_eq (keys_of ds) → AreApart (flat_map (λ (d : ℕ × Placement). f d.0) ds)
-  flat_apart f apart of [] distinct = tt
-  flat_apart f apart of (d ∷ ds) distinct =
-      apart_append (f d.0) (flat_map (λ (e : ℕ × Placement). f e.0) ds) (apart d.0) (flat_apart f apart of ds (distinct_parts d.0 (keys_of ds) distinct).1) across
-    where
-      others : (es : List (ℕ × Placement)) (e : ℕ × Placement) → AllByRecursion (λ k. nat_eq d.0 k ≡ false) (keys_of es) → In e es → nat_eq d.0 e.0 ≡ false
-      others [] e all i = absurd i
-      others (x ∷ es) e all (inl same) = ap (λ (y : ℕ × Placement). nat_eq d.0 y.0) (sym same) ∙ all.0
-      others (x ∷ es) e all (inr i) = others es e all.1 i
-
-      across : (a b : RecordValue) → In a (f d.0) → In b (flat_map (λ (e : ℕ × Placement). f e.0) ds) → ties is_before a b ≡ false
-      across a b i j = by (ties is_before a b) refl
-        where
-          by : (t : Bool) → ties is_before a b ≡ t → ties is_before a b ≡ false
-          by false e = e
-          by true e =
-              let there = of_flat (λ (x : ℕ × Placement). f x.0) ds b j in
-              let differ : nat_eq d.0 there.0.0 ≡ false = others ds there.0 (distinct_parts d.0 (keys_of ds) distinct).0 there.1 in
-              let same : d.0 ≡ there.0.0 = sym (of d.0 a i) ∙ (ties_tell a b e).0 ∙ of there.0.0 b there.2 in
-              absurd (grind (arith, nat_tests))
-
-  -- a registered device, where it has numbered a tap
-  entry_of : (ds : List (ℕ × Placement)) (d : ℕ) → (option_map (λ (p : Placement). p.station) (lookup (nat_eq d) ds) ≡ None) ⊎ ((e : ℕ × Placement) × In e ds × (e.0 ≡ d))
-  entry_of [] d = inl refl
-  entry_of (e ∷ ds) d = by (nat_eq d e.0) refl (entry_of ds d)
-    where
-      by : (t : Bool) → nat_eq d e.0 ≡ t → (option_map (λ (p : Placement). p.station) (lookup (nat_eq d) ds) ≡ None) ⊎ ((x : ℕ × Placement) × In x ds × (x.0 ≡ d))
-          → (option_map (λ (p : Placement). p.station) (lookup (nat_eq d) (e ∷ ds)) ≡ None) ⊎ ((x : ℕ × Placement) × In x (e ∷ ds) × (x.0 ≡ d))
-      by true same rest = inr (e, inl refl, grind (arith, nat_tests))
-      by false differ (inr there) = inr (there.0, inr there.1, there.2)
-      by false differ (inl none) = inl (ap (λ t. option_map (λ (p : Placement). p.station) (if t then Some e.1 else lookup (nat_eq d) ds)) differ ∙ none)
-
-  registered : (d k : ℕ) (r : RecordValue) → slice_get (numbered_for s o d) k ≡ Some r → (e : ℕ × Placement) × In e sc.devices × (e.0 ≡ d)
-  registered d k r at = elim (entry_of sc.devices d) [
-    | inl none ↦ absurd (nothing ((is.devices d).known none))
-    | inr found ↦ found
-  ]
-    where
-      nothing : (s.devices d).taps ≡ [] → ⊥
-      nothing none =
-          let empty : None ≡ Some r = sym (ap (λ l. slice_get (part o l) k) none) ∙ at in
-          absurd (cc)
-
-  -- where no device is open, each is closed
-  pub closed_all : (start : ℕ) (closed : ℕ → ℕ) (day : ℕ) (ds : List (ℕ × Placement)) → first_open start closed day ds ≡ None → (d : ℕ × Placement) → In d ds → is_closed start (closed d.0) day ≡ true
-  closed_all start closed day [] none d i = absurd i
-  closed_all start closed day (e ∷ ds) none d i = by (λ rest there. closed_all start closed day ds rest d there) (is_closed start (closed e.0) day) refl i
-    where
-      by : (first_open start closed day ds ≡ None → In d ds → is_closed start (closed d.0) day ≡ true) → (t : Bool) → is_closed start (closed e.0) day ≡ t → In d (e ∷ ds) → is_closed start (closed d.0) day ≡ true
-      by rest true holds (inl same) = ap (λ (x : ℕ × Placement). is_closed start (closed x.0) day) (sym same) ∙ holds
-      by rest true holds (inr there) = rest (sym (ap (λ t. if t then first_open start closed day ds else Some e.0) holds) ∙ none) there
-      by rest false fails there =
-          let unclosed : Some e.0 ≡ None = sym (ap (λ t. if t then first_open start closed day ds else Some e.0) fails) ∙ none in
-          absurd (cc)
-
   -- the taps of the week
   module _ (v : ledger.LedgerValue) (taken : (d : ℕ) → v.taken d ≡ taken_by s o d) (from to : ℕ) (rows : List RecordValue) (between : ledger.AreTapsBetween v from to rows) where
     here : (d k : ℕ) (r : RecordValue) → slice_get (v.taken d) k ≡ Some r → slice_get (taken_by s o d) k ≡ Some r
     here d k r at = ap (λ l. slice_get l k) (sym (taken d)) ∙ at
 
-    rows_apart : AreApart rows
-    rows_apart = apart_from rows far
-      where
-        far : (j k : ℕ) (a b : RecordValue) → j < k → slice_get rows j ≡ Some a → slice_get rows k ≡ Some b → ties is_before a b ≡ false
-        far j k a b lt first second = by (ties is_before a b) refl
-          where
-            by : (t : Bool) → ties is_before a b ≡ t → ties is_before a b ≡ false
-            by false e = e
-            by true e =
-                let tell = ties_tell a b e in
-                let one = (between.taken j a first).0 in
-                let other = (between.taken k b second).0 in
-                let at_a = taken_at a.device one.0 a (here a.device one.0 a one.1) in
-                let at_b = taken_at b.device other.0 b (here b.device other.0 b other.1) in
-                let place : one.0 ≡ other.0 = omega (arith, (placed a.device one.0 a at_a).0, (placed b.device other.0 b at_b).0, tell.1) in
-                let same : Some a ≡ Some b = sym at_a ∙ (λ i. slice_get (numbered_for s o (tell.0 i)) (place i)) ∙ at_b in
-                let equal : a ≡ b = cc in
-                let never : true ≡ false = sym (between.sorted j k a b lt first second) ∙ ap (λ x. ledger.is_before a x) (sym equal) ∙ before_itself a in
-                absurd (cc)
-
     pub week_in_order : IsScheme sc → sc.start ≤ from → first_open_of sc s o to ≡ None → in_order rows ≡ in_order (flat_map (λ (d : ℕ × Placement). of_days from to (numbered_for s o d.0)) sc.devices)
-    week_in_order valid first none = one_order rows _ rows_apart
-        (flat_apart (λ d. of_days from to (numbered_for s o d)) (λ d. apart_filter among (numbered_for s o d) (lane_apart d)) of_one sc.devices valid.devices.distinct) forth back
-      where
-        among : RecordValue → Bool
-        among r = nat_le from r.tap.day && nat_le r.tap.day to
-
-        of_one : (d : ℕ) (r : RecordValue) → In r (of_days from to (numbered_for s o d)) → r.device ≡ d
-        of_one d r i =
-            let there = in_at (numbered_for s o d) r (of_filter among (numbered_for s o d) r i).0 in
-            (placed d there.0 r there.1).1
-
-        forth : (r : RecordValue) → In r rows → In r (flat_map (λ (d : ℕ × Placement). of_days from to (numbered_for s o d.0)) sc.devices)
-        forth r i =
-            let at = in_at rows r i in
-            let tells = between.taken at.0 r at.1 in
-            let numbered = taken_at r.device tells.0.0 r (here r.device tells.0.0 r tells.0.1) in
-            let entry = registered r.device tells.0.0 r numbered in
-            let of_week : among r ≡ true = and_from (nat_le from r.tap.day) (nat_le r.tap.day to) (within tells.1) (within tells.2) in
-            in_flat (λ (d : ℕ × Placement). of_days from to (numbered_for s o d.0)) sc.devices entry.0 r entry.1
-            (subst (λ d. In r (of_days from to (numbered_for s o d))) (sym entry.2) (in_filter among (numbered_for s o r.device) r (in_from (numbered_for s o r.device) tells.0.0 r numbered) of_week))
-          where
-            within : {a b : ℕ} → a ≤ b → nat_le a b ≡ true
-            within le = grind (arith, nat_tests)
-
-        back : (r : RecordValue) → In r (flat_map (λ (d : ℕ × Placement). of_days from to (numbered_for s o d.0)) sc.devices) → In r rows
-        back r i =
-            let there = of_flat (λ (d : ℕ × Placement). of_days from to (numbered_for s o d.0)) sc.devices r i in
-            let d = there.0.0 in
-            let closed : is_closed sc.start (s.lanes o d).closed to ≡ true = closed_all sc.start (λ e. (s.lanes o e).closed) to sc.devices none there.0 there.1 in
-            let both = of_filter among (taken_by s o d) r (subst (In r) (sym (whole sc s is o d from to closed first)) there.2) in
-            let at = in_at (taken_by s o d) r both.0 in
-            let days = and_parts (nat_le from r.tap.day) (nat_le r.tap.day to) both.1 in
-            let found = between.all d at.0 r (ap (λ l. slice_get l at.0) (taken d) ∙ at.1) (within days.0) (within days.1) in
-            in_from rows found.0 r found.1
-          where
-            within : {a b : ℕ} → nat_le a b ≡ true → a ≤ b
-            within holds = grind (arith, nat_tests)
+    week_in_order valid first none =
+        week.week_in_order sc (numbered_for s o) placed (λ d unknown. ap (part o) ((is.devices d).known unknown)) v (λ d k r at. taken_at d k r (here d k r at)) from to rows between sc.start (λ e. (s.lanes o e).closed) valid
+        (λ d shut. ap (of_days from to) (taken d) ∙ whole sc s is o d from to shut first) none

@@ -10,7 +10,7 @@ use Rattle.fare_route.specs.declared.cursor.Cursor.{Cursor}
 use Rattle.fare_route.specs.Cursors.{moved, undone}
 use Rattle.fare_route.specs.Routing.{cursor_of, IsNext, IsNextOf, changed}
 use Rattle.fare_store.specs.OutboxWords.{OutboxValue}
-use Rattle.fare_world.specs.System.{put}
+use Rattle.fare_store.specs.Tables.{put}
 use Rattle.fare_world.specs.Owning.{lane_room}
 use Rattle.fare_world.specs.Rooms.{HasOwnerRooms}
 use Rattle.fare_world.specs.declared.owner.Owner.{Owner}

@@ -10,7 +10,8 @@ use Rattle.fare_event.specs.declared.event.Event.{Event}
 use Rattle.fare_event.specs.declared.event.Event.TheVariants as event
 use Rattle.fare_event.specs.declared.reply.Refusal.TheVariants.{NoPacket, Old, Ahead, Busy}
 use Rattle.fare_event.specs.declared.reply.Reply.TheVariants.{Idle, Refused, Accepted, Dropped, DroppedDay}
-use Rattle.fare_world.specs.System.{put, Packet, Tapped, Stated, Acked, DayAcked, Tap_of, Statement_of, DeviceState, System}
+use Rattle.fare_store.specs.Tables.{put}
+use Rattle.fare_world.specs.System.{Packet, Tapped, Stated, Acked, DayAcked, Tap_of, Statement_of, DeviceState, System}
 use Rattle.fare_world.specs.Knowing.{knows_owner}
 use Rattle.fare_world.specs.Tapping.{is_waiting}
 use Rattle.fare_world.specs.Arriving.{tap_at, is_owned_tap, next_at, is_full, accepted, judged, tap_comes, statement_comes, heard, ack_comes, without, heard_day, day_ack_comes, comes, packet_at, arrive}
@@ -19,7 +20,7 @@ use Rattle.fare_world.specs.Kept.{IsDayAck, IsTurned, IsDevice, IsPlace, IsAck, 
 use Rattle.fare_world.proofs.Known.{is_own_id}
 use Rattle.fare_world.proofs.Lists.{AllByRecursion-push, AllByRecursion-at, AllByRecursion-filter, length-filter-le, element_at}
 use Rattle.fare_world.proofs.Waiting.{waits_still}
-use Rattle.fare_world.proofs.Tables.{is_one, if_all, below}
+use Rattle.fare_store.proofs.Entries.{is_one, if_all, below}
 use Rattle.fare_world.proofs.KeptParts.{device_changes, hand_changes}
 use Rattle.fare_world.proofs.KeptLink.{place_kept}
 use Rattle.fare_world.proofs.KeptMoves.{Moves, keeps_same, keeps_devices, keeps_other_days, rests, stays}

@@ -10,7 +10,8 @@ use Rattle.fare_event.specs.declared.event.Event.TheVariants as event
 use Rattle.fare_event.specs.declared.reply.Refusal.TheVariants.{UnknownDevice, UnknownOwner, UnknownStation, NotWaiting}
 use Rattle.fare_event.specs.declared.reply.Reply.{Reply}
 use Rattle.fare_event.specs.declared.reply.Reply.TheVariants.{Idle, Refused, Sent, SentDay, Rewound, Resumed, Restarted}
-use Rattle.fare_world.specs.System.{put, Packet, Tapped, Stated, DeviceState, System}
+use Rattle.fare_store.specs.Tables.{put}
+use Rattle.fare_world.specs.System.{Packet, Tapped, Stated, DeviceState, System}
 use Rattle.fare_world.specs.Knowing.{knows_device, knows_station, knows_owner}
 use Rattle.fare_world.specs.Tapping.{sent, send, rewound, rewind, is_waiting, state}
 use Rattle.fare_world.specs.Storing.{are_all_held}
@@ -19,7 +20,7 @@ use Rattle.fare_world.specs.Headline.{numbered_by}
 use Rattle.fare_world.specs.Kept.{IsDevice, IsPlace, IsTurned, IsPacket, IsSystem}
 use Rattle.fare_world.proofs.Known.{station_where_placed}
 use Rattle.fare_world.proofs.Lists.{AllByRecursion-push}
-use Rattle.fare_world.proofs.Tables.{if_all, below, is_one, put_all}
+use Rattle.fare_store.proofs.Entries.{if_all, below, is_one, put_all}
 use Rattle.fare_world.proofs.Orderly.{is_orderly}
 use Rattle.fare_world.proofs.KeptParts.{Goes, devices_change, device_changes, lines_change}
 use Rattle.fare_world.proofs.KeptMoves.{Moves, keeps_same, keeps_devices, rests, stays}

@@ -13,7 +13,8 @@ use Rattle.fare_event.specs.declared.event.Event.{Event}
 use Rattle.fare_event.specs.declared.event.Event.TheVariants as event
 use Rattle.fare_event.specs.declared.reply.Refusal.TheVariants.{UnknownDevice, BadMoment, UnknownProduct, DayClosed, DayAhead, NumbersSpent, BufferFull, LastDay, StatementsFull}
 use Rattle.fare_event.specs.declared.reply.Reply.TheVariants.{Refused, Recorded, Opened}
-use Rattle.fare_world.specs.System.{put, DeviceState, System, day_of, numbered_for, arrived_of, is_closed}
+use Rattle.fare_store.specs.Tables.{put}
+use Rattle.fare_world.specs.System.{DeviceState, System, day_of, numbered_for, arrived_of, is_closed}
 use Rattle.fare_world.specs.Knowing.{knows_device}
 use Rattle.fare_world.specs.Storing.{are_all_held}
 use Rattle.fare_world.specs.Tapping.{is_waiting, next_record, with_tap, room_of, waiting_count, tap_for, tap_on, tap, turned, turn}
@@ -23,7 +24,7 @@ use Rattle.fare_world.proofs.Known.{station_where_placed}
 use Rattle.fare_world.proofs.Places.{slice_get-push_cases}
 use Rattle.fare_world.proofs.Lists.{AllByRecursion-weaken, AllByRecursion-push, part-push, take-part-push}
 use Rattle.fare_world.proofs.Waiting.{waits_more, waits_last}
-use Rattle.fare_world.proofs.Tables.{is_one, if_all, above, not_below, put_all, put_apart}
+use Rattle.fare_store.proofs.Entries.{is_one, if_all, above, not_below, put_all, put_apart}
 use Rattle.fare_world.proofs.Lanes.{day_count-other}
 use Rattle.fare_world.proofs.Orderly.{orderly}
 use Rattle.fare_world.proofs.KeptParts.{took_numbered, statement_grows, turned_grows, parts_grow, device_changes}

@@ -4,7 +4,6 @@ pub mod RowPlaces
 pub mod Lists
 pub mod TableLemmas
 pub mod Orderly
-pub mod Tables
 pub mod Lanes
 pub mod Waiting
 pub mod KeptParts
@@ -22,6 +21,7 @@ pub mod Closing
 pub mod OneOrder
 pub mod Items
 pub mod Showing
+pub mod WeekInOrder
 pub mod Bills
 pub mod Opens
 pub mod Asks

@@ -10,7 +10,7 @@ use Rattle.fare_record.specs.Lanes.{part}
 use Rattle.fare_world.specs.Arriving.{is_full}
 use Rattle.std.proofs.lemmas.List.Sums.{length-filter, count_by-le-length}
 use Rattle.fare_world.specs.Shown.{Each2, Both}
-use Rattle.fare_world.proofs.Tables.{if_all, both_left, both_right}
+use Rattle.fare_store.proofs.Entries.{if_all, both_left, both_right}
 
 -- ONE LIST
 pub AllByRecursion-weaken : {X : Type 0} (P Q : X → Type 0) → ((x : X) → P x → Q x) → (xs : List X) → AllByRecursion P xs → AllByRecursion Q xs

@@ -8,18 +8,19 @@ use Rattle.fare_record.specs.Lanes.{day_count}
 use Rattle.fare_scheme.specs.Values.{SchemeValue}
 use Rattle.fare_store.specs.OutboxWords.{IsLeastStatement}
 use Rattle.fare_world.specs.System.{System, numbered_for}
+use Rattle.fare_world.specs.Kept.{IsSystem}
 use Rattle.fare_world.specs.Owning.{first_held}
 use Rattle.fare_world.specs.Shown.{IsStatementOf, count_of, Shape, Shows}
-use Rattle.fare_world.proofs.Tables.{if_all, is_one}
+use Rattle.fare_store.proofs.Entries.{if_all, is_one}
 use Rattle.fare_world.proofs.Showing.{held_past}
 
 -- the day of least number from a day on that has a count
-record IsFirstFrom (counts : ℕ → Option ℕ) (from found : ℕ) : Type 0 where
-  from_there : from ≤ found
-  held : counts found ≢ None
-  least : (day : ℕ) → from ≤ day → day < found → counts day ≡ None
+pub record IsFirstFrom (counts : ℕ → Option ℕ) (from found : ℕ) : Type 0 where
+  pub from_there : from ≤ found
+  pub held : counts found ≢ None
+  pub least : (day : ℕ) → from ≤ day → day < found → counts day ≡ None
 
-abbrev IsNextDay : (ℕ → Option ℕ) → ℕ → Option ℕ → Type 0
+abbrev pub IsNextDay : (ℕ → Option ℕ) → ℕ → Option ℕ → Type 0
 IsNextDay counts from None = (day : ℕ) → from ≤ day → counts day ≡ None
 IsNextDay counts from (Some found) = IsFirstFrom counts from found
 
@@ -49,11 +50,12 @@ some_is_not_none n same = absurd (cc)
 abbrev pub day_found : System → ℕ → ℕ → Option ℕ
 day_found s o d = first_held (s.held o d) (s.lanes o d).from_day ((s.devices d).day - (s.lanes o d).from_day)
 
-finds_next : (sc : SchemeValue) (h : Shape) (s : System) (o d : ℕ) → Shows sc h s → IsNextDay (h.outbox.stated o d) (s.lanes o d).from_day (day_found s o d)
-finds_next sc h s o d w =
-    first_is_next (s.held o d) (h.outbox.stated o d) from ((s.devices d).day - from)
-    (λ day holds same. some_is_not_none (day_count (numbered_for s o d) day) (sym (w.stated o d day ∙ ap (λ b. count_of b (numbered_for s o d) day) holds) ∙ same))
-    (λ day not_held. w.stated o d day ∙ ap (λ b. count_of b (numbered_for s o d) day) not_held)
+-- it is the outbox's next statement, where the outbox shows what the system holds
+pub finds_next_day : (sc : SchemeValue) (s : System) (counts : ℕ → Option ℕ) (o d : ℕ) → IsSystem sc s → ((day : ℕ) → counts day ≡ count_of (s.held o d day) (numbered_for s o d) day) → IsNextDay counts (s.lanes o d).from_day (day_found s o d)
+finds_next_day sc s counts o d system stated =
+    first_is_next (s.held o d) counts from ((s.devices d).day - from)
+    (λ day holds same. some_is_not_none (day_count (numbered_for s o d) day) (sym (stated day ∙ ap (λ b. count_of b (numbered_for s o d) day) holds) ∙ same))
+    (λ day not_held. stated day ∙ ap (λ b. count_of b (numbered_for s o d) day) not_held)
     (λ day past. free day past (s.held o d day) refl)
   where
     from : ℕ
@@ -61,37 +63,39 @@ finds_next sc h s o d w =
 
     free : (day : ℕ) → from + ((s.devices d).day - from) ≤ day → (b : Bool) → s.held o d day ≡ b → b ≡ false
     free day past false holds = refl
-    free day past true holds = absurd (omega (arith, past, held_past sc s w.system o d day holds))
+    free day past true holds = absurd (omega (arith, past, held_past sc s system o d day holds))
 
 -- a count is that of a held statement
 counted : (b : Bool) (rs : List RecordValue) (day n : ℕ) → count_of b rs day ≡ Some n → (b ≡ true) × (n ≡ day_count rs day)
 counted true rs day n e = let same : day_count rs day ≡ n = cc in (refl, sym same)
 counted false rs day n e = absurd (cc)
 
--- what the forwarder finds in the outbox is what the step looks for
-pub statement_found : (sc : SchemeValue) (h : Shape) (s : System) (o d from : ℕ) (x : StatementValue) → Shows sc h s → from ≡ (s.lanes o d).from_day → IsLeastStatement h.outbox.stated o d from x → (day_found s o d ≡ Some x.day) × IsStatementOf s.devices d x.day o x
-statement_found sc h s o d from x w start is = (by (day_found s o d) (finds_next sc h s o d w), record { past = held_past sc s w.system o d x.day there.0; is = λ i. record { device = is.of_device i; day = x.day; owner = is.of_owner i; count = there.1 i } })
+-- what is found in the outbox is what the step looks for
+pub next_day_is : (sc : SchemeValue) (s : System) (stated : ℕ → ℕ → ℕ → Option ℕ) (o d from : ℕ) (v : StatementValue) → IsSystem sc s → ((day : ℕ) → stated o d day ≡ count_of (s.held o d day) (numbered_for s o d) day) → from ≡ (s.lanes o d).from_day → IsLeastStatement stated o d from v
+    → (day_found s o d ≡ Some v.day) × IsStatementOf s.devices d v.day o v
+next_day_is sc s stated o d from v system shows start is =
+    (by (day_found s o d) (finds_next_day sc s (stated o d) o d system shows), record { past = held_past sc s system o d v.day there.0; is = λ i. record { device = is.of_device i; day = v.day; owner = is.of_owner i; count = there.1 i } })
   where
-    there : (s.held o d x.day ≡ true) × (x.count ≡ day_count (numbered_for s o d) x.day)
-    there = counted (s.held o d x.day) (numbered_for s o d) x.day x.count (sym (w.stated o d x.day) ∙ is.is_held)
+    there : (s.held o d v.day ≡ true) × (v.count ≡ day_count (numbered_for s o d) v.day)
+    there = counted (s.held o d v.day) (numbered_for s o d) v.day v.count (sym (shows v.day) ∙ is.is_held)
 
-    missing : h.outbox.stated o d x.day ≡ None → ⊥
-    missing none = some_is_not_none x.count (sym is.is_held ∙ none)
+    missing : stated o d v.day ≡ None → ⊥
+    missing none = some_is_not_none v.count (sym is.is_held ∙ none)
 
     compare : (a b : ℕ) → (a < b) ⊎ ((b < a) ⊎ (a ≡ b))
     compare a b = grind (arith, nat_tests)
 
-    by : (found : Option ℕ) → IsNextDay (h.outbox.stated o d) (s.lanes o d).from_day found → found ≡ Some x.day
-    by None none = absurd (missing (none x.day (omega (arith, start, is.not_before))))
-    by (Some found) next = elim (compare found x.day) [
+    by : (found : Option ℕ) → IsNextDay (stated o d) (s.lanes o d).from_day found → found ≡ Some v.day
+    by None none = absurd (missing (none v.day (omega (arith, start, is.not_before))))
+    by (Some found) next = elim (compare found v.day) [
       | inl before ↦ absurd (next.held (is.least found (omega (arith, start, next.from_there)) before))
-      | inr (inl behind) ↦ absurd (missing (next.least x.day (omega (arith, start, is.not_before)) behind))
+      | inr (inl behind) ↦ absurd (missing (next.least v.day (omega (arith, start, is.not_before)) behind))
       | inr (inr same) ↦ ap Some same
     ]
 
 -- and where it finds none, the step looks in vain
 pub no_statement_found : (sc : SchemeValue) (h : Shape) (s : System) (o d from : ℕ) → IsDay sc.start → Shows sc h s → from ≡ (s.lanes o d).from_day → ((day : ℕ) → from ≤ day → IsDay day → h.outbox.stated o d day ≡ None) → day_found s o d ≡ None
-no_statement_found sc h s o d from first w start none = by (day_found s o d) (finds_next sc h s o d w)
+no_statement_found sc h s o d from first w start none = by (day_found s o d) (finds_next_day sc s (h.outbox.stated o d) o d w.system (w.stated o d))
   where
     by : (found : Option ℕ) → IsNextDay (h.outbox.stated o d) (s.lanes o d).from_day found → found ≡ None
     by None is = refl

@@ -8,7 +8,7 @@ use Rattle.fare_cap.specs.Order.{is_before, in_order}
 use Rattle.fare_cap.proofs.Ordered.{in_order_same}
 use Rattle.fare_cap.proofs.Permuted.{ties-both}
 use Rattle.fare_cap.proofs.Sorting.{filter_yes, filter_no}
-use Rattle.fare_world.proofs.Tables.{if_all}
+use Rattle.fare_store.proofs.Entries.{if_all}
 
 -- MEMBERS
 abbrev pub In : {X : Type 0} → X → List X → Type 0

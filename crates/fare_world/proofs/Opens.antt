@@ -7,7 +7,7 @@ use Rattle.fare_scheme.specs.Words.{id_at}
 use Rattle.fare_store.specs.LedgerWords.{LedgerValue, closed_through}
 use Rattle.fare_world.specs.System.{is_closed}
 use Rattle.fare_world.specs.Billing.{reaches, first_open}
-use Rattle.fare_world.proofs.Tables.{if_all}
+use Rattle.fare_store.proofs.Entries.{if_all}
 
 -- a day is closed where the last closed day is that day or a later one
 pub closed_by : (v : LedgerValue) (device day : ℕ) → v.start ≤ day → reaches (closed_through v device) day ≡ is_closed v.start (v.closed device) day

@@ -12,7 +12,8 @@ use Rattle.fare_event.specs.declared.event.Event.TheVariants as event
 use Rattle.fare_event.specs.declared.reply.Refusal.TheVariants.{UnknownOwner}
 use Rattle.fare_event.specs.declared.reply.Reply.{Reply}
 use Rattle.fare_event.specs.declared.reply.Reply.TheVariants.{Refused, Restarted}
-use Rattle.fare_world.specs.System.{put, DeviceState, LaneState, System, numbered_for}
+use Rattle.fare_store.specs.Tables.{put}
+use Rattle.fare_world.specs.System.{DeviceState, LaneState, System, numbered_for}
 use Rattle.fare_world.specs.Restarting.{resumed_device, fresh_owner, routed_again, owner_again, restart_owner, hub_again, restart_hub}
 use Rattle.fare_world.specs.Shown.{IsPacketOf, IsRoutedOf, Each2, Both, IsStationOf, IsLedgerOf, IsOwnerOf, count_of, OwnerShape, StationShape, Shape, Shows}
 use Rattle.fare_world.specs.Kept.{IsSystem}

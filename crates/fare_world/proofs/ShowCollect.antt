@@ -11,7 +11,7 @@ use Rattle.fare_store.specs.declared.fault.StoreFault.{StoreFault}
 use Rattle.fare_store.specs.declared.fault.StoreFault.TheVariants as store_fault
 use Rattle.fare_store.specs.declared.fault.StatedFault.{StatedFault}
 use Rattle.fare_store.specs.declared.fault.StatedFault.TheVariants as stated_fault
-use Rattle.fare_store.specs.Tables.{put3}
+use Rattle.fare_store.specs.Tables.{put3, put, put2}
 use Rattle.fare_store.specs.OutboxWords.{store_judged, stated_judged_by, stated_judged}
 use Rattle.fare_store.specs.OutboxWords as outbox
 use Rattle.fare_event.specs.declared.event.Event.TheVariants as event
@@ -19,7 +19,7 @@ use Rattle.fare_event.specs.declared.reply.Refusal.{Refusal}
 use Rattle.fare_event.specs.declared.reply.Refusal.TheVariants.{HandFull, Duplicate, Gap, Conflict, OutboxFull}
 use Rattle.fare_event.specs.declared.reply.Reply.{Reply}
 use Rattle.fare_event.specs.declared.reply.Reply.TheVariants.{Idle, Empty, Refused, Drawn, DrawnDay, Stored, StoredDay, Restarted}
-use Rattle.fare_world.specs.System.{put, put2, Arrived, Tap_of, Statement_of, DeviceState, System, numbered_for, arrived_of, stated_count}
+use Rattle.fare_world.specs.System.{Arrived, Tap_of, Statement_of, DeviceState, System, numbered_for, arrived_of, stated_count}
 use Rattle.fare_world.specs.Arriving as arriving
 use Rattle.fare_world.specs.Restarting.{restart_writer}
 use Rattle.fare_world.specs.Storing.{drawn_reply, draw_from, draw, let_go, is_held, stored, store_tap, stored_day, store_statement, store_from, store}
@@ -27,7 +27,7 @@ use Rattle.fare_world.specs.ItemReplies.{drawn_item}
 use Rattle.fare_world.specs.Shown.{IsAt, IsStatementOf, count_of, IsPacketOf, IsArrivedOf, IsDeviceOf, IsStationOf, IsOwnerOf, Both, Each2, Shape, Shows, row_at}
 use Rattle.fare_world.specs.Kept.{IsDevice, IsSystem}
 use Rattle.fare_world.proofs.RowPlaces.{row_past, row_push}
-use Rattle.fare_world.proofs.Tables.{at_most, below, above, not_below, if_all, put_all, put_apart, put_both}
+use Rattle.fare_store.proofs.Entries.{at_most, below, above, not_below, if_all, put_all, put_apart, put_both}
 use Rattle.fare_world.proofs.Lists.{Each2-nil, Each2-cons, Each2-weaken, Both-none, Both-some, IfSome-weaken, part-push, take-one_more}
 use Rattle.fare_world.proofs.Kept.{moves_step}
 use Rattle.fare_world.proofs.KeptParts.{hand_changes}

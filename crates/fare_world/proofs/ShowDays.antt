@@ -26,7 +26,8 @@ use Rattle.fare_event.specs.declared.reply.Refusal.TheVariants.{UnknownDevice, U
 use Rattle.fare_event.specs.declared.reply.Reply.{Reply}
 use Rattle.fare_event.specs.declared.reply.Reply.TheVariants.{Idle, Refused, Opened, SentDay, Accepted, DroppedDay, AcknowledgedDay}
 use Rattle.fare_record.specs.declared.ack_item.AckItem.TheVariants as ack_item
-use Rattle.fare_world.specs.System.{put, Stated, DayAcked, Statement_of, DayAck_of, DeviceState, System}
+use Rattle.fare_store.specs.Tables.{put}
+use Rattle.fare_world.specs.System.{Stated, DayAcked, Statement_of, DayAck_of, DeviceState, System}
 use Rattle.fare_world.specs.Knowing.{knows_owner}
 use Rattle.fare_world.specs.Tapping.{is_waiting, turned, turn_on, turn, state_on, state}
 use Rattle.fare_world.specs.Arriving.{without, statement_refusal_of, statement_comes, heard_day, comes}
@@ -36,7 +37,7 @@ use Rattle.fare_world.specs.Kept.{IsSystem, IsTurned, IsDayAck, IsPacket}
 use Rattle.fare_world.specs.Shown.{statement_of, IsStatementOf, IsPacketOf, IsArrivedOf, IsDeviceOf, count_of, StationShape, Shape, Shows}
 use Rattle.fare_world.proofs.Known.{no_station}
 use Rattle.fare_world.proofs.Lists.{Each2-push, length-Each2, has_room, has_no_room}
-use Rattle.fare_world.proofs.Tables.{if_all, at_most, above, put_all, put_both}
+use Rattle.fare_store.proofs.Entries.{if_all, at_most, above, put_all, put_both}
 use Rattle.fare_world.proofs.Kept.{moves_step}
 use Rattle.fare_world.proofs.KeptArrive.{comes_kept}
 use Rattle.fare_world.proofs.KeptLink.{among}

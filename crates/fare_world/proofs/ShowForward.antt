@@ -30,7 +30,8 @@ use Rattle.fare_event.specs.declared.reply.Refusal.TheVariants.{UnknownDevice, U
 use Rattle.fare_event.specs.declared.reply.Reply.{Reply}
 use Rattle.fare_event.specs.declared.reply.Reply.TheVariants as reply
 use Rattle.fare_event.specs.declared.reply.Reply.TheVariants.{Idle, Empty, Refused, Taken, Closed, Count, Pruned}
-use Rattle.fare_world.specs.System.{put, put2, Routed, Lane_of, Day_of, OwnerState, LaneState, System, numbered_for, arrived_of, is_closed}
+use Rattle.fare_store.specs.Tables.{put, put2}
+use Rattle.fare_world.specs.System.{Routed, Lane_of, Day_of, OwnerState, LaneState, System, numbered_for, arrived_of, is_closed}
 use Rattle.fare_world.specs.Steps.{count}
 use Rattle.fare_world.specs.Arriving.{is_full}
 use Rattle.fare_world.specs.Knowing.{knows_device}
@@ -39,7 +40,7 @@ use Rattle.fare_world.specs.Owning.{lane_room, next_routed, passed, forwarded_re
 use Rattle.fare_world.specs.Shown.{IsAt, IsRoutedOf, IsLedgerOf, IsOwnerOf, OwnerShape, Both, Each2, entry, Shape, Shows, row_at, count_of}
 use Rattle.fare_world.specs.Kept.{IsSystem}
 use Rattle.fare_world.specs.Whole.{Seen, shape}
-use Rattle.fare_world.proofs.Tables.{if_all, above, not_below, put_all, put2_all, put_both, put_here}
+use Rattle.fare_store.proofs.Entries.{if_all, above, not_below, put_all, put2_all, put_both, put_here}
 use Rattle.fare_world.proofs.RowPlaces.{row_here, row_held, row_pruned, rows_pruned}
 use Rattle.fare_world.proofs.Lists.{IfSome-weaken, slice_get-past, length-Each2, has_room, has_no_room, Each2-push, Each2-nil, Each2-cons, Both-none, Both-some, element_at, take-one_more}
 use Rattle.fare_world.proofs.Places.{slice_get-front}
@@ -47,7 +48,7 @@ use Rattle.fare_world.proofs.TableLemmas.{entry-set, owners_apart}
 use Rattle.fare_world.proofs.Lanes.{Runs-le}
 use Rattle.fare_world.proofs.Kept.{moves_step}
 use Rattle.fare_world.proofs.KeptParts.{took_numbered}
-use Rattle.fare_world.proofs.NextDay.{day_found, statement_found, no_statement_found}
+use Rattle.fare_world.proofs.NextDay.{day_found, next_day_is, no_statement_found}
 use Rattle.fare_world.proofs.Showing.{Answers, answers_by, put_other, shows_owner, owner_shown, lane_tap_at, routed_is, routed_states}
 
 -- what was taken was stored
@@ -160,7 +161,7 @@ next_found sc h s o d c (Some (item.Tap r)) first w lane day next =
     let is : IsAt (numbered_for s o d) ((s.lanes o d).forward + 1) r = record { positive = omega arith; here = ap (slice_get (numbered_for s o d)) less ∙ part_front o (s.devices d).upto (s.lanes o d).forward (s.devices d).taps r at } in
     subst (λ x. Both (IsRoutedOf s.devices o) x (Some (item.Tap r))) (sym (row_routed s o d (slice_get_within (arrived_of o (s.devices d)) (s.lanes o d).forward r at))) is
 next_found sc h s o d c (Some (item.Stated x)) first w lane day next =
-    let is = statement_found sc h s o d c.day x w day next.1 in
+    let is = next_day_is sc s h.outbox.stated o d c.day x w.system (w.stated o d) day next.1 in
     subst (λ z. Both (IsRoutedOf s.devices o) z (Some (item.Stated x))) (sym (no_row_routed s o d (none_left_of sc h s o d c.lane w lane next.0) ∙ ap (option_map (Day_of d)) is.0)) is.1
 next_found sc h s o d c None first w lane day next =
     let none = no_statement_found sc h s o d c.day first w day next.1 in

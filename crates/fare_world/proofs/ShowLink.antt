@@ -18,7 +18,8 @@ use Rattle.fare_event.specs.declared.event.Event.TheVariants as event
 use Rattle.fare_event.specs.declared.reply.Refusal.TheVariants.{NoPacket, Stranger, Busy, UnknownDevice, UnknownStation}
 use Rattle.fare_event.specs.declared.reply.Reply.{Reply}
 use Rattle.fare_event.specs.declared.reply.Reply.TheVariants.{Empty, Refused, Rewound, Accepted, Dropped, Acknowledged, Answered, AnsweredDay, Resumed, Restarted}
-use Rattle.fare_world.specs.System.{put, Packet, Tapped, Stated, Acked, DayAcked, Tap_of, Answer, Ack_of, DayAck_of, DeviceState, System}
+use Rattle.fare_store.specs.Tables.{put}
+use Rattle.fare_world.specs.System.{Packet, Tapped, Stated, Acked, DayAcked, Tap_of, Answer, Ack_of, DayAck_of, DeviceState, System}
 use Rattle.fare_frame.specs.Grammar.{frame_of}
 use Rattle.fare_world.specs.Packets.{bytes_at, IsPacketRead}
 use Rattle.fare_world.specs.Acknowledging.{answered_by}
@@ -33,7 +34,7 @@ use Rattle.fare_world.specs.Shown.{IsAt, IsStatementOf, IsPacketOf, IsArrivedOf,
 use Rattle.fare_world.specs.Kept.{IsDevice, IsSystem, IsAck, IsDayAck, IsPacket}
 use Rattle.fare_world.proofs.Known.{no_station, no_place, placed, is_own_id}
 use Rattle.fare_world.proofs.Lists.{AllByRecursion-at, Each2-push, Each2-get, Each2-nil, Each2-cons, length-Each2, Both-none, IfSome-weaken, has_room, has_no_room}
-use Rattle.fare_world.proofs.Tables.{put_all, put_apart, put_both, put_here}
+use Rattle.fare_store.proofs.Entries.{put_all, put_apart, put_both, put_here}
 use Rattle.fare_world.proofs.Kept.{moves_step}
 use Rattle.fare_world.proofs.KeptArrive.{comes_kept}
 use Rattle.fare_world.proofs.KeptParts.{device_changes}

@@ -19,7 +19,8 @@ use Rattle.fare_event.specs.declared.reply.Refusal.{Refusal}
 use Rattle.fare_event.specs.declared.reply.Refusal.TheVariants.{UnknownDevice, BadMoment, UnknownProduct, DayClosed, DayAhead, NumbersSpent, BufferFull}
 use Rattle.fare_event.specs.declared.reply.Reply.{Reply}
 use Rattle.fare_event.specs.declared.reply.Reply.TheVariants.{Idle, Refused, Recorded, Sent}
-use Rattle.fare_world.specs.System.{put, Tapped, DeviceState, System, numbered_for, arrived_of}
+use Rattle.fare_store.specs.Tables.{put}
+use Rattle.fare_world.specs.System.{Tapped, DeviceState, System, numbered_for, arrived_of}
 use Rattle.fare_world.specs.Tapping.{next_record, with_tap, room_of, waiting_count, tap_for, tap_on, tap, sent, send_next, send}
 use Rattle.std.proofs.lemmas.List.{set-get_or}
 use Rattle.std.proofs.lemmas.Option.{slice_get_read}
@@ -34,7 +35,7 @@ use Rattle.fare_world.specs.Shown.{IsAt, IsPacketOf, IsDeviceOf, Shape, Shows}
 use Rattle.fare_world.specs.Kept.{IsDevice, IsSystem}
 use Rattle.fare_world.proofs.Lists.{Each2-push, length-Each2, take-part-push, slice_get-drop}
 use Rattle.fare_world.proofs.TableLemmas.{entry-set, devices_apart, owner_within}
-use Rattle.fare_world.proofs.Tables.{put_all, put_both, put_here}
+use Rattle.fare_store.proofs.Entries.{put_all, put_both, put_here}
 use Rattle.fare_world.proofs.Kept.{moves_step}
 use Rattle.fare_world.proofs.KeptParts.{device_changes, took_numbered}
 use Rattle.fare_world.proofs.Showing.{Answers, answers_by, grows_by_tap, shows_devices, shows_device, stations_same, waits_behind, lane_counted, last_link_is, device_shown}

@@ -16,14 +16,15 @@ use Rattle.fare_event.specs.declared.reply.Reply.{Reply}
 use Rattle.fare_frame.specs.Grammar.{frame_bytes, IsFrame, tap_of, statement_of, ack_of, day_ack_of}
 use Rattle.fare_frame.specs.declared.frame.Frame.{Frame}
 use Rattle.fare_frame.specs.declared.frame.Frame.TheVariants as frame
-use Rattle.fare_world.specs.System.{put, Packet, Tapped, Stated, Acked, DayAcked, Arrived, Tap_of, Statement_of, Answer, Routed, Lane_of, Day_of, DeviceState, OwnerState, LaneState, System, numbered_for, arrived_of}
+use Rattle.fare_store.specs.Tables.{put}
+use Rattle.fare_world.specs.System.{Packet, Tapped, Stated, Acked, DayAcked, Arrived, Tap_of, Statement_of, Answer, Routed, Lane_of, Day_of, DeviceState, OwnerState, LaneState, System, numbered_for, arrived_of}
 use Rattle.fare_world.specs.Packets.{IsRead}
 use Rattle.fare_world.specs.Kept.{IsNumbered, IsDevice, IsSystem}
 use Rattle.fare_world.specs.Shown.{IsAt, IsStatementOf, count_of, IsPacketOf, IsArrivedOf, IsRoutedOf, IsDeviceOf, IsStationOf, IsOwnerOf, StationShape, OwnerShape, Shape, Shows, row_at}
 use Rattle.fare_world.proofs.Places.{slice_get-push_cases, slice_get-front}
 use Rattle.fare_world.proofs.Lanes.{day_count-other}
 use Rattle.fare_world.proofs.Lists.{Each2-weaken, Both-weaken, IfSome-weaken, element_at, take-one_more, part-push}
-use Rattle.fare_world.proofs.Tables.{if_all, put_all, put_apart, put_both}
+use Rattle.fare_store.proofs.Entries.{if_all, put_all, put_apart, put_both}
 
 -- the reply and the system of a step
 pub record Answers (sc : SchemeValue) (h : Shape) (y : System × Reply) (r : Reply) : Type 0 where

@@ -8,9 +8,9 @@ use Rattle.std.proofs.lemmas.List.Quantifiers.{position-Some}
 use Rattle.std.proofs.lemmas.Option.{slice_get-get_or}
 use Rattle.fare_scheme.specs.Values.{SchemeValue}
 use Rattle.fare_scheme.specs.Words.{position_of_device, position_of_station, position_of_owner}
-use Rattle.fare_world.specs.System.{put}
+use Rattle.fare_store.specs.Tables.{put}
 use Rattle.fare_world.specs.Shown.{entry}
-use Rattle.fare_world.proofs.Tables.{put_apart}
+use Rattle.fare_store.proofs.Entries.{put_apart}
 
 -- a map over a table with another value at one place
 pub option_map-put : {A B : Type 0} (f : A → B) (t : ℕ → Option A) (k : ℕ) (y : A) (j : ℕ) → option_map f (put t k (Some y) j) ≡ put (λ i. option_map f (t i)) k (Some (f y)) j

@@ -12,7 +12,8 @@ use Rattle.fare_event.specs.declared.reply.Refusal.{Refusal}
 use Rattle.fare_event.specs.declared.reply.Refusal.TheVariants.{NoPacket, Stranger, Misrouted, Old, Ahead, AckAhead, Busy}
 use Rattle.fare_event.specs.declared.reply.Reply.{Reply}
 use Rattle.fare_event.specs.declared.reply.Reply.TheVariants.{Idle, Refused, Accepted, Dropped, DroppedDay}
-use Rattle.fare_world.specs.System.{put, Packet, Tapped, Stated, Acked, DayAcked, Tap_of, Statement_of, DeviceState, System}
+use Rattle.fare_store.specs.Tables.{put}
+use Rattle.fare_world.specs.System.{Packet, Tapped, Stated, Acked, DayAcked, Tap_of, Statement_of, DeviceState, System}
 use Rattle.fare_world.specs.Knowing.{knows_owner}
 use Rattle.fare_world.specs.Tapping.{is_waiting}
 

@@ -3,7 +3,7 @@ use Rattle.sqlite.specs.Held.{state}
 use Rattle.sqlite.specs.State.{Survives}
 use Rattle.fare_opening.specs.Opening.{IsPlaced, Opens, place_in}
 use Rattle.fare_opening.proofs.Olders.{none_raised}
-use Rattle.fare_opening.proofs.Standing.{some_is}
+use Rattle.fare_layout.proofs.Creation.{some_is}
 use Rattle.fare_ledger.specs.Making.{site_of}
 use Rattle.fare_ledger.specs.Opening.{MayMake}
 use Rattle.fare_ledger.specs.Statements.{ledger_parts}

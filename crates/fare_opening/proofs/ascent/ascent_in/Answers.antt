@@ -4,7 +4,8 @@ use Rattle.fare_layout.specs.Places.{all_of}
 use Rattle.fare_opening.specs.Parts.{Parts, IsDesign, parts_of}
 use Rattle.fare_opening.specs.Sites.{IsSite}
 use Rattle.fare_opening.proofs.Risen.{rises_again, rises_alike}
-use Rattle.fare_opening.proofs.Standing.{some_is, not_true}
+use Rattle.fare_layout.proofs.Creation.{some_is}
+use Rattle.fare_opening.proofs.Standing.{not_true}
 use Rattle.fare_opening.proofs.ascent.ascent_in.Goals as goal
 
 pub returns-in_default-clause-lacks : goal.returns-in_default-clause-lacks

@@ -1,7 +1,8 @@
 use Rattle.std.proofs.Common.{◌≡◌, sym, subst}
 use Rattle.fare_layout.specs.Growing.{GrowsBy}
 use Rattle.fare_layout.specs.Layouts.{Fits}
-use Rattle.fare_opening.proofs.Standing.{some_is, none_stands}
+use Rattle.fare_layout.proofs.Creation.{some_is}
+use Rattle.fare_opening.proofs.Standing.{none_stands}
 use Rattle.fare_opening.proofs.Vacant.{own_grown}
 use Rattle.fare_opening.proofs.looking.find_site.Goals as goal
 

@@ -2,7 +2,7 @@ use Rattle.std.proofs.Common.{refl}
 use Rattle.std.proofs.lemmas.Result.{IfOk-weaker}
 use Rattle.fare_layout.specs.Growing.{GrowsBy}
 use Rattle.fare_layout.proofs.Again.{same_grown}
-use Rattle.fare_opening.proofs.Standing.{some_is}
+use Rattle.fare_layout.proofs.Creation.{some_is}
 use Rattle.fare_opening.proofs.looking.grown_site.Goals as goal
 
 pub returns-in-Some-clause-lacks : goal.returns-in-Some-clause-lacks

@@ -1,7 +1,8 @@
 use Rattle.std.proofs.Common.{refl, sym, subst, IsTrue}
 use Rattle.fare_layout.specs.Growing.{CanMakeAll, GrowsBy, AreLast}
 use Rattle.fare_opening.specs.Sites.{IsSite}
-use Rattle.fare_opening.proofs.Standing.{some_is, not_true}
+use Rattle.fare_layout.proofs.Creation.{some_is}
+use Rattle.fare_opening.proofs.Standing.{not_true}
 use Rattle.fare_opening.proofs.Vacant.{can_make_again, last_alike, blank_last, home_of}
 use Rattle.fare_opening.proofs.looking.site_after.Goals as goal
 

@@ -5,7 +5,8 @@ use Rattle.fare_tables.proofs.Steps.{was_clean}
 use Rattle.fare_opening.specs.Parts.{OlderParts, IsOlder, IsTold}
 use Rattle.fare_opening.specs.Raising.{Rises}
 use Rattle.fare_opening.proofs.Olders.{AreFound, none_rises, is_rising, raises, raises_survives}
-use Rattle.fare_opening.proofs.Standing.{some_is, not_true, for_err}
+use Rattle.fare_layout.proofs.Creation.{some_is}
+use Rattle.fare_opening.proofs.Standing.{not_true, for_err}
 use Rattle.fare_opening.proofs.older.raise_from.Goals as goal
 
 pub returns-in_default-clause-lacks : goal.returns-in_default-clause-lacks

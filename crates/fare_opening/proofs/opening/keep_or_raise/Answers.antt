@@ -8,7 +8,8 @@ use Rattle.fare_opening.specs.Raising.{WasRaised}
 use Rattle.fare_opening.specs.Sites.{rows_at}
 use Rattle.fare_opening.proofs.Finds.{none_lacks}
 use Rattle.fare_opening.proofs.Olders.{raised_since, none_since, survives_since}
-use Rattle.fare_opening.proofs.Standing.{some_is, not_true}
+use Rattle.fare_layout.proofs.Creation.{some_is}
+use Rattle.fare_opening.proofs.Standing.{not_true}
 use Rattle.fare_opening.proofs.opening.keep_or_raise.Goals as goal
 
 pub returns-in_err-site-clause-crash : goal.returns-in_err-site-clause-crash

@@ -1,7 +1,7 @@
 use Rattle.std.proofs.Common.{◌≡◌, ◌∙◌, sym}
 use Rattle.sqlite.specs.Held.{state}
 use Rattle.fare_opening.specs.Opening.{IsPlaced, Opens, place_in}
-use Rattle.fare_opening.proofs.Standing.{some_is}
+use Rattle.fare_layout.proofs.Creation.{some_is}
 use Rattle.fare_outbox.specs.Making.{site_of}
 use Rattle.fare_outbox.specs.Statements.{outbox_parts}
 use Rattle.fare_outbox.proofs.Opened.{made_as, found_as}

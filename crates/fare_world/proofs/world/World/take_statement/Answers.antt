@@ -16,7 +16,7 @@ use Rattle.fare_owner.specs.declared.statement.StatementFault.{StatementFault}
 use Rattle.fare_store.specs.declared.fault.Refused.{Refused}
 use Rattle.fare_store.specs.declared.fault.Refused.TheVariants as refused
 use Rattle.fare_store.specs.LedgerWords.{is_mine, state_judged, with_statement}
-use Rattle.fare_world.specs.System.{put}
+use Rattle.fare_store.specs.Tables.{put}
 use Rattle.fare_world.proofs.ShowForward.{StateSeen, owner_read, owner_written, world_statement}
 use Rattle.fare_world.proofs.MayFail.{take_may_fail}
 use Rattle.fare_world.specs.Owning as owning

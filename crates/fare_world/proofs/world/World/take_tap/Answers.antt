@@ -16,7 +16,7 @@ use Rattle.fare_owner.specs.declared.tap.TapFault.{TapFault}
 use Rattle.fare_store.specs.declared.fault.Refused.{Refused}
 use Rattle.fare_store.specs.declared.fault.Refused.TheVariants as refused
 use Rattle.fare_store.specs.LedgerWords.{is_mine, take_judged, took}
-use Rattle.fare_world.specs.System.{put}
+use Rattle.fare_store.specs.Tables.{put}
 use Rattle.fare_world.proofs.ShowForward.{TakeSeen, owner_read, owner_written, world_take}
 use Rattle.fare_world.proofs.MayFail.{take_may_fail}
 use Rattle.fare_world.specs.Owning as owning

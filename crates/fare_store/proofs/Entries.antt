@@ -1,8 +1,8 @@
 -- Tables with another value at one place, and tests.
-use Rattle.std.proofs.Common.{◌≡◌, ℕ, ◌<◌, ◌≤◌, Bool, true, false, refl, sym, ap, subst, arith}
+use Rattle.std.proofs.Common.{◌≡◌, ℕ, ◌<◌, ◌≤◌, Bool, true, false, refl, sym, ap, ◌∙◌, subst, arith}
 use Rattle.std.specs.Prelude.{◌==◌, ◌&&◌, if◌then◌else◌, nat_le, nat_lt}
 use Rattle.std.proofs.lemmas.Bool.Decides.{nat_tests, Decides-eqb}
-use Rattle.fare_world.specs.System.{put, put2}
+use Rattle.fare_store.specs.Tables.{put, put2, put3}
 
 -- TESTS
 -- what holds of both sides of a test
@@ -62,3 +62,24 @@ put2_all P f o d v each one = put_all (λ p g. (e : ℕ) → P p e (g e)) f o (p
 -- the entry that was written
 pub put_here : {A : Type 0} (f : ℕ → A) (k : ℕ) (v : A) → put f k v k ≡ v
 put_here f k v = ap (λ b. if b then v else f k) (is_self k)
+
+pub put2_here : {A : Type 0} (f : ℕ → ℕ → A) (a b : ℕ) (v : A) → put2 f a b v a b ≡ v
+put2_here f a b v = ap (λ g. g b) (put_here f a (put (f a) b v)) ∙ put_here (f a) b v
+
+-- an entry of another place
+pub put2_apart : {A : Type 0} (f : ℕ → ℕ → A) (a b : ℕ) (v : A) (j k : ℕ) → ((j ≡ a) → (k ≡ b) → ⊥) → put2 f a b v j k ≡ f j k
+put2_apart f a b v j k apart = by (j == a) refl
+  where
+    at : j ≡ a → (c : Bool) → (k == b) ≡ c → (if c then v else f a k) ≡ f j k
+    at same true e = absurd (apart same (is_one k b e))
+    at same false e = ap (λ i. f i k) (sym same)
+
+    by : (c : Bool) → (j == a) ≡ c → (if c then put (f a) b v else f j) k ≡ f j k
+    by false e = refl
+    by true e = at (is_one j a e) (k == b) refl
+
+pub put3_all : {A : Type 0} (P : ℕ → ℕ → ℕ → A → Type 0) (f : ℕ → ℕ → ℕ → A) (o d k : ℕ) (v : A) → ((p j n : ℕ) → P p j n (f p j n)) → P o d k v → (p j n : ℕ) → P p j n (put3 f o d k v p j n)
+put3_all P f o d k v each one p j n = put_all (λ p g. (j n : ℕ) → P p j n (g j n)) f o (put2 (f o) d k v) each (put2_all (P o) (f o) d k v (each o) one) p j n
+
+pub put3_here : {A : Type 0} (f : ℕ → ℕ → ℕ → A) (o d k : ℕ) (v : A) → put3 f o d k v o d k ≡ v
+put3_here f o d k v = ap (λ g. g d k) (put_here f o (put2 (f o) d k v)) ∙ put2_here (f o) d k v
