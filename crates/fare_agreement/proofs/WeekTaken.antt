@@ -1,18 +1,12 @@
 -- What a ledger that agrees with lists holds of a week, where it has closed the day of each device, stands in the order of the lists' taps of it; and a bill is of the same.
-use Rattle.std.proofs.Common.{◌≡◌, ℕ, ◌+◌, ◌<◌, ◌≤◌, Bool, true, false, not, List, [], ◌∷◌, ◌++◌, length, take, filter, Some, None, refl, sym, ap, ◌∙◌, subst, arith, inl, inr}
-use Rattle.std.specs.Prelude.{◌⊎◌, ◌&&◌, slice_get, nat_eq, nat_le, nat_lt, max, option_map, if◌then◌else◌}
-use Rattle.std.specs.List.{IsDistinct, AllByRecursion, flat_map}
-use Rattle.std.specs.List.Sorted.{ties}
-use Rattle.std.specs.Map.{lookup, keys_of}
-use Rattle.std.specs.declared.cmp.Ordering.{Ordering}
-use Rattle.std.specs.declared.cmp.Ordering.TheVariants.{Less, Equal, Greater}
-use Rattle.std.specs.Ordering.{nat_cmp, ordering_then, ordering_reverse, is_lt}
+use Rattle.std.proofs.Common.{◌≡◌, ℕ, ◌+◌, ◌<◌, ◌≤◌, Bool, true, List, [], ◌∷◌, ◌++◌, length, take, filter, Some, None, refl, sym, ap, ◌∙◌, subst, arith}
+use Rattle.std.specs.Prelude.{◌&&◌, slice_get, nat_le, max}
+use Rattle.std.specs.List.{flat_map}
 use Rattle.std.proofs.Math.Seq.{take-length}
-use Rattle.std.proofs.lemmas.Bool.{and_parts, and_from, not-true}
+use Rattle.std.proofs.lemmas.Bool.{and_from}
 use Rattle.std.proofs.lemmas.Bool.Decides.{nat_tests}
 use Rattle.std.proofs.lemmas.List.{append-nil}
 use Rattle.std.proofs.lemmas.List.Elements.{filter-append}
-use Rattle.std.proofs.lemmas.Map.Lookups.{exact_unsigned}
 use Rattle.fare_record.specs.Values.{RecordValue}
 use Rattle.fare_record.specs.Lanes.{part, day_count}
 use Rattle.fare_day.specs.Week.{monday_on_or_before}
@@ -20,10 +14,9 @@ use Rattle.fare_scheme.specs.declared.entry.Placement.{Placement}
 use Rattle.fare_scheme.specs.Facts.{IsScheme}
 use Rattle.fare_scheme.specs.Values.{SchemeValue}
 use Rattle.fare_cap.specs.Fares.{week_start}
-use Rattle.fare_cap.specs.Order.{compare_taps, is_before, in_order}
+use Rattle.fare_cap.specs.Order.{in_order}
 use Rattle.fare_cap.specs.Bills.{BillValue, bill_of, bill_rows, total_of}
 use Rattle.fare_cap.specs.declared.row.Row.{Row}
-use Rattle.fare_cap.proofs.Ordered.{compare_total}
 use Rattle.fare_cap.proofs.Weeks.{other_days_count_nowhere}
 use Rattle.fare_store.specs.LedgerWords as ledger
 use Rattle.fare_world.specs.Billing.{first_open}
@@ -36,7 +29,6 @@ use Rattle.fare_agreement.proofs.Numbers.{lanes_count}
 use Rattle.fare_agreement.proofs.Prefixes.{prefix_at}
 use Rattle.fare_world.proofs.Closing.{of_days-none}
 use Rattle.fare_world.proofs.WeekInOrder as world
-use Rattle.fare_world.proofs.OneOrder.{In, in_from, in_at, in_filter, of_filter, in_flat, of_flat, AreApart, apart_from, apart_append, apart_filter, one_order}
 
 -- what is kept of several lists is what is kept of each
 filter_flat : {X : Type 0} (p : RecordValue → Bool) (f : X → List RecordValue) (xs : List X) → filter p (flat_map f xs) ≡ flat_map (λ x. filter p (f x)) xs

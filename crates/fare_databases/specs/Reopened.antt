@@ -1,5 +1,5 @@
 -- The stores of a hub, opened again over what a stop left of them.
-use Rattle.std.specs.Prelude.{◌≡◌, ℕ, List, Some, length, slice_get}
+use Rattle.std.specs.Prelude.{◌≡◌, ℕ, List, Some, slice_get}
 use Rattle.sqlite_trees.specs.declared.store.Store.{Ghosts}
 use Rattle.sqlite.specs.State.{State}
 use Rattle.fare_outbox.specs.declared.tables.SqlOutbox.{SqlOutbox}

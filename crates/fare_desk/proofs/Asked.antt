@@ -54,7 +54,7 @@ module _ {O L : Type 0} (outbox : O → Standing OutboxValue) (ledger : L → St
       follow = record {
         outbox_follows = record { clean = call.clean; live = call.live; lawful = λ live lawful. (call.value live lawful).0; lasts = call.lasts };
         count = ap (λ (v : Vec L Global). length v.items) ledgers;
-        ledgers_follow = λ place x y at_x at_y. subst (λ z. Follows (ledger x) (ledger z)) (sym (same_at old.ledgers.items new.ledgers.items place x y at_x at_y (ap (λ (v : Vec L Global). slice_get v.items place) ledgers))) (record { clean = λ c. c; live = λ l. l; lawful = λ l is. is });
+        ledgers_follow = λ place x y at_x at_y. subst (λ z. Follows (ledger x) (ledger z)) (sym (same_at old.ledgers.items new.ledgers.items place x y at_x at_y (ap (λ (v : Vec L Global). slice_get v.items place) ledgers))) (record { clean = λ c. c; live = λ l. l; lawful = λ l is. is; lasts = λ clean lawful lasting. lasting });
       };
       sound = λ sound. record {
         lawful = record {

@@ -1,7 +1,6 @@
 -- How many rows and statements an outbox holds from a number on, counted one by one.
 use Rattle.std.proofs.Common.{◌≡◌, ℕ, suc, ◌+◌, ◌<◌, ◌≤◌, Some, None, Bool, true, false, refl, ap, ◌∙◌, subst, arith}
 use Rattle.std.specs.Prelude.{Option, is_some, nat_le, if◌then◌else◌}
-use Rattle.std.proofs.lemmas.Bool.Decides.{nat_tests}
 use Rattle.fare_record.specs.Values.{RecordValue, StatementValue}
 use Rattle.fare_store.specs.OutboxWords.{OutboxValue, IsNextRow, IsNextStatement}
 use Rattle.fare_sessions.proofs.NextClose.{there_is, there_is_none}

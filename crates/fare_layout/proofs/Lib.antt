@@ -1,5 +1,5 @@
 mod Nodes
-mod Creation
+pub mod Creation
 mod Unread
 pub mod Meant
 pub mod Untouched

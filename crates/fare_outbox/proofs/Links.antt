@@ -1,7 +1,6 @@
 -- What the upsert of a device's greatest link makes of the devices.
 use Rattle.std.proofs.Common.{◌≡◌, ◌≢◌, ◌⊎◌, inl, inr, ℕ, ◌==◌, ◌&&◌, ◌||◌, ℤ, pos, List, [], ◌∷◌, map, filter, Bool, true, false, Option, Some, None, Ok, refl, sym, ap, subst, ◌∙◌, arith}
 use Rattle.std.specs.List.Sorted.{IsPermutation}
-use Rattle.std.proofs.lemmas.Bool.{cases_Bool}
 use Rattle.std.proofs.lemmas.Bool.Decides.{nat_tests}
 use Rattle.sqlite.specs.declared.types.Value.TheVariants.{Null}
 use Rattle.sqlite_value.specs.Order.{Row, column}
@@ -30,7 +29,7 @@ use Rattle.sqlite_value.specs.Keys.{first_key}
 use Rattle.sqlite_schema.specs.declared.schema.Keys.{Keys}
 use Rattle.sqlite.proofs.Callers.{statement_of, runs_as, one_step, one_permutation}
 use Rattle.fare_tables.specs.Cells.{nat_in, int, id_of, AreRows}
-use Rattle.fare_tables.proofs.Lists.{member, of_filter}
+use Rattle.fare_tables.proofs.Lists.{member}
 use Rattle.fare_tables.proofs.Rows.{has_none, one_id, all_of, held_one}
 use Rattle.fare_tables.proofs.Statements.{made, cast_int, cast_null, went, same_value}
 use Rattle.fare_tables.proofs.Terms.{chosen, matched, eq_holds, one_term}

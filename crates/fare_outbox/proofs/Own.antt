@@ -1,10 +1,9 @@
 -- A database of an outbox alone.
-use Rattle.std.proofs.Common.{◌≡◌, ◌<◌, codes, List, ℕ, length, Ok, IfOk, inl, inr, refl, sym, subst, arith}
+use Rattle.std.proofs.Common.{◌≡◌, codes, List, ℕ, Ok, inl, inr, refl, arith}
 use Rattle.std.specs.Prelude.{drop}
 use Rattle.std.specs.List.{AllByRecursion}
 use Rattle.sqlite.specs.Compile.{table_defined_by}
 use Rattle.sqlite.specs.Listing.{understood}
-use Rattle.sqlite.specs.Table.{Table}
 use Rattle.sqlite_tied.specs.Compute.{everything}
 use Rattle.sqlite_schema.specs.Names.{same_name}
 use Rattle.fare_tables.specs.Making.{no_schema}

@@ -24,6 +24,7 @@ use Rattle.fare_sessions.specs.declared.session.Session.TheVariants.{Collect}
 use Rattle.fare_sessions.specs.Stores.{HasLedgers, AreClean, AreSound, StoresFollow, IsAgreed, HasGrown}
 use Rattle.fare_sessions.specs.Promises.{GaveOf}
 use Rattle.fare_sessions.proofs.Follow.{clean_back, follow_join, follow_self}
+use Rattle.fare_sessions.specs.Reopening.{AreLasting, AreOwned}
 use Rattle.fare_serve.specs.Calls.{Call, AreHeld}
 use Rattle.fare_serve.specs.Rounds.{AreServed, HaveGiven, IsRound, Round, calls_of, olds_of, serving_of}
 
@@ -81,6 +82,13 @@ module _ {S O L : Type 0} (talks : S → Talk) (outbox : O → Standing OutboxVa
       let rest = held_keeps m b xs h.2 clean (h.1.sound clean_m sound) lists (subst (λ sc. AreNumberedLists sc lists) (sym same) numbered) (subst (λ sc. Gave sc lists xs) (sym same) gave.1) (h.1.agrees clean_m sound lists numbered gave.0 agreed) in
       (rest.0, grown_then a m b same (h.1.grows clean_m sound lists numbered gave.0 agreed) rest.1)
 
+  -- and what a stop would leave fits together
+  held_lasts : (a b : Hub O L) (xs : List (Call S)) → AreHeld talks outbox ledger a b xs → AreClean outbox ledger b → AreSound outbox ledger a → AreLasting outbox ledger a → AreOwned outbox ledger a → AreLasting outbox ledger b × AreOwned outbox ledger b
+  held_lasts a b [] h clean sound lasting owned = (subst (AreLasting outbox ledger) (sym h) lasting, subst (AreOwned outbox ledger) (sym h) owned)
+  held_lasts a b (x ∷ xs) h clean sound lasting owned =
+      let clean_m = clean_back outbox ledger h.0 b (held_follow h.0 b xs h.2) clean in
+      held_lasts h.0 b xs h.2 clean (h.1.sound clean_m sound) (h.1.lasting clean_m sound lasting) (h.1.owned clean_m sound owned)
+
   -- a session of an owner has no source
   gave_serving : (sc : SchemeValue) (lists : ℕ → List RecordValue) (x : Call S) (owner : ℕ) → x.olds ≡ serving_of owner → GaveOf talks sc lists x.olds x.news
   gave_serving sc lists x owner is = record { of = λ place before after was now k d lt. absurd (none place before (ap (λ (l : List (Session S)). slice_get l place) (sym is) ∙ was)) }
@@ -111,6 +119,9 @@ module _ {S O L : Type 0} (talks : S → Talk) (outbox : O → Standing OutboxVa
       → (lists : ℕ → List RecordValue) → AreNumberedLists old.scheme lists → HaveGiven talks outbox ledger old.scheme lists rounds → IsAgreed outbox ledger lists old → IsAgreed outbox ledger lists new × HasGrown outbox ledger old new
   rounds_keep old new rounds served clean sound lists numbered gave agreed =
       held_keeps old new (flat_map calls_of rounds) served.held clean sound lists numbered (gave_all old.scheme lists rounds served.each gave) agreed
+
+  pub rounds_last : (old new : Hub O L) (rounds : List (Round S)) → AreServed talks outbox ledger old new rounds → AreClean outbox ledger new → AreSound outbox ledger old → AreLasting outbox ledger old → AreOwned outbox ledger old → AreLasting outbox ledger new × AreOwned outbox ledger new
+  rounds_last old new rounds served = held_lasts old new (flat_map calls_of rounds) served.held
 
   -- ROUNDS
   pub rounds_none : (hub : Hub O L) → AreServed talks outbox ledger hub hub []

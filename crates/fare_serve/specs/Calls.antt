@@ -17,6 +17,7 @@ use Rattle.fare_sessions.specs.declared.report.SessionsReport.{SessionsReport}
 use Rattle.fare_sessions.specs.declared.session.Session.{Session}
 use Rattle.fare_sessions.specs.declared.session.Session.TheVariants.{Collect, Serve}
 use Rattle.fare_sessions.specs.Stores.{AreClean, AreLive, AreSound, StoresFollow, MayStandAs, IsAgreed, HasGrown, held_by_all}
+use Rattle.fare_sessions.specs.Reopening.{AreLasting, AreOwned}
 use Rattle.fare_sessions.specs.Promises.{GaveOf, AreCovered, ran, AreInOrder, AreUntouched, IsAdded, CameOf}
 use Rattle.fare_serve.specs.declared.fault.ServeFault.{ServeFault}
 use Rattle.fare_serve.specs.declared.fault.ServeFault.TheVariants as serve
@@ -52,6 +53,9 @@ module _ {S O L : Type 0} (talks : S → Talk) (outbox : O → Standing OutboxVa
     pub scheme : new.scheme ≡ old.scheme
     pub follow : StoresFollow outbox ledger old new
     pub sound : AreClean outbox ledger new → AreSound outbox ledger old → AreSound outbox ledger new
+    -- whatever a stop would leave fits together, where it did, and each ledger is its owner's
+    pub lasting : AreClean outbox ledger new → AreSound outbox ledger old → AreLasting outbox ledger old → AreLasting outbox ledger new
+    pub owned : AreClean outbox ledger new → AreSound outbox ledger old → AreOwned outbox ledger old → AreOwned outbox ledger new
     -- where the stores agreed with lists of taps of which the sources' frames are, they do afterwards, and nothing fell
     pub agrees : AreClean outbox ledger new → AreSound outbox ledger old → (lists : ℕ → List RecordValue) → AreNumberedLists old.scheme lists → GaveOf talks old.scheme lists c.olds c.news → IsAgreed outbox ledger lists old → IsAgreed outbox ledger lists new
     pub grows : AreClean outbox ledger new → AreSound outbox ledger old → (lists : ℕ → List RecordValue) → AreNumberedLists old.scheme lists → GaveOf talks old.scheme lists c.olds c.news → IsAgreed outbox ledger lists old → HasGrown outbox ledger old new

@@ -16,6 +16,7 @@ use Rattle.fare_net.specs.Sources.{talk_of}
 use Rattle.fare_agreement.specs.Agreeing.{AreNumberedLists}
 use Rattle.fare_sessions.specs.declared.hub.Hub.{Hub}
 use Rattle.fare_sessions.specs.Stores.{AreClean, AreSound, IsAgreed, HasGrown}
+use Rattle.fare_sessions.specs.Reopening.{AreLasting, AreOwned}
 use Rattle.fare_serve.specs.Counting.{counts_text}
 use Rattle.fare_scheme.specs.Values.{SchemeValue}
 use Rattle.fare_serve.specs.Rounds.{Round, IsRound, AreCountsOf, AreServed, HasServedRound, HaveGiven}
@@ -61,9 +62,11 @@ pub record HasHeldRounds {O L : Type 0} (outbox : O → Standing OutboxValue) (l
   pub held : HaveBeenHeld outbox ledger old new (reads_to_ends most untold) count counts
 
 -- What was written is the counts of the sessions' reports in rounds over lines; and where the stores agreed with lists of
--- taps of which the lines' frames are, they do afterwards, and nothing fell.
+-- taps of which the lines' frames are, they do afterwards, and nothing fell; and whatever a stop would leave of them fits
+-- together, where it did.
 pub record HasServedLines {O L : Type 0} (outbox : O → Standing OutboxValue) (ledger : L → Standing LedgerValue) (old new : Hub O L) (most : ℕ) (untold : Bool) (written_old written_new : Option (List ℕ)) : Type 0 where
   pub counts : Counts
   pub held : HasHeldRounds outbox ledger old new most untold counts
   pub written : Appends written_old written_new (counts_text counts)
   pub agrees : AreClean outbox ledger new → AreSound outbox ledger old → (lists : ℕ → List RecordValue) → AreNumberedLists old.scheme lists → HaveGiven shift_talk outbox ledger old.scheme lists held.held.rounds → IsAgreed outbox ledger lists old → IsAgreed outbox ledger lists new × HasGrown outbox ledger old new
+  pub lasts : AreClean outbox ledger new → AreSound outbox ledger old → AreLasting outbox ledger old → AreOwned outbox ledger old → AreLasting outbox ledger new × AreOwned outbox ledger new

@@ -12,7 +12,7 @@ use Rattle.fare_world.specs.declared.bill_fault.BillFault.{BillFault}
 use Rattle.fare_world.specs.Whole.{Answered}
 use Rattle.fare_history.specs.Stores.{StoresValue}
 use Rattle.fare_sessions.specs.declared.hub.Hub.{Hub}
-use Rattle.fare_sessions.specs.Billing.{IsToClose, OnlyReads, day_behind, first_unclosed, of_a_day, stated_of}
+use Rattle.fare_sessions.specs.Billing.{IsToClose, OnlyReads, day_behind, first_unclosed, of_a_day}
 use Rattle.fare_sessions.specs.Stores.{ReplacesLedger, AreClean, AreSound, MayStandAs}
 use Rattle.fare_sessions.proofs.Billed.{reads_one, told}
 

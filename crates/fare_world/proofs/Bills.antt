@@ -1,34 +1,24 @@
 -- What an owner's ledger holds of a week, where it has closed the day of each device, stands in the order of what the devices numbered of it.
-use Rattle.std.proofs.Common.{◌≡◌, ℕ, ◌+◌, ◌<◌, ◌≤◌, Bool, true, false, not, List, [], ◌∷◌, length, take, drop, Some, None, refl, sym, ap, ◌∙◌, subst, arith, inl, inr}
-use Rattle.std.specs.Prelude.{◌⊎◌, ◌&&◌, slice_get, nat_eq, nat_le, nat_lt, option_map, if◌then◌else◌}
-use Rattle.std.specs.List.{IsDistinct, AllByRecursion, flat_map}
-use Rattle.std.specs.List.Sorted.{ties}
-use Rattle.std.specs.Map.{lookup, keys_of}
-use Rattle.std.specs.declared.cmp.Ordering.{Ordering}
-use Rattle.std.specs.declared.cmp.Ordering.TheVariants.{Less, Equal, Greater}
-use Rattle.std.specs.Ordering.{nat_cmp, ordering_then, ordering_reverse, is_lt}
+use Rattle.std.proofs.Common.{◌≡◌, ℕ, ◌+◌, ◌≤◌, List, length, take, drop, Some, None, sym, ap, ◌∙◌, arith}
+use Rattle.std.specs.Prelude.{slice_get}
+use Rattle.std.specs.List.{flat_map}
 use Rattle.std.proofs.Math.Seq.{take-length}
-use Rattle.std.proofs.lemmas.Bool.{and_parts, and_from, not-true}
-use Rattle.std.proofs.lemmas.Bool.Decides.{nat_tests}
 use Rattle.std.proofs.lemmas.List.{take-append-drop}
-use Rattle.std.proofs.lemmas.Map.Lookups.{exact_unsigned}
 use Rattle.fare_record.specs.Values.{RecordValue}
 use Rattle.fare_record.specs.Lanes.{part}
 use Rattle.fare_scheme.specs.declared.entry.Placement.{Placement}
 use Rattle.fare_scheme.specs.Facts.{IsScheme}
 use Rattle.fare_scheme.specs.Values.{SchemeValue}
-use Rattle.fare_cap.specs.Order.{compare_taps, is_before, in_order}
-use Rattle.fare_cap.proofs.Ordered.{compare_total}
+use Rattle.fare_cap.specs.Order.{in_order}
 use Rattle.fare_store.specs.LedgerWords as ledger
-use Rattle.fare_world.specs.System.{System, numbered_for, taken_by, is_closed}
+use Rattle.fare_world.specs.System.{System, numbered_for, taken_by}
 use Rattle.fare_world.specs.Headline.{of_days}
-use Rattle.fare_world.specs.Billing.{first_open, first_open_of}
+use Rattle.fare_world.specs.Billing.{first_open_of}
 use Rattle.fare_world.specs.Kept.{IsSystem}
 use Rattle.fare_world.proofs.Places.{slice_get-front}
 use Rattle.fare_world.proofs.Showing.{lanes_of_part, part_get}
 use Rattle.fare_world.proofs.Closing.{whole}
 use Rattle.fare_world.proofs.WeekInOrder as week
-use Rattle.fare_world.proofs.OneOrder.{In, in_from, in_at, in_filter, of_filter, in_flat, of_flat, AreApart, apart_from, apart_append, apart_filter, one_order}
 
 -- NUMBERED TAPS
 module _ (sc : SchemeValue) (s : System) (is : IsSystem sc s) (o : ℕ) where

@@ -1,0 +1,23 @@
+use Rattle.fare_serve.proofs.sessions.hold.Goals as goal
+
+pub returns-in-None-clause-held : goal.returns-in-None-clause-held
+returns-in-None-clause-held g c =
+    let promises = c.in_ok-report.ensures in
+    record {
+      scheme = promises.scheme;
+      follow = promises.follow;
+      sound = promises.sound;
+      lasting = promises.lasting;
+      owned = promises.owned;
+      agrees = promises.agrees;
+      grows = promises.grows;
+      covered = promises.covered;
+      boundaries = promises.boundaries;
+      stored = promises.stored;
+      taken = promises.taken;
+      left = promises.left;
+      gave_up = search;
+      in_order = promises.in_order;
+      untouched = promises.untouched;
+      unended = search;
+    }
