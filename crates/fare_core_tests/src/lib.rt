@@ -1,5 +1,5 @@
-//! The tests of the core's public calls: bills and settlements, a world over stores in memory, and the lines of traces and
-//! replies. They need neither databases nor threads. It promises nothing.
+//! The tests of the core's public calls: bills and settlements, a world over stores in memory, the forwarder over a store, and
+//! the lines of traces and replies. They need neither databases nor threads. It promises nothing.
 #![tactic(auto)]
 
 #[cfg(test)]
@@ -8,6 +8,8 @@ mod bills;
 mod checking;
 #[cfg(test)]
 mod lines;
+#[cfg(test)]
+mod route;
 #[cfg(test)]
 mod settlements;
 #[cfg(test)]

@@ -1,6 +1,8 @@
 //! Lists of sessions on a hub, and its bills and closes.
 use crate::checking::same;
-use crate::scripts::{Script, ack, day_ack, narrow, scripts_of, sixteen, sources_of};
+use crate::given::{ack, day_ack, sixteen};
+use crate::hubs::{Open, Placed, Seen, collected_and_served, hub_of, seen_in, sources_in, whole};
+use crate::scripts::{Script, narrow, scripts_of, sources_of};
 use fare_cap::Bill;
 use fare_collect::stations_of;
 use fare_frame::Frame;
@@ -8,8 +10,8 @@ use fare_owner::CloseFault;
 use fare_part_tests::statement;
 use fare_record::{Day, DeviceId, OwnerId, StationId};
 use fare_scheme::Scheme;
-use fare_session::{Gate, Point, SessionFault};
-use fare_sessions::{ClosingFault, Hub, Session, SessionsReport};
+use fare_session::SessionFault;
+use fare_sessions::{ClosingFault, Hub, Session};
 use fare_settle::Settlement;
 use fare_store::{
     FailingLedger, FailingOutbox, Fault, Ledger, Outbox, PlainLedger, PlainOutbox, Refused,
@@ -21,108 +23,9 @@ use std::sync::Wait;
 use std::thread::Threads;
 use std::time::Clock;
 
-/// A gate that holds nothing.
-pub(crate) struct Open;
-
-impl Gate for Open {
-    fn pass(&self, _point: Point) {}
-}
-
-/// A fault, if there is one, with the place of its session.
-pub(crate) type Placed = Option<(usize, SessionFault)>;
-
-/// What is to be seen of a list of sessions.
-#[derive(Clone, Copy, PartialEq, Eq, Debug)]
-pub(crate) struct Seen {
-    pub(crate) stored: u64,
-    pub(crate) taken: u64,
-    pub(crate) left: u64,
-    // The first faults.
-    pub(crate) faults: [Placed; 3],
-    pub(crate) gave_up: bool,
-}
-
-pub(crate) fn seen_in(report: &SessionsReport) -> Seen {
-    let faults = &report.faults;
-    Seen {
-        stored: report.stored,
-        taken: report.taken,
-        left: report.left,
-        faults: [
-            faults.first().copied(),
-            faults.get(1).copied(),
-            faults.get(2).copied(),
-        ],
-        gave_up: report.gave_up,
-    }
-}
-
-pub(crate) fn whole(stored: u64, taken: u64) -> Seen {
-    Seen {
-        stored,
-        taken,
-        left: 0,
-        faults: [None; 3],
-        gave_up: false,
-    }
-}
-
-// The sources of a session of the stations.
-fn sources_in(alloc: Global, session: Session<Script>) -> Option<Vec<Script>> {
-    match session {
-        Session::Collect(stations) => sources_of(alloc, stations),
-        Session::Serve(_) => None,
-    }
-}
-
-/// A session of the stations over these sources and then one of owner 1, with a supervisor that answers so many faults
-/// with a restart: what is to be seen then, and the sources again.
-pub(crate) fn collected_and_served<
-    O: Outbox + Send,
-    L: Ledger + Send,
-    R: Threads + Wait + Clock + Sync,
->(
-    rt: &R,
-    alloc: Global,
-    hub: &mut Hub<O, L>,
-    sources: Vec<Script>,
-    limit: u32,
-) -> Option<(Seen, Vec<Script>)> {
-    let owner = OwnerId::new(1)?;
-    hub.scheme.owner_position(owner)?;
-    let stations = stations_of(alloc, &hub.scheme, sources).ok()?;
-    if stations.len() > 16 || hub.ledgers.len() != hub.scheme.owner_count() {
-        return None;
-    }
-    let mut sessions = [Session::Collect(stations), Session::Serve(owner)];
-    let supervisor = Supervisor::new(limit);
-    let report = hub
-        .sessions(rt, alloc, &mut sessions, supervisor, &Open, 1_000_000)
-        .ok()?;
-    let [first, second] = sessions;
-    drop(second);
-    Some((seen_in(&report), sources_in(alloc, first)?))
-}
-
 // The ledger of owner 1.
 fn ledger_of(alloc: Global, scheme: &Scheme) -> Option<PlainLedger> {
     PlainLedger::new(alloc, scheme, OwnerId::new(1)?).ok()
-}
-
-/// A hub of one owner over these stores.
-pub(crate) fn hub_of<O: Drop, L: Drop>(
-    alloc: Global,
-    scheme: Scheme,
-    outbox: O,
-    ledger: L,
-) -> Option<Hub<O, L>> {
-    let mut ledgers = Vec::new(alloc);
-    ledgers.push(ledger).ok()?;
-    Some(Hub {
-        scheme,
-        outbox,
-        ledgers,
-    })
 }
 
 // The same over stores in memory.

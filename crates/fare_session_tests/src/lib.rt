@@ -1,14 +1,15 @@
-//! The tests of sessions on threads: an owner's, the stations', lists of both on a hub, and such lists over stores that
-//! stop. It promises nothing.
+//! The tests of sessions on threads: an owner's, the stations', and lists of both on a hub. The sources of written-down
+//! frames and the hubs of one owner, over any stores, are also what the tests of stores that stop begin with. It promises
+//! nothing else.
 #![tactic(auto)]
 
 #[cfg(test)]
 mod checking;
 #[cfg(test)]
+mod given;
+#[cfg(test)]
 mod hub_sessions;
-#[cfg(test)]
-mod hub_stops;
-#[cfg(test)]
+mod hubs;
 mod scripts;
 #[cfg(test)]
 mod sessions;
@@ -16,3 +17,6 @@ mod sessions;
 mod shifts;
 #[cfg(test)]
 mod stations;
+
+pub use hubs::{Open, Placed, Seen, collected_and_served, hub_of, seen_in, whole};
+pub use scripts::{Script, narrow, scripts_of, source_of, sources_of, tapped};

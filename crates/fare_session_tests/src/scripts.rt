@@ -2,27 +2,29 @@
 ghost use Rattle.std.specs.Prelude.{◌≡◌, ◌≤◌, ◌+◌, ◌++◌, ◌∷◌, [], vec_len, vec_capacity};
 
 use fare_collect::Station;
-use fare_day::Zone;
 use fare_frame::Frame;
 use fare_part_tests::{FIRST, Numbers, record};
-use fare_record::{Ack, Day, DayAck, DeviceId, LAST_NUMBER};
-use fare_scheme::{DemoSize, Draft, Scheme};
+use fare_scheme::{DemoSize, Scheme};
 use fare_source::{Source, SourceFault};
 use std::alloc::Global;
 
 /// A source of frames that are written down, which keeps what it gave and what it was answered.
 #[derive(Drop)]
-pub(crate) struct Script {
-    // Those to come, the next one last.
-    pub(crate) frames: Vec<Frame>,
-    pub(crate) given: Vec<Frame>,
-    pub(crate) answered: Vec<Frame>,
-    pub(crate) failures: u64,
-    // How many calls there are up to the one that fails, itself included; 0 for none.
-    pub(crate) left: u64,
-    // It is ready at each so many asks.
-    pub(crate) every: u64,
-    pub(crate) asked: u64,
+pub struct Script {
+    /// Those to come, the next one last.
+    pub frames: Vec<Frame>,
+    /// What it gave.
+    pub given: Vec<Frame>,
+    /// What it was answered.
+    pub answered: Vec<Frame>,
+    /// How often it failed.
+    pub failures: u64,
+    /// How many calls there are up to the one that fails, itself included; 0 for none.
+    pub left: u64,
+    /// It is ready at each so many asks; 0 for all.
+    pub every: u64,
+    /// How often it was asked whether it is ready.
+    pub asked: u64,
 }
 
 // Counts a call, and answers whether it is the one that fails.
@@ -76,8 +78,8 @@ impl Source for Script {
 }
 
 impl Script {
-    // The frame that it was answered last, and the one before.
-    pub(crate) fn last_two(&self) -> (Option<Frame>, Option<Frame>) {
+    /// The frame that it was answered last, and the one before.
+    pub fn last_two(&self) -> (Option<Frame>, Option<Frame>) {
         let count = self.answered.len();
         let before = count
             .checked_sub(2)
@@ -86,8 +88,8 @@ impl Script {
     }
 }
 
-// A tap of a device that is the first with these links.
-pub(crate) fn tapped(device: u64, link: u64) -> Option<Frame> {
+/// A tap of a device with this link, and with the lane number that is like it.
+pub fn tapped(device: u64, link: u64) -> Option<Frame> {
     let tap = record(Numbers {
         device,
         link,
@@ -97,15 +99,8 @@ pub(crate) fn tapped(device: u64, link: u64) -> Option<Frame> {
     Some(Frame::Tapped(tap))
 }
 
-pub(crate) fn ack(device: u64, upto: u64) -> Option<Frame> {
-    if upto > LAST_NUMBER {
-        return None;
-    }
-    Some(Frame::Acked(Ack::new(DeviceId::new(device)?, upto)))
-}
-
-// A source of a device's taps with these links.
-pub(crate) fn source_of(alloc: Global, device: u64, links: &[u64]) -> Option<Script> {
+/// A source of a device's taps with these links.
+pub fn source_of(alloc: Global, device: u64, links: &[u64]) -> Option<Script> {
     let mut frames = Vec::new(alloc);
     for link in links {
         frames.insert(0, tapped(device, *link)?).ok()?;
@@ -121,8 +116,8 @@ pub(crate) fn source_of(alloc: Global, device: u64, links: &[u64]) -> Option<Scr
     })
 }
 
-// A source for each of the devices up to a number, of its taps with these links.
-pub(crate) fn scripts_of(alloc: Global, devices: u64, links: &[u64]) -> Option<Vec<Script>> {
+/// A source for each of the devices up to a number, of its taps with these links.
+pub fn scripts_of(alloc: Global, devices: u64, links: &[u64]) -> Option<Vec<Script>> {
     let mut sources = Vec::new(alloc);
     for device in 1..=devices {
         sources.push(source_of(alloc, device, links)?).ok()?;
@@ -130,12 +125,8 @@ pub(crate) fn scripts_of(alloc: Global, devices: u64, links: &[u64]) -> Option<V
     Some(sources)
 }
 
-pub(crate) fn day_ack(device: u64, day: u64) -> Option<Frame> {
-    Some(Frame::DayAcked(DayAck::new(DeviceId::new(device)?, Day::new(day)?)))
-}
-
-// The stations' sources, in their order.
-pub(crate) fn sources_of(alloc: Global, stations: Vec<Station<Script>>) -> Option<Vec<Script>> {
+/// The stations' sources, in their order.
+pub fn sources_of(alloc: Global, stations: Vec<Station<Script>>) -> Option<Vec<Script>> {
     let mut stations = stations;
     let mut sources = Vec::new(alloc);
     for _ in 0..16 {
@@ -148,28 +139,7 @@ pub(crate) fn sources_of(alloc: Global, stations: Vec<Station<Script>>) -> Optio
     Some(sources)
 }
 
-// The demonstration scheme of two devices, with an inbox of one item.
-pub(crate) fn narrow(alloc: Global) -> Option<Scheme> {
+/// The demonstration scheme of two devices, with an inbox of one item.
+pub fn narrow(alloc: Global) -> Option<Scheme> {
     Scheme::demo(alloc, DemoSize::TwoDevices, 4, 1, 4).ok()
-}
-
-// Registers sixteen stations, each with one device.
-fn add_stations(draft: &mut Draft) -> Option<()> {
-    draft.add_owner(1, 64).ok()?;
-    draft.add_operator(1).ok()?;
-    draft.add_product(1, 1, 175).ok()?;
-    for station in 1..=16_u16 {
-        draft.add_station(station, 1).ok()?;
-        draft.add_device(station as u32, station, 64).ok()?;
-    }
-    draft.set_inbox(4).ok()
-}
-
-pub(crate) fn sixteen(alloc: Global) -> Option<Scheme> {
-    let zone = Zone::read("GMT0BST,M3.5.0/1,M10.5.0").ok()?;
-    let mut draft = Draft::new(alloc);
-    draft.set_zone(zone);
-    draft.set_start(19_723).ok()?;
-    add_stations(&mut draft)?;
-    draft.seal().ok()
 }

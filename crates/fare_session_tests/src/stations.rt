@@ -1,7 +1,6 @@
 use crate::checking::same;
-use crate::scripts::{
-    Script, ack, day_ack, narrow, scripts_of, sixteen, source_of, sources_of, tapped,
-};
+use crate::given::{ack, day_ack, sixteen};
+use crate::scripts::{Script, narrow, scripts_of, source_of, sources_of, tapped};
 use fare_collect::{StationsFault, collect, stations_of};
 use fare_frame::Frame;
 use fare_part_tests::statement;

@@ -1,8 +1,9 @@
-//! The tests of the public calls of the upper crates: lines over sockets, rounds of serving, replays of whole traces, what
-//! an operator asks, and the words and endings of the program. A crate's own tests would prove that crate a second
-//! time, so they stand here and in the test crates below, over what is proved: values from outside (bytes of a format,
-//! worked traces, days by a clock) that show that the contracts say what was meant, and each call that takes memory
-//! succeeding. It promises nothing.
+//! The tests of the public calls of the stores, in memory and in tables, with what finds a store's tables in a database, and
+//! of the upper crates: lines over sockets, rounds of serving, replays of whole traces, what an operator asks, and the
+//! words and endings of the program; and of lists of sessions over stores that stop. A crate's own tests would prove that
+//! crate a second time, so they stand here and in the test crates below, over what is proved: values from outside (bytes
+//! of a format, worked traces, days by a clock) that show that the contracts say what was meant, and each call that takes
+//! memory succeeding. There is a small store of two formats too, for the raising of one. It promises nothing else.
 #![tactic(auto)]
 
 #[cfg(test)]
@@ -14,7 +15,19 @@ mod desk;
 #[cfg(test)]
 mod endings;
 #[cfg(test)]
+mod files;
+#[cfg(test)]
+mod hub_stops;
+#[cfg(test)]
+mod layout;
+#[cfg(test)]
+mod ledger_tables;
+#[cfg(test)]
 mod net;
+#[cfg(test)]
+mod outbox_tables;
+#[cfg(test)]
+mod raising;
 #[cfg(test)]
 mod readers;
 #[cfg(test)]
@@ -27,6 +40,11 @@ mod rounds;
 mod schemes;
 #[cfg(test)]
 mod serving;
+pub mod shelf;
+#[cfg(test)]
+mod stops;
+#[cfg(test)]
+mod stores;
 #[cfg(test)]
 mod stores_in_files;
 #[cfg(test)]

@@ -1,11 +1,12 @@
 //! Lists of sessions over stores in files that stop, and over the same stores once they are opened again.
-use crate::hub_sessions::{Placed, Seen, collected_and_served, hub_of, whole};
-use crate::scripts::{Script, narrow, scripts_of};
 use fare_frame::Frame;
 use fare_ledger::SqlLedger;
 use fare_outbox::SqlOutbox;
 use fare_record::{DeviceId, OwnerId};
 use fare_session::SessionFault;
+use fare_session_tests::{
+    Placed, Script, Seen, collected_and_served, hub_of, narrow, scripts_of, whole,
+};
 use fare_sessions::Hub;
 use fare_store::{Ledger, Outbox};
 use sqlite::{Alter, Connection, FileStore, Files, Options};
