@@ -3,9 +3,9 @@ use Rattle.std.proofs.Common.{◌≡◌, ℕ, ◌<◌, List, length, set, get_or
 use Rattle.std.proofs.lemmas.Option.{slice_get_read}
 use Rattle.fare_device.specs.DeviceWords.{DeviceValue}
 use Rattle.fare_device.proofs.Places.{slice_get-set_cases}
-use Rattle.fare_world.proofs.TableLemmas.{set_cases}
-use Rattle.fare_world.specs.declared.owner.Owner.{Owner}
-use Rattle.fare_world.specs.declared.station.Station.{Station}
+use Rattle.fare_side.proofs.Positions.{set_cases}
+use Rattle.fare_side.specs.declared.owner.Owner.{Owner}
+use Rattle.fare_side.specs.declared.station.Station.{Station}
 use Rattle.fare_world.specs.declared.world.World.{World}
 use Rattle.fare_world.specs.Rooms.{HasOwnerRooms, HasRooms}
 

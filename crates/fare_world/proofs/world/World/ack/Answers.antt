@@ -1,13 +1,13 @@
 use Rattle.circular_buffer.specs.Buffer.{Buffer}
 use Rattle.fare_record.specs.declared.ack_item.AckItem.{AckItem}
 use Rattle.fare_record.specs.declared.ack_item.AckItem.TheVariants as ack_item
-use Rattle.fare_world.proofs.Queues.{pushed, refused}
+use Rattle.fare_side.proofs.Queues.{pushed, refused}
 use Rattle.fare_world.proofs.ShowLink.{shown_ack_unknown}
 use Rattle.std.proofs.Common.{◌≡◌, ◌<◌, ◌≤◌, ◌++◌, ◌∷◌, [], length, refl, sym, ap, ◌∙◌, subst, arith}
 use Rattle.std.specs.Prelude.{Ok, Err}
 use Rattle.fare_store.specs.Standing.{Reads}
 use Rattle.fare_event.specs.declared.reply.Reply.TheVariants as reply
-use Rattle.fare_world.specs.declared.station.Station.{Station}
+use Rattle.fare_side.specs.declared.station.Station.{Station}
 use Rattle.fare_world.specs.Rooms.{HasStation}
 use Rattle.fare_world.specs.Whole.{seen, station_shape, shape}
 use Rattle.fare_world.proofs.ShowLink.{shown_ack_busy, ack_may_fail}

@@ -2,7 +2,7 @@ use Rattle.std.proofs.Common.{◌≡◌, ◌<◌, Some, true, false, length, ref
 use Rattle.std.specs.Prelude.{◌&&◌, Ok, Err, is_some, slice_get}
 use Rattle.fare_scheme.specs.Words.{position_of_device, position_of_owner}
 use Rattle.fare_store.specs.Standing.{Reads, Removes}
-use Rattle.fare_world.specs.declared.owner.Owner.{Owner}
+use Rattle.fare_side.specs.declared.owner.Owner.{Owner}
 use Rattle.fare_event.specs.declared.reply.Reply.TheVariants as reply
 use Rattle.fare_world.specs.Whole.{seen, owner_seen, shape}
 use Rattle.fare_world.proofs.Showing.{Answers}
