@@ -1,5 +1,5 @@
 -- Bills and settlements: of what the devices numbered, once an owner has closed the day of each of them.
-use Rattle.std.specs.Prelude.{◌≡◌, ℕ, ◌<◌, ◌≤◌, Bool, true, false, Contains, nat_le, List, [], ◌∷◌, Option, Some, None, Result, Ok, Err, if◌then◌else◌, nat_lt}
+use Rattle.std.specs.Prelude.{◌≡◌, ℕ, ◌<◌, ◌≤◌, true, Contains, List, Option, Result, Ok, Err, if◌then◌else◌, nat_lt}
 use Rattle.std.specs.List.{flat_map}
 use Rattle.fare_record.specs.Values.{RecordValue}
 use Rattle.fare_record.specs.Lanes.{lane_of}
@@ -18,7 +18,7 @@ use Rattle.fare_event.specs.declared.reply.Refusal.TheVariants as refusal
 use Rattle.fare_event.specs.declared.reply.Reply.{Reply}
 use Rattle.fare_event.specs.declared.reply.Reply.TheVariants as reply
 use Rattle.fare_world.specs.System.{System, numbered_for}
-use Rattle.fare_side.specs.OpenDays.{is_closed}
+use Rattle.fare_side.specs.OpenDays.{first_open, where_open}
 use Rattle.fare_world.specs.Knowing.{knows_owner}
 use Rattle.fare_world.specs.Headline.{of_days, numbered, IsAnswered}
 

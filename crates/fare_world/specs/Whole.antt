@@ -20,6 +20,7 @@ use Rattle.fare_side.specs.declared.owner.Owner.{Owner}
 use Rattle.fare_side.specs.declared.station.Station.{Station}
 use Rattle.fare_world.specs.declared.world.World.{World}
 use Rattle.fare_world.specs.System.{System}
+use Rattle.fare_side.specs.Answering.{Answered}
 use Rattle.fare_side.specs.Resuming.{place_of_cursor}
 use Rattle.fare_world.specs.Restarts.{Paired, Rose, Failed}
 use Rattle.fare_world.specs.Steps.{step, after, replies, may_fail}
