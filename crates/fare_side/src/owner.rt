@@ -16,9 +16,13 @@ use fare_store::{Fault, Ledger, Outbox};
 /// the queue.
 #[derive(Drop)]
 pub struct Owner<L> {
+    /// What the owner has taken, was stated and has closed.
     pub ledger: L,
+    /// What was forwarded and not fetched.
     pub queue: HeapCircularBuffer<Item>,
+    /// What was fetched and not taken.
     pub hand: Option<Item>,
+    /// What feeds the queue from the outbox.
     pub forwarder: Forwarder,
     /// Where the ledger stood when it was last asked: for each device, in order of registration, how many of
     /// its taps are taken and its last closed day. A restart asks before it changes anything.
@@ -26,7 +30,10 @@ pub struct Owner<L> {
 }
 
 impl<L: Ledger + Drop> Owner<L> {
-    /// Asks the ledger where it stands.
+    /// Asks the ledger where it stands with each device, and keeps that.
+    ///
+    /// `Memory` where there was none, and `Store` where the ledger failed; then some of it may be kept already. Queue,
+    /// hand and forwarder stay.
     pub fn ask(&mut self, scheme: &Scheme) -> Result<(), Fault>
         requires { length self.old.standings.items ≡ length scheme.now.devices }
         ensures read { Reads (L.standing self.old.ledger) (L.standing self.new.ledger) (λ _. AreStandings scheme.now (L.standing self.old.ledger).value self.new.standings.items) result }

@@ -16,12 +16,15 @@ use fare_store::{Fault, Outbox};
 /// A station's side of the hub: its collector, and the acknowledgements that wait to be sent to its devices.
 #[derive(Drop)]
 pub struct Station {
+    /// What accepts the taps and the statements of its devices.
     pub collector: Collector,
+    /// The acknowledgements that wait, the next to be sent first.
     pub line: HeapCircularBuffer<AckItem>,
 }
 
 impl Station {
-    /// Each of the station's devices is resumed behind what the outbox has had of it.
+    /// Each of the station's devices is resumed behind what the outbox has had of it, as it was told in order of
+    /// registration. What waits to be sent stays.
     pub fn resume_all(&mut self, scheme: &Scheme, uptos: &[u64])
         requires count { length uptos.now ≡ length scheme.now.devices }
         requires valid { (k : ℕ) (n : ℕ) → slice_get uptos.now k ≡ Some n → IsCount n }

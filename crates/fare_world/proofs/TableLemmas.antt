@@ -1,13 +1,13 @@
 -- Tables whose entries stand at positions.
-use Rattle.std.proofs.Common.{◌≡◌, ◌≢◌, ℕ, zero, suc, ◌<◌, List, [], ◌∷◌, length, set, get_or, Some, None, Bool, true, false, refl, sym, ap, ◌∙◌, arith, length-set, eqb-true, inl, inr}
-use Rattle.std.specs.Prelude.{◌==◌, ◌⊎◌, slice_get, Option, option_map, if◌then◌else◌, nat_eq, position}
+use Rattle.std.proofs.Common.{◌≡◌, ◌≢◌, ℕ, zero, suc, ◌<◌, List, [], ◌∷◌, length, set, Some, None, Bool, true, false, refl, sym, ap, ◌∙◌, arith, length-set}
+use Rattle.std.specs.Prelude.{◌==◌, slice_get, Option, option_map, if◌then◌else◌, nat_eq}
 use Rattle.std.specs.Map.{keys_of}
 use Rattle.std.proofs.lemmas.Bool.Decides.{nat_tests}
 use Rattle.std.proofs.lemmas.List.{get_or-set_same, length-map}
 use Rattle.std.proofs.lemmas.List.Quantifiers.{position-Some}
 use Rattle.std.proofs.lemmas.Option.{slice_get-get_or}
 use Rattle.fare_scheme.specs.Values.{SchemeValue}
-use Rattle.fare_scheme.specs.Words.{position_of_device, position_of_station, position_of_owner}
+use Rattle.fare_scheme.specs.Words.{position_of_station, position_of_owner}
 use Rattle.fare_store.specs.Tables.{put}
 use Rattle.fare_world.specs.Shown.{entry}
 use Rattle.fare_side.proofs.Positions.{IsApart, ids_stand_apart}

@@ -1,12 +1,11 @@
 -- The lengths of a world's tables, and where a device's station stands in them.
-use Rattle.std.specs.Prelude.{◌≡◌, ℕ, List, Option, Some, IsSome, length, slice_get, unwrap_or, option_map, option_and_then}
+use Rattle.std.specs.Prelude.{◌≡◌, ℕ, List, Some, IsSome, length, slice_get}
 use Rattle.fare_record.specs.Limits.{IsDay}
 use Rattle.fare_scheme.specs.Values.{SchemeValue}
 use Rattle.fare_scheme.specs.Words.{station_of, lane_capacity_of, position_of_device, position_of_station, position_of_owner}
 use Rattle.fare_device.specs.DeviceWords.{DeviceValue}
 use Rattle.fare_route.specs.declared.forwarder.Forwarder.{Forwarder}
-use Rattle.fare_route.specs.Routing.{cursor_of, first_day}
-use Rattle.fare_store.specs.LedgerWords.{LedgerValue, closed_through}
+use Rattle.fare_route.specs.Routing.{cursor_of}
 use Rattle.fare_side.specs.declared.owner.Owner.{Owner}
 use Rattle.fare_side.specs.declared.station.Station.{Station}
 

@@ -7,7 +7,6 @@ use Rattle.fare_store.specs.declared.fault.Fault.{Fault}
 use Rattle.fare_store.specs.OutboxWords.{pruned, rows_upto}
 use Rattle.fare_store.specs.Standing.{Reads}
 use Rattle.fare_event.specs.declared.reply.Reply.TheVariants as reply
-use Rattle.fare_side.specs.declared.owner.Owner.{Owner}
 use Rattle.fare_side.specs.Resuming.{place_of_cursor}
 use Rattle.fare_world.specs.Owning as owning
 use Rattle.fare_world.specs.Whole.{seen, owner_seen, shape}
