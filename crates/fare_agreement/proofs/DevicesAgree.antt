@@ -14,7 +14,8 @@ use Rattle.fare_store.specs.LedgerWords.{LedgerValue}
 use Rattle.fare_world.specs.Headline.{IsPrefixOf}
 use Rattle.fare_world.specs.Kept.{IsSystem, IsLane, pending, lane_numbers}
 use Rattle.fare_world.specs.Shown.{IsAt, IsArrivedOf, row_at, count_of}
-use Rattle.fare_world.specs.System.{Arrived, Tap_of, Statement_of, System, numbered_for, arrived_of, is_closed}
+use Rattle.fare_world.specs.System.{Arrived, Tap_of, Statement_of, System, numbered_for, arrived_of}
+use Rattle.fare_side.specs.OpenDays.{is_closed}
 use Rattle.fare_world.proofs.KeptParts.{took_numbered}
 use Rattle.fare_world.proofs.Lanes.{Runs-le}
 use Rattle.fare_history.specs.Serving.{in_hand}

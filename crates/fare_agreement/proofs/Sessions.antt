@@ -11,7 +11,7 @@ use Rattle.fare_store.specs.Tables.{put}
 use Rattle.fare_store.specs.OutboxWords.{OutboxValue}
 use Rattle.fare_store.specs.LedgerWords.{LedgerValue, is_closed, with_close}
 use Rattle.fare_world.specs.Knowing.{knows_owner}
-use Rattle.fare_world.specs.System as system
+use Rattle.fare_side.specs.OpenDays as open_days
 use Rattle.fare_world.proofs.Lanes.{closed_later, closed_within}
 use Rattle.fare_history.specs.Serving.{behind_ledger, AreNextItems, given_all, pruned_to_all, in_hand, Service, IsService}
 use Rattle.fare_history.specs.Gathering.{Entry, Gathering, items_of, accepted_by, answers_of, all_answers, storing, storing_all, stored_hand, hand_stored, IsAnswerFrom, IsGathering}
@@ -45,8 +45,8 @@ kept_still sc h k grew (Closes_day o d day) is = closed_still (h.ledgers o) (k.l
   where
     closed_still : (l m : LedgerValue) → LedgerGrew l m → (d day : ℕ) → is_closed l d day ≡ true → is_closed m d day ≡ true
     closed_still l m grew d day is =
-        let late : system.is_closed l.start (m.closed d) day ≡ true = closed_later l.start (l.closed d) (m.closed d) day (grew.closed d) is in
-        ap (λ n. system.is_closed n (m.closed d) day) grew.start ∙ late
+        let late : open_days.is_closed l.start (m.closed d) day ≡ true = closed_later l.start (l.closed d) (m.closed d) day (grew.closed d) is in
+        ap (λ n. open_days.is_closed n (m.closed d) day) grew.start ∙ late
 
 -- THE ITEM IN THE HAND
 storing_append : (x : OutboxValue) (es fs : List Entry) → storing_all x (es ++ fs) ≡ storing_all (storing_all x es) fs
@@ -135,7 +135,7 @@ module _ (sc : SchemeValue) (lists : ℕ → List RecordValue) (all : AreNumbere
   closed_now : (l : LedgerValue) (d day : ℕ) → MayClose l d day → is_closed (with_close d l) d day ≡ true
   closed_now l d day judged =
       let next : day ≡ l.start + l.closed d = is_one day (l.start + l.closed d) (close_right (l.stated d day) (is_closed l d day) (day == l.start + l.closed d) (day_count (l.taken d) day) judged).1 in
-      ap (λ n. system.is_closed l.start n day) (put_here l.closed d (l.closed d + 1)) ∙ closed_within l.start (l.closed d + 1) day (omega (arith, next)) (omega (arith, next))
+      ap (λ n. open_days.is_closed l.start n day) (put_here l.closed d (l.closed d + 1)) ∙ closed_within l.start (l.closed d + 1) day (omega (arith, next)) (omega (arith, next))
 
   pub session_kept : (h : StoresValue) (q : Session) → Agrees sc lists h → IsSessionOf sc lists h q → AreKept sc (stores_after h q) q
   session_kept h (Collects g) is of = collects_kept h g is of.0 of.1

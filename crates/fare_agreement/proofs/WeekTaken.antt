@@ -19,7 +19,7 @@ use Rattle.fare_cap.specs.Bills.{BillValue, bill_of, bill_rows, total_of}
 use Rattle.fare_cap.specs.declared.row.Row.{Row}
 use Rattle.fare_cap.proofs.Weeks.{other_days_count_nowhere}
 use Rattle.fare_store.specs.LedgerWords as ledger
-use Rattle.fare_world.specs.Billing.{first_open}
+use Rattle.fare_side.specs.OpenDays.{first_open}
 use Rattle.fare_world.specs.Headline.{IsPrefixOf, of_days}
 use Rattle.fare_world.proofs.Lanes.{day_count-append, closed_past, closed_within}
 use Rattle.fare_world.proofs.Showing.{part_get}

@@ -12,7 +12,7 @@ ghost use Rattle.fare_owner.specs.declared.closing.CloseFault.TheVariants.{Count
 ghost use Rattle.fare_store.specs.Tables.{put};
 ghost use Rattle.fare_store.specs.OutboxWords.{OutboxValue, IsEmptyOutbox, pruned};
 ghost use Rattle.fare_store.specs.LedgerWords.{LedgerValue, IsOfScheme, IsEmptyLedger, close_of, with_close, AreTapsBetween};
-ghost use Rattle.fare_world.specs.Billing.{first_open};
+ghost use Rattle.fare_side.specs.OpenDays.{first_open};
 ghost use Rattle.fare_world.specs.Kept.{IsSystem};
 ghost use Rattle.fare_world.specs.Knowing.{knows_owner};
 ghost use Rattle.fare_world.specs.Shown.{IsArrivedOf};

@@ -9,7 +9,7 @@ use Rattle.fare_settle.specs.Settling.{settlement_of}
 use Rattle.fare_store.specs.Standing.{Standing}
 use Rattle.fare_store.specs.OutboxWords.{OutboxValue}
 use Rattle.fare_store.specs.LedgerWords.{LedgerValue, AreTapsBetween}
-use Rattle.fare_world.specs.Billing.{first_open}
+use Rattle.fare_side.specs.OpenDays.{first_open}
 use Rattle.fare_event.specs.declared.reply.Reply.TheVariants as reply
 use Rattle.fare_lines.specs.Replies.{reply_text}
 use Rattle.fare_history.specs.Stores.{StoresValue}

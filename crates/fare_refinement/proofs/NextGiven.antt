@@ -14,7 +14,7 @@ use Rattle.fare_store.specs.OutboxWords.{OutboxValue}
 use Rattle.fare_refinement.specs.ShownStores.{ShowsOutbox}
 use Rattle.fare_history.specs.Serving.{Cursors}
 use Rattle.fare_refinement.specs.Served.{ComesNext, IsAsFar}
-use Rattle.fare_world.proofs.Lists.{element_at}
+use Rattle.fare_side.proofs.Positions.{element_at}
 use Rattle.fare_store.proofs.Entries.{below, not_below}
 use Rattle.fare_world.proofs.Lanes.{Runs-le}
 use Rattle.fare_world.proofs.Showing.{lane_tap_at}

@@ -42,7 +42,8 @@ use Rattle.fare_refinement.specs.ShownStores.{ShowsOutbox, ShowsLedger}
 use Rattle.fare_refinement.specs.Served.{routed_of, IsBeside}
 use Rattle.fare_world.proofs.Known.{placed}
 use Rattle.fare_world.proofs.Places.{slice_get-front}
-use Rattle.fare_world.proofs.Lists.{AllByRecursion-push, element_at, length-part-take}
+use Rattle.fare_world.proofs.Lists.{AllByRecursion-push, length-part-take}
+use Rattle.fare_side.proofs.Positions.{element_at}
 use Rattle.fare_store.proofs.Entries.{if_all, below, put_all, put_both, put2_all, put_here}
 use Rattle.fare_world.proofs.Lanes.{Runs-le, lane_number_here}
 use Rattle.fare_world.proofs.NextDay.{day_found, next_day_is}

@@ -5,7 +5,8 @@ use Rattle.std.proofs.lemmas.List.{append-nil}
 use Rattle.fare_record.specs.Lanes.{part, day_count}
 use Rattle.fare_scheme.specs.Values.{SchemeValue}
 use Rattle.fare_store.specs.Tables.{put}
-use Rattle.fare_world.specs.System.{Packet, DeviceState, LaneState, System, is_closed}
+use Rattle.fare_world.specs.System.{Packet, DeviceState, LaneState, System}
+use Rattle.fare_side.specs.OpenDays.{is_closed}
 use Rattle.fare_world.specs.Knowing.{knows_owner}
 use Rattle.fare_world.specs.Steps.{step, after}
 use Rattle.fare_world.specs.Kept.{IsSystem}

@@ -14,7 +14,8 @@ use Rattle.fare_owner.specs.declared.statement.StatementFault.TheVariants.{Repea
 use Rattle.fare_owner.specs.declared.tap.TapFault.{TapFault}
 use Rattle.fare_owner.specs.declared.tap.TapFault.TheVariants as tap_fault
 use Rattle.fare_event.specs.declared.event.Event.TheVariants as event
-use Rattle.fare_world.specs.System.{System, Lane_of, numbered_for, stated_count, is_closed}
+use Rattle.fare_world.specs.System.{System, Lane_of, numbered_for, stated_count}
+use Rattle.fare_side.specs.OpenDays.{is_closed}
 use Rattle.fare_world.specs.Knowing.{knows_device, knows_owner}
 use Rattle.fare_world.specs.Owning.{lane_room, is_of_closed_day, take_tap}
 use Rattle.fare_world.specs.Steps.{step}

@@ -25,11 +25,11 @@ use Rattle.fare_store.specs.Standing.{Standing, Calls, IsSound, fault_in}
 use Rattle.fare_store.specs.Tables.{put}
 use Rattle.fare_store.specs.OutboxWords.{OutboxValue}
 use Rattle.fare_store.specs.LedgerWords.{LedgerValue, AreTapsBetween}
-use Rattle.fare_world.specs.declared.bill_fault.BillFault.{BillFault}
-use Rattle.fare_world.specs.declared.bill_fault.BillFault.TheVariants.{UnknownOwner, BeforeStart, NotClosed}
-use Rattle.fare_world.specs.Billing.{first_open, where_open}
+use Rattle.fare_side.specs.declared.bill_fault.BillFault.{BillFault}
+use Rattle.fare_side.specs.declared.bill_fault.BillFault.TheVariants.{UnknownOwner, BeforeStart, NotClosed}
+use Rattle.fare_side.specs.OpenDays.{first_open, where_open}
 use Rattle.fare_world.specs.Knowing.{knows_owner}
-use Rattle.fare_world.specs.Whole.{Answered}
+use Rattle.fare_side.specs.Answering.{Answered}
 use Rattle.fare_history.specs.Holding.{MayHold}
 use Rattle.fare_history.specs.Stores.{StoresValue}
 use Rattle.fare_store.proofs.Entries.{is_one}

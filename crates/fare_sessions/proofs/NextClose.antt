@@ -8,8 +8,8 @@ use Rattle.fare_store.specs.declared.fault.Refused.TheVariants.{Failed}
 use Rattle.fare_store.specs.Standing.{Standing, Calls, Reads, IsSound, fault_in}
 use Rattle.fare_store.specs.OutboxWords.{OutboxValue}
 use Rattle.fare_store.specs.LedgerWords.{LedgerValue, closed_through}
-use Rattle.fare_world.specs.declared.bill_fault.BillFault.{BillFault}
-use Rattle.fare_world.specs.Whole.{Answered}
+use Rattle.fare_side.specs.declared.bill_fault.BillFault.{BillFault}
+use Rattle.fare_side.specs.Answering.{Answered}
 use Rattle.fare_history.specs.Stores.{StoresValue}
 use Rattle.fare_sessions.specs.declared.hub.Hub.{Hub}
 use Rattle.fare_sessions.specs.Billing.{IsToClose, OnlyReads, day_behind, first_unclosed, of_a_day}

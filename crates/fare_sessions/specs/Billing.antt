@@ -11,9 +11,9 @@ use Rattle.fare_store.specs.declared.fault.Refused.TheVariants.{Because, Failed}
 use Rattle.fare_store.specs.Standing.{Standing, Writes}
 use Rattle.fare_store.specs.OutboxWords.{OutboxValue}
 use Rattle.fare_store.specs.LedgerWords.{LedgerValue, AreTapsBetween, close_of, with_close}
-use Rattle.fare_world.specs.declared.bill_fault.BillFault.{BillFault}
-use Rattle.fare_world.specs.declared.bill_fault.BillFault.TheVariants.{UnknownOwner, BeforeStart, NotClosed}
-use Rattle.fare_world.specs.Billing.{first_open}
+use Rattle.fare_side.specs.declared.bill_fault.BillFault.{BillFault}
+use Rattle.fare_side.specs.declared.bill_fault.BillFault.TheVariants.{UnknownOwner, BeforeStart, NotClosed}
+use Rattle.fare_side.specs.OpenDays.{first_open}
 use Rattle.fare_history.specs.Stores.{StoresValue}
 use Rattle.fare_sessions.specs.declared.closing.ClosingFault.{ClosingFault}
 use Rattle.fare_sessions.specs.declared.closing.ClosingFault.TheVariants as closing

@@ -5,7 +5,7 @@ ghost use Rattle.fare_cap.specs.Fares.{week_start};
 ghost use Rattle.fare_record.specs.Values.{RecordValue};
 ghost use Rattle.fare_settle.specs.Settling.{settlement_of};
 ghost use Rattle.fare_store.specs.LedgerWords.{AreTapsBetween};
-ghost use Rattle.fare_world.specs.Billing.{first_open};
+ghost use Rattle.fare_side.specs.OpenDays.{first_open};
 ghost use Rattle.fare_world.specs.Knowing.{knows_owner};
 ghost use Rattle.fare_history.specs.Stores.{StoresValue};
 ghost use Rattle.fare_agreement.specs.Agreeing.{AreNumberedLists, Agrees};

@@ -13,18 +13,19 @@ use Rattle.fare_route.specs.declared.forwarder.Forwarder.{Forwarder}
 use Rattle.fare_route.specs.Routing.{cursor_of}
 use Rattle.fare_store.specs.LedgerWords.{LedgerValue}
 use Rattle.fare_store.specs.Standing.{Standing}
-use Rattle.fare_world.specs.declared.owner.Owner.{Owner}
-use Rattle.fare_world.specs.declared.station.Station.{Station}
+use Rattle.fare_side.specs.declared.owner.Owner.{Owner}
+use Rattle.fare_side.specs.declared.station.Station.{Station}
 use Rattle.fare_world.specs.System.{System}
 use Rattle.fare_world.specs.Arriving.{next_at}
 use Rattle.fare_world.specs.Restarting.{hub_again}
 use Rattle.fare_world.specs.Shown.{entry, IsAnswerOf, IsStationOf, Each2, Shape, Shows}
-use Rattle.fare_world.specs.Rooms.{place_of_cursor, place_at, upto_at, AreUptos, AreStandings, IsForwarder, HasOwnerRooms}
+use Rattle.fare_world.specs.Rooms.{IsForwarder, HasOwnerRooms}
+use Rattle.fare_side.specs.Resuming.{place_of_cursor, place_at, upto_at, AreUptos, AreStandings}
 use Rattle.fare_world.specs.Restarts.{Paired, IsOwnerAgain, IsStationAgain}
 use Rattle.fare_world.specs.Whole.{owner_seen, station_shape}
 use Rattle.fare_world.proofs.Known.{no_place, placed}
 use Rattle.fare_world.proofs.Showing.{station_shown}
-use Rattle.fare_world.proofs.Resuming.{uptos_at, standings_at}
+use Rattle.fare_side.proofs.Resuming.{uptos_at, standings_at}
 use Rattle.fare_world.proofs.ShowAgain.{IsAgain}
 
 -- ROOMS

@@ -6,8 +6,8 @@ use Rattle.fare_scheme.specs.Values.{SchemeValue}
 use Rattle.fare_store.specs.declared.fault.Fault.{Fault}
 use Rattle.fare_store.specs.LedgerWords.{LedgerValue}
 use Rattle.fare_store.specs.Standing.{Standing, Calls, fault_of}
-use Rattle.fare_world.specs.declared.owner.Owner.{Owner}
-use Rattle.fare_world.specs.Rooms.{AreStandings}
+use Rattle.fare_side.specs.declared.owner.Owner.{Owner}
+use Rattle.fare_side.specs.Resuming.{AreStandings}
 use Rattle.fare_world.specs.Restarts.{IsAsked, AreAsked}
 use Rattle.fare_world.proofs.Pairs.{PairedTo, one_paired, wider, part_paired}
 use Rattle.fare_world.proofs.Stores.{same_count, rose}

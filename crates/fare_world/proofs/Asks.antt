@@ -11,12 +11,13 @@ use Rattle.fare_store.specs.OutboxWords.{OutboxValue}
 use Rattle.fare_store.specs.LedgerWords.{LedgerValue}
 use Rattle.fare_event.specs.declared.event.Event.{Event}
 use Rattle.fare_event.specs.declared.reply.Reply.{Reply}
-use Rattle.fare_world.specs.declared.owner.Owner.{Owner}
+use Rattle.fare_side.specs.declared.owner.Owner.{Owner}
 use Rattle.fare_world.specs.declared.world.World.{World}
 use Rattle.fare_world.specs.System.{System}
 use Rattle.fare_world.specs.Steps.{step, may_fail}
 use Rattle.fare_world.specs.Shown.{Shape, Shows}
-use Rattle.fare_world.specs.Whole.{seen, shape, Follows, IsStepped, IsUnchanged, Answered, is_named, Asks}
+use Rattle.fare_world.specs.Whole.{seen, shape, Follows, IsStepped, IsUnchanged, is_named, Asks}
+use Rattle.fare_side.specs.Answering.{Answered}
 use Rattle.fare_world.proofs.Stores.{SameStores, lawful_same, follows_same, then_memory, ledger_follows, ledger_lawful}
 
 module _ {O L V R : Type 0} (out : O → Standing OutboxValue) (led : L → Standing LedgerValue) where

@@ -14,18 +14,19 @@ use Rattle.fare_cap.specs.Bills.{BillValue, bill_of}
 use Rattle.fare_cap.proofs.Sorting.{filter_no}
 use Rattle.fare_settle.specs.declared.settled.Settled.{Settled}
 use Rattle.fare_settle.specs.Settling.{settlement_of}
-use Rattle.fare_world.specs.declared.bill_fault.BillFault.{BillFault}
-use Rattle.fare_world.specs.declared.bill_fault.BillFault.TheVariants as fault
+use Rattle.fare_side.specs.declared.bill_fault.BillFault.{BillFault}
+use Rattle.fare_side.specs.declared.bill_fault.BillFault.TheVariants as fault
 use Rattle.fare_event.specs.declared.event.Event.{Event}
 use Rattle.fare_event.specs.declared.event.Event.TheVariants as event
 use Rattle.fare_event.specs.declared.reply.Reply.{Reply}
 use Rattle.fare_event.specs.declared.reply.Reply.TheVariants as reply
-use Rattle.fare_world.specs.System.{System, start, numbered_for, is_closed}
+use Rattle.fare_world.specs.System.{System, start, numbered_for}
+use Rattle.fare_side.specs.OpenDays.{is_closed, first_open, where_open}
 use Rattle.fare_world.specs.Knowing.{knows_owner}
 use Rattle.fare_world.specs.Steps.{step, after, replies}
 use Rattle.fare_world.specs.Headline.{Lane, lane_at, IsLaneStep, of_days, IsAnswered}
 use Rattle.std.proofs.lemmas.Option.{slice_get_within, get_or_from_slice_get}
-use Rattle.fare_world.specs.Billing.{first_open, first_open_of, ClosedBefore, IsMet, where_open, bill_judged, unless, told, bill_refusal, basis, basis_told, BillsExactly}
+use Rattle.fare_world.specs.Billing.{first_open_of, ClosedBefore, IsMet, bill_judged, unless, told, bill_refusal, basis, basis_told, BillsExactly}
 use Rattle.fare_world.specs.Kept.{IsSystem}
 use Rattle.fare_store.proofs.Entries.{if_all}
 use Rattle.fare_world.proofs.Kept.{moves_step}

@@ -12,12 +12,13 @@ use Rattle.fare_cap.specs.Order.{in_order}
 use Rattle.fare_store.specs.declared.fault.Refused.{Refused}
 use Rattle.fare_store.specs.declared.fault.Refused.TheVariants as refused
 use Rattle.fare_store.specs.LedgerWords.{AreTapsBetween}
-use Rattle.fare_world.specs.declared.bill_fault.BillFault.{BillFault}
-use Rattle.fare_world.specs.declared.bill_fault.BillFault.TheVariants as fault
+use Rattle.fare_side.specs.declared.bill_fault.BillFault.{BillFault}
+use Rattle.fare_side.specs.declared.bill_fault.BillFault.TheVariants as fault
 use Rattle.fare_world.specs.System.{System}
-use Rattle.fare_world.specs.Billing.{first_open, first_open_of, where_open, bill_judged, basis}
+use Rattle.fare_world.specs.Billing.{first_open_of, bill_judged, basis}
+use Rattle.fare_side.specs.OpenDays.{first_open, where_open}
 use Rattle.fare_world.specs.Shown.{IsOwnerOf, OwnerShape, Shape, Shows}
-use Rattle.fare_world.specs.Whole.{Answered}
+use Rattle.fare_side.specs.Answering.{Answered}
 use Rattle.fare_world.proofs.Showing.{owner_shown}
 use Rattle.fare_world.proofs.Bills.{week_in_order}
 

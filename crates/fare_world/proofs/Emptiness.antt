@@ -13,7 +13,8 @@ use Rattle.fare_world.specs.Restarts.{Paired, Rose}
 use Rattle.fare_world.specs.Making.{IsKept, EachLedger, AreLedgersKept, LedgerFailed, AreKept}
 use Rattle.fare_world.proofs.Stores.{called}
 use Rattle.fare_world.proofs.Pairs.{PairedTo}
-use Rattle.fare_world.proofs.TableLemmas.{set_cases, slice_get-set_same, slice_get-set_other}
+use Rattle.fare_world.proofs.TableLemmas.{slice_get-set_same, slice_get-set_other}
+use Rattle.fare_side.proofs.Positions.{set_cases}
 
 -- a store that was not reached
 pub kept_itself : {V : Type 0} (s : Standing V) (f : Option Fault) → IsKept s s f

@@ -13,7 +13,7 @@ use Rattle.fare_store.specs.OutboxWords.{OutboxValue}
 use Rattle.fare_store.specs.Tables.{put}
 use Rattle.fare_world.specs.Owning.{lane_room}
 use Rattle.fare_world.specs.Rooms.{HasOwnerRooms}
-use Rattle.fare_world.specs.declared.owner.Owner.{Owner}
+use Rattle.fare_side.specs.declared.owner.Owner.{Owner}
 use Rattle.fare_world.proofs.TableLemmas.{owners_apart}
 use Rattle.fare_world.proofs.ShowForward.{cursor_past}
 

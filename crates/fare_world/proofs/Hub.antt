@@ -14,14 +14,15 @@ use Rattle.fare_store.specs.declared.fault.Fault.{Fault}
 use Rattle.fare_store.specs.Standing.{Standing, Calls}
 use Rattle.fare_store.specs.OutboxWords.{OutboxValue}
 use Rattle.fare_store.specs.LedgerWords.{LedgerValue}
-use Rattle.fare_world.specs.declared.owner.Owner.{Owner}
-use Rattle.fare_world.specs.declared.station.Station.{Station}
+use Rattle.fare_side.specs.declared.owner.Owner.{Owner}
+use Rattle.fare_side.specs.declared.station.Station.{Station}
 use Rattle.fare_world.specs.declared.world.World.{World}
 use Rattle.fare_event.specs.declared.reply.Reply.TheVariants.{Restarted}
 use Rattle.fare_world.specs.System.{System}
 use Rattle.fare_world.specs.Restarting.{fresh_owner, routed_again, hub_again, restart_hub}
 use Rattle.fare_world.specs.Shown.{entry, IsStationOf, IsOwnerOf, OwnerShape, Shows}
-use Rattle.fare_world.specs.Rooms.{AreUptos, HasOwnerRooms}
+use Rattle.fare_world.specs.Rooms.{HasOwnerRooms}
+use Rattle.fare_side.specs.Resuming.{AreUptos}
 use Rattle.fare_world.specs.Restarts.{Paired, IsOwnerAgain, IsAsked, AreAsked, IsStationAgain}
 use Rattle.fare_world.specs.Whole.{Seen, owner_seen, station_shape, shape, AreLive, AreLawful, Follows}
 use Rattle.fare_world.proofs.Showing.{Answers, owner_shown}

@@ -18,7 +18,8 @@ use Rattle.fare_world.specs.Arriving.{tap_at, is_owned_tap, next_at, is_full, ac
 use Rattle.fare_world.specs.Storing.{are_all_held}
 use Rattle.fare_world.specs.Kept.{IsDayAck, IsTurned, IsDevice, IsPlace, IsAck, IsStatement, IsPacket, IsArrived, IsSystem}
 use Rattle.fare_world.proofs.Known.{is_own_id}
-use Rattle.fare_world.proofs.Lists.{AllByRecursion-push, AllByRecursion-at, AllByRecursion-filter, length-filter-le, element_at}
+use Rattle.fare_world.proofs.Lists.{AllByRecursion-push, AllByRecursion-at, AllByRecursion-filter, length-filter-le}
+use Rattle.fare_side.proofs.Positions.{element_at}
 use Rattle.fare_world.proofs.Waiting.{waits_still}
 use Rattle.fare_store.proofs.Entries.{is_one, if_all, below}
 use Rattle.fare_world.proofs.KeptParts.{device_changes, hand_changes}

@@ -14,7 +14,8 @@ use Rattle.fare_event.specs.declared.event.Event.TheVariants as event
 use Rattle.fare_event.specs.declared.reply.Refusal.TheVariants.{UnknownDevice, BadMoment, UnknownProduct, DayClosed, DayAhead, NumbersSpent, BufferFull, LastDay, StatementsFull}
 use Rattle.fare_event.specs.declared.reply.Reply.TheVariants.{Refused, Recorded, Opened}
 use Rattle.fare_store.specs.Tables.{put}
-use Rattle.fare_world.specs.System.{DeviceState, System, day_of, numbered_for, arrived_of, is_closed}
+use Rattle.fare_world.specs.System.{DeviceState, System, day_of, numbered_for, arrived_of}
+use Rattle.fare_side.specs.OpenDays.{is_closed}
 use Rattle.fare_world.specs.Knowing.{knows_device}
 use Rattle.fare_world.specs.Storing.{are_all_held}
 use Rattle.fare_world.specs.Tapping.{is_waiting, next_record, with_tap, room_of, waiting_count, tap_for, tap_on, tap, turned, turn}

@@ -23,7 +23,6 @@ pub mod Items
 pub mod Showing
 pub mod WeekInOrder
 pub mod Bills
-pub mod Opens
 pub mod Asks
 pub mod BillsShown
 pub mod Billed
@@ -44,11 +43,8 @@ pub mod ShowAgain
 pub mod ShowAsk
 pub mod MayFail
 pub mod Running
-pub mod Resuming
-pub mod Told
 pub mod Pairs
 pub mod Emptiness
-pub mod Queues
 pub mod Asking
 pub mod Forwarding
 pub mod Again

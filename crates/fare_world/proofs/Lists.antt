@@ -45,12 +45,6 @@ list_all-weaken p q f (x ∷ xs) h =
     let rest = list_all-weaken p q f xs (both_right (p x) (list_all p xs) h) in
     ap (λ b. b && list_all q xs) here ∙ rest
 
--- there is an element at each place below the length
-pub element_at : {X : Type 0} (xs : List X) (k : ℕ) → k < length xs → (x : X) × (slice_get xs k ≡ Some x)
-element_at [] k lt = absurd (omega arith)
-element_at (x ∷ xs) zero lt = (x, refl)
-element_at (x ∷ xs) (suc k) lt = element_at xs k (omega arith)
-
 -- one element more from the front
 pub take-one_more : {X : Type 0} (xs : List X) (k : ℕ) (x : X) → slice_get xs k ≡ Some x → take (k + 1) xs ≡ take k xs ++ x ∷ []
 take-one_more xs k x e = take_more xs k x (slice_get_within xs k x e) ∙ ap (λ q. take k xs ++ q ∷ []) (get_or_from_slice_get xs k x x e)

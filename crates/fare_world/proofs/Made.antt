@@ -15,8 +15,8 @@ use Rattle.fare_route.specs.Routing.{first_day, standing_at, started}
 use Rattle.fare_store.specs.Standing.{Standing}
 use Rattle.fare_store.specs.OutboxWords.{OutboxValue}
 use Rattle.fare_store.specs.LedgerWords.{LedgerValue, IsOfScheme}
-use Rattle.fare_world.specs.declared.owner.Owner.{Owner}
-use Rattle.fare_world.specs.declared.station.Station.{Station}
+use Rattle.fare_side.specs.declared.owner.Owner.{Owner}
+use Rattle.fare_side.specs.declared.station.Station.{Station}
 use Rattle.fare_world.specs.declared.world.World.{World}
 use Rattle.fare_world.specs.declared.world.fresh.Side.{Side}
 use Rattle.fare_world.specs.declared.world.fresh.Fresh.{Fresh}
@@ -27,7 +27,8 @@ use Rattle.fare_world.specs.Fresh.{AreFreshDevices, AreFreshStations, IsSideAt, 
 use Rattle.fare_world.specs.Making.{AllLive, AllLawful, IsReady, IsMadeOf}
 use Rattle.fare_world.specs.Whole.{station_shape, owner_seen, AreLive, StandsAt}
 use Rattle.fare_world.proofs.Starting.{fresh_lanes, slice_get-replicate}
-use Rattle.fare_world.proofs.TableLemmas.{devices_apart, stations_apart}
+use Rattle.fare_world.proofs.TableLemmas.{stations_apart}
+use Rattle.fare_side.proofs.Positions.{devices_apart}
 use Rattle.fare_route.specs.declared.cursor.Cursor.{Cursor}
 use Rattle.fare_world.proofs.Stepping.{start_is}
 

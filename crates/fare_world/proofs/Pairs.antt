@@ -4,7 +4,8 @@ use Rattle.std.specs.Prelude.{◌⊎◌, slice_get}
 use Rattle.std.proofs.lemmas.Bool.Decides.{nat_tests}
 use Rattle.std.proofs.lemmas.Option.{slice_get_within, same_Some}
 use Rattle.fare_world.specs.Restarts.{Paired}
-use Rattle.fare_world.proofs.TableLemmas.{set_cases, slice_get-set_same, slice_get-set_other}
+use Rattle.fare_world.proofs.TableLemmas.{slice_get-set_same, slice_get-set_other}
+use Rattle.fare_side.proofs.Positions.{set_cases}
 
 -- up to a place each entry stands to the one that was there like this, and from there on it is that one
 pub record PairedTo {X : Type 0} (P : X → X → Type 0) (old new : List X) (place : ℕ) : Type 0 where

@@ -1,11 +1,17 @@
 -- A world's tables keep their lengths, and its queues their room.
-use Rattle.std.proofs.Common.{◌≡◌, ℕ, ◌<◌, List, length, set, get_or, refl, sym, ap, ◌∙◌, subst, length-set, inl, inr}
+use Rattle.std.proofs.Common.{◌≡◌, ℕ, ◌<◌, ◌≤◌, Bool, true, false, List, length, set, get_or, Some, None, refl, sym, ap, ◌∙◌, subst, arith, length-set, inl, inr}
+use Rattle.std.specs.Prelude.{nat_le, Option, Result, Ok, Err}
+use Rattle.std.proofs.lemmas.Bool.Decides.{nat_tests}
+use Rattle.circular_buffer.specs.Buffer.{Buffer}
+use Rattle.fare_record.specs.declared.ack_item.AckItem.{AckItem}
+use Rattle.fare_store.specs.declared.fault.Fault.{Fault}
+use Rattle.fare_side.specs.Acknowledging.{line_after}
 use Rattle.std.proofs.lemmas.Option.{slice_get_read}
 use Rattle.fare_device.specs.DeviceWords.{DeviceValue}
 use Rattle.fare_device.proofs.Places.{slice_get-set_cases}
-use Rattle.fare_world.proofs.TableLemmas.{set_cases}
-use Rattle.fare_world.specs.declared.owner.Owner.{Owner}
-use Rattle.fare_world.specs.declared.station.Station.{Station}
+use Rattle.fare_side.proofs.Positions.{set_cases}
+use Rattle.fare_side.specs.declared.owner.Owner.{Owner}
+use Rattle.fare_side.specs.declared.station.Station.{Station}
 use Rattle.fare_world.specs.declared.world.World.{World}
 use Rattle.fare_world.specs.Rooms.{HasOwnerRooms, HasRooms}
 
@@ -42,6 +48,20 @@ rooms_of_station w k x new within e long = record {
   sides = w.rooms.sides;
   upto_count = w.rooms.upto_count;
 }
+
+-- an acknowledgement line keeps its room
+pub line_after_room : (line : Buffer AckItem) (device : ℕ) (r : Result (Option ℕ) Fault) → (line_after line device r).capacity ≡ line.capacity
+line_after_room line device (Ok (Some upto)) = refl
+line_after_room line device (Ok None) = refl
+line_after_room line device (Err f) = refl
+
+-- a line that isn't full has room
+pub line_has_room : (count room : ℕ) → (room ≤ count → ⊥) → count < room
+line_has_room count room not = by (nat_le room count) refl
+  where
+    by : (t : Bool) → nat_le room count ≡ t → count < room
+    by true t = let full : room ≤ count = grind (arith, nat_tests) in absurd (not full)
+    by false t = grind (arith, nat_tests)
 
 -- how long a station's line may be
 pub line_room : {O L : Type 0} (w : World O L) (k : ℕ) (x : Station) → k < length w.stations.items → x ≡ get_or w.stations.items k x → x.line.capacity ≡ w.scheme.inbox_capacity

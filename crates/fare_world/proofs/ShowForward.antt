@@ -31,7 +31,8 @@ use Rattle.fare_event.specs.declared.reply.Reply.{Reply}
 use Rattle.fare_event.specs.declared.reply.Reply.TheVariants as reply
 use Rattle.fare_event.specs.declared.reply.Reply.TheVariants.{Idle, Empty, Refused, Taken, Closed, Count, Pruned}
 use Rattle.fare_store.specs.Tables.{put, put2}
-use Rattle.fare_world.specs.System.{Routed, Lane_of, Day_of, OwnerState, LaneState, System, numbered_for, arrived_of, is_closed}
+use Rattle.fare_world.specs.System.{Routed, Lane_of, Day_of, OwnerState, LaneState, System, numbered_for, arrived_of}
+use Rattle.fare_side.specs.OpenDays.{is_closed}
 use Rattle.fare_world.specs.Steps.{count}
 use Rattle.fare_world.specs.Arriving.{is_full}
 use Rattle.fare_world.specs.Knowing.{knows_device}
@@ -42,7 +43,8 @@ use Rattle.fare_world.specs.Kept.{IsSystem}
 use Rattle.fare_world.specs.Whole.{Seen, shape}
 use Rattle.fare_store.proofs.Entries.{if_all, above, not_below, put_all, put2_all, put_both, put_here}
 use Rattle.fare_world.proofs.RowPlaces.{row_here, row_held, row_pruned, rows_pruned}
-use Rattle.fare_world.proofs.Lists.{IfSome-weaken, slice_get-past, length-Each2, has_room, has_no_room, Each2-push, Each2-nil, Each2-cons, Both-none, Both-some, element_at, take-one_more}
+use Rattle.fare_world.proofs.Lists.{IfSome-weaken, slice_get-past, length-Each2, has_room, has_no_room, Each2-push, Each2-nil, Each2-cons, Both-none, Both-some, take-one_more}
+use Rattle.fare_side.proofs.Positions.{element_at}
 use Rattle.fare_world.proofs.Places.{slice_get-front}
 use Rattle.fare_world.proofs.TableLemmas.{entry-set, owners_apart}
 use Rattle.fare_world.proofs.Lanes.{Runs-le}

@@ -34,7 +34,8 @@ use Rattle.fare_world.specs.Shown.{entry}
 use Rattle.fare_world.specs.Shown.{IsAt, IsPacketOf, IsDeviceOf, Shape, Shows}
 use Rattle.fare_world.specs.Kept.{IsDevice, IsSystem}
 use Rattle.fare_world.proofs.Lists.{Each2-push, length-Each2, take-part-push, slice_get-drop}
-use Rattle.fare_world.proofs.TableLemmas.{entry-set, devices_apart, owner_within}
+use Rattle.fare_world.proofs.TableLemmas.{entry-set, owner_within}
+use Rattle.fare_side.proofs.Positions.{devices_apart}
 use Rattle.fare_store.proofs.Entries.{put_all, put_both, put_here}
 use Rattle.fare_world.proofs.Kept.{moves_step}
 use Rattle.fare_world.proofs.KeptParts.{device_changes, took_numbered}

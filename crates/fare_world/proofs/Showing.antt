@@ -23,7 +23,8 @@ use Rattle.fare_world.specs.Kept.{IsNumbered, IsDevice, IsSystem}
 use Rattle.fare_world.specs.Shown.{IsAt, IsStatementOf, count_of, IsPacketOf, IsArrivedOf, IsRoutedOf, IsDeviceOf, IsStationOf, IsOwnerOf, StationShape, OwnerShape, Shape, Shows, row_at}
 use Rattle.fare_world.proofs.Places.{slice_get-push_cases, slice_get-front}
 use Rattle.fare_world.proofs.Lanes.{day_count-other}
-use Rattle.fare_world.proofs.Lists.{Each2-weaken, Both-weaken, IfSome-weaken, element_at, take-one_more, part-push}
+use Rattle.fare_world.proofs.Lists.{Each2-weaken, Both-weaken, IfSome-weaken, take-one_more, part-push}
+use Rattle.fare_side.proofs.Positions.{element_at}
 use Rattle.fare_store.proofs.Entries.{if_all, put_all, put_apart, put_both}
 
 -- the reply and the system of a step

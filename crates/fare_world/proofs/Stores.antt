@@ -10,7 +10,7 @@ use Rattle.fare_store.specs.OutboxWords.{OutboxValue}
 use Rattle.fare_store.specs.LedgerWords.{LedgerValue}
 use Rattle.fare_event.specs.declared.event.Event.{Event}
 use Rattle.fare_event.specs.declared.reply.Reply.{Reply}
-use Rattle.fare_world.specs.declared.owner.Owner.{Owner}
+use Rattle.fare_side.specs.declared.owner.Owner.{Owner}
 use Rattle.fare_world.specs.declared.world.World.{World}
 use Rattle.fare_world.specs.System.{System}
 use Rattle.fare_world.specs.Steps.{step, may_fail}

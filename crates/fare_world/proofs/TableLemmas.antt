@@ -1,15 +1,16 @@
 -- Tables whose entries stand at positions.
-use Rattle.std.proofs.Common.{◌≡◌, ◌≢◌, ℕ, zero, suc, ◌<◌, List, [], ◌∷◌, length, set, get_or, Some, None, Bool, true, false, refl, sym, ap, ◌∙◌, arith, length-set, eqb-true, inl, inr}
-use Rattle.std.specs.Prelude.{◌==◌, ◌⊎◌, slice_get, Option, option_map, if◌then◌else◌, nat_eq, position}
+use Rattle.std.proofs.Common.{◌≡◌, ◌≢◌, ℕ, zero, suc, ◌<◌, List, [], ◌∷◌, length, set, Some, None, Bool, true, false, refl, sym, ap, ◌∙◌, arith, length-set}
+use Rattle.std.specs.Prelude.{◌==◌, slice_get, Option, option_map, if◌then◌else◌, nat_eq}
 use Rattle.std.specs.Map.{keys_of}
 use Rattle.std.proofs.lemmas.Bool.Decides.{nat_tests}
 use Rattle.std.proofs.lemmas.List.{get_or-set_same, length-map}
 use Rattle.std.proofs.lemmas.List.Quantifiers.{position-Some}
 use Rattle.std.proofs.lemmas.Option.{slice_get-get_or}
 use Rattle.fare_scheme.specs.Values.{SchemeValue}
-use Rattle.fare_scheme.specs.Words.{position_of_device, position_of_station, position_of_owner}
+use Rattle.fare_scheme.specs.Words.{position_of_station, position_of_owner}
 use Rattle.fare_store.specs.Tables.{put}
 use Rattle.fare_world.specs.Shown.{entry}
+use Rattle.fare_side.proofs.Positions.{IsApart, ids_stand_apart}
 use Rattle.fare_store.proofs.Entries.{put_apart}
 
 -- a map over a table with another value at one place
@@ -31,18 +32,6 @@ slice_get-set_other (x ∷ xs) zero (suc j) v apart = refl
 slice_get-set_other (x ∷ xs) (suc k) zero v apart = refl
 slice_get-set_other (x ∷ xs) (suc k) (suc j) v apart = slice_get-set_other xs k j v (λ e. apart (ap suc e))
 
--- what stands at a place after a write
-pub set_cases : {X : Type 0} (xs : List X) (i : ℕ) (v : X) (k : ℕ) (x : X) → slice_get (set xs i v) k ≡ Some x → ((k ≡ i) × (v ≡ x)) ⊎ ((k ≢ i) × (slice_get xs k ≡ Some x))
-set_cases [] i v k x e = absurd (cc)
-set_cases (y ∷ ys) zero v zero x e = let same : v ≡ x = cc in inl (refl, same)
-set_cases (y ∷ ys) zero v (suc k) x e = inr ((λ q. absurd (cc)), e)
-set_cases (y ∷ ys) (suc i) v zero x e = inr ((λ q. absurd (cc)), e)
-set_cases (y ∷ ys) (suc i) v (suc k) x e = elim (set_cases ys i v k x e) [ inl is ↦ inl (ap suc is.0, is.1) | inr is ↦ inr ((λ q. is.0 (omega (arith, q))), is.1) ]
-
--- two ids do not stand at one position
-abbrev pub IsApart : (ℕ → Option ℕ) → Type 0
-IsApart at = (d e k : ℕ) → at d ≡ Some k → at e ≡ Some k → d ≡ e
-
 pub entry-set : {A : Type 0} (at : ℕ → Option ℕ) → IsApart at → (xs : List A) (d k : ℕ) (v : A) → at d ≡ Some k → k < length xs → (e : ℕ) → entry (at e) (set xs k v) ≡ put (λ j. entry (at j) xs) d (Some v) e
 entry-set at apart xs d k v is lt = put_apart (λ e a. entry (at e) (set xs k v) ≡ a) (λ j. entry (at j) xs) d (Some v) (λ e other. elsewhere e other (at e) refl) (ap (λ p. entry p (set xs k v)) is ∙ slice_get-set_same xs k v lt)
   where
@@ -54,15 +43,6 @@ entry-set at apart xs d k v is lt = put_apart (λ e a. entry (at e) (set xs k v)
       where
         not_same : e ≡ d → (e == d) ≡ false → ⊥
         not_same same differ = absurd (grind (arith, nat_tests))
-
-ids_stand_apart : (ids : List ℕ) → IsApart (λ id. position (nat_eq id) ids)
-ids_stand_apart ids d e k p q =
-    let a = (position-Some (nat_eq d) ids k 0 p).1 in
-    let b = (position-Some (nat_eq e) ids k 0 q).1 in
-    eqb-true d (get_or ids k 0) a ∙ sym (eqb-true e (get_or ids k 0) b)
-
-pub devices_apart : (sc : SchemeValue) → IsApart (position_of_device sc)
-devices_apart sc = ids_stand_apart (keys_of sc.devices)
 
 pub owners_apart : (sc : SchemeValue) → IsApart (position_of_owner sc)
 owners_apart sc = ids_stand_apart (keys_of sc.owners)

@@ -18,8 +18,7 @@ use Rattle.fare_scheme.specs.Words.{station_of}
 use Rattle.fare_cap.specs.Order.{compare_taps, is_before, in_order}
 use Rattle.fare_cap.proofs.Ordered.{compare_total}
 use Rattle.fare_store.specs.LedgerWords as ledger
-use Rattle.fare_world.specs.System.{is_closed}
-use Rattle.fare_world.specs.Billing.{first_open}
+use Rattle.fare_side.specs.OpenDays.{is_closed, first_open}
 use Rattle.fare_world.specs.Headline.{of_days}
 use Rattle.fare_world.proofs.OneOrder.{In, in_from, in_at, in_filter, of_filter, in_flat, of_flat, AreApart, apart_from, apart_append, apart_filter, one_order}
 

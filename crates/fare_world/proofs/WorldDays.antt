@@ -17,7 +17,7 @@ use Rattle.fare_event.specs.declared.reply.Refusal.{Refusal}
 use Rattle.fare_event.specs.declared.reply.Refusal.TheVariants.{Busy}
 use Rattle.fare_event.specs.declared.reply.Reply.{Reply}
 use Rattle.fare_event.specs.declared.reply.Reply.TheVariants.{Idle, Refused, Opened, SentDay, Accepted, DroppedDay}
-use Rattle.fare_world.specs.declared.station.Station.{Station}
+use Rattle.fare_side.specs.declared.station.Station.{Station}
 use Rattle.fare_world.specs.System.{Stated, DayAcked, System}
 use Rattle.fare_world.specs.Tapping.{turn, state}
 use Rattle.fare_world.specs.Arriving.{statement_refusal_of, comes}

@@ -19,7 +19,7 @@ use Rattle.fare_frame.specs.Grammar.{frame_of}
 use Rattle.fare_event.specs.declared.reply.Refusal.{Refusal}
 use Rattle.fare_event.specs.declared.reply.Refusal.TheVariants.{Busy}
 use Rattle.fare_event.specs.declared.reply.Reply.TheVariants.{Refused, Accepted, Acknowledged, AcknowledgedDay, Resumed}
-use Rattle.fare_world.specs.declared.station.Station.{Station}
+use Rattle.fare_side.specs.declared.station.Station.{Station}
 use Rattle.fare_world.specs.System.{Tapped, System}
 use Rattle.fare_world.specs.Arriving.{refusal_of, comes}
 use Rattle.fare_world.specs.Restarting.{resume}

@@ -1,5 +1,5 @@
 -- Bills and settlements: of what the devices numbered, once an owner has closed the day of each of them.
-use Rattle.std.specs.Prelude.{◌≡◌, ℕ, ◌<◌, ◌≤◌, Bool, true, false, Contains, nat_le, List, [], ◌∷◌, Option, Some, None, Result, Ok, Err, if◌then◌else◌, nat_lt}
+use Rattle.std.specs.Prelude.{◌≡◌, ℕ, ◌<◌, ◌≤◌, true, Contains, List, Option, Result, Ok, Err, if◌then◌else◌, nat_lt}
 use Rattle.std.specs.List.{flat_map}
 use Rattle.fare_record.specs.Values.{RecordValue}
 use Rattle.fare_record.specs.Lanes.{lane_of}
@@ -9,27 +9,18 @@ use Rattle.fare_cap.specs.Fares.{week_start}
 use Rattle.fare_cap.specs.Bills.{BillValue, bill_of}
 use Rattle.fare_settle.specs.declared.settled.Settled.{Settled}
 use Rattle.fare_settle.specs.Settling.{settlement_of}
-use Rattle.fare_world.specs.declared.bill_fault.BillFault.{BillFault}
-use Rattle.fare_world.specs.declared.bill_fault.BillFault.TheVariants as fault
+use Rattle.fare_side.specs.declared.bill_fault.BillFault.{BillFault}
+use Rattle.fare_side.specs.declared.bill_fault.BillFault.TheVariants as fault
 use Rattle.fare_event.specs.declared.event.Event.{Event}
 use Rattle.fare_event.specs.declared.event.Event.TheVariants as event
 use Rattle.fare_event.specs.declared.reply.Refusal.{Refusal}
 use Rattle.fare_event.specs.declared.reply.Refusal.TheVariants as refusal
 use Rattle.fare_event.specs.declared.reply.Reply.{Reply}
 use Rattle.fare_event.specs.declared.reply.Reply.TheVariants as reply
-use Rattle.fare_world.specs.System.{System, numbered_for, is_closed}
+use Rattle.fare_world.specs.System.{System, numbered_for}
+use Rattle.fare_side.specs.OpenDays.{first_open, where_open}
 use Rattle.fare_world.specs.Knowing.{knows_owner}
 use Rattle.fare_world.specs.Headline.{of_days, numbered, IsAnswered}
-
--- a last closed day is this day or a later one
-abbrev pub reaches : Option ℕ → ℕ → Bool
-reaches None day = false
-reaches (Some last) day = nat_le day last
-
--- the first of these devices, of each of which so many days are closed, whose day is not
-abbrev pub first_open : ℕ → (ℕ → ℕ) → ℕ → List (ℕ × Placement) → Option ℕ
-first_open start closed day [] = None
-first_open start closed day (d ∷ ds) = if is_closed start (closed d.0) day then first_open start closed day ds else Some d.0
 
 abbrev pub first_open_of : SchemeValue → System → ℕ → ℕ → Option ℕ
 first_open_of sc s owner day = first_open sc.start (λ device. (s.lanes owner device).closed) day sc.devices
@@ -39,10 +30,6 @@ abbrev pub basis : SchemeValue → System → ℕ → ℕ → List RecordValue
 basis sc s owner day = flat_map (λ (d : ℕ × Placement). of_days (week_start sc day) day (numbered_for s owner d.0)) sc.devices
 
 -- whether there is a bill, or why there is none
-abbrev pub where_open : Option ℕ → Result Unit BillFault
-where_open None = Ok tt
-where_open (Some device) = Err (fault.NotClosed device)
-
 abbrev pub bill_judged : SchemeValue → System → ℕ → ℕ → Result Unit BillFault
 bill_judged sc s owner day =
     if knows_owner sc owner then

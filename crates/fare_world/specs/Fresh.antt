@@ -8,8 +8,8 @@ use Rattle.fare_collector.specs.Collecting.{next_in, first_link}
 use Rattle.circular_buffer.specs.Buffer.{buffer}
 use Rattle.fare_device.specs.DeviceWords.{DeviceValue, fresh_device}
 use Rattle.fare_route.specs.Routing.{cursor_of, started}
-use Rattle.fare_world.specs.declared.owner.Owner.{Owner}
-use Rattle.fare_world.specs.declared.station.Station.{Station}
+use Rattle.fare_side.specs.declared.owner.Owner.{Owner}
+use Rattle.fare_side.specs.declared.station.Station.{Station}
 use Rattle.fare_world.specs.declared.world.fresh.Side.{Side}
 use Rattle.fare_world.specs.declared.world.fresh.Fresh.{Fresh}
 

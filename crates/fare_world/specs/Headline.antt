@@ -11,7 +11,8 @@ use Rattle.fare_event.specs.declared.reply.Reply.{Reply}
 use Rattle.fare_event.specs.declared.reply.Reply.TheVariants.{Refused, Recorded, Taken, Closed}
 use Rattle.fare_event.specs.declared.reply.Refusal.TheVariants.{Stranger, Misrouted, AckAhead, NotMine, AfterClose, Conflict, CountsOver, Duplicate, Gap}
 use Rattle.fare_store.specs.Tables.{put}
-use Rattle.fare_world.specs.System.{System, day_of, numbered_for, taken_by, is_closed}
+use Rattle.fare_world.specs.System.{System, day_of, numbered_for, taken_by}
+use Rattle.fare_side.specs.OpenDays.{is_closed}
 
 -- THE NUMBERED TAPS, as the events and their replies alone tell
 -- the record that a tap answered with these numbers has

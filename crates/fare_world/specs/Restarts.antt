@@ -8,9 +8,9 @@ use Rattle.fare_store.specs.declared.fault.Fault.{Fault}
 use Rattle.fare_store.specs.declared.fault.Fault.TheVariants as fault
 use Rattle.fare_store.specs.LedgerWords.{LedgerValue}
 use Rattle.fare_store.specs.Standing.{Standing}
-use Rattle.fare_world.specs.declared.owner.Owner.{Owner}
-use Rattle.fare_world.specs.declared.station.Station.{Station}
-use Rattle.fare_world.specs.Rooms.{place_of_cursor, place_at, upto_at, AreStandings}
+use Rattle.fare_side.specs.declared.owner.Owner.{Owner}
+use Rattle.fare_side.specs.declared.station.Station.{Station}
+use Rattle.fare_side.specs.Resuming.{place_of_cursor, place_at, upto_at, AreStandings}
 
 -- each entry of the one list has one at its place in the other, and stands to it like this
 pub record Paired {X Y : Type 0} (P : X → Y → Type 0) (old : List X) (new : List Y) : Type 0 where

@@ -16,11 +16,12 @@ use Rattle.fare_store.specs.OutboxWords.{OutboxValue}
 use Rattle.fare_store.specs.LedgerWords.{LedgerValue}
 use Rattle.fare_event.specs.declared.event.Event.{Event}
 use Rattle.fare_event.specs.declared.reply.Reply.{Reply}
-use Rattle.fare_world.specs.declared.owner.Owner.{Owner}
-use Rattle.fare_world.specs.declared.station.Station.{Station}
+use Rattle.fare_side.specs.declared.owner.Owner.{Owner}
+use Rattle.fare_side.specs.declared.station.Station.{Station}
 use Rattle.fare_world.specs.declared.world.World.{World}
 use Rattle.fare_world.specs.System.{System}
-use Rattle.fare_world.specs.Rooms.{place_of_cursor}
+use Rattle.fare_side.specs.Answering.{Answered}
+use Rattle.fare_side.specs.Resuming.{place_of_cursor}
 use Rattle.fare_world.specs.Restarts.{Paired, Rose, Failed}
 use Rattle.fare_world.specs.Steps.{step, after, replies, may_fail}
 use Rattle.fare_world.specs.Headline.{numbered, IsPrefixOf}
@@ -67,12 +68,6 @@ abbrev pub is_named : {V R : Type 0} → Result V (Refused R) → Bool
 is_named (Ok answer) = false
 is_named (Err (refused.Because why)) = true
 is_named (Err (refused.Failed f)) = false
-
--- what an answer says, or a refusal by name; a fault says nothing
-abbrev pub Answered : {V R : Type 0} → (Result V R → Type 0) → Result V (Refused R) → Type 0
-Answered tells (Ok answer) = tells (Ok answer)
-Answered tells (Err (refused.Because why)) = tells (Err why)
-Answered tells (Err (refused.Failed f)) = Unit {0}
 
 module _ {O L : Type 0} (outbox : O → Standing OutboxValue) (ledger : L → Standing LedgerValue) where
   abbrev pub seen : World O L → Seen

@@ -3,14 +3,13 @@ ghost use Rattle.fare_world.specs.System.{start};
 ghost use Rattle.fare_world.specs.Rooms.{HasRooms};
 ghost use Rattle.fare_store.specs.LedgerWords.{LedgerValue};
 
-use crate::owner::Owner;
 use crate::packet::Packet;
-use crate::station::Station;
 use circular_buffer::HeapCircularBuffer;
 use fare_device::Device;
 use fare_event::{Event, Reply};
 use fare_record::Item;
 use fare_scheme::Scheme;
+use fare_side::{Owner, Station};
 use fare_store::{Fault, Ledger, Outbox};
 use std::alloc::Global;
 use thiserror::Error;
@@ -25,8 +24,6 @@ mod judging;
 mod making;
 mod restarting;
 mod tapping;
-
-pub use billing::taps_of_week;
 
 /// Why no world was made, in the order in which this is tested.
 #[derive(Clone, Copy, PartialEq, Eq, Debug, Error)]

@@ -49,18 +49,10 @@ impl<O: Outbox + Drop, L: Ledger + Drop> World<O, L> {
         let Some(place) = self.station_place(device) else {
             return Ok(Reply::Refused(Refusal::UnknownDevice));
         };
-        let line = &self.stations[place].line;
-        if line.len() >= line.capacity() {
-            return Ok(Reply::Refused(Refusal::Busy));
+        match self.stations[place].ack(&mut self.outbox, device)? {
+            Some(upto) => Ok(Reply::Acknowledged(upto)),
+            None => Ok(Reply::Refused(Refusal::Busy)),
         }
-        let upto = self.outbox.upto(device)?;
-        let pushed = self.stations[place]
-            .line
-            .try_push_back(AckItem::Upto(Ack::new(device, upto)));
-        if pushed.is_err() {
-            unreachable!()
-        }
-        Ok(Reply::Acknowledged(upto))
     }
 
     // The acknowledgement line of a device's station gains a day of which the outbox holds all statements.

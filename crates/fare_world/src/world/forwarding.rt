@@ -158,8 +158,7 @@ impl<O: Outbox + Drop, L: Ledger + Drop> World<O, L> {
         if self.scheme.device_position(device).is_none() {
             return Ok(Reply::Refused(Refusal::UnknownDevice));
         }
-        let taken = self.owners[at].ledger.count(device)?;
-        let rows = self.outbox.prune(owner, device, taken)?;
+        let rows = self.owners[at].prune(&mut self.outbox, owner, device)?;
         Ok(Reply::Pruned(rows))
     }
 }

@@ -2,14 +2,13 @@ ghost use Rattle.std.specs.Prelude.{◌≡◌, ◌≤◌, [], IfOk, IsSome, leng
 ghost use Rattle.fare_scheme.specs.Words.{position_of_owner};
 ghost use Rattle.fare_world.specs.Fresh.{AreFreshDevices, AreFreshStations, IsFreshSide, AreFreshSides, AreFresh, AreJoined};
 
-use crate::owner::Owner;
-use crate::station::Station;
 use circular_buffer::HeapCircularBuffer;
 use fare_collector::{Collector, CollectorFault};
 use fare_device::{Device, DeviceFault};
 use fare_record::{Day, Item, OwnerId};
 use fare_route::{Forwarder, StartFault};
 use fare_scheme::Scheme;
+use fare_side::{Owner, Station};
 use std::alloc::{AllocError, Global};
 
 // An owner's side of a new world, but for its ledger.

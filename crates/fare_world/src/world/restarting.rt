@@ -1,17 +1,16 @@
 ghost use Rattle.std.specs.Prelude.{◌≡◌, ℕ, Some, IfOk, length, slice_get};
 ghost use Rattle.fare_record.specs.Limits.{IsCount};
 ghost use Rattle.fare_store.specs.Standing.{Reads, fault_of};
-ghost use Rattle.fare_world.specs.Rooms.{AreUptos};
+ghost use Rattle.fare_side.specs.Resuming.{AreUptos};
 ghost use Rattle.fare_world.specs.Restarts.{Paired, AreAsked, IsOwnerAgain, IsStationAgain};
 ghost use Rattle.fare_world.specs.Whole.{Applied, IsStepped};
 ghost use Rattle.fare_event.specs.declared.event.Event.TheVariants as event;
 
-use crate::owner::Owner;
-use crate::station::Station;
 use crate::world::World;
 use fare_event::{Refusal, Reply};
 use fare_record::{DeviceId, OwnerId, StationId};
 use fare_scheme::Scheme;
+use fare_side::{Owner, Station};
 use fare_store::{Fault, Ledger, Outbox};
 
 impl<O: Outbox + Drop, L: Ledger + Drop> World<O, L> {

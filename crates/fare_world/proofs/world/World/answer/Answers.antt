@@ -12,7 +12,7 @@ use Rattle.std.proofs.lemmas.Grind.{common_steps}
 use Rattle.fare_frame.specs.Grammar.{frame_bytes, IsFrame}
 use Rattle.fare_world.specs.Whole.{seen, station_shape, shape}
 use Rattle.fare_world.proofs.ShowLink.{shown_no_answer}
-use Rattle.fare_world.specs.declared.station.Station.{Station}
+use Rattle.fare_side.specs.declared.station.Station.{Station}
 use Rattle.fare_world.proofs.ShowStation.{station_read, same_station}
 use Rattle.fare_world.proofs.WorldLink.{world_answered}
 use Rattle.fare_world.proofs.Stores.{steps, applied_err, unchanged, same_stores}

@@ -6,7 +6,7 @@ use Rattle.fare_record.specs.declared.item.Item.TheVariants as item
 use Rattle.fare_scheme.specs.Words.{station_of}
 use Rattle.fare_collector.specs.Collecting.{next_in, changed, one_back}
 use Rattle.fare_collector.proofs.Changing.{undone_at}
-use Rattle.fare_world.proofs.Queues.{pushed, refused}
+use Rattle.fare_side.proofs.Queues.{pushed, refused}
 use Rattle.fare_world.proofs.RoomLemmas.{rooms_of_station, rooms_of_inbox}
 use Rattle.fare_world.proofs.ShowLink.{shown_stranger}
 use Rattle.std.proofs.Common.{◌≡◌, ◌<◌, ◌++◌, ◌∷◌, [], length, refl, sym, subst, arith}

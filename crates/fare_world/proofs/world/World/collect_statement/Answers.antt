@@ -5,7 +5,7 @@ use Rattle.fare_record.specs.declared.item.Item.TheVariants as item
 use Rattle.fare_scheme.specs.Words.{station_of}
 use Rattle.fare_world.specs.Rooms.{HasStation}
 use Rattle.fare_world.specs.Whole.{seen, shape}
-use Rattle.fare_world.proofs.Queues.{pushed, refused, same_room}
+use Rattle.fare_side.proofs.Queues.{pushed, refused, same_room}
 use Rattle.fare_world.proofs.RoomLemmas.{rooms_of_inbox}
 use Rattle.fare_world.proofs.ShowDays.{shown_statement_stranger}
 use Rattle.fare_world.proofs.WorldDays.{world_statement_refused, world_statement_busy, world_statement_accepted}

@@ -10,7 +10,7 @@ use Rattle.fare_event.specs.declared.reply.Reply.TheVariants as reply
 use Rattle.fare_route.specs.Stating.{are_all_stated}
 use Rattle.fare_world.specs.Rooms.{HasStation}
 use Rattle.fare_world.specs.Whole.{seen, shape}
-use Rattle.fare_world.proofs.Queues.{pushed, refused, same_room}
+use Rattle.fare_side.proofs.Queues.{pushed, refused, same_room}
 use Rattle.fare_world.proofs.RoomLemmas.{line_room, rooms_of_station}
 use Rattle.fare_world.proofs.Showing.{Answers}
 use Rattle.fare_world.proofs.ShowDays.{shown_day_ack_unknown, shown_unstated}

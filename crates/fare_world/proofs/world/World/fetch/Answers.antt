@@ -5,7 +5,7 @@ use Rattle.std.proofs.Common.{drop}
 use Rattle.std.proofs.Common.{◌≡◌, ◌<◌, Some, None, length, refl, sym, ap, ◌∙◌, subst, arith}
 use Rattle.std.specs.Prelude.{slice_get}
 use Rattle.fare_scheme.specs.Words.{position_of_owner}
-use Rattle.fare_world.specs.declared.owner.Owner.{Owner}
+use Rattle.fare_side.specs.declared.owner.Owner.{Owner}
 use Rattle.fare_event.specs.declared.reply.Reply.TheVariants as reply
 use Rattle.fare_world.specs.Whole.{seen, owner_seen, shape}
 use Rattle.fare_world.proofs.OwnersSeen.{owner_at, within_seen, owners_set, owners_kept, owner_here, over}

@@ -8,7 +8,7 @@ use Rattle.fare_route.specs.Routing.{cursor_of, Asks, IsNextOf, changed}
 use Rattle.fare_route.specs.declared.fault.UnknownDevice.{UnknownDevice}
 use Rattle.fare_store.specs.declared.fault.Refused.{Refused}
 use Rattle.fare_store.specs.declared.fault.Refused.TheVariants as refused
-use Rattle.fare_world.specs.declared.owner.Owner.{Owner}
+use Rattle.fare_side.specs.declared.owner.Owner.{Owner}
 use Rattle.fare_event.specs.declared.reply.Reply.TheVariants as reply
 use Rattle.fare_world.specs.Whole.{seen, owner_seen, shape}
 use Rattle.fare_world.proofs.OwnersSeen.{shape_of, owner_at, within_seen, owners_set, owners_kept, owner_here, over}
@@ -17,8 +17,8 @@ use Rattle.fare_world.proofs.ShowForward.{shown_unknown_owner, shown_forward_unk
 use Rattle.fare_world.specs.System.{System}
 use Rattle.fare_world.specs.Shown.{Shows}
 use Rattle.fare_world.proofs.Showing.{some_of}
-use Rattle.fare_world.proofs.Queues.{pushed}
-use Rattle.fare_world.proofs.Queues as queues
+use Rattle.fare_side.proofs.Queues.{pushed}
+use Rattle.fare_side.proofs.Queues as queues
 use Rattle.fare_world.proofs.Forwarding.{some_changed, some_after, side_kept, its_owner, its_room, next_for, places_stay, places_undone, places_moved}
 use Rattle.fare_event.specs.declared.reply.Refusal.TheVariants.{Busy}
 use Rattle.fare_world.specs.Owning.{lane_room}

@@ -5,9 +5,9 @@ use Rattle.std.specs.Vec.{with_items}
 use Rattle.circular_buffer.specs.Buffer.{Buffer}
 use Rattle.fare_scheme.specs.Words.{position_of_owner}
 use Rattle.fare_store.specs.Standing.{Reads, fault_of}
-use Rattle.fare_world.specs.declared.owner.Owner.{Owner}
-use Rattle.fare_world.specs.declared.station.Station.{Station}
-use Rattle.fare_world.specs.Rooms.{place_of_cursor, AreUptos}
+use Rattle.fare_side.specs.declared.owner.Owner.{Owner}
+use Rattle.fare_side.specs.declared.station.Station.{Station}
+use Rattle.fare_side.specs.Resuming.{place_of_cursor, AreUptos}
 use Rattle.fare_world.specs.Restarts.{Paired, AreAsked, IsAsked, IsOwnerAgain, IsStationAgain}
 use Rattle.fare_world.specs.Whole.{seen, owner_seen, shape}
 use Rattle.fare_world.proofs.Again.{asked_rooms, entries_stay}

@@ -3,7 +3,7 @@ use Rattle.std.specs.Prelude.{Ok, Err, is_some, slice_get}
 use Rattle.fare_scheme.specs.Words.{position_of_owner}
 use Rattle.fare_store.specs.Standing.{Reads}
 use Rattle.fare_event.specs.declared.reply.Reply.TheVariants as reply
-use Rattle.fare_world.specs.Rooms.{place_of_cursor, AreStandings}
+use Rattle.fare_side.specs.Resuming.{place_of_cursor, AreStandings}
 use Rattle.fare_world.specs.Restarts.{IsOwnerAgain}
 use Rattle.fare_world.specs.Whole.{seen, owner_seen, shape}
 use Rattle.fare_world.proofs.Again.{asked_rooms, again_rooms, seen_again}

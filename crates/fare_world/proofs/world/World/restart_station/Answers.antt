@@ -10,10 +10,10 @@ use Rattle.fare_scheme.specs.Words.{position_of_device, position_of_station}
 use Rattle.fare_world.specs.Shown.{entry}
 use Rattle.fare_store.specs.Standing.{Reads}
 use Rattle.fare_event.specs.declared.reply.Reply.TheVariants.{Restarted}
-use Rattle.fare_world.specs.Rooms.{AreUptos, upto_at}
+use Rattle.fare_side.specs.Resuming.{AreUptos, upto_at}
 use Rattle.fare_world.specs.Restarting.{restart_station}
 use Rattle.fare_world.specs.Whole.{seen, station_shape, shape}
-use Rattle.fare_world.proofs.Resuming.{uptos_at}
+use Rattle.fare_side.proofs.Resuming.{uptos_at}
 use Rattle.fare_world.proofs.ShowRestart.{shown_restart_unknown, shown_restart_station}
 use Rattle.fare_world.proofs.ShowStation.{station_read, station_written}
 use Rattle.fare_world.proofs.Showing.{Answers}

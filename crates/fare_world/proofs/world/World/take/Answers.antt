@@ -1,7 +1,7 @@
 use Rattle.std.proofs.Common.{◌≡◌, ◌<◌, Some, length, refl, sym, ap, ◌∙◌, subst, arith}
 use Rattle.fare_scheme.specs.Words.{position_of_owner}
 use Rattle.fare_record.specs.declared.item.Item.TheVariants as item
-use Rattle.fare_world.specs.declared.owner.Owner.{Owner}
+use Rattle.fare_side.specs.declared.owner.Owner.{Owner}
 use Rattle.fare_world.specs.Whole.{seen, owner_seen, shape}
 use Rattle.fare_world.proofs.OwnersSeen.{owner_at, within_seen, owner_here}
 use Rattle.fare_world.proofs.Stores.{steps, same_stores}

@@ -4,7 +4,7 @@ use Rattle.std.proofs.lemmas.List.{length_push}
 use Rattle.circular_buffer.specs.Buffer.{buffer}
 use Rattle.fare_scheme.specs.Words.{position_of_station}
 use Rattle.fare_collector.specs.Collecting.{next_in, first_link}
-use Rattle.fare_world.specs.declared.station.Station.{Station}
+use Rattle.fare_side.specs.declared.station.Station.{Station}
 use Rattle.fare_world.specs.Fresh.{IsFreshStation}
 use Rattle.fare_world.proofs.Starting.{one_station_more}
 use Rattle.fare_world.proofs.world.fresh.fresh_stations.Goals as goal

@@ -1,6 +1,6 @@
 use Rattle.std.proofs.Common.{◌≡◌, ℕ, Some, length}
 use Rattle.std.specs.Prelude.{slice_get}
-use Rattle.fare_world.specs.declared.station.Station.{Station}
+use Rattle.fare_side.specs.declared.station.Station.{Station}
 use Rattle.fare_world.specs.Fresh.{IsFreshStation}
 use Rattle.fare_world.proofs.world.fresh.fresh_stations.Given as goal
 

@@ -4,7 +4,7 @@ use Rattle.std.specs.Vec.{vec_len}
 use Rattle.std.specs.Vec.Iter.{into_iter_items, into_iter_len}
 use Rattle.std.specs.Prelude.{slice_get, map}
 use Rattle.std.proofs.lemmas.Grind.{common_steps}
-use Rattle.fare_world.specs.declared.owner.Owner.{Owner}
+use Rattle.fare_side.specs.declared.owner.Owner.{Owner}
 use Rattle.fare_world.specs.Fresh.{side_of}
 use Rattle.fare_world.proofs.Starting.{one_joined, no_hand_more, left_less, both_ended, room_left, ok_or_err}
 use Rattle.fare_world.proofs.world.fresh.joined.Goals as goal

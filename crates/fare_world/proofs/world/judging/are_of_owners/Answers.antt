@@ -4,7 +4,7 @@ use Rattle.std.proofs.lemmas.Bool.Decides.{nat_tests}
 use Rattle.std.proofs.lemmas.Grind.{common_steps}
 use Rattle.std.proofs.lemmas.Option.{slice_get_read, slice_get_within, same_Some}
 use Rattle.fare_scheme.specs.Words.{id_at}
-use Rattle.fare_world.proofs.Lists.{element_at}
+use Rattle.fare_side.proofs.Positions.{element_at}
 use Rattle.fare_world.proofs.Emptiness.{one_owned}
 use Rattle.fare_world.proofs.world.judging.are_of_owners.Goals as goal
 

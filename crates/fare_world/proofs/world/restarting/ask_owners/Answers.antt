@@ -2,7 +2,7 @@ use Rattle.std.proofs.Common.{◌≡◌, ◌<◌, None, Some, length, get_or, se
 use Rattle.std.specs.Prelude.{Ok, Err, slice_get}
 use Rattle.std.proofs.lemmas.Option.{slice_get_read}
 use Rattle.fare_store.specs.Standing.{Reads}
-use Rattle.fare_world.specs.Rooms.{AreStandings}
+use Rattle.fare_side.specs.Resuming.{AreStandings}
 use Rattle.fare_world.specs.Restarts.{IsAsked}
 use Rattle.fare_world.proofs.Pairs.{none_paired, one_paired, all_paired}
 use Rattle.fare_world.proofs.Asking.{asked, one_failed, failed_with}

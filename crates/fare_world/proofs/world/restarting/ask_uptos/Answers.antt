@@ -4,10 +4,10 @@ use Rattle.std.proofs.lemmas.Bool.Decides.{nat_tests}
 use Rattle.fare_record.specs.Limits.{IsCount}
 use Rattle.fare_store.specs.Standing.{Reads}
 use Rattle.fare_store.specs.OutboxWords.{OutboxValue}
-use Rattle.fare_world.specs.Rooms.{AreUptos}
-use Rattle.fare_world.proofs.TableLemmas.{set_cases}
+use Rattle.fare_side.specs.Resuming.{AreUptos}
+use Rattle.fare_side.proofs.Positions.{set_cases}
 use Rattle.fare_store.proofs.Readings.{read_failed, reads_none, reads_since, since_calls, calls_since, reads_say}
-use Rattle.fare_world.proofs.Told.{ToldTo, one_told, told_all}
+use Rattle.fare_side.proofs.Told.{ToldTo, one_told, told_all}
 use Rattle.fare_world.proofs.world.restarting.ask_uptos.Goals as goal
 
 less : (j place : ℕ) → j < place + 1 → j ≢ place → j < place

@@ -2,7 +2,7 @@ use Rattle.std.proofs.Common.{◌≡◌, ◌<◌, ℕ, Some}
 use Rattle.std.specs.Prelude.{slice_get}
 use Rattle.fare_record.specs.Limits.{IsCount}
 use Rattle.fare_store.proofs.Readings.{Since}
-use Rattle.fare_world.proofs.Told.{ToldTo}
+use Rattle.fare_side.proofs.Told.{ToldTo}
 use Rattle.fare_world.proofs.world.restarting.ask_uptos.Given as goal
 
 abbrev pub invariant-loop-place : goal.invariant-loop-place

@@ -1,0 +1,5 @@
+pub mod Positions
+pub mod Resuming
+pub mod Told
+pub mod Opens
+pub mod Queues

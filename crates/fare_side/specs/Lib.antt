@@ -1,0 +1,5 @@
+pub mod OpenDays
+pub mod Answering
+pub mod Resuming
+pub mod Acknowledging
+pub mod Pruning
