@@ -1,8 +1,8 @@
 //! What the writer of a session does with one item: whether the collector of its station accepts it, storing it in the
-//! outbox, and only then telling the station's line what may be acknowledged. Each call says what it made of the
-//! outbox, whatever that held: an item was stored, or had been before, or it is in the writer's hand with what ended
-//! the writer. What a line was told is what the outbox holds, also to its device: a tap's link once the tap is stored,
-//! a day once the statements of all owners are.
+//! outbox, and only then telling the station's line what may be acknowledged. Over an outbox that keeps what was
+//! committed and whose rows fit together, an item was stored, or had been before, or it is in the hand of the writer,
+//! which it ended; and what a line was told is to the item's own device, and true of the outbox then: the greatest link
+//! that it has had, or a day of which it holds the statements of all owners.
 #![tactic(auto)]
 
 mod fault;
