@@ -1,5 +1,5 @@
 -- What the stations' threads of a session did.
-use Rattle.std.specs.Prelude.{◌≡◌, ◌≢◌, ◌⊎◌, ℕ, ◌+◌, ◌<◌, ◌≤◌, true, false, Bool, List, [], ◌∷◌, ◌++◌, length, map, slice_index_or, Option, Some, None}
+use Rattle.std.specs.Prelude.{◌≡◌, ◌≢◌, ◌⊎◌, ℕ, ◌<◌, ◌≤◌, true, false, Bool, List, [], ◌∷◌, ◌++◌, length, map, slice_index_or, Option, Some, None}
 use Rattle.fare_frame.specs.declared.frame.Frame.{Frame}
 use Rattle.fare_frame.specs.declared.frame.Frame.TheVariants.{Acked, DayAcked}
 use Rattle.fare_scheme.specs.Values.{SchemeValue}

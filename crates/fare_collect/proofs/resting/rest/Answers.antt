@@ -1,4 +1,4 @@
-use Rattle.std.proofs.Common.{◌≡◌, ◌∷◌, ◌++◌, [], Some, None, refl, ap, subst, ◌∙◌}
+use Rattle.std.proofs.Common.{◌∷◌, ◌++◌, [], Some, None, refl, ap, subst, ◌∙◌}
 use Rattle.std.specs.Prelude.{Option}
 use Rattle.fare_frame.specs.declared.frame.Frame.{Frame}
 use Rattle.fare_inbox_queue.specs.declared.arrived.Arrived.{Arrived}
