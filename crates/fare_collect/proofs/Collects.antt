@@ -27,22 +27,25 @@ use Rattle.fare_inbox_queue.specs.Inbox.{of_station}
 use Rattle.fare_inbox_queue.specs.declared.arrived.Arrived.{Arrived}
 use Rattle.fare_inbox_queue.specs.declared.arrived.Arrived.TheVariants as arrived
 use Rattle.fare_inbox_queue.specs.LinePasses.{put_list}
-use Rattle.fare_collect.specs.declared.tally.Tally.{Tally}
-use Rattle.fare_collect.specs.declared.fault.WriterFault.{WriterFault}
-use Rattle.fare_collect.specs.declared.fault.WriterFault.TheVariants as writer
+use Rattle.fare_writer.specs.declared.tally.Tally.{Tally}
+use Rattle.fare_writer.specs.declared.fault.WriterFault.{WriterFault}
+use Rattle.fare_writer.specs.declared.fault.WriterFault.TheVariants as writer
 use Rattle.fare_collect.specs.declared.fault.StationFault.{StationFault}
 use Rattle.fare_collect.specs.declared.fault.StationFault.TheVariants.{Source, Unexpected}
 use Rattle.fare_collect.specs.declared.station.Station.{Station}
-use Rattle.fare_collect.specs.declared.station.Teller.{Teller}
+use Rattle.fare_writer.specs.declared.teller.Teller.{Teller}
 use Rattle.fare_inbox_queue.specs.declared.ack_passes.HearPass.{HearPass}
-use Rattle.fare_collect.specs.declared.writing.Halt.{Halt}
-use Rattle.fare_collect.specs.Gathering.{item_of, is_new, done_by, Entry, items_of, storing_all, AreEntries, new_count, in_hand, told_to}
-use Rattle.fare_collect.specs.Arriving.{arrivals, IsUnexpected}
-use Rattle.fare_collect.specs.Writing.{store_fault, Leaves}
-use Rattle.fare_collect.specs.Stations.{SourceCounted, frame_for, held_list, hand_of, fault_of, RefusedBy, IsRefusedItem}
+use Rattle.fare_writer.specs.declared.halt.Halt.{Halt}
+use Rattle.fare_writer.specs.Entries.{item_of, is_new, done_by, Entry, items_of, storing_all, AreEntries, new_count, in_hand, told_to}
+use Rattle.fare_collect.specs.Arriving.{arrivals}
+use Rattle.fare_writer.specs.Arriving.{IsUnexpected}
+use Rattle.fare_writer.specs.Writing.{store_fault, Leaves}
+use Rattle.fare_collect.specs.Stations.{SourceCounted, frame_for, held_list}
+use Rattle.fare_writer.specs.Handling.{hand_of, fault_of, RefusedBy, IsRefusedItem}
 use Rattle.fare_collect.specs.Resting.{IsNoneOf}
 use Rattle.fare_collect.specs.Ending.{Keeps, HasHanded, last_answers}
-use Rattle.fare_collect.specs.Noting.{noting, days_named}
+use Rattle.fare_collect.specs.Noting.{days_named}
+use Rattle.fare_writer.specs.Noting.{noting}
 use Rattle.fare_collect.specs.Resuming.{AreStations, resumed_next, HaveBegun, HaveResumed}
 use Rattle.fare_collect.specs.Session.{HasGathered, HasEnded, HasSession}
 use Rattle.fare_collect.specs.Collected.{fault_of_halt, HaveDevices, first_links, IsFitting, IsStoredBy, SaysOf, HasTalked, IsCollected}

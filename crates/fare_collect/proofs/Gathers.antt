@@ -16,7 +16,7 @@ use Rattle.fare_history.specs.Serving as serving
 use Rattle.fare_history.specs.Gathering as history
 use Rattle.fare_inbox_queue.specs.Inbox.{station_in}
 use Rattle.fare_inbox_queue.specs.declared.arrived.Arrived.{Arrived}
-use Rattle.fare_collect.specs.Gathering.{item_of, device_of, is_new, storing, IsAnswerTo, Entry, items_of, storing_all, AreEntries, new_count, in_hand, told_of, told_to}
+use Rattle.fare_writer.specs.Entries.{item_of, device_of, is_new, storing, IsAnswerTo, Entry, items_of, storing_all, AreEntries, new_count, in_hand, told_of, told_to}
 use Rattle.fare_collect.specs.Collected.{new_items}
 use Rattle.fare_collect.proofs.Named.{IsNamed, AreNamed}
 

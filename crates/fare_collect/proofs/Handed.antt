@@ -11,7 +11,7 @@ use Rattle.fare_session.specs.Served.{Rose}
 use Rattle.fare_collect.specs.Stations.{frame_for}
 use Rattle.fare_inbox_queue.specs.declared.ack_passes.HearPass.{HearPass}
 use Rattle.fare_collect.specs.declared.station.Station.{Station}
-use Rattle.fare_collect.specs.declared.station.Teller.{Teller}
+use Rattle.fare_writer.specs.declared.teller.Teller.{Teller}
 use Rattle.fare_collect.specs.Ending.{Keeps, HasHanded, IsHandedLeft, AreBeingHanded}
 use Rattle.fare_collect.proofs.Lent.{same_or_apart, last_at}
 

@@ -17,13 +17,14 @@ use Rattle.fare_record.specs.declared.ack_item.AckItem.TheVariants.{Upto}
 use Rattle.fare_history.specs.Gathering.{device_answered, answers_to, IsAnswerFrom}
 use Rattle.fare_collect.specs.declared.station.Station.{Station}
 use Rattle.fare_source.specs.Talking.{Talk}
-use Rattle.fare_collect.specs.Writing.{Wrote, Asks}
+use Rattle.fare_writer.specs.Writing.{Wrote, Asks}
 use Rattle.fare_collect.specs.Resuming.{AreStations}
 use Rattle.fare_store.specs.Keys.{Key}
 use Rattle.fare_route.specs.Stating.{are_all_stated}
 use Rattle.fare_collect.specs.Noting.{day_ack, day_acks}
 use Rattle.fare_collect.specs.Ending.{IsHanded, last_ack, acks_of, last_acks, AreSent, HaveSent, HaveLast}
-use Rattle.fare_collect.proofs.Wrote.{wrote_none, wrote_then, wrote_read}
+use Rattle.fare_collect.proofs.Written.{wrote_none}
+use Rattle.fare_writer.proofs.Wrote.{wrote_then, wrote_read}
 use Rattle.fare_collect.proofs.Handed.{handed_none, handed_then}
 use Rattle.fare_collect.proofs.Lent.{same_or_apart}
 use Rattle.fare_collect.proofs.Places.{apart_by_place, same_by_place}

@@ -8,7 +8,7 @@ use Rattle.fare_inbox_queue.specs.declared.ack_passes.HearPass.{HearPass}
 use Rattle.fare_inbox_queue.specs.declared.inbox_passes.StationPass.{StationPass}
 use Rattle.fare_inbox_queue.specs.LinePasses.{put_list, heard_list, IsAckOf, IsHearOf}
 use Rattle.fare_collect.specs.declared.station.Station.{Station}
-use Rattle.fare_collect.specs.declared.station.Teller.{Teller}
+use Rattle.fare_writer.specs.declared.teller.Teller.{Teller}
 use Rattle.fare_collect.specs.Opening.{AreNew, seated, AreLending, IsReturned, AreReturning}
 
 pub same_or_apart : (k p : ℕ) → (k ≡ p) ⊎ (k ≢ p)

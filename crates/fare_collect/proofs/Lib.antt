@@ -1,8 +1,5 @@
-pub mod Asked
-pub mod Wrote
+pub mod Written
 pub mod Read
-pub mod Told
-pub mod Handling
 pub mod Rested
 pub mod Lent
 pub mod Served
@@ -13,7 +10,6 @@ pub mod Noted
 pub mod Places
 pub mod Last
 pub mod Sessioned
-pub mod Puttings
 pub mod Named
 pub mod Gathers
 pub mod Resumed

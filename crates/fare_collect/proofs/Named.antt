@@ -17,8 +17,9 @@ use Rattle.fare_history.specs.Gathering as history
 use Rattle.fare_inbox_queue.specs.Inbox.{station_in, of_station}
 use Rattle.fare_inbox_queue.specs.declared.arrived.Arrived.{Arrived}
 use Rattle.fare_inbox_queue.specs.declared.arrived.Arrived.TheVariants as arrived
-use Rattle.fare_collect.specs.Gathering.{item_of, device_of}
-use Rattle.fare_collect.specs.Arriving.{arrived_if, arrived_of, arrivals}
+use Rattle.fare_writer.specs.Entries.{item_of, device_of}
+use Rattle.fare_collect.specs.Arriving.{arrivals}
+use Rattle.fare_writer.specs.Arriving.{arrived_if, arrived_of}
 
 -- KNOWN DEVICES
 -- a collector knows these devices

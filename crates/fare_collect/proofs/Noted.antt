@@ -8,7 +8,8 @@ use Rattle.fare_record.specs.declared.item.Item.TheVariants as item
 use Rattle.fare_scheme.specs.Values.{SchemeValue}
 use Rattle.fare_scheme.specs.Words.{position_of_device}
 use Rattle.fare_store.specs.Keys.{Key, key_order}
-use Rattle.fare_collect.specs.Noting.{noted_at, noting, AreNoted}
+use Rattle.fare_collect.specs.Noting.{AreNoted}
+use Rattle.fare_writer.specs.Noting.{noted_at, noting}
 
 -- each day stands behind its device's place
 noted_one : (sc : SchemeValue) (days : List Key) (v : StatementValue) (o : Option ℕ) → position_of_device sc v.device ≡ o → AreNoted sc days → AreNoted sc (noted_at days v o)

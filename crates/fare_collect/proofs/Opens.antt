@@ -12,12 +12,12 @@ use Rattle.fare_store.specs.Standing.{Standing}
 use Rattle.fare_store.specs.OutboxWords.{OutboxValue}
 use Rattle.fare_source.specs.Talking.{Talk}
 use Rattle.fare_session.specs.Served.{Rose}
-use Rattle.fare_collect.specs.declared.fault.WriterFault.{WriterFault}
-use Rattle.fare_collect.specs.declared.fault.WriterFault.TheVariants as writer
+use Rattle.fare_writer.specs.declared.fault.WriterFault.{WriterFault}
+use Rattle.fare_writer.specs.declared.fault.WriterFault.TheVariants as writer
 use Rattle.fare_collect.specs.declared.fault.StationFault.{StationFault}
 use Rattle.fare_collect.specs.declared.fault.StationFault.TheVariants.{Source, Unexpected}
 use Rattle.fare_collect.specs.declared.station.Station.{Station}
-use Rattle.fare_collect.specs.Writing.{as_writer, Wrote}
+use Rattle.fare_writer.specs.Writing.{as_writer, Wrote}
 use Rattle.fare_collect.specs.Resting.{IsNoneOf}
 use Rattle.fare_collect.specs.Resuming.{AreStations, resumed_next, HaveBegun, HaveResumed}
 use Rattle.fare_collect.specs.Collected.{first_links, IsCollected}

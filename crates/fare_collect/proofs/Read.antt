@@ -13,7 +13,8 @@ use Rattle.fare_collect.specs.declared.fault.StationFault.{StationFault}
 use Rattle.fare_collect.specs.declared.fault.StationFault.TheVariants.{Source, Unexpected, Memory}
 use Rattle.fare_source.specs.Talking.{Talk, Waits, Gives, Hears}
 use Rattle.fare_history.specs.AcceptedLinks.{next_links, next_links_all}
-use Rattle.fare_collect.specs.Arriving.{arrived_of, arrivals, IsUnexpected}
+use Rattle.fare_collect.specs.Arriving.{arrivals}
+use Rattle.fare_writer.specs.Arriving.{arrived_of, IsUnexpected}
 use Rattle.fare_collect.specs.Stations.{frame_for, as_station, SourceCounted, HasPassedOn, HasAnswered, HasRead}
 
 -- FRAMES

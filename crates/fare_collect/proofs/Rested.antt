@@ -6,24 +6,27 @@ use Rattle.std.proofs.lemmas.List.Elements.{filter-append}
 use Rattle.fare_frame.specs.declared.frame.Frame.{Frame}
 use Rattle.fare_scheme.specs.Values.{SchemeValue}
 use Rattle.fare_collector.specs.Collecting.{next_in}
+use Rattle.fare_collector.specs.declared.collector.Collector.{Collector}
 use Rattle.fare_store.specs.Standing.{Standing, IsSound}
 use Rattle.fare_store.specs.OutboxWords.{OutboxValue}
 use Rattle.fare_inbox_queue.specs.declared.arrived.Arrived.{Arrived}
 use Rattle.fare_inbox_queue.specs.declared.inbox_ended.InboxEnded.{InboxEnded}
 use Rattle.fare_inbox_queue.specs.Inbox.{of_station}
 use Rattle.fare_inbox_queue.specs.InboxPasses.{left_of}
-use Rattle.fare_collect.specs.declared.tally.Tally.{Tally}
+use Rattle.fare_writer.specs.declared.tally.Tally.{Tally}
 use Rattle.fare_collect.specs.declared.fault.StationFault.{StationFault}
 use Rattle.fare_collect.specs.declared.fault.StationFault.TheVariants.{Unexpected}
 use Rattle.fare_collect.specs.declared.station.Station.{Station}
-use Rattle.fare_collect.specs.declared.station.End.{End}
-use Rattle.fare_collect.specs.declared.writing.Halt.{Halt}
+use Rattle.fare_writer.specs.declared.halt.Halt.{Halt}
 use Rattle.fare_source.specs.Talking.{Talk}
 use Rattle.fare_history.specs.AcceptedLinks.{next_links, next_links_all}
-use Rattle.fare_collect.specs.Arriving.{arrived_of, arrivals, IsUnexpected}
+use Rattle.fare_collect.specs.Arriving.{arrivals}
+use Rattle.fare_writer.specs.Arriving.{arrived_of, IsUnexpected}
 use Rattle.fare_collect.specs.Stations.{held_list, SourceCounted}
-use Rattle.fare_collect.specs.Resting.{HasKept, HasKeepingLeft, HasKeptLeft, items_in, HasJudged, HasNext, HasResting, HasRested}
-use Rattle.fare_collect.proofs.Told.{written_none, written_then}
+use Rattle.fare_collect.specs.Resting.{HasKeepingLeft, HasKeptLeft, HasNext, HasResting, HasRested}
+use Rattle.fare_writer.specs.Keeping.{HasKept}
+use Rattle.fare_writer.specs.Judging.{items_in, HasJudged}
+use Rattle.fare_collect.proofs.Written.{written_none, written_then}
 use Rattle.fare_collect.proofs.Read.{arrivals_append, next_append}
 
 pub kept_none : (sc : SchemeValue) (s : Standing OutboxValue) (n : Tally) → IsSound s → HasKept sc s s [] n n None
@@ -83,27 +86,25 @@ resting_none sc talks id s n t sound fault unended = record {
   failures = refl;
 }
 
-pub resting_more : {S : Type 0} (sc : SchemeValue) (talks : S → Talk) (id : ℕ) (a b c : Standing OutboxValue) (n0 n1 n2 : Tally) (t0 t1 t2 t3 : Station S) (passed : List Frame) (f : Frame) (result : Option (Option Arrived)) (halt : Option Halt)
-    → HasResting sc talks id a b n0 n1 t0 t1 passed None → HasNext (talks t1.source) (talks t2.source) t1.end t2.end (Some f) → t2.collector ≡ t1.collector → HasJudged sc id f t2 t3 result
-    → HasKept sc b c (items_in result) n1 n2 halt → HasResting sc talks id a c n0 n2 t0 t3 (passed ++ f ∷ []) halt
-resting_more sc talks id a b c n0 n1 n2 t0 t1 t2 t3 passed f result halt was next coll judged kept =
-    let same : talks t3.source ≡ talks t2.source = ap talks judged.source in
+pub resting_more : {S : Type 0} (sc : SchemeValue) (talks : S → Talk) (id : ℕ) (a b c : Standing OutboxValue) (n0 n1 n2 : Tally) (t0 t1 t2 : Station S) (k : Collector) (passed : List Frame) (f : Frame) (result : Option (Option Arrived)) (halt : Option Halt)
+    → HasResting sc talks id a b n0 n1 t0 t1 passed None → HasNext (talks t1.source) (talks t2.source) t1.end t2.end (Some f) → t2.collector ≡ t1.collector → HasJudged sc id f t2.collector k result
+    → HasKept sc b c (items_in result) n1 n2 halt → HasResting sc talks id a c n0 n2 t0 (record t2 { collector = k }) (passed ++ f ∷ []) halt
+resting_more sc talks id a b c n0 n1 n2 t0 t1 t2 k passed f result halt was next coll judged kept =
     let nexts : next_in t2.collector ≡ next_links_all sc (next_in t0.collector) passed = ap next_in coll ∙ was.next in
     record {
       more = was.more ++ next.more;
-      given = ap (λ (t : Talk). t.given) same ∙ (next.given ∙ (ap (λ l. l ++ next.more) was.given ∙ append_assoc (talks t0.source).given was.more next.more));
+      given = next.given ∙ (ap (λ l. l ++ next.more) was.given ∙ append_assoc (talks t0.source).given was.more next.more);
       frames =
-          ap (λ (e : End). (passed ++ f ∷ []) ++ held_list e.held) judged.end
-          ∙ (ap (λ (h : Option Frame). (passed ++ f ∷ []) ++ held_list h) next.held
+          ap (λ (h : Option Frame). (passed ++ f ∷ []) ++ held_list h) next.held
           ∙ (append-nil (passed ++ f ∷ [])
           ∙ (ap (λ l. passed ++ l) next.frame
           ∙ (sym (append_assoc passed (held_list t1.end.held) next.more)
           ∙ (ap (λ l. l ++ next.more) was.frames
-          ∙ append_assoc (held_list t0.end.held) was.more next.more)))));
+          ∙ append_assoc (held_list t0.end.held) was.more next.more))));
       start = was.start;
       unended = was.unended;
-      going = ap (λ (e : End). e.ended) judged.end ∙ (next.going was.fault f refl).1 ∙ was.going;
-      answered = ap (λ (t : Talk). t.answered) same ∙ (next.answered ∙ was.answered);
+      going = (next.going was.fault f refl).1 ∙ was.going;
+      answered = next.answered ∙ was.answered;
       items = was.items ++ items_in result;
       arrived =
           ap (λ l. l ++ items_in result) was.arrived
@@ -112,8 +113,8 @@ resting_more sc talks id a b c n0 n1 n2 t0 t1 t2 t3 passed f result halt was nex
       next = judged.next ∙ (ap (λ (n : ℕ → Option ℕ). next_links sc n f) nexts ∙ sym (next_append sc (next_in t0.collector) passed (f ∷ [])));
       named = judged.named ∙ (ap (λ c. c.station) coll ∙ was.named);
       kept = kept_then sc a b c was.items (items_in result) n0 n1 n2 halt was.kept kept;
-      fault = ap (λ (e : End). e.fault) judged.end ∙ (next.going was.fault f refl).0;
-      failures = ap (λ (t : Talk). t.failures) same ∙ (subst (λ (k : Option StationFault). SourceCounted (talks t1.source).failures (talks t2.source).failures k) (next.going was.fault f refl).0 (next.cause was.fault) ∙ was.failures);
+      fault = (next.going was.fault f refl).0;
+      failures = subst (λ (k : Option StationFault). SourceCounted (talks t1.source).failures (talks t2.source).failures k) (next.going was.fault f refl).0 (next.cause was.fault) ∙ was.failures;
     }
 
 -- the source gave no frame more

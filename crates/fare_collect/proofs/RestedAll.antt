@@ -13,14 +13,15 @@ use Rattle.fare_store.specs.OutboxWords.{OutboxValue}
 use Rattle.fare_inbox_queue.specs.declared.arrived.Arrived.{Arrived}
 use Rattle.fare_inbox_queue.specs.declared.arrived.Arrived.TheVariants as arrived
 use Rattle.fare_inbox_queue.specs.Inbox.{station_in, of_station}
-use Rattle.fare_collect.specs.declared.tally.Tally.{Tally}
+use Rattle.fare_writer.specs.declared.tally.Tally.{Tally}
 use Rattle.fare_collect.specs.declared.station.Station.{Station}
 use Rattle.fare_inbox_queue.specs.declared.ack_passes.HearPass.{HearPass}
 use Rattle.fare_collect.specs.declared.fault.StationFault.TheVariants.{Memory}
-use Rattle.fare_collect.specs.declared.writing.Halt.{Halt}
+use Rattle.fare_writer.specs.declared.halt.Halt.{Halt}
 use Rattle.fare_source.specs.Talking.{Talk}
 use Rattle.fare_history.specs.AcceptedLinks.{next_links, tap_judged, stating_judged, next_links_all}
-use Rattle.fare_collect.specs.Arriving.{arrived_if, arrived_of, arrivals}
+use Rattle.fare_collect.specs.Arriving.{arrivals}
+use Rattle.fare_writer.specs.Arriving.{arrived_if, arrived_of}
 use Rattle.fare_collect.specs.Stations.{held_list, SourceCounted}
 use Rattle.fare_collect.specs.Resting.{HasRested, IsRestOf, HaveRested, AreApart}
 use Rattle.fare_collect.specs.Session.{HasGathered}

@@ -16,9 +16,9 @@ use Rattle.fare_store.specs.declared.fault.Fault.{Fault}
 use Rattle.fare_store.specs.Standing.{Standing, IsSound}
 use Rattle.fare_store.specs.OutboxWords.{OutboxValue}
 use Rattle.fare_collect.specs.declared.station.Station.{Station}
-use Rattle.fare_collect.specs.Writing.{Wrote}
+use Rattle.fare_writer.specs.Writing.{Wrote}
 use Rattle.fare_collect.specs.Resuming.{AreStations, resumed_next, HaveResumed}
-use Rattle.fare_collect.proofs.Wrote.{wrote_none}
+use Rattle.fare_collect.proofs.Written.{wrote_none}
 use Rattle.fare_collect.proofs.Last.{Reads_upto, read_ok, read_err}
 use Rattle.fare_collect.proofs.Lent.{same_or_apart}
 use Rattle.fare_collect.proofs.Places.{apart_by_place, same_by_place}

@@ -18,13 +18,14 @@ use Rattle.fare_inbox_queue.specs.InboxPasses.{station_of, sent_list, IsStationO
 use Rattle.fare_inbox_queue.specs.LinePasses.{heard_list, IsAckOf, IsHearOf}
 use Rattle.fare_collect.specs.declared.station.Station.{Station}
 use Rattle.fare_collect.specs.declared.station.Seat.{Seat}
-use Rattle.fare_collect.specs.declared.station.Teller.{Teller}
+use Rattle.fare_writer.specs.declared.teller.Teller.{Teller}
 use Rattle.fare_collect.specs.declared.station.End.{End}
 use Rattle.fare_source.specs.Talking.{Talk}
 use Rattle.fare_collect.proofs.Lent.{last_at}
 use Rattle.fare_collect.specs.Arriving.{arrivals}
 use Rattle.fare_collect.specs.Resting.{IsNoneOf}
-use Rattle.fare_collect.specs.Stations.{HasRead, HasRun, HaveRun, IsSeatedAt, AreSeated, AreTellers}
+use Rattle.fare_collect.specs.Stations.{HasRead, HasRun, HaveRun, IsSeatedAt, AreSeated}
+use Rattle.fare_writer.specs.Handling.{AreTellers}
 use Rattle.fare_collect.specs.Opening.{AreHears, AreNew, seated, AreLent, IsReturned, AreReturned, HaveSeats}
 use Rattle.fare_collect.specs.Session.{HasServed, HaveServed, AreReady, HasGathered}
 

@@ -14,21 +14,21 @@ use Rattle.fare_history.specs.Gathering.{answers_to, IsAnswerFrom}
 use Rattle.fare_inbox_queue.specs.declared.arrived.Arrived.{Arrived}
 use Rattle.fare_inbox_queue.specs.declared.ack_line.AckLine.{AckLine}
 use Rattle.fare_inbox_queue.specs.declared.ack_passes.HearPass.{HearPass}
-use Rattle.fare_collect.specs.declared.tally.Tally.{Tally}
+use Rattle.fare_writer.specs.declared.tally.Tally.{Tally}
 use Rattle.fare_collect.specs.declared.station.Station.{Station}
-use Rattle.fare_collect.specs.declared.station.Teller.{Teller}
-use Rattle.fare_collect.specs.declared.writing.Halt.{Halt}
+use Rattle.fare_writer.specs.declared.teller.Teller.{Teller}
+use Rattle.fare_writer.specs.declared.halt.Halt.{Halt}
 use Rattle.fare_source.specs.Talking.{Talk}
-use Rattle.fare_collect.specs.Gathering.{Entry, items_of, in_hand, storing_all}
-use Rattle.fare_collect.specs.Writing.{Wrote, as_writer}
-use Rattle.fare_collect.specs.Stations.{HasWritten, RefusedBy, hand_of, fault_of}
+use Rattle.fare_writer.specs.Entries.{Entry, items_of, in_hand, storing_all}
+use Rattle.fare_writer.specs.Writing.{Wrote, as_writer}
+use Rattle.fare_writer.specs.Handling.{HasWritten, RefusedBy, hand_of, fault_of}
 use Rattle.fare_collect.specs.Opening.{AreNew}
 use Rattle.fare_collect.specs.Session.{HaveGathered, HasSession}
 use Rattle.fare_collect.specs.Ending.{IsHanded, AreHandedLeft, last_answers, HaveLast}
 use Rattle.fare_collect.specs.Resuming.{AreStations}
 use Rattle.fare_collect.specs.Resting.{AreRead}
 use Rattle.fare_collect.proofs.Served.{element}
-use Rattle.fare_collect.proofs.Wrote.{wrote_then}
+use Rattle.fare_writer.proofs.Wrote.{wrote_then}
 use Rattle.fare_collect.proofs.Handed.{handed_none}
 
 -- What the reads at the end came to.

@@ -1,28 +1,12 @@
 -- What a station accepts of the frames that its source gives, under its name.
-use Rattle.std.specs.Prelude.{◌≡◌, ℕ, List, [], ◌∷◌, ◌++◌, Option, None, Result, Ok, Err}
+use Rattle.std.specs.Prelude.{ℕ, List, [], ◌∷◌, ◌++◌, Option}
 use Rattle.fare_frame.specs.declared.frame.Frame.{Frame}
-use Rattle.fare_frame.specs.declared.frame.Frame.TheVariants.{Tapped, Stated}
-use Rattle.fare_frame.specs.Grammar.{tap_of, statement_of}
 use Rattle.fare_scheme.specs.Values.{SchemeValue}
-use Rattle.fare_history.specs.AcceptedLinks.{tap_judged, stating_judged, next_links}
+use Rattle.fare_history.specs.AcceptedLinks.{next_links}
 use Rattle.fare_inbox_queue.specs.declared.arrived.Arrived.{Arrived}
-use Rattle.fare_inbox_queue.specs.declared.arrived.Arrived.TheVariants as arrived
-
-abbrev pub arrived_if : {E : Type 0} → Result Unit E → Arrived → List Arrived
-arrived_if (Ok _) a = a ∷ []
-arrived_if (Err _) a = []
-
--- what a station accepts of a frame, by the links that it accepts next
-abbrev pub arrived_of : SchemeValue → ℕ → (ℕ → Option ℕ) → Frame → List Arrived
-arrived_of sc station next (Tapped r) = arrived_if (tap_judged sc next r) (arrived.Tap station r)
-arrived_of sc station next (Stated s) = arrived_if (stating_judged sc next s) (arrived.Stated station s)
-arrived_of sc station next _ = []
+use Rattle.fare_writer.specs.Arriving.{arrived_of}
 
 -- what it accepts of frames one after the other
 abbrev pub arrivals : SchemeValue → ℕ → (ℕ → Option ℕ) → List Frame → List Arrived
 arrivals sc station next [] = []
 arrivals sc station next (f ∷ fs) = arrived_of sc station next f ++ arrivals sc station (next_links sc next f) fs
-
--- a frame that no device sends to its station once it has greeted it
-abbrev pub IsUnexpected : Frame → Type 0
-IsUnexpected f = (tap_of f ≡ None) × (statement_of f ≡ None)

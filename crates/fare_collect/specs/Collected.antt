@@ -18,17 +18,17 @@ use Rattle.fare_session.specs.declared.fault.SessionFault.TheVariants as session
 use Rattle.fare_session.specs.Stores.{Follows}
 use Rattle.fare_session.specs.Served.{Rose}
 use Rattle.fare_source.specs.Talking.{Talk}
-use Rattle.fare_collect.specs.declared.fault.WriterFault.{WriterFault}
-use Rattle.fare_collect.specs.declared.fault.WriterFault.TheVariants as writer
+use Rattle.fare_writer.specs.declared.fault.WriterFault.{WriterFault}
+use Rattle.fare_writer.specs.declared.fault.WriterFault.TheVariants as writer
 use Rattle.fare_collect.specs.declared.fault.StationFault.{StationFault}
 use Rattle.fare_collect.specs.declared.fault.StationFault.TheVariants as station
 use Rattle.fare_collect.specs.declared.station.Station.{Station}
-use Rattle.fare_collect.specs.declared.writing.Halt.{Halt}
+use Rattle.fare_writer.specs.declared.halt.Halt.{Halt}
 use Rattle.fare_collect.specs.Stations.{frame_for, held_list}
 use Rattle.fare_collect.specs.Resting.{IsNoneOf}
 use Rattle.fare_collect.specs.Ending.{Keeps, last_answers}
 use Rattle.fare_collect.specs.Noting.{days_named}
-use Rattle.fare_collect.specs.Arriving.{IsUnexpected}
+use Rattle.fare_writer.specs.Arriving.{IsUnexpected}
 
 -- THE STATIONS
 -- each station's collector knows the devices of its station, and no other

@@ -6,7 +6,7 @@ use Rattle.fare_store.specs.declared.fault.Fault.{Fault}
 use Rattle.fare_store.specs.Standing.{Standing, fault_of}
 use Rattle.fare_store.specs.OutboxWords.{OutboxValue}
 use Rattle.fare_history.specs.Gathering.{answers_to, IsAnswerFrom}
-use Rattle.fare_collect.specs.Writing.{Wrote}
+use Rattle.fare_writer.specs.Writing.{Wrote}
 use Rattle.fare_frame.specs.declared.frame.Frame.{Frame}
 use Rattle.fare_record.specs.declared.ack_item.AckItem.{AckItem}
 use Rattle.fare_record.specs.declared.ack_item.AckItem.TheVariants.{Upto}
@@ -15,7 +15,7 @@ use Rattle.fare_inbox_queue.specs.LinePasses.{put_list, heard_list}
 use Rattle.fare_collect.specs.declared.fault.StationFault.{StationFault}
 use Rattle.fare_collect.specs.declared.fault.StationFault.TheVariants.{Source, Unexpected}
 use Rattle.fare_collect.specs.declared.station.Station.{Station}
-use Rattle.fare_collect.specs.declared.station.Teller.{Teller}
+use Rattle.fare_writer.specs.declared.teller.Teller.{Teller}
 use Rattle.fare_source.specs.Talking.{Talk}
 use Rattle.fare_store.specs.Keys.{Key}
 use Rattle.fare_collect.specs.Noting.{day_acks}

@@ -1,7 +1,5 @@
 pub mod Arriving
-pub mod Gathering
 pub mod Noting
-pub mod Writing
 pub mod Stations
 pub mod Opening
 pub mod Resting

@@ -6,7 +6,7 @@ use Rattle.fare_inbox_queue.specs.declared.inbox_passes.StationPass.{StationPass
 use Rattle.fare_inbox_queue.specs.LinePasses.{put_list, heard_list, IsAckOf, IsHearOf}
 use Rattle.fare_collect.specs.declared.station.Station.{Station}
 use Rattle.fare_collect.specs.declared.station.Seat.{Seat}
-use Rattle.fare_collect.specs.declared.station.Teller.{Teller}
+use Rattle.fare_writer.specs.declared.teller.Teller.{Teller}
 
 -- each has the station's pass of the line at its place
 pub record AreHears (lines : List AckLine) (hears : List HearPass) : Type 0 where

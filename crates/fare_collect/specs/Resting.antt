@@ -13,17 +13,14 @@ use Rattle.fare_collect.specs.declared.fault.StationFault.{StationFault}
 use Rattle.fare_collect.specs.declared.fault.StationFault.TheVariants.{Unexpected}
 use Rattle.fare_collect.specs.declared.station.Station.{Station}
 use Rattle.fare_collect.specs.declared.station.End.{End}
-use Rattle.fare_collect.specs.declared.station.Teller.{Teller}
-use Rattle.fare_collect.specs.declared.writing.Halt.{Halt}
-use Rattle.fare_collect.specs.declared.tally.Tally.{Tally}
+use Rattle.fare_writer.specs.declared.halt.Halt.{Halt}
+use Rattle.fare_writer.specs.declared.tally.Tally.{Tally}
+use Rattle.fare_writer.specs.Keeping.{HasKept}
 use Rattle.fare_source.specs.Talking.{Talk}
-use Rattle.fare_history.specs.AcceptedLinks.{next_links, next_links_all}
-use Rattle.fare_collect.specs.Arriving.{arrived_of, arrivals, IsUnexpected}
-use Rattle.fare_collect.specs.Stations.{held_list, SourceCounted, HasWritten}
-
--- items were stored, or had been before, and no line was told
-pub record HasKept (sc : SchemeValue) (old new : Standing OutboxValue) (items : List Arrived) (tally_old tally_new : Tally) (halt : Option Halt) : Type 0 where
-  pub each : (t : List Teller) → HasWritten sc old new items t t tally_old tally_new halt
+use Rattle.fare_history.specs.AcceptedLinks.{next_links_all}
+use Rattle.fare_collect.specs.Arriving.{arrivals}
+use Rattle.fare_writer.specs.Arriving.{IsUnexpected}
+use Rattle.fare_collect.specs.Stations.{held_list, SourceCounted}
 
 -- some of what was left in the inbox, from the front of each station's part
 pub record HasKeepingLeft (sc : SchemeValue) (old new : Standing OutboxValue) (before after : InboxEnded) (tally_old tally_new : Tally) (halt : Option Halt) : Type 0 where
@@ -37,20 +34,6 @@ pub record HasKeptLeft (sc : SchemeValue) (old new : Standing OutboxValue) (befo
   pub some : HasKeepingLeft sc old new before after tally_old tally_new halt
   pub whole : halt ≡ None → (station : ℕ) → left_of after station ≡ []
   pub none : halt ≡ None → after.left ≡ 0
-
-abbrev pub items_in : Option (Option Arrived) → List Arrived
-items_in None = []
-items_in (Some None) = []
-items_in (Some (Some a)) = a ∷ []
-
--- a frame went to the collector
-pub record HasJudged {S : Type 0} (sc : SchemeValue) (id : ℕ) (frame : Frame) (old new : Station S) (result : Option (Option Arrived)) : Type 0 where
-  pub arrived : arrived_of sc id (next_in old.collector) frame ≡ items_in result
-  pub next : next_in new.collector ≡ next_links sc (next_in old.collector) frame
-  pub unexpected : result ≡ None → IsUnexpected frame
-  pub named : new.collector.station ≡ old.collector.station
-  pub source : new.source ≡ old.source
-  pub end : new.end ≡ old.end
 
 -- the frame that was held, or else one more of the source
 pub record HasNext (old new : Talk) (before after : End) (result : Option Frame) : Type 0 where

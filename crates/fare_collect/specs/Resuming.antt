@@ -6,7 +6,7 @@ use Rattle.fare_collector.specs.Collecting.{is_id, next_in}
 use Rattle.fare_store.specs.declared.fault.Fault.{Fault}
 use Rattle.fare_store.specs.Standing.{Standing, fault_of}
 use Rattle.fare_store.specs.OutboxWords.{OutboxValue}
-use Rattle.fare_collect.specs.Writing.{Wrote}
+use Rattle.fare_writer.specs.Writing.{Wrote}
 use Rattle.fare_collect.specs.declared.station.Station.{Station}
 
 -- the stations are those of the scheme, in its order

@@ -17,19 +17,21 @@ use Rattle.fare_inbox_queue.specs.LinePasses.{put_list, heard_list, IsHearOf}
 use Rattle.fare_store.specs.Standing.{Standing}
 use Rattle.fare_store.specs.OutboxWords.{OutboxValue}
 use Rattle.fare_collect.specs.declared.station.Station.{Station}
-use Rattle.fare_collect.specs.declared.station.Teller.{Teller}
-use Rattle.fare_collect.specs.declared.writing.Halt.{Halt}
-use Rattle.fare_collect.specs.declared.tally.Tally.{Tally}
+use Rattle.fare_writer.specs.declared.teller.Teller.{Teller}
+use Rattle.fare_writer.specs.declared.halt.Halt.{Halt}
+use Rattle.fare_writer.specs.declared.tally.Tally.{Tally}
 use Rattle.fare_source.specs.Talking.{Talk}
 use Rattle.fare_collect.specs.Opening.{AreNew}
-use Rattle.fare_collect.specs.Gathering.{in_hand, storing_all}
+use Rattle.fare_writer.specs.Entries.{in_hand, storing_all}
 use Rattle.fare_collect.specs.Ending.{IsHanded, IsHandedLeft, last_answers}
 use Rattle.fare_collect.specs.Resting.{AreApart, AreRead, IsNoneOf}
 use Rattle.fare_history.specs.AcceptedLinks.{next_links_all}
-use Rattle.fare_collect.specs.Arriving.{arrivals, IsUnexpected}
+use Rattle.fare_collect.specs.Arriving.{arrivals}
+use Rattle.fare_writer.specs.Arriving.{IsUnexpected}
 use Rattle.fare_record.specs.declared.ack_item.AckItem.{AckItem}
 use Rattle.fare_collect.specs.declared.fault.StationFault.TheVariants.{Unexpected, Memory}
-use Rattle.fare_collect.specs.Stations.{held_list, hand_of, frame_for, SourceCounted, HasRead, HasWritten}
+use Rattle.fare_collect.specs.Stations.{held_list, frame_for, SourceCounted, HasRead}
+use Rattle.fare_writer.specs.Handling.{hand_of, HasWritten}
 
 -- a station was lent its passes, ran, and gave them back
 pub record HasServed {S : Type 0} (sc : SchemeValue) (talks : S → Talk) (inbox : Inbox) (lines : List AckLine) (k : ℕ) (old new : Station S) (p0 p1 : StationPass) (h0 h1 : HearPass) : Type 0 where

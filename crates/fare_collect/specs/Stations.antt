@@ -1,39 +1,27 @@
--- What the threads of a session did.
-use Rattle.std.specs.Prelude.{◌≡◌, ◌≢◌, ◌⊎◌, ℕ, ◌+◌, ◌<◌, ◌≤◌, min, true, false, Bool, List, [], ◌∷◌, ◌++◌, length, map, slice_index_or, Option, Some, None, if◌then◌else◌, fold}
+-- What the stations' threads of a session did.
+use Rattle.std.specs.Prelude.{◌≡◌, ◌≢◌, ◌⊎◌, ℕ, ◌<◌, ◌≤◌, true, false, Bool, List, [], ◌∷◌, ◌++◌, length, map, slice_index_or, Option, Some, None}
 use Rattle.fare_frame.specs.declared.frame.Frame.{Frame}
 use Rattle.fare_frame.specs.declared.frame.Frame.TheVariants.{Acked, DayAcked}
 use Rattle.fare_scheme.specs.Values.{SchemeValue}
-use Rattle.fare_collector.specs.Collecting.{is_id, next_in}
+use Rattle.fare_collector.specs.Collecting.{next_in}
 use Rattle.fare_inbox_queue.specs.declared.arrived.Arrived.{Arrived}
 use Rattle.fare_record.specs.declared.ack_item.AckItem.{AckItem}
 use Rattle.fare_record.specs.declared.ack_item.AckItem.TheVariants.{Upto, Day}
 use Rattle.fare_inbox_queue.specs.declared.ack_line.AckLine.{AckLine}
 use Rattle.fare_inbox_queue.specs.declared.inbox.Inbox.{Inbox}
 use Rattle.fare_inbox_queue.specs.InboxPasses.{station_of, sent_list, IsStationOf}
-use Rattle.fare_inbox_queue.specs.LinePasses.{put_list, heard_list, IsAckOf, IsHearOf}
+use Rattle.fare_inbox_queue.specs.LinePasses.{heard_list, IsHearOf}
 use Rattle.fare_source.specs.declared.fault.SourceFault.{SourceFault}
 use Rattle.fare_source.specs.declared.fault.SourceFault.TheVariants as source
 use Rattle.fare_collect.specs.declared.fault.StationFault.{StationFault}
 use Rattle.fare_collect.specs.declared.fault.StationFault.TheVariants.{Source, Unexpected, Memory}
 use Rattle.fare_collect.specs.declared.station.Station.{Station}
 use Rattle.fare_collect.specs.declared.station.Seat.{Seat}
-use Rattle.fare_collect.specs.declared.station.Teller.{Teller}
 use Rattle.fare_source.specs.Talking.{Talk}
-use Rattle.fare_store.specs.Standing.{Standing}
-use Rattle.fare_store.specs.OutboxWords.{OutboxValue}
-use Rattle.fare_store.specs.declared.fault.Fault.{Fault}
-use Rattle.fare_collect.specs.declared.fault.WriterFault.{WriterFault}
-use Rattle.fare_collect.specs.declared.fault.WriterFault.TheVariants as writer
-use Rattle.fare_collect.specs.declared.writing.Halt.{Halt}
-use Rattle.fare_store.specs.Keys.{Key}
-use Rattle.fare_collect.specs.declared.tally.Tally.{Tally}
-use Rattle.fare_collect.specs.Noting.{noting}
-use Rattle.fare_collect.specs.Gathering.{item_of, Entry, items_of, in_hand, told_to, storing_all, new_count, IsRefused}
-use Rattle.fare_collect.specs.Writing.{store_fault, Wrote}
 use Rattle.fare_history.specs.AcceptedLinks.{next_links, next_links_all}
-use Rattle.fare_collect.specs.Arriving.{arrived_of, arrivals, IsUnexpected}
+use Rattle.fare_collect.specs.Arriving.{arrivals}
+use Rattle.fare_writer.specs.Arriving.{arrived_of, IsUnexpected}
 
--- THE STATION
 abbrev pub frame_for : AckItem → Frame
 frame_for (Upto a) = Acked a
 frame_for (Day a) = DayAcked a
@@ -118,55 +106,3 @@ pub record HasRun {S : Type 0} (sc : SchemeValue) (talks : S → Talk) (inbox : 
 
 pub record HaveRun {S : Type 0} (sc : SchemeValue) (talks : S → Talk) (inbox : Inbox) (lines : List AckLine) (old new : List (Station S)) : Type 0 where
   pub each : (k : ℕ) (d : Station S) → k < length old → HasRun sc talks inbox lines k (slice_index_or old k d) (slice_index_or new k d)
-
--- THE WRITER
--- each teller has the writer's pass of the line at its place
-pub record AreTellers (lines : List AckLine) (tellers : List Teller) : Type 0 where
-  pub len : length tellers ≡ length lines
-  pub each : (k : ℕ) (l : AckLine) (d : Teller) → k < length tellers → IsAckOf (slice_index_or lines k l) (slice_index_or tellers k d).pass
-
--- what the line at a place was told, where it took the answer
-abbrev pub told_if : Option ℕ → ℕ → AckItem → Bool → List AckItem
-told_if place k item took = if took then (if is_id place k then item ∷ [] else []) else []
-
-pub record HasTold (place : Option ℕ) (item : AckItem) (old new : List Teller) (took : Bool) : Type 0 where
-  pub len : length new ≡ length old
-  pub each : (k : ℕ) (d : Teller) → k < length old → put_list (slice_index_or new k d).pass ≡ put_list (slice_index_or old k d).pass ++ told_if place k item took
-
--- each line was told the answers of its station's items
-pub record HaveBeenTold (sc : SchemeValue) (es : List Entry) (old new : List Teller) : Type 0 where
-  pub len : length new ≡ length old
-  pub each : (k : ℕ) (d : Teller) → k < length old → put_list (slice_index_or new k d).pass ≡ put_list (slice_index_or old k d).pass ++ told_to sc k es
-
-abbrev pub hand_of : Option Halt → Option Arrived
-hand_of None = None
-hand_of (Some h) = h.hand
-
-abbrev pub fault_of : Option Halt → Option Fault
-fault_of None = None
-fault_of (Some h) = store_fault h.fault
-
--- where the writer ended since the outbox refused an item, it is the one in the hand
-abbrev pub IsRefusedItem : OutboxValue → WriterFault → Option Arrived → Type 0
-IsRefusedItem x writer.Refused None = ⊥
-IsRefusedItem x writer.Refused (Some a) = IsRefused x a
-IsRefusedItem x _ hand = Unit {0}
-
-abbrev pub RefusedBy : OutboxValue → Option Halt → Type 0
-RefusedBy x None = Unit {0}
-RefusedBy x (Some h) = IsRefusedItem x h.fault h.hand
-
--- the days, with those that these items name
-abbrev pub noting_all : SchemeValue → List Key → List Arrived → List Key
-noting_all sc days items = fold (noting sc) days (map item_of items)
-
--- what came of these items, one after the other: some were stored, or had been before, and told; at its end the
--- writer may have one in its hand
-pub record HasWritten (sc : SchemeValue) (old new : Standing OutboxValue) (items : List Arrived) (tellers_old tellers_new : List Teller) (tally_old tally_new : Tally) (halt : Option Halt) : Type 0 where
-  pub entries : List Entry
-  pub all : items ≡ items_of entries ++ in_hand (hand_of halt)
-  pub wrote : Wrote sc old new entries (hand_of halt) (fault_of halt)
-  pub told : HaveBeenTold sc entries tellers_old tellers_new
-  pub refused : new.live → old.lawful → RefusedBy (storing_all old.value entries) halt
-  pub counted : new.clean → old.live → old.lawful → min tally_new.stored 18446744073709551615 ≡ min (tally_old.stored + new_count old.value entries) 18446744073709551615
-  pub noted : halt ≡ None → tally_new.days.keys ≡ noting_all sc tally_old.days.keys items

@@ -3,14 +3,15 @@ ghost use Rattle.std.specs.Prelude.{◌≤◌, ◌∷◌, [], length};
 ghost use Rattle.fare_collect.specs.Ending.{IsHanded, IsHandedLeft, AreHandedLeft};
 ghost use Rattle.fare_inbox_queue.specs.LinePasses.{IsAckOf, IsHearOf};
 ghost use Rattle.fare_collect.specs.Opening.{AreHears};
-ghost use Rattle.fare_collect.specs.Stations.{AreTellers};
+ghost use Rattle.fare_writer.specs.Handling.{AreTellers};
 
 use crate::fault::StationFault;
 use crate::reading::{fault_of, frame_of};
-use crate::station::{Station, Teller};
+use crate::station::Station;
 use fare_inbox_queue::{AckLine, HearPass};
 use fare_record::AckItem;
 use fare_source::Source;
+use fare_writer::Teller;
 use std::sync::Wait;
 use std::time::Clock;
 

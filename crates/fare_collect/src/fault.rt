@@ -1,14 +1,3 @@
-/// What ended the writer.
-#[derive(Clone, Copy)]
-pub(crate) enum WriterFault {
-    /// The outbox refused an item.
-    Refused,
-    /// No memory is left for it.
-    Memory,
-    /// The outbox failed.
-    Store,
-}
-
 /// What ended a station.
 #[derive(Clone, Copy)]
 pub(crate) enum StationFault {

@@ -15,8 +15,6 @@ mod reading;
 mod resting;
 mod serving;
 mod station;
-mod storing;
-mod tally;
 mod threads;
 mod writing;
 

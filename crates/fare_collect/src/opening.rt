@@ -4,8 +4,9 @@ ghost use Rattle.fare_inbox_queue.specs.LinePasses.{put_list, heard_list, IsAckO
 ghost use Rattle.fare_collect.specs.declared.station.Seat.{Seat};
 ghost use Rattle.fare_collect.specs.Opening.{AreNew, AreLent, IsReturned, AreReturned, HaveSeats};
 
-use crate::station::{End, Seat, Station, Teller};
+use crate::station::{End, Seat, Station};
 use fare_inbox_queue::{AckLine, HearPass, StationPass};
+use fare_writer::Teller;
 use std::alloc::{AllocError, Global};
 
 // The acknowledgement lines of a session, with their passes.
@@ -53,7 +54,7 @@ pub(crate) fn open_lines(alloc: Global, capacity: u32, count: usize) -> Result<L
             return Err(AllocError);
         };
         lines.push(line)?;
-        tellers.push(Teller { pass, told: 0 })?;
+        tellers.push(Teller::new(pass))?;
         hears.push(hear)?;
     }
     Ok(Lines {

@@ -3,7 +3,7 @@ ghost use Rattle.fare_inbox_queue.specs.Inbox.{station_in};
 ghost use Rattle.fare_inbox_queue.specs.InboxPasses.{station_of, sent_list, IsStationOf};
 ghost use Rattle.fare_collector.specs.Collecting.{next_in};
 ghost use Rattle.fare_collect.specs.Stations.{HasPassedOn};
-ghost use Rattle.fare_collect.specs.Arriving.{IsUnexpected};
+ghost use Rattle.fare_writer.specs.Arriving.{IsUnexpected};
 ghost use Rattle.fare_frame.specs.declared.frame.Frame.TheVariants.{Tapped};
 
 use crate::ended::Ended;

@@ -1,52 +1,20 @@
 //! What the call itself stores after the joins.
-ghost use Rattle.std.specs.Prelude.{◌≡◌, ◌++◌, ◌∷◌, [], ℕ, List, length, Some, None, false};
+ghost use Rattle.std.specs.Prelude.{◌≡◌, length, None, false};
 ghost use Rattle.fare_inbox_queue.specs.InboxPasses.{IsInboxEnded};
-ghost use Rattle.fare_collector.specs.Collecting.{next_in};
-ghost use Rattle.fare_collect.specs.Resting.{HasKept, HasKeptLeft, HasJudged, HasNext, HasRested, HaveRested, AreApart};
+ghost use Rattle.fare_collect.specs.Resting.{HasKeptLeft, HasNext, HasRested, HaveRested, AreApart};
 
-use crate::fault::{StationFault, WriterFault};
+use crate::fault::StationFault;
 use crate::reading::fault_of;
 use crate::station::Station;
-use crate::storing::put_item;
-use crate::tally::Tally;
-use crate::writing::Halt;
 use fare_frame::Frame;
-use fare_inbox_queue::{Arrived, InboxEnded};
+use fare_inbox_queue::InboxEnded;
 use fare_record::StationId;
 use fare_scheme::Scheme;
 use fare_source::Source;
 use fare_store::Outbox;
+use fare_writer::{Halt, Tally, judge, keep};
 use std::sync::Wait;
 use std::time::Clock;
-
-// Stores an item, and tells no line.
-fn keep<O: Outbox>(
-    scheme: &Scheme,
-    item: Arrived,
-    tally: &mut Tally,
-    outbox: &mut O,
-) -> Option<Halt>
-    ensures { HasKept scheme.now (O.standing outbox.old) (O.standing outbox.new) (item ∷ []) tally.old tally.new result }
-{
-    if tally.note(scheme, &item).is_err() {
-        return Some(Halt {
-            hand: Some(item),
-            fault: WriterFault::Memory,
-        });
-    }
-    match put_item(outbox, &item) {
-        Ok(new) => {
-            if new {
-                tally.count();
-            }
-            None
-        }
-        Err(fault) => Some(Halt {
-            hand: Some(item),
-            fault,
-        }),
-    }
-}
 
 // Stores what is left in the inbox.
 pub(crate) fn keep_left<O: Outbox, R: Wait + Clock>(
@@ -67,32 +35,6 @@ pub(crate) fn keep_left<O: Outbox, R: Wait + Clock>(
         }
     }
     unreachable!()
-}
-
-// What the collector accepts of a frame; `None` where no device sends such a frame.
-fn judge<S>(
-    scheme: &Scheme,
-    id: StationId,
-    frame: &Frame,
-    station: &mut Station<S>,
-) -> Option<Option<Arrived>>
-    ensures { HasJudged scheme.now id frame.now station.old station.new result }
-{
-    if let Some(tapped) = frame.tapped() {
-        if station.collector.accept(scheme, &tapped).is_err() {
-            return Some(None);
-        }
-        return Some(Some(Arrived::Tap(id, tapped)));
-    }
-    let statement = frame.stated()?;
-    if station
-        .collector
-        .accept_statement(scheme, &statement)
-        .is_err()
-    {
-        return Some(None);
-    }
-    Some(Some(Arrived::Stated(id, statement)))
 }
 
 // The next frame: first the one that is held.
@@ -129,7 +71,7 @@ pub(crate) fn rest<S: Source, O: Outbox, R: Wait + Clock>(
 {
     for _ in rt.forever() {
         let frame = next_frame(station)?;
-        match judge(scheme, id, &frame, station) {
+        match judge(scheme, id, &frame, &mut station.collector) {
             None => {
                 station.end.fault = Some(StationFault::Unexpected);
                 return None;

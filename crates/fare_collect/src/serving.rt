@@ -2,22 +2,21 @@
 ghost use Rattle.std.specs.Prelude.{◌≡◌, ◌<◌, ◌≤◌, [], ℕ, length, map, None};
 ghost use Rattle.fare_inbox_queue.specs.InboxPasses.{station_of, taken_list, stations_of, left_of, capacity_of, IsWriterOf, IsInboxEnded};
 ghost use Rattle.fare_collect.specs.Opening.{AreHears, AreNew};
-ghost use Rattle.fare_collect.specs.Stations.{AreTellers, HasWritten};
+ghost use Rattle.fare_writer.specs.Handling.{AreTellers, HasWritten};
 ghost use Rattle.fare_collect.specs.Resting.{AreApart, AreRead};
 ghost use Rattle.fare_collect.specs.Session.{HaveServed, AreReady, HaveGathered};
 
 use crate::ended::Ended;
 use crate::opening::{lend, take_back};
 use crate::resting::{keep_left, rest_all};
-use crate::station::{Station, Teller};
-use crate::tally::Tally;
+use crate::station::Station;
 use crate::threads::run_threads;
-use crate::writing::Halt;
 use fare_inbox_queue::{AckLine, HearPass, Inbox, InboxEnded, StationPass, WriterPass};
 use fare_scheme::Scheme;
 use fare_session::Gate;
 use fare_source::Source;
 use fare_store::Outbox;
+use fare_writer::{Halt, Tally, Teller};
 use std::sync::Wait;
 use std::thread::Threads;
 use std::time::Clock;

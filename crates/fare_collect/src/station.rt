@@ -3,7 +3,7 @@ ghost use Rattle.std.specs.Prelude.{◌≡◌, None, false};
 use crate::fault::StationFault;
 use fare_collector::Collector;
 use fare_frame::Frame;
-use fare_inbox_queue::{AckPass, HearPass, StationPass};
+use fare_inbox_queue::{HearPass, StationPass};
 
 /// A station of a session: what judges its devices' taps, and where their frames come from.
 pub struct Station<S> {
@@ -117,28 +117,5 @@ impl Seat {
             fault,
         } = self;
         (pass, hear, End { held, ended, fault })
-    }
-}
-
-// What the writer has of a station's acknowledgement line.
-pub(crate) struct Teller {
-    pub(crate) pass: AckPass,
-    // how many answers the line took
-    pub(crate) told: u64,
-}
-
-impl Teller {
-    pub(crate) fn into_pass(self) -> AckPass
-        ensures { result ≡ self.pass }
-    {
-        let Teller { pass, told: _ } = self;
-        pass
-    }
-}
-
-impl Drop for Teller {
-    fn drop(self) {
-        let Teller { pass, told: _ } = self;
-        drop(pass);
     }
 }

@@ -1,18 +1,19 @@
 //! All stations' threads, and the writer's.
 ghost use Rattle.std.specs.Prelude.{◌≡◌, ◌<◌, [], ℕ, length};
 ghost use Rattle.fare_inbox_queue.specs.InboxPasses.{taken_list, stations_of, IsWriterOf};
-ghost use Rattle.fare_collect.specs.Stations.{IsSeatedAt, AreSeated, HasRun, HaveRun, AreTellers, HasWritten};
+ghost use Rattle.fare_collect.specs.Stations.{IsSeatedAt, AreSeated, HasRun, HaveRun};
+ghost use Rattle.fare_writer.specs.Handling.{AreTellers, HasWritten};
 
 use crate::ended::Ended;
 use crate::reading::read_all;
-use crate::station::{Station, Teller};
-use crate::tally::Tally;
-use crate::writing::{Halt, write_all};
+use crate::station::Station;
+use crate::writing::write_all;
 use fare_inbox_queue::{AckLine, Inbox, WriterPass};
 use fare_scheme::Scheme;
 use fare_session::Gate;
 use fare_source::Source;
 use fare_store::Outbox;
+use fare_writer::{Halt, Tally, Teller};
 use std::sync::Wait;
 use std::thread;
 use std::thread::{Threads, join_mut};

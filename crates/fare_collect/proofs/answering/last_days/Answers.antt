@@ -7,7 +7,7 @@ use Rattle.fare_record.specs.declared.ack_item.AckItem.TheVariants.{Day}
 use Rattle.fare_store.specs.Keys.{Key}
 use Rattle.fare_store.specs.Standing.{Reads}
 use Rattle.fare_route.specs.Stating.{are_all_stated}
-use Rattle.fare_collect.proofs.Asked.{asks_of}
+use Rattle.fare_writer.proofs.Asked.{asks_of}
 use Rattle.fare_collect.specs.Ending.{AreSent}
 use Rattle.fare_collect.specs.Noting.{day_acks, AreNoted}
 use Rattle.fare_collect.proofs.Last.{have_none, have_more, have_same, have_failed, asked_failed, day_told, day_untold, days_append, stations_after}

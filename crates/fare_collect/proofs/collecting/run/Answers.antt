@@ -1,15 +1,15 @@
 use Rattle.std.proofs.Common.{◌≡◌, ℕ, Some, None, length, sym, subst, ◌∙◌, rules, List, map, drop, arith}
 use Rattle.std.specs.Prelude.{Option, Ok, Err}
 use Rattle.fare_inbox_queue.specs.InboxPasses.{capacity_of}
-use Rattle.fare_collect.specs.declared.writing.Halt.{Halt}
-use Rattle.fare_collect.specs.declared.fault.WriterFault.{WriterFault}
-use Rattle.fare_collect.specs.declared.station.Teller.{Teller}
-use Rattle.fare_collect.specs.Writing.{as_writer}
+use Rattle.fare_writer.specs.declared.halt.Halt.{Halt}
+use Rattle.fare_writer.specs.declared.fault.WriterFault.{WriterFault}
+use Rattle.fare_writer.specs.declared.teller.Teller.{Teller}
+use Rattle.fare_writer.specs.Writing.{as_writer}
 use Rattle.fare_collect.specs.Opening.{AreNew}
 use Rattle.fare_collect.specs.Ending.{AreHandedLeft, last_answers}
 use Rattle.fare_collect.specs.Session.{HaveGathered, HasSession}
 use Rattle.fare_collect.proofs.Sessioned.{halted, ended_well, last_fine, last_bad, hand_length, stations_closed, take_front}
-use Rattle.fare_collect.specs.Gathering.{item_of}
+use Rattle.fare_writer.specs.Entries.{item_of}
 use Rattle.fare_collect.specs.Noting.{AreNoted}
 use Rattle.fare_collect.proofs.Noted.{noted_all}
 use Rattle.fare_collect.proofs.collecting.run.Goals as goal

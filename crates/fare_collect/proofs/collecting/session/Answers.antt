@@ -1,7 +1,7 @@
 use Rattle.std.proofs.Common.{ℕ, Some, sym, subst}
 use Rattle.std.specs.Prelude.{Option, Ok}
-use Rattle.fare_collect.specs.declared.fault.WriterFault.{WriterFault}
-use Rattle.fare_collect.specs.declared.fault.WriterFault.TheVariants.{Memory}
+use Rattle.fare_writer.specs.declared.fault.WriterFault.{WriterFault}
+use Rattle.fare_writer.specs.declared.fault.WriterFault.TheVariants.{Memory}
 use Rattle.fare_collect.specs.Collected.{IsCollected}
 use Rattle.fare_collect.proofs.Opens.{begun_stations, opened, opened_stations, unread, no_memory}
 use Rattle.fare_collect.proofs.Collects.{ran}

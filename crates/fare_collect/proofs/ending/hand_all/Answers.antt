@@ -2,9 +2,9 @@ use Rattle.std.proofs.Common.{◌≡◌, ◌∷◌, ◌++◌, [], List, length, 
 use Rattle.std.proofs.lemmas.Grind.{common_steps}
 use Rattle.fare_inbox_queue.specs.declared.ack_line.AckLine.{AckLine}
 use Rattle.fare_inbox_queue.specs.declared.ack_passes.HearPass.{HearPass}
-use Rattle.fare_collect.specs.declared.station.Teller.{Teller}
+use Rattle.fare_writer.specs.declared.teller.Teller.{Teller}
 use Rattle.fare_collect.specs.Opening.{AreHears}
-use Rattle.fare_collect.specs.Stations.{AreTellers}
+use Rattle.fare_writer.specs.Handling.{AreTellers}
 use Rattle.fare_collect.proofs.Served.{last_line}
 use Rattle.fare_collect.proofs.Handed.{handing_none, handing_more}
 use Rattle.fare_collect.proofs.ending.hand_all.Goals as goal

@@ -1,6 +1,6 @@
 use Rattle.std.proofs.Common.{length}
 use Rattle.fare_collect.specs.Opening.{AreHears}
-use Rattle.fare_collect.specs.Stations.{AreTellers}
+use Rattle.fare_writer.specs.Handling.{AreTellers}
 use Rattle.fare_collect.specs.Ending.{AreBeingHanded}
 use Rattle.fare_collect.proofs.ending.hand_all.Given as goal
 

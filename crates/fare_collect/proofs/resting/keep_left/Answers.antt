@@ -1,7 +1,7 @@
 use Rattle.std.proofs.Common.{◌∷◌, [], Some, None, subst}
 use Rattle.std.specs.Prelude.{Option}
-use Rattle.fare_collect.specs.declared.writing.Halt.{Halt}
-use Rattle.fare_collect.specs.Resting.{HasKept}
+use Rattle.fare_writer.specs.declared.halt.Halt.{Halt}
+use Rattle.fare_writer.specs.Keeping.{HasKept}
 use Rattle.fare_collect.proofs.Rested.{keeping_none, keeping_more, keeping_halt}
 use Rattle.fare_collect.proofs.resting.keep_left.Goals as goal
 

@@ -1,7 +1,7 @@
 use Rattle.std.proofs.Common.{◌≡◌, Some, None, ap, subst, ◌∙◌, slice_index_or, arith, ℕ, ◌+◌, length}
 use Rattle.std.specs.Prelude.{Option}
 use Rattle.std.proofs.lemmas.List.{get_or_default}
-use Rattle.fare_collect.specs.declared.writing.Halt.{Halt}
+use Rattle.fare_writer.specs.declared.halt.Halt.{Halt}
 use Rattle.fare_collect.specs.declared.station.Station.{Station}
 use Rattle.fare_collect.specs.Resting.{HasRested}
 use Rattle.fare_collect.proofs.RestedAll.{have_none, have_more, have_all, have_halted}

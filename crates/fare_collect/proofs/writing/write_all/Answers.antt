@@ -2,9 +2,9 @@ use Rattle.std.proofs.Common.{◌≡◌, ◌∷◌, ◌++◌, [], Some, None, Li
 use Rattle.std.specs.Prelude.{Option}
 use Rattle.fare_inbox_queue.specs.declared.arrived.Arrived.{Arrived}
 use Rattle.fare_inbox_queue.specs.InboxPasses.{taken_list}
-use Rattle.fare_collect.specs.declared.writing.Halt.{Halt}
-use Rattle.fare_collect.specs.Stations.{HasWritten}
-use Rattle.fare_collect.proofs.Told.{written_none, written_then}
+use Rattle.fare_writer.specs.declared.halt.Halt.{Halt}
+use Rattle.fare_writer.specs.Handling.{HasWritten}
+use Rattle.fare_collect.proofs.Written.{written_none, written_then}
 use Rattle.fare_collect.proofs.writing.write_all.Goals as goal
 
 pub loop-init : goal.loop-init

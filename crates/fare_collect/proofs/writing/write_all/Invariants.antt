@@ -1,6 +1,6 @@
 use Rattle.std.proofs.Common.{◌≡◌, None}
 use Rattle.fare_inbox_queue.specs.InboxPasses.{taken_list, stations_of, IsWriterOf}
-use Rattle.fare_collect.specs.Stations.{AreTellers, HasWritten}
+use Rattle.fare_writer.specs.Handling.{AreTellers, HasWritten}
 use Rattle.fare_collect.proofs.writing.write_all.Given as goal
 
 abbrev pub invariant-loop : goal.invariant-loop

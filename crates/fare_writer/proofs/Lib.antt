@@ -1,0 +1,5 @@
+pub mod Asked
+pub mod Puttings
+pub mod Wrote
+pub mod Told
+pub mod Handled

@@ -1,0 +1,11 @@
+use crate::fault::WriterFault;
+use fare_inbox_queue::Arrived;
+
+/// How the writer ended.
+#[derive(Clone, Copy)]
+pub struct Halt {
+    /// The item that it had in its hand.
+    pub hand: Option<Arrived>,
+    /// What ended it.
+    pub fault: WriterFault,
+}

@@ -1,0 +1,43 @@
+ghost use Rattle.std.specs.Prelude.{◌∷◌, []};
+ghost use Rattle.fare_writer.specs.Keeping.{HasKept};
+
+use crate::fault::WriterFault;
+use crate::halt::Halt;
+use crate::storing::put_item;
+use crate::tally::Tally;
+use fare_inbox_queue::Arrived;
+use fare_scheme::Scheme;
+use fare_store::Outbox;
+
+/// Stores an item, and tells no line.
+///
+/// What it returns ended the writer, with the item in its hand: `Memory` where none is left to note a statement's day,
+/// before the outbox is called, or for the outbox itself, `Refused` where the outbox refuses the item, and `Store` where
+/// it fails.
+pub fn keep<O: Outbox>(
+    scheme: &Scheme,
+    item: Arrived,
+    tally: &mut Tally,
+    outbox: &mut O,
+) -> Option<Halt>
+    ensures { HasKept scheme.now (O.standing outbox.old) (O.standing outbox.new) (item ∷ []) tally.old tally.new result }
+{
+    if tally.note(scheme, &item).is_err() {
+        return Some(Halt {
+            hand: Some(item),
+            fault: WriterFault::Memory,
+        });
+    }
+    match put_item(outbox, &item) {
+        Ok(new) => {
+            if new {
+                tally.count();
+            }
+            None
+        }
+        Err(fault) => Some(Halt {
+            hand: Some(item),
+            fault,
+        }),
+    }
+}
