@@ -78,8 +78,8 @@ impl<L: Ledger + Drop> Owner<L> {
 
     /// The outbox loses the rows of an owner's lane of a device that the ledger has taken, and the answer is how many.
     ///
-    /// `Memory` where there was none, and `Store` where the ledger or the outbox failed: the outbox is asked only
-    /// where the ledger told how many taps it has taken, and then loses nothing. Nothing else of the side changes.
+    /// `Memory` where there was none, and `Store` where the ledger or the outbox failed; then the outbox has lost
+    /// nothing. It is asked only where the ledger told how many taps it has taken. All else of the side stays.
     pub fn prune<O: Outbox>(
         &mut self,
         outbox: &mut O,
