@@ -21,6 +21,7 @@ use Rattle.fare_writer.specs.declared.tally.Tally.{Tally}
 use Rattle.fare_writer.specs.declared.fault.WriterFault.TheVariants.{Refused}
 use Rattle.fare_writer.specs.declared.teller.Teller.{Teller}
 use Rattle.fare_writer.specs.Noting.{noting}
+use Rattle.fare_writer.specs.Counting.{most, Rises, Counts}
 use Rattle.fare_writer.specs.Entries.{item_of, is_new, done_by, storing, IsAnswerTo}
 use Rattle.fare_route.specs.Stating.{are_all_stated}
 use Rattle.fare_writer.specs.Writing.{Asks, Puts, as_writer, store_fault, Wrote}
@@ -57,17 +58,6 @@ tellers_set lines tellers place v l0 ready within is ack = record {
     length_set (x ∷ xs) (suc k) v = ap suc (length_set xs k v)
 
 -- COUNTS
-abbrev pub most : ℕ
-most = 18446744073709551615
-
--- the counter rises with an item that was stored
-abbrev pub Rises : ℕ → ℕ → Bool → Type 0
-Rises n0 n1 new = ((new ≡ true) × (n1 ≡ min (n0 + 1) most)) ⊎ ((new ≡ false) × (n1 ≡ n0))
-
--- and the item's day is noted
-abbrev pub Counts : SchemeValue → Arrived → Tally → Tally → Bool → Type 0
-Counts sc a n0 n1 new = Rises n0.stored n1.stored new × (n1.days.keys ≡ noting sc n0.days.keys (item_of a))
-
 pub when_noted : {E : Type 0} (r : Result Unit E) (P : Type 0) → is_err r ≡ false → IfOk r (λ _. P) → P
 when_noted (Ok u) P e p = p
 when_noted (Err f) P e p = absurd (cc)

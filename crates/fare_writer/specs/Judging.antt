@@ -18,4 +18,5 @@ pub record HasJudged (sc : SchemeValue) (id : ℕ) (frame : Frame) (old new : Co
   pub arrived : arrived_of sc id (next_in old) frame ≡ items_in result
   pub next : next_in new ≡ next_links sc (next_in old) frame
   pub unexpected : result ≡ None → IsUnexpected frame
+  pub expected : IsUnexpected frame → result ≡ None
   pub named : new.station ≡ old.station

@@ -1,6 +1,7 @@
 pub mod Arriving
 pub mod Entries
 pub mod Noting
+pub mod Counting
 pub mod Writing
 pub mod Handling
 pub mod Keeping

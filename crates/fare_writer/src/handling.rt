@@ -2,9 +2,8 @@ ghost use Rattle.std.specs.Prelude.{◌∷◌, []};
 ghost use Rattle.fare_inbox_queue.specs.Line.{IsUpTo};
 ghost use Rattle.fare_writer.specs.Handling.{AreTellers, HasTold, HasWritten};
 
-use crate::fault::WriterFault;
 use crate::halt::Halt;
-use crate::storing::{put_item, writer_fault};
+use crate::storing::{store, writer_fault};
 use crate::tally::Tally;
 use crate::teller::Teller;
 use fare_inbox_queue::{AckLine, Arrived};
@@ -68,23 +67,11 @@ pub fn handle<O: Outbox, G: Gate, R: Wait + Clock>(
     ensures ready { AreTellers lines.now tellers.new }
     ensures written { HasWritten scheme.now (O.standing outbox.old) (O.standing outbox.new) (item ∷ []) tellers.old tellers.new tally.old tally.new result }
 {
-    if tally.note(scheme, &item).is_err() {
-        return Some(Halt {
-            hand: Some(item),
-            fault: WriterFault::Memory,
-        });
-    }
-    let new = match put_item(outbox, &item) {
+    let new = match store(scheme, &item, tally, outbox) {
         Ok(new) => new,
-        Err(fault) => {
-            return Some(Halt {
-                hand: Some(item),
-                fault,
-            });
-        }
+        Err(halt) => return Some(halt),
     };
     if new {
-        tally.count();
         gate.pass(Point::WriterStored);
     }
     match item {

@@ -1,9 +1,8 @@
 ghost use Rattle.std.specs.Prelude.{◌∷◌, []};
 ghost use Rattle.fare_writer.specs.Keeping.{HasKept};
 
-use crate::fault::WriterFault;
 use crate::halt::Halt;
-use crate::storing::put_item;
+use crate::storing::store;
 use crate::tally::Tally;
 use fare_inbox_queue::Arrived;
 use fare_scheme::Scheme;
@@ -22,22 +21,8 @@ pub fn keep<O: Outbox>(
 ) -> Option<Halt>
     ensures { HasKept scheme.now (O.standing outbox.old) (O.standing outbox.new) (item ∷ []) tally.old tally.new result }
 {
-    if tally.note(scheme, &item).is_err() {
-        return Some(Halt {
-            hand: Some(item),
-            fault: WriterFault::Memory,
-        });
-    }
-    match put_item(outbox, &item) {
-        Ok(new) => {
-            if new {
-                tally.count();
-            }
-            None
-        }
-        Err(fault) => Some(Halt {
-            hand: Some(item),
-            fault,
-        }),
+    match store(scheme, &item, tally, outbox) {
+        Ok(_) => None,
+        Err(halt) => Some(halt),
     }
 }

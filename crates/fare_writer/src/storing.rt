@@ -1,10 +1,15 @@
-ghost use Rattle.std.specs.Prelude.{◌≡◌};
+ghost use Rattle.std.specs.Prelude.{◌≡◌, ◌∷◌, [], Ok, Some, IfOk, IfErr};
+ghost use Rattle.fare_writer.specs.Counting.{Counts};
+ghost use Rattle.fare_writer.specs.Keeping.{HasKept};
 ghost use Rattle.fare_writer.specs.Writing.{Puts, as_writer};
 ghost use Rattle.fare_inbox_queue.specs.declared.arrived.Arrived.TheVariants.{Tap, Stated};
 
 use crate::fault::WriterFault;
+use crate::halt::Halt;
+use crate::tally::Tally;
 use fare_inbox_queue::Arrived;
 use fare_record::{Record, Statement};
+use fare_scheme::Scheme;
 use fare_store::{Fault, Outbox, Refused, StatedFault, StoreFault};
 
 /// The writer's fault of a store's.
@@ -17,8 +22,38 @@ pub fn writer_fault(fault: Fault) -> WriterFault
     }
 }
 
+// Notes a statement's day, stores an item, and counts it if it is new: whether it is. A fault has the item in its hand.
+pub(crate) fn store<O: Outbox>(
+    scheme: &Scheme,
+    item: &Arrived,
+    tally: &mut Tally,
+    outbox: &mut O,
+) -> Result<bool, Halt>
+    ensures stored { IfOk result (λ new. Puts (O.standing outbox.old) (O.standing outbox.new) item.now (Ok new) × Counts scheme.now item.now tally.old tally.new new) }
+    ensures halted { IfErr result (λ halt. HasKept scheme.now (O.standing outbox.old) (O.standing outbox.new) (item.now ∷ []) tally.old tally.new (Some halt)) }
+{
+    if tally.note(scheme, item).is_err() {
+        return Err(Halt {
+            hand: Some(*item),
+            fault: WriterFault::Memory,
+        });
+    }
+    match put_item(outbox, item) {
+        Ok(new) => {
+            if new {
+                tally.count();
+            }
+            Ok(new)
+        }
+        Err(fault) => Err(Halt {
+            hand: Some(*item),
+            fault,
+        }),
+    }
+}
+
 // Stores an item: whether it was stored, and not before.
-pub(crate) fn put_item<O: Outbox>(outbox: &mut O, item: &Arrived) -> Result<bool, WriterFault>
+fn put_item<O: Outbox>(outbox: &mut O, item: &Arrived) -> Result<bool, WriterFault>
     ensures { Puts (O.standing outbox.old) (O.standing outbox.new) item.now result }
 {
     match item {

@@ -11,31 +11,29 @@ use Rattle.fare_route.specs.Stating.{are_all_stated}
 use Rattle.fare_writer.proofs.Asked.{asks_of}
 use Rattle.fare_writer.specs.Writing.{Puts}
 use Rattle.fare_writer.specs.Handling.{HasWritten}
-use Rattle.fare_writer.proofs.Told.{written_halt, written_full}
-use Rattle.fare_writer.proofs.Handled.{Counts, when_noted, counted_new, counted_old, written_tap, written_untold, written_held, written_unheld, written_failed}
-use Rattle.fare_writer.proofs.handling.handle.Goals.{then-new, else-new, then-new-2, else-new-2, then-held, else-held}
+use Rattle.fare_writer.specs.Counting.{Counts}
+use Rattle.fare_writer.proofs.Handled.{written_tap, written_untold, written_held, written_unheld, written_failed}
+use Rattle.fare_writer.proofs.handling.handle.Goals.{then-new-2, else-new-2, then-held, else-held}
 use Rattle.fare_writer.proofs.handling.handle.Goals as goal
 
 pub returns-in-Err-clause-written : goal.returns-in-Err-clause-written
-returns-in-Err-clause-written g c =
-    written_halt c.args.scheme.now (g.O.Outbox.standing c.args.outbox.now) (g.O.Outbox.standing c.put_item.new.outbox) c.args.item c.args.tellers.now c.args.tally.now c.note.new.self c.in-Err.fault c.note.ensures.stored
-    (g.met.O.Outbox.sound c.args.outbox.now) c.in-Err.ensures
+returns-in-Err-clause-written g c = c.in-Err.ensures.halted.each c.args.tellers.now
 
 pub returns-after-new-2-clause-written : goal.returns-after-new-2-clause-written
 returns-after-new-2-clause-written g c =
     let sc = c.args.scheme.now in
     let a = g.O.Outbox.standing c.args.outbox.now in
-    let b = g.O.Outbox.standing c.put_item.new.outbox in
+    let b = g.O.Outbox.standing c.store.new.outbox in
     let n0 = c.args.tally.now in
-    let n1 = c.if-new.tally in
+    let n1 = c.store.new.tally in
     let t = c.args.tellers.now in
     let new = c.in-Ok.new in
     let station = c.in-Tap.station in
     let row = c.in-Tap.row in
-    let sound = g.met.O.Outbox.sound c.put_item.new.outbox in
-    let step : Counts sc c.args.item n0 n1 new = elim c.if-new.branch [ then-new w ↦ counted_new sc c.args.item n0 c.note.new.self w.count.new.self n1 new (when_noted c.note.result _ (sym c.is_err.ensures.value ∙ c.if-is_err.false) c.note.ensures.ok) c.note.ensures.stored w.if-new.true w.count.ensures.stored w.count.ensures.days w.tally-is | else-new w ↦ counted_old sc c.args.item n0 c.note.new.self n1 new (when_noted c.note.result _ (sym c.is_err.ensures.value ∙ c.if-is_err.false) c.note.ensures.ok) c.note.ensures.stored w.if-new.false w.tally-is ] in
+    let sound = g.met.O.Outbox.sound c.store.new.outbox in
+    let step : Counts sc c.args.item n0 n1 new = c.in-Ok.ensures.stored.1 in
     let counts : Counts sc (Tap station row) n0 n1 new = subst (λ (i : Arrived). Counts sc i n0 n1 new) c.in-Tap.is step in
-    let puts : Puts a b (Tap station row) (Ok new) = subst (λ (i : Arrived). Puts a b i (Ok new)) c.in-Tap.is c.in-Ok.ensures in
+    let puts : Puts a b (Tap station row) (Ok new) = subst (λ (i : Arrived). Puts a b i (Ok new)) c.in-Tap.is c.in-Ok.ensures.stored.0 in
     subst (λ (i : Arrived). HasWritten sc a b (i ∷ []) t c.if-new-2.tellers n0 n1 None) (sym c.in-Tap.is)
     (elim c.if-new-2.branch [
       | then-new-2 w ↦
@@ -52,37 +50,37 @@ pub returns-in-Err-are_stated-clause-written : goal.returns-in-Err-are_stated-cl
 returns-in-Err-are_stated-clause-written g c =
     let sc = c.args.scheme.now in
     let a = g.O.Outbox.standing c.args.outbox.now in
-    let b = g.O.Outbox.standing c.put_item.new.outbox in
+    let b = g.O.Outbox.standing c.store.new.outbox in
     let d = g.O.Outbox.standing c.are_stated.new.outbox in
     let n0 = c.args.tally.now in
-    let n1 = c.if-new.tally in
+    let n1 = c.store.new.tally in
     let t = c.args.tellers.now in
     let new = c.in-Ok.new in
     let s = c.in-Stated.statement in
-    let sound = g.met.O.Outbox.sound c.put_item.new.outbox in
-    let step : Counts sc c.args.item n0 n1 new = elim c.if-new.branch [ then-new w ↦ counted_new sc c.args.item n0 c.note.new.self w.count.new.self n1 new (when_noted c.note.result _ (sym c.is_err.ensures.value ∙ c.if-is_err.false) c.note.ensures.ok) c.note.ensures.stored w.if-new.true w.count.ensures.stored w.count.ensures.days w.tally-is | else-new w ↦ counted_old sc c.args.item n0 c.note.new.self n1 new (when_noted c.note.result _ (sym c.is_err.ensures.value ∙ c.if-is_err.false) c.note.ensures.ok) c.note.ensures.stored w.if-new.false w.tally-is ] in
+    let sound = g.met.O.Outbox.sound c.store.new.outbox in
+    let step : Counts sc c.args.item n0 n1 new = c.in-Ok.ensures.stored.1 in
     let reads = asks_of b d (λ held. held ≡ are_all_stated sc b.value s.device s.day) (Err c.in-Err-are_stated.fault)
     (subst (λ (x : ℕ × ℕ). Reads b d (λ held. held ≡ are_all_stated sc b.value x.0 x.1) (Err c.in-Err-are_stated.fault)) (λ i. (c.device-device.ensures i, c.day-day.ensures i)) c.in-Err-are_stated.ensures) in
     subst (λ (f : WriterFault). HasWritten sc a d (c.args.item ∷ []) t t n0 n1 (Some (record { hand = None; fault = f }))) (sym c.writer_fault.ensures)
-    (written_failed sc a b d c.args.item s new c.in-Err-are_stated.fault t n0 n1 sound c.in-Ok.ensures reads step)
+    (written_failed sc a b d c.args.item s new c.in-Err-are_stated.fault t n0 n1 sound c.in-Ok.ensures.stored.0 reads step)
 
 pub returns-after-held-clause-written : goal.returns-after-held-clause-written
 returns-after-held-clause-written g c =
     let sc = c.args.scheme.now in
     let a = g.O.Outbox.standing c.args.outbox.now in
-    let b = g.O.Outbox.standing c.put_item.new.outbox in
+    let b = g.O.Outbox.standing c.store.new.outbox in
     let d = g.O.Outbox.standing c.are_stated.new.outbox in
     let n0 = c.args.tally.now in
-    let n1 = c.if-new.tally in
+    let n1 = c.store.new.tally in
     let t = c.args.tellers.now in
     let new = c.in-Ok.new in
     let station = c.in-Stated.station in
     let s = c.in-Stated.statement in
     let held = c.in-Ok-are_stated.held in
-    let sound = g.met.O.Outbox.sound c.put_item.new.outbox in
-    let step : Counts sc c.args.item n0 n1 new = elim c.if-new.branch [ then-new w ↦ counted_new sc c.args.item n0 c.note.new.self w.count.new.self n1 new (when_noted c.note.result _ (sym c.is_err.ensures.value ∙ c.if-is_err.false) c.note.ensures.ok) c.note.ensures.stored w.if-new.true w.count.ensures.stored w.count.ensures.days w.tally-is | else-new w ↦ counted_old sc c.args.item n0 c.note.new.self n1 new (when_noted c.note.result _ (sym c.is_err.ensures.value ∙ c.if-is_err.false) c.note.ensures.ok) c.note.ensures.stored w.if-new.false w.tally-is ] in
+    let sound = g.met.O.Outbox.sound c.store.new.outbox in
+    let step : Counts sc c.args.item n0 n1 new = c.in-Ok.ensures.stored.1 in
     let counts : Counts sc (Stated station s) n0 n1 new = subst (λ (i : Arrived). Counts sc i n0 n1 new) c.in-Stated.is step in
-    let puts : Puts a b (Stated station s) (Ok new) = subst (λ (i : Arrived). Puts a b i (Ok new)) c.in-Stated.is c.in-Ok.ensures in
+    let puts : Puts a b (Stated station s) (Ok new) = subst (λ (i : Arrived). Puts a b i (Ok new)) c.in-Stated.is c.in-Ok.ensures.stored.0 in
     let reads = asks_of b d (λ all. all ≡ are_all_stated sc b.value s.device s.day) (Ok held)
     (subst (λ (x : ℕ × ℕ). Reads b d (λ all. all ≡ are_all_stated sc b.value x.0 x.1) (Ok held)) (λ i. (c.device-device.ensures i, c.day-day.ensures i)) c.in-Ok-are_stated.ensures) in
     subst (λ (i : Arrived). HasWritten sc a d (i ∷ []) t c.if-held.tellers n0 n1 None) (sym c.in-Stated.is)
@@ -96,6 +94,3 @@ returns-after-held-clause-written g c =
           subst (λ (u : List Teller). HasWritten sc a d (Stated station s ∷ []) t u n0 n1 None) (sym w.tellers-is)
           (written_unheld sc a b d (Stated station s) s new held t n0 n1 sound puts reads counts)
     ])
-
-pub returns-then-is_err-clause-written : goal.returns-then-is_err-clause-written
-returns-then-is_err-clause-written g c = written_full c.args.scheme.now (g.O.Outbox.standing c.args.outbox.now) c.args.item c.args.tellers.now c.args.tally.now c.note.new.self c.note.ensures.stored (g.met.O.Outbox.sound c.args.outbox.now)
