@@ -1,4 +1,9 @@
 //! A hub of one owner, a session of its stations and then one of the owner, and what is to be seen of the two.
+ghost use Rattle.std.specs.Prelude.{◌≡◌, ◌∷◌, [], None, false, slice_get, IfSome};
+ghost use Rattle.fare_agreement.specs.Totals.{had_by};
+ghost use Rattle.fare_sessions.specs.Promises.{IsAdded};
+ghost use Rattle.fare_sessions.specs.Stores.{AreLive, AreSound, held_by_all};
+
 use crate::scripts::{Script, sources_of};
 use fare_collect::stations_of;
 use fare_record::OwnerId;
@@ -12,8 +17,8 @@ use std::sync::Wait;
 use std::thread::Threads;
 use std::time::Clock;
 
-/// A gate that holds nothing.
-pub struct Open;
+// A gate that holds nothing.
+pub(crate) struct Open;
 
 impl Gate for Open {
     fn pass(&self, _point: Point) {}
@@ -37,8 +42,10 @@ pub struct Seen {
     pub gave_up: bool,
 }
 
-/// What is to be seen in a report.
-pub fn seen_in(report: &SessionsReport) -> Seen {
+// What is to be seen in a report.
+pub(crate) fn seen_in(report: &SessionsReport) -> Seen
+    ensures { result ≡ record { stored = report.now.stored; taken = report.now.taken; left = report.now.left; faults = slice_get report.now.faults.items 0 ∷ slice_get report.now.faults.items 1 ∷ slice_get report.now.faults.items 2 ∷ []; gave_up = report.now.gave_up } }
+{
     let faults = &report.faults;
     Seen {
         stored: report.stored,
@@ -54,7 +61,9 @@ pub fn seen_in(report: &SessionsReport) -> Seen {
 }
 
 /// So many items were stored and taken, and nothing else.
-pub fn whole(stored: u64, taken: u64) -> Seen {
+pub fn whole(stored: u64, taken: u64) -> Seen
+    ensures { result ≡ record { stored = stored; taken = taken; left = 0; faults = None ∷ None ∷ None ∷ []; gave_up = false } }
+{
     Seen {
         stored,
         taken,
@@ -80,7 +89,11 @@ pub fn collected_and_served<O: Outbox + Send, L: Ledger + Send, R: Threads + Wai
     hub: &mut Hub<O, L>,
     sources: Vec<Script>,
     limit: u32,
-) -> Option<(Seen, Vec<Script>)> {
+) -> Option<(Seen, Vec<Script>)>
+    ensures scheme { hub.new.scheme ≡ hub.old.scheme }
+    ensures stored { AreLive O.standing L.standing hub.new → AreSound O.standing L.standing hub.old → IfSome result (λ came. IsAdded (had_by hub.old.scheme (O.standing hub.old.outbox).value) (had_by hub.old.scheme (O.standing hub.new.outbox).value) came.0.stored) }
+    ensures taken { AreLive O.standing L.standing hub.new → AreSound O.standing L.standing hub.old → IfSome result (λ came. IsAdded (held_by_all L.standing hub.old.scheme hub.old.ledgers.items) (held_by_all L.standing hub.old.scheme hub.new.ledgers.items) came.0.taken) }
+{
     let owner = OwnerId::new(1)?;
     hub.scheme.owner_position(owner)?;
     let stations = stations_of(alloc, &hub.scheme, sources).ok()?;
@@ -103,7 +116,10 @@ pub fn hub_of<O: Drop, L: Drop>(
     scheme: Scheme,
     outbox: O,
     ledger: L,
-) -> Option<Hub<O, L>> {
+) -> Option<Hub<O, L>>
+    ensures scheme { IfSome result (λ hub. hub.scheme ≡ scheme) }
+    ensures stores { IfSome result (λ hub. (hub.outbox ≡ outbox) × (hub.ledgers.items ≡ ledger ∷ [])) }
+{
     let mut ledgers = Vec::new(alloc);
     ledgers.push(ledger).ok()?;
     Some(Hub {

@@ -1,6 +1,5 @@
 //! The tests of sessions on threads: an owner's, the stations', and lists of both on a hub. The sources of written-down
-//! frames and the hubs of one owner, over any stores, are also what the tests of stores that stop begin with. It promises
-//! nothing else.
+//! frames and the hubs of one owner, over any stores, are also what the tests of stores that stop begin with.
 #![tactic(auto)]
 
 #[cfg(test)]
@@ -18,5 +17,5 @@ mod shifts;
 #[cfg(test)]
 mod stations;
 
-pub use hubs::{Open, Placed, Seen, collected_and_served, hub_of, seen_in, whole};
-pub use scripts::{Script, narrow, scripts_of, source_of, sources_of, tapped};
+pub use hubs::{Placed, Seen, collected_and_served, hub_of, whole};
+pub use scripts::{Script, narrow, scripts_of};

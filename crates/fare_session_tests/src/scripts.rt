@@ -1,5 +1,7 @@
 //! Sources of frames that are written down, and schemes for them, for the tests of sessions.
-ghost use Rattle.std.specs.Prelude.{◌≡◌, ◌≤◌, ◌+◌, ◌++◌, ◌∷◌, [], vec_len, vec_capacity};
+ghost use Rattle.std.specs.Prelude.{◌≡◌, ◌≤◌, ◌+◌, ◌++◌, ◌∷◌, [], vec_len, vec_capacity, IfSome};
+ghost use Rattle.fare_scheme.specs.Demo.{demo_scheme};
+ghost use Rattle.fare_session_tests.specs.Sources.{tap_frame, IsSourceOf, AreSourcesOf};
 
 use fare_collect::Station;
 use fare_frame::Frame;
@@ -77,9 +79,10 @@ impl Source for Script {
     }
 }
 
+#[cfg(test)]
 impl Script {
-    /// The frame that it was answered last, and the one before.
-    pub fn last_two(&self) -> (Option<Frame>, Option<Frame>) {
+    // The frame that it was answered last, and the one before.
+    pub(crate) fn last_two(&self) -> (Option<Frame>, Option<Frame>) {
         let count = self.answered.len();
         let before = count
             .checked_sub(2)
@@ -88,8 +91,10 @@ impl Script {
     }
 }
 
-/// A tap of a device with this link, and with the lane number that is like it.
-pub fn tapped(device: u64, link: u64) -> Option<Frame> {
+// A tap of a device with this link, and with the lane number that is like it.
+pub(crate) fn tapped(device: u64, link: u64) -> Option<Frame>
+    ensures { IfSome result (λ frame. frame ≡ tap_frame device link) }
+{
     let tap = record(Numbers {
         device,
         link,
@@ -99,8 +104,10 @@ pub fn tapped(device: u64, link: u64) -> Option<Frame> {
     Some(Frame::Tapped(tap))
 }
 
-/// A source of a device's taps with these links.
-pub fn source_of(alloc: Global, device: u64, links: &[u64]) -> Option<Script> {
+// A source of a device's taps with these links.
+pub(crate) fn source_of(alloc: Global, device: u64, links: &[u64]) -> Option<Script>
+    ensures { IfSome result (λ source. IsSourceOf device links.now source) }
+{
     let mut frames = Vec::new(alloc);
     for link in links {
         frames.insert(0, tapped(device, *link)?).ok()?;
@@ -117,16 +124,19 @@ pub fn source_of(alloc: Global, device: u64, links: &[u64]) -> Option<Script> {
 }
 
 /// A source for each of the devices up to a number, of its taps with these links.
-pub fn scripts_of(alloc: Global, devices: u64, links: &[u64]) -> Option<Vec<Script>> {
+#[tactic(auto, using(crate::proofs::Sources::one_more))]
+pub fn scripts_of(alloc: Global, devices: u64, links: &[u64]) -> Option<Vec<Script>>
+    ensures { IfSome result (λ sources. AreSourcesOf devices links.now sources.items) }
+{
     let mut sources = Vec::new(alloc);
-    for device in 1..=devices {
-        sources.push(source_of(alloc, device, links)?).ok()?;
+    for place in 0..devices {
+        sources.push(source_of(alloc, place + 1, links)?).ok()?;
     }
     Some(sources)
 }
 
-/// The stations' sources, in their order.
-pub fn sources_of(alloc: Global, stations: Vec<Station<Script>>) -> Option<Vec<Script>> {
+// The stations' sources, in their order.
+pub(crate) fn sources_of(alloc: Global, stations: Vec<Station<Script>>) -> Option<Vec<Script>> {
     let mut stations = stations;
     let mut sources = Vec::new(alloc);
     for _ in 0..16 {
@@ -140,6 +150,8 @@ pub fn sources_of(alloc: Global, stations: Vec<Station<Script>>) -> Option<Vec<S
 }
 
 /// The demonstration scheme of two devices, with an inbox of one item.
-pub fn narrow(alloc: Global) -> Option<Scheme> {
+pub fn narrow(alloc: Global) -> Option<Scheme>
+    ensures { IfSome result (λ scheme. scheme ≡ demo_scheme DemoSize.TwoDevices 4 1 4 scheme.zone) }
+{
     Scheme::demo(alloc, DemoSize::TwoDevices, 4, 1, 4).ok()
 }
