@@ -1,6 +1,7 @@
 //! Sources of frames that are written down, and schemes for them, for the tests of sessions.
 ghost use Rattle.std.specs.Prelude.{◌≡◌, ◌≤◌, ◌+◌, ◌++◌, ◌∷◌, [], vec_len, vec_capacity, IfSome};
-ghost use Rattle.fare_scheme.specs.Demo.{demo_scheme};
+ghost use Rattle.fare_day.specs.Clock.{HasRule};
+ghost use Rattle.fare_scheme.specs.Demo.{demo_rule, demo_scheme};
 ghost use Rattle.fare_session_tests.specs.Sources.{tap_frame, IsSourceOf, AreSourcesOf};
 
 use fare_collect::Station;
@@ -151,7 +152,8 @@ pub(crate) fn sources_of(alloc: Global, stations: Vec<Station<Script>>) -> Optio
 
 /// The demonstration scheme of two devices, with an inbox of one item.
 pub fn narrow(alloc: Global) -> Option<Scheme>
-    ensures { IfSome result (λ scheme. scheme ≡ demo_scheme DemoSize.TwoDevices 4 1 4 scheme.zone) }
+    ensures scheme { IfSome result (λ scheme. scheme ≡ demo_scheme DemoSize.TwoDevices 4 1 4 scheme.zone) }
+    ensures zone { IfSome result (λ scheme. HasRule scheme.zone demo_rule) }
 {
     Scheme::demo(alloc, DemoSize::TwoDevices, 4, 1, 4).ok()
 }
