@@ -91,7 +91,7 @@ module _ (sc : SchemeValue) (s : System) (system : IsSystem sc s) (x : OutboxVal
 
       -- what was taken, the outbox has had
       within : took ≤ length (arrived_of o (s.devices d))
-      within = omega (arith, Runs-le took (s.lanes o d).forward (lane_numbers d (pending (s.owners o))) lane.run, lane.forward)
+      within = omega (arith, lane.took, lane.forward)
 
 pub system_agrees : (sc : SchemeValue) (s : System) (h : StoresValue) → IsSystem sc s → ShowsStores sc s h → Agrees sc (numbered_by_devices s) h
 system_agrees sc s h system shown = record {
@@ -117,11 +117,13 @@ session_of_lists : (sc : SchemeValue) (s : System) → IsSystem sc s → (h : St
 session_of_lists sc s system h (sent.Collects g) is = (subst (AllByRecursion (IsOf (numbered_by_devices s))) (told_append g.entries (hand_given g.hand ++ g.inbox) ∙ ap (λ l. items_of (told_entries g.entries) ++ l) (told_rest g.hand g.inbox)) (items_of_lists sc s system (sent_by g) is.0), is.1)
 session_of_lists sc s system h (sent.Serves_owner o v) is = is
 session_of_lists sc s system h (sent.Closes_day o d day) is = (is.0, is.2)
+session_of_lists sc s system h (sent.Retires_lane o d) is = (is.0, is.2)
 
 same_after : (h : StoresValue) (q : sent.Session) → stores_after h (told_session q) ≡ sent.stores_after h q
 same_after h (sent.Collects g) = refl
 same_after h (sent.Serves_owner o v) = refl
 same_after h (sent.Closes_day o d day) = refl
+same_after h (sent.Retires_lane o d) = refl
 
 pub sessions_of_lists : (sc : SchemeValue) (s : System) → IsSystem sc s → (h : StoresValue) (qs : List sent.Session) → sent.AreSessions sc s h qs → AreSessionsOf sc (numbered_by_devices s) h (told_sessions qs)
 sessions_of_lists sc s system h [] is = tt

@@ -8,16 +8,16 @@ use Rattle.fare_scheme.specs.Values.{SchemeValue}
 use Rattle.fare_store.specs.Standing.{Standing}
 use Rattle.fare_store.specs.Tables.{put}
 use Rattle.fare_store.specs.OutboxWords.{OutboxValue, pruned}
-use Rattle.fare_store.specs.LedgerWords.{LedgerValue, with_close}
+use Rattle.fare_store.specs.LedgerWords.{LedgerValue, with_close, with_retired}
 use Rattle.fare_world.specs.Knowing.{knows_owner}
 use Rattle.fare_history.specs.Serving.{given_all, pruned_to_all, Service, IsService, committed}
 use Rattle.fare_history.specs.Gathering.{Gathering, accepted_by, storing_all, hand_stored, IsGathering}
 use Rattle.fare_history.specs.Holding.{MayHold, Leads}
-use Rattle.fare_history.specs.Stores.{StoresValue, MayClose, Session, Collects, Serves_owner, Closes_day, stores_after}
+use Rattle.fare_history.specs.Stores.{StoresValue, MayClose, MayRetire, Session, Collects, Serves_owner, Closes_day, Retires_lane, stores_after}
 use Rattle.fare_store.proofs.Entries.{put_here, is_one}
 use Rattle.fare_agreement.specs.Agreeing.{AreNumberedLists, IsOf}
 use Rattle.fare_agreement.specs.Stopping.{pruned_too, IsLeftBy, AreLeft}
-use Rattle.fare_agreement.specs.Together.{MayStand, Became, StandAgreed, StandGrown, IsStoredFrom, IsTakenFrom, IsPrunedFrom, IsClosedFrom}
+use Rattle.fare_agreement.specs.Together.{MayStand, Became, StandAgreed, StandGrown, IsStoredFrom, IsTakenFrom, IsPrunedFrom, IsClosedFrom, IsRetiredFrom}
 use Rattle.fare_agreement.proofs.Sessions.{stops_safe}
 
 -- AGREEMENT
@@ -144,6 +144,28 @@ module _ {L : Type 0} (standing : L → Standing LedgerValue) (sc : SchemeValue)
           left (inr e) =
               let done : k.ledgers owner ≡ with_close device (put k.ledgers owner from.0 owner) = e.1 ∙ ap (with_close device) (sym here) in
               inr (subst (λ l. MayClose l device day) (sym here) e.0, λ i. record { outbox = x.2 i; ledgers = sym (put_back k.ledgers owner from.0 (with_close device (put k.ledgers owner from.0 owner)) done) i })
+
+
+  -- the ledger retired the lane, or not
+  pub retire_became : (device : ℕ) → Leads (IsRetiredFrom device) (standing (ls owner)) (standing q) → Leads (λ w y. y ≡ w) o p
+      → Became sc lists (MayStand sc o (λ j. standing (ls j))) (MayStand sc p (λ j. standing (put ls owner q j))) (Retires_lane owner device ∷ [])
+  retire_became device retired same = record { became = λ k may. by k may (retired.leads (k.ledgers owner) (now k may)) (same.leads k.outbox may.outbox_may) }
+    where
+      by : (k : StoresValue) → MayStand sc p (λ j. standing (put ls owner q j)) k → ((l : LedgerValue) × MayHold (standing (ls owner)) l × IsRetiredFrom device l (k.ledgers owner)) → ((x : OutboxValue) × MayHold o x × (k.outbox ≡ x))
+          → (h : StoresValue) × MayStand sc o (λ j. standing (ls j)) h × AreLeft sc lists h (Retires_lane owner device ∷ []) k
+      by k may from x = (record { outbox = x.0; ledgers = put k.ledgers owner from.0 }, before k may x.0 x.1 from.0 from.1, (k, known, left from.2, refl))
+        where
+          here : put k.ledgers owner from.0 owner ≡ from.0
+          here = put_here k.ledgers owner from.0
+
+          unchanged : k.ledgers owner ≡ from.0 → k.ledgers ≡ put k.ledgers owner from.0
+          unchanged e = put_self k.ledgers owner ∙ ap (put k.ledgers owner) e
+
+          left : IsRetiredFrom device from.0 (k.ledgers owner) → IsLeftBy (record { outbox = x.0; ledgers = put k.ledgers owner from.0 }) (Retires_lane owner device) k
+          left (inl e) = inl (λ i. record { outbox = x.2 i; ledgers = unchanged e i })
+          left (inr e) =
+              let done : k.ledgers owner ≡ with_retired device (put k.ledgers owner from.0 owner) = e.1 ∙ ap (with_retired device) (sym here) in
+              inr (subst (λ l. MayRetire l device) (sym here) e.0, λ i. record { outbox = x.2 i; ledgers = sym (put_back k.ledgers owner from.0 (with_retired device (put k.ledgers owner from.0 owner)) done) i })
 
 -- READS ALONE
 pub read_became : {L : Type 0} (standing : L → Standing LedgerValue) (sc : SchemeValue) (lists : ℕ → List RecordValue) (owner : ℕ) (o p : Standing OutboxValue) (ls : ℕ → L) (q : L) → Leads (λ w y. y ≡ w) o p → Leads (λ l m. m ≡ l) (standing (ls owner)) (standing q)

@@ -97,11 +97,12 @@ module _ (numbered arrived : List RecordValue) (rows : ℕ → Option RecordValu
 abbrev pub by_tests : ℕ → ℕ → Bool → Bool → Result Unit CloseFault
 by_tests stated taken short over = if short then Err (CountsShort stated taken) else (if over then Err (CountsOver stated taken) else Ok tt)
 
-pub close_right : (stated : Option ℕ) (closed next : Bool) (taken : ℕ) → close_judged stated closed next taken ≡ Ok tt → (stated ≡ Some taken) × (next ≡ true)
-close_right None closed next taken e = absurd (cc)
-close_right (Some s) true next taken e = absurd (cc)
-close_right (Some s) false false taken e = absurd (cc)
-close_right (Some s) false true taken e = by (nat_lt taken s) (nat_lt s taken) refl refl e
+pub close_right : (stated : Option ℕ) (closed next : Bool) (taken : ℕ) (retired : Bool) → close_judged stated closed next taken retired ≡ Ok tt → (stated ≡ Some taken) × (next ≡ true)
+close_right stated closed next taken true e = absurd (cc)
+close_right None closed next taken false e = absurd (cc)
+close_right (Some s) true next taken false e = absurd (cc)
+close_right (Some s) false false taken false e = absurd (cc)
+close_right (Some s) false true taken false e = by (nat_lt taken s) (nat_lt s taken) refl refl e
   where
     by : (a b : Bool) → nat_lt taken s ≡ a → nat_lt s taken ≡ b → by_tests s taken a b ≡ Ok tt → (Some s ≡ Some taken) × (true ≡ true)
     by true b p q f = absurd (cc)

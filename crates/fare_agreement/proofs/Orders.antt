@@ -47,11 +47,12 @@ pruned_too_soon sc lists h owner device r known at is =
 
 -- A CLOSE THAT WAS REFUSED
 -- what a short count tells
-short_tells : (stated : Option ℕ) (closed next : Bool) (taken s t : ℕ) → close_judged stated closed next taken ≡ Err (closing.CountsShort s t) → (stated ≡ Some s) × (taken < s) × (next ≡ true)
-short_tells None closed next taken s t e = absurd (cc)
-short_tells (Some k) true next taken s t e = absurd (cc)
-short_tells (Some k) false false taken s t e = absurd (cc)
-short_tells (Some k) false true taken s t e = by (nat_lt taken k) (nat_lt k taken) refl e
+short_tells : (stated : Option ℕ) (closed next : Bool) (taken : ℕ) (retired : Bool) (s t : ℕ) → close_judged stated closed next taken retired ≡ Err (closing.CountsShort s t) → (stated ≡ Some s) × (taken < s) × (next ≡ true)
+short_tells stated closed next taken true s t e = absurd (cc)
+short_tells None closed next taken false s t e = absurd (cc)
+short_tells (Some k) true next taken false s t e = absurd (cc)
+short_tells (Some k) false false taken false s t e = absurd (cc)
+short_tells (Some k) false true taken false s t e = by (nat_lt taken k) (nat_lt k taken) refl e
   where
     by : (a b : Bool) → nat_lt taken k ≡ a → by_tests k taken a b ≡ Err (closing.CountsShort s t) → (Some k ≡ Some s) × (taken < s) × (true ≡ true)
     by true b p f =
@@ -64,7 +65,7 @@ short_tells (Some k) false true taken s t e = by (nat_lt taken k) (nat_lt k take
 pub closed_short : (sc : SchemeValue) (lists : ℕ → List RecordValue) (h : StoresValue) (owner device day s t : ℕ) → knows_owner sc owner ≡ true → close_of (h.ledgers owner) device day ≡ Err (closing.CountsShort s t) → Agrees sc lists (record h { ledgers = put h.ledgers owner (with_close device (h.ledgers owner)) }) → ⊥
 closed_short sc lists h owner device day s t known judged is =
     let l = h.ledgers owner in
-    let tells = short_tells (l.stated device day) (is_closed l device day) (day == l.start + l.closed device) (day_count (l.taken device) day) s t judged in
+    let tells = short_tells (l.stated device day) (is_closed l device day) (day == l.start + l.closed device) (day_count (l.taken device) day) (l.retired device) s t judged in
     let next : day ≡ l.start + l.closed device = is_one day (l.start + l.closed device) tells.2 in
     let lane = subst (λ m. lane_agrees lists h.outbox m owner device) (put_here h.ledgers owner (with_close device l)) (is.lanes owner device known) in
     let closed : (nat_le l.start day && nat_lt day (l.start + (put l.closed device (l.closed device + 1) device))) ≡ true = ap (λ n. nat_le l.start day && nat_lt day (l.start + n)) (put_here l.closed device (l.closed device + 1)) ∙ last l.start (l.closed device) day next in

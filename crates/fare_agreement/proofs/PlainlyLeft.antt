@@ -59,11 +59,13 @@ maybe_service sc o x l v w is (inr same) = subst (IsService sc o x l) (sym same)
 -- the plain sentences, whatever the devices are
 plain_with : (sc : SchemeValue) (o : ℕ) (x : OutboxValue) (l : LedgerValue) (w : Service) (ds : List ℕ) → IsService sc o x l w → ServesPlainly o x (pruned_to_all x o (given_all l w.taken) ds) l (given_all l w.taken)
 plain_with sc o x l w ds is =
-    let base = serves_plainly sc o x l (record w { pruned = [] }) (record { items = is.items; known = is.known; room = is.room; registered = tt }) in
+    let base = serves_plainly sc o x l (record w { pruned = [] }) (record { items = is.items; known = is.known; working = is.working; room = is.room; registered = tt }) in
     record {
       taken = base.taken;
       statements = base.statements;
       closed = base.closed;
+      retired = base.retired;
+      ended = base.ended;
       made = base.made;
       rows = all_pruned x o (given_all l w.taken) ds;
       upto = upto_stays x o (given_all l w.taken) ds;

@@ -14,10 +14,11 @@ use Rattle.fare_owner.specs.declared.statement.StatementFault.TheVariants.{Repea
 use Rattle.fare_store.specs.OutboxWords.{OutboxValue}
 use Rattle.fare_store.specs.LedgerWords.{LedgerValue, IsOfScheme, is_closed, is_mine}
 use Rattle.fare_world.proofs.RowPlaces.{row_past}
-use Rattle.fare_history.specs.Serving.{Cursors, AreNextItems, moved_by, given, device_of, IsOfDevice, IsUnrefused, AreUnrefused}
+use Rattle.fare_history.specs.Serving.{Cursors, AreNextItems, moved_by, given, device_of, IsOfDevice, IsWorking, IsUnrefused, AreUnrefused}
 use Rattle.fare_history.specs.Gathering.{Entry, items_of, storing, storing_all, AreStored, IsFree, AreFree}
 use Rattle.fare_history.specs.Serving.{in_hand}
 use Rattle.fare_store.proofs.Entries.{is_self}
+use Rattle.fare_refinement.proofs.ServeTie.{still_working}
 use Rattle.fare_agreement.specs.Agreeing.{AreNumberedLists, IsOf, had, AreCountsOf, lane_agrees, Agrees}
 use Rattle.fare_agreement.specs.Stopping.{is_known}
 use Rattle.fare_agreement.proofs.LaneSteps.{lane_next, lane_open}
@@ -31,13 +32,13 @@ not_closed true f = absurd (f refl)
 not_closed false f = refl
 
 -- the next tap is judged right
-judged_next : (count : ℕ) → tap_judged true count false (count + 1) ≡ Ok tt
+judged_next : (count : ℕ) → tap_judged true count false (count + 1) false ≡ Ok tt
 judged_next count = grind (arith, nat_tests)
 
 -- a statement is new, or its count is the one that is held
-state_repeated : (held : Option ℕ) (count : ℕ) → ((c : ℕ) → held ≡ Some c → c ≡ count) → (statement_judged true held count ≡ Ok tt) ⊎ (statement_judged true held count ≡ Err Repeated)
+state_repeated : (held : Option ℕ) (count : ℕ) → ((c : ℕ) → held ≡ Some c → c ≡ count) → (statement_judged true held count false ≡ Ok tt) ⊎ (statement_judged true held count false ≡ Err Repeated)
 state_repeated None count same = inl refl
-state_repeated (Some c) count same = inr (ap (λ n. statement_judged true (Some n) count) (same c refl) ∙ ap (λ b. if b then Err Repeated else Err Conflict) (is_self count))
+state_repeated (Some c) count same = inr (ap (λ n. statement_judged true (Some n) count false) (same c refl) ∙ ap (λ b. if b then Err Repeated else Err Conflict) (is_self count))
 
 module _ (sc : SchemeValue) (lists : ℕ → List RecordValue) (owner : ℕ) (x : OutboxValue) (counts : (d : ℕ) → AreCountsOf (part owner (lists d)) (x.stated owner d)) where
   -- the owner's ledger, made with the scheme
@@ -51,9 +52,9 @@ module _ (sc : SchemeValue) (lists : ℕ → List RecordValue) (owner : ℕ) (x 
       of_both : (a b : Bool) → a ≡ true → b ≡ true → (a && b) ≡ true
       of_both a b e f = λ i. e i && f i
 
-  item_unrefused : (l : LedgerValue) (c : Cursors) (i : Item) (is : List Item) → IsOwn l → IsOfDevice sc (device_of i) → ((d : ℕ) → lane_agrees lists x l owner d) → ((d : ℕ) → c.lane d ≡ length (l.taken d)) → AreNextItems owner x c (i ∷ is) → IsUnrefused l i
-  item_unrefused l c (item.Tap r) is own registered agrees far next =
-      (λ i. tap_judged (own_item l r.owner r.device own next.0.mine registered i) (length (l.taken r.device)) (still i) (lane i)) ∙ judged_next (length (l.taken r.device))
+  item_unrefused : (l : LedgerValue) (c : Cursors) (i : Item) (is : List Item) → IsOwn l → IsOfDevice sc (device_of i) → IsWorking l (device_of i) → ((d : ℕ) → lane_agrees lists x l owner d) → ((d : ℕ) → c.lane d ≡ length (l.taken d)) → AreNextItems owner x c (i ∷ is) → IsUnrefused l i
+  item_unrefused l c (item.Tap r) is own registered works agrees far next =
+      (λ i. tap_judged (own_item l r.owner r.device own next.0.mine registered i) (length (l.taken r.device)) (still i) (lane i) (works i)) ∙ judged_next (length (l.taken r.device))
     where
       lane : r.lane ≡ length (l.taken r.device) + 1
       lane = next.0.lane ∙ ap (λ n. n + 1) (far r.device)
@@ -63,15 +64,15 @@ module _ (sc : SchemeValue) (lists : ℕ → List RecordValue) (owner : ℕ) (x 
 
       still : is_closed l r.device r.tap.day ≡ false
       still = not_closed (is_closed l r.device r.tap.day) (λ shut. lane_open _ _ _ _ _ _ (agrees r.device) r r.tap.day (part_front owner (x.upto r.device) (lists r.device)) at shut refl)
-  item_unrefused l c (item.Stated v) is own registered agrees far next =
-      subst (λ b. (statement_judged b (l.stated v.device v.day) v.count ≡ Ok tt) ⊎ (statement_judged b (l.stated v.device v.day) v.count ≡ Err Repeated)) (sym (own_item l v.owner v.device own next.0.mine registered))
+  item_unrefused l c (item.Stated v) is own registered works agrees far next =
+      subst (λ (b : Bool × Bool). (statement_judged b.0 (l.stated v.device v.day) v.count b.1 ≡ Ok tt) ⊎ (statement_judged b.0 (l.stated v.device v.day) v.count b.1 ≡ Err Repeated)) (λ i. (sym (own_item l v.owner v.device own next.0.mine registered) i, sym works i))
       (state_repeated (l.stated v.device v.day) v.count (λ c e. (agrees v.device).stated_are.counted v.day c e ∙ sym ((counts v.device).counted v.day v.count next.0.held)))
 
-  pub items_unrefused : (l : LedgerValue) (c : Cursors) (items : List Item) → IsOwn l → AllByRecursion (λ i. IsOfDevice sc (device_of i)) items → ((d : ℕ) → lane_agrees lists x l owner d) → ((d : ℕ) → c.lane d ≡ length (l.taken d)) → AreNextItems owner x c items → AreUnrefused l items
-  items_unrefused l c [] own registered agrees far next = tt
-  items_unrefused l c (i ∷ items) own registered agrees far next =
+  pub items_unrefused : (l : LedgerValue) (c : Cursors) (items : List Item) → IsOwn l → AllByRecursion (λ i. IsOfDevice sc (device_of i)) items → AllByRecursion (λ i. IsWorking l (device_of i)) items → ((d : ℕ) → lane_agrees lists x l owner d) → ((d : ℕ) → c.lane d ≡ length (l.taken d)) → AreNextItems owner x c items → AreUnrefused l items
+  items_unrefused l c [] own registered works agrees far next = tt
+  items_unrefused l c (i ∷ items) own registered works agrees far next =
       let one = item_taken lists owner x counts l c i items agrees far next in
-      (item_unrefused l c i items own registered.0 agrees far next, items_unrefused (given l i) (moved_by c i) items (own_still l i own) registered.1 one.agrees one.far next.1)
+      (item_unrefused l c i items own registered.0 works.0 agrees far next, items_unrefused (given l i) (moved_by c i) items (own_still l i own) registered.1 (still_working l i items works.1) one.agrees one.far next.1)
     where
       own_still : (l : LedgerValue) (i : Item) → IsOwn l → IsOwn (given l i)
       own_still l (item.Tap r) own = record { of_owner = own.of_owner; made = record { start = own.made.start; knows = own.made.knows } }

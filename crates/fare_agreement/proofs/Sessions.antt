@@ -9,14 +9,14 @@ use Rattle.fare_record.specs.declared.item.Item.{Item}
 use Rattle.fare_scheme.specs.Values.{SchemeValue}
 use Rattle.fare_store.specs.Tables.{put}
 use Rattle.fare_store.specs.OutboxWords.{OutboxValue}
-use Rattle.fare_store.specs.LedgerWords.{LedgerValue, is_closed, with_close}
+use Rattle.fare_store.specs.LedgerWords.{LedgerValue, is_closed, with_close, with_retired}
 use Rattle.fare_world.specs.Knowing.{knows_owner}
 use Rattle.fare_side.specs.OpenDays as open_days
 use Rattle.fare_world.proofs.Lanes.{closed_later, closed_within}
 use Rattle.fare_history.specs.Serving.{behind_ledger, AreNextItems, given_all, pruned_to_all, in_hand, Service, IsService}
 use Rattle.fare_history.specs.Gathering.{Entry, Gathering, items_of, accepted_by, answers_of, all_answers, storing, storing_all, stored_hand, hand_stored, IsAnswerFrom, IsGathering}
 use Rattle.fare_history.specs.Plainly.{IsCovered}
-use Rattle.fare_history.specs.Stores.{StoresValue, Session, Collects, Serves_owner, Closes_day, MayClose, stores_after, stores_after_all}
+use Rattle.fare_history.specs.Stores.{StoresValue, Session, Collects, Serves_owner, Closes_day, Retires_lane, MayClose, stores_after, stores_after_all}
 use Rattle.fare_store.proofs.Entries.{put_all, put_here, is_one}
 use Rattle.fare_history.proofs.Entries.{all-weaken, all-append, all-left, all-right}
 use Rattle.fare_history.proofs.Growing.{items_first}
@@ -26,7 +26,7 @@ use Rattle.fare_agreement.specs.Growing.{OutboxGrew, LedgerGrew, StoresGrew}
 use Rattle.fare_agreement.specs.Stopping.{IsSessionOf, AreSessionsOf, IsBegunOf, IsMaybeCommitted, pruned_too, IsLeftBy, AreLeft, IsStored, IsTaken, AreKept, AreAnswered}
 use Rattle.fare_agreement.proofs.Collecting.{outbox_self, outbox_trans, covered_still, stored_still, answer_covered, Gathers, entries_gather, links_left, hand_keeps}
 use Rattle.fare_agreement.proofs.LaneSteps.{close_right}
-use Rattle.fare_agreement.proofs.Takes.{ledger_self, ledger_trans, taken_still, TakesAll, items_taken, all_pruned, closes, close_grows}
+use Rattle.fare_agreement.proofs.Takes.{ledger_self, ledger_trans, taken_still, TakesAll, items_taken, all_pruned, closes, close_grows, retire_agrees, retire_grows}
 
 -- STORES THAT GREW
 pub stores_self : (h : StoresValue) → StoresGrew h h
@@ -47,6 +47,8 @@ kept_still sc h k grew (Closes_day o d day) is = closed_still (h.ledgers o) (k.l
     closed_still l m grew d day is =
         let late : open_days.is_closed l.start (m.closed d) day ≡ true = closed_later l.start (l.closed d) (m.closed d) day (grew.closed d) is in
         ap (λ n. open_days.is_closed n (m.closed d) day) grew.start ∙ late
+
+kept_still sc h k grew (Retires_lane o d) is = (grew.ledgers o).retired d is
 
 -- THE ITEM IN THE HAND
 storing_append : (x : OutboxValue) (es fs : List Entry) → storing_all x (es ++ fs) ≡ storing_all (storing_all x es) fs
@@ -124,6 +126,15 @@ module _ (sc : SchemeValue) (lists : ℕ → List RecordValue) (all : AreNumbere
     grew = record { outbox = outbox_self h.outbox; ledgers = put_all (λ p m. LedgerGrew (h.ledgers p) m) h.ledgers o (with_close d (h.ledgers o)) (λ p. ledger_self (h.ledgers p)) (close_grows lists o h.outbox (h.ledgers o) (λ e. is.lanes o e of.0) d day of.1) };
   }
 
+  session_keeps h (Retires_lane o d) is of = record {
+    agrees = record {
+      lanes = λ p e known. put_all (λ p m. (e : ℕ) → knows_owner sc p ≡ true → lane_agrees lists h.outbox m p e) h.ledgers o (with_retired d (h.ledgers o)) (λ p e known. is.lanes p e known)
+          (λ e known. retire_agrees lists o h.outbox (h.ledgers o) d (λ e. is.lanes o e of.0) e) p e known;
+      stated = is.stated;
+    };
+    grew = record { outbox = outbox_self h.outbox; ledgers = put_all (λ p m. LedgerGrew (h.ledgers p) m) h.ledgers o (with_retired d (h.ledgers o)) (λ p. ledger_self (h.ledgers p)) (retire_grows (h.ledgers o) d) };
+  }
+
   pub sessions_keep : (h : StoresValue) (qs : List Session) → Agrees sc lists h → AreSessionsOf sc lists h qs → Keeps h (stores_after_all h qs)
   sessions_keep h [] is of = record { agrees = is; grew = stores_self h }
   sessions_keep h (q ∷ qs) is of =
@@ -134,7 +145,7 @@ module _ (sc : SchemeValue) (lists : ℕ → List RecordValue) (all : AreNumbere
   -- WHAT WAS ANSWERED
   closed_now : (l : LedgerValue) (d day : ℕ) → MayClose l d day → is_closed (with_close d l) d day ≡ true
   closed_now l d day judged =
-      let next : day ≡ l.start + l.closed d = is_one day (l.start + l.closed d) (close_right (l.stated d day) (is_closed l d day) (day == l.start + l.closed d) (day_count (l.taken d) day) judged).1 in
+      let next : day ≡ l.start + l.closed d = is_one day (l.start + l.closed d) (close_right (l.stated d day) (is_closed l d day) (day == l.start + l.closed d) (day_count (l.taken d) day) (l.retired d) judged).1 in
       ap (λ n. open_days.is_closed l.start n day) (put_here l.closed d (l.closed d + 1)) ∙ closed_within l.start (l.closed d + 1) day (omega (arith, next)) (omega (arith, next))
 
   pub session_kept : (h : StoresValue) (q : Session) → Agrees sc lists h → IsSessionOf sc lists h q → AreKept sc (stores_after h q) q
@@ -143,6 +154,8 @@ module _ (sc : SchemeValue) (lists : ℕ → List RecordValue) (all : AreNumbere
       subst (λ m. AllByRecursion (IsTaken m) v.taken) (sym (put_here h.ledgers o (given_all (h.ledgers o) v.taken)))
       (items_taken lists o h.outbox (λ d. is.stated o d) (h.ledgers o) (behind_ledger sc (h.ledgers o)) v.taken (λ d. is.lanes o d of.0) (λ d. refl) (items_first o h.outbox (behind_ledger sc (h.ledgers o)) v.taken (in_hand v.hand ++ v.queue) of.1.items)).kept
   session_kept h (Closes_day o d day) is of = subst (λ m. is_closed m d day ≡ true) (sym (put_here h.ledgers o (with_close d (h.ledgers o)))) (closed_now (h.ledgers o) d day of.1)
+
+  session_kept h (Retires_lane o d) is of = ap (λ (m : LedgerValue). m.retired d) (put_here h.ledgers o (with_retired d (h.ledgers o))) ∙ put_here (h.ledgers o).retired d true
 
   pub sessions_kept : (h : StoresValue) (qs : List Session) → Agrees sc lists h → AreSessionsOf sc lists h qs → AllByRecursion (AreKept sc (stores_after_all h qs)) qs
   sessions_kept h [] is of = tt
@@ -156,11 +169,13 @@ module _ (sc : SchemeValue) (lists : ℕ → List RecordValue) (all : AreNumbere
   answered_of h (Collects g) is = is
   answered_of h (Serves_owner o v) is = is
   answered_of h (Closes_day o d day) is = tt
+  answered_of h (Retires_lane o d) is = tt
 
   answered_still : (h k : StoresValue) → StoresGrew h k → (q : Session) → AreAnswered sc h q → AreAnswered sc k q
   answered_still h k grew (Collects g) is = kept_still sc h k grew (Collects g) is
   answered_still h k grew (Serves_owner o v) is = kept_still sc h k grew (Serves_owner o v) is
   answered_still h k grew (Closes_day o d day) is = tt
+  answered_still h k grew (Retires_lane o d) is = tt
 
   -- what a stop in a session leaves agrees, and has what the session was answered
   pub record IsSafe (h k : StoresValue) (q : Session) : Type 0 where
@@ -212,6 +227,8 @@ module _ (sc : SchemeValue) (lists : ℕ → List RecordValue) (all : AreNumbere
           (served_safe h o v (in_hand v.hand) ds of.0 is (items_first o h.outbox (behind_ledger sc (h.ledgers o)) (v.taken ++ in_hand v.hand) v.queue (subst (AreNextItems o h.outbox (behind_ledger sc (h.ledgers o))) (sym (append_assoc v.taken (in_hand v.hand) v.queue)) of.1.items)))
   stop_safe h k (Closes_day o d day) is of (inl e) = subst (λ m. IsSafe h m (Closes_day o d day)) (sym e) (record { agrees = is; grew = stores_self h; kept = tt })
   stop_safe h k (Closes_day o d day) is of (inr e) = subst (λ m. IsSafe h m (Closes_day o d day)) (sym e.1) (whole_safe h (Closes_day o d day) is (of, e.0))
+  stop_safe h k (Retires_lane o d) is of (inl e) = subst (λ m. IsSafe h m (Retires_lane o d)) (sym e) (record { agrees = is; grew = stores_self h; kept = tt })
+  stop_safe h k (Retires_lane o d) is of (inr e) = subst (λ m. IsSafe h m (Retires_lane o d)) (sym e.1) (whole_safe h (Retires_lane o d) is (of, e.0))
 
   -- ANY LIST OF SESSIONS
   pub record AreSafe (h k : StoresValue) (qs : List Session) : Type 0 where
@@ -230,3 +247,4 @@ pub begun_of : (sc : SchemeValue) (lists : ℕ → List RecordValue) (h : Stores
 begun_of sc lists h (Collects g) is = is
 begun_of sc lists h (Serves_owner o v) is = is
 begun_of sc lists h (Closes_day o d day) is = is.0
+begun_of sc lists h (Retires_lane o d) is = is.0

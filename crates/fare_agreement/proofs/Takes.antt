@@ -1,4 +1,4 @@
--- What an owner takes, prunes and closes keeps agreement.
+-- What an owner takes, prunes, closes and retires keeps agreement.
 use Rattle.std.proofs.Common.{◌≡◌, ℕ, ◌+◌, ◌-◌, ◌≤◌, List, [], ◌∷◌, ◌++◌, length, Some, Bool, true, false, refl, sym, ap, ◌∙◌, subst, arith, length-append}
 use Rattle.std.specs.Prelude.{slice_get, Option, Ok, ◌==◌, ◌&&◌, nat_le, nat_lt}
 use Rattle.std.specs.List.{AllByRecursion}
@@ -9,7 +9,7 @@ use Rattle.fare_record.specs.declared.item.Item.TheVariants as item
 use Rattle.fare_scheme.specs.Values.{SchemeValue}
 use Rattle.fare_store.specs.Tables.{put}
 use Rattle.fare_store.specs.OutboxWords.{OutboxValue, behind}
-use Rattle.fare_store.specs.LedgerWords.{LedgerValue, is_closed, with_close, close_of}
+use Rattle.fare_store.specs.LedgerWords.{LedgerValue, is_closed, with_close, close_of, with_retired}
 use Rattle.fare_world.specs.Headline.{IsPrefixOf}
 use Rattle.fare_world.specs.Knowing.{knows_owner}
 use Rattle.fare_world.proofs.Lanes.{closed_more}
@@ -25,7 +25,7 @@ use Rattle.fare_agreement.proofs.Prefixes.{prefix_self, prefix_trans, prefix_mor
 
 -- LEDGERS THAT GREW
 pub ledger_self : (l : LedgerValue) → LedgerGrew l l
-ledger_self l = record { start = refl; taken = λ d. prefix_self (l.taken d); stated = λ d day c e. e; closed = λ d. omega arith }
+ledger_self l = record { start = refl; taken = λ d. prefix_self (l.taken d); stated = λ d day c e. e; closed = λ d. omega arith; retired = λ d e. e }
 
 pub ledger_trans : (l m n : LedgerValue) → LedgerGrew l m → LedgerGrew m n → LedgerGrew l n
 ledger_trans l m n p q = record {
@@ -33,6 +33,7 @@ ledger_trans l m n p q = record {
   taken = λ d. prefix_trans (l.taken d) (m.taken d) (n.taken d) (p.taken d) (q.taken d);
   stated = λ d day c e. q.stated d day c (p.stated d day c e);
   closed = λ d. omega (arith, p.closed d, q.closed d);
+  retired = λ d e. q.retired d (p.retired d e);
 }
 
 pub taken_still : (l m : LedgerValue) → LedgerGrew l m → (i : Item) → IsTaken l i → IsTaken m i
@@ -63,6 +64,7 @@ module _ (lists : ℕ → List RecordValue) (owner : ℕ) (x : OutboxValue) (cou
       taken = put_all (λ d (t : List RecordValue). IsPrefixOf (l.taken d) t) l.taken r.device (l.taken r.device ++ r ∷ []) (λ d. prefix_self (l.taken d)) (prefix_more (l.taken r.device) (r ∷ []));
       stated = λ d day k e. e;
       closed = λ d. omega arith;
+      retired = λ d e. e;
     };
     kept = ap (λ t. slice_get t (r.lane - 1)) (put_here l.taken r.device (l.taken r.device ++ r ∷ [])) ∙ ap (slice_get (l.taken r.device ++ r ∷ [])) place ∙ slice_get-end (l.taken r.device) r;
   }
@@ -87,6 +89,7 @@ module _ (lists : ℕ → List RecordValue) (owner : ℕ) (x : OutboxValue) (cou
       stated = put_all (λ d (s : ℕ → Option ℕ). (day k : ℕ) → l.stated d day ≡ Some k → s day ≡ Some k) l.stated v.device (put (l.stated v.device) v.day (Some v.count)) (λ d day k e. e)
           (put_all (λ day (o : Option ℕ). (k : ℕ) → l.stated v.device day ≡ Some k → o ≡ Some k) (l.stated v.device) v.day (Some v.count) (λ day k e. e) (λ k e. ap Some (right ∙ sym ((is v.device).stated_are.counted v.day k e))));
       closed = λ d. omega arith;
+      retired = λ d e. e;
     };
     kept = (λ i. put_here l.stated v.device (put (l.stated v.device) v.day (Some v.count)) i v.day) ∙ put_here (l.stated v.device) v.day (Some v.count);
   }
@@ -138,7 +141,7 @@ module _ (lists : ℕ → List RecordValue) (owner : ℕ) (x : OutboxValue) (l :
       (lane_closed _ _ _ _ _ _ (is device) (λ j. nat_le l.start j && nat_lt j (l.start + (l.closed device + 1))) met)
     where
       right : (l.stated device day ≡ Some (day_count (l.taken device) day)) × ((day == l.start + l.closed device) ≡ true)
-      right = close_right (l.stated device day) (is_closed l device day) (day == l.start + l.closed device) (day_count (l.taken device) day) judged
+      right = close_right (l.stated device day) (is_closed l device day) (day == l.start + l.closed device) (day_count (l.taken device) day) (l.retired device) judged
 
       met : (j : ℕ) → (nat_le l.start j && nat_lt j (l.start + (l.closed device + 1))) ≡ true → l.stated device j ≡ Some (day_count (l.taken device) j)
       met j shut = by (j == l.start + l.closed device) refl
@@ -155,4 +158,18 @@ module _ (lists : ℕ → List RecordValue) (owner : ℕ) (x : OutboxValue) (l :
     taken = λ d. prefix_self (l.taken d);
     stated = λ d day c e. e;
     closed = put_all (λ d n. l.closed d ≤ n) l.closed device (l.closed device + 1) (λ d. omega arith) (omega arith);
+    retired = λ d e. e;
   }
+
+-- A LANE IS RETIRED
+pub retire_agrees : (lists : ℕ → List RecordValue) (owner : ℕ) (x : OutboxValue) (l : LedgerValue) (device : ℕ) → ((d : ℕ) → lane_agrees lists x l owner d) → (d : ℕ) → lane_agrees lists x (with_retired device l) owner d
+retire_agrees lists owner x l device is d = is d
+
+pub retire_grows : (l : LedgerValue) (device : ℕ) → LedgerGrew l (with_retired device l)
+retire_grows l device = record {
+  start = refl;
+  taken = λ d. prefix_self (l.taken d);
+  stated = λ d day c e. e;
+  closed = λ d. omega arith;
+  retired = put_all (λ d b. l.retired d ≡ true → b ≡ true) l.retired device true (λ d e. e) (λ e. refl);
+}

@@ -49,7 +49,7 @@ module _ (sc : SchemeValue) where
   emptiness : Agrees sc two_taps (record { outbox = empty_outbox; ledgers = empty_ledger })
   emptiness =
       empty_agrees sc two_taps (record { outbox = empty_outbox; ledgers = empty_ledger }) (record { upto = λ d. refl; rows = λ o d k. refl; row_count = refl; stated = λ o d day. refl; stated_count = refl })
-      (λ o known. record { taken = λ d. refl; stated = λ d day. refl; closed = λ d. refl })
+      (λ o known. record { taken = λ d. refl; stated = λ d day. refl; closed = λ d. refl; retired = λ d. refl })
 
   pub opening_agrees : IsOfDevice sc 7 → Agrees sc two_taps both_stored
   opening_agrees known =
@@ -64,6 +64,7 @@ module _ (sc : SchemeValue) where
     record {
       items = (record { mine = refl; lane = refl; held = refl }, (record { mine = refl; lane = refl; held = refl }, tt));
       known = (known, (known, tt));
+      working = (refl, (refl, tt));
       room = omega arith;
       registered = tt;
     },
@@ -80,7 +81,7 @@ module _ (sc : SchemeValue) where
     takes_left,
     (
       stores_after (stores_after both_stored (Serves_owner 4 takes_both)) (Serves_owner 4 prunes_alone),
-      (own, record { items = tt; known = tt; room = omega arith; registered = (known, tt) }),
+      (own, record { items = tt; known = tt; working = tt; room = omega arith; registered = (known, tt) }),
       (prunes_alone, inl refl, inl refl),
       refl,
     ),

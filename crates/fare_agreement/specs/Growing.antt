@@ -1,5 +1,5 @@
 -- What stays in the stores of a hub from one moment to a later one.
-use Rattle.std.specs.Prelude.{◌≡◌, ℕ, ◌≤◌, Some}
+use Rattle.std.specs.Prelude.{◌≡◌, ℕ, ◌≤◌, true, Some}
 use Rattle.fare_store.specs.OutboxWords.{OutboxValue}
 use Rattle.fare_store.specs.LedgerWords.{LedgerValue}
 use Rattle.fare_world.specs.Headline.{IsPrefixOf}
@@ -10,12 +10,13 @@ pub record OutboxGrew (old new : OutboxValue) : Type 0 where
   pub upto : (device : ℕ) → old.upto device ≤ new.upto device
   pub stated : (owner device day count : ℕ) → old.stated owner device day ≡ Some count → new.stated owner device day ≡ Some count
 
--- what was taken is a prefix of what is, and each statement and each closed day stays
+-- what was taken is a prefix of what is, and each statement, each closed day and each retired lane stays
 pub record LedgerGrew (old new : LedgerValue) : Type 0 where
   pub start : new.start ≡ old.start
   pub taken : (device : ℕ) → IsPrefixOf (old.taken device) (new.taken device)
   pub stated : (device day count : ℕ) → old.stated device day ≡ Some count → new.stated device day ≡ Some count
   pub closed : (device : ℕ) → old.closed device ≤ new.closed device
+  pub retired : (device : ℕ) → old.retired device ≡ true → new.retired device ≡ true
 
 -- the outbox, and the ledger of each owner
 pub record StoresGrew (old new : StoresValue) : Type 0 where

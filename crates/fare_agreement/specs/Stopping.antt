@@ -12,7 +12,7 @@ use Rattle.fare_world.specs.Knowing.{knows_owner}
 use Rattle.fare_history.specs.Serving.{Service, IsService, committed}
 use Rattle.fare_history.specs.Gathering.{items_of, accepted_by, all_answers, hand_stored, IsGathering}
 use Rattle.fare_history.specs.Plainly.{IsCovered}
-use Rattle.fare_history.specs.Stores.{StoresValue, MayClose, Session, Collects, Serves_owner, Closes_day, stores_after}
+use Rattle.fare_history.specs.Stores.{StoresValue, MayClose, MayRetire, Session, Collects, Serves_owner, Closes_day, Retires_lane, stores_after}
 use Rattle.fare_agreement.specs.Agreeing.{IsOf}
 
 -- SESSIONS
@@ -26,6 +26,7 @@ abbrev pub IsSessionOf : SchemeValue → (ℕ → List RecordValue) → StoresVa
 IsSessionOf sc lists h (Collects g) = AllByRecursion (IsOf lists) (accepted_by g) × IsGathering sc h.outbox g
 IsSessionOf sc lists h (Serves_owner owner v) = (knows_owner sc owner ≡ true) × IsService sc owner h.outbox (h.ledgers owner) v
 IsSessionOf sc lists h (Closes_day owner device day) = (knows_owner sc owner ≡ true) × MayClose (h.ledgers owner) device day
+IsSessionOf sc lists h (Retires_lane owner device) = (knows_owner sc owner ≡ true) × MayRetire (h.ledgers owner) device
 
 -- each is one from the stores that those before it left
 abbrev pub AreSessionsOf : SchemeValue → (ℕ → List RecordValue) → StoresValue → List Session → Type 0
@@ -33,11 +34,12 @@ AreSessionsOf sc lists h [] = Unit {0}
 AreSessionsOf sc lists h (q ∷ qs) = IsSessionOf sc lists h q × AreSessionsOf sc lists (stores_after h q) qs
 
 -- A STOP
--- the same of a session that may have been stopped: a close that failed may be one that the ledger would have refused
+-- the same of a session that may have been stopped: a close or a retire that failed may be one that the ledger would have refused
 abbrev pub IsBegunOf : SchemeValue → (ℕ → List RecordValue) → StoresValue → Session → Type 0
 IsBegunOf sc lists h (Collects g) = IsSessionOf sc lists h (Collects g)
 IsBegunOf sc lists h (Serves_owner owner v) = IsSessionOf sc lists h (Serves_owner owner v)
 IsBegunOf sc lists h (Closes_day owner device day) = knows_owner sc owner ≡ true
+IsBegunOf sc lists h (Retires_lane owner device) = knows_owner sc owner ≡ true
 
 -- the owner's session, or the one that took also what this one has in its hand
 abbrev pub IsMaybeCommitted : Service → Service → Type 0
@@ -47,11 +49,12 @@ IsMaybeCommitted v w = (w ≡ v) ⊎ (w ≡ committed v)
 abbrev pub pruned_too : Service → ℕ → Service
 pruned_too v device = record v { pruned = v.pruned ++ device ∷ [] }
 
--- A stop is a store call that fails together with all calls after it. It leaves what the session had made of the stores until then, or also what that call commits: the store or the take of the item in the hand, the prune of one lane more, or the close. An owner whose take failed may go on to prune.
+-- A stop is a store call that fails together with all calls after it. It leaves what the session had made of the stores until then, or also what that call commits: the store or the take of the item in the hand, the prune of one lane more, the close, or the retire. An owner whose take failed may go on to prune.
 abbrev pub IsLeftBy : StoresValue → Session → StoresValue → Type 0
 IsLeftBy h (Collects g) k = (k ≡ stores_after h (Collects g)) ⊎ (k ≡ stores_after h (Collects (hand_stored g)))
 IsLeftBy h (Serves_owner owner v) k = (w : Service) × IsMaybeCommitted v w × ((k ≡ stores_after h (Serves_owner owner w)) ⊎ ((device : ℕ) × (k ≡ stores_after h (Serves_owner owner (pruned_too w device)))))
 IsLeftBy h (Closes_day owner device day) k = (k ≡ h) ⊎ (MayClose (h.ledgers owner) device day × (k ≡ stores_after h (Closes_day owner device day)))
+IsLeftBy h (Retires_lane owner device) k = (k ≡ h) ⊎ (MayRetire (h.ledgers owner) device × (k ≡ stores_after h (Retires_lane owner device)))
 
 -- from stores h the sessions led to stores k: each may have been stopped, and the next went on from what that left
 abbrev pub AreLeft : SchemeValue → (ℕ → List RecordValue) → StoresValue → List Session → StoresValue → Type 0
@@ -83,9 +86,11 @@ abbrev pub AreKept : SchemeValue → StoresValue → Session → Type 0
 AreKept sc h (Collects g) = AllByRecursion (IsCovered sc h.outbox) (all_answers g) × AllByRecursion (IsStored h.outbox) (items_of g.entries)
 AreKept sc h (Serves_owner owner v) = AllByRecursion (IsTaken (h.ledgers owner)) v.taken
 AreKept sc h (Closes_day owner device day) = is_closed (h.ledgers owner) device day ≡ true
+AreKept sc h (Retires_lane owner device) = (h.ledgers owner).retired device ≡ true
 
--- the same of a session that may have been stopped: of a close that failed nothing is said
+-- the same of a session that may have been stopped: of a close or a retire that failed nothing is said
 abbrev pub AreAnswered : SchemeValue → StoresValue → Session → Type 0
 AreAnswered sc h (Collects g) = AreKept sc h (Collects g)
 AreAnswered sc h (Serves_owner owner v) = AreKept sc h (Serves_owner owner v)
 AreAnswered sc h (Closes_day owner device day) = Unit {0}
+AreAnswered sc h (Retires_lane owner device) = Unit {0}

@@ -5,12 +5,12 @@ use Rattle.fare_record.specs.Values.{RecordValue}
 use Rattle.fare_scheme.specs.Values.{SchemeValue}
 use Rattle.fare_store.specs.Standing.{Standing}
 use Rattle.fare_store.specs.OutboxWords.{OutboxValue}
-use Rattle.fare_store.specs.LedgerWords.{LedgerValue, with_close}
+use Rattle.fare_store.specs.LedgerWords.{LedgerValue, with_close, with_retired}
 use Rattle.fare_world.specs.Knowing.{knows_owner}
 use Rattle.fare_history.specs.Serving.{given_all, pruned_to_all, Service, committed}
 use Rattle.fare_history.specs.Gathering.{Gathering, storing_all, hand_stored}
 use Rattle.fare_history.specs.Holding.{MayHold}
-use Rattle.fare_history.specs.Stores.{StoresValue, MayClose, Session}
+use Rattle.fare_history.specs.Stores.{StoresValue, MayClose, MayRetire, Session}
 use Rattle.fare_agreement.specs.Agreeing.{Agrees}
 use Rattle.fare_agreement.specs.Growing.{StoresGrew}
 use Rattle.fare_agreement.specs.Stopping.{AreLeft, AreAnswered}
@@ -31,6 +31,10 @@ IsPrunedFrom owner m v x y = (y ≡ pruned_to_all x owner m v.pruned) ⊎ ((devi
 -- the ledger m is l, or l with one day of the device more closed, where l may close it
 abbrev pub IsClosedFrom : ℕ → ℕ → LedgerValue → LedgerValue → Type 0
 IsClosedFrom device day l m = (m ≡ l) ⊎ (MayClose l device day × (m ≡ with_close device l))
+
+-- the ledger m is l, or l with its lane of the device retired, where it wasn't
+abbrev pub IsRetiredFrom : ℕ → LedgerValue → LedgerValue → Type 0
+IsRetiredFrom device l m = (m ≡ l) ⊎ (MayRetire l device × (m ≡ with_retired device l))
 
 -- THE STORES OF A HUB
 -- the outbox and the ledgers of all registered owners may hold this together

@@ -1,5 +1,5 @@
 -- A worked stop: a device numbered two taps for one owner, who took both of them; then a stop came before any row was pruned.
-use Rattle.std.specs.Prelude.{ℕ, ◌==◌, List, [], ◌∷◌, None, if◌then◌else◌}
+use Rattle.std.specs.Prelude.{ℕ, ◌==◌, false, List, [], ◌∷◌, None, if◌then◌else◌}
 use Rattle.fare_record.specs.Values.{RecordValue}
 use Rattle.fare_record.specs.declared.item.Item.TheVariants as item
 use Rattle.fare_store.specs.OutboxWords.{OutboxValue, stored}
@@ -25,7 +25,7 @@ empty_outbox = record { upto = λ device. 0; rows = λ owner device lane. None; 
 
 -- an owner's ledger, of any scheme that starts on day 20
 abbrev pub empty_ledger : ℕ → LedgerValue
-empty_ledger owner = record { owner = owner; start = 20; knows = λ device. device == 7; taken = λ device. []; stated = λ device day. None; closed = λ device. 0 }
+empty_ledger owner = record { owner = owner; start = 20; knows = λ device. device == 7; taken = λ device. []; stated = λ device day. None; closed = λ device. 0; retired = λ device. false }
 
 -- the outbox stored both taps, and no ledger has taken any
 abbrev pub both_stored : StoresValue

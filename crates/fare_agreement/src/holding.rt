@@ -10,13 +10,13 @@ ghost use Rattle.fare_world.specs.Knowing.{knows_owner};
 ghost use Rattle.fare_history.specs.Serving.{Service, IsService};
 ghost use Rattle.fare_history.specs.Gathering.{Gathering, accepted_by, IsGathering};
 ghost use Rattle.fare_history.specs.Holding.{MayHold, Leads};
-ghost use Rattle.fare_history.specs.Stores.{StoresValue, Session, Collects, Serves_owner, Closes_day};
+ghost use Rattle.fare_history.specs.Stores.{StoresValue, Session, Collects, Serves_owner, Closes_day, Retires_lane};
 ghost use Rattle.fare_agreement.specs.Agreeing.{AreNumberedLists, IsOf};
-ghost use Rattle.fare_agreement.specs.Together.{IsStoredFrom, IsTakenFrom, IsPrunedFrom, IsClosedFrom, MayStand, Became, StandAgreed, StandGrown};
+ghost use Rattle.fare_agreement.specs.Together.{IsStoredFrom, IsTakenFrom, IsPrunedFrom, IsClosedFrom, IsRetiredFrom, MayStand, Became, StandAgreed, StandGrown};
 
 use fare_store::{Ledger, Outbox};
 
-/// What a session of the stations and the writer, one of an owner, or a close makes of what a hub's stores may
+/// What a session of the stations and the writer, one of an owner, a close, or a retire makes of what a hub's stores may
 /// hold, where its calls may have failed: an owner's session prunes each lane up to its count in whatever the ledger
 /// may hold then. Reads alone are no session.
 pub fn a_session_becomes<O: Outbox, L: Ledger>()
@@ -26,6 +26,8 @@ pub fn a_session_becomes<O: Outbox, L: Ledger>()
         → Became sc lists (MayStand sc (O.standing o) (λ j. L.standing (ls j))) (MayStand sc (O.standing p) (λ j. L.standing (put ls owner q j))) (Serves_owner owner v ∷ []) }
     ensures closed { (sc : SchemeValue) (lists : ℕ → List RecordValue) (owner device day : ℕ) (o : O) (ls : ℕ → L) (q : L) → knows_owner sc owner ≡ true → Leads (IsClosedFrom device day) (L.standing (ls owner)) (L.standing q)
         → Became sc lists (MayStand sc (O.standing o) (λ j. L.standing (ls j))) (MayStand sc (O.standing o) (λ j. L.standing (put ls owner q j))) (Closes_day owner device day ∷ []) }
+    ensures retired { (sc : SchemeValue) (lists : ℕ → List RecordValue) (owner device : ℕ) (o : O) (ls : ℕ → L) (q : L) → knows_owner sc owner ≡ true → Leads (IsRetiredFrom device) (L.standing (ls owner)) (L.standing q)
+        → Became sc lists (MayStand sc (O.standing o) (λ j. L.standing (ls j))) (MayStand sc (O.standing o) (λ j. L.standing (put ls owner q j))) (Retires_lane owner device ∷ []) }
     ensures read { (sc : SchemeValue) (lists : ℕ → List RecordValue) (owner : ℕ) (o p : O) (ls : ℕ → L) (q : L) → Leads (λ w y. y ≡ w) (O.standing o) (O.standing p) → Leads (λ l m. m ≡ l) (L.standing (ls owner)) (L.standing q)
         → Became sc lists (MayStand sc (O.standing o) (λ j. L.standing (ls j))) (MayStand sc (O.standing p) (λ j. L.standing (put ls owner q j))) [] }
 {}

@@ -12,7 +12,7 @@ ghost use Rattle.fare_owner.specs.declared.closing.CloseFault.TheVariants.{Count
 ghost use Rattle.fare_store.specs.Tables.{put};
 ghost use Rattle.fare_store.specs.OutboxWords.{OutboxValue, IsEmptyOutbox, pruned};
 ghost use Rattle.fare_store.specs.LedgerWords.{LedgerValue, IsOfScheme, IsEmptyLedger, close_of, with_close, AreTapsBetween};
-ghost use Rattle.fare_side.specs.OpenDays.{first_open};
+ghost use Rattle.fare_side.specs.Weeks.{open_of};
 ghost use Rattle.fare_world.specs.Kept.{IsSystem};
 ghost use Rattle.fare_world.specs.Knowing.{knows_owner};
 ghost use Rattle.fare_world.specs.Shown.{IsArrivedOf};
@@ -31,8 +31,8 @@ ghost use Rattle.fare_agreement.specs.Stopping.{is_known, with_link_alone, with_
 ghost use Rattle.fare_agreement.specs.Told.{told_sessions};
 
 /// Sessions whose items are those of the lists, one after the other, lead from stores that agree with the lists
-/// to stores that do. No number falls, and no tap, statement or closed day goes. What was acknowledged, stored,
-/// taken or closed in any of them is in the stores in the end.
+/// to stores that do. No number falls, and no tap, statement, closed day or retired lane goes. What was acknowledged,
+/// stored, taken, closed or retired in any of them is in the stores in the end.
 pub fn sessions_keep_agreement()
     ensures agrees { (sc : SchemeValue) (lists : ℕ → List RecordValue) (h : StoresValue) (qs : List Session) → AreNumberedLists sc lists → Agrees sc lists h → AreSessionsOf sc lists h qs → Agrees sc lists (stores_after_all h qs) }
     ensures grew { (sc : SchemeValue) (lists : ℕ → List RecordValue) (h : StoresValue) (qs : List Session) → AreNumberedLists sc lists → Agrees sc lists h → AreSessionsOf sc lists h qs → StoresGrew h (stores_after_all h qs) }
@@ -104,11 +104,12 @@ pub fn sessions_add_what_was_new()
     ensures taken { (sc : SchemeValue) (l : LedgerValue) (items : List Item) → IsScheme sc → AllByRecursion (λ i. IsOfDevice sc (device_of i)) items → AllByRecursion IsDated items → held_by sc (given_all l items) ≡ held_by sc l + taken_new l items }
 {}
 
-/// Where the rows agree with the lists and an owner has closed a day of each device, the bill of the taps that
-/// its ledger holds of the week is the bill of the owner's parts of the lists.
+/// Where the rows agree with the lists and an owner has closed a day of each device or retired its lane, the bill of
+/// the taps that its ledger holds of the week is the bill of the owner's parts of the lists, but that of a retired lane
+/// it has what was taken.
 pub fn bills_are_of_the_lists()
-    ensures { (sc : SchemeValue) (lists : ℕ → List RecordValue) (h : StoresValue) (owner day : ℕ) (rows : List RecordValue) → IsScheme sc → AreNumberedLists sc lists → Agrees sc lists h → knows_owner sc owner ≡ true → (h.ledgers owner).start ≡ sc.start → first_open (h.ledgers owner).start (h.ledgers owner).closed day sc.devices ≡ None → AreTapsBetween (h.ledgers owner) (week_start sc day) day rows
-        → bill_of sc rows day ≡ bill_of sc (parts_of sc lists owner) day }
+    ensures { (sc : SchemeValue) (lists : ℕ → List RecordValue) (h : StoresValue) (owner day : ℕ) (rows : List RecordValue) → IsScheme sc → AreNumberedLists sc lists → Agrees sc lists h → knows_owner sc owner ≡ true → (h.ledgers owner).start ≡ sc.start → open_of (h.ledgers owner) day sc ≡ None → AreTapsBetween (h.ledgers owner) (week_start sc day) day rows
+        → bill_of sc rows day ≡ bill_of sc (parts_of sc lists (h.ledgers owner) owner) day }
 {}
 
 /// Where a row is pruned before its take is committed, or a day is closed of which fewer taps are taken than

@@ -54,6 +54,7 @@ with_closes device n v = record v { closed = put v.closed device (v.closed devic
 
 -- REPLIES
 abbrev pub close_refusal : CloseFault → Refusal
+close_refusal close.Retired = refusal.Retired
 close_refusal close.Unstated = refusal.Unstated
 close_refusal close.AlreadyClosed = refusal.AlreadyClosed
 close_refusal close.OutOfOrder = refusal.OutOfOrder

@@ -9,7 +9,7 @@ ghost use Rattle.fare_desk.specs.declared.fault.DeskFault.TheVariants.{Write};
 
 use crate::fault::{DeskFault, of_refusal};
 use crate::writing::write_text;
-use fare_event::Reply;
+use fare_event::{Reply, Short};
 use fare_lines::print_reply;
 use fare_record::{Day, OwnerId};
 use fare_sessions::Hub;
@@ -17,8 +17,8 @@ use fare_store::{Ledger, Outbox};
 use std::alloc::Global;
 use std::io::Write;
 
-/// Writes an owner's bill of a day: the line `bill OWNER DAY ACCOUNTS TOTAL`, and a line for each account. The stores
-/// hold what they held.
+/// Writes an owner's bill of a day: the line `bill OWNER DAY ACCOUNTS TOTAL`, a line for each account, and a line `short
+/// DEVICE` for each device whose lane is retired and whose day was not closed. The stores hold what they held.
 ///
 /// Refused by the first of `UnknownOwner`, `BeforeStart` and `NotClosed` that applies; then `Memory` where there was
 /// none for it, and `Store` where the owner's ledger failed; nothing is written then. `Write` where the writer failed.
@@ -35,17 +35,23 @@ pub fn write_bill<O: Outbox, L: Ledger, W: Write>(
     ensures refused { AreClean O.standing L.standing hub.new → AreSound O.standing L.standing hub.old → IsBillRefusal O.standing L.standing hub.old owner day (refused_of result) }
     ensures kept { IfErr result (λ fault. fault ≢ Write → Keeps (W.contents output.old) (W.contents output.new)) }
 {
-    let bill = match hub.bill(alloc, owner, day) {
-        Ok(bill) => bill,
+    let (bill, short) = match hub.bill(alloc, owner, day) {
+        Ok(told) => told,
         Err(refused) => return Err(of_refusal(refused)),
     };
+    let reply = Reply::Bill {
+        owner,
+        day,
+        bill,
+        short: Short::new(short),
+    };
     let mut text = Vec::new(alloc);
-    print_reply(&Reply::Bill { owner, day, bill }, &mut text)?;
+    print_reply(&reply, &mut text)?;
     write_text(output, &text)
 }
 
-/// Writes what each operator gets of an owner's bill of a day: the line `settlement OWNER DAY OPERATORS`, and a line for
-/// each operator. The stores hold what they held.
+/// Writes what each operator gets of an owner's bill of a day: the line `settlement OWNER DAY OPERATORS`, a line for
+/// each operator, and the `short` lines of the bill. The stores hold what they held.
 ///
 /// Refused and failed as `write_bill`.
 pub fn write_settlement<O: Outbox, L: Ledger, W: Write>(
@@ -61,14 +67,15 @@ pub fn write_settlement<O: Outbox, L: Ledger, W: Write>(
     ensures refused { AreClean O.standing L.standing hub.new → AreSound O.standing L.standing hub.old → IsBillRefusal O.standing L.standing hub.old owner day (refused_of result) }
     ensures kept { IfErr result (λ fault. fault ≢ Write → Keeps (W.contents output.old) (W.contents output.new)) }
 {
-    let settlement = match hub.settlement(alloc, owner, day) {
-        Ok(settlement) => settlement,
+    let (settlement, short) = match hub.settlement(alloc, owner, day) {
+        Ok(told) => told,
         Err(refused) => return Err(of_refusal(refused)),
     };
     let reply = Reply::Settlement {
         owner,
         day,
         settlement,
+        short: Short::new(short),
     };
     let mut text = Vec::new(alloc);
     print_reply(&reply, &mut text)?;

@@ -25,6 +25,7 @@ fn refusal_of(why: CloseFault) -> Refusal
     ensures { result ≡ close_refusal why }
 {
     match why {
+        CloseFault::Retired => Refusal::Retired,
         CloseFault::Unstated => Refusal::Unstated,
         CloseFault::AlreadyClosed => Refusal::AlreadyClosed,
         CloseFault::OutOfOrder => Refusal::OutOfOrder,

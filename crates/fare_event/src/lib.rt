@@ -5,6 +5,8 @@
 
 mod event;
 mod reply;
+mod short;
 
 pub use event::Event;
 pub use reply::{Refusal, Reply};
+pub use short::Short;

@@ -11,7 +11,7 @@ use Rattle.fare_store.specs.LedgerWords.{LedgerValue, is_mine, state_judged}
 use Rattle.fare_owner.specs.StatementJudged.{statement_judged}
 use Rattle.fare_owner.specs.declared.statement.StatementFault.{StatementFault}
 use Rattle.fare_owner.specs.declared.statement.StatementFault.TheVariants.{Repeated, Conflict}
-use Rattle.fare_history.specs.Serving.{behind_ledger, AreNextItems, given, Service, in_hand, device_of, IsOfDevice, IsService, committed}
+use Rattle.fare_history.specs.Serving.{behind_ledger, AreNextItems, given, Service, in_hand, device_of, IsOfDevice, IsWorking, IsService, committed}
 use Rattle.std.specs.List.{AllByRecursion}
 use Rattle.std.proofs.lemmas.List.{append-nil}
 use Rattle.fare_history.specs.Gathering.{links_of, CountsFrom, IsHandled, IsAnswerFrom, Entry, Gathering, items_of, stored_hand, hand_stored, storing_all, AreStored, IsGathering}
@@ -30,10 +30,11 @@ pub given_held : (l : LedgerValue) (v : StatementValue) → l.stated v.device v.
 given_held l v same = λ i. record l { stated = (put_same l.stated v.device (put (l.stated v.device) v.day (Some v.count)) (sym (put_same (l.stated v.device) v.day (Some v.count) same))) i }
 
 -- a statement is judged repeated where it is held
-held_where_repeated : (own : Bool) (held : Option ℕ) (n : ℕ) → statement_judged own held n ≡ Err Repeated → held ≡ Some n
-held_where_repeated false held n e = absurd (cc)
-held_where_repeated true None n e = absurd (cc)
-held_where_repeated true (Some m) n e = by (m == n) refl e
+held_where_repeated : (own : Bool) (held : Option ℕ) (n : ℕ) (retired : Bool) → statement_judged own held n retired ≡ Err Repeated → held ≡ Some n
+held_where_repeated false held n retired e = absurd (cc)
+held_where_repeated true held n true e = absurd (cc)
+held_where_repeated true None n false e = absurd (cc)
+held_where_repeated true (Some m) n false e = by (m == n) refl e
   where
     refused : Bool → Result Unit StatementFault
     refused b = if b then Err Repeated else Err Conflict
@@ -43,14 +44,14 @@ held_where_repeated true (Some m) n e = by (m == n) refl e
     by false same f = absurd (cc)
 
 pub repeated_is_held : (l : LedgerValue) (v : StatementValue) → state_judged l v ≡ Err Repeated → l.stated v.device v.day ≡ Some v.count
-repeated_is_held l v e = held_where_repeated (is_mine l v.owner v.device) (l.stated v.device v.day) v.count e
+repeated_is_held l v e = held_where_repeated (is_mine l v.owner v.device) (l.stated v.device v.day) v.count (l.retired v.device) e
 
 pub given_repeated : (l : LedgerValue) (v : StatementValue) → state_judged l v ≡ Err Repeated → given l (item.Stated v) ≡ l
 given_repeated l v e = given_held l v (repeated_is_held l v e)
 
 -- a take that failed and yet committed is a session that took the item in its hand
 pub committed_is : (sc : SchemeValue) (o : ℕ) (x : OutboxValue) (l : LedgerValue) (v : Service) → IsService sc o x l v → IsService sc o x l (committed v)
-committed_is sc o x l v is = record { items = subst (AreNextItems o x (behind_ledger sc l)) (sym (append_assoc v.taken (in_hand v.hand) v.queue)) is.items; known = subst (AllByRecursion (λ i. IsOfDevice sc (device_of i))) (sym (append_assoc v.taken (in_hand v.hand) v.queue)) is.known; room = is.room; registered = is.registered }
+committed_is sc o x l v is = record { items = subst (AreNextItems o x (behind_ledger sc l)) (sym (append_assoc v.taken (in_hand v.hand) v.queue)) is.items; known = subst (AllByRecursion (λ i. IsOfDevice sc (device_of i))) (sym (append_assoc v.taken (in_hand v.hand) v.queue)) is.known; working = subst (AllByRecursion (λ i. IsWorking l (device_of i))) (sym (append_assoc v.taken (in_hand v.hand) v.queue)) is.working; room = is.room; registered = is.registered }
 
 -- a store that failed and yet committed is a session that stored the item in its hand
 items-append : (es fs : List Entry) → items_of (es ++ fs) ≡ items_of es ++ items_of fs

@@ -14,13 +14,13 @@ use Rattle.fare_owner.specs.TapJudged.{tap_judged}
 use Rattle.fare_owner.specs.declared.tap.TapFault.{TapFault}
 use Rattle.fare_owner.specs.StatementJudged.{statement_judged}
 use Rattle.fare_owner.specs.declared.statement.StatementFault.{StatementFault}
-use Rattle.fare_owner.specs.declared.statement.StatementFault.TheVariants.{NotMine, Repeated, Conflict}
+use Rattle.fare_owner.specs.declared.statement.StatementFault.TheVariants.{NotMine, Retired, Repeated, Conflict}
 use Rattle.fare_store.specs.Tables.{put, put2}
 use Rattle.fare_store.specs.OutboxWords.{OutboxValue, behind}
 use Rattle.fare_store.specs.LedgerWords.{LedgerValue, IsOfScheme, is_mine, is_closed, took, with_statement}
 use Rattle.fare_store.proofs.Entries.{if_all, is_one, is_self, put_all, put_both, put2_all, put2_here, put2_apart, put_here}
-use Rattle.fare_history.proofs.Entries.{element_at, all-right}
-use Rattle.fare_history.specs.Serving.{Cursors, behind_ledger, moved_by, moved_by_all, IsNextItem, AreNextItems, given_all, pruned_to, pruned_to_all, Service, in_hand, IsComingStatement, device_of, IsOfDevice, IsService, IsUnrefused, AreUnrefused}
+use Rattle.fare_history.proofs.Entries.{element_at, all-left, all-right}
+use Rattle.fare_history.specs.Serving.{Cursors, behind_ledger, moved_by, moved_by_all, IsNextItem, AreNextItems, given_all, pruned_to, pruned_to_all, Service, in_hand, put_by, IsComingStatement, device_of, IsOfDevice, IsWorking, IsService, IsUnrefused, AreUnrefused}
 use Rattle.fare_history.specs.Plainly.{ExtendsBy, IsKeptOrPruned, ServesPlainly, IsFinished, IsWholeService, IsRefused, ShowsWhy}
 use Rattle.fare_history.proofs.Growing.{items_first, items_then}
 use Rattle.fare_history.proofs.Committed.{repeated_is_held}
@@ -59,15 +59,16 @@ taken_extends o x l c (item.Stated v ∷ is) same next d = taken_extends o x (wi
 
 -- STATEMENTS
 -- one that the ledger takes is not held
-free_where_ok : (own : Bool) (held : Option ℕ) (n : ℕ) → statement_judged own held n ≡ Ok tt → held ≡ None
-free_where_ok false held n e = absurd (cc)
-free_where_ok true None n e = refl
-free_where_ok true (Some m) n e = if_all (m == n) (λ (z : Result Unit StatementFault). z ≡ Ok tt → Some m ≡ None) (Err Repeated) (Err Conflict) (λ _ f. absurd (cc)) (λ _ f. absurd (cc)) e
+free_where_ok : (own : Bool) (held : Option ℕ) (n : ℕ) (retired : Bool) → statement_judged own held n retired ≡ Ok tt → held ≡ None
+free_where_ok false held n retired e = absurd (cc)
+free_where_ok true held n true e = absurd (cc)
+free_where_ok true None n false e = refl
+free_where_ok true (Some m) n false e = if_all (m == n) (λ (z : Result Unit StatementFault). z ≡ Ok tt → Some m ≡ None) (Err Repeated) (Err Conflict) (λ _ f. absurd (cc)) (λ _ f. absurd (cc)) e
 
 -- so no other count is overwritten
 same_count : (l : LedgerValue) (v : StatementValue) (n : ℕ) → IsUnrefused l (item.Stated v) → l.stated v.device v.day ≡ Some n → Some v.count ≡ Some n
 same_count l v n fine held = elim fine [
-  | inl ok ↦ none_held (sym (free_where_ok (is_mine l v.owner v.device) (l.stated v.device v.day) v.count ok) ∙ held)
+  | inl ok ↦ none_held (sym (free_where_ok (is_mine l v.owner v.device) (l.stated v.device v.day) v.count (l.retired v.device) ok) ∙ held)
   | inr again ↦ sym (repeated_is_held l v again) ∙ held
 ]
   where
@@ -93,6 +94,29 @@ closed_stay : (l : LedgerValue) (is : List Item) → (given_all l is).closed ≡
 closed_stay l [] = refl
 closed_stay l (item.Tap r ∷ is) = closed_stay (took r l) is
 closed_stay l (item.Stated v ∷ is) = closed_stay (with_statement v l) is
+
+retired_stay : (l : LedgerValue) (is : List Item) → (given_all l is).retired ≡ l.retired
+retired_stay l [] = refl
+retired_stay l (item.Tap r ∷ is) = retired_stay (took r l) is
+retired_stay l (item.Stated v ∷ is) = retired_stay (with_statement v l) is
+
+-- no item of a retired lane is given, so it keeps its list and its statements
+apart_from : (retired : ℕ → Bool) (d e : ℕ) → retired d ≡ true → retired e ≡ false → (d == e) ≡ false
+apart_from retired d e ended working = by (d == e) refl
+  where
+    by : (b : Bool) → (d == e) ≡ b → b ≡ false
+    by true same = absurd (let both : true ≡ false = sym ended ∙ ap retired (is_one d e same) ∙ working in cc)
+    by false other = refl
+
+list_stays : (l : LedgerValue) (is : List Item) (d : ℕ) → l.retired d ≡ true → AllByRecursion (λ i. IsWorking l (device_of i)) is → (given_all l is).taken d ≡ l.taken d
+list_stays l [] d ended working = refl
+list_stays l (item.Tap r ∷ is) d ended working = list_stays (took r l) is d ended working.1 ∙ ap (λ b. if b then l.taken r.device ++ r ∷ [] else l.taken d) (apart_from l.retired d r.device ended working.0)
+list_stays l (item.Stated v ∷ is) d ended working = list_stays (with_statement v l) is d ended working.1
+
+counts_stay : (l : LedgerValue) (is : List Item) (d : ℕ) → l.retired d ≡ true → AllByRecursion (λ i. IsWorking l (device_of i)) is → (given_all l is).stated d ≡ l.stated d
+counts_stay l [] d ended working = refl
+counts_stay l (item.Tap r ∷ is) d ended working = counts_stay (took r l) is d ended working.1
+counts_stay l (item.Stated v ∷ is) d ended working = counts_stay (with_statement v l) is d ended working.1 ∙ ap (λ b. if b then put (l.stated v.device) v.day (Some v.count) else l.stated d) (apart_from l.retired d v.device ended working.0)
 
 owner_stays : (l : LedgerValue) (is : List Item) → (given_all l is).owner ≡ l.owner
 owner_stays l [] = refl
@@ -146,6 +170,8 @@ serves_plainly sc o x l v is = record {
   taken = taken_extends o x l (behind_ledger sc l) v.taken (λ d. refl) first;
   statements = statements_come o x l (behind_ledger sc l) v.taken first;
   closed = closed_stay l v.taken;
+  retired = retired_stay l v.taken;
+  ended = λ d ended. (list_stays l v.taken d ended working, counts_stay l v.taken d ended working);
   made = (owner_stays l v.taken, start_stays l v.taken, knows_stays l v.taken);
   rows = all_pruned x o (given_all l v.taken) v.pruned;
   upto = upto_stays x o (given_all l v.taken) v.pruned;
@@ -153,6 +179,9 @@ serves_plainly sc o x l v is = record {
   stated_count = stated_count_stays x o (given_all l v.taken) v.pruned;
 }
   where
+    working : AllByRecursion (λ i. IsWorking l (device_of i)) v.taken
+    working = all-left (λ i. IsWorking l (device_of i)) v.taken (in_hand v.hand ++ v.queue) is.working
+
     first : AreNextItems o x (behind_ledger sc l) v.taken
     first = items_first o x (behind_ledger sc l) v.taken (in_hand v.hand ++ v.queue) is.items
 
@@ -234,8 +263,8 @@ each_pruned x o l (j ∷ ds) d k among le = by (j == d) refl among (λ rest. eac
 
 pub finished_is_whole : (sc : SchemeValue) (o : ℕ) (x : OutboxValue) (l : LedgerValue) (v : Service) → IsService sc o x l v → IsFinished sc o x l v → IsWholeService sc o x (pruned_to_all x o (given_all l v.taken) v.pruned) l (given_all l v.taken)
 finished_is_whole sc o x l v is done = record {
-  rows = λ d known lane r lt held. row_taken (x.rows o d) (l.taken d) ((given_all l v.taken).taken d) lane r (taken_extends o x l start v.taken (λ j. refl) first d) lt (within d known lane r held) held;
-  statements = λ d known day n le is_day held. passed_given o x l start v.taken first d day n le (before d known day n is_day held) held;
+  rows = λ d known working lane r lt held. row_taken (x.rows o d) (l.taken d) ((given_all l v.taken).taken d) lane r (taken_extends o x l start v.taken (λ j. refl) first d) lt (within d known working lane r held) held;
+  statements = λ d known working day n le is_day held. passed_given o x l start v.taken first d day n le (before d known working day n is_day held) held;
   pruned = λ d known lane le. each_pruned x o (given_all l v.taken) v.pruned d lane (done.pruned d known) le;
 }
   where
@@ -245,19 +274,19 @@ finished_is_whole sc o x l v is done = record {
     first : AreNextItems o x start v.taken
     first = items_first o x start v.taken (in_hand v.hand ++ v.queue) is.items
 
-    within : (d : ℕ) → is_some (position_of_device sc d) ≡ true → (lane : ℕ) (r : RecordValue) → x.rows o d lane ≡ Some r → lane ≤ length ((given_all l v.taken).taken d)
-    within d known lane r held = elim (day_less (length ((given_all l v.taken).taken d)) lane) [
-      | inl past ↦ no_row (sym (done.rows d known lane (omega (arith, past, moved_like o x l start v.taken (λ j. refl) first d))) ∙ held)
+    within : (d : ℕ) → is_some (position_of_device sc d) ≡ true → IsWorking l d → (lane : ℕ) (r : RecordValue) → x.rows o d lane ≡ Some r → lane ≤ length ((given_all l v.taken).taken d)
+    within d known working lane r held = elim (day_less (length ((given_all l v.taken).taken d)) lane) [
+      | inl past ↦ no_row (sym (done.rows d known working lane (omega (arith, past, moved_like o x l start v.taken (λ j. refl) first d))) ∙ held)
       | inr le ↦ le
     ]
       where
         no_row : None ≡ Some r → lane ≤ length ((given_all l v.taken).taken d)
         no_row e = absurd (cc)
 
-    before : (d : ℕ) → is_some (position_of_device sc d) ≡ true → (day n : ℕ) → IsDay day → x.stated o d day ≡ Some n → day < (moved_by_all start v.taken).day d
-    before d known day n is_day held = elim (day_less day ((moved_by_all start v.taken).day d)) [
+    before : (d : ℕ) → is_some (position_of_device sc d) ≡ true → IsWorking l d → (day n : ℕ) → IsDay day → x.stated o d day ≡ Some n → day < (moved_by_all start v.taken).day d
+    before d known working day n is_day held = elim (day_less day ((moved_by_all start v.taken).day d)) [
       | inl lt ↦ lt
-      | inr past ↦ no_day (sym (done.days d known day past is_day) ∙ held)
+      | inr past ↦ no_day (sym (done.days d known working day past is_day) ∙ held)
     ]
       where
         no_day : None ≡ Some n → day < (moved_by_all start v.taken).day d
@@ -270,44 +299,33 @@ is_its_own m p d own known = of_both (p == m.owner) (m.knows d) (ap (λ q. q == 
     of_both : (a b : Bool) → a ≡ true → b ≡ true → (a && b) ≡ true
     of_both a b e f = λ i. e i && f i
 
-taken_next : (count : ℕ) → tap_judged true count false (count + 1) ≡ Ok tt
+taken_next : (count : ℕ) → tap_judged true count false (count + 1) false ≡ Ok tt
 taken_next count = grind (arith, nat_tests)
 
-tap_refused : (own closed : Bool) (count lane : ℕ) (why : TapFault) → lane ≡ count + 1 → tap_judged own count closed lane ≡ Err why → (own ≡ false) ⊎ (closed ≡ true)
-tap_refused false closed count lane why next e = inl refl
-tap_refused true true count lane why next e = inr refl
-tap_refused true false count lane why next e =
-    let both : Ok tt ≡ Err why = sym (taken_next count) ∙ ap (tap_judged true count false) (sym next) ∙ e in
+tap_refused : (own closed retired : Bool) (count lane : ℕ) (why : TapFault) → lane ≡ count + 1 → retired ≡ false → tap_judged own count closed lane retired ≡ Err why → (own ≡ false) ⊎ (closed ≡ true)
+tap_refused false closed retired count lane why next working e = inl refl
+tap_refused true true retired count lane why next working e = inr refl
+tap_refused true false retired count lane why next working e =
+    let both : Ok tt ≡ Err why = sym (taken_next count) ∙ (λ i. tap_judged true count false (sym next i) (sym working i)) ∙ e in
     absurd (cc)
 
-other_count : (m n : ℕ) → (statement_judged true (Some m) n ≡ Err NotMine) ⊎ (statement_judged true (Some m) n ≡ Err Conflict) → m ≢ n
-other_count m n e same = elim e [ inl f ↦ never f | inr f ↦ never_so f ]
+other_count : (m n : ℕ) (why : StatementFault) → why ≢ Repeated → statement_judged true (Some m) n false ≡ Err why → m ≢ n
+other_count m n why not e same = not (let both : Err why ≡ Err Repeated = sym e ∙ again in cc)
   where
-    again : statement_judged true (Some m) n ≡ Err Repeated
+    again : statement_judged true (Some m) n false ≡ Err Repeated
     again = ap (λ b. if b then Err Repeated else Err Conflict) (ap (λ k. m == k) (sym same) ∙ is_self m)
 
-    never : statement_judged true (Some m) n ≡ Err NotMine → ⊥
-    never f = let both : Err Repeated ≡ Err NotMine = sym again ∙ f in absurd (cc)
+statement_refused : (own : Bool) (held : Option ℕ) (n : ℕ) (retired : Bool) (why : StatementFault) → why ≢ Repeated → retired ≡ false → statement_judged own held n retired ≡ Err why → (own ≡ false) ⊎ ((other : ℕ) × (held ≡ Some other) × (other ≢ n))
+statement_refused false held n retired why not working e = inl refl
+statement_refused true held n true why not working e = absurd (cc)
+statement_refused true None n false why not working e = absurd (cc)
+statement_refused true (Some m) n false why not working e = inr (m, refl, other_count m n why not e)
 
-    never_so : statement_judged true (Some m) n ≡ Err Conflict → ⊥
-    never_so f = let both : Err Repeated ≡ Err Conflict = sym again ∙ f in absurd (cc)
-
-statement_refused : (own : Bool) (held : Option ℕ) (n : ℕ) → (statement_judged own held n ≡ Err NotMine) ⊎ (statement_judged own held n ≡ Err Conflict) → (own ≡ false) ⊎ ((other : ℕ) × (held ≡ Some other) × (other ≢ n))
-statement_refused false held n e = inl refl
-statement_refused true None n e = elim e [ inl f ↦ never f | inr f ↦ never_so f ]
-  where
-    never : statement_judged true None n ≡ Err NotMine → (true ≡ false) ⊎ ((other : ℕ) × (None ≡ Some other) × (other ≢ n))
-    never f = absurd (cc)
-
-    never_so : statement_judged true None n ≡ Err Conflict → (true ≡ false) ⊎ ((other : ℕ) × (None ≡ Some other) × (other ≢ n))
-    never_so f = absurd (cc)
-statement_refused true (Some m) n e = inr (m, refl, other_count m n e)
-
-shows_why : (sc : SchemeValue) (o : ℕ) (x : OutboxValue) (m : LedgerValue) (c : Cursors) (i : Item) → m.owner ≡ o → m.knows (device_of i) ≡ true → ((d : ℕ) → c.lane d ≡ length (m.taken d)) → IsNextItem o x c i → IsRefused m i → ShowsWhy o x m i
-shows_why sc o x m c (item.Tap r) own known same next why =
+shows_why : (sc : SchemeValue) (o : ℕ) (x : OutboxValue) (m : LedgerValue) (c : Cursors) (i : Item) → m.owner ≡ o → m.knows (device_of i) ≡ true → IsWorking m (device_of i) → ((d : ℕ) → c.lane d ≡ length (m.taken d)) → IsNextItem o x c i → IsRefused m i → ShowsWhy o x m i
+shows_why sc o x m c (item.Tap r) own known working same next why =
     let place : length (m.taken r.device) + 1 ≡ c.lane r.device + 1 = omega (arith, same r.device) in (
       ap (x.rows o r.device) place ∙ next.held,
-      elim (tap_refused (is_mine m r.owner r.device) (is_closed m r.device r.tap.day) (length (m.taken r.device)) r.lane why.0 (next.lane ∙ sym place) why.1) [
+      elim (tap_refused (is_mine m r.owner r.device) (is_closed m r.device r.tap.day) (m.retired r.device) (length (m.taken r.device)) r.lane why.0 (next.lane ∙ sym place) working why.1) [
         | inl other ↦ not_so other
         | inr closed ↦ closed
       ],
@@ -315,9 +333,9 @@ shows_why sc o x m c (item.Tap r) own known same next why =
   where
     not_so : is_mine m r.owner r.device ≡ false → is_closed m r.device r.tap.day ≡ true
     not_so other = let both : true ≡ false = sym (is_its_own m r.owner r.device (next.mine ∙ sym own) known) ∙ other in absurd (cc)
-shows_why sc o x m c (item.Stated v) own known same next why = (
+shows_why sc o x m c (item.Stated v) own known working same next why = (
   next.held,
-  elim (statement_refused (is_mine m v.owner v.device) (m.stated v.device v.day) v.count why) [
+  elim (statement_refused (is_mine m v.owner v.device) (m.stated v.device v.day) v.count (m.retired v.device) why.0 why.1 working why.2) [
     | inl other ↦ not_so other
     | inr other ↦ other
   ],
@@ -328,12 +346,13 @@ shows_why sc o x m c (item.Stated v) own known same next why = (
 
 pub refused_shows_why : (sc : SchemeValue) (o : ℕ) (x : OutboxValue) (l : LedgerValue) (v : Service) (i : Item) → l.owner ≡ o → IsOfScheme sc l → IsService sc o x l v → v.hand ≡ Some i → IsRefused (given_all l v.taken) i → ShowsWhy o x (given_all l v.taken) i
 refused_shows_why sc o x l v i own made is hand why =
-    shows_why sc o x (given_all l v.taken) (moved_by_all start v.taken) i (owner_stays l v.taken ∙ own) (ap (λ f. f (device_of i)) (knows_stays l v.taken) ∙ made.knows (device_of i) ∙ known)
+    shows_why sc o x (given_all l v.taken) (moved_by_all start v.taken) i (owner_stays l v.taken ∙ own) (ap (λ f. f (device_of i)) (knows_stays l v.taken) ∙ made.knows (device_of i) ∙ in_hand_all (λ j. IsOfDevice sc (device_of j)) is.known) (ap (λ f. f (device_of i)) (retired_stay l v.taken) ∙ in_hand_all (λ j. IsWorking l (device_of j)) is.working)
     (moved_like o x l start v.taken (λ j. refl) (items_first o x start v.taken (in_hand v.hand ++ v.queue) is.items))
     (subst (λ h. AreNextItems o x (moved_by_all start v.taken) (in_hand h ++ v.queue)) hand (items_then o x start v.taken (in_hand v.hand ++ v.queue) is.items)).0 why
   where
     start : Cursors
     start = behind_ledger sc l
 
-    known : is_some (position_of_device sc (device_of i)) ≡ true
-    known = (subst (λ h. AllByRecursion (λ j. IsOfDevice sc (device_of j)) (in_hand h ++ v.queue)) hand (all-right (λ j. IsOfDevice sc (device_of j)) v.taken (in_hand v.hand ++ v.queue) is.known)).0
+    -- what holds of all that was put holds of the item in the hand
+    in_hand_all : (P : Item → Type 0) → AllByRecursion P (put_by v) → P i
+    in_hand_all P all = (subst (λ h. AllByRecursion P (in_hand h ++ v.queue)) hand (all-right P v.taken (in_hand v.hand ++ v.queue) all)).0

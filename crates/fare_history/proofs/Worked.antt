@@ -10,10 +10,10 @@ use Rattle.fare_record.specs.declared.item.Item.TheVariants as item
 use Rattle.fare_scheme.specs.Words.{position_of_device}
 use Rattle.fare_store.specs.Tables.{put}
 use Rattle.fare_store.specs.OutboxWords.{behind}
-use Rattle.fare_history.specs.Serving.{Cursors, behind_ledger, moved_by_all, IsService}
+use Rattle.fare_history.specs.Serving.{Cursors, behind_ledger, moved_by_all, IsWorking, IsService}
 use Rattle.fare_history.specs.Gathering.{CountsFrom, IsGathering}
 use Rattle.fare_history.specs.Plainly.{IsFinished}
-use Rattle.fare_history.specs.Examples.{one_device, two_devices, tap_number, day_statement, new_outbox, full_outbox, new_ledger, closed_ledger, whole_service, cut_service, crowded_service, taking, had_upto, had_day, tap_entry, whole_gathering, holding_back, storing_only}
+use Rattle.fare_history.specs.Examples.{one_device, two_devices, tap_number, day_statement, new_outbox, full_outbox, new_ledger, closed_ledger, retired_ledger, whole_service, cut_service, crowded_service, taking, had_upto, had_day, tap_entry, whole_gathering, holding_back, storing_only}
 use Rattle.fare_store.proofs.Entries.{if_all, is_one, above}
 
 -- TABLES
@@ -52,6 +52,7 @@ whole_is clock = record {
     ),
   );
   known = (refl, (refl, (refl, (refl, tt))));
+  working = (refl, (refl, (refl, (refl, tt))));
   room = omega arith;
   registered = (refl, tt);
 }
@@ -60,8 +61,8 @@ pub whole_is_finished : (clock : Zone) → IsFinished (one_device clock) 1 full_
 whole_is_finished clock = record {
   hand = refl;
   queue = refl;
-  rows = λ device known. subst (λ d. (lane : ℕ) → (moved_by_all start whole_service.taken).lane d < lane → full_outbox.rows 1 d lane ≡ None) (sym (only_one clock device known)) none_after;
-  days = λ device known. subst (λ d. (day : ℕ) → (moved_by_all start whole_service.taken).day d ≤ day → IsDay day → full_outbox.stated 1 d day ≡ None) (sym (only_one clock device known)) (λ day from _. no_other day from);
+  rows = λ device known working. subst (λ d. (lane : ℕ) → (moved_by_all start whole_service.taken).lane d < lane → full_outbox.rows 1 d lane ≡ None) (sym (only_one clock device known)) none_after;
+  days = λ device known working. subst (λ d. (day : ℕ) → (moved_by_all start whole_service.taken).day d ≤ day → IsDay day → full_outbox.stated 1 d day ≡ None) (sym (only_one clock device known)) (λ day from _. no_other day from);
   pruned = λ device known. subst (λ d. list_any (λ e. e == d) whole_service.pruned ≡ true) (sym (only_one clock device known)) refl;
 }
   where
@@ -75,6 +76,7 @@ pub cut_is : (clock : Zone) → IsService (one_device clock) 1 full_outbox new_l
 cut_is clock = record {
   items = (whole_is clock).items;
   known = (refl, (refl, (refl, (refl, tt))));
+  working = (refl, (refl, (refl, (refl, tt))));
   room = omega arith;
   registered = (refl, tt);
 }
@@ -87,6 +89,22 @@ none_before_the_last clock is = let none : Some (tap_number 1 3) ≡ None = is.i
 
 pub none_of_a_closed_day : (clock : Zone) → IsService (one_device clock) 1 full_outbox closed_ledger (taking (item.Stated (day_statement 1 3) ∷ [])) → ⊥
 none_of_a_closed_day clock is = let late : 19724 ≤ 19723 = is.items.0.from_there in absurd (omega (arith, late))
+
+pub none_of_a_retired_lane : (clock : Zone) → IsService (one_device clock) 1 full_outbox retired_ledger (taking (item.Tap (tap_number 1 1) ∷ [])) → ⊥
+none_of_a_retired_lane clock is = let both : true ≡ false = is.working.0 in absurd (cc)
+
+-- there a session has nothing to take, and prunes the lane
+pub none_but_a_prune : (clock : Zone) → IsFinished (one_device clock) 1 full_outbox retired_ledger (record (taking []) { pruned = 1 ∷ [] })
+none_but_a_prune clock = record {
+  hand = refl;
+  queue = refl;
+  rows = λ device known working. absurd (retired_is device known working);
+  days = λ device known working. absurd (retired_is device known working);
+  pruned = λ device known. subst (λ d. list_any (λ e. e == d) (1 ∷ []) ≡ true) (sym (only_one clock device known)) refl;
+}
+  where
+    retired_is : (device : ℕ) → is_some (position_of_device (one_device clock) device) ≡ true → IsWorking retired_ledger device → ⊥
+    retired_is device known working = let both : true ≡ false = sym (ap retired_ledger.retired (only_one clock device known)) ∙ working in absurd (cc)
 
 pub none_is_crowded : (clock : Zone) → IsService (one_device clock) 1 full_outbox new_ledger crowded_service → ⊥
 none_is_crowded clock is = let two : 2 ≤ 1 = is.room in absurd (omega (arith, two))

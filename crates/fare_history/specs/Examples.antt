@@ -1,5 +1,5 @@
 -- Small sessions and lists of frames, written out, of which the laws beside them compute what the definitions say.
-use Rattle.std.specs.Prelude.{ℕ, ◌==◌, List, [], ◌∷◌, None, Some}
+use Rattle.std.specs.Prelude.{ℕ, ◌==◌, false, List, [], ◌∷◌, None, Some}
 use Rattle.fare_day.specs.declared.zone.Zone.{Zone}
 use Rattle.fare_record.specs.declared.ack_item.AckItem.{AckItem}
 use Rattle.fare_record.specs.declared.ack_item.AckItem.TheVariants as ack_item
@@ -41,11 +41,15 @@ full_outbox = stored_statement (day_statement 1 3) (stored (tap_number 1 3) (sto
 
 -- the owner's ledger, before it has taken anything
 abbrev pub new_ledger : LedgerValue
-new_ledger = record { owner = 1; start = 19723; knows = λ device. device == 1; taken = λ device. []; stated = λ device day. None; closed = λ device. 0 }
+new_ledger = record { owner = 1; start = 19723; knows = λ device. device == 1; taken = λ device. []; stated = λ device day. None; closed = λ device. 0; retired = λ device. false }
 
 -- the ledger that has the three taps and the statement, and closed the day
 abbrev pub closed_ledger : LedgerValue
 closed_ledger = record new_ledger { taken = λ device. tap_number device 1 ∷ tap_number device 2 ∷ tap_number device 3 ∷ []; stated = λ device day. Some 3; closed = λ device. 1 }
+
+-- the ledger that has taken nothing and has retired its lane of the device
+abbrev pub retired_ledger : LedgerValue
+retired_ledger = record new_ledger { retired = λ device. device == 1 }
 
 -- all three taps and then their statement are taken, and the lane is pruned
 abbrev pub whole_service : Service

@@ -14,9 +14,10 @@ use Rattle.fare_store.specs.declared.fault.StoreFault.{StoreFault}
 use Rattle.fare_store.specs.declared.fault.StatedFault.TheVariants as stated
 use Rattle.fare_store.specs.OutboxWords.{OutboxValue, store_judged, stated_judged}
 use Rattle.fare_owner.specs.declared.tap.TapFault.{TapFault}
-use Rattle.fare_owner.specs.declared.statement.StatementFault.TheVariants.{NotMine, Conflict}
+use Rattle.fare_owner.specs.declared.statement.StatementFault.{StatementFault}
+use Rattle.fare_owner.specs.declared.statement.StatementFault.TheVariants.{Repeated}
 use Rattle.fare_store.specs.LedgerWords.{LedgerValue, is_closed, take_judged, state_judged, IsAmong}
-use Rattle.fare_history.specs.Serving.{behind_ledger, moved_by_all, Service}
+use Rattle.fare_history.specs.Serving.{behind_ledger, moved_by_all, Service, IsWorking}
 use Rattle.fare_history.specs.Gathering.{Gathering, items_of, accepted_by, all_answers}
 
 -- AN OWNER'S SESSION
@@ -30,35 +31,37 @@ pub record ExtendsBy (rows : ℕ → Option RecordValue) (old new : List RecordV
 abbrev pub IsKeptOrPruned : ℕ → OutboxValue → OutboxValue → LedgerValue → ℕ → ℕ → ℕ → Type 0
 IsKeptOrPruned owner x y l o d lane = (y.rows o d lane ≡ x.rows o d lane) ⊎ ((o ≡ owner) × (lane ≤ length (l.taken d)) × (y.rows o d lane ≡ None))
 
--- What a session of an owner did, of the outbox x and the ledger l before it and of y and m after it: each device's taps are the old ones and then rows that the outbox held, each stated count was the ledger's or the outbox's, closed days stay, rows go only where the ledger has them, and nothing else of the outbox changes.
+-- What a session of an owner did, of the outbox x and the ledger l before it and of y and m after it: each device's taps are the old ones and then rows that the outbox held, each stated count was the ledger's or the outbox's, closed days stay, a retired lane keeps its list and its statements and no lane is retired, rows go only where the ledger has them, and nothing else of the outbox changes.
 pub record ServesPlainly (owner : ℕ) (x y : OutboxValue) (l m : LedgerValue) : Type 0 where
   pub taken : (device : ℕ) → ExtendsBy (x.rows owner device) (l.taken device) (m.taken device)
   pub statements : (device day count : ℕ) → m.stated device day ≡ Some count → (l.stated device day ≡ Some count) ⊎ (x.stated owner device day ≡ Some count)
   pub closed : m.closed ≡ l.closed
+  pub retired : m.retired ≡ l.retired
+  pub ended : (device : ℕ) → l.retired device ≡ true → (m.taken device ≡ l.taken device) × (m.stated device ≡ l.stated device)
   pub made : (m.owner ≡ l.owner) × (m.start ≡ l.start) × (m.knows ≡ l.knows)
   pub rows : (o d lane : ℕ) → IsKeptOrPruned owner x y m o d lane
   pub upto : y.upto ≡ x.upto
   pub stated : y.stated ≡ x.stated
   pub stated_count : y.stated_count ≡ x.stated_count
 
--- A session came to its end: hand and queue are empty, behind what was taken the outbox holds no row and no statement of a registered device, and the lane of each such device was pruned.
+-- A session came to its end: hand and queue are empty, behind what was taken the outbox holds no row and no statement of a registered device whose lane isn't retired, and the lane of each registered device was pruned.
 pub record IsFinished (sc : SchemeValue) (owner : ℕ) (x : OutboxValue) (l : LedgerValue) (v : Service) : Type 0 where
   pub hand : v.hand ≡ None
   pub queue : v.queue ≡ []
-  pub rows : (device : ℕ) → is_some (position_of_device sc device) ≡ true → (lane : ℕ) → (moved_by_all (behind_ledger sc l) v.taken).lane device < lane → x.rows owner device lane ≡ None
-  pub days : (device : ℕ) → is_some (position_of_device sc device) ≡ true → (day : ℕ) → (moved_by_all (behind_ledger sc l) v.taken).day device ≤ day → IsDay day → x.stated owner device day ≡ None
+  pub rows : (device : ℕ) → is_some (position_of_device sc device) ≡ true → IsWorking l device → (lane : ℕ) → (moved_by_all (behind_ledger sc l) v.taken).lane device < lane → x.rows owner device lane ≡ None
+  pub days : (device : ℕ) → is_some (position_of_device sc device) ≡ true → IsWorking l device → (day : ℕ) → (moved_by_all (behind_ledger sc l) v.taken).day device ≤ day → IsDay day → x.stated owner device day ≡ None
   pub pruned : (device : ℕ) → is_some (position_of_device sc device) ≡ true → list_any (λ d. d == device) v.pruned ≡ true
 
--- All that the outbox x held is in the ledger m: of each registered device the rows behind those that the ledger l had, and the statements of the days that it had not closed; and the outbox y has none of the rows up to the ledger's count.
+-- All that the outbox x held is in the ledger m: of each registered device whose lane isn't retired the rows behind those that the ledger l had, and the statements of the days that it had not closed; and of each registered device the outbox y has none of the rows up to the ledger's count.
 pub record IsWholeService (sc : SchemeValue) (owner : ℕ) (x y : OutboxValue) (l m : LedgerValue) : Type 0 where
-  pub rows : (device : ℕ) → is_some (position_of_device sc device) ≡ true → (lane : ℕ) (r : RecordValue) → length (l.taken device) < lane → x.rows owner device lane ≡ Some r → slice_get (m.taken device) (lane - 1) ≡ Some r
-  pub statements : (device : ℕ) → is_some (position_of_device sc device) ≡ true → (day count : ℕ) → sc.start + l.closed device ≤ day → IsDay day → x.stated owner device day ≡ Some count → m.stated device day ≡ Some count
+  pub rows : (device : ℕ) → is_some (position_of_device sc device) ≡ true → IsWorking l device → (lane : ℕ) (r : RecordValue) → length (l.taken device) < lane → x.rows owner device lane ≡ Some r → slice_get (m.taken device) (lane - 1) ≡ Some r
+  pub statements : (device : ℕ) → is_some (position_of_device sc device) ≡ true → IsWorking l device → (day count : ℕ) → sc.start + l.closed device ≤ day → IsDay day → x.stated owner device day ≡ Some count → m.stated device day ≡ Some count
   pub pruned : (device : ℕ) → is_some (position_of_device sc device) ≡ true → (lane : ℕ) → lane ≤ length (m.taken device) → y.rows owner device lane ≡ None
 
 -- the ledger refuses the item, and not because it is a statement that it holds
 abbrev pub IsRefused : LedgerValue → Item → Type 0
 IsRefused m (item.Tap r) = (why : TapFault) × (take_judged m r ≡ Err why)
-IsRefused m (item.Stated v) = (state_judged m v ≡ Err NotMine) ⊎ (state_judged m v ≡ Err Conflict)
+IsRefused m (item.Stated v) = (why : StatementFault) × (why ≢ Repeated) × (state_judged m v ≡ Err why)
 
 -- Why a ledger refuses an item of its session: it is the row that comes next in its lane, and of a day that is closed; or it is a statement of the outbox, and the ledger holds another count.
 abbrev pub ShowsWhy : ℕ → OutboxValue → LedgerValue → Item → Type 0

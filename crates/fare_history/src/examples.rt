@@ -8,13 +8,14 @@ ghost use Rattle.fare_history.specs.Serving.{given_all, pruned_to_all, IsService
 ghost use Rattle.fare_history.specs.Gathering.{storing_all, IsGathering};
 ghost use Rattle.fare_history.specs.Plainly.{IsFinished};
 ghost use Rattle.fare_history.specs.AcceptedLinks.{AreAcceptedLinks, arrivals};
-ghost use Rattle.fare_history.specs.Examples.{one_device, two_devices, tap_number, day_statement, new_outbox, full_outbox, new_ledger, closed_ledger, whole_service, cut_service, crowded_service, taking, had_upto, had_day, tap_entry, statement_entry, whole_gathering, holding_back, storing_only};
+ghost use Rattle.fare_history.specs.Examples.{one_device, two_devices, tap_number, day_statement, new_outbox, full_outbox, new_ledger, closed_ledger, retired_ledger, whole_service, cut_service, crowded_service, taking, had_upto, had_day, tap_entry, statement_entry, whole_gathering, holding_back, storing_only};
 
 /// An outbox holds three taps of a device and their statement, and the owner's ledger nothing. To take the taps one
 /// by one, then the statement, and to prune the lane is a finished session: the ledger has all of them, and the
 /// outbox no row. To end with the third tap in hand and the statement in the queue is a session too, which leaves that
 /// tap's row. No session passes a tap over or takes the statement before the last tap, none takes the statement of a
-/// day that is closed, and none leaves two items in a queue of one.
+/// day that is closed, and none leaves two items in a queue of one. Of a retired lane none takes a tap, and to prune
+/// it is a finished session.
 pub fn an_owner_takes_three_taps_and_their_statement()
     ensures whole { (clock : Zone) → IsService (one_device clock) 1 full_outbox new_ledger whole_service × IsFinished (one_device clock) 1 full_outbox new_ledger whole_service }
     ensures given { let m = given_all new_ledger whole_service.taken in (m.taken 1 ≡ tap_number 1 1 ∷ tap_number 1 2 ∷ tap_number 1 3 ∷ []) × (m.taken 2 ≡ []) × (m.stated 1 19723 ≡ Some 3) × (m.stated 1 19724 ≡ None) × (m.closed 1 ≡ 0) }
@@ -25,6 +26,8 @@ pub fn an_owner_takes_three_taps_and_their_statement()
     ensures before_the_last { (clock : Zone) → IsService (one_device clock) 1 full_outbox new_ledger (taking (item.Tap (tap_number 1 1) ∷ item.Tap (tap_number 1 2) ∷ item.Stated (day_statement 1 3) ∷ [])) → ⊥ }
     ensures closed { (clock : Zone) → IsService (one_device clock) 1 full_outbox closed_ledger (taking (item.Stated (day_statement 1 3) ∷ [])) → ⊥ }
     ensures crowded { (clock : Zone) → IsService (one_device clock) 1 full_outbox new_ledger crowded_service → ⊥ }
+    ensures retired { (clock : Zone) → IsService (one_device clock) 1 full_outbox retired_ledger (taking (item.Tap (tap_number 1 1) ∷ [])) → ⊥ }
+    ensures ended { (clock : Zone) → IsFinished (one_device clock) 1 full_outbox retired_ledger (record (taking []) { pruned = 1 ∷ [] }) }
 {}
 
 /// Two stations hand in the first taps of their devices, and one of them a statement twice: the outbox has two rows

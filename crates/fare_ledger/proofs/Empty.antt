@@ -1,13 +1,13 @@
 -- When a ledger is empty, by how many rows its tables have.
 use Rattle.std.proofs.Common.{◌≡◌, ◌⊎◌, inl, inr, ℕ, ◌==◌, ◌<◌, ◌||◌, nat_lt, Bool, true, false, List, [], ◌∷◌, filter, length, None, IsTrue, refl, sym, ap, ◌∙◌, arith}
-use Rattle.std.specs.Prelude.{◌↔◌}
+use Rattle.std.specs.Prelude.{◌↔◌, is_some}
 use Rattle.std.proofs.lemmas.Bool.{cases_Bool}
 use Rattle.std.proofs.lemmas.Bool.Decides.{nat_tests}
 use Rattle.sqlite_value.specs.Order.{Row, column}
 use Rattle.fare_tables.specs.Cells.{nat_in, id_of, AreAbove, AreRows, held, counted}
 use Rattle.fare_store.specs.LedgerWords.{LedgerValue, IsEmptyLedger}
 use Rattle.fare_ledger.specs.Held.{Held, TapRow, IsLane, lane_of, stated_in, is_begun, record_of}
-use Rattle.fare_ledger.specs.Words.{taken_in, value_in, FitTogether, AreUnbegun, AreUntaken, AreUnstated}
+use Rattle.fare_ledger.specs.Words.{taken_in, value_in, FitTogether, AreUnbegun, AreUntaken, AreUnstated, AreUnretired}
 use Rattle.fare_ledger.proofs.Days.{none_stated}
 
 -- no row above a rowid has it
@@ -105,9 +105,23 @@ unstated o start known h n is =
       λ empty. zero.1 (ap length (none_stated h.statements empty)),
     )
 
--- a ledger is empty where all three tables are
-pub empty_is : (v : LedgerValue) (x y z empty : Bool) → (IsTrue x ↔ AreUnbegun v) → (IsTrue y ↔ AreUntaken v) → (IsTrue z ↔ AreUnstated v) → (IsTrue empty ↔ (IsTrue x × IsTrue y × IsTrue z)) → IsTrue empty ↔ IsEmptyLedger v
-empty_is v x y z empty begun taken stated told = (
-  λ all. (let it = told.0 all in let none = begun.0 it.0 in record { taken = none.taken; stated = stated.0 it.2; closed = none.closed }),
-  λ nothing. told.1 (begun.1 (record { taken = nothing.taken; closed = nothing.closed }), taken.1 nothing.taken, stated.1 nothing.stated),
+-- no lane is retired where there is no row of one
+some_of : (rows : List Row) → ((d : ℕ) → is_some (held rows d) ≡ false) → rows ≡ []
+some_of [] none = refl
+some_of (r ∷ rows) none = absurd (
+    let itself : (id_of r == id_of r) ≡ true = grind (arith, nat_tests) in
+    let e : true ≡ false = rw itself at (none (id_of r)) in cc)
+
+pub unretired : (o start : ℕ) (known : ℕ → Bool) (h : Held) (rows : List Row) (n : ℕ) → h.retired ≡ (λ d. is_some (held rows d)) → n ≡ counted (length rows) → IsTrue (n == 0) ↔ AreUnretired (value_in o start known h)
+unretired o start known h rows n retired is =
+    let zero = zero_counted n (length rows) is in (
+      λ none d. ap (λ f. f d) retired ∙ ap (λ rs. is_some (held rs d)) (length_none rows (zero.0 none)),
+      λ empty. zero.1 (ap length (some_of rows (λ d. ap (λ f. f d) (sym retired) ∙ empty d))),
+    )
+
+-- a ledger is empty where all four tables are
+pub empty_is : (v : LedgerValue) (x y z t empty : Bool) → (IsTrue x ↔ AreUnbegun v) → (IsTrue y ↔ AreUntaken v) → (IsTrue z ↔ AreUnstated v) → (IsTrue t ↔ AreUnretired v) → (IsTrue empty ↔ (IsTrue x × IsTrue y × IsTrue z × IsTrue t)) → IsTrue empty ↔ IsEmptyLedger v
+empty_is v x y z t empty begun taken stated retired told = (
+  λ all. (let it = told.0 all in let none = begun.0 it.0 in record { taken = none.taken; stated = stated.0 it.2; closed = none.closed; retired = retired.0 it.3 }),
+  λ nothing. told.1 (begun.1 (record { taken = nothing.taken; closed = nothing.closed }), taken.1 nothing.taken, stated.1 nothing.stated, retired.1 nothing.retired),
 )

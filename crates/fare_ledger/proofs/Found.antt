@@ -1,5 +1,6 @@
 -- What the questions of a ledger find.
 use Rattle.std.proofs.Common.{◌≡◌, ◌⊎◌, inl, inr, ℕ, suc, pos, ◌==◌, ◌||◌, nat_lt, Bool, true, false, List, [], ◌∷◌, map, filter, length, Option, Some, None, Ok, Err, Result, IfOk, refl, sym, ap, subst, ◌∙◌, arith}
+use Rattle.std.specs.Prelude.{is_some, not}
 use Rattle.std.specs.List.{AllByRecursion, flat_map}
 use Rattle.std.specs.List.Sorted.{IsPermutation}
 use Rattle.std.proofs.lemmas.Bool.{cases_Bool}
@@ -31,11 +32,11 @@ use Rattle.fare_ledger.specs.Layouts.{schema_in, tree_in, ours, at_tree}
 use Rattle.fare_opening.proofs.Asked.{asked_at}
 use Rattle.fare_ledger.proofs.Placed.{within}
 use Rattle.fare_ledger.specs.Making.{site_of}
-use Rattle.fare_ledger.specs.Statements.{ledger_parts}
-use Rattle.fare_ledger.specs.Tables.{lane_query, stated_terms, stated_query, day_terms, begun_terms}
-use Rattle.fare_ledger.specs.Held.{TapRow, StatedRow, lane_row, IsLane, lane_of, tap_cells, tap_of, IsTap, stated_cells, stated_of, IsStated, is_of, stated_in, is_on, is_begun}
+use Rattle.fare_ledger.specs.Statements.{Retired, ledger_parts}
+use Rattle.fare_ledger.specs.Tables.{lane_query, stated_terms, stated_query, day_terms, begun_terms, retired_terms}
+use Rattle.fare_ledger.specs.Held.{TapRow, StatedRow, lane_row, IsLane, lane_of, tap_cells, tap_of, IsTap, stated_cells, stated_of, IsStated, is_of, stated_in, is_on, is_begun, retired_row, IsRetired}
 use Rattle.fare_ledger.specs.Words.{AreApart}
-use Rattle.fare_ledger.proofs.Texts.{lane_text, lane_meant, stated_text, stated_meant, day_text, day_meant, begun_text, begun_meant, taps_text, taps_meant, statements_text, statements_meant}
+use Rattle.fare_ledger.proofs.Texts.{lane_text, lane_meant, stated_text, stated_meant, day_text, day_meant, begun_text, begun_meant, taps_text, taps_meant, statements_text, statements_meant, retired_text, retired_meant, all_retired_text, all_retired_meant}
 
 pub lane_ids : (r : Row) → IsLane r → column r 0 ≡ int (id_of r)
 lane_ids r ok = ap (λ x. column x 0) ok
@@ -53,6 +54,10 @@ at_tap w q db params rows = asked_at ledger_parts (site_of w) w.fits kind.Tap (w
 pub at_stated : (w : Layout) (q : Query) (db : Trees) (params : Row) (rows : List Row) → IsAnswer (at_tree (tree_in w kind.Stated) q) (overlay db []) params rows → IsAnswer (at_tree 4 q) (overlay (ours w db) []) params rows
 unfolding ours
 at_stated w q db params rows = asked_at ledger_parts (site_of w) w.fits kind.Stated (within w kind.Stated refl) q 4 db (overlay (ours w db) []) params rows refl
+
+pub at_retired : (w : Layout) (q : Query) (db : Trees) (params : Row) (rows : List Row) → IsAnswer (at_tree (tree_in w Retired) q) (overlay db []) params rows → IsAnswer (at_tree 6 q) (overlay (ours w db) []) params rows
+unfolding ours
+at_retired w q db params rows = asked_at ledger_parts (site_of w) w.fits Retired (within w Retired refl) q 6 db (overlay (ours w db) []) params rows refl
 
 -- ---- the numbers of a device
 
@@ -240,3 +245,46 @@ statements_counted w old new row has h =
     let rows = count_answer 4 [] (overlay (ours w old.now.trees) []) [] (row ∷ got.0) a in
     let first : row ≡ int (counted (length (found 4 [] (overlay (ours w old.now.trees) []) []))) ∷ [] = cc in
     first ∙ ap (λ n. int (counted n) ∷ []) (all_found (ours w old.now.trees 4) ∙ sym (length-map (ours w old.now.trees 4) stated_of))
+
+-- ---- a retired lane
+
+pub retired_ids : (r : Row) → IsRetired r → column r 0 ≡ int (id_of r)
+retired_ids r ok = ap (λ x. column x 0) ok
+
+retired_cell : (id d : ℕ) → matches_as Null (λ _. []) retired_terms end ((int d ∷ []) ∷ retired_row id ∷ []) ≡ chosen (id == d) ((int d ∷ []) ∷ retired_row id ∷ [])
+retired_cell id d = rw (eq_holds id d) (one_term (id == d) ((int d ∷ []) ∷ retired_row id ∷ []))
+
+retired_each : (d : ℕ) (r : Row) → IsRetired r → matches_as Null (λ _. []) retired_terms end ((int d ∷ []) ∷ r ∷ []) ≡ chosen (id_of r == d) ((int d ∷ []) ∷ r ∷ [])
+retired_each d r ok = subst (λ x. matches_as Null (λ _. []) retired_terms end ((int d ∷ []) ∷ x ∷ []) ≡ chosen (id_of x == d) ((int d ∷ []) ∷ x ∷ [])) (sym ok) (retired_cell (id_of r) d)
+
+-- one row of a device, or none
+abbrev pub rows_of : List Row → ℕ → List Row
+rows_of rows d = filter (λ r. id_of r == d) rows
+
+pub retired_counted : (w : Layout) (old new : State) (d : ℕ) (row : Row) → old.now.schema ≡ schema_in w → AreRows IsRetired (ours w old.now.trees 6) → QueriesRow retired_text (int d ∷ []) old new (Ok row) → row ≡ int (counted (length (rows_of (ours w old.now.trees 6) d))) ∷ []
+retired_counted w old new d row has ok h =
+    let got = (first_as retired_text (int d ∷ []) old new (schema_in w) has _ (retired_meant w).command_is (retired_meant w).plain (retired_meant w).unlisted row h).1 in
+    let a : IsAnswer (count_query 6 retired_terms) (overlay (ours w old.now.trees) []) (int d ∷ []) (row ∷ got.0) = at_retired w (count_query 6 retired_terms) old.now.trees (int d ∷ []) (row ∷ got.0) (got.1 Null) in
+    let rows = count_answer 6 retired_terms (overlay (ours w old.now.trees) []) (int d ∷ []) (row ∷ got.0) a in
+    let first : row ≡ int (counted (length (found 6 retired_terms (overlay (ours w old.now.trees) []) (int d ∷ [])))) ∷ [] = cc in
+    let all = matched IsRetired (λ r. id_of r == d) (int d ∷ []) retired_terms (retired_each d) (ours w old.now.trees 6) (all_of IsRetired (ours w old.now.trees 6) ok) in
+    first ∙ ap (λ n. int (counted n) ∷ []) (ap length all ∙ length-map (rows_of (ours w old.now.trees 6) d) (λ r. (int d ∷ []) ∷ r ∷ []))
+
+-- a count that isn't 0 says that the lane is retired
+pub retired_is : (rows : List Row) (d n : ℕ) → AreRows IsRetired rows → n ≡ counted (length (rows_of rows d)) → not (n == 0) ≡ is_some (held rows d)
+retired_is rows d n ok is = elim (held_one IsRetired retired_ids rows d ok) [
+  | inl none ↦ (
+      let n_is : n ≡ 0 = is ∙ ap (λ xs. counted (length xs)) none.0 in
+      ap (λ k. not (k == 0)) n_is ∙ sym (ap is_some none.1))
+  | inr one ↦ (
+      let n_is : n ≡ 1 = is ∙ ap (λ xs. counted (length xs)) one.2 in
+      ap (λ k. not (k == 0)) n_is ∙ sym (ap is_some one.3))
+]
+
+pub all_retired_counted : (w : Layout) (old new : State) (row : Row) → old.now.schema ≡ schema_in w → QueriesRow all_retired_text [] old new (Ok row) → row ≡ int (counted (length (ours w old.now.trees 6))) ∷ []
+all_retired_counted w old new row has h =
+    let got = (first_as all_retired_text [] old new (schema_in w) has _ (all_retired_meant w).command_is (all_retired_meant w).plain (all_retired_meant w).unlisted row h).1 in
+    let a : IsAnswer (count_query 6 []) (overlay (ours w old.now.trees) []) [] (row ∷ got.0) = at_retired w (count_query 6 []) old.now.trees [] (row ∷ got.0) (got.1 Null) in
+    let rows = count_answer 6 [] (overlay (ours w old.now.trees) []) [] (row ∷ got.0) a in
+    let first : row ≡ int (counted (length (found 6 [] (overlay (ours w old.now.trees) []) []))) ∷ [] = cc in
+    first ∙ ap (λ n. int (counted n) ∷ []) (all_found (ours w old.now.trees 6))

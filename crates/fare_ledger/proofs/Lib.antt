@@ -1,4 +1,5 @@
 pub mod Texts
+pub mod FirstTexts
 pub mod Placed
 pub mod Found
 pub mod Links
@@ -12,5 +13,6 @@ pub mod Empty
 pub mod Listed
 pub mod Between
 pub mod Known
+pub mod Rising
 pub mod Opened
 pub mod AnyOrder

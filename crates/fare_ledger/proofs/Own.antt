@@ -1,5 +1,5 @@
 -- A database of a ledger alone.
-use Rattle.std.proofs.Common.{◌≡◌, codes, List, ℕ, Ok, inl, inr, refl, arith}
+use Rattle.std.proofs.Common.{◌≡◌, [], ◌∷◌, codes, List, ℕ, Ok, inl, inr, refl, arith}
 use Rattle.std.specs.Prelude.{drop}
 use Rattle.std.specs.List.{AllByRecursion}
 use Rattle.sqlite.specs.Compile.{table_defined_by}
@@ -9,14 +9,17 @@ use Rattle.sqlite_schema.specs.Names.{same_name}
 use Rattle.fare_tables.specs.Making.{no_schema}
 use Rattle.fare_tables.specs.Queries.{meta_table}
 use Rattle.fare_layout.specs.Schemas.{IsSimpleTable}
+use Rattle.fare_layout.specs.declared.place.Places.{Places}
+use Rattle.fare_layout.specs.Layouts.{Fits}
 use Rattle.fare_layout.specs.Places.{all_of}
 use Rattle.fare_layout.specs.Growing.{CanMake, CanMakeAll, Grows, GrowsBy, AreLast}
 use Rattle.fare_opening.proofs.Standing.{few_keys}
-use Rattle.fare_opening.specs.Parts.{IsDesign, HasFewKeys}
+use Rattle.fare_opening.specs.Parts.{IsDesign, IsOlder, HasFewKeys, parts_of}
 use Rattle.fare_opening.proofs.Orders.{fit_as}
-use Rattle.fare_ledger.specs.Statements.{tables, texts, FitsLedger, ledger_parts}
-use Rattle.fare_ledger.specs.Tables.{one_table, two_tables, three_tables, ledger_schema, lane_table, tap_table, stated_table}
+use Rattle.fare_ledger.specs.Statements.{first_tables, tables, first_texts, texts, FitsLedger, first_format, ledger_parts}
+use Rattle.fare_ledger.specs.Tables.{one_table, two_tables, three_tables, first_schema, ledger_schema, lane_table, tap_table, stated_table, retired_table}
 use Rattle.fare_ledger.proofs.Texts.{own_places, meta_own, put_meta_own, set_meta_own, understood_all}
+use Rattle.fare_ledger.proofs.FirstTexts.{meta_first, put_meta_first, set_meta_first, understood_first}
 
 -- TABLES
 abbrev pub make_meta_text : List ℕ
@@ -30,6 +33,9 @@ make_tap_text = codes "CREATE TABLE tap (device INTEGER NOT NULL, lane INTEGER N
 
 abbrev pub make_stated_text : List ℕ
 make_stated_text = codes "CREATE TABLE stated (device INTEGER NOT NULL, day INTEGER NOT NULL, total INTEGER NOT NULL, PRIMARY KEY (device, day)) STRICT"
+
+abbrev pub make_retired_text : List ℕ
+make_retired_text = codes "CREATE TABLE retired (device INTEGER PRIMARY KEY) STRICT"
 
 meta_is : table_defined_by make_meta_text ≡ Ok (meta_table 0)
 unfolding understood everything
@@ -46,6 +52,10 @@ tap_is = refl
 stated_is : table_defined_by make_stated_text ≡ Ok (stated_table 0)
 unfolding understood everything
 stated_is = refl
+
+retired_is : table_defined_by make_retired_text ≡ Ok (retired_table 0)
+unfolding understood everything
+retired_is = refl
 
 -- MADE
 pub meta_can : CanMake no_schema (codes "meta") make_meta_text (meta_table 0)
@@ -64,44 +74,101 @@ pub stated_can : CanMake three_tables (codes "stated") make_stated_text (stated_
 unfolding everything
 stated_can = record { creates = record { creates = refl; silent = refl; timeless = refl; begins = refl; ends = refl }; defined = stated_is; named = refl; uncounted = refl; room = omega arith }
 
+pub retired_can : CanMake first_schema (codes "retired") make_retired_text (retired_table 0)
+unfolding first_schema everything
+retired_can = record { creates = record { creates = refl; silent = refl; timeless = refl; begins = refl; ends = refl }; defined = retired_is; named = refl; uncounted = refl; room = omega arith }
+
+first_can : CanMakeAll no_schema first_tables
+first_can = (meta_table 0, meta_can, (lane_table 0, lane_can, (tap_table 0, tap_can, (stated_table 0, stated_can, tt))))
+
 pub can_make : CanMakeAll no_schema tables
-can_make = (meta_table 0, meta_can, (lane_table 0, lane_can, (tap_table 0, tap_can, (stated_table 0, stated_can, tt))))
+unfolding first_schema
+can_make = (meta_table 0, meta_can, (lane_table 0, lane_can, (tap_table 0, tap_can, (stated_table 0, stated_can, (retired_table 0, retired_can, tt)))))
+
+meta_grows : Grows no_schema make_meta_text one_table
+unfolding understood everything
+meta_grows = record { table = meta_table 0; defines = record { plain = (refl, refl); whole = (refl, refl); defined = meta_is; uncounted = refl }; next_is = refl }
+
+lane_grows : Grows one_table make_lane_text two_tables
+unfolding understood everything
+lane_grows = record { table = lane_table 0; defines = record { plain = (refl, refl); whole = (refl, refl); defined = lane_is; uncounted = refl }; next_is = refl }
+
+tap_grows : Grows two_tables make_tap_text three_tables
+unfolding understood everything
+tap_grows = record { table = tap_table 0; defines = record { plain = (refl, refl); whole = (refl, refl); defined = tap_is; uncounted = refl }; next_is = refl }
+
+stated_grows : Grows three_tables make_stated_text first_schema
+unfolding first_schema understood everything
+stated_grows = record { table = stated_table 0; defines = record { plain = (refl, refl); whole = (refl, refl); defined = stated_is; uncounted = refl }; next_is = refl }
+
+retired_grows : Grows first_schema make_retired_text ledger_schema
+unfolding first_schema ledger_schema understood everything
+retired_grows = record { table = retired_table 0; defines = record { plain = (refl, refl); whole = (refl, refl); defined = retired_is; uncounted = refl }; next_is = refl }
+
+first_grows : GrowsBy no_schema first_tables first_schema
+first_grows = (one_table, meta_grows, (two_tables, lane_grows, (three_tables, tap_grows, (first_schema, stated_grows, refl))))
 
 own_grows : GrowsBy no_schema tables ledger_schema
-unfolding ledger_schema understood everything
-own_grows =
-    let meta : Grows no_schema make_meta_text one_table = record { table = meta_table 0; defines = record { plain = (refl, refl); whole = (refl, refl); defined = meta_is; uncounted = refl }; next_is = refl } in
-    let lane : Grows one_table make_lane_text two_tables = record { table = lane_table 0; defines = record { plain = (refl, refl); whole = (refl, refl); defined = lane_is; uncounted = refl }; next_is = refl } in
-    let tap : Grows two_tables make_tap_text three_tables = record { table = tap_table 0; defines = record { plain = (refl, refl); whole = (refl, refl); defined = tap_is; uncounted = refl }; next_is = refl } in
-    let stated : Grows three_tables make_stated_text ledger_schema = record { table = stated_table 0; defines = record { plain = (refl, refl); whole = (refl, refl); defined = stated_is; uncounted = refl }; next_is = refl } in
-    (one_table, meta, (two_tables, lane, (three_tables, tap, (ledger_schema, stated, refl))))
+own_grows = (one_table, meta_grows, (two_tables, lane_grows, (three_tables, tap_grows, (first_schema, stated_grows, (ledger_schema, retired_grows, refl)))))
+
+first_few : AllByRecursion (λ t. HasFewKeys t.1) first_tables
+first_few = (few_keys make_meta_text (meta_table 0) meta_is (omega arith), (few_keys make_lane_text (lane_table 0) lane_is (omega arith), (few_keys make_tap_text (tap_table 0) tap_is (omega arith), (few_keys make_stated_text (stated_table 0) stated_is (omega arith), tt))))
 
 own_few : AllByRecursion (λ t. HasFewKeys t.1) tables
-own_few = (few_keys make_meta_text (meta_table 0) meta_is (omega arith), (few_keys make_lane_text (lane_table 0) lane_is (omega arith), (few_keys make_tap_text (tap_table 0) tap_is (omega arith), (few_keys make_stated_text (stated_table 0) stated_is (omega arith), tt))))
+own_few = (few_keys make_meta_text (meta_table 0) meta_is (omega arith), (few_keys make_lane_text (lane_table 0) lane_is (omega arith), (few_keys make_tap_text (tap_table 0) tap_is (omega arith), (few_keys make_stated_text (stated_table 0) stated_is (omega arith), (few_keys make_retired_text (retired_table 0) retired_is (omega arith), tt)))))
 
 -- IT FITS
+-- where the tables stand in a database of a ledger of the first format alone
+abbrev pub first_places : Places
+first_places = record { all = record { at = 0; tree = 0 } ∷ record { at = 1; tree = 1 } ∷ record { at = 2; tree = 2 } ∷ record { at = 3; tree = 4 } ∷ [] }
+
+first_fits : Fits first_schema first_texts first_schema first_places
+unfolding everything first_schema same_name understood_first
+first_fits = fit_as first_schema first_texts understood_first first_schema first_places refl refl refl (refl, (refl, (refl, (refl, tt)))) refl refl
+
 pub own_fits : FitsLedger ledger_schema own_places
 unfolding everything ledger_schema same_name understood_all
-own_fits = fit_as ledger_schema texts understood_all ledger_schema own_places refl refl refl (refl, (refl, (refl, (refl, tt)))) refl refl
+own_fits = fit_as ledger_schema texts understood_all ledger_schema own_places refl refl refl (refl, (refl, (refl, (refl, (refl, tt))))) refl refl
+
+first_last : AreLast no_schema (all_of first_places)
+first_last = (refl, (refl, (refl, (refl, tt))))
 
 own_last : AreLast no_schema (all_of own_places)
-own_last = (refl, (refl, (refl, (refl, tt))))
+own_last = (refl, (refl, (refl, (refl, (refl, tt)))))
 
 -- the tables refer to no other, and have no default
+first_simple : AllByRecursion IsSimpleTable first_schema.tables
+unfolding first_schema
+first_simple = (record { columns = (tt, (tt, tt)); checks = tt; references = refl; stamps = tt; formats = refl }, (record { columns = (tt, (tt, (tt, tt))); checks = ((tt, tt), ((tt, tt), tt)); references = refl; stamps = tt; formats = refl }, (record { columns = (tt, (tt, (tt, (tt, (tt, (tt, (tt, tt))))))); checks = tt; references = refl; stamps = tt; formats = refl }, (record { columns = (tt, (tt, (tt, tt))); checks = tt; references = refl; stamps = tt; formats = refl }, tt))))
+
 pub simple_tables : AllByRecursion IsSimpleTable ledger_schema.tables
 unfolding ledger_schema
-simple_tables = (
-  record { columns = (tt, (tt, tt)); checks = tt; references = refl; stamps = tt; formats = refl },
-  (
-    record { columns = (tt, (tt, (tt, tt))); checks = ((tt, tt), ((tt, tt), tt)); references = refl; stamps = tt; formats = refl },
-    (
-      record { columns = (tt, (tt, (tt, (tt, (tt, (tt, (tt, tt))))))); checks = tt; references = refl; stamps = tt; formats = refl },
-      (record { columns = (tt, (tt, (tt, tt))); checks = tt; references = refl; stamps = tt; formats = refl }, tt),
-    ),
-  ),
-)
+simple_tables = (record { columns = (tt, (tt, tt)); checks = tt; references = refl; stamps = tt; formats = refl }, (record { columns = (tt, (tt, (tt, tt))); checks = ((tt, tt), ((tt, tt), tt)); references = refl; stamps = tt; formats = refl }, (record { columns = (tt, (tt, (tt, (tt, (tt, (tt, (tt, tt))))))); checks = tt; references = refl; stamps = tt; formats = refl }, (record { columns = (tt, (tt, (tt, tt))); checks = tt; references = refl; stamps = tt; formats = refl }, (record { columns = (tt, tt); checks = tt; references = refl; stamps = tt; formats = refl }, tt)))))
 
 -- A LEDGER IS A STORE
+pub first_design : IsDesign (parts_of first_format)
+unfolding first_schema
+first_design = record {
+  rest = drop 1 first_tables;
+  tables_are = refl;
+  meta_is = refl;
+  many = refl;
+  can = first_can;
+  grows = first_grows;
+  few = first_few;
+  simple = first_simple;
+  understood = understood_first;
+  home = first_places;
+  at_home = first_fits;
+  last = first_last;
+  asks = inr (inr (inr (inr (inr (inr (inr (inl refl)))))));
+  asks_meant = meta_first;
+  puts = inr (inr (inr (inr (inr (inr (inr (inr (inl refl))))))));
+  puts_meant = put_meta_first;
+  sets = inr (inr (inr (inr (inr (inr (inr (inr (inr (inl refl)))))))));
+  sets_meant = set_meta_first;
+}
+
 pub ledger_design : IsDesign ledger_parts
 unfolding ledger_schema
 ledger_design = record {
@@ -124,3 +191,7 @@ ledger_design = record {
   sets = inr (inr (inr (inr (inr (inr (inr (inr (inr (inl refl)))))))));
   sets_meant = set_meta_own;
 }
+
+-- the first format is one that is raised
+pub ledger_older : AllByRecursion (IsOlder ledger_parts) ledger_parts.older
+ledger_older = (record { design = first_design; tables_are = refl }, tt)

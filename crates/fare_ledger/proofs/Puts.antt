@@ -1,5 +1,6 @@
 -- What one INSERT writes, and what the tables then hold.
 use Rattle.std.proofs.Common.{◌≡◌, ◌≢◌, ◌⊎◌, inl, inr, ℕ, ◌==◌, pos, List, [], ◌∷◌, map, if◌then◌else◌, Bool, true, false, Option, Some, None, Ok, refl, sym, ap, subst, ◌∙◌}
+use Rattle.std.specs.Prelude.{is_some}
 use Rattle.std.proofs.lemmas.List.{map-append}
 use Rattle.sqlite.specs.declared.types.Value.TheVariants.{Null, Int}
 use Rattle.sqlite_value.specs.Order.{Row, column}
@@ -20,12 +21,13 @@ use Rattle.fare_tables.proofs.Statements.{made, cast_int, cast_null, went, same_
 use Rattle.fare_opening.specs.Numbers.{Meta, Device, Tap, Stated}
 use Rattle.fare_ledger.specs.declared.layout.Layout.{Layout}
 use Rattle.fare_ledger.specs.Layouts.{schema_in, tree_in, ours}
-use Rattle.fare_ledger.specs.Tables.{tap_table, stated_table}
-use Rattle.fare_ledger.specs.Held.{TapRow, StatedRow, PutsTap, PutsLane, PutsStated, Becomes, AreReadable, IsLane, IsTap, IsStated, lane_row, lane_of, tap_cells, tap_of, stated_cells, stated_of, held_of, with_lane, with_tap, with_stated, with_numbers}
-use Rattle.fare_ledger.proofs.Texts.{put_tap_text, put_tap_command, put_tap_meant, put_stated_text, put_stated_command, put_stated_meant}
+use Rattle.fare_ledger.specs.Statements.{Retired}
+use Rattle.fare_ledger.specs.Tables.{tap_table, stated_table, retired_table}
+use Rattle.fare_ledger.specs.Held.{TapRow, StatedRow, PutsTap, PutsLane, PutsStated, PutsRetired, Becomes, AreReadable, IsLane, IsTap, IsStated, IsRetired, retired_row, lane_row, lane_of, tap_cells, tap_of, stated_cells, stated_of, held_of, with_lane, with_tap, with_stated, with_numbers, with_retired_lane}
+use Rattle.fare_ledger.proofs.Texts.{put_tap_text, put_tap_command, put_tap_meant, put_stated_text, put_stated_command, put_stated_meant, put_retired_text, put_retired_command, put_retired_meant}
 use Rattle.fare_opening.proofs.Standing.{at_found}
-use Rattle.fare_ledger.proofs.Placed.{no_works, tap_placed, stated_placed, each, apart}
-use Rattle.fare_ledger.proofs.Found.{lane_ids}
+use Rattle.fare_ledger.proofs.Placed.{no_works, tap_placed, stated_placed, retired_placed, each, apart}
+use Rattle.fare_ledger.proofs.Found.{lane_ids, retired_ids}
 
 pub tap_ids : (r : Row) → IsTap r → column r 0 ≡ int (id_of r)
 tap_ids r ok = ap (λ x. column x 0) ok
@@ -59,6 +61,7 @@ puts_tap w old new t count has h =
       lanes = at (tree_in w Device) ∙ kept Device refl (apart w Device Tap refl refl refl);
       taps = at (tree_in w Tap) ∙ step.rows ∙ edit;
       statements = at (tree_in w Stated) ∙ kept Stated refl (apart w Stated Tap refl refl refl);
+      retired = at (tree_in w Retired) ∙ kept Retired refl (apart w Retired Tap refl refl refl);
       meta = at (tree_in w Meta) ∙ kept Meta refl (apart w Meta Tap refl refl refl);
     }
 
@@ -88,7 +91,38 @@ puts_stated w old new s count has h =
       lanes = at (tree_in w Device) ∙ kept Device refl (apart w Device Stated refl refl refl);
       taps = at (tree_in w Tap) ∙ kept Tap refl (apart w Tap Stated refl refl refl);
       statements = at (tree_in w Stated) ∙ step.rows ∙ edit;
+      retired = at (tree_in w Retired) ∙ kept Retired refl (apart w Retired Stated refl refl refl);
       meta = at (tree_in w Meta) ∙ kept Meta refl (apart w Meta Stated refl refl refl);
+    }
+
+pub puts_retired : (w : Layout) (old new : State) (d : ℕ) (count : ℕ) → old.now.schema ≡ schema_in w → Executes put_retired_text (int d ∷ []) old new (Ok count) → PutsRetired w old.now new.now d
+unfolding ours
+puts_retired w old new d count has h =
+    let params = int d ∷ [] in
+    let db = old.now.trees in
+    let table = retired_table (tree_in w Retired) in
+    let command = put_retired_command w in
+    let means = put_retired_meant w in
+    let run = runs_as put_retired_text params old new (schema_in w) has command means.command_is means.plain count h in
+    let text = statement_of put_retired_text (understood (schema_in w) put_retired_text) in
+    let task : Task = record { limit = old.step_limit; keys = Enforced; schema = schema_in w; table = table; params = params } in
+    let done = made task (mode_of old) command db run.tally new.now (at_found task (mode_of old) command db _ (run.tally, new.now) (retired_placed w) (subst (λ s. Does old.step_limit (mode_of old) params (record old.now { schema = s }) text None command (Ok (run.tally, new.now))) has run.changed)) in
+    let given = went done.wrote in
+    let written = went (went given.2).2 in
+    let counted = went written.2 in
+    let trees : new.now.trees ≡ written.0 = ap (λ (d : Database). d.trees) done.after_is ∙ ap (λ (it : Written). it.trees) (same_value counted.2) ∙ same_value counted.1 in
+    let step = one_step (schema_in w) Enforced db written.0 (edit_of db table [] Chosen 0 given.0) (no_works w Retired refl Enforced db (edit_of db table [] Chosen 0 given.0) refl) written.1 in
+    let kept = each (λ tree. tree ≢ tree_in w Retired → written.0 tree ≡ db tree) w step.tables in
+    let edit : edited db (edit_of db table [] Chosen 0 given.0) ≡ put_row (retired_row d) (db (tree_in w Retired)) = ap (λ all. edited db (edit_of db table [] Chosen 0 all)) given.1.1 ∙ simp (cast_int, cast_null) in
+    let at : (k : ℕ) → new.now.trees k ≡ written.0 k = λ k. ap (λ (t : Trees). t k) trees in
+    record {
+      schema = ap (λ (d : Database). d.schema) done.after_is;
+      database = run.sound;
+      lanes = at (tree_in w Device) ∙ kept Device refl (apart w Device Retired refl refl refl);
+      taps = at (tree_in w Tap) ∙ kept Tap refl (apart w Tap Retired refl refl refl);
+      statements = at (tree_in w Stated) ∙ kept Stated refl (apart w Stated Retired refl refl refl);
+      retired = at (tree_in w Retired) ∙ step.rows ∙ edit;
+      meta = at (tree_in w Meta) ∙ kept Meta refl (apart w Meta Retired refl refl refl);
     }
 
 -- ---- what is held then
@@ -113,14 +147,16 @@ both w old mid new t c ok first second =
     let taps = appended IsTap tap_ids (ours w old.trees 2) (ours w new.trees 2) (tap_cells t) ok.taps (λ n. refl) (second.taps ∙ first.taps) in
     let lanes = lanes_after (ours w mid.trees 1) (ours w new.trees 1) t.device t.lane c (subst (AreRows IsLane) (sym first.lanes) ok.lanes) second.lanes in
     let statements = second.statements ∙ first.statements in
+    let retired = second.retired ∙ first.retired in
     record {
       schema = second.schema;
       database = second.database;
-      readable = record { lanes = lanes.0; taps = taps.0; statements = subst (AreRows IsStated) (sym statements) ok.statements };
+      readable = record { lanes = lanes.0; taps = taps.0; statements = subst (AreRows IsStated) (sym statements) ok.statements; retired = subst (AreRows IsRetired) (sym retired) ok.retired };
       value = λ i. record {
         lanes = λ x. (lanes.1 x ∙ ap (λ all. with_lane t.device t.lane c (λ y. lane_of (held all y)) x) first.lanes) i;
         taps = (ap (map tap_of) taps.1 ∙ map-append tap_of (ours w old.trees 2) _) i;
         statements = ap (map stated_of) statements i;
+        retired = λ x. is_some (held (retired i) x);
         meta = (second.meta ∙ first.meta) i;
       };
     }
@@ -131,11 +167,12 @@ one_more w old new s ok puts =
     record {
       schema = puts.schema;
       database = puts.database;
-      readable = record { lanes = subst (AreRows IsLane) (sym puts.lanes) ok.lanes; taps = subst (AreRows IsTap) (sym puts.taps) ok.taps; statements = statements.0 };
+      readable = record { lanes = subst (AreRows IsLane) (sym puts.lanes) ok.lanes; taps = subst (AreRows IsTap) (sym puts.taps) ok.taps; statements = statements.0; retired = subst (AreRows IsRetired) (sym puts.retired) ok.retired };
       value = λ i. record {
         lanes = λ x. lane_of (held (puts.lanes i) x);
         taps = map tap_of (puts.taps i);
         statements = (ap (map stated_of) statements.1 ∙ map-append stated_of (ours w old.trees 4) _) i;
+        retired = λ x. is_some (held (puts.retired i) x);
         meta = puts.meta i;
       };
     }
@@ -146,11 +183,37 @@ other_numbers w old new d k c ok puts =
     record {
       schema = puts.schema;
       database = puts.database;
-      readable = record { lanes = lanes.0; taps = subst (AreRows IsTap) (sym puts.taps) ok.taps; statements = subst (AreRows IsStated) (sym puts.statements) ok.statements };
+      readable = record { lanes = lanes.0; taps = subst (AreRows IsTap) (sym puts.taps) ok.taps; statements = subst (AreRows IsStated) (sym puts.statements) ok.statements; retired = subst (AreRows IsRetired) (sym puts.retired) ok.retired };
       value = λ i. record {
         lanes = λ x. lanes.1 x i;
         taps = map tap_of (puts.taps i);
         statements = map stated_of (puts.statements i);
+        retired = λ x. is_some (held (puts.retired i) x);
+        meta = puts.meta i;
+      };
+    }
+
+some_if : (b : Bool) (r : Row) (o : Option Row) → is_some (if b then Some r else o) ≡ (if b then true else is_some o)
+some_if true r o = refl
+some_if false r o = refl
+
+pub one_retired : (w : Layout) (old new : Database) (d : ℕ) → AreReadable (ours w old.trees) → PutsRetired w old new d → Becomes w new (with_retired_lane d (held_of (ours w old.trees)))
+one_retired w old new d ok puts =
+    let rows = ours w old.trees 6 in
+    record {
+      schema = puts.schema;
+      database = puts.database;
+      readable = record {
+        lanes = subst (AreRows IsLane) (sym puts.lanes) ok.lanes;
+        taps = subst (AreRows IsTap) (sym puts.taps) ok.taps;
+        statements = subst (AreRows IsStated) (sym puts.statements) ok.statements;
+        retired = subst (AreRows IsRetired) (sym puts.retired) (rows_put IsRetired retired_ids rows d (Null ∷ []) refl ok.retired);
+      };
+      value = λ i. record {
+        lanes = λ x. lane_of (held (puts.lanes i) x);
+        taps = map tap_of (puts.taps i);
+        statements = map stated_of (puts.statements i);
+        retired = λ x. (ap (λ all. is_some (held all x)) puts.retired ∙ ap is_some (held_put IsRetired retired_ids rows d (Null ∷ []) x ok.retired) ∙ some_if (d == x) (retired_row d) (held rows x)) i;
         meta = puts.meta i;
       };
     }

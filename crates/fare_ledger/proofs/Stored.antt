@@ -8,13 +8,13 @@ use Rattle.sqlite.specs.Tree.{Trees}
 use Rattle.fare_record.specs.Values.{RecordValue, StatementValue}
 use Rattle.fare_record.specs.Lanes.{day_count}
 use Rattle.fare_store.specs.Tables.{put}
-use Rattle.fare_store.specs.LedgerWords.{took, with_statement, with_close}
+use Rattle.fare_store.specs.LedgerWords.{took, with_statement, with_close, with_retired}
 use Rattle.fare_store.proofs.Taps.{count_last}
 use Rattle.fare_tables.specs.Tabled.{IsFit, IsLeft, left_of}
 use Rattle.fare_ledger.specs.declared.lane.Lane.{Lane}
 use Rattle.fare_ledger.specs.declared.layout.Layout.{Layout}
 use Rattle.fare_ledger.specs.Layouts.{schema_in, ours}
-use Rattle.fare_ledger.specs.Held.{Held, TapRow, Becomes, MayBecome, IsReady, held_of, row_of, record_of, row_stated, stated_in, with_lane, with_tap, with_stated, with_numbers}
+use Rattle.fare_ledger.specs.Held.{Held, TapRow, Becomes, MayBecome, IsReady, held_of, row_of, record_of, row_stated, stated_in, with_lane, with_tap, with_stated, with_numbers, with_retired_lane}
 use Rattle.fare_ledger.specs.Words.{taken_in, value_in, AreCounted, FitTogether, IsLawful, MayTake, MayClose}
 use Rattle.fare_ledger.proofs.Taken.{taken_pushed, next_pushed}
 use Rattle.fare_ledger.proofs.Days.{stated_put, apart_pushed, stays_stated}
@@ -66,6 +66,7 @@ take_value o start known h r c may = λ i. record {
   taken = λ d. taken_put o h.taps r d may.mine i;
   stated = stated_in h.statements;
   closed = λ d. closed_stays h.lanes r.device r.lane c d may.closed_is i;
+  retired = h.retired;
 }
 
 -- the closed days are others
@@ -118,6 +119,7 @@ state_value o start known h s none = λ i. record {
   taken = taken_in o h.taps;
   stated = λ d y. stated_put h.statements (row_stated s) d y none i;
   closed = λ d. (h.lanes d).closed;
+  retired = h.retired;
 }
 
 pub state_fits : (o start : ℕ) (h : Held) (s : StatementValue) → stated_in h.statements s.device s.day ≡ None → FitTogether o start h → FitTogether o start (with_stated (row_stated s) h)
@@ -145,6 +147,7 @@ close_value o start known h d lane may = λ i. record {
   taken = taken_in o h.taps;
   stated = stated_in h.statements;
   closed = λ x. closed_put h.lanes d lane.taken (lane.closed + 1) x (ap (λ n. n + 1) may.numbers.closed) i;
+  retired = h.retired;
 }
 
 taken_stays : (o : ℕ) (h : Held) (d k c x : ℕ) → k ≡ length (taken_in o h.taps d) → (h.lanes x).taken ≡ length (taken_in o h.taps x) → (with_lane d k c h.lanes x).taken ≡ length (taken_in o h.taps x)
@@ -175,3 +178,19 @@ close_fits o start known h d lane may fit = record {
   days = close_days o start h d lane.taken (lane.closed + 1) (ap (λ n. n + 1) may.numbers.closed) may.stated fit.days;
   meta = fit.meta;
 }
+
+-- ---- a lane retired
+
+pub retired_value : (o start : ℕ) (known : ℕ → Bool) (h : Held) (d : ℕ) → value_in o start known (with_retired_lane d h) ≡ with_retired d (value_in o start known h)
+retired_value o start known h d = λ i. record {
+  owner = o;
+  start = start;
+  knows = known;
+  taken = taken_in o h.taps;
+  stated = stated_in h.statements;
+  closed = λ x. (h.lanes x).closed;
+  retired = λ x. ap (λ b. if b then true else h.retired x) (turned d x) i;
+}
+
+pub retired_fits : (o start : ℕ) (h : Held) (d : ℕ) → FitTogether o start h → FitTogether o start (with_retired_lane d h)
+retired_fits o start h d fit = record { counted = fit.counted; numbered = fit.numbered; single = fit.single; days = fit.days; meta = fit.meta }

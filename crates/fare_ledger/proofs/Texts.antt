@@ -19,12 +19,12 @@ use Rattle.fare_layout.specs.Layouts.{AreUnderstood}
 use Rattle.fare_opening.specs.Parts.{reads_meta, puts_meta, sets_meta}
 use Rattle.fare_ledger.specs.declared.layout.Layout.{Layout}
 use Rattle.fare_ledger.specs.Layouts.{schema_in, at_tree}
-use Rattle.fare_ledger.specs.Statements.{texts}
-use Rattle.fare_ledger.specs.Tables.{ledger_schema, lane_query, stated_query, day_terms, between_query, renew_query, begun_terms}
+use Rattle.fare_ledger.specs.Statements.{Retired, texts}
+use Rattle.fare_ledger.specs.Tables.{ledger_schema, lane_query, stated_query, day_terms, between_query, renew_query, begun_terms, retired_terms}
 
 -- where the tables stand in a database of a ledger alone
 abbrev pub own_places : Places
-own_places = record { all = record { at = 0; tree = 0 } ∷ record { at = 1; tree = 1 } ∷ record { at = 2; tree = 2 } ∷ record { at = 3; tree = 4 } ∷ [] }
+own_places = record { all = record { at = 0; tree = 0 } ∷ record { at = 1; tree = 1 } ∷ record { at = 2; tree = 2 } ∷ record { at = 3; tree = 4 } ∷ record { at = 4; tree = 6 } ∷ [] }
 
 abbrev pub tap_terms : List Term
 tap_terms = lit Null ∷ col 0 0 ∷ col 0 1 ∷ col 0 2 ∷ col 0 3 ∷ col 0 4 ∷ col 0 5 ∷ col 0 6 ∷ []
@@ -34,6 +34,9 @@ stated_cells_terms = lit Null ∷ col 0 0 ∷ col 0 1 ∷ col 0 2 ∷ []
 
 abbrev pub lane_terms : List Term
 lane_terms = col 0 0 ∷ lit Null ∷ col 0 1 ∷ col 0 2 ∷ []
+
+abbrev pub retired_cells_terms : List Term
+retired_cells_terms = col 0 0 ∷ lit Null ∷ []
 
 abbrev pub lane_text : List ℕ
 lane_text = codes "SELECT taken, closed FROM lane WHERE device = ?1"
@@ -276,6 +279,69 @@ put_stated_means o = o.fits.keeps.1.1.1.1.1.1.1.1.1.1.1.1.0 (put_stated_at (plac
 pub put_stated_meant : (o : Layout) → Meant (schema_in o) put_stated_text (put_stated_command o)
 put_stated_meant o = meant (schema_in o) put_stated_text (put_stated_command o) (put_stated_means o)
 
+abbrev pub retired_text : List ℕ
+retired_text = codes "SELECT count(*) FROM retired WHERE device = ?1"
+
+abbrev pub retired_at : Place → Command
+retired_at p = Select (record { lets = []; body = at_tree p.tree (count_query 6 retired_terms) }) (codes "count(*)" ∷ [])
+
+abbrev pub retired_command : Layout → Command
+retired_command o = retired_at (place_of o.places Retired)
+
+pub retired_own : IsMeant ledger_schema retired_text (retired_at (place_of own_places Retired))
+unfolding everything ledger_schema
+retired_own = refl
+
+retired_means : (o : Layout) → IsMeant (schema_in o) retired_text (retired_command o)
+retired_means o = o.fits.keeps.1.1.1.1.1.1.1.1.1.1.1.1.1.0 (retired_at (place_of own_places Retired)) retired_own
+
+pub retired_meant : (o : Layout) → Meant (schema_in o) retired_text (retired_command o)
+retired_meant o = meant (schema_in o) retired_text (retired_command o) (retired_means o)
+
+pub retired_reads : (o : Layout) → Reads (schema_in o) retired_text
+retired_reads o = ((retired_meant o).plain, (retired_meant o).selects)
+
+abbrev pub put_retired_text : List ℕ
+put_retired_text = codes "INSERT INTO retired (device) VALUES (?1)"
+
+abbrev pub put_retired_at : Place → Command
+put_retired_at p = Insert p.at (Values retired_cells_terms 2)
+
+abbrev pub put_retired_command : Layout → Command
+put_retired_command o = put_retired_at (place_of o.places Retired)
+
+pub put_retired_own : IsMeant ledger_schema put_retired_text (put_retired_at (place_of own_places Retired))
+unfolding everything ledger_schema
+put_retired_own = refl
+
+put_retired_means : (o : Layout) → IsMeant (schema_in o) put_retired_text (put_retired_command o)
+put_retired_means o = o.fits.keeps.1.1.1.1.1.1.1.1.1.1.1.1.1.1.0 (put_retired_at (place_of own_places Retired)) put_retired_own
+
+pub put_retired_meant : (o : Layout) → Meant (schema_in o) put_retired_text (put_retired_command o)
+put_retired_meant o = meant (schema_in o) put_retired_text (put_retired_command o) (put_retired_means o)
+
+abbrev pub all_retired_text : List ℕ
+all_retired_text = codes "SELECT count(*) FROM retired"
+
+abbrev pub all_retired_at : Place → Command
+all_retired_at p = Select (record { lets = []; body = at_tree p.tree (count_query 6 []) }) (codes "count(*)" ∷ [])
+
+abbrev pub all_retired_command : Layout → Command
+all_retired_command o = all_retired_at (place_of o.places Retired)
+
+pub all_retired_own : IsMeant ledger_schema all_retired_text (all_retired_at (place_of own_places Retired))
+unfolding everything ledger_schema
+all_retired_own = refl
+
+all_retired_means : (o : Layout) → IsMeant (schema_in o) all_retired_text (all_retired_command o)
+all_retired_means o = o.fits.keeps.1.1.1.1.1.1.1.1.1.1.1.1.1.1.1.0 (all_retired_at (place_of own_places Retired)) all_retired_own
+
+pub all_retired_meant : (o : Layout) → Meant (schema_in o) all_retired_text (all_retired_command o)
+all_retired_meant o = meant (schema_in o) all_retired_text (all_retired_command o) (all_retired_means o)
+
+pub all_retired_reads : (o : Layout) → Reads (schema_in o) all_retired_text
+all_retired_reads o = ((all_retired_meant o).plain, (all_retired_meant o).selects)
+
 -- each means something of the usual form
 pub lane_simple : IsSimpleCommand (lane_at (place_of own_places Device))
 lane_simple = search
@@ -316,5 +382,14 @@ put_tap_simple = search
 pub put_stated_simple : IsSimpleCommand (put_stated_at (place_of own_places Stated))
 put_stated_simple = search
 
+pub retired_simple : IsSimpleCommand (retired_at (place_of own_places Retired))
+retired_simple = search
+
+pub put_retired_simple : IsSimpleCommand (put_retired_at (place_of own_places Retired))
+put_retired_simple = search
+
+pub all_retired_simple : IsSimpleCommand (all_retired_at (place_of own_places Retired))
+all_retired_simple = search
+
 unfoldable pub understood_all : AreUnderstood ledger_schema texts
-understood_all = ((lane_at (place_of own_places Device), lane_own, lane_simple), ((stated_at (place_of own_places Stated), stated_own, stated_simple), ((day_at (place_of own_places Tap), day_own, day_simple), ((between_at (place_of own_places Tap), between_own, between_simple), ((begun_at (place_of own_places Device), begun_own, begun_simple), ((taps_at (place_of own_places Tap), taps_own, taps_simple), ((statements_at (place_of own_places Stated), statements_own, statements_simple), ((meta_at (place_of own_places Meta), meta_own, meta_simple), ((put_meta_at (place_of own_places Meta), put_meta_own, put_meta_simple), ((set_meta_at (place_of own_places Meta), set_meta_own, set_meta_simple), ((put_lane_at (place_of own_places Device), put_lane_own, put_lane_simple), ((put_tap_at (place_of own_places Tap), put_tap_own, put_tap_simple), ((put_stated_at (place_of own_places Stated), put_stated_own, put_stated_simple), tt)))))))))))))
+understood_all = ((lane_at (place_of own_places Device), lane_own, lane_simple), ((stated_at (place_of own_places Stated), stated_own, stated_simple), ((day_at (place_of own_places Tap), day_own, day_simple), ((between_at (place_of own_places Tap), between_own, between_simple), ((begun_at (place_of own_places Device), begun_own, begun_simple), ((taps_at (place_of own_places Tap), taps_own, taps_simple), ((statements_at (place_of own_places Stated), statements_own, statements_simple), ((meta_at (place_of own_places Meta), meta_own, meta_simple), ((put_meta_at (place_of own_places Meta), put_meta_own, put_meta_simple), ((set_meta_at (place_of own_places Meta), set_meta_own, set_meta_simple), ((put_lane_at (place_of own_places Device), put_lane_own, put_lane_simple), ((put_tap_at (place_of own_places Tap), put_tap_own, put_tap_simple), ((put_stated_at (place_of own_places Stated), put_stated_own, put_stated_simple), ((retired_at (place_of own_places Retired), retired_own, retired_simple), ((put_retired_at (place_of own_places Retired), put_retired_own, put_retired_simple), ((all_retired_at (place_of own_places Retired), all_retired_own, all_retired_simple), tt))))))))))))))))

@@ -1,5 +1,5 @@
 -- What the tables of a ledger hold, as lists in the order of storing.
-use Rattle.std.specs.Prelude.{◌≡◌, ℕ, ◌≤◌, nat_lt, nat_le, ◌==◌, ◌&&◌, ◌||◌, ◌⊎◌, pos, Bool, if◌then◌else◌, List, [], ◌∷◌, ◌++◌, map, filter, Option, Some, None, IsPermutation, IsSorted}
+use Rattle.std.specs.Prelude.{◌≡◌, ℕ, ◌≤◌, nat_lt, nat_le, ◌==◌, ◌&&◌, ◌||◌, ◌⊎◌, pos, Bool, true, if◌then◌else◌, is_some, List, [], ◌∷◌, ◌++◌, map, filter, Option, Some, None, IsPermutation, IsSorted}
 use Rattle.std.specs.declared.cmp.Ordering.{Ordering}
 use Rattle.std.specs.Ordering.{ordering_then, nat_cmp}
 use Rattle.sqlite.specs.declared.types.Value.TheVariants.{Null, Int}
@@ -79,12 +79,21 @@ stated_of r = record { device = nat_in (column r 1); day = nat_in (column r 2); 
 abbrev pub IsStated : Row → Type 0
 IsStated r = r ≡ int (id_of r) ∷ stated_cells (stated_of r)
 
+-- a retired lane's row has its device for its rowid
+abbrev pub retired_row : ℕ → Row
+retired_row device = int device ∷ Null ∷ []
+
+abbrev pub IsRetired : Row → Type 0
+IsRetired r = r ≡ retired_row (id_of r)
+
 -- LISTS
 pub record Held : Type 0 where
   -- how many taps of each device are taken, and how many of its days closed
   pub lanes : ℕ → Lane
   pub taps : List TapRow
   pub statements : List StatedRow
+  -- the devices whose lane is retired
+  pub retired : ℕ → Bool
   -- the rows that say whose tables these are
   pub meta : List Row
 
@@ -93,9 +102,16 @@ pub record AreReadable (trees : Trees) : Type 0 where
   pub lanes : AreRows IsLane (trees 1)
   pub taps : AreRows IsTap (trees 2)
   pub statements : AreRows IsStated (trees 4)
+  pub retired : AreRows IsRetired (trees 6)
 
 abbrev pub held_of : Trees → Held
-held_of trees = record { lanes = λ device. lane_of (held (trees 1) device); taps = map tap_of (trees 2); statements = map stated_of (trees 4); meta = trees 0 }
+held_of trees = record {
+  lanes = λ device. lane_of (held (trees 1) device);
+  taps = map tap_of (trees 2);
+  statements = map stated_of (trees 4);
+  retired = λ device. is_some (held (trees 6) device);
+  meta = trees 0;
+}
 
 -- between calls, over the tables of a ledger with rows that can be read
 abbrev pub IsReady : Layout → State → Type 0
@@ -145,13 +161,17 @@ with_lane device taken closed lanes x = if device == x then record { taken = tak
 
 -- a tap more, and its device's numbers
 abbrev pub with_tap : TapRow → ℕ → Held → Held
-with_tap t closed h = record { lanes = with_lane t.device t.lane closed h.lanes; taps = h.taps ++ t ∷ []; statements = h.statements; meta = h.meta }
+with_tap t closed h = record h { lanes = with_lane t.device t.lane closed h.lanes; taps = h.taps ++ t ∷ [] }
 
 abbrev pub with_stated : StatedRow → Held → Held
-with_stated s h = record { lanes = h.lanes; taps = h.taps; statements = h.statements ++ s ∷ []; meta = h.meta }
+with_stated s h = record h { statements = h.statements ++ s ∷ [] }
 
 abbrev pub with_numbers : ℕ → ℕ → ℕ → Held → Held
-with_numbers device taken closed h = record { lanes = with_lane device taken closed h.lanes; taps = h.taps; statements = h.statements; meta = h.meta }
+with_numbers device taken closed h = record h { lanes = with_lane device taken closed h.lanes }
+
+-- a retired lane more
+abbrev pub with_retired_lane : ℕ → Held → Held
+with_retired_lane device h = record h { retired = λ x. if device == x then true else h.retired x }
 
 -- the database holds this, in rows that can be read
 pub record Becomes (o : Layout) (db : Database) (h : Held) : Type 0 where
@@ -171,6 +191,7 @@ pub record PutsTap (o : Layout) (old new : Database) (t : TapRow) : Type 0 where
   pub lanes : ours o new.trees 1 ≡ ours o old.trees 1
   pub taps : ours o new.trees 2 ≡ put_row (Int (next_rowid (ours o old.trees 2)) ∷ tap_cells t) (ours o old.trees 2)
   pub statements : ours o new.trees 4 ≡ ours o old.trees 4
+  pub retired : ours o new.trees 6 ≡ ours o old.trees 6
   pub meta : ours o new.trees 0 ≡ ours o old.trees 0
 
 pub record PutsStated (o : Layout) (old new : Database) (s : StatedRow) : Type 0 where
@@ -179,6 +200,7 @@ pub record PutsStated (o : Layout) (old new : Database) (s : StatedRow) : Type 0
   pub lanes : ours o new.trees 1 ≡ ours o old.trees 1
   pub taps : ours o new.trees 2 ≡ ours o old.trees 2
   pub statements : ours o new.trees 4 ≡ put_row (Int (next_rowid (ours o old.trees 4)) ∷ stated_cells s) (ours o old.trees 4)
+  pub retired : ours o new.trees 6 ≡ ours o old.trees 6
   pub meta : ours o new.trees 0 ≡ ours o old.trees 0
 
 pub record PutsLane (o : Layout) (old new : Database) (device taken closed : ℕ) : Type 0 where
@@ -187,4 +209,14 @@ pub record PutsLane (o : Layout) (old new : Database) (device taken closed : ℕ
   pub lanes : (ours o new.trees 1 ≡ put_row (lane_row device taken closed) (ours o old.trees 1)) ⊎ (ours o new.trees 1 ≡ put_row (lane_row device taken closed) (without_rowid (pos device) (ours o old.trees 1)))
   pub taps : ours o new.trees 2 ≡ ours o old.trees 2
   pub statements : ours o new.trees 4 ≡ ours o old.trees 4
+  pub retired : ours o new.trees 6 ≡ ours o old.trees 6
+  pub meta : ours o new.trees 0 ≡ ours o old.trees 0
+
+pub record PutsRetired (o : Layout) (old new : Database) (device : ℕ) : Type 0 where
+  pub schema : new.schema ≡ schema_in o
+  pub database : IsDatabase new
+  pub lanes : ours o new.trees 1 ≡ ours o old.trees 1
+  pub taps : ours o new.trees 2 ≡ ours o old.trees 2
+  pub statements : ours o new.trees 4 ≡ ours o old.trees 4
+  pub retired : ours o new.trees 6 ≡ put_row (retired_row device) (ours o old.trees 6)
   pub meta : ours o new.trees 0 ≡ ours o old.trees 0

@@ -29,7 +29,10 @@ stated_table tree =
     (number (codes "device") ∷ number (codes "day") ∷ number (codes "total") ∷ [])
     None (1 ∷ 2 ∷ []) ((1 ∷ 2 ∷ []) ∷ []) (plain ∷ []) []
 
--- after one, two, three and all four CREATE TABLE: tree 3 is the index of the taps, and tree 5 that of the statements
+abbrev pub retired_table : ℕ → Table
+retired_table tree = table (codes "retired") tree (rowid_column (codes "device") ∷ []) (Some 0) (0 ∷ []) [] [] []
+
+-- after one, two, three, four and all five CREATE TABLE: tree 3 is the index of the taps, and tree 5 that of the statements
 abbrev pub one_table : Schema
 one_table = record { tables = meta_table 0 ∷ []; indexes = []; views = [] }
 
@@ -39,9 +42,17 @@ two_tables = record { tables = meta_table 0 ∷ lane_table 1 ∷ []; indexes = [
 abbrev pub three_tables : Schema
 three_tables = record { tables = meta_table 0 ∷ lane_table 1 ∷ tap_table 2 ∷ []; indexes = automatics (tap_table 2) 0 3 ((1 ∷ 2 ∷ []) ∷ []); views = [] }
 
+-- of the first format
+unfoldable pub first_schema : Schema
+first_schema = record {
+  tables = meta_table 0 ∷ lane_table 1 ∷ tap_table 2 ∷ stated_table 4 ∷ [];
+  indexes = (created three_tables (stated_table 4)).indexes;
+  views = [];
+}
+
 unfoldable pub ledger_schema : Schema
 ledger_schema = record {
-  tables = meta_table 0 ∷ lane_table 1 ∷ tap_table 2 ∷ stated_table 4 ∷ [];
+  tables = meta_table 0 ∷ lane_table 1 ∷ tap_table 2 ∷ stated_table 4 ∷ retired_table 6 ∷ [];
   indexes = (created three_tables (stated_table 4)).indexes;
   views = [];
 }
@@ -80,3 +91,7 @@ renew_query = query 1 (is_given 0 3 ∷ []) (col 1 0 ∷ col 1 0 ∷ lit Null �
 -- the devices of which a tap is taken or a day closed
 abbrev pub begun_terms : List Term
 begun_terms = op2 by.Or (is_positive 2) (is_positive 3) ∷ []
+
+-- a device's retired lane
+abbrev pub retired_terms : List Term
+retired_terms = is_given 0 0 ∷ []

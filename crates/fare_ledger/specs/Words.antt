@@ -27,7 +27,7 @@ taken_in owner taps device = map (record_of owner) (filter (λ t. t.device == de
 
 -- as an owner's, from a first day on, where these devices are known
 abbrev pub value_in : ℕ → ℕ → (ℕ → Bool) → Held → LedgerValue
-value_in owner start known h = record { owner = owner; start = start; knows = known; taken = taken_in owner h.taps; stated = stated_in h.statements; closed = λ device. (h.lanes device).closed }
+value_in owner start known h = record { owner = owner; start = start; knows = known; taken = taken_in owner h.taps; stated = stated_in h.statements; closed = λ device. (h.lanes device).closed; retired = h.retired }
 
 abbrev pub value_at : Layout → ℕ → ℕ → (ℕ → Bool) → Trees → LedgerValue
 value_at o owner start known trees = value_in owner start known (held_of (ours o trees))
@@ -47,15 +47,20 @@ AreNext before (t ∷ more) = (t.lane ≡ before t.device + 1) × AreNext (λ de
 abbrev pub AreCounted : ℕ → ℕ → Held → Type 0
 AreCounted owner start h = (device day : ℕ) → start ≤ day → day < start + (h.lanes device).closed → stated_in h.statements device day ≡ Some (day_count (taken_in owner h.taps device) day)
 
-pub record FitTogether (owner start : ℕ) (h : Held) : Type 0 where
+-- those of a ledger of a format
+pub record FitInFormat (format owner start : ℕ) (h : Held) : Type 0 where
   -- a device's number of taps taken is that of its rows
   pub counted : (device : ℕ) → (h.lanes device).taken ≡ length (taken_in owner h.taps device)
   -- each tap has the lane number after that of its device's tap before it, from 1 on
   pub numbered : AreNext (λ device. 0) h.taps
   pub single : AreApart h.statements
   pub days : AreCounted owner start h
-  -- they are this owner's, of format 1
-  pub meta : IsMeta 1 owner h.meta
+  -- they are this owner's, of that format
+  pub meta : IsMeta format owner h.meta
+
+-- and of the newest one
+abbrev pub FitTogether : ℕ → ℕ → Held → Type 0
+FitTogether = FitInFormat 2
 
 pub record IsLawful (o : Layout) (owner start : ℕ) (trees : Trees) : Type 0 where
   pub readable : AreReadable (ours o trees)
@@ -84,6 +89,9 @@ AreUntaken v = (device : ℕ) → v.taken device ≡ []
 
 abbrev pub AreUnstated : LedgerValue → Type 0
 AreUnstated v = (device day : ℕ) → v.stated device day ≡ None
+
+abbrev pub AreUnretired : LedgerValue → Type 0
+AreUnretired v = (device : ℕ) → v.retired device ≡ false
 
 -- what is answered to a tap, and how many days of its device are closed
 abbrev pub JudgesTap : LedgerValue → RecordValue → Result ℕ TapFault → Type 0

@@ -8,7 +8,7 @@ ghost use Rattle.fare_ledger.specs.Words.{IsLawful, value_at, stands};
 
 use crate::SqlLedger;
 use crate::finding::are_nothing;
-use fare_owner::{CloseFault, StatementFault, TapFault};
+use fare_owner::{CloseFault, RetireFault, StatementFault, TapFault};
 use fare_record::{Day, DeviceId, OwnerId, Record, Statement};
 use fare_store::{Fault, Ledger, Refused};
 use sqlite::Alter;
@@ -27,7 +27,8 @@ impl<S: Alter> Ledger for SqlLedger<S> {
         let unbegun = self.none_begun()?;
         let untaken = self.no_taps()?;
         let unstated = self.no_statements()?;
-        Ok(are_nothing(unbegun, untaken, unstated))
+        let unretired = self.none_retired()?;
+        Ok(are_nothing(unbegun, untaken, unstated, unretired))
     }
 
     fn count(&mut self, device: DeviceId) -> Result<u64, Fault> {
@@ -49,6 +50,11 @@ impl<S: Alter> Ledger for SqlLedger<S> {
     fn stated(&mut self, device: DeviceId, day: Day) -> Result<Option<u64>, Fault> {
         self.begin()?;
         self.stated_of(device, day)
+    }
+
+    fn retired(&mut self, device: DeviceId) -> Result<bool, Fault> {
+        self.begin()?;
+        self.retired_of(device)
     }
 
     fn take(&mut self, row: &Record) -> Result<(), Refused<TapFault>> {
@@ -84,6 +90,20 @@ impl<S: Alter> Ledger for SqlLedger<S> {
             Err(fault) => Err(Refused::Failed(fault)),
             Ok(Err(why)) => Err(Refused::Because(why)),
             Ok(Ok(lane)) => match self.put_close(device, &lane) {
+                Ok(()) => Ok(()),
+                Err(fault) => Err(Refused::Failed(fault)),
+            },
+        }
+    }
+
+    fn retire(&mut self, device: DeviceId) -> Result<(), Refused<RetireFault>> {
+        if !self.knows(device) {
+            return Err(Refused::Because(RetireFault::NotMine));
+        }
+        match self.judge_lane(device) {
+            Err(fault) => Err(Refused::Failed(fault)),
+            Ok(Err(why)) => Err(Refused::Because(why)),
+            Ok(Ok(())) => match self.put_retired(device) {
                 Ok(()) => Ok(()),
                 Err(fault) => Err(Refused::Failed(fault)),
             },

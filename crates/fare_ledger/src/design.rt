@@ -1,10 +1,18 @@
 ghost use Rattle.fare_ledger.specs.Statements.{ledger_parts};
 
-use crate::statements::{TABLES, TEXTS};
+use crate::statements::{FIRST_TABLES, FIRST_TEXTS, LATER_TABLES, TABLES, TEXTS};
 use fare_layout::TableNumber;
 use fare_opening::{Design, Older};
 
-// What a ledger is made of: an owner's, of format 1.
+// The first format, which knew of no retired lanes.
+static OLDER: [Older; 1] = [Older {
+    format: 1,
+    tables: &FIRST_TABLES,
+    missing: &LATER_TABLES,
+    texts: &FIRST_TEXTS,
+}];
+
+// What a ledger is made of: an owner's, of format 2.
 pub(crate) struct LedgerDesign;
 
 impl Design for LedgerDesign {
@@ -19,11 +27,11 @@ impl Design for LedgerDesign {
     }
 
     fn format() -> u8 {
-        1
+        2
     }
 
     fn older() -> &'static [Older] {
-        &[]
+        &OLDER
     }
 
     fn sound() {}

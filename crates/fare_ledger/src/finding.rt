@@ -5,13 +5,14 @@ ghost use Rattle.fare_store.specs.Standing.{Reads};
 ghost use Rattle.fare_store.specs.LedgerWords.{is_mine, closed_through, AreTapsBetween};
 ghost use Rattle.fare_tables.specs.Asking.{IsUp};
 ghost use Rattle.fare_ledger.specs.Held.{IsWithin};
-ghost use Rattle.fare_ledger.specs.Words.{stands, HasNumbers, AreUnbegun, AreUntaken, AreUnstated};
+ghost use Rattle.fare_ledger.specs.Words.{stands, HasNumbers, AreUnbegun, AreUntaken, AreUnstated, AreUnretired};
 
 use crate::SqlLedger;
 use crate::lane::Lane;
 use crate::listing::read_between;
 use crate::reading::{
-    count_begun, count_day, count_statements, count_taps, read_lane, read_last, read_stated,
+    count_begun, count_day, count_retired, count_statements, count_taps, read_lane, read_last,
+    read_retired, read_stated,
 };
 use fare_record::{Day, DeviceId, OwnerId, Record};
 use fare_store::Fault;
@@ -34,11 +35,11 @@ pub(crate) fn is_next(start: Day, closed: u64, day: Day) -> bool
     u64::from(day.get()) == u64::from(start.get()) + closed
 }
 
-// Whether all three are nothing.
-pub(crate) fn are_nothing(unbegun: bool, untaken: bool, unstated: bool) -> bool
-    ensures { IsTrue result ↔ (IsTrue unbegun × IsTrue untaken × IsTrue unstated) }
+// Whether all four are nothing.
+pub(crate) fn are_nothing(unbegun: bool, untaken: bool, unstated: bool, unretired: bool) -> bool
+    ensures { IsTrue result ↔ (IsTrue unbegun × IsTrue untaken × IsTrue unstated × IsTrue unretired) }
 {
-    unbegun && untaken && unstated
+    unbegun && untaken && unstated && unretired
 }
 
 // Each step but the first asks that the connection is open if its disk is clean, as the one before left it.
@@ -47,7 +48,14 @@ impl<S: Alter> SqlLedger<S> {
     pub(crate) fn is_mine(&self, owner: OwnerId, device: DeviceId) -> bool
         ensures { result ≡ is_mine (stands S.Store self.now).value owner device }
     {
-        owner == self.owner && self.devices.contains(&device)
+        owner == self.owner && self.knows(device)
+    }
+
+    // Whether a device is the scheme's.
+    pub(crate) fn knows(&self, device: DeviceId) -> bool
+        ensures { result ≡ (stands S.Store self.now).value.knows device }
+    {
+        self.devices.contains(&device)
     }
 
     // The first step of each call: the connection is open.
@@ -82,6 +90,18 @@ impl<S: Alter> SqlLedger<S> {
     {
         match read_stated(&mut self.conn, &self.layout, device, day) {
             Ok(held) => Ok(held),
+            Err(fault) => Err(note(&mut self.failures, fault)),
+        }
+    }
+
+    // Whether a device's lane is retired.
+    pub(crate) fn retired_of(&mut self, device: DeviceId) -> Result<bool, Fault>
+        requires { IsUp (state S.Store self.old.conn) }
+        ensures does { Reads (stands S.Store self.old) (stands S.Store self.new) (λ retired. retired ≡ (stands S.Store self.old).value.retired device) result }
+        ensures up { OnOk result (IsUp (state S.Store self.new.conn)) }
+    {
+        match read_retired(&mut self.conn, &self.layout, device) {
+            Ok(retired) => Ok(retired),
             Err(fault) => Err(note(&mut self.failures, fault)),
         }
     }
@@ -142,6 +162,18 @@ impl<S: Alter> SqlLedger<S> {
     {
         match count_statements(&mut self.conn, &self.layout) {
             Ok(statements) => Ok(statements == 0),
+            Err(fault) => Err(note(&mut self.failures, fault)),
+        }
+    }
+
+    // Whether no lane is retired.
+    pub(crate) fn none_retired(&mut self) -> Result<bool, Fault>
+        requires { IsUp (state S.Store self.old.conn) }
+        ensures does { Reads (stands S.Store self.old) (stands S.Store self.new) (λ none. IsTrue none ↔ AreUnretired (stands S.Store self.old).value) result }
+        ensures up { OnOk result (IsUp (state S.Store self.new.conn)) }
+    {
+        match count_retired(&mut self.conn, &self.layout) {
+            Ok(retired) => Ok(retired == 0),
             Err(fault) => Err(note(&mut self.failures, fault)),
         }
     }

@@ -1,7 +1,7 @@
 ghost use Rattle.std.specs.Prelude.{◌≡◌, ◌≢◌, ◌≤◌, Ok, Err, IfOk, OnOk, IsTrue};
 ghost use Rattle.sqlite.specs.Held.{state};
 ghost use Rattle.fare_store.specs.Standing.{Reads};
-ghost use Rattle.fare_store.specs.LedgerWords.{is_mine, state_judged};
+ghost use Rattle.fare_store.specs.LedgerWords.{is_mine, state_judged, retire_of};
 ghost use Rattle.fare_tables.specs.Asking.{IsUp};
 ghost use Rattle.fare_ledger.specs.Held.{IsWithin};
 ghost use Rattle.fare_ledger.specs.Words.{stands, JudgesTap, JudgesDay};
@@ -9,7 +9,10 @@ ghost use Rattle.fare_ledger.specs.Words.{stands, JudgesTap, JudgesDay};
 use crate::SqlLedger;
 use crate::finding::{is_closed, is_next};
 use crate::lane::Lane;
-use fare_owner::{CloseFault, StatementFault, TapFault, judge_close, judge_statement, judge_tap};
+use fare_owner::{
+    CloseFault, RetireFault, StatementFault, TapFault, judge_close, judge_retire, judge_statement,
+    judge_tap,
+};
 use fare_record::{Day, DeviceId, Record, Statement};
 use fare_store::Fault;
 use sqlite::Alter;
@@ -27,8 +30,9 @@ impl<S: Alter> SqlLedger<S> {
         let start = self.start;
         self.begin()?;
         let lane = self.numbers_of(row.device())?;
+        let retired = self.retired_of(row.device())?;
         let closed = is_closed(start, lane.closed, row.tap().day());
-        match judge_tap(true, lane.taken, closed, row.lane()) {
+        match judge_tap(true, lane.taken, closed, row.lane(), retired) {
             Ok(()) => Ok(Ok(lane.closed)),
             Err(why) => Ok(Err(why)),
         }
@@ -46,7 +50,8 @@ impl<S: Alter> SqlLedger<S> {
     {
         self.begin()?;
         let held = self.stated_of(statement.device(), statement.day())?;
-        Ok(judge_statement(true, held, statement.count()))
+        let retired = self.retired_of(statement.device())?;
+        Ok(judge_statement(true, held, statement.count(), retired))
     }
 
     // What is answered to a day before it is closed; if it may be, the numbers of its device.
@@ -64,11 +69,24 @@ impl<S: Alter> SqlLedger<S> {
         let stated = self.stated_of(device, day)?;
         let lane = self.numbers_of(device)?;
         let taken = self.count_of_day(device, day)?;
+        let retired = self.retired_of(device)?;
         let closed = is_closed(start, lane.closed, day);
         let next = is_next(start, lane.closed, day);
-        match judge_close(stated, closed, next, taken) {
+        match judge_close(stated, closed, next, taken, retired) {
             Ok(()) => Ok(Ok(lane)),
             Err(why) => Ok(Err(why)),
         }
+    }
+
+    // What is answered where a lane of one of the scheme's devices is to be retired.
+    pub(crate) fn judge_lane(&mut self, device: DeviceId) -> Result<Result<(), RetireFault>, Fault>
+        requires mine { IsTrue ((stands S.Store self.old).value.knows device) }
+        ensures does { Reads (stands S.Store self.old) (stands S.Store self.new) (λ judged. judged ≡ retire_of (stands S.Store self.old).value device) result }
+        ensures up { IfOk result (λ judged. OnOk judged (IsUp (state S.Store self.new.conn))) }
+        ensures mine { result ≢ Ok (Err RetireFault.NotMine) }
+    {
+        self.begin()?;
+        let retired = self.retired_of(device)?;
+        Ok(judge_retire(true, retired))
     }
 }

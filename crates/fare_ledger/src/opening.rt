@@ -8,10 +8,12 @@ ghost use Rattle.fare_store.specs.LedgerWords.{IsEmptyLedger, IsOfScheme};
 ghost use Rattle.fare_tables.specs.Asking.{IsLive, SameRows};
 ghost use Rattle.fare_tables.specs.Making.{no_schema};
 ghost use Rattle.fare_tables.specs.Tabled.{IsFit, IsLeft};
+ghost use Rattle.fare_opening.specs.declared.site.Site.{Site};
 ghost use Rattle.fare_ledger.specs.declared.layout.Layout.{Layout};
 ghost use Rattle.fare_ledger.specs.Layouts.{schema_in};
 ghost use Rattle.fare_ledger.specs.Making.{Makes, MayGrow, KeepsOthers};
-ghost use Rattle.fare_ledger.specs.Opening.{IsLedger, IsVacant, IsBlankOrOurs, IsOpened, IsLeftEmpty, Settles, MayMake};
+ghost use Rattle.fare_ledger.specs.Opening.{IsLedger, IsFirstLedger, IsVacant, IsBlankOrOurs, IsOpened, IsLeftEmpty, IsLeftRaised, KeepsAllButMeta, Rises, Settles, MayOpen};
+ghost use Rattle.fare_ledger.specs.First.{IsLawfulFirst, value_first};
 ghost use Rattle.fare_ledger.specs.Words.{IsLawful, value_at, connected, stands};
 
 use crate::design::LedgerDesign;
@@ -32,8 +34,8 @@ pub enum LedgerOpenFault {
     #[error("the owner isn't registered")]
     UnknownOwner,
     /// A name of the ledger's tables stands for something else in it: a table of another shape or format, the
-    /// ledger of another owner, or a table that other tables reach into. Or the ledger's tables can't be made
-    /// beside those that are there.
+    /// ledger of another owner, or a table that other tables reach into. Or the ledger's tables, or the one that a
+    /// ledger of the first format lacks, can't be made beside those that are there.
     #[error("the database holds something else")]
     Foreign,
     /// No memory is left for it.
@@ -55,8 +57,8 @@ fn open_fault(fault: Fault) -> LedgerOpenFault
     }
 }
 
-// Makes the tables where nothing has their names, and looks whose ledger it is where it is one; none if it isn't
-// the owner's.
+// Makes the tables where nothing has their names, and looks whose ledger it is where it is one, which it raises if it
+// is of the first format; none if it isn't the owner's.
 fn settle<S: Alter>(
     alloc: Global,
     conn: &mut Connection<S>,
@@ -68,8 +70,9 @@ fn settle<S: Alter>(
     ensures refused { IsLive (state S.Store conn.new) → (state S.Store conn.old).now ≡ (state S.Store conn.old).committed → IfOk result (λ found. found ≡ None → SameRows (state S.Store conn.old) (state S.Store conn.new)) }
     ensures foreign { IfOk result (λ found. found ≡ None → (state S.Store conn.old).now.schema ≢ no_schema) }
     ensures lacks { IsLive (state S.Store conn.new) → IfOk result (λ found. found ≡ None → ¬ IsBlankOrOurs owner (state S.Store conn.old)) }
+    ensures first { IsLive (state S.Store conn.new) → IfOk result (λ found. found ≡ None → ¬ IsFirstLedger owner (state S.Store conn.old)) }
     ensures vacant { IfOk result (λ found. found ≡ None → IsVacant (state S.Store conn.old) → ¬ MayGrow (state S.Store conn.old).now.schema) }
-    ensures crash { Survives (state S.Store conn.old) (state S.Store conn.new) (MayMake owner (state S.Store conn.old)) }
+    ensures crash { Survives (state S.Store conn.old) (state S.Store conn.new) (MayOpen owner (state S.Store conn.old)) }
     ensures failed { IsLive (state S.Store conn.new) → (state S.Store conn.old).now ≡ (state S.Store conn.old).committed → OnErr result (SameRows (state S.Store conn.old) (state S.Store conn.new)) }
     ensures stays { HasCleanDisk (state S.Store conn.new) → IfOk result (λ found. IfSome found (λ _. IsTrue (state S.Store conn.new).is_open)) }
     ensures up { HasCleanDisk (state S.Store conn.new) → IsTrue (state S.Store conn.old).is_open → IfOk result (λ _. IsTrue (state S.Store conn.new).is_open) }
@@ -86,8 +89,9 @@ fn settle<S: Alter>(
 impl<S: Alter> SqlLedger<S> {
     /// Takes a database for the ledger of an owner of a scheme, which may hold other tables too: one that holds
     /// this owner's ledger as it is, and one in which nothing has a name of the ledger's tables after it made them
-    /// there, past the others, whose rows stay. Where it can't, the connection comes back, with its rows as before.
-    /// A connection that is inside a transaction answers Store.
+    /// there, past the others, whose rows stay. A ledger of the first format, which has no table of retired lanes,
+    /// gets it, and the newest format, in one transaction, and keeps its lists. Where it can't, the connection comes
+    /// back, with its rows as before. A connection that is inside a transaction answers Store.
     ///
     /// Refused by the first case of `LedgerOpenFault` that applies.
     pub fn open(
@@ -102,21 +106,26 @@ impl<S: Alter> SqlLedger<S> {
         ensures scheme { IfOk result (λ l. IsOfScheme scheme.now (stands S.Store l).value) }
         ensures made { IfOk result (λ l. (stands S.Store l).live → IsVacant (state S.Store conn) → (stands S.Store l).lawful × IsEmptyLedger (stands S.Store l).value) }
         ensures placed { IfOk result (λ l. (stands S.Store l).live → IsVacant (state S.Store conn) → Makes (state S.Store conn).now.schema l.layout) }
-        ensures others { IfOk result (λ l. (stands S.Store l).live → (state S.Store conn).now ≡ (state S.Store conn).committed → KeepsOthers (state S.Store conn).now (connected S.Store l).now) }
+        ensures others { IfOk result (λ l. (stands S.Store l).live → (state S.Store conn).now ≡ (state S.Store conn).committed → KeepsOthers (state S.Store conn).now (connected S.Store l).now ⊎ KeepsAllButMeta owner (state S.Store conn) (connected S.Store l)) }
         ensures kept { IfOk result (λ l. (stands S.Store l).live → (w : Layout) → IsFit (schema_in w) (IsLawful w owner scheme.now.start) (state S.Store conn) → (stands S.Store l).lawful × ((stands S.Store l).value ≡ value_at w owner scheme.now.start (stands S.Store l).value.knows (state S.Store conn).now.trees)) }
-        ensures ours { IfOk result (λ l. (stands S.Store l).live → IsVacant (state S.Store conn) ⊎ IsLedger owner (state S.Store conn)) }
+        ensures raised { IfOk result (λ l. (stands S.Store l).live → (v : Site) → IsFit v.schema (IsLawfulFirst v owner scheme.now.start) (state S.Store conn) → (stands S.Store l).lawful × ((stands S.Store l).value ≡ value_first v owner scheme.now.start (stands S.Store l).value.knows (state S.Store conn).now.trees)) }
+        ensures ours { IfOk result (λ l. (stands S.Store l).live → IsVacant (state S.Store conn) ⊎ (IsLedger owner (state S.Store conn) ⊎ IsFirstLedger owner (state S.Store conn))) }
         ensures failures { IfOk result (λ l. (stands S.Store l).failures ≡ 0) }
         ensures alive { IfOk result (λ l. (stands S.Store l).clean → (stands S.Store l).live) }
         ensures again { IfOk result (λ l. (stands S.Store l).clean → (w : Layout) → IsLeft (schema_in w) (IsLawful w owner scheme.now.start) (state S.Store conn).now.trees → (stands S.Store l).lawful × ((stands S.Store l).value ≡ value_at w owner scheme.now.start (stands S.Store l).value.knows (state S.Store conn).now.trees)) }
+        ensures raised_again { IfOk result (λ l. (stands S.Store l).clean → (v : Site) → IsLeft v.schema (IsLawfulFirst v owner scheme.now.start) (state S.Store conn).now.trees → (stands S.Store l).lawful × ((stands S.Store l).value ≡ value_first v owner scheme.now.start (stands S.Store l).value.knows (state S.Store conn).now.trees)) }
         ensures inside { conn.in_transaction ≡ true → IsSome (position_of_owner scheme.now owner) → result ≡ Err (conn, LedgerOpenFault.Store) }
         ensures foreign { IfErr result (λ e. e.1 ≡ LedgerOpenFault.Foreign → (state S.Store conn).now.schema ≢ no_schema) }
         ensures lacks { IfErr result (λ e. e.1 ≡ LedgerOpenFault.Foreign → IsLive (state S.Store e.0) → ¬ IsBlankOrOurs owner (state S.Store conn)) }
         ensures found { IfErr result (λ e. e.1 ≡ LedgerOpenFault.Foreign → IsLive (state S.Store e.0) → (w : Layout) → ¬ IsFit (schema_in w) (IsLawful w owner scheme.now.start) (state S.Store conn)) }
         ensures never { IfErr result (λ e. e.1 ≡ LedgerOpenFault.Foreign → HasCleanDisk (state S.Store e.0) → IsTrue (state S.Store conn).is_open → (w : Layout) → ¬ IsLeft (schema_in w) (IsLawful w owner scheme.now.start) (state S.Store conn).now.trees) }
+        ensures lacks_first { IfErr result (λ e. e.1 ≡ LedgerOpenFault.Foreign → IsLive (state S.Store e.0) → ¬ IsFirstLedger owner (state S.Store conn)) }
+        ensures found_first { IfErr result (λ e. e.1 ≡ LedgerOpenFault.Foreign → IsLive (state S.Store e.0) → (v w : Site) → Rises (state S.Store conn).now.schema v w → ¬ IsFit v.schema (IsLawfulFirst v owner scheme.now.start) (state S.Store conn)) }
+        ensures never_first { IfErr result (λ e. e.1 ≡ LedgerOpenFault.Foreign → HasCleanDisk (state S.Store e.0) → IsTrue (state S.Store conn).is_open → (v w : Site) → Rises (state S.Store conn).now.schema v w → ¬ IsLeft v.schema (IsLawfulFirst v owner scheme.now.start) (state S.Store conn).now.trees) }
         ensures vacant { IfErr result (λ e. e.1 ≡ LedgerOpenFault.Foreign → IsVacant (state S.Store conn) → ¬ MayGrow (state S.Store conn).now.schema) }
-        ensures crash { IfOk result (λ l. Survives (state S.Store conn) (connected S.Store l) (MayMake owner (state S.Store conn))) }
-        ensures crash_refused { IfErr result (λ e. Survives (state S.Store conn) (state S.Store e.0) (MayMake owner (state S.Store conn))) }
-        ensures leaves { IfErr result (λ e. HasCleanDisk (state S.Store e.0) → (trees : Trees) → (state S.Store e.0).may_leave trees → (state S.Store conn).may_leave trees ⊎ ((known : ℕ → Bool) → IsLeftEmpty owner scheme.now.start known trees)) }
+        ensures crash { IfOk result (λ l. Survives (state S.Store conn) (connected S.Store l) (MayOpen owner (state S.Store conn))) }
+        ensures crash_refused { IfErr result (λ e. Survives (state S.Store conn) (state S.Store e.0) (MayOpen owner (state S.Store conn))) }
+        ensures leaves { IfErr result (λ e. HasCleanDisk (state S.Store e.0) → (trees : Trees) → (state S.Store e.0).may_leave trees → (state S.Store conn).may_leave trees ⊎ (((known : ℕ → Bool) → IsLeftEmpty owner scheme.now.start known trees) ⊎ ((known : ℕ → Bool) → IsLeftRaised owner scheme.now.start known (state S.Store conn) trees))) }
         ensures refused { IfErr result (λ e. IsLive (state S.Store e.0) → (state S.Store conn).now ≡ (state S.Store conn).committed → SameRows (state S.Store conn) (state S.Store e.0)) }
     {
         let mut conn = conn;

@@ -11,7 +11,8 @@ ghost use Rattle.fare_ledger.specs.Words.{AreApart};
 use crate::Layout;
 use crate::lane::Lane;
 use crate::statements::{
-    COUNT_BEGUN, COUNT_DAY, COUNT_STATEMENTS, COUNT_TAPS, READ_LANE, READ_STATED,
+    COUNT_ALL_RETIRED, COUNT_BEGUN, COUNT_DAY, COUNT_RETIRED, COUNT_STATEMENTS, COUNT_TAPS,
+    READ_LANE, READ_STATED,
 };
 use fare_opening::ask;
 use fare_record::{Day, DeviceId};
@@ -144,6 +145,26 @@ pub(crate) fn count_day<S: Alter>(
     }
 }
 
+// Whether the lane of a device is retired.
+pub(crate) fn read_retired<S: Alter>(
+    conn: &mut Connection<S>,
+    layout: &Layout,
+    device: DeviceId,
+) -> Result<bool, Fault>
+    ensures value { IsLive (state S.Store conn.new) → IsReady layout.now (state S.Store conn.old) → IfOk result (λ retired. retired ≡ (held_of (ours layout.now (state S.Store conn.old).now.trees)).retired device) }
+    ensures same { IsLive (state S.Store conn.new) → IsAtRest (schema_in layout.now) (state S.Store conn.old) → SameRows (state S.Store conn.old) (state S.Store conn.new) }
+    ensures crash { Survives (state S.Store conn.old) (state S.Store conn.new) (λ _. ¬ IsAtRest (schema_in layout.now) (state S.Store conn.old)) }
+    ensures live { IsLive (state S.Store conn.new) → IsLive (state S.Store conn.old) }
+    ensures stays { HasCleanDisk (state S.Store conn.new) → OnOk result (IsTrue (state S.Store conn.new).is_open) }
+    ensures mode { conn.old.in_transaction ≡ false → conn.new.in_transaction ≡ false }
+{
+    let asked = [parameter(u64::from(device.get()))];
+    match ask(conn, &layout.schema, COUNT_RETIRED, &asked)? {
+        Some(row) => Ok(cell_number(&row, 0)? != 0),
+        None => Err(Fault::Store),
+    }
+}
+
 // How many devices have a tap taken or a day closed.
 pub(crate) fn count_begun<S: Alter>(conn: &mut Connection<S>, layout: &Layout) -> Result<u64, Fault>
     ensures value { IsLive (state S.Store conn.new) → IsReady layout.now (state S.Store conn.old) → IfOk result (λ n. n ≡ counted (length (filter is_begun (ours layout.now (state S.Store conn.old).now.trees 1)))) }
@@ -187,6 +208,24 @@ pub(crate) fn count_statements<S: Alter>(
     ensures mode { conn.old.in_transaction ≡ false → conn.new.in_transaction ≡ false }
 {
     match ask(conn, &layout.schema, COUNT_STATEMENTS, &[])? {
+        Some(row) => cell_number(&row, 0),
+        None => Err(Fault::Store),
+    }
+}
+
+// How many lanes are retired.
+pub(crate) fn count_retired<S: Alter>(
+    conn: &mut Connection<S>,
+    layout: &Layout,
+) -> Result<u64, Fault>
+    ensures value { IsLive (state S.Store conn.new) → IsReady layout.now (state S.Store conn.old) → IfOk result (λ n. n ≡ counted (length (ours layout.now (state S.Store conn.old).now.trees 6))) }
+    ensures same { IsLive (state S.Store conn.new) → IsAtRest (schema_in layout.now) (state S.Store conn.old) → SameRows (state S.Store conn.old) (state S.Store conn.new) }
+    ensures crash { Survives (state S.Store conn.old) (state S.Store conn.new) (λ _. ¬ IsAtRest (schema_in layout.now) (state S.Store conn.old)) }
+    ensures live { IsLive (state S.Store conn.new) → IsLive (state S.Store conn.old) }
+    ensures stays { HasCleanDisk (state S.Store conn.new) → OnOk result (IsTrue (state S.Store conn.new).is_open) }
+    ensures mode { conn.old.in_transaction ≡ false → conn.new.in_transaction ≡ false }
+{
+    match ask(conn, &layout.schema, COUNT_ALL_RETIRED, &[])? {
         Some(row) => cell_number(&row, 0),
         None => Err(Fault::Store),
     }

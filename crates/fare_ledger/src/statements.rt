@@ -1,22 +1,49 @@
 use fare_layout::TableNumber;
 use fare_opening::{DEVICE, META, META_TABLE, PUT_META, READ_META, SET_META, STATED, TAP};
 
+/// The table of the retired lanes, which no other store has.
+pub(crate) const RETIRED: TableNumber = TableNumber { number: 4 };
+
+// The texts that make the tables behind that of `meta`, each with the name of its table.
+const LANE_TABLE: (&str, &str) = (
+    "lane",
+    "CREATE TABLE lane (device INTEGER PRIMARY KEY, taken INTEGER NOT NULL CHECK (taken >= 0), closed INTEGER NOT NULL CHECK (closed >= 0)) STRICT",
+);
+
+const TAP_TABLE: (&str, &str) = (
+    "tap",
+    "CREATE TABLE tap (device INTEGER NOT NULL, lane INTEGER NOT NULL, link INTEGER NOT NULL, product INTEGER NOT NULL, token INTEGER NOT NULL, moment INTEGER NOT NULL, day INTEGER NOT NULL, PRIMARY KEY (device, lane)) STRICT",
+);
+
+const STATED_TABLE: (&str, &str) = (
+    "stated",
+    "CREATE TABLE stated (device INTEGER NOT NULL, day INTEGER NOT NULL, total INTEGER NOT NULL, PRIMARY KEY (device, day)) STRICT",
+);
+
+const RETIRED_TABLE: (&str, &str) = (
+    "retired",
+    "CREATE TABLE retired (device INTEGER PRIMARY KEY) STRICT",
+);
+
 /// The texts that make the tables, each with the name of its table.
-pub(crate) const TABLES: [(&str, &str); 4] = [
+pub(crate) const TABLES: [(&str, &str); 5] = [
     META_TABLE,
-    (
-        "lane",
-        "CREATE TABLE lane (device INTEGER PRIMARY KEY, taken INTEGER NOT NULL CHECK (taken >= 0), closed INTEGER NOT NULL CHECK (closed >= 0)) STRICT",
-    ),
-    (
-        "tap",
-        "CREATE TABLE tap (device INTEGER NOT NULL, lane INTEGER NOT NULL, link INTEGER NOT NULL, product INTEGER NOT NULL, token INTEGER NOT NULL, moment INTEGER NOT NULL, day INTEGER NOT NULL, PRIMARY KEY (device, lane)) STRICT",
-    ),
-    (
-        "stated",
-        "CREATE TABLE stated (device INTEGER NOT NULL, day INTEGER NOT NULL, total INTEGER NOT NULL, PRIMARY KEY (device, day)) STRICT",
-    ),
+    LANE_TABLE,
+    TAP_TABLE,
+    STATED_TABLE,
+    RETIRED_TABLE,
 ];
+
+/// Those that make the tables of the first format.
+pub(crate) const FIRST_TABLES: [(&str, &str); 4] = [
+    META_TABLE,
+    LANE_TABLE,
+    TAP_TABLE,
+    STATED_TABLE,
+];
+
+/// Those that make the tables which it lacks.
+pub(crate) const LATER_TABLES: [(&str, &str); 1] = [RETIRED_TABLE];
 
 /// How many taps of a device are taken, and how many of its days closed.
 pub(crate) const READ_LANE: &str = "SELECT taken, closed FROM lane WHERE device = ?1";
@@ -51,8 +78,37 @@ pub(crate) const PUT_TAP: &str =
 /// A statement.
 pub(crate) const PUT_STATED: &str = "INSERT INTO stated (device, day, total) VALUES (?1, ?2, ?3)";
 
+/// How many rows say that a device's lane is retired: one or none.
+pub(crate) const COUNT_RETIRED: &str = "SELECT count(*) FROM retired WHERE device = ?1";
+
+/// A retired lane.
+pub(crate) const PUT_RETIRED: &str = "INSERT INTO retired (device) VALUES (?1)";
+
+/// How many lanes are retired.
+pub(crate) const COUNT_ALL_RETIRED: &str = "SELECT count(*) FROM retired";
+
 /// All statements of a ledger, each with its table: `DEVICE` is `lane` here.
-pub(crate) const TEXTS: [(TableNumber, &str); 13] = [
+pub(crate) const TEXTS: [(TableNumber, &str); 16] = [
+    (DEVICE, READ_LANE),
+    (STATED, READ_STATED),
+    (TAP, COUNT_DAY),
+    (TAP, READ_BETWEEN),
+    (DEVICE, COUNT_BEGUN),
+    (TAP, COUNT_TAPS),
+    (STATED, COUNT_STATEMENTS),
+    (META, READ_META),
+    (META, PUT_META),
+    (META, SET_META),
+    (DEVICE, PUT_LANE),
+    (TAP, PUT_TAP),
+    (STATED, PUT_STATED),
+    (RETIRED, COUNT_RETIRED),
+    (RETIRED, PUT_RETIRED),
+    (RETIRED, COUNT_ALL_RETIRED),
+];
+
+/// Those of the first format.
+pub(crate) const FIRST_TEXTS: [(TableNumber, &str); 13] = [
     (DEVICE, READ_LANE),
     (STATED, READ_STATED),
     (TAP, COUNT_DAY),

@@ -1,7 +1,7 @@
 ghost use Rattle.std.specs.Prelude.{◌≡◌, ◌≤◌, None};
 ghost use Rattle.sqlite.specs.Held.{state};
 ghost use Rattle.fare_store.specs.Standing.{Calls, fault_of};
-ghost use Rattle.fare_store.specs.LedgerWords.{took, with_statement, with_close};
+ghost use Rattle.fare_store.specs.LedgerWords.{took, with_statement, with_close, with_retired};
 ghost use Rattle.fare_tables.specs.Asking.{IsUp};
 ghost use Rattle.fare_tables.specs.Tabled.{given, Makes};
 ghost use Rattle.fare_ledger.specs.Held.{IsWithin};
@@ -9,7 +9,7 @@ ghost use Rattle.fare_ledger.specs.Words.{stands, MayTake, MayClose};
 
 use crate::SqlLedger;
 use crate::lane::Lane;
-use crate::writing::{write_numbers, write_statement, write_tap};
+use crate::writing::{write_numbers, write_retired, write_statement, write_tap};
 use fare_record::{DeviceId, Record, Statement};
 use fare_store::Fault;
 use fare_tables::note;
@@ -55,6 +55,18 @@ impl<S: Alter> SqlLedger<S> {
             lane.taken,
             lane.closed + 1,
         ) {
+            Ok(()) => Ok(()),
+            Err(fault) => Err(note(&mut self.failures, fault)),
+        }
+    }
+
+    // Retires a lane.
+    pub(crate) fn put_retired(&mut self, device: DeviceId) -> Result<(), Fault>
+        requires up { IsUp (state S.Store self.old.conn) }
+        ensures { Calls (stands S.Store self.old) (stands S.Store self.new) (fault_of result)
+            (Makes (stands S.Store self.old).value (stands S.Store self.new).value (with_retired device (stands S.Store self.old).value) result) (λ v. v ≡ with_retired device (stands S.Store self.old).value) }
+    {
+        match write_retired(&mut self.conn, &self.layout, device) {
             Ok(()) => Ok(()),
             Err(fault) => Err(note(&mut self.failures, fault)),
         }

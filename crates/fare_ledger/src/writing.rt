@@ -5,10 +5,10 @@ ghost use Rattle.sqlite.specs.Values.{bound};
 ghost use Rattle.fare_tables.specs.Asking.{IsLive, SameRows, Inside};
 ghost use Rattle.fare_tables.specs.Cells.{AreRows};
 ghost use Rattle.fare_ledger.specs.Layouts.{schema_in, ours};
-ghost use Rattle.fare_ledger.specs.Held.{held_of, AreReadable, IsReady, IsLane, Becomes, MayBecome, PutsTap, PutsStated, PutsLane, tap_cells, stated_cells, row_of, row_stated, with_tap, with_stated, with_numbers};
+ghost use Rattle.fare_ledger.specs.Held.{held_of, AreReadable, IsReady, IsLane, Becomes, MayBecome, PutsTap, PutsLane, tap_cells, stated_cells, row_of, row_stated, with_tap, with_stated, with_numbers, with_retired_lane};
 
 use crate::Layout;
-use crate::statements::{PUT_LANE, PUT_STATED, PUT_TAP};
+use crate::statements::{PUT_LANE, PUT_RETIRED, PUT_STATED, PUT_TAP};
 use fare_record::{DeviceId, Record, Statement};
 use fare_store::Fault;
 use fare_tables::{change, fault_of, parameter};
@@ -205,6 +205,46 @@ pub(crate) fn write_numbers<S: Alter>(
 {
     let mut tx = conn.transaction();
     put_numbers(&mut tx, layout, device, taken, closed)?;
+    match tx.commit() {
+        Ok(()) => Ok(()),
+        Err(error) => Err(fault_of(error)),
+    }
+}
+
+fn put_retired<S: Alter>(
+    tx: &mut Transaction<'_, S>,
+    layout: &Layout,
+    device: DeviceId,
+) -> Result<(), Fault>
+    ensures same_reference { tx.new.conn.ghost_name ≡ tx.old.conn.ghost_name }
+    ensures puts { HasCleanDisk (state S.Store tx.new.conn.now) → IsTrue (state S.Store tx.old.conn.now).in_transaction → (state S.Store tx.old.conn.now).now.schema ≡ schema_in layout.now → AreReadable (ours layout.now (state S.Store tx.old.conn.now).now.trees)
+        → OnOk result (Becomes layout.now (state S.Store tx.new.conn.now).now (with_retired_lane device (held_of (ours layout.now (state S.Store tx.old.conn.now).now.trees))) × IsTrue (state S.Store tx.new.conn.now).in_transaction) }
+    ensures inside { HasCleanDisk (state S.Store tx.new.conn.now) → Inside (state S.Store tx.old.conn.now) (state S.Store tx.new.conn.now) }
+    ensures survives { Survives (state S.Store tx.old.conn.now) (state S.Store tx.new.conn.now) (λ _. ⊥) }
+{
+    let cells = [parameter(u64::from(device.get()))];
+    match change(tx, PUT_RETIRED, &cells) {
+        Ok(_) => Ok(()),
+        Err(fault) => Err(fault),
+    }
+}
+
+// That a device's lane is retired, in one transaction.
+pub(crate) fn write_retired<S: Alter>(
+    conn: &mut Connection<S>,
+    layout: &Layout,
+    device: DeviceId,
+) -> Result<(), Fault>
+    requires { conn.old.in_transaction ≡ false }
+    ensures value { IsLive (state S.Store conn.new) → IsReady layout.now (state S.Store conn.old) → OnOk result (Becomes layout.now (state S.Store conn.new).now (with_retired_lane device (held_of (ours layout.now (state S.Store conn.old).now.trees))) × ((state S.Store conn.new).now ≡ (state S.Store conn.new).committed)) }
+    ensures same { IsLive (state S.Store conn.new) → IsReady layout.now (state S.Store conn.old) → OnErr result (SameRows (state S.Store conn.old) (state S.Store conn.new)) }
+    ensures crash { Survives (state S.Store conn.old) (state S.Store conn.new) (λ trees. IsReady layout.now (state S.Store conn.old) → MayBecome layout.now (with_retired_lane device (held_of (ours layout.now (state S.Store conn.old).now.trees))) trees) }
+    ensures live { IsLive (state S.Store conn.new) → IsLive (state S.Store conn.old) }
+    ensures stays { HasCleanDisk (state S.Store conn.new) → OnOk result (IsTrue (state S.Store conn.new).is_open) }
+    ensures idle { conn.new.in_transaction ≡ false }
+{
+    let mut tx = conn.transaction();
+    put_retired(&mut tx, layout, device)?;
     match tx.commit() {
         Ok(()) => Ok(()),
         Err(error) => Err(fault_of(error)),

@@ -6,14 +6,14 @@ use borrow.Author.Tests.{ltb-true}
 use Rattle.fare_lines.specs.declared.keyword.Keyword.{Keyword}
 use Rattle.fare_lines.specs.declared.keyword.Keyword.TheVariants.{OfScheme, OfEvent}
 use Rattle.fare_lines.specs.declared.keyword.SchemeKeyword.TheVariants.{Owner, Operator, Station, Product, Caps, Hop, Device, Inbox, Start, Seal, Demo}
-use Rattle.fare_lines.specs.declared.keyword.EventKeyword.TheVariants.{Tap, Turn, Send, Rewind, State, Arrive, Draw, Store, Ack, DayAck, Answer, Forward, Fetch, Take, Close, Prune, Resume, RestartDevice, RestartStation, RestartWriter, RestartOwner, RestartHub, Upto, Count, Bill, Settle}
+use Rattle.fare_lines.specs.declared.keyword.EventKeyword.TheVariants.{Tap, Turn, Send, Rewind, State, Arrive, Draw, Store, Ack, DayAck, Answer, Forward, Fetch, Take, Close, Retire, Prune, Resume, RestartDevice, RestartStation, RestartWriter, RestartOwner, RestartHub, Upto, Count, Bill, Settle}
 use Rattle.fare_lines.specs.Reading.{any_keyword}
 use Rattle.fare_lines.specs.Grammar.{keyword_text}
 use Rattle.fare_lines.proofs.Cuts.{Lacks}
 
 -- a row for each keyword
 abbrev pub keywords : List Keyword
-keywords = OfEvent Tap ∷ OfEvent Turn ∷ OfEvent Send ∷ OfEvent Rewind ∷ OfEvent State ∷ OfEvent Arrive ∷ OfEvent Draw ∷ OfEvent Store ∷ OfEvent Ack ∷ OfEvent DayAck ∷ OfEvent Answer ∷ OfEvent Forward ∷ OfEvent Fetch ∷ OfEvent Take ∷ OfEvent Close ∷ OfEvent Prune ∷ OfEvent Resume ∷ OfEvent RestartDevice ∷ OfEvent RestartStation ∷ OfEvent RestartWriter ∷ OfEvent RestartOwner ∷ OfEvent RestartHub ∷ OfEvent Upto ∷ OfEvent Count ∷ OfEvent Bill ∷ OfEvent Settle ∷ OfScheme Owner ∷ OfScheme Operator ∷ OfScheme Station ∷ OfScheme Product ∷ OfScheme Caps ∷ OfScheme Hop ∷ OfScheme Device ∷ OfScheme Inbox ∷ OfScheme Start ∷ OfScheme Seal ∷ OfScheme Demo ∷ []
+keywords = OfEvent Tap ∷ OfEvent Turn ∷ OfEvent Send ∷ OfEvent Rewind ∷ OfEvent State ∷ OfEvent Arrive ∷ OfEvent Draw ∷ OfEvent Store ∷ OfEvent Ack ∷ OfEvent DayAck ∷ OfEvent Answer ∷ OfEvent Forward ∷ OfEvent Fetch ∷ OfEvent Take ∷ OfEvent Close ∷ OfEvent Retire ∷ OfEvent Prune ∷ OfEvent Resume ∷ OfEvent RestartDevice ∷ OfEvent RestartStation ∷ OfEvent RestartWriter ∷ OfEvent RestartOwner ∷ OfEvent RestartHub ∷ OfEvent Upto ∷ OfEvent Count ∷ OfEvent Bill ∷ OfEvent Settle ∷ OfScheme Owner ∷ OfScheme Operator ∷ OfScheme Station ∷ OfScheme Product ∷ OfScheme Caps ∷ OfScheme Hop ∷ OfScheme Device ∷ OfScheme Inbox ∷ OfScheme Start ∷ OfScheme Seal ∷ OfScheme Demo ∷ []
 
 abbrev pub place : Keyword → ℕ
 place (OfEvent Tap) = 0
@@ -31,28 +31,29 @@ place (OfEvent Forward) = 11
 place (OfEvent Fetch) = 12
 place (OfEvent Take) = 13
 place (OfEvent Close) = 14
-place (OfEvent Prune) = 15
-place (OfEvent Resume) = 16
-place (OfEvent RestartDevice) = 17
-place (OfEvent RestartStation) = 18
-place (OfEvent RestartWriter) = 19
-place (OfEvent RestartOwner) = 20
-place (OfEvent RestartHub) = 21
-place (OfEvent Upto) = 22
-place (OfEvent Count) = 23
-place (OfEvent Bill) = 24
-place (OfEvent Settle) = 25
-place (OfScheme Owner) = 26
-place (OfScheme Operator) = 27
-place (OfScheme Station) = 28
-place (OfScheme Product) = 29
-place (OfScheme Caps) = 30
-place (OfScheme Hop) = 31
-place (OfScheme Device) = 32
-place (OfScheme Inbox) = 33
-place (OfScheme Start) = 34
-place (OfScheme Seal) = 35
-place (OfScheme Demo) = 36
+place (OfEvent Retire) = 15
+place (OfEvent Prune) = 16
+place (OfEvent Resume) = 17
+place (OfEvent RestartDevice) = 18
+place (OfEvent RestartStation) = 19
+place (OfEvent RestartWriter) = 20
+place (OfEvent RestartOwner) = 21
+place (OfEvent RestartHub) = 22
+place (OfEvent Upto) = 23
+place (OfEvent Count) = 24
+place (OfEvent Bill) = 25
+place (OfEvent Settle) = 26
+place (OfScheme Owner) = 27
+place (OfScheme Operator) = 28
+place (OfScheme Station) = 29
+place (OfScheme Product) = 30
+place (OfScheme Caps) = 31
+place (OfScheme Hop) = 32
+place (OfScheme Device) = 33
+place (OfScheme Inbox) = 34
+place (OfScheme Start) = 35
+place (OfScheme Seal) = 36
+place (OfScheme Demo) = 37
 
 pub at_place : (k : Keyword) → (place k < length keywords) × (get_or keywords (place k) any_keyword ≡ k)
 at_place (OfEvent Tap) = (lit< tt, refl)
@@ -70,6 +71,7 @@ at_place (OfEvent Forward) = (lit< tt, refl)
 at_place (OfEvent Fetch) = (lit< tt, refl)
 at_place (OfEvent Take) = (lit< tt, refl)
 at_place (OfEvent Close) = (lit< tt, refl)
+at_place (OfEvent Retire) = (lit< tt, refl)
 at_place (OfEvent Prune) = (lit< tt, refl)
 at_place (OfEvent Resume) = (lit< tt, refl)
 at_place (OfEvent RestartDevice) = (lit< tt, refl)

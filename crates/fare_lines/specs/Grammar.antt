@@ -11,7 +11,7 @@ use Rattle.fare_lines.specs.declared.keyword.Keyword.TheVariants.{OfScheme, OfEv
 use Rattle.fare_lines.specs.declared.keyword.SchemeKeyword.{SchemeKeyword}
 use Rattle.fare_lines.specs.declared.keyword.SchemeKeyword.TheVariants.{Owner, Operator, Station, Product, Caps, Hop, Device, Inbox, Start, Seal, Demo}
 use Rattle.fare_lines.specs.declared.keyword.EventKeyword.{EventKeyword}
-use Rattle.fare_lines.specs.declared.keyword.EventKeyword.TheVariants.{Tap, Turn, Send, Rewind, State, Arrive, Draw, Store, Ack, DayAck, Answer, Forward, Fetch, Take, Close, Prune, Resume, RestartDevice, RestartStation, RestartWriter, RestartOwner, RestartHub, Upto, Count, Bill, Settle}
+use Rattle.fare_lines.specs.declared.keyword.EventKeyword.TheVariants.{Tap, Turn, Send, Rewind, State, Arrive, Draw, Store, Ack, DayAck, Answer, Forward, Fetch, Take, Close, Retire, Prune, Resume, RestartDevice, RestartStation, RestartWriter, RestartOwner, RestartHub, Upto, Count, Bill, Settle}
 use Rattle.fare_lines.specs.declared.line.Line.{Line}
 use Rattle.fare_lines.specs.declared.line.Line.TheVariants.{Setup, Step}
 use Rattle.fare_lines.specs.declared.line.SchemeLine.TheVariants as scheme
@@ -48,6 +48,7 @@ event_keyword_text Forward = codes "forward "
 event_keyword_text Fetch = codes "fetch "
 event_keyword_text Take = codes "take "
 event_keyword_text Close = codes "close "
+event_keyword_text Retire = codes "retire "
 event_keyword_text Prune = codes "prune "
 event_keyword_text Resume = codes "resume "
 event_keyword_text RestartDevice = codes "restart device "
@@ -129,6 +130,7 @@ event_keyword_kinds Forward = AnOwner ∷ ADevice ∷ []
 event_keyword_kinds Fetch = AnOwner ∷ []
 event_keyword_kinds Take = AnOwner ∷ []
 event_keyword_kinds Close = AnOwner ∷ ADevice ∷ ADay ∷ []
+event_keyword_kinds Retire = AnOwner ∷ ADevice ∷ []
 event_keyword_kinds Prune = AnOwner ∷ ADevice ∷ []
 event_keyword_kinds Resume = ADevice ∷ []
 event_keyword_kinds RestartDevice = ADevice ∷ []
@@ -185,6 +187,7 @@ line_parts (Step (event.Forward owner device)) = Numbered (OfEvent Forward) (own
 line_parts (Step (event.Fetch owner)) = Numbered (OfEvent Fetch) (owner ∷ [])
 line_parts (Step (event.Take owner)) = Numbered (OfEvent Take) (owner ∷ [])
 line_parts (Step (event.Close owner device day)) = Numbered (OfEvent Close) (owner ∷ device ∷ day ∷ [])
+line_parts (Step (event.Retire owner device)) = Numbered (OfEvent Retire) (owner ∷ device ∷ [])
 line_parts (Step (event.Prune owner device)) = Numbered (OfEvent Prune) (owner ∷ device ∷ [])
 line_parts (Step (event.Resume device)) = Numbered (OfEvent Resume) (device ∷ [])
 line_parts (Step (event.RestartDevice device)) = Numbered (OfEvent RestartDevice) (device ∷ [])

@@ -47,6 +47,7 @@ refusal_name refusal.Gap = codes "Gap"
 refusal_name refusal.Conflict = codes "Conflict"
 refusal_name refusal.OutboxFull = codes "OutboxFull"
 refusal_name refusal.NotMine = codes "NotMine"
+refusal_name refusal.Retired = codes "Retired"
 refusal_name refusal.AfterClose = codes "AfterClose"
 refusal_name refusal.Unstated = codes "Unstated"
 refusal_name refusal.Repeated = codes "Repeated"
@@ -93,13 +94,14 @@ reply_words (reply.FetchedDay device day) = codes "fetched" ∷ decimal device �
 reply_words (reply.Taken device lane) = codes "taken" ∷ decimal device ∷ codes "lane" ∷ decimal lane ∷ []
 reply_words (reply.Stated device day count) = codes "stated" ∷ decimal device ∷ codes "day" ∷ decimal day ∷ codes "count" ∷ decimal count ∷ []
 reply_words (reply.Closed device day) = codes "closed" ∷ decimal device ∷ decimal day ∷ []
+reply_words (reply.Retired device) = codes "retired" ∷ decimal device ∷ []
 reply_words (reply.Resumed upto) = codes "resumed" ∷ decimal upto ∷ []
 reply_words reply.Restarted = codes "restarted" ∷ []
 reply_words (reply.Upto number) = codes "upto" ∷ decimal number ∷ []
 reply_words (reply.Count number) = codes "count" ∷ decimal number ∷ []
 reply_words (reply.Pruned rows) = codes "pruned" ∷ decimal rows ∷ []
-reply_words (reply.Bill owner day bill) = codes "bill" ∷ decimal owner ∷ decimal day ∷ decimal (length bill.rows) ∷ decimal bill.total ∷ []
-reply_words (reply.Settlement owner day settlement) = codes "settlement" ∷ decimal owner ∷ decimal day ∷ decimal (length settlement) ∷ []
+reply_words (reply.Bill owner day bill short) = codes "bill" ∷ decimal owner ∷ decimal day ∷ decimal (length bill.rows) ∷ decimal bill.total ∷ []
+reply_words (reply.Settlement owner day settlement short) = codes "settlement" ∷ decimal owner ∷ decimal day ∷ decimal (length settlement) ∷ []
 
 -- the words of an account's row of a bill, and of an operator's row of a settlement
 abbrev pub account_words : Row → List (List ℕ)
@@ -107,6 +109,10 @@ account_words row = codes "account" ∷ decimal row.account.product ∷ decimal 
 
 abbrev pub operator_words : Settled → List (List ℕ)
 operator_words share = codes "operator" ∷ decimal share.operator ∷ decimal share.taps ∷ decimal share.amount ∷ []
+
+-- the words of a device of which a bill or a settlement is short
+abbrev pub short_words : ℕ → List (List ℕ)
+short_words device = codes "short" ∷ decimal device ∷ []
 
 -- words with one space between each two, ended by a line feed
 abbrev pub words_line : List (List ℕ) → List ℕ
@@ -118,8 +124,8 @@ rows_text words rows = flat_map (λ row. words_line (words row)) rows
 
 -- the one spelling of a reply
 abbrev pub reply_text : Reply → List ℕ
-reply_text (reply.Bill owner day bill) = words_line (reply_words (reply.Bill owner day bill)) ++ rows_text account_words bill.rows
-reply_text (reply.Settlement owner day settlement) = words_line (reply_words (reply.Settlement owner day settlement)) ++ rows_text operator_words settlement
+reply_text (reply.Bill owner day bill short) = words_line (reply_words (reply.Bill owner day bill short)) ++ rows_text account_words bill.rows ++ rows_text short_words short
+reply_text (reply.Settlement owner day settlement short) = words_line (reply_words (reply.Settlement owner day settlement short)) ++ rows_text operator_words settlement ++ rows_text short_words short
 reply_text r = words_line (reply_words r)
 
 -- the spellings of replies, one after the other

@@ -181,6 +181,10 @@ fn build_pair_event(keyword: EventKeyword, first: u64, second: u64) -> Option<Ev
             owner: OwnerId::new(first)?,
             device: DeviceId::new(second)?,
         }),
+        EventKeyword::Retire => Some(Event::Retire {
+            owner: OwnerId::new(first)?,
+            device: DeviceId::new(second)?,
+        }),
         EventKeyword::Prune => Some(Event::Prune {
             owner: OwnerId::new(first)?,
             device: DeviceId::new(second)?,

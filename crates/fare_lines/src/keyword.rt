@@ -37,6 +37,7 @@ pub enum EventKeyword {
     Fetch,
     Take,
     Close,
+    Retire,
     Prune,
     Resume,
     RestartDevice,
@@ -99,6 +100,7 @@ impl EventKeyword {
             EventKeyword::Fetch => b"fetch ",
             EventKeyword::Take => b"take ",
             EventKeyword::Close => b"close ",
+            EventKeyword::Retire => b"retire ",
             EventKeyword::Prune => b"prune ",
             EventKeyword::Resume => b"resume ",
             EventKeyword::RestartDevice => b"restart device ",
@@ -155,7 +157,7 @@ const OF_PR: [Keyword; 2] = [
     Keyword::OfScheme(SchemeKeyword::Product),
 ];
 
-const OF_RE: [Keyword; 7] = [
+const OF_RE: [Keyword; 8] = [
     Keyword::OfEvent(EventKeyword::Rewind),
     Keyword::OfEvent(EventKeyword::Resume),
     Keyword::OfEvent(EventKeyword::RestartHub),
@@ -163,6 +165,7 @@ const OF_RE: [Keyword; 7] = [
     Keyword::OfEvent(EventKeyword::RestartStation),
     Keyword::OfEvent(EventKeyword::RestartWriter),
     Keyword::OfEvent(EventKeyword::RestartOwner),
+    Keyword::OfEvent(EventKeyword::Retire),
 ];
 
 const OF_SE: [Keyword; 3] = [

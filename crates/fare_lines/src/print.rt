@@ -49,6 +49,7 @@ fn name_of(refusal: Refusal) -> &'static [u8]
         Refusal::Conflict => b"Conflict",
         Refusal::OutboxFull => b"OutboxFull",
         Refusal::NotMine => b"NotMine",
+        Refusal::Retired => b"Retired",
         Refusal::AfterClose => b"AfterClose",
         Refusal::Unstated => b"Unstated",
         Refusal::Repeated => b"Repeated",
@@ -124,7 +125,7 @@ pub(crate) fn put_named<const N: usize>(
 }
 
 /// Appends a name and a number, and a line feed. After an error some of it may stand there.
-fn put_number_line<const N: usize>(
+pub(crate) fn put_number_line<const N: usize>(
     name: &[u8; N],
     number: u64,
     out: &mut Vec<u8>,
@@ -395,6 +396,7 @@ pub fn print_reply(reply: &Reply, out: &mut Vec<u8>) -> Result<(), AllocError>
         ),
         Reply::Stated { device, day, count } => append_stated(*device, *day, *count, out),
         Reply::Closed { device, day } => append_closed(*device, *day, out),
+        Reply::Retired(device) => append_number(b"retired", u64::from(device.get()), out),
         Reply::Drawn { device, link } => {
             append_numbers(b"drawn", u64::from(device.get()), b"link", *link, out)
         }
@@ -419,11 +421,17 @@ pub fn print_reply(reply: &Reply, out: &mut Vec<u8>) -> Result<(), AllocError>
         Reply::Upto(number) => append_number(b"upto", *number, out),
         Reply::Count(number) => append_number(b"count", *number, out),
         Reply::Pruned(rows) => append_number(b"pruned", *rows, out),
-        Reply::Bill { owner, day, bill } => append_bill(*owner, *day, bill, out),
+        Reply::Bill {
+            owner,
+            day,
+            bill,
+            short,
+        } => append_bill(*owner, *day, bill, short, out),
         Reply::Settlement {
             owner,
             day,
             settlement,
-        } => append_settlement(*owner, *day, settlement, out),
+            short,
+        } => append_settlement(*owner, *day, settlement, short, out),
     }
 }

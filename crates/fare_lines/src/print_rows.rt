@@ -1,10 +1,12 @@
-ghost use Rattle.std.specs.Prelude.{◌≡◌, ◌++◌, OnOk, OnErr, length, take};
+ghost use Rattle.std.specs.Prelude.{◌≡◌, [], ◌∷◌, ◌++◌, OnOk, OnErr, codes, length, take};
+ghost use Rattle.std.specs.Fmt.{decimal};
 ghost use Rattle.fare_event.specs.declared.reply.Reply.TheVariants as reply;
-ghost use Rattle.fare_lines.specs.Replies.{account_words, operator_words, reply_text, reply_words, rows_text, words_line};
+ghost use Rattle.fare_lines.specs.Replies.{account_words, operator_words, reply_text, rows_text, short_words, words_line};
 
-use crate::print::{append_line, put_named, put_number};
+use crate::print::{append_line, put_named, put_number, put_number_line};
 use fare_cap::{Bill, Row};
-use fare_record::{Day, OwnerId};
+use fare_event::Short;
+use fare_record::{Day, DeviceId, OwnerId};
 use fare_settle::{Settled, Settlement};
 use itoa::Buffer;
 use std::alloc::AllocError;
@@ -58,6 +60,25 @@ fn append_operators(shares: &[Settled], out: &mut Vec<u8>) -> Result<(), AllocEr
     Ok(())
 }
 
+/// Appends a device of which a bill or a settlement is short. After an error some of it may stand there.
+fn put_short(device: DeviceId, out: &mut Vec<u8>) -> Result<(), AllocError>
+    ensures appended { OnOk result (out.new.items ≡ out.old.items ++ words_line (short_words device)) }
+    ensures front { take (length out.old.items) out.new.items ≡ out.old.items }
+{
+    put_number_line(b"short", u64::from(device.get()), out)
+}
+
+/// Appends the devices of which a bill or a settlement is short. After an error some of them may stand there.
+fn append_short(devices: &[DeviceId], out: &mut Vec<u8>) -> Result<(), AllocError>
+    ensures appended { OnOk result (out.new.items ≡ out.old.items ++ rows_text short_words devices.now) }
+    ensures front { take (length out.old.items) out.new.items ≡ out.old.items }
+{
+    for device in devices {
+        put_short(*device, out)?;
+    }
+    Ok(())
+}
+
 /// Appends the first line of a bill.
 fn append_bill_line(
     owner: OwnerId,
@@ -65,7 +86,7 @@ fn append_bill_line(
     bill: &Bill,
     out: &mut Vec<u8>,
 ) -> Result<(), AllocError>
-    ensures appended { OnOk result (out.new.items ≡ out.old.items ++ words_line (reply_words (reply.Bill owner day bill.now))) }
+    ensures appended { OnOk result (out.new.items ≡ out.old.items ++ words_line (codes "bill" ∷ decimal owner ∷ decimal day ∷ decimal (length bill.now.rows) ∷ decimal bill.now.total ∷ [])) }
     ensures kept { OnErr result (out.new.items ≡ out.old.items) }
 {
     let mut one = Buffer::new();
@@ -86,7 +107,7 @@ fn append_settlement_line(
     settlement: &Settlement,
     out: &mut Vec<u8>,
 ) -> Result<(), AllocError>
-    ensures appended { OnOk result (out.new.items ≡ out.old.items ++ words_line (reply_words (reply.Settlement owner day settlement.now))) }
+    ensures appended { OnOk result (out.new.items ≡ out.old.items ++ words_line (codes "settlement" ∷ decimal owner ∷ decimal day ∷ decimal (length settlement.now) ∷ [])) }
     ensures kept { OnErr result (out.new.items ≡ out.old.items) }
 {
     let mut one = Buffer::new();
@@ -98,38 +119,66 @@ fn append_settlement_line(
     append_line(b"settlement", &[owner, day, operators], out)
 }
 
-/// Appends a bill: a line, and a line for each account. After an error `out` is as before.
+/// Appends what stands below the first line of a bill: a line for each account, and one for each device of which the
+/// bill is short. After an error some of it may stand there.
+fn append_bill_rows(bill: &Bill, short: &Short, out: &mut Vec<u8>) -> Result<(), AllocError>
+    ensures appended { OnOk result (out.new.items ≡ out.old.items ++ rows_text account_words bill.now.rows ++ rows_text short_words short.now) }
+    ensures front { take (length out.old.items) out.new.items ≡ out.old.items }
+{
+    append_accounts(bill.rows(), out)?;
+    append_short(short.devices(), out)
+}
+
+/// Appends what stands below the first line of a settlement: a line for each operator, and one for each device of which
+/// the settlement is short. After an error some of it may stand there.
+fn append_settlement_rows(
+    settlement: &Settlement,
+    short: &Short,
+    out: &mut Vec<u8>,
+) -> Result<(), AllocError>
+    ensures appended { OnOk result (out.new.items ≡ out.old.items ++ rows_text operator_words settlement.now ++ rows_text short_words short.now) }
+    ensures front { take (length out.old.items) out.new.items ≡ out.old.items }
+{
+    append_operators(settlement.shares(), out)?;
+    append_short(short.devices(), out)
+}
+
+/// Appends a bill: a line, a line for each account, and one for each device of which it is short. After an error `out`
+/// is as before.
 pub fn append_bill(
     owner: OwnerId,
     day: Day,
     bill: &Bill,
+    short: &Short,
     out: &mut Vec<u8>,
 ) -> Result<(), AllocError>
-    ensures appended { OnOk result (out.new.items ≡ out.old.items ++ reply_text (reply.Bill owner day bill.now)) }
+    ensures appended { OnOk result (out.new.items ≡ out.old.items ++ reply_text (reply.Bill owner day bill.now short.now)) }
     ensures kept { OnErr result (out.new.items ≡ out.old.items) }
 {
     let length = out.len();
     append_bill_line(owner, day, bill, out)?;
-    let appended = append_accounts(bill.rows(), out);
+    let appended = append_bill_rows(bill, short, out);
     if appended.is_err() {
         out.truncate(length);
     }
     appended
 }
 
-/// Appends a settlement: a line, and a line for each operator. After an error `out` is as before.
+/// Appends a settlement: a line, a line for each operator, and one for each device of which it is short. After an error
+/// `out` is as before.
 pub fn append_settlement(
     owner: OwnerId,
     day: Day,
     settlement: &Settlement,
+    short: &Short,
     out: &mut Vec<u8>,
 ) -> Result<(), AllocError>
-    ensures appended { OnOk result (out.new.items ≡ out.old.items ++ reply_text (reply.Settlement owner day settlement.now)) }
+    ensures appended { OnOk result (out.new.items ≡ out.old.items ++ reply_text (reply.Settlement owner day settlement.now short.now)) }
     ensures kept { OnErr result (out.new.items ≡ out.old.items) }
 {
     let length = out.len();
     append_settlement_line(owner, day, settlement, out)?;
-    let appended = append_operators(settlement.shares(), out);
+    let appended = append_settlement_rows(settlement, short, out);
     if appended.is_err() {
         out.truncate(length);
     }

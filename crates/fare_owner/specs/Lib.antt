@@ -1,3 +1,4 @@
 pub mod TapJudged
 pub mod StatementJudged
 pub mod CloseJudged
+pub mod RetireJudged

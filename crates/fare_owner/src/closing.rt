@@ -6,6 +6,9 @@ use thiserror::Error;
 /// Why an owner doesn't close a day of a device, in the order in which this is tested.
 #[derive(Clone, Copy, PartialEq, Eq, Debug, Error)]
 pub enum CloseFault {
+    /// The lane of that device is retired.
+    #[error("the lane is retired")]
+    Retired,
     /// No statement of that day is held.
     #[error("not stated")]
     Unstated,
@@ -24,25 +27,30 @@ pub enum CloseFault {
 }
 
 /// Whether an owner closes a day of a device: `stated` is the count of that day's statement, if one is held,
-/// `closed` says that the day is closed, `next` that it is the first day that isn't, and `taken` is the number
-/// of the day's taps that are taken.
+/// `closed` says that the day is closed, `next` that it is the first day that isn't, `taken` is the number of the
+/// day's taps that are taken, and `retired` says that the lane is retired.
 pub fn judge_close(
     stated: Option<u64>,
     closed: bool,
     next: bool,
     taken: u64,
+    retired: bool,
 ) -> Result<(), CloseFault>
-    ensures judged { result ≡ close_judged stated closed next taken }
-    ensures ok { IsOk result ↔ ((stated ≡ Some taken) × IsFalse closed × IsTrue next) }
+    ensures judged { result ≡ close_judged stated closed next taken retired }
+    ensures ok { IsOk result ↔ (IsFalse retired × (stated ≡ Some taken) × IsFalse closed × IsTrue next) }
 
-    ensures unstated { (result ≡ Err CloseFault.Unstated) ↔ (stated ≡ None) }
-    ensures already_closed { (result ≡ Err CloseFault.AlreadyClosed) ↔ (IsSome stated × IsTrue closed) }
-    ensures out_of_order { (result ≡ Err CloseFault.OutOfOrder) ↔ (IsSome stated × IsFalse closed × IsFalse next) }
+    ensures retired { (result ≡ Err CloseFault.Retired) ↔ IsTrue retired }
+    ensures unstated { (result ≡ Err CloseFault.Unstated) ↔ (IsFalse retired × (stated ≡ None)) }
+    ensures already_closed { (result ≡ Err CloseFault.AlreadyClosed) ↔ (IsFalse retired × IsSome stated × IsTrue closed) }
+    ensures out_of_order { (result ≡ Err CloseFault.OutOfOrder) ↔ (IsFalse retired × IsSome stated × IsFalse closed × IsFalse next) }
     ensures short { (count : ℕ) → (result ≡ Err (CloseFault.CountsShort count taken))
-        ↔ ((stated ≡ Some count) × IsFalse closed × IsTrue next × (taken < count)) }
+        ↔ (IsFalse retired × (stated ≡ Some count) × IsFalse closed × IsTrue next × (taken < count)) }
     ensures over { (count : ℕ) → (result ≡ Err (CloseFault.CountsOver count taken))
-        ↔ ((stated ≡ Some count) × IsFalse closed × IsTrue next × (count < taken)) }
+        ↔ (IsFalse retired × (stated ≡ Some count) × IsFalse closed × IsTrue next × (count < taken)) }
 {
+    if retired {
+        return Err(CloseFault::Retired);
+    }
     let Some(stated) = stated else {
         return Err(CloseFault::Unstated);
     };

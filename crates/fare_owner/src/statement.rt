@@ -9,6 +9,9 @@ pub enum StatementFault {
     /// Of another owner, or of a device that isn't in the scheme.
     #[error("not this owner's statement")]
     NotMine,
+    /// Of a device whose lane is retired.
+    #[error("the lane is retired")]
+    Retired,
     /// Taken before, with the same count.
     #[error("taken before")]
     Repeated,
@@ -18,17 +21,26 @@ pub enum StatementFault {
 }
 
 /// Whether an owner takes a statement of `count` taps, where `held` is the count that it holds for the same
-/// device and day.
-pub fn judge_statement(mine: bool, held: Option<u64>, count: u64) -> Result<(), StatementFault>
-    ensures judged { result ≡ statement_judged mine held count }
-    ensures ok { IsOk result ↔ (IsTrue mine × (held ≡ None)) }
+/// device and day, and `retired` says that the device's lane is retired.
+pub fn judge_statement(
+    mine: bool,
+    held: Option<u64>,
+    count: u64,
+    retired: bool,
+) -> Result<(), StatementFault>
+    ensures judged { result ≡ statement_judged mine held count retired }
+    ensures ok { IsOk result ↔ (IsTrue mine × IsFalse retired × (held ≡ None)) }
 
     ensures not_mine { (result ≡ Err StatementFault.NotMine) ↔ IsFalse mine }
-    ensures repeated { (result ≡ Err StatementFault.Repeated) ↔ (IsTrue mine × (held ≡ Some count)) }
-    ensures conflict { (result ≡ Err StatementFault.Conflict) ↔ (IsTrue mine × IsSomeAnd held (λ stated. stated ≢ count)) }
+    ensures retired { (result ≡ Err StatementFault.Retired) ↔ (IsTrue mine × IsTrue retired) }
+    ensures repeated { (result ≡ Err StatementFault.Repeated) ↔ (IsTrue mine × IsFalse retired × (held ≡ Some count)) }
+    ensures conflict { (result ≡ Err StatementFault.Conflict) ↔ (IsTrue mine × IsFalse retired × IsSomeAnd held (λ stated. stated ≢ count)) }
 {
     if !mine {
         return Err(StatementFault::NotMine);
+    }
+    if retired {
+        return Err(StatementFault::Retired);
     }
     match held {
         None => Ok(()),

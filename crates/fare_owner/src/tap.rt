@@ -9,6 +9,9 @@ pub enum TapFault {
     /// Of another owner, or of a device that isn't in the scheme.
     #[error("not this owner's tap")]
     NotMine,
+    /// Of a device whose lane is retired.
+    #[error("the lane is retired")]
+    Retired,
     /// Taken before.
     #[error("taken before")]
     Duplicate,
@@ -20,19 +23,29 @@ pub enum TapFault {
     AfterClose,
 }
 
-/// Whether an owner takes the tap with this lane number, where `count` taps of the lane are taken and
-/// `closed` says that its day is closed.
-pub fn judge_tap(mine: bool, count: u64, closed: bool, lane: u64) -> Result<(), TapFault>
-    ensures judged { result ≡ tap_judged mine count closed lane }
-    ensures ok { IsOk result ↔ (IsTrue mine × (lane ≡ count + 1) × IsFalse closed) }
+/// Whether an owner takes the tap with this lane number, where `count` taps of the lane are taken, `closed` says
+/// that its day is closed, and `retired` that the lane is retired.
+pub fn judge_tap(
+    mine: bool,
+    count: u64,
+    closed: bool,
+    lane: u64,
+    retired: bool,
+) -> Result<(), TapFault>
+    ensures judged { result ≡ tap_judged mine count closed lane retired }
+    ensures ok { IsOk result ↔ (IsTrue mine × IsFalse retired × (lane ≡ count + 1) × IsFalse closed) }
 
     ensures not_mine { (result ≡ Err TapFault.NotMine) ↔ IsFalse mine }
-    ensures duplicate { (result ≡ Err TapFault.Duplicate) ↔ (IsTrue mine × (lane ≤ count)) }
-    ensures gap { (result ≡ Err TapFault.Gap) ↔ (IsTrue mine × (count + 1 < lane)) }
-    ensures after_close { (result ≡ Err TapFault.AfterClose) ↔ (IsTrue mine × (lane ≡ count + 1) × IsTrue closed) }
+    ensures retired { (result ≡ Err TapFault.Retired) ↔ (IsTrue mine × IsTrue retired) }
+    ensures duplicate { (result ≡ Err TapFault.Duplicate) ↔ (IsTrue mine × IsFalse retired × (lane ≤ count)) }
+    ensures gap { (result ≡ Err TapFault.Gap) ↔ (IsTrue mine × IsFalse retired × (count + 1 < lane)) }
+    ensures after_close { (result ≡ Err TapFault.AfterClose) ↔ (IsTrue mine × IsFalse retired × (lane ≡ count + 1) × IsTrue closed) }
 {
     if !mine {
         return Err(TapFault::NotMine);
+    }
+    if retired {
+        return Err(TapFault::Retired);
     }
     if lane <= count {
         return Err(TapFault::Duplicate);

@@ -162,6 +162,7 @@ gathering_leads sc s x g next t hand inbox gathers = record {
     taken = λ d. is.taken d ∙ sym (λ i. take (gathers.lanes i o d).took (part o ((gathers.same d).taps i)));
     stated = λ d day. is.stated d day ∙ sym (λ i. count_of ((gathers.lanes i o d).stated day) (part o ((gathers.same d).taps i)) day);
     closed = λ d. is.closed d ∙ sym (λ i. (gathers.lanes i o d).closed);
+    retired = λ d. is.retired d ∙ sym (λ i. (gathers.lanes i o d).retired);
   };
   hand = record { numbers = ap hand_arrived gathers.drawn ∙ hand_is g.hand; each = arrived_map (hub_again sc s) t gathers.same (hand_given g.hand) hand };
   inbox = record { numbers = gathers.queued; each = arrived_map (hub_again sc s) t gathers.same g.inbox inbox };

@@ -44,7 +44,7 @@ forward_comes sc t o d x c y h shows far e = by (nat_lt forward (length arrived)
     before : gone ≤ forward
     before =
         let l = h.lanes o d in
-        omega (arith, l.gone, Runs-le (t.lanes o d).took forward (lane_numbers d (pending (t.owners o))) l.run)
+        omega (arith, l.gone, l.took)
 
     row : forward < length arrived → ComesNext o x c (Lane_of d (forward + 1))
     row lt =

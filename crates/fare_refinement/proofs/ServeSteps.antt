@@ -1,6 +1,6 @@
 -- One owner's part of a system, and what each event of its session does to it.
-use Rattle.std.proofs.Common.{◌≡◌, ℕ, ◌+◌, ◌-◌, ◌<◌, ◌≤◌, List, [], ◌∷◌, ◌++◌, length, take, drop, map, Some, None, Bool, true, false, refl, sym, ap, ◌∙◌, subst, arith}
-use Rattle.std.specs.Prelude.{◌==◌, slice_get, if◌then◌else◌, Option, IfSome, is_some, option_map, Result, Ok, Err, nat_lt, nat_le}
+use Rattle.std.proofs.Common.{◌≡◌, ◌≢◌, ℕ, ◌+◌, ◌-◌, ◌<◌, ◌≤◌, List, [], ◌∷◌, ◌++◌, length, take, drop, map, Some, None, Bool, true, false, refl, sym, ap, ◌∙◌, subst, arith}
+use Rattle.std.specs.Prelude.{◌==◌, not, slice_get, if◌then◌else◌, Option, IfSome, is_some, option_map, Result, Ok, Err, nat_lt, nat_le}
 use Rattle.std.specs.List.{AllByRecursion}
 use Rattle.std.proofs.lemmas.List.{take-append-drop, map-append, length-map, length-take-le}
 use Rattle.std.proofs.lemmas.List.Elements.{filter-append}
@@ -17,7 +17,7 @@ use Rattle.fare_owner.specs.declared.tap.TapFault.TheVariants as tap_fault
 use Rattle.fare_owner.specs.declared.statement.StatementFault.TheVariants as statement_fault
 use Rattle.fare_event.specs.declared.event.Event.{Event}
 use Rattle.fare_event.specs.declared.event.Event.TheVariants as event
-use Rattle.fare_event.specs.declared.reply.Refusal.TheVariants.{UnknownDevice, UnknownOwner, Busy}
+use Rattle.fare_event.specs.declared.reply.Refusal.TheVariants.{UnknownDevice, UnknownOwner, Busy, Retired}
 use Rattle.fare_event.specs.declared.reply.Reply.{Reply}
 use Rattle.fare_event.specs.declared.reply.Reply.TheVariants as reply
 use Rattle.fare_store.specs.Tables.{put}
@@ -33,11 +33,11 @@ use Rattle.fare_store.specs.OutboxWords as outbox
 use Rattle.fare_store.specs.LedgerWords.{LedgerValue}
 use Rattle.fare_world.proofs.RowPlaces.{row_held, row_here}
 use Rattle.fare_world.specs.Kept as kept
-use Rattle.fare_world.specs.Kept.{pending, lane_numbers, Runs, IsSystem}
+use Rattle.fare_world.specs.Kept.{lane_numbers, Runs, IsSystem}
 use Rattle.fare_world.specs.Shown.{row_at, count_of, IsAt, IsStatementOf, IsRoutedOf}
 use Rattle.fare_record.specs.declared.item.Item.{Item}
 use Rattle.fare_record.specs.declared.item.Item.TheVariants as item
-use Rattle.fare_history.specs.Serving.{Cursors, behind_ledger, moved_by, IsComingRow, IsComingStatement, IsNextItem, given, pruned_to, device_of}
+use Rattle.fare_history.specs.Serving.{Cursors, behind_ledger, moved_by, IsComingRow, IsComingStatement, IsNextItem, given, pruned_to, device_of, IsWorking}
 use Rattle.fare_refinement.specs.ShownStores.{ShowsOutbox, ShowsLedger}
 use Rattle.fare_refinement.specs.Served.{routed_of, IsBeside}
 use Rattle.fare_world.proofs.Known.{placed}
@@ -45,7 +45,7 @@ use Rattle.fare_world.proofs.Places.{slice_get-front}
 use Rattle.fare_world.proofs.Lists.{AllByRecursion-push, length-part-take}
 use Rattle.fare_side.proofs.Positions.{element_at}
 use Rattle.fare_store.proofs.Entries.{if_all, below, put_all, put_both, put2_all, put_here}
-use Rattle.fare_world.proofs.Lanes.{Runs-le, lane_number_here}
+use Rattle.fare_world.proofs.Lanes.{lane_number_here}
 use Rattle.fare_world.proofs.NextDay.{day_found, next_day_is}
 use Rattle.fare_world.proofs.KeptParts.{took_numbered}
 use Rattle.fare_world.proofs.Kept.{moves_step}
@@ -78,12 +78,13 @@ outbox_same s t x devices gone held rows statements is = record {
   stated_count = is.stated_count ∙ sym statements;
 }
 
-pub ledger_same : (sc : SchemeValue) (s t : System) (o : ℕ) (x : LedgerValue) → t.devices ≡ s.devices → ((d : ℕ) → (t.lanes o d).took ≡ (s.lanes o d).took) → ((d : ℕ) → (t.lanes o d).stated ≡ (s.lanes o d).stated) → ((d : ℕ) → (t.lanes o d).closed ≡ (s.lanes o d).closed) → ShowsLedger sc s o x → ShowsLedger sc t o x
-ledger_same sc s t o x devices took stated closed is = record {
+pub ledger_same : (sc : SchemeValue) (s t : System) (o : ℕ) (x : LedgerValue) → t.devices ≡ s.devices → ((d : ℕ) → (t.lanes o d).took ≡ (s.lanes o d).took) → ((d : ℕ) → (t.lanes o d).stated ≡ (s.lanes o d).stated) → ((d : ℕ) → (t.lanes o d).closed ≡ (s.lanes o d).closed) → ((d : ℕ) → (t.lanes o d).retired ≡ (s.lanes o d).retired) → ShowsLedger sc s o x → ShowsLedger sc t o x
+ledger_same sc s t o x devices took stated closed retired is = record {
   ledger = is.ledger;
   taken = λ d. is.taken d ∙ sym (λ i. take (took d i) (part o (devices i d).taps));
   stated = λ d day. is.stated d day ∙ sym (λ i. count_of (stated d i day) (part o (devices i d).taps) day);
   closed = λ d. is.closed d ∙ sym (closed d);
+  retired = λ d. is.retired d ∙ sym (retired d);
 }
 
 -- ONE OWNER'S PART
@@ -188,7 +189,7 @@ next_stated sc t o x c v h shows lanes days is = (next, known_station sc v.devic
     gone : (t.lanes o d).gone ≤ forward
     gone =
         let l = h.lanes o d in
-        omega (arith, l.gone, Runs-le (t.lanes o d).took forward (lane_numbers d (pending (t.owners o))) l.run)
+        omega (arith, l.gone, l.took)
 
     -- a row that is to come would be of a greater lane number
     none_to_come : (b : Bool) → nat_lt forward (length arrived) ≡ b → b ≡ false
@@ -212,9 +213,9 @@ next_item sc t o x c (item.Tap r) h shows lanes days is = next_tap sc t o x c r 
 next_item sc t o x c (item.Stated v) h shows lanes days is = next_stated sc t o x c v h shows lanes days is
 
 -- FORWARD
-forward_is : (sc : SchemeValue) (t : System) (o d : ℕ) (y : Routed) → knows_owner sc o ≡ true → knows_device sc d ≡ true → next_routed t o d ≡ Some y → is_full (lane_room sc o) (t.owners o).queue ≡ false → forward sc t o d ≡ (forwarded t o d y, forwarded_reply y)
-forward_is sc t o d y known registered next room =
-    (λ i. if known i then (if registered i then forward_item sc t o d (next i) else (t, reply.Refused UnknownDevice)) else (t, reply.Refused UnknownOwner))
+forward_is : (sc : SchemeValue) (t : System) (o d : ℕ) (y : Routed) → knows_owner sc o ≡ true → knows_device sc d ≡ true → (t.lanes o d).retired ≡ false → next_routed t o d ≡ Some y → is_full (lane_room sc o) (t.owners o).queue ≡ false → forward sc t o d ≡ (forwarded t o d y, forwarded_reply y)
+forward_is sc t o d y known registered works next room =
+    (λ i. if known i then (if registered i then (if works i then (t, reply.Refused Retired) else forward_item sc t o d (next i)) else (t, reply.Refused UnknownDevice)) else (t, reply.Refused UnknownOwner))
     ∙ (λ i. if room i then (t, reply.Refused Busy) else (forwarded t o d y, forwarded_reply y))
 
 room_left : (room : ℕ) (xs : List Routed) → length xs < room → is_full room xs ≡ false
@@ -248,15 +249,20 @@ passed_closed : (l : LaneState) (y : Routed) → (passed l y).closed ≡ l.close
 passed_closed l (Lane_of d k) = refl
 passed_closed l (Day_of d day) = refl
 
-pub serves_forward : (sc : SchemeValue) (s : System) (o : ℕ) (x : OutboxValue) (l : LedgerValue) (c : Cursors) (hand : Option Item) (queue : List Item) (t : System) (i : Item) → knows_owner sc o ≡ true → length queue < lane_room sc o → IsNextItem o x c i
+passed_retired : (l : LaneState) (y : Routed) → (passed l y).retired ≡ l.retired
+passed_retired l (Lane_of d k) = refl
+passed_retired l (Day_of d day) = refl
+
+pub serves_forward : (sc : SchemeValue) (s : System) (o : ℕ) (x : OutboxValue) (l : LedgerValue) (c : Cursors) (hand : Option Item) (queue : List Item) (t : System) (i : Item) → knows_owner sc o ≡ true → length queue < lane_room sc o → IsNextItem o x c i → IsWorking l (device_of i)
     → Serves sc s o x l c hand queue t → Serves sc s o x l (moved_by c i) hand (queue ++ i ∷ []) (step sc t (event.Forward o (device_of i))).0
-serves_forward sc s o x l c hand queue t i known room is serves = answered sc s o x l (moved_by c i) hand (queue ++ i ∷ []) t (event.Forward o d) y here (record {
+serves_forward sc s o x l c hand queue t i known room is works serves = answered sc s o x l (moved_by c i) hand (queue ++ i ∷ []) t (event.Forward o d) y here (record {
   system = system_answered sc t (event.Forward o d) y here serves.system;
   outbox = outbox_same t y.0 x refl (put2_all (λ p j (a : LaneState). a.gone ≡ (t.lanes p j).gone) t.lanes o d lane (λ p j. refl) (passed_gone (t.lanes o d) (routed_of i))) refl refl refl serves.outbox;
   ledger = ledger_same sc t y.0 o l refl
       (put2_all (λ p j (a : LaneState). a.took ≡ (t.lanes p j).took) t.lanes o d lane (λ p j. refl) (passed_took (t.lanes o d) (routed_of i)) o)
       (put2_all (λ p j (a : LaneState). a.stated ≡ (t.lanes p j).stated) t.lanes o d lane (λ p j. refl) (passed_stated (t.lanes o d) (routed_of i)) o)
       (put2_all (λ p j (a : LaneState). a.closed ≡ (t.lanes p j).closed) t.lanes o d lane (λ p j. refl) (passed_closed (t.lanes o d) (routed_of i)) o)
+      (put2_all (λ p j (a : LaneState). a.retired ≡ (t.lanes p j).retired) t.lanes o d lane (λ p j. refl) (passed_retired (t.lanes o d) (routed_of i)) o)
       serves.ledger;
   lanes = λ j. ap (λ f. (f j).forward) (put_here t.lanes o (put (t.lanes o) d lane)) ∙ lanes_moved t o c i serves.lanes j;
   days = λ j. ap (λ f. (f j).from_day) (put_here t.lanes o (put (t.lanes o) d lane)) ∙ days_moved t o c i serves.days j;
@@ -283,7 +289,7 @@ serves_forward sc s o x l c hand queue t i known room is serves = answered sc s 
     y = (forwarded t o d (routed_of i), forwarded_reply (routed_of i))
 
     here : step sc t (event.Forward o d) ≡ y
-    here = forward_is sc t o d (routed_of i) known comes.1 comes.0 (room_left (lane_room sc o) (t.owners o).queue (omega (arith, room, ap length serves.queued, length-map queue routed_of)))
+    here = forward_is sc t o d (routed_of i) known comes.1 (sym (serves.ledger.retired d) ∙ works) comes.0 (room_left (lane_room sc o) (t.owners o).queue (omega (arith, room, ap length serves.queued, length-map queue routed_of)))
 
 -- FETCH
 pub serves_fetch : (sc : SchemeValue) (s : System) (o : ℕ) (x : OutboxValue) (l : LedgerValue) (c : Cursors) (i : Item) (queue : List Item) (t : System) → knows_owner sc o ≡ true
@@ -291,7 +297,7 @@ pub serves_fetch : (sc : SchemeValue) (s : System) (o : ℕ) (x : OutboxValue) (
 serves_fetch sc s o x l c i queue t known serves = answered sc s o x l c (Some i) queue t (event.Fetch o) y here (record {
   system = system_answered sc t (event.Fetch o) y here serves.system;
   outbox = outbox_same t y.0 x refl (λ p j. refl) refl refl refl serves.outbox;
-  ledger = ledger_same sc t y.0 o l refl (λ j. refl) (λ j. refl) (λ j. refl) serves.ledger;
+  ledger = ledger_same sc t y.0 o l refl (λ j. refl) (λ j. refl) (λ j. refl) (λ j. refl) serves.ledger;
   lanes = serves.lanes;
   days = serves.days;
   in_hand = ap (λ w. w.hand) (put_here t.owners o owner);
@@ -312,19 +318,31 @@ serves_fetch sc s o x l c i queue t known serves = answered sc s o x l c (Some i
 
 -- TAKE
 -- in an orderly answer the next tap is taken
-tap_is : (t : System) (o d k : ℕ) (j : Result Unit TapFault) → IsOrderly (event.Take o) (take_tap t o d k j).1 → take_tap t o d k j ≡ (with_lane t o d (record (t.lanes o d) { took = (t.lanes o d).took + 1 }), reply.Taken d k)
-tap_is t o d k (Ok u) fine = refl
-tap_is t o d k (Err tap_fault.NotMine) fine = absurd (fine.mine refl)
-tap_is t o d k (Err tap_fault.Duplicate) fine = absurd (fine.once o refl refl)
-tap_is t o d k (Err tap_fault.Gap) fine = absurd (fine.next o refl refl)
-tap_is t o d k (Err tap_fault.AfterClose) fine = absurd (fine.unclosed refl)
+tap_is : (t : System) (o d k : ℕ) (j : Result Unit TapFault) → j ≢ Err tap_fault.Retired → IsOrderly (event.Take o) (take_tap t o d k j).1 → take_tap t o d k j ≡ (with_lane t o d (record (t.lanes o d) { took = (t.lanes o d).took + 1 }), reply.Taken d k)
+tap_is t o d k (Ok u) works fine = refl
+tap_is t o d k (Err tap_fault.NotMine) works fine = absurd (fine.mine refl)
+tap_is t o d k (Err tap_fault.Retired) works fine = absurd (works refl)
+tap_is t o d k (Err tap_fault.Duplicate) works fine = absurd (fine.once o refl refl)
+tap_is t o d k (Err tap_fault.Gap) works fine = absurd (fine.next o refl refl)
+tap_is t o d k (Err tap_fault.AfterClose) works fine = absurd (fine.unclosed refl)
 
 pub take_is : (sc : SchemeValue) (t : System) (o : ℕ) (y : Routed) → knows_owner sc o ≡ true → (t.owners o).hand ≡ Some y → take_event sc t o ≡ take_from sc t o (Some y)
 take_is sc t o y known hand = λ k. if known k then take_from sc t o (hand k) else (t, reply.Refused UnknownOwner)
 
-serves_take_tap : (sc : SchemeValue) (s : System) (o : ℕ) (x : OutboxValue) (l : LedgerValue) (c : Cursors) (r : RecordValue) (queue : List Item) (t : System) → knows_owner sc o ≡ true
+-- a lane that isn't retired is refused by no such name
+pub never_retired : (mine : Bool) (count : ℕ) (closed : Bool) (lane : ℕ) → tap_judged mine count closed lane false ≢ Err tap_fault.Retired
+never_retired mine count closed lane = refused mine (nat_le lane count) (nat_lt (count + 1) lane) closed
+  where
+    refused : (a b c e : Bool) → (if not a then Err tap_fault.NotMine else (if b then Err tap_fault.Duplicate else (if c then Err tap_fault.Gap else (if e then Err tap_fault.AfterClose else Ok (tt {0}))))) ≢ Err tap_fault.Retired
+    refused false b c e is = absurd (cc)
+    refused true true c e is = absurd (cc)
+    refused true false true e is = absurd (cc)
+    refused true false false true is = absurd (cc)
+    refused true false false false is = absurd (cc)
+
+serves_take_tap : (sc : SchemeValue) (s : System) (o : ℕ) (x : OutboxValue) (l : LedgerValue) (c : Cursors) (r : RecordValue) (queue : List Item) (t : System) → knows_owner sc o ≡ true → IsWorking l r.device
     → Serves sc s o x l c (Some (item.Tap r)) queue t → Serves sc s o x (given l (item.Tap r)) c None queue (step sc t (event.Take o)).0
-serves_take_tap sc s o x l c r queue t known serves = answered sc s o x (given l (item.Tap r)) c None queue t (event.Take o) y here (record {
+serves_take_tap sc s o x l c r queue t known working serves = answered sc s o x (given l (item.Tap r)) c None queue t (event.Take o) y here (record {
   system = system_answered sc t (event.Take o) y here serves.system;
   outbox = outbox_same t y.0 x refl (put2_all (λ p j (a : LaneState). a.gone ≡ (t.lanes p j).gone) t.lanes o d lane (λ p j. refl) refl) refl refl refl serves.outbox;
   ledger = ledger_takes sc t o r l serves.system at serves.ledger;
@@ -350,32 +368,38 @@ serves_take_tap sc s o x l c r queue t known serves = answered sc s o x (given l
     y = (with_lane t o d lane, reply.Taken d r.lane)
 
     judged : Result Unit TapFault
-    judged = tap_judged (knows_device sc d) (t.lanes o d).took (is_of_closed_day sc.start (t.lanes o d).closed (slice_get (numbered_for t o d) (r.lane - 1))) r.lane
+    judged = tap_judged (knows_device sc d) (t.lanes o d).took (is_of_closed_day sc.start (t.lanes o d).closed (slice_get (numbered_for t o d) (r.lane - 1))) r.lane (t.lanes o d).retired
+
+    works : (t.lanes o d).retired ≡ false
+    works = sym (serves.ledger.retired d) ∙ working
+
+    never : judged ≢ Err tap_fault.Retired
+    never = subst (λ b. tap_judged (knows_device sc d) (t.lanes o d).took (is_of_closed_day sc.start (t.lanes o d).closed (slice_get (numbered_for t o d) (r.lane - 1))) r.lane b ≢ Err tap_fault.Retired) (sym works) (never_retired (knows_device sc d) (t.lanes o d).took (is_of_closed_day sc.start (t.lanes o d).closed (slice_get (numbered_for t o d) (r.lane - 1))) r.lane)
 
     first : step sc t (event.Take o) ≡ take_tap t o d r.lane judged
     first = take_is sc t o (Lane_of d r.lane) known serves.in_hand
 
     here : step sc t (event.Take o) ≡ y
-    here = first ∙ tap_is t o d r.lane judged (subst (λ z. IsOrderly (event.Take o) z.1) first (moves_step sc t (event.Take o) serves.system).orderly)
+    here = first ∙ tap_is t o d r.lane judged never (subst (λ z. IsOrderly (event.Take o) z.1) first (moves_step sc t (event.Take o) serves.system).orderly)
 
     run : Runs (t.lanes o d).took (r.lane ∷ lane_numbers d (t.owners o).queue) (t.lanes o d).forward
-    run = subst (λ ns. Runs (t.lanes o d).took ns (t.lanes o d).forward) (ap (λ h. lane_numbers d (kept.behind h (t.owners o).queue)) serves.in_hand ∙ lane_number_here d r.lane (t.owners o).queue) (serves.system.lanes o d).run
+    run = subst (λ ns. Runs (t.lanes o d).took ns (t.lanes o d).forward) (ap (λ h. lane_numbers d (kept.behind h (t.owners o).queue)) serves.in_hand ∙ lane_number_here d r.lane (t.owners o).queue) ((serves.system.lanes o d).run works)
 
     at : IsAt (numbered_for t o d) ((t.lanes o d).took + 1) r
     at = subst (λ n. IsAt (numbered_for t o d) n r) run.0 serves.hand_each
 
 -- in an orderly answer a statement is taken, or it was before
-statement_is : (t : System) (o d day : ℕ) (P : System × Reply → Type 0) (known b : Bool) (n : ℕ) → IsOrderly (event.Take o) (take_statement t o d day (statement_judged known (if b then Some n else None) n)).1
+statement_is : (t : System) (o d day : ℕ) (P : System × Reply → Type 0) (known b : Bool) (n : ℕ) → IsOrderly (event.Take o) (take_statement t o d day (statement_judged known (if b then Some n else None) n false)).1
     → (b ≡ false → P (with_lane t o d (record (t.lanes o d) { stated = put (t.lanes o d).stated day true }), reply.Stated d day (stated_count t o d day)))
     → (b ≡ true → P (take_statement t o d day (Err statement_fault.Repeated)))
-    → P (take_statement t o d day (statement_judged known (if b then Some n else None) n))
+    → P (take_statement t o d day (statement_judged known (if b then Some n else None) n false))
 statement_is t o d day P false b n fine new again = absurd (fine.mine refl)
 statement_is t o d day P true false n fine new again = new refl
 statement_is t o d day P true true n fine new again = if_all (n == n) (λ j. IsOrderly (event.Take o) (take_statement t o d day j).1 → P (take_statement t o d day j)) (Err statement_fault.Repeated) (Err statement_fault.Conflict) (λ _ f. again refl) (λ _ f. absurd (f.alone refl)) fine
 
-serves_take_statement : (sc : SchemeValue) (s : System) (o : ℕ) (x : OutboxValue) (l : LedgerValue) (c : Cursors) (v : StatementValue) (queue : List Item) (t : System) → knows_owner sc o ≡ true
+serves_take_statement : (sc : SchemeValue) (s : System) (o : ℕ) (x : OutboxValue) (l : LedgerValue) (c : Cursors) (v : StatementValue) (queue : List Item) (t : System) → knows_owner sc o ≡ true → IsWorking l v.device
     → Serves sc s o x l c (Some (item.Stated v)) queue t → Serves sc s o x (given l (item.Stated v)) c None queue (step sc t (event.Take o)).0
-serves_take_statement sc s o x l c v queue t known serves =
+serves_take_statement sc s o x l c v queue t known working serves =
     subst (λ z. Serves sc s o x (given l (item.Stated v)) c None queue z.0) (sym first)
     (statement_is t o d v.day (λ z. step sc t (event.Take o) ≡ z → Serves sc s o x (given l (item.Stated v)) c None queue z.0) (knows_device sc d) ((t.lanes o d).stated v.day) (stated_count t o d v.day)
     (subst (λ z. IsOrderly (event.Take o) z.1) first (moves_step sc t (event.Take o) serves.system).orderly) new again first)
@@ -392,8 +416,8 @@ serves_take_statement sc s o x l c v queue t known serves =
     count : v.count ≡ stated_count t o d v.day
     count = ap (λ (z : StatementValue). z.count) serves.hand_each.is
 
-    first : step sc t (event.Take o) ≡ take_statement t o d v.day (statement_judged (knows_device sc d) (taken_count t o d v.day) (stated_count t o d v.day))
-    first = take_is sc t o (Day_of d v.day) known serves.in_hand
+    first : step sc t (event.Take o) ≡ take_statement t o d v.day (statement_judged (knows_device sc d) (taken_count t o d v.day) (stated_count t o d v.day) false)
+    first = take_is sc t o (Day_of d v.day) known serves.in_hand ∙ ap (λ b. take_statement t o d v.day (statement_judged (knows_device sc d) (taken_count t o d v.day) (stated_count t o d v.day) b)) (sym (serves.ledger.retired d) ∙ working)
 
     new : (t.lanes o d).stated v.day ≡ false → step sc t (event.Take o) ≡ (with_lane t o d lane, reply.Stated d v.day (stated_count t o d v.day)) → Serves sc s o x (given l (item.Stated v)) c None queue (with_lane t o d lane)
     new fresh here = record {
@@ -419,6 +443,7 @@ serves_take_statement sc s o x l c v queue t known serves =
         stated = put_all (λ j (f : ℕ → Option ℕ). (k : ℕ) → f k ≡ taken_count t o j k) l.stated d (put (l.stated d) v.day (Some v.count)) serves.ledger.stated
             (put_all (λ k a. a ≡ taken_count t o d k) (l.stated d) v.day (Some v.count) (serves.ledger.stated d) (ap Some count ∙ sym (ap (λ b. if b then Some (stated_count t o d v.day) else None) stated)));
         closed = serves.ledger.closed;
+        retired = serves.ledger.retired;
       };
       lanes = serves.lanes;
       days = serves.days;
@@ -429,17 +454,17 @@ serves_take_statement sc s o x l c v queue t known serves =
       beside = beside_owner o s t owner serves.beside;
     }
 
-pub serves_take : (sc : SchemeValue) (s : System) (o : ℕ) (x : OutboxValue) (l : LedgerValue) (c : Cursors) (i : Item) (queue : List Item) (t : System) → knows_owner sc o ≡ true
+pub serves_take : (sc : SchemeValue) (s : System) (o : ℕ) (x : OutboxValue) (l : LedgerValue) (c : Cursors) (i : Item) (queue : List Item) (t : System) → knows_owner sc o ≡ true → IsWorking l (device_of i)
     → Serves sc s o x l c (Some i) queue t → Serves sc s o x (given l i) c None queue (step sc t (event.Take o)).0
-serves_take sc s o x l c (item.Tap r) queue t known serves = serves_take_tap sc s o x l c r queue t known serves
-serves_take sc s o x l c (item.Stated v) queue t known serves = serves_take_statement sc s o x l c v queue t known serves
+serves_take sc s o x l c (item.Tap r) queue t known working serves = serves_take_tap sc s o x l c r queue t known working serves
+serves_take sc s o x l c (item.Stated v) queue t known working serves = serves_take_statement sc s o x l c v queue t known working serves
 
 -- RESTART
 pub serves_restart : (sc : SchemeValue) (s : System) (o : ℕ) (x : OutboxValue) (l : LedgerValue) → knows_owner sc o ≡ true → IsSystem sc s → ShowsOutbox s x → ShowsLedger sc s o l → Serves sc s o x l (behind_ledger sc l) None [] (step sc s (event.RestartOwner o)).0
 serves_restart sc s o x l known h outbox ledger = answered sc s o x l (behind_ledger sc l) None [] s (event.RestartOwner o) y here (record {
   system = system_answered sc s (event.RestartOwner o) y here h;
   outbox = outbox_same s y.0 x refl (put_all (λ p (ls : ℕ → LaneState). (j : ℕ) → (ls j).gone ≡ (s.lanes p j).gone) s.lanes o lanes (λ p j. refl) (λ j. refl)) refl refl refl outbox;
-  ledger = ledger_same sc s y.0 o l refl (λ j. ap (λ f. (f j).took) is) (λ j. ap (λ f. (f j).stated) is) (λ j. ap (λ f. (f j).closed) is) ledger;
+  ledger = ledger_same sc s y.0 o l refl (λ j. ap (λ f. (f j).took) is) (λ j. ap (λ f. (f j).stated) is) (λ j. ap (λ f. (f j).closed) is) (λ j. ap (λ f. (f j).retired) is) ledger;
   lanes = λ j. ap (λ f. (f j).forward) is ∙ sym (ap length (ledger.taken j) ∙ length-take-le (s.lanes o j).took (numbered_for s o j) (took_numbered sc s o j h));
   days = λ j. ap (λ f. (f j).from_day) is ∙ sym (ap (λ n. sc.start + n) (ledger.closed j));
   in_hand = ap (λ w. w.hand) (put_here s.owners o fresh_owner);
@@ -465,7 +490,7 @@ serves_restart sc s o x l known h outbox ledger = answered sc s o x l (behind_le
 length-rows : (sc : SchemeValue) (t : System) (o d : ℕ) → IsSystem sc t → (t.lanes o d).took ≤ length (arrived_of o (t.devices d))
 length-rows sc t o d h =
     let l = h.lanes o d in
-    omega (arith, Runs-le (t.lanes o d).took (t.lanes o d).forward (lane_numbers d (pending (t.owners o))) l.run, l.forward)
+    omega (arith, l.took, l.forward)
 
 pub serves_prune : (sc : SchemeValue) (s : System) (o : ℕ) (x : OutboxValue) (l : LedgerValue) (c : Cursors) (hand : Option Item) (queue : List Item) (t : System) (d : ℕ) → knows_owner sc o ≡ true → knows_device sc d ≡ true
     → Serves sc s o x l c hand queue t → Serves sc s o (pruned_to x o l d) l c hand queue (step sc t (event.Prune o d)).0
@@ -476,6 +501,7 @@ serves_prune sc s o x l c hand queue t d known registered serves = answered sc s
       (put2_all (λ p j (a : LaneState). a.took ≡ (t.lanes p j).took) t.lanes o d lane (λ p j. refl) refl o)
       (put2_all (λ p j (a : LaneState). a.stated ≡ (t.lanes p j).stated) t.lanes o d lane (λ p j. refl) refl o)
       (put2_all (λ p j (a : LaneState). a.closed ≡ (t.lanes p j).closed) t.lanes o d lane (λ p j. refl) refl o)
+      (put2_all (λ p j (a : LaneState). a.retired ≡ (t.lanes p j).retired) t.lanes o d lane (λ p j. refl) refl o)
       serves.ledger;
   lanes = λ j. ap (λ f. (f j).forward) (put_here t.lanes o (put (t.lanes o) d lane)) ∙ put_all (λ k (a : LaneState). a.forward ≡ c.lane k) (t.lanes o) d lane serves.lanes (serves.lanes d) j;
   days = λ j. ap (λ f. (f j).from_day) (put_here t.lanes o (put (t.lanes o) d lane)) ∙ put_all (λ k (a : LaneState). a.from_day ≡ c.day k) (t.lanes o) d lane serves.days (serves.days d) j;

@@ -6,11 +6,11 @@ use Rattle.fare_record.specs.Lanes.{part}
 use Rattle.fare_scheme.specs.Values.{SchemeValue}
 use Rattle.fare_store.specs.OutboxWords.{OutboxValue, behind, rows_upto}
 use Rattle.fare_store.specs.OutboxWords as outbox
-use Rattle.fare_store.specs.LedgerWords.{LedgerValue, took, with_statement, with_close}
+use Rattle.fare_store.specs.LedgerWords.{LedgerValue, took, with_statement, with_close, with_retired}
 use Rattle.fare_store.specs.Tables.{put, put2}
 use Rattle.fare_world.specs.System.{DeviceState, LaneState, System, numbered_for, arrived_of, stated_count}
 use Rattle.fare_world.specs.Storing.{stored, stored_day}
-use Rattle.fare_world.specs.Owning.{with_lane, closed_day, pruned}
+use Rattle.fare_world.specs.Owning.{with_lane, closed_day, retired_lane, pruned}
 use Rattle.fare_world.specs.Kept.{IsSystem}
 use Rattle.fare_world.specs.Shown.{row_at, count_of, IsAt, IsLedgerOf}
 use Rattle.fare_world.proofs.RowPlaces.{row_push, row_pruned, rows_pruned}
@@ -113,12 +113,13 @@ outbox_prunes sc s o d x h is = record {
     counted = (λ i. rows_upto l.took (λ n. is.rows o d n i)) ∙ rows_pruned l.gone (arrived_of o (s.devices d)) l.took (took_arrived sc s o d h)
 
 -- a ledger, by its owner's lanes
-ledger_by : (sc : SchemeValue) (s t : System) (o : ℕ) (x : LedgerValue) (ls : ℕ → LaneState) → t.lanes o ≡ ls → t.devices ≡ s.devices → IsLedgerOf sc o x → ((d : ℕ) → x.taken d ≡ take (ls d).took (numbered_for s o d)) → ((d day : ℕ) → x.stated d day ≡ count_of ((ls d).stated day) (numbered_for s o d) day) → ((d : ℕ) → x.closed d ≡ (ls d).closed) → ShowsLedger sc t o x
-ledger_by sc s t o x ls lanes devices ledger taken stated closed = record {
+ledger_by : (sc : SchemeValue) (s t : System) (o : ℕ) (x : LedgerValue) (ls : ℕ → LaneState) → t.lanes o ≡ ls → t.devices ≡ s.devices → IsLedgerOf sc o x → ((d : ℕ) → x.taken d ≡ take (ls d).took (numbered_for s o d)) → ((d day : ℕ) → x.stated d day ≡ count_of ((ls d).stated day) (numbered_for s o d) day) → ((d : ℕ) → x.closed d ≡ (ls d).closed) → ((d : ℕ) → x.retired d ≡ (ls d).retired) → ShowsLedger sc t o x
+ledger_by sc s t o x ls lanes devices ledger taken stated closed retired = record {
   ledger = ledger;
   taken = λ d. taken d ∙ sym (λ i. take (lanes i d).took (part o (devices i d).taps));
   stated = λ d day. stated d day ∙ sym (λ i. count_of ((lanes i d).stated day) (part o (devices i d).taps) day);
   closed = λ d. closed d ∙ sym (λ i. (lanes i d).closed);
+  retired = λ d. retired d ∙ sym (λ i. (lanes i d).retired);
 }
 
 -- a tap is taken
@@ -130,6 +131,7 @@ ledger_takes sc s o r x h at is =
     (put_both (λ j a (l : LaneState). a ≡ take l.took (numbered_for s o j)) x.taken (s.lanes o) d (x.taken d ++ r ∷ []) new is.taken (ap (λ l. l ++ r ∷ []) (is.taken d) ∙ sym (take-one_more (numbered_for s o d) (s.lanes o d).took r at_end)))
     (put_all (λ j (l : LaneState). (day : ℕ) → x.stated j day ≡ count_of (l.stated day) (numbered_for s o j) day) (s.lanes o) d new is.stated (is.stated d))
     (put_all (λ j (l : LaneState). x.closed j ≡ l.closed) (s.lanes o) d new is.closed (is.closed d))
+    (put_all (λ j (l : LaneState). x.retired j ≡ l.retired) (s.lanes o) d new is.retired (is.retired d))
   where
     d : ℕ
     d = r.device
@@ -150,6 +152,7 @@ ledger_states sc s o v x count is =
     (put_both (λ j (f : ℕ → Option ℕ) (l : LaneState). (k : ℕ) → f k ≡ count_of (l.stated k) (numbered_for s o j) k) x.stated (s.lanes o) d (put (x.stated d) v.day (Some v.count)) new is.stated
     (put_both (λ k a b. a ≡ count_of b (numbered_for s o d) k) (x.stated d) (s.lanes o d).stated v.day (Some v.count) true (is.stated d) (ap Some count)))
     (put_all (λ j (l : LaneState). x.closed j ≡ l.closed) (s.lanes o) d new is.closed (is.closed d))
+    (put_all (λ j (l : LaneState). x.retired j ≡ l.retired) (s.lanes o) d new is.retired (is.retired d))
   where
     d : ℕ
     d = v.device
@@ -165,6 +168,20 @@ ledger_closes sc s o d x is =
     (put_all (λ j (l : LaneState). x.taken j ≡ take l.took (numbered_for s o j)) (s.lanes o) d new is.taken (is.taken d))
     (put_all (λ j (l : LaneState). (day : ℕ) → x.stated j day ≡ count_of (l.stated day) (numbered_for s o j) day) (s.lanes o) d new is.stated (is.stated d))
     (put_both (λ j a (l : LaneState). a ≡ l.closed) x.closed (s.lanes o) d (x.closed d + 1) new is.closed (ap (λ n. n + 1) (is.closed d)))
+    (put_all (λ j (l : LaneState). x.retired j ≡ l.retired) (s.lanes o) d new is.retired (is.retired d))
   where
     new : LaneState
     new = record (s.lanes o d) { closed = (s.lanes o d).closed + 1 }
+
+-- a lane is retired
+pub ledger_retires : (sc : SchemeValue) (s : System) (o d : ℕ) (x : LedgerValue) → ShowsLedger sc s o x → ShowsLedger sc (retired_lane s o d) o (with_retired d x)
+ledger_retires sc s o d x is =
+    ledger_by sc s (retired_lane s o d) o (with_retired d x) (put (s.lanes o) d new) (put_here s.lanes o (put (s.lanes o) d new)) refl
+    (record { id = is.ledger.id; made = record { start = is.ledger.made.start; knows = is.ledger.made.knows } })
+    (put_all (λ j (l : LaneState). x.taken j ≡ take l.took (numbered_for s o j)) (s.lanes o) d new is.taken (is.taken d))
+    (put_all (λ j (l : LaneState). (day : ℕ) → x.stated j day ≡ count_of (l.stated day) (numbered_for s o j) day) (s.lanes o) d new is.stated (is.stated d))
+    (put_all (λ j (l : LaneState). x.closed j ≡ l.closed) (s.lanes o) d new is.closed (is.closed d))
+    (put_both (λ j a (l : LaneState). a ≡ l.retired) x.retired (s.lanes o) d true new is.retired refl)
+  where
+    new : LaneState
+    new = record (s.lanes o d) { retired = true }

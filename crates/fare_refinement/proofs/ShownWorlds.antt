@@ -12,4 +12,4 @@ outbox_shown sc h s w = record { upto = w.upto; rows = w.rows; row_count = w.row
 pub ledger_shown : (sc : SchemeValue) (h : Shape) (s : System) (o : ℕ) (y : OwnerShape) → Shows sc h s → h.owners o ≡ Some y → ShowsLedger sc s o y.ledger
 ledger_shown sc h s o y w e =
     let p = owner_shown sc h s o y w e in
-    record { ledger = p.ledger; taken = p.taken; stated = p.stated; closed = p.closed }
+    record { ledger = p.ledger; taken = p.taken; stated = p.stated; closed = p.closed; retired = p.retired }

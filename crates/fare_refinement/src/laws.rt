@@ -12,7 +12,7 @@ ghost use Rattle.fare_world.specs.Owning.{lane_room, next_routed};
 ghost use Rattle.fare_world.specs.Steps.{after};
 ghost use Rattle.fare_world.specs.Kept.{IsSystem};
 ghost use Rattle.fare_world.specs.Shown.{OwnerShape, Shape, Shows};
-ghost use Rattle.fare_history.specs.Serving.{Cursors, behind_ledger, AreNextItems, AreUnrefused, Service, IsService};
+ghost use Rattle.fare_history.specs.Serving.{Cursors, behind_ledger, AreNextItems, AreUnrefused, device_of, IsWorking, Service, IsService};
 ghost use Rattle.fare_history.specs.Gathering.{AreStored, storing_all, IsFree, AreFree, links_of, CountsFrom, Gathering, accepted_by, IsGathering};
 ghost use Rattle.fare_history.specs.Stores.{StoresValue};
 ghost use Rattle.fare_refinement.specs.ShownStores.{ShowsOutbox, ShowsLedger};
@@ -39,15 +39,15 @@ pub fn a_gathering_is_a_run()
         → IsGathered sc x g s (after sc s (gathering_events sc g)) }
 {}
 
-/// An owner's ledger refuses no item of its session: each tap is its own, the next and of no closed day, and no
-/// statement is held with another count.
+/// An owner's ledger refuses no item of its session, all of lanes that are not retired: each tap is its own, the next
+/// and of no closed day, and no statement is held with another count.
 pub fn no_item_of_a_service_is_refused()
     ensures { (sc : SchemeValue) (s : System) (owner : ℕ) (x : OutboxValue) (l : LedgerValue) (items : List Item)
-        → IsSystem sc s → knows_owner sc owner ≡ true → 1 ≤ lane_room sc owner → ShowsOutbox s x → ShowsLedger sc s owner l → AreNextItems owner x (behind_ledger sc l) items
+        → IsSystem sc s → knows_owner sc owner ≡ true → 1 ≤ lane_room sc owner → ShowsOutbox s x → ShowsLedger sc s owner l → AreNextItems owner x (behind_ledger sc l) items → AllByRecursion (λ i. IsWorking l (device_of i)) items
         → AreUnrefused l items }
 {}
 
-/// Sessions one after the other, and the closes of days between them, do to the stores what their events do to a
+/// Sessions one after the other, and the closes of days and the ends of lanes between them, do to the stores what their events do to a
 /// system that shows the stores and has sent all frames; the system that these lead to is again one that events lead
 /// to.
 pub fn sessions_are_a_run()

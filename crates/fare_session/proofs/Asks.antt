@@ -94,12 +94,12 @@ pub asked_on : (a b c : Standing LedgerValue) (device : ℕ) (p : ℕ × Option 
 asked_on a b c device p first now = stays_then a b c None first (subst (λ (z : Option Fault). Stays b c z) now.is now.stays)
 
 -- NO DEVICE TWICE
-key_of : (bases : List (ℕ × ℕ)) (k d : ℕ) (p : ℕ × ℕ) → slice_get bases k ≡ Some p → get_or (keys_of bases) k d ≡ p.0
+pub key_of : (bases : List (ℕ × ℕ)) (k d : ℕ) (p : ℕ × ℕ) → slice_get bases k ≡ Some p → get_or (keys_of bases) k d ≡ p.0
 key_of [] k d p e = absurd (cc)
 key_of (b ∷ bs) zero d p e = ap (λ (z : ℕ × ℕ). z.0) (same_Some b p e)
 key_of (b ∷ bs) (suc k) d p e = key_of bs k d p e
 
-unlike : (x y : ℕ) → (x ≡ y → ⊥) → nat_eq x y ≡ false
+pub unlike : (x y : ℕ) → (x ≡ y → ⊥) → nat_eq x y ≡ false
 unlike x y apart = by (nat_eq x y) refl
   where
     by : (b : Bool) → nat_eq x y ≡ b → b ≡ false

@@ -10,7 +10,7 @@ use Rattle.fare_scheme.specs.Values.{SchemeValue}
 use Rattle.fare_store.specs.Standing.{Standing, IsSound}
 use Rattle.fare_store.specs.OutboxWords.{OutboxValue}
 use Rattle.fare_store.specs.LedgerWords.{LedgerValue}
-use Rattle.fare_history.specs.Serving.{behind_ledger, AreNextItems, device_of, given_all, in_hand, put_by, pruned_to_all, IsOfDevice, IsService}
+use Rattle.fare_history.specs.Serving.{behind_ledger, AreNextItems, device_of, given_all, in_hand, put_by, pruned_to_all, IsOfDevice, IsWorking, IsService}
 use Rattle.fare_history.specs.Plainly.{IsFinished, ShowsWhy}
 use Rattle.fare_history.proofs.ServedPlainly.{refused_shows_why}
 use Rattle.fare_history.specs.Holding.{MayHold, Leads}
@@ -58,7 +58,7 @@ module _ (sc : SchemeValue) (owner : ℕ) (xo xn : Standing OutboxValue) (lo ln 
 
   says_unbegun : IsUnbegun xo xn r.v report → (x : OutboxValue) (l : LedgerValue) → Said x l
   says_unbegun un x l = subst (λ v. SaysOf sc owner v report x l) (sym un.nothing) (record {
-    service = record { items = tt; known = tt; room = omega arith; registered = tt };
+    service = record { items = tt; known = tt; working = tt; room = omega arith; registered = tt };
     unrefused = tt;
     taken = un.taken;
     refused = λ is. absurd (un.refused is);
@@ -72,8 +72,8 @@ module _ (sc : SchemeValue) (owner : ℕ) (xo xn : Standing OutboxValue) (lo ln 
         record {
           hand = whole.hand;
           queue = whole.queue;
-          rows = λ d known lane lt. (whole.idle (ready live opened) d known).rows lane lt;
-          days = λ d known day le day_is. (whole.idle (ready live opened) d known).statements day le day_is;
+          rows = λ d known working lane lt. (whole.idle (ready live opened) d known working).rows lane lt;
+          days = λ d known working day le day_is. (whole.idle (ready live opened) d known working).statements day le day_is;
           pruned = λ d known. let at = whole.pruned d known in any_here r.v.pruned at.0 d at.1;
         }
 
@@ -88,6 +88,7 @@ module _ (sc : SchemeValue) (owner : ℕ) (xo xn : Standing OutboxValue) (lo ln 
         by [] e = record {
           items = subst (AreNextItems owner x (behind_ledger sc lo.value)) (sym e) tt;
           known = subst (AllByRecursion (λ i. IsOfDevice sc (device_of i))) (sym e) tt;
+          working = subst (AllByRecursion (λ i. IsWorking lo.value (device_of i))) (sym e) tt;
           room = r.room;
           registered = r.registered;
         }

@@ -6,6 +6,7 @@ pub mod Forwards
 pub mod Rests
 pub mod Prunes
 pub mod Asks
+pub mod Sifts
 pub mod Sessions
 pub mod Serves
 pub mod Holdings

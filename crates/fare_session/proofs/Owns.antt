@@ -50,7 +50,7 @@ tap_failed a b r f s is other call = (
 pub tap_foreign : (a : Standing LedgerValue) (r : RecordValue) → is_mine a.value r.owner r.device ≡ false → IsKept a a (Tap r) (Err session.Refused)
 tap_foreign a r other = (
   record {
-    value = λ live lawful. (lawful, (refl, λ e. (tap_fault.NotMine, ap (λ b. tap_judged b (length (a.value.taken r.device)) (is_closed a.value r.device r.tap.day) r.lane) other)));
+    value = λ live lawful. (lawful, (refl, λ e. (tap_fault.NotMine, ap (λ b. tap_judged b (length (a.value.taken r.device)) (is_closed a.value r.device r.tap.day) r.lane (a.value.retired r.device)) other)));
     stop = λ clean lawful v leaves. inl leaves;
     lasts = λ clean lawful lasting. lasting;
     clean = λ h. h;
@@ -104,7 +104,7 @@ statement_repeated a b s other call = (
 pub statement_foreign : (a : Standing LedgerValue) (s : StatementValue) → is_mine a.value s.owner s.device ≡ false → IsKept a a (Stated s) (Err session.Refused)
 statement_foreign a s other = (
   record {
-    value = λ live lawful. (lawful, (refl, λ e. inl (ap (λ b. statement_judged b (a.value.stated s.device s.day) s.count) other)));
+    value = λ live lawful. (lawful, (refl, λ e. (statement_fault.NotMine, (λ same. let is : statement_fault.NotMine ≡ statement_fault.Repeated = same in cc), ap (λ b. statement_judged b (a.value.stated s.device s.day) s.count (a.value.retired s.device)) other)));
     stop = λ clean lawful v leaves. inl leaves;
     lasts = λ clean lawful lasting. lasting;
     clean = λ h. h;
@@ -115,11 +115,6 @@ statement_foreign a s other = (
   tt,
 )
 
-refused_as : (l : LedgerValue) (s : StatementValue) (why : StatementFault) → (why ≡ statement_fault.Repeated → ⊥) → state_judged l s ≡ Err why → IsRefused l (Stated s)
-refused_as l s statement_fault.NotMine not e = inl e
-refused_as l s statement_fault.Repeated not e = absurd (not refl)
-refused_as l s statement_fault.Conflict not e = inr e
-
 pub statement_refused : (a b : Standing LedgerValue) (s : StatementValue) (why : StatementFault) → (why ≡ statement_fault.Repeated → ⊥) → (is_mine a.value s.owner s.device ≡ false → IsKept a b (Stated s) (Err session.Refused))
     → (is_mine a.value s.owner s.device ≡ true → Writes a b (state_judged a.value s) (with_statement s a.value) (Err (refused.Because why))) → IsKept a b (Stated s) (Err session.Refused)
 statement_refused a b s why not other call = by (is_mine a.value s.owner s.device) refl
@@ -128,6 +123,6 @@ statement_refused a b s why not other call = by (is_mine a.value s.owner s.devic
     by false e = other e
     by true e = (
       called_say a b None None (Does a.value b.value (state_judged a.value s) (with_statement s a.value) (Err (refused.Because why))) _ (λ v. (state_judged a.value s ≡ Ok tt) × (v ≡ with_statement s a.value)) (λ w. AreUnrefused a.value (Stated s ∷ []) × (w ≡ with_statement s a.value)) refl
-          (λ did. (did.1, λ z. refused_as a.value s why not did.0)) (λ v done. ((inl done.0, tt), done.1)) (call e),
+          (λ did. (did.1, λ z. (why, not, did.0))) (λ v done. ((inl done.0, tt), done.1)) (call e),
       tt,
     )

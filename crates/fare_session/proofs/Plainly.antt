@@ -23,7 +23,7 @@ abbrev pruned_too : Service → ℕ → Service
 pruned_too v device = record v { pruned = v.pruned ++ device ∷ [] }
 
 pruned_too_is : (sc : SchemeValue) (owner : ℕ) (x : OutboxValue) (l : LedgerValue) (v : Service) (device : ℕ) → IsOfDevice sc device → IsService sc owner x l v → IsService sc owner x l (pruned_too v device)
-pruned_too_is sc owner x l v device known s = record { items = s.items; known = s.known; room = s.room; registered = all-append (IsOfDevice sc) v.pruned (device ∷ []) s.registered (known, tt) }
+pruned_too_is sc owner x l v device known s = record { items = s.items; known = s.known; working = s.working; room = s.room; registered = all-append (IsOfDevice sc) v.pruned (device ∷ []) s.registered (known, tt) }
 
 kept_any : (a b : Bool) → a ≡ true → (a || b) ≡ true
 kept_any true b e = refl

@@ -22,13 +22,13 @@ use Rattle.fare_store.specs.LedgerWords.{LedgerValue, IsOfScheme, closed_through
 use Rattle.fare_session.specs.declared.fault.SessionFault.{SessionFault}
 use Rattle.fare_session.specs.declared.fault.SessionFault.TheVariants.{Refused, Memory, Store}
 use Rattle.fare_session.specs.declared.report.OwnerReport.{OwnerReport}
-use Rattle.fare_history.specs.Serving.{Cursors, behind_ledger, moved_by_all, device_of, AreNextItems, AreUnrefused, given_all, in_hand, Service, put_by, pruned_to_all, IsOfDevice, lane_room}
+use Rattle.fare_history.specs.Serving.{Cursors, behind_ledger, moved_by_all, device_of, AreNextItems, AreUnrefused, given_all, in_hand, Service, put_by, pruned_to_all, IsOfDevice, IsWorking, lane_room}
 use Rattle.fare_session.specs.Taking.{added_by}
 use Rattle.fare_session.specs.Stores.{session_fault, IsOwners, Keeps, Leaves, Stays}
 use Rattle.fare_session.specs.Forwarding.{IsBased, IsAsFar, AreBases, AreApart, HasCursors, Skips}
 use Rattle.fare_session.specs.Taking.{IsImage, IsRefusedHand}
 use Rattle.fare_session.specs.Resting.{MeetsLedger, IsIdle}
-use Rattle.fare_session.specs.Asking.{standing_of, AreTold, IsAsked}
+use Rattle.fare_session.specs.Asking.{standing_of, AreTold, IsAsked, AreWorking, AreSifted}
 use Rattle.fare_session.specs.Session.{IsCutWith, IsSession}
 use Rattle.fare_session.specs.Served.{HasGap, report_of}
 use Rattle.fare_session.specs.Run.{IsReady, IsCutOf, IsRun}
@@ -128,24 +128,34 @@ module _ (sc : SchemeValue) (lo lm : Standing LedgerValue) (standings : List (�
       by None none = absurd (let e : false ≡ true = sym (ap is_some none) ∙ known in cc)
       by (Some k) at = place_of_device d k at
 
-  pub bases_told : IsOfScheme sc lo.value → Keeps lo lm → AreBases bases (behind_ledger sc lo.value)
-  bases_told made keeps = record {
-    base = λ d based.
-        let z = place_of_based d based in
-        sym (base_at bases z.place (d, z.standing.0) apart z.base ∙ ap (λ (q : ℕ × Option ℕ). q.0) (z.told keeps));
-  }
+  -- of these lanes, those that the ledger goes on with
+  module _ (working : List (ℕ × ℕ)) (w : AreWorking lo lm bases working) where
+    among : (d : ℕ) → IsBased working d → IsBased bases d
+    among d based = let found = based_place working d based in let at = w.among found.0 (d, found.1) found.2 in based_at bases at.0 (d, found.1) apart at.1
+
+    pub works : Keeps lo lm → (d : ℕ) → IsBased working d → IsWorking lo.value d
+    works keeps d based = let found = based_place working d based in w.works keeps found.0 (d, found.1) found.2
+
+    pub bases_told : IsOfScheme sc lo.value → Keeps lo lm → AreBases working (behind_ledger sc lo.value)
+    bases_told made keeps = record {
+      base = λ d based.
+          let z = place_of_based d (among d based) in
+          let found = based_place working d based in
+          let at = w.among found.0 (d, found.1) found.2 in
+          sym (base_at working found.0 (d, found.1) w.apart found.2 ∙ sym (base_at bases at.0 (d, found.1) apart at.1) ∙ base_at bases z.place (d, z.standing.0) apart z.base ∙ ap (λ (q : ℕ × Option ℕ). q.0) (z.told keeps));
+    }
 
   module _ (f : Forwarder) (start : (d : ℕ) → cursor_of f d ≡ started sc standings d) where
     started_at : (d : ℕ) (z : PlaceOf sc lo lm standings bases d) → cursor_of f d ≡ Some (standing_at sc.start z.standing)
     started_at d z = start d ∙ ap (option_and_then (λ place. option_map (standing_at sc.start) (slice_get standings place))) z.at ∙ ap (option_map (standing_at sc.start)) z.held
 
-    pub has_cursors : HasCursors bases f
-    has_cursors d based = ap is_some (started_at d (place_of_based d based))
+    pub has_cursors : (working : List (ℕ × ℕ)) → AreWorking lo lm bases working → HasCursors working f
+    has_cursors working w d based = ap is_some (started_at d (place_of_based d (among working w d based)))
 
-    pub far_told : IsOfScheme sc lo.value → Keeps lo lm → IsAsFar bases f (behind_ledger sc lo.value)
-    far_told made keeps = record {
+    pub far_told : (working : List (ℕ × ℕ)) → AreWorking lo lm bases working → IsOfScheme sc lo.value → Keeps lo lm → IsAsFar working f (behind_ledger sc lo.value)
+    far_told working w made keeps = record {
       at = λ d based.
-          let z = place_of_based d based in
+          let z = place_of_based d (among working w d based) in
           ap (option_map {U = ℕ × ℕ} (λ (c : Cursor). (c.lane, c.day))) (started_at d z)
           ∙ ap {B = Option (ℕ × ℕ)} (λ (p : ℕ × Option ℕ). Some (p.0, first_day sc.start p.1)) (z.told keeps)
           ∙ ap {B = Option (ℕ × ℕ)} (λ (n : ℕ). Some (length (lo.value.taken d), n)) (closed_day lo.value sc.start d made.start);
@@ -160,7 +170,7 @@ served_none sc owner x lo ln f e rests stays cause not owners = record {
   v = nothing;
   fx = None;
   fl = f;
-  service = λ ready. record { items = tt; known = tt; room = omega arith; registered = tt };
+  service = λ ready. record { items = tt; known = tt; working = tt; room = omega arith; registered = tt };
   room = omega arith;
   registered = tt;
   ledger = leaves_say lo ln f lo.value (λ w. w ≡ lo.value) (IsImage lo.value [] None) (λ w is. inl is) stays;
@@ -183,9 +193,9 @@ served_none sc owner x lo ln f e rests stays cause not owners = record {
 }
 
 -- A SESSION BEHIND WHAT THE LEDGER TOLD
-module _ (sc : SchemeValue) (owner room : ℕ) (xo xn : Standing OutboxValue) (lo lm ln : Standing LedgerValue) (standings : List (ℕ × Option ℕ)) (bases : List (ℕ × ℕ)) (f : Forwarder) (report : OwnerReport)
-    (told : AreTold sc lo lm standings bases) (count : length standings ≡ length sc.devices) (apart : AreApart bases) (start : (d : ℕ) → cursor_of f d ≡ started sc standings d) (mine : f.owner ≡ owner) (few : room ≡ lane_room sc owner) (stays : Stays lo lm None) (live : lm.clean → lo.live) (some : 1 ≤ length sc.devices)
-    (s : IsSession bases room xo xn lm ln f report) where
+module _ (sc : SchemeValue) (owner room : ℕ) (xo xn : Standing OutboxValue) (lo lm ln : Standing LedgerValue) (standings : List (ℕ × Option ℕ)) (bases working : List (ℕ × ℕ)) (f : Forwarder) (report : OwnerReport)
+    (w : AreWorking lo lm bases working) (told : AreTold sc lo lm standings bases) (count : length standings ≡ length sc.devices) (apart : AreApart bases) (start : (d : ℕ) → cursor_of f d ≡ started sc standings d) (mine : f.owner ≡ owner) (few : room ≡ lane_room sc owner) (stays : Stays lo lm None) (live : lm.clean → lo.live) (some : 1 ≤ length sc.devices)
+    (s : IsSession working bases room xo xn lm ln f report) where
   k_first : Keeps lo ln → Keeps lo lm
   k_first kl = keeps_first lo lm ln s.fl (given_all lm.value s.v.taken) (IsImage lm.value s.v.taken s.v.hand) s.ledger kl
 
@@ -198,23 +208,26 @@ module _ (sc : SchemeValue) (owner room : ℕ) (xo xn : Standing OutboxValue) (l
   abbrev c : Cursors
   c = behind_ledger sc lo.value
 
-  meets : Keeps lo ln → MeetsLedger bases lm.value c
+  meets : Keeps lo ln → MeetsLedger working lm.value c
   meets kl d based = ap (λ (l : LedgerValue). length (l.taken d)) (sym (same kl))
 
-  is_far : IsReady sc owner xo xn lo ln → IsAsFar bases f c
-  is_far ready = far_told sc lo lm standings bases told count apart f start ready.made (k_first ready.ledger)
+  is_far : IsReady sc owner xo xn lo ln → IsAsFar working f c
+  is_far ready = far_told sc lo lm standings bases told count apart f start working w ready.made (k_first ready.ledger)
 
-  are_bases : IsReady sc owner xo xn lo ln → AreBases bases c
-  are_bases ready = bases_told sc lo lm standings bases told count apart ready.made (k_first ready.ledger)
+  are_bases : IsReady sc owner xo xn lo ln → AreBases working c
+  are_bases ready = bases_told sc lo lm standings bases told count apart working w ready.made (k_first ready.ledger)
 
   items_next : IsReady sc owner xo xn lo ln → AreNextItems owner xo.value c (put_by s.v)
   items_next ready = subst (λ (o : ℕ). AreNextItems o xo.value c (put_by s.v)) mine (s.next c (is_far ready) (meets ready.ledger) (are_bases ready) ready.outbox (k_then ready.ledger))
 
-  has_gap : IsReady sc owner xo xn lo ln → Skips bases owner xo.value (moved_by_all c s.v.taken) → HasGap sc owner xo.value (given_all lo.value s.v.taken)
+  device_known : (d : ℕ) → IsBased working d → IsOfDevice sc d
+  device_known d based = device_of_based sc lo lm standings bases told count apart d (among sc lo lm standings bases told count apart working w d based)
+
+  has_gap : IsReady sc owner xo xn lo ln → Skips working owner xo.value (moved_by_all c s.v.taken) → HasGap sc owner xo.value (given_all lo.value s.v.taken)
   has_gap ready skips = record {
     device = d;
     lane = skips.row.lane;
-    known = device_of_based sc lo lm standings bases told count apart d skips.known;
+    known = device_known d skips.known;
     held = λ none. absurd (let e : ◌≡◌ {A = Option RecordValue} None (Some skips.row) = sym none ∙ skips.next.is_held in cc);
     behind = subst (λ (n : ℕ). n + 1 < skips.row.lane) at skips.skips;
     gap = skips.next.least (length ((given_all lo.value s.v.taken).taken d) + 1) (omega (arith, at)) (subst (λ (n : ℕ). n + 1 < skips.row.lane) at skips.skips);
@@ -239,7 +252,8 @@ module _ (sc : SchemeValue) (owner room : ℕ) (xo xn : Standing OutboxValue) (l
     fl = s.fl;
     service = λ ready. record {
       items = items_next ready;
-      known = all_say (λ i. IsBased bases (device_of i)) (λ i. IsOfDevice sc (device_of i)) (put_by s.v) (λ i based. device_of_based sc lo lm standings bases told count apart (device_of i) based) s.known;
+      known = all_say (λ i. IsBased working (device_of i)) (λ i. IsOfDevice sc (device_of i)) (put_by s.v) (λ i based. device_known (device_of i) based) s.known;
+      working = all_say (λ i. IsBased working (device_of i)) (λ i. IsWorking lo.value (device_of i)) (put_by s.v) (λ i based. works sc lo lm standings bases told count apart working w (k_first ready.ledger) (device_of i) based) s.known;
       room = room_is;
       registered = registered_is;
     };
@@ -267,7 +281,7 @@ module _ (sc : SchemeValue) (owner room : ℕ) (xo xn : Standing OutboxValue) (l
       | inr fl ↦ inr (subst (λ (n : ℕ). Counted n ln.failures (Some fault.Store)) stays.calls.cause (subst (Counted lm.failures ln.failures) fl s.ledger.calls.cause))
     ];
     refused = λ is ready. elim (s.refused is c (is_far ready) (meets ready.ledger) (are_bases ready) ready.outbox (k_then ready.ledger)) [
-      | inl skips ↦ inl (has_gap ready (subst (λ (o : ℕ). Skips bases o xo.value (moved_by_all c s.v.taken)) mine skips))
+      | inl skips ↦ inl (has_gap ready (subst (λ (o : ℕ). Skips working o xo.value (moved_by_all c s.v.taken)) mine skips))
       | inr unfit ↦ inr (subst (λ (l : LedgerValue). IsRefusedHand (given_all l s.v.taken) s.v.hand) (same ready.ledger) unfit)
     ];
     whole = λ none. record {
@@ -277,9 +291,10 @@ module _ (sc : SchemeValue) (owner room : ℕ) (xo xn : Standing OutboxValue) (l
       pruned = λ d known.
           let z = place_known sc lo lm standings bases told count apart d known in
           (z.place, ap (λ (l : List ℕ). slice_get l z.place) (s.whole none).pruned ∙ key_here bases z.place (d, z.standing.0) z.base);
-      idle = λ ready d known.
+      idle = λ ready d known goes_on.
           let z = place_known sc lo lm standings bases told count apart d known in
-          subst (λ (o : ℕ). IsIdle o xo.value (moved_by_all c s.v.taken) d) mine ((s.whole none).idle c (is_far ready) (meets ready.ledger) (are_bases ready) ready.outbox (k_then ready.ledger) z.place (d, z.standing.0) z.base);
+          let at = w.all (k_first ready.ledger) z.place (d, z.standing.0) z.base goes_on in
+          subst (λ (o : ℕ). IsIdle o xo.value (moved_by_all c s.v.taken) d) mine ((s.whole none).idle c (is_far ready) (meets ready.ledger) (are_bases ready) ready.outbox (k_then ready.ledger) at.0 (d, z.standing.0) at.1);
     };
   }
 
@@ -293,3 +308,32 @@ served_memory sc owner x lo ln rests stays = served_none sc owner x lo ln None M
 
 pub asked_store : (sc : SchemeValue) (lo ln : Standing LedgerValue) (standings : List (ℕ × Option ℕ)) (bases : List (ℕ × ℕ)) (f : Fault) (asked : IsAsked sc lo ln standings bases (Err f)) → f ≡ fault.Store → asked.faulted ≡ Some fault.Store
 asked_store sc lo ln standings bases f asked is = asked.cause (ap {B = Result (Unit {0}) Fault} Err is)
+
+-- WHICH LANES GO ON
+pub sifted_store : (lo ln : Standing LedgerValue) (lanes working : List (ℕ × ℕ)) (f : Fault) (sifted : AreSifted lo ln lanes working (Err f)) → f ≡ fault.Store → sifted.faulted ≡ Some fault.Store
+sifted_store lo ln lanes working f sifted is = sifted.cause (ap {B = Result (Unit {0}) Fault} Err is)
+
+-- the ledger told where it stands, and then which lanes it has retired
+module _ (sc : SchemeValue) (lo lm lz : Standing LedgerValue) (first : Stays lo lm None) (after : Stays lm lz None) where
+  first_kept : Keeps lo lz → Keeps lo lm
+  first_kept keeps = keeps_first lo lm lz None lm.value (λ w. w ≡ lm.value) after keeps
+
+  pub told_then : (standings : List (ℕ × Option ℕ)) (bases : List (ℕ × ℕ)) → AreTold sc lo lm standings bases → AreTold sc lo lz standings bases
+  told_then standings bases told = record {
+    same = told.same;
+    each = λ k p at. let t = told.each k p at in record { device = t.device; at = t.at; base = t.base; told = λ keeps. t.told (first_kept keeps) };
+  }
+
+  pub working_since : (bases working : List (ℕ × ℕ)) → AreWorking lm lz bases working → AreWorking lo lz bases working
+  working_since bases working w = record {
+    among = w.among;
+    apart = w.apart;
+    works = λ keeps k p at. subst (λ (l : LedgerValue). IsWorking l p.0) (same keeps) (w.works (later keeps) k p at);
+    all = λ keeps j p at goes_on. w.all (later keeps) j p at (subst (λ (l : LedgerValue). IsWorking l p.0) (sym (same keeps)) goes_on);
+  }
+    where
+      same : Keeps lo lz → lm.value ≡ lo.value
+      same keeps = keeps_value lo lm lo.value (λ w. w ≡ lo.value) first (first_kept keeps)
+
+      later : Keeps lo lz → Keeps lm lz
+      later keeps = keeps_then lo lm lz None lm.value lo.value (λ w. w ≡ lm.value) (λ w. w ≡ lo.value) first after keeps

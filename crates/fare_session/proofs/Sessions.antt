@@ -82,17 +82,17 @@ has_one : (done : List Item) (hand : Option Item) (queue : List Item) (e : Sessi
 has_one done None queue e has = absurd (let is : ◌≡◌ {A = Option Item} None (Some has.0) = has.1 in cc)
 has_one done (Some i) queue e has = let n = length-append done (i ∷ queue) in omega (arith, n)
 
-pub session_stopped : (bases : List (ℕ × ℕ)) (room : ℕ) (xo xn : Standing OutboxValue) (lo ln : Standing LedgerValue) (f g : Forwarder) (put : Option SessionFault) (e : SessionFault) (n left : ℕ) → IsThreaded bases room xo xn lo ln f g put (Some e) 0 n left → IsSession bases room xo xn lo ln f (report_of n left (Some e))
-session_stopped bases room xo xn lo ln f g put e n left th = record {
+pub session_stopped : (bases lanes : List (ℕ × ℕ)) (room : ℕ) (xo xn : Standing OutboxValue) (lo ln : Standing LedgerValue) (f g : Forwarder) (put : Option SessionFault) (e : SessionFault) (n left : ℕ) → IsThreaded bases room xo xn lo ln f g put (Some e) 0 n left → IsSession bases lanes room xo xn lo ln f (report_of n left (Some e))
+session_stopped bases lanes room xo xn lo ln f g put e n left th = record {
   v = service th.done th.hand th.queue [];
   fx = stored_fault put;
   fl = stored_fault (Some e);
   next = λ c far meets bs kx kl. subst (AreNextItems f.owner xo.value c) th.all ((th.forwarded.forwards c far bs).next kx);
   known = subst (AllByRecursion (λ i. IsBased bases (device_of i))) th.all th.forwarded.known;
   few = th.few;
-  registered = (keys_of bases, refl);
+  registered = (keys_of lanes, refl);
   ledger = th.taken.leaves;
-  outbox = λ kl. leaves_say xo xn (stored_fault put) xo.value (λ w. w ≡ xo.value) (IsCutWith th.hand xo.value f.owner (given_all lo.value th.done) bases []) (λ w is. inl is) th.forwarded.stays;
+  outbox = λ kl. leaves_say xo xn (stored_fault put) xo.value (λ w. w ≡ xo.value) (IsCutWith th.hand xo.value f.owner (given_all lo.value th.done) lanes []) (λ w is. inl is) th.forwarded.stays;
   counted = th.forwarded.stays.calls.cause;
   begun = begun;
   cut = λ lt. absurd (omega (arith, lt));
@@ -114,17 +114,17 @@ session_stopped bases room xo xn lo ln f g put e n left th = record {
     begun lt = th.forwarded.begun (subst (λ (l : List Item). 0 < length l) (sym th.all) lt)
 
 -- the owner did all, and the forwarder failed
-pub session_put : (bases : List (ℕ × ℕ)) (room : ℕ) (xo xn : Standing OutboxValue) (lo ln : Standing LedgerValue) (f g : Forwarder) (e : SessionFault) (n left : ℕ) → IsThreaded bases room xo xn lo ln f g (Some e) None 0 n left → IsSession bases room xo xn lo ln f (report_of n 0 (Some e))
-session_put bases room xo xn lo ln f g e n left th = record {
+pub session_put : (bases lanes : List (ℕ × ℕ)) (room : ℕ) (xo xn : Standing OutboxValue) (lo ln : Standing LedgerValue) (f g : Forwarder) (e : SessionFault) (n left : ℕ) → IsThreaded bases room xo xn lo ln f g (Some e) None 0 n left → IsSession bases lanes room xo xn lo ln f (report_of n 0 (Some e))
+session_put bases lanes room xo xn lo ln f g e n left th = record {
   v = service th.done None [] [];
   fx = stored_fault (Some e);
   fl = None;
   next = λ c far meets bs kx kl. subst (AreNextItems f.owner xo.value c) all ((th.forwarded.forwards c far bs).next kx);
   known = subst (AllByRecursion (λ i. IsBased bases (device_of i))) all th.forwarded.known;
   few = omega arith;
-  registered = (keys_of bases, refl);
+  registered = (keys_of lanes, refl);
   ledger = subst (λ h. Leaves lo ln None (given_all lo.value th.done) (IsImage lo.value th.done h)) (th.taken.empty refl) th.taken.leaves;
-  outbox = λ kl. leaves_say xo xn (stored_fault (Some e)) xo.value (λ w. w ≡ xo.value) (IsCutWith None xo.value f.owner (given_all lo.value th.done) bases []) (λ w is. inl is) th.forwarded.stays;
+  outbox = λ kl. leaves_say xo xn (stored_fault (Some e)) xo.value (λ w. w ≡ xo.value) (IsCutWith None xo.value f.owner (given_all lo.value th.done) lanes []) (λ w is. inl is) th.forwarded.stays;
   counted = th.forwarded.stays.calls.cause;
   begun = λ lt. th.forwarded.begun (subst (λ (l : List Item). 0 < length l) (sym all) lt);
   cut = λ lt. absurd (omega (arith, lt));
@@ -245,17 +245,17 @@ module _ (bases : List (ℕ × ℕ)) (room : ℕ) (xo xm xn : Standing OutboxVal
       same = ap (λ l. l ++ (r.done ++ in_hand r.hand)) sent_done ∙ sym (append_assoc th.done r.done (in_hand r.hand)) ∙ ap (λ l. (th.done ++ r.done) ++ l) (sym (append-nil (in_hand r.hand)))
 
 -- the rest failed
-pub session_rest : (bases : List (ℕ × ℕ)) (room : ℕ) (xo xm xn : Standing OutboxValue) (lo lm ln : Standing LedgerValue) (f g h : Forwarder) (e : SessionFault) (m k left held : ℕ) → IsThreaded bases room xo xm lo lm f g None None 0 m left → IsRest bases xm xn lm ln g h (Some e) m k held → IsSession bases room xo xn lo ln f (report_of k held (Some e))
-session_rest bases room xo xm xn lo lm ln f g h e m k left held th r = record {
+pub session_rest : (bases lanes : List (ℕ × ℕ)) (room : ℕ) (xo xm xn : Standing OutboxValue) (lo lm ln : Standing LedgerValue) (f g h : Forwarder) (e : SessionFault) (m k left held : ℕ) → IsThreaded bases room xo xm lo lm f g None None 0 m left → IsRest bases xm xn lm ln g h (Some e) m k held → IsSession bases lanes room xo xn lo ln f (report_of k held (Some e))
+session_rest bases lanes room xo xm xn lo lm ln f g h e m k left held th r = record {
   v = service (th.done ++ r.done) r.hand [] [];
   fx = stored_fault r.fx;
   fl = stored_fault r.fl;
   next = λ c far meets bs kx kl. both_next bases room xo xm xn lo lm ln f g h (Some e) m k left held th r c far meets bs kx kl;
   known = both_known bases room xo xm xn lo lm ln f g h (Some e) m k left held th r;
   few = omega arith;
-  registered = (keys_of bases, refl);
+  registered = (keys_of lanes, refl);
   ledger = taken.leaves;
-  outbox = λ kl. leaves_say xo xn (stored_fault r.fx) xo.value (λ w. w ≡ xo.value) (IsCutWith r.hand xo.value f.owner (given_all lo.value (th.done ++ r.done)) bases []) (λ w is. inl is) stays;
+  outbox = λ kl. leaves_say xo xn (stored_fault r.fx) xo.value (λ w. w ≡ xo.value) (IsCutWith r.hand xo.value f.owner (given_all lo.value (th.done ++ r.done)) lanes []) (λ w is. inl is) stays;
   counted = stays.calls.cause;
   begun = both_begun bases room xo xm xn lo lm ln f g h (Some e) m k left held th r;
   cut = λ lt. absurd (omega (arith, lt));
@@ -283,8 +283,8 @@ session_rest bases room xo xm xn lo lm ln f g h e m k left held th r = record {
     stays = both_stay bases room xo xm xn lo lm ln f g h (Some e) m k left held th r
 
 -- all was taken, and lanes were pruned
-pub session_done : (bases : List (ℕ × ℕ)) (room : ℕ) (xo xm xn xz : Standing OutboxValue) (lo lm ln lz : Standing LedgerValue) (f g h : Forwarder) (fault : Option SessionFault) (m k left held : ℕ) → IsThreaded bases room xo xm lo lm f g None None 0 m left → IsRest bases xm xn lm ln g h None m k held → IsPruning f.owner bases xn xz ln lz fault → IsSession bases room xo xz lo lz f (report_of k 0 fault)
-session_done bases room xo xm xn xz lo lm ln lz f g h fault m k left held th r p = record {
+pub session_done : (bases lanes : List (ℕ × ℕ)) (room : ℕ) (xo xm xn xz : Standing OutboxValue) (lo lm ln lz : Standing LedgerValue) (f g h : Forwarder) (fault : Option SessionFault) (m k left held : ℕ) → IsThreaded bases room xo xm lo lm f g None None 0 m left → IsRest bases xm xn lm ln g h None m k held → IsPruning f.owner lanes xn xz ln lz fault → IsSession bases lanes room xo xz lo lz f (report_of k 0 fault)
+session_done bases lanes room xo xm xn xz lo lm ln lz f g h fault m k left held th r p = record {
   v = service done None [] p.ds;
   fx = stored_fault p.fx;
   fl = stored_fault p.fl;
@@ -293,10 +293,10 @@ session_done bases room xo xm xn xz lo lm ln lz f g h fault m k left held th r p
   few = omega arith;
   registered = (p.rest, p.all);
   ledger = leaves_then lo ln lz (stored_fault p.fl) (given_all lo.value done) ln.value (given_all lo.value done) (IsImage lo.value done None) (λ w. w ≡ ln.value) (IsImage lo.value done None) taken.leaves p.pruned.stays (λ e. e) (λ e w is. inl (is ∙ e));
-  outbox = λ kl. leaves_then xo xn xz (stored_fault p.fx) xo.value (pruned_to_all xn.value f.owner ln.value p.ds) (pruned_to_all xo.value f.owner (given_all lo.value done) p.ds) (λ w. w ≡ xo.value) (IsCut xn.value f.owner ln.value bases p.ds) (IsCutWith None xo.value f.owner (given_all lo.value done) bases p.ds)
+  outbox = λ kl. leaves_then xo xn xz (stored_fault p.fx) xo.value (pruned_to_all xn.value f.owner ln.value p.ds) (pruned_to_all xo.value f.owner (given_all lo.value done) p.ds) (λ w. w ≡ xo.value) (IsCut xn.value f.owner ln.value lanes p.ds) (IsCutWith None xo.value f.owner (given_all lo.value done) lanes p.ds)
       stays (p.pruned.leaves (kl_behind kl))
       (λ e. (λ j. pruned_to_all (e j) f.owner (kl_same kl j) p.ds))
-      (λ e w is. subst (λ (z : OutboxValue × LedgerValue). IsCutWith None z.0 f.owner z.1 bases p.ds w) (λ j. (e j, kl_same kl j)) (elim is [ inl all ↦ inl all | inr one ↦ inr (refl, one) ]));
+      (λ e w is. subst (λ (z : OutboxValue × LedgerValue). IsCutWith None z.0 f.owner z.1 lanes p.ds w) (λ j. (e j, kl_same kl j)) (elim is [ inl all ↦ inl all | inr one ↦ inr (refl, one) ]));
   counted = subst (λ n. Counted n xz.failures (stored_fault p.fx)) stays.calls.cause p.pruned.counted;
   begun = λ lt clean. both_begun bases room xo xm xn lo lm ln f g h None m k left held th r (subst (λ z. 0 < length (done ++ (in_hand z ++ []))) (sym no_hand) lt) (p.pruned.follows.clean clean);
   cut = λ lt clean. stays.calls.live (p.pruned.begun lt clean);
@@ -344,4 +344,4 @@ session_done bases room xo xm xn xz lo lm ln lz f g h fault m k left held th r p
     kl_same kl = keeps_value lo ln (given_all lo.value done) (IsImage lo.value done None) taken.leaves (kl_before kl)
 
     kx_then_first : Keeps xo xz → Keeps lo lz → Keeps xo xn
-    kx_then_first kx kl = keeps_first xo xn xz (stored_fault p.fx) (pruned_to_all xn.value f.owner ln.value p.ds) (IsCut xn.value f.owner ln.value bases p.ds) (p.pruned.leaves (kl_behind kl)) kx
+    kx_then_first kx kl = keeps_first xo xn xz (stored_fault p.fx) (pruned_to_all xn.value f.owner ln.value p.ds) (IsCut xn.value f.owner ln.value lanes p.ds) (p.pruned.leaves (kl_behind kl)) kx

@@ -59,25 +59,27 @@ not_refused fault.Memory s e r = let x : Memory ≡ Refused = sym e ∙ r in cc
 not_refused fault.Store s e r = let x : Store ≡ Refused = sym e ∙ r in cc
 
 -- A STATEMENT THAT IS HELD
-held_by_judge : (mine : Bool) (held : Option ℕ) (count : ℕ) → statement_judged mine held count ≡ Err Repeated → is_none held ≡ false
-held_by_judge false held count e = absurd (cc)
-held_by_judge true None count e = absurd (cc)
-held_by_judge true (Some n) count e = refl
+held_by_judge : (mine : Bool) (held : Option ℕ) (count : ℕ) (retired : Bool) → statement_judged mine held count retired ≡ Err Repeated → is_none held ≡ false
+held_by_judge false held count retired e = absurd (cc)
+held_by_judge true held count true e = absurd (cc)
+held_by_judge true None count false e = absurd (cc)
+held_by_judge true (Some n) count false e = refl
 
-free_by_judge : (mine : Bool) (held : Option ℕ) (count : ℕ) → statement_judged mine held count ≡ Ok tt → is_none held ≡ true
-free_by_judge false held count e = absurd (cc)
-free_by_judge true None count e = refl
-free_by_judge true (Some n) count e = by (n == count) e
+free_by_judge : (mine : Bool) (held : Option ℕ) (count : ℕ) (retired : Bool) → statement_judged mine held count retired ≡ Ok tt → is_none held ≡ true
+free_by_judge false held count retired e = absurd (cc)
+free_by_judge true held count true e = absurd (cc)
+free_by_judge true None count false e = refl
+free_by_judge true (Some n) count false e = by (n == count) e
   where
     by : (b : Bool) → ◌≡◌ {A = Result (Unit {0}) StatementFault} (if b then Err Repeated else Err Conflict) (Ok tt) → false ≡ true
     by true e = absurd (cc)
     by false e = absurd (cc)
 
 pub new_by_judge : (l : LedgerValue) (s : StatementValue) → state_judged l s ≡ Ok tt → true ≡ is_added l (Stated s)
-new_by_judge l s e = sym (free_by_judge (is_mine l s.owner s.device) (l.stated s.device s.day) s.count e)
+new_by_judge l s e = sym (free_by_judge (is_mine l s.owner s.device) (l.stated s.device s.day) s.count (l.retired s.device) e)
 
 pub old_by_judge : (l : LedgerValue) (s : StatementValue) → state_judged l s ≡ Err Repeated → false ≡ is_added l (Stated s)
-old_by_judge l s e = sym (held_by_judge (is_mine l s.owner s.device) (l.stated s.device s.day) s.count e)
+old_by_judge l s e = sym (held_by_judge (is_mine l s.owner s.device) (l.stated s.device s.day) s.count (l.retired s.device) e)
 
 -- ONE ITEM
 -- a counter behind an item that was added or not

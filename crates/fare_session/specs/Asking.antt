@@ -6,7 +6,9 @@ use Rattle.fare_store.specs.declared.fault.Fault.{Fault}
 use Rattle.fare_store.specs.declared.fault.Fault.TheVariants.{Store}
 use Rattle.fare_store.specs.Standing.{Standing, fault_of}
 use Rattle.fare_store.specs.LedgerWords.{LedgerValue, closed_through}
+use Rattle.fare_history.specs.Serving.{IsWorking}
 use Rattle.fare_session.specs.Stores.{Keeps, Stays}
+use Rattle.fare_session.specs.Forwarding.{AreApart}
 
 -- how many taps of a device it has, and its last closed day
 abbrev pub standing_of : LedgerValue → ℕ → ℕ × Option ℕ
@@ -41,3 +43,17 @@ pub record IsAsked (sc : SchemeValue) (old new : Standing LedgerValue) (standing
   pub told : OnOk result (AreTold sc old new standings bases)
   pub count : OnOk result (length standings ≡ length sc.devices)
   pub some : OnOk result (1 ≤ length sc.devices)
+
+-- of these lanes the working ones are those that the ledger hasn't retired, if it has kept what it held
+pub record AreWorking (old new : Standing LedgerValue) (lanes working : List (ℕ × ℕ)) : Type 0 where
+  pub among : (k : ℕ) (p : ℕ × ℕ) → slice_get working k ≡ Some p → (j : ℕ) × (slice_get lanes j ≡ Some p)
+  pub apart : AreApart working
+  pub works : Keeps old new → (k : ℕ) (p : ℕ × ℕ) → slice_get working k ≡ Some p → IsWorking old.value p.0
+  pub all : Keeps old new → (j : ℕ) (p : ℕ × ℕ) → slice_get lanes j ≡ Some p → IsWorking old.value p.0 → (k : ℕ) × (slice_get working k ≡ Some p)
+
+pub record AreSifted (old new : Standing LedgerValue) (lanes working : List (ℕ × ℕ)) (result : Result Unit Fault) : Type 0 where
+  pub faulted : Option Fault
+  pub stays : Stays old new faulted
+  pub cause : IsErrOf result Store → faulted ≡ Some Store
+  pub none : OnOk result (faulted ≡ None)
+  pub told : OnOk result (AreWorking old new lanes working)

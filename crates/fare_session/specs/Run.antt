@@ -9,7 +9,7 @@ use Rattle.fare_store.specs.OutboxWords.{OutboxValue}
 use Rattle.fare_store.specs.LedgerWords.{LedgerValue, IsOfScheme}
 use Rattle.fare_session.specs.declared.fault.SessionFault.TheVariants.{Refused, Store}
 use Rattle.fare_session.specs.declared.report.OwnerReport.{OwnerReport}
-use Rattle.fare_history.specs.Serving.{behind_ledger, moved_by_all, AreUnrefused, given_all, in_hand, Service, put_by, pruned_to_all, lane_room, IsOfDevice, IsDated, IsService}
+use Rattle.fare_history.specs.Serving.{behind_ledger, moved_by_all, AreUnrefused, given_all, in_hand, Service, put_by, pruned_to_all, lane_room, IsOfDevice, IsWorking, IsDated, IsService}
 use Rattle.fare_history.specs.Holding.{MayHold}
 use Rattle.fare_session.specs.Stores.{IsOwners, Follows, Keeps, Leaves}
 use Rattle.fare_session.specs.Taking.{added_by, IsImage, IsRefusedHand}
@@ -27,13 +27,13 @@ pub record IsReady (sc : SchemeValue) (owner : ℕ) (xo xn : Standing OutboxValu
 abbrev pub IsCutOf : SchemeValue → OutboxValue → ℕ → LedgerValue → Option Item → List ℕ → OutboxValue → Type 0
 IsCutOf sc x owner l hand ds w = (w ≡ pruned_to_all x owner l ds) ⊎ ((hand ≡ None) × ((d : ℕ) × IsOfDevice sc d × (w ≡ pruned_to_all x owner l (ds ++ d ∷ []))))
 
--- nothing is left: nothing comes next of any device of the scheme, and its lane is pruned
+-- nothing is left: nothing comes next of any device of the scheme whose lane isn't retired, and each lane is pruned
 pub record IsAllServed (sc : SchemeValue) (owner : ℕ) (xo xn : Standing OutboxValue) (lo ln : Standing LedgerValue) (v : Service) : Type 0 where
   pub hand : v.hand ≡ None
   pub queue : v.queue ≡ []
   pub pruned : (device : ℕ) → IsOfDevice sc device → (k : ℕ) × (slice_get v.pruned k ≡ Some device)
   pub cut : 0 < length v.pruned
-  pub idle : IsReady sc owner xo xn lo ln → (device : ℕ) → IsOfDevice sc device → IsIdle owner xo.value (moved_by_all (behind_ledger sc lo.value) v.taken) device
+  pub idle : IsReady sc owner xo xn lo ln → (device : ℕ) → IsOfDevice sc device → IsWorking lo.value device → IsIdle owner xo.value (moved_by_all (behind_ledger sc lo.value) v.taken) device
 
 -- the ledger failed before it had told where it stands, or there was no memory: no thread began, and of the outbox nothing was asked
 pub record IsUnbegun (xo xn : Standing OutboxValue) (v : Service) (report : OwnerReport) : Type 0 where

@@ -1,4 +1,4 @@
--- What a whole session did, over the bases of its lanes.
+-- What a whole session did, over the bases of its working lanes, and of all that it prunes.
 use Rattle.std.specs.Prelude.{◌≡◌, ◌⊎◌, ℕ, ◌<◌, ◌≤◌, min, List, [], ◌∷◌, ◌++◌, length, slice_get, Option, None, Some}
 use Rattle.std.specs.List.{AllByRecursion}
 use Rattle.std.specs.Map.{keys_of}
@@ -38,26 +38,26 @@ abbrev pub IsRefusal : List (ℕ × ℕ) → ℕ → OutboxValue → LedgerValue
 IsRefusal bases owner x l c v = Skips bases owner x (moved_by_all c v.taken) ⊎ IsRefusedHand (given_all l v.taken) v.hand
 
 -- nothing is left, and nothing comes next any more
-pub record IsWhole (bases : List (ℕ × ℕ)) (xo xn : Standing OutboxValue) (lo ln : Standing LedgerValue) (f : Forwarder) (v : Service) : Type 0 where
+pub record IsWhole (bases lanes : List (ℕ × ℕ)) (xo xn : Standing OutboxValue) (lo ln : Standing LedgerValue) (f : Forwarder) (v : Service) : Type 0 where
   pub hand : v.hand ≡ None
   pub queue : v.queue ≡ []
-  pub pruned : v.pruned ≡ keys_of bases
+  pub pruned : v.pruned ≡ keys_of lanes
   pub idle : (c : Cursors) → IsAsFar bases f c → MeetsLedger bases lo.value c → AreBases bases c → Keeps xo xn → Keeps lo ln → (k : ℕ) (p : ℕ × ℕ) → slice_get bases k ≡ Some p → IsIdle f.owner xo.value (moved_by_all c v.taken) p.0
 
 -- these lanes are pruned, or, with nothing in the hand, one more
 abbrev pub IsCutWith : Option Item → OutboxValue → ℕ → LedgerValue → List (ℕ × ℕ) → List ℕ → OutboxValue → Type 0
-IsCutWith hand x owner l bases ds w = (w ≡ pruned_to_all x owner l ds) ⊎ ((hand ≡ None) × ((d : ℕ) × IsBased bases d × (w ≡ pruned_to_all x owner l (ds ++ d ∷ []))))
+IsCutWith hand x owner l lanes ds w = (w ≡ pruned_to_all x owner l ds) ⊎ ((hand ≡ None) × ((d : ℕ) × IsBased lanes d × (w ≡ pruned_to_all x owner l (ds ++ d ∷ []))))
 
-pub record IsSession (bases : List (ℕ × ℕ)) (room : ℕ) (xo xn : Standing OutboxValue) (lo ln : Standing LedgerValue) (f : Forwarder) (report : OwnerReport) : Type 0 where
+pub record IsSession (bases lanes : List (ℕ × ℕ)) (room : ℕ) (xo xn : Standing OutboxValue) (lo ln : Standing LedgerValue) (f : Forwarder) (report : OwnerReport) : Type 0 where
   pub v : Service
   pub fx : Option Fault
   pub fl : Option Fault
   pub next : (c : Cursors) → IsAsFar bases f c → MeetsLedger bases lo.value c → AreBases bases c → Keeps xo xn → Keeps lo ln → AreNextItems f.owner xo.value c (put_by v)
   pub known : AllByRecursion (λ i. IsBased bases (device_of i)) (put_by v)
   pub few : length v.queue ≤ room
-  pub registered : (rest : List ℕ) × (keys_of bases ≡ v.pruned ++ rest)
+  pub registered : (rest : List ℕ) × (keys_of lanes ≡ v.pruned ++ rest)
   pub ledger : Leaves lo ln fl (given_all lo.value v.taken) (IsImage lo.value v.taken v.hand)
-  pub outbox : Keeps lo ln → Leaves xo xn fx (pruned_to_all xo.value f.owner (given_all lo.value v.taken) v.pruned) (IsCutWith v.hand xo.value f.owner (given_all lo.value v.taken) bases v.pruned)
+  pub outbox : Keeps lo ln → Leaves xo xn fx (pruned_to_all xo.value f.owner (given_all lo.value v.taken) v.pruned) (IsCutWith v.hand xo.value f.owner (given_all lo.value v.taken) lanes v.pruned)
   pub counted : Counted xo.failures xn.failures fx
   -- a clean outbox was live where it answered
   pub begun : 0 < length (put_by v) → xn.clean → xo.live
@@ -73,4 +73,4 @@ pub record IsSession (bases : List (ℕ × ℕ)) (room : ℕ) (xo xn : Standing 
   pub left : report.left ≡ length (in_hand v.hand ++ v.queue)
   pub cause : report.fault ≡ Some Store → (fx ≡ Some fault.Store) ⊎ (fl ≡ Some fault.Store)
   pub refused : report.fault ≡ Some Refused → (c : Cursors) → IsAsFar bases f c → MeetsLedger bases lo.value c → AreBases bases c → Keeps xo xn → Keeps lo ln → IsRefusal bases f.owner xo.value lo.value c v
-  pub whole : report.fault ≡ None → IsWhole bases xo xn lo ln f v
+  pub whole : report.fault ≡ None → IsWhole bases lanes xo xn lo ln f v

@@ -17,6 +17,7 @@ mod rest;
 mod serving;
 mod taking;
 mod turns;
+mod working;
 
 pub use fault::SessionFault;
 pub use gate::{Gate, Point};

@@ -17,6 +17,7 @@ use crate::pruning::prune_all;
 use crate::report::OwnerReport;
 use crate::rest::take_rest;
 use crate::taking::{take_all, take_left};
+use crate::working::sift;
 use fare_lane_queue::{ForwardPass, LaneQueue, LaneQueueFault, OwnerPass};
 use fare_record::{DeviceId, OwnerId};
 use fare_route::Forwarder;
@@ -121,7 +122,7 @@ fn run_lanes<O: Outbox + Send, L: Ledger + Send, G: Gate + Sync, R: Threads + Wa
     }
 }
 
-// A session over a queue and a forwarder that are ready.
+// A session over a queue and a forwarder that are ready: it goes on with the lanes of `bases`, and prunes all lanes.
 fn serve_lanes<
     O: Outbox + Send,
     L: Ledger + Send,
@@ -132,6 +133,7 @@ fn serve_lanes<
     owner: OwnerId,
     gate: &G,
     bases: &[(DeviceId, u64)],
+    lanes: &[(DeviceId, u64)],
     turns: u64,
     forwarder: &mut Forwarder,
     outbox: &mut O,
@@ -146,7 +148,8 @@ fn serve_lanes<
     requires cursors { HasCursors bases.now forwarder.old }
     requires room { capacity_of queue ≤ 1024 }
     requires mine { forwarder.old.owner ≡ owner }
-    ensures { IsSession bases.now (capacity_of queue) (O.standing outbox.old) (O.standing outbox.new) (L.standing ledger.old) (L.standing ledger.new) forwarder.old result }
+    requires all { AreApart lanes.now }
+    ensures { IsSession bases.now lanes.now (capacity_of queue) (O.standing outbox.old) (O.standing outbox.new) (L.standing ledger.old) (L.standing ledger.new) forwarder.old result }
 {
     let mut taken = 0;
     let (put, fault, left) = run_lanes(
@@ -174,7 +177,7 @@ fn serve_lanes<
             fault: Some(fault),
         };
     }
-    let fault = prune_all(owner, bases, outbox, ledger);
+    let fault = prune_all(owner, lanes, outbox, ledger);
     OwnerReport {
         taken,
         left: 0,
@@ -201,7 +204,7 @@ fn not_begun(fault: SessionFault) -> OwnerReport
 
 /// Serves an owner: one thread hands on what comes next in the outbox of the owner's lanes, over one lane queue,
 /// and one takes it into the ledger. What is left once both have ended this call takes, and it prunes the lanes
-/// to the ledger's counts. A thread that found the queue full or empty `turns` times ends.
+/// to the ledger's counts. A lane that the ledger has retired is left out, but pruned as the others. A thread that found the queue full or empty `turns` times ends.
 pub fn serve_owner<
     O: Outbox + Send,
     L: Ledger + Send,
@@ -231,10 +234,14 @@ pub fn serve_owner<
     if let Err(fault) = ask(scheme, ledger, &mut asked) {
         return not_begun(failed(fault));
     }
+    let mut working = Vec::new(alloc);
+    if let Err(fault) = sift(ledger, &asked.bases, &mut working) {
+        return not_begun(failed(fault));
+    }
     let Ok(mut forwarder) = Forwarder::start(alloc, scheme, owner, &asked.standings) else {
         return not_begun(SessionFault::Memory);
     };
-    let (queue, forward, mine) = match LaneQueue::new(alloc, capacity, &asked.bases) {
+    let (queue, forward, mine) = match LaneQueue::new(alloc, capacity, &working) {
         Ok(made) => made,
         Err(LaneQueueFault::Memory) => return not_begun(SessionFault::Memory),
         Err(LaneQueueFault::Range) => unreachable!(),
@@ -243,6 +250,7 @@ pub fn serve_owner<
         rt,
         owner,
         gate,
+        &working,
         &asked.bases,
         turns,
         &mut forwarder,

@@ -27,7 +27,9 @@ use Rattle.fare_store.specs.OutboxWords.{OutboxValue}
 use Rattle.fare_store.specs.LedgerWords.{LedgerValue, AreTapsBetween}
 use Rattle.fare_side.specs.declared.bill_fault.BillFault.{BillFault}
 use Rattle.fare_side.specs.declared.bill_fault.BillFault.TheVariants.{UnknownOwner, BeforeStart, NotClosed}
-use Rattle.fare_side.specs.OpenDays.{first_open, where_open}
+use Rattle.fare_side.specs.OpenDays.{first_open, short_devices, where_open}
+use Rattle.fare_side.specs.Weeks.{open_of, IsWeekOf}
+use Rattle.fare_side.specs.declared.week_taps.WeekTaps.{WeekTaps}
 use Rattle.fare_world.specs.Knowing.{knows_owner}
 use Rattle.fare_side.specs.Answering.{Answered}
 use Rattle.fare_history.specs.Holding.{MayHold}
@@ -35,11 +37,11 @@ use Rattle.fare_history.specs.Stores.{StoresValue}
 use Rattle.fare_store.proofs.Entries.{is_one}
 use Rattle.fare_session.specs.Stores.{Follows}
 use Rattle.fare_agreement.specs.Agreeing.{AreNumberedLists, had, Agrees}
-use Rattle.fare_agreement.specs.Parts.{parts_of}
+use Rattle.fare_agreement.specs.Parts.{part_counted, parts_of}
 use Rattle.fare_agreement.proofs.Prefixes.{prefix_trans, part_front}
 use Rattle.fare_agreement.proofs.WeekTaken.{week_in_order, bill_is}
 use Rattle.fare_sessions.specs.declared.hub.Hub.{Hub}
-use Rattle.fare_sessions.specs.Billing.{refusal_of, HasBasis, OnlyReads, IsBillRefusal}
+use Rattle.fare_sessions.specs.Billing.{refusal_of, open_in, HasBasis, OnlyReads, IsBillRefusal}
 use Rattle.fare_sessions.specs.Stores.{ReplacesLedger, AreClean, AreSound, StoresFollow, MayStandAs}
 use Rattle.fare_sessions.proofs.Follow.{replaced_follow, replaced_sound, IsOwn}
 use Rattle.fare_sessions.proofs.Steps.{stood_before, own_stands}
@@ -68,23 +70,23 @@ filter_flat p f (x ∷ xs) = filter-append p (f x) (flat_map f xs) ∙ ap (λ l.
 not_before : (a b : ℕ) → b ≤ max a b
 not_before a b = omega arith
 
-module _ (sc : SchemeValue) (lists : ℕ → List RecordValue) (all : AreNumberedLists sc lists) (h : StoresValue) (is : Agrees sc lists h) (owner : ℕ) (known : knows_owner sc owner ≡ true) (day : ℕ) (rows : List RecordValue) (b : HasBasis sc (h.ledgers owner) day rows) where
-  none_open : first_open (h.ledgers owner).start (h.ledgers owner).closed day sc.devices ≡ None
-  none_open = ap (λ start. first_open start (h.ledgers owner).closed day sc.devices) b.start ∙ b.closed
+module _ (sc : SchemeValue) (lists : ℕ → List RecordValue) (all : AreNumberedLists sc lists) (h : StoresValue) (is : Agrees sc lists h) (owner : ℕ) (known : knows_owner sc owner ≡ true) (day : ℕ) (rows : List RecordValue) (short : List ℕ) (b : HasBasis sc (h.ledgers owner) day rows short) where
+  none_open : open_of (h.ledgers owner) day sc ≡ None
+  none_open = ap (λ start. first_open start (h.ledgers owner).closed (h.ledgers owner).retired day sc.devices) b.start ∙ b.closed
 
-  pub bill_of_lists : bill_of sc rows day ≡ bill_of sc (parts_of sc lists owner) day
+  pub bill_of_lists : bill_of sc rows day ≡ bill_of sc (parts_of sc lists (h.ledgers owner) owner) day
   bill_of_lists = bill_is sc lists all owner (h.ledgers owner)
       (λ d. prefix_trans ((h.ledgers owner).taken d) (had lists h.outbox owner d) (part owner (lists d)) (is.lanes owner d known).taken_is (part_front owner (h.outbox.upto d) (lists d)))
       (λ d. (is.lanes owner d known).stated_are) (λ d. (is.lanes owner d known).closed_are) day rows b.valid b.start none_open b.taps
 
-  pub settlement_of_lists : settlement_of sc rows day ≡ settlement_of sc (parts_of sc lists owner) day
+  pub settlement_of_lists : settlement_of sc rows day ≡ settlement_of sc (parts_of sc lists (h.ledgers owner) owner) day
   settlement_of_lists =
       ap (λ ordered. map_shares ordered) (week_in_order sc lists all owner (h.ledgers owner)
       (λ d. prefix_trans ((h.ledgers owner).taken d) (had lists h.outbox owner d) (part owner (lists d)) (is.lanes owner d known).taken_is (part_front owner (h.outbox.upto d) (lists d)))
       (λ d. (is.lanes owner d known).stated_are) (λ d. (is.lanes owner d known).closed_are) (week_start sc day) day rows b.taps b.valid
       (subst (λ n. n ≤ week_start sc day) (sym b.start) (not_before (monday_on_or_before day) sc.start)) none_open)
-      ∙ (ap (λ (records : List RecordValue). settlement_of sc records day) (sym (filter_flat among (λ (d : ℕ × Placement). part owner (lists d.0)) sc.devices))
-      ∙ other_days_settle_nothing sc day among (parts_of sc lists owner) (record { kept = λ r first last. and_from (nat_le (week_start sc day) r.tap.day) (nat_le r.tap.day day) (within first) (within last) }))
+      ∙ (ap (λ (records : List RecordValue). settlement_of sc records day) (sym (filter_flat among (λ (d : ℕ × Placement). part_counted lists (h.ledgers owner) owner d.0) sc.devices))
+      ∙ other_days_settle_nothing sc day among (parts_of sc lists (h.ledgers owner) owner) (record { kept = λ r first last. and_from (nat_le (week_start sc day) r.tap.day) (nat_le r.tap.day day) (within first) (within last) }))
     where
       map_shares : List RecordValue → List Settled
       map_shares ordered = map (share_of (charges_of sc ordered day)) sc.operators
@@ -152,17 +154,13 @@ is_open : (o : Option ℕ) (why : BillFault) → where_open o ≡ Err why → (d
 is_open None why e = absurd (cc)
 is_open (Some d) why e = let is : NotClosed d ≡ why = cc in (d, refl, sym is)
 
--- what a ledger tells of a week: the taps, or the first device whose day is open
-abbrev pub TellsWeek : {V : Type 0} → SchemeValue → (V → List RecordValue) → ℕ → LedgerValue → Result V BillFault → Type 0
-TellsWeek sc rows day l r = MatchResult r (λ v. (where_open (first_open l.start l.closed day sc.devices) ≡ Ok tt) × AreTapsBetween l (week_start sc day) day (rows v)) (λ why. where_open (first_open l.start l.closed day sc.devices) ≡ Err why)
+module _ {O L : Type 0} (outbox : O → Standing OutboxValue) (ledger : L → Standing LedgerValue) (old new : Hub O L) (owner day : ℕ) (r : ReplacesLedger old new owner) (same_outbox : new.outbox ≡ old.outbox) (sound_ledger : IsSound (ledger r.own_old)) (late : old.scheme.start ≤ day) (result : Result WeekTaps (Refused BillFault))
+    (call : Calls (ledger r.own_old) (ledger r.own_new) (fault_in result) (((ledger r.own_new).value ≡ (ledger r.own_old).value) × ((ledger r.own_old).value.start ≤ day → Answered (IsWeekOf old.scheme (ledger r.own_old).value day) result)) (λ v. ⊥)) where
+  week_now : AreClean outbox ledger new → AreSound outbox ledger old → fault_in result ≡ None → (ledger r.own_old).live × (ledger r.own_old).lawful × ((ledger r.own_old).value.start ≡ old.scheme.start) × Answered (IsWeekOf old.scheme (ledger r.own_old).value day) result
+  week_now clean sound none = told_now outbox ledger old new owner day r same_outbox sound_ledger late (λ l r. IsWeekOf old.scheme l day r) result call none clean sound
 
-module _ {O L V : Type 0} (outbox : O → Standing OutboxValue) (ledger : L → Standing LedgerValue) (old new : Hub O L) (owner day : ℕ) (r : ReplacesLedger old new owner) (same_outbox : new.outbox ≡ old.outbox) (sound_ledger : IsSound (ledger r.own_old)) (late : old.scheme.start ≤ day) (rows : V → List RecordValue) (result : Result V (Refused BillFault))
-    (call : Calls (ledger r.own_old) (ledger r.own_new) (fault_in result) (((ledger r.own_new).value ≡ (ledger r.own_old).value) × ((ledger r.own_old).value.start ≤ day → Answered (TellsWeek old.scheme rows day (ledger r.own_old).value) result)) (λ v. ⊥)) where
-  week_now : AreClean outbox ledger new → AreSound outbox ledger old → fault_in result ≡ None → (ledger r.own_old).live × (ledger r.own_old).lawful × ((ledger r.own_old).value.start ≡ old.scheme.start) × Answered (TellsWeek old.scheme rows day (ledger r.own_old).value) result
-  week_now clean sound none = told_now outbox ledger old new owner day r same_outbox sound_ledger late (TellsWeek old.scheme rows day) result call none clean sound
-
-  week_told : AreClean outbox ledger new → AreSound outbox ledger old → fault_in result ≡ None → (h : StoresValue) → MayStandAs outbox ledger old h → ((h.ledgers owner).start ≡ old.scheme.start) × Answered (TellsWeek old.scheme rows day (h.ledgers owner)) result
-  week_told clean sound none = told outbox ledger old new owner day r same_outbox sound_ledger late (TellsWeek old.scheme rows day) result call none clean sound
+  week_told : AreClean outbox ledger new → AreSound outbox ledger old → fault_in result ≡ None → (h : StoresValue) → MayStandAs outbox ledger old h → ((h.ledgers owner).start ≡ old.scheme.start) × Answered (IsWeekOf old.scheme (h.ledgers owner) day) result
+  week_told clean sound none = told outbox ledger old new owner day r same_outbox sound_ledger late (λ l r. IsWeekOf old.scheme l day r) result call none clean sound
 
   known_place : position_of_owner old.scheme owner ≡ None → ⊥
   known_place none = let both : ◌≡◌ {A = Option ℕ} (Some r.place) None = sym r.at ∙ none in absurd (cc)
@@ -172,7 +170,7 @@ module _ {O L V : Type 0} (outbox : O → Standing OutboxValue) (ledger : L → 
 
   -- refused by neither of the first two names
   later_refusal : (refused : Option BillFault) → (refused ≡ Some UnknownOwner → ⊥) → (refused ≡ Some BeforeStart → ⊥)
-      → ((device : ℕ) → refused ≡ Some (NotClosed device) → (h : StoresValue) → MayStandAs outbox ledger old h → first_open old.scheme.start (h.ledgers owner).closed day old.scheme.devices ≡ Some device) → IsBillRefusal outbox ledger old owner day refused
+      → ((device : ℕ) → refused ≡ Some (NotClosed device) → (h : StoresValue) → MayStandAs outbox ledger old h → open_in old.scheme (h.ledgers owner) day ≡ Some device) → IsBillRefusal outbox ledger old owner day refused
   later_refusal refused unknown early open_is = record {
     unknown = ((λ e. absurd (unknown e)), (λ none. absurd (known_place none)));
     early = ((λ e. absurd (early e)), (λ is. absurd (not_early is.1)));
@@ -182,32 +180,32 @@ module _ {O L V : Type 0} (outbox : O → Standing OutboxValue) (ledger : L → 
   pub week_refused : AreClean outbox ledger new → AreSound outbox ledger old → IsBillRefusal outbox ledger old owner day (refusal_of result)
   week_refused clean sound = by result refl
     where
-      by : (q : Result V (Refused BillFault)) → result ≡ q → IsBillRefusal outbox ledger old owner day (refusal_of q)
+      by : (q : Result WeekTaps (Refused BillFault)) → result ≡ q → IsBillRefusal outbox ledger old owner day (refusal_of q)
       by (Ok v) e = later_refusal None (λ e. absurd (cc)) (λ e. absurd (cc)) (λ device e. absurd (cc))
       by (Err (Failed f)) e = later_refusal None (λ e. absurd (cc)) (λ e. absurd (cc)) (λ device e. absurd (cc))
       by (Err (Because why)) e =
           let none : fault_in result ≡ None = ap fault_in e in
           let v = (ledger r.own_old).value in
-          let now : where_open (first_open v.start v.closed day old.scheme.devices) ≡ Err why = subst (Answered (TellsWeek old.scheme rows day v)) e (week_now clean sound none).3 in
-          let is = is_open (first_open v.start v.closed day old.scheme.devices) why now in
+          let now : where_open (open_of v day old.scheme) ≡ Err why = subst (Answered (IsWeekOf old.scheme v day)) e (week_now clean sound none).3 in
+          let is = is_open (open_of v day old.scheme) why now in
           let named = is.2 in
           later_refusal (Some why) (λ f. let both : ◌≡◌ {A = Option BillFault} (Some (NotClosed is.0)) (Some UnknownOwner) = ap Some (sym named) ∙ f in absurd (cc)) (λ f. let both : ◌≡◌ {A = Option BillFault} (Some (NotClosed is.0)) (Some BeforeStart) = ap Some (sym named) ∙ f in absurd (cc))
           (λ device f h may.
           let here = week_told clean sound none h may in
           let l = h.ledgers owner in
-          let found : where_open (first_open l.start l.closed day old.scheme.devices) ≡ Err why = subst (Answered (TellsWeek old.scheme rows day l)) e here.1 in
-          let there = is_open (first_open l.start l.closed day old.scheme.devices) why found in
+          let found : where_open (open_of l day old.scheme) ≡ Err why = subst (Answered (IsWeekOf old.scheme l day)) e here.1 in
+          let there = is_open (open_of l day old.scheme) why found in
           let same : ◌≡◌ {A = Option BillFault} (Some (NotClosed there.0)) (Some (NotClosed device)) = ap Some (sym there.2) ∙ f in
           let one : there.0 ≡ device = cc in
-          ap (λ start. first_open start l.closed day old.scheme.devices) (sym here.0) ∙ (there.1 ∙ ap Some one))
+          ap (λ start. first_open start l.closed l.retired day old.scheme.devices) (sym here.0) ∙ (there.1 ∙ ap Some one))
 
-  pub week_basis : IsScheme old.scheme → AreClean outbox ledger new → AreSound outbox ledger old → IfOk result (λ v. (h : StoresValue) → MayStandAs outbox ledger old h → HasBasis old.scheme (h.ledgers owner) day (rows v))
+  pub week_basis : IsScheme old.scheme → AreClean outbox ledger new → AreSound outbox ledger old → IfOk result (λ v. (h : StoresValue) → MayStandAs outbox ledger old h → HasBasis old.scheme (h.ledgers owner) day v.taps.items v.short.items)
   week_basis valid clean sound = by result refl
     where
-      by : (q : Result V (Refused BillFault)) → result ≡ q → IfOk q (λ v. (h : StoresValue) → MayStandAs outbox ledger old h → HasBasis old.scheme (h.ledgers owner) day (rows v))
+      by : (q : Result WeekTaps (Refused BillFault)) → result ≡ q → IfOk q (λ v. (h : StoresValue) → MayStandAs outbox ledger old h → HasBasis old.scheme (h.ledgers owner) day v.taps.items v.short.items)
       by (Err why) e = tt
       by (Ok v) e = λ h may.
           let here = week_told clean sound (ap fault_in e) h may in
           let l = h.ledgers owner in
-          let tells = subst (Answered (TellsWeek old.scheme rows day l)) e here.1 in
-          record { valid = valid; start = here.0; closed = ap (λ start. first_open start l.closed day old.scheme.devices) (sym here.0) ∙ is_closed (first_open l.start l.closed day old.scheme.devices) tells.0; taps = tells.1 }
+          let tells = subst (Answered (IsWeekOf old.scheme l day)) e here.1 in
+          record { valid = valid; start = here.0; closed = ap (λ start. first_open start l.closed l.retired day old.scheme.devices) (sym here.0) ∙ is_closed (open_of l day old.scheme) tells.0; short = tells.2 ∙ ap (λ start. short_devices start l.closed l.retired day old.scheme.devices) here.0; taps = tells.1 }

@@ -7,6 +7,7 @@ pub mod Reported
 pub mod Billed
 pub mod NextClose
 pub mod Closed
+pub mod Retired
 pub mod Going
 pub mod Lasting
 pub mod Again

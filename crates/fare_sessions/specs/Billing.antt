@@ -13,7 +13,7 @@ use Rattle.fare_store.specs.OutboxWords.{OutboxValue}
 use Rattle.fare_store.specs.LedgerWords.{LedgerValue, AreTapsBetween, close_of, with_close}
 use Rattle.fare_side.specs.declared.bill_fault.BillFault.{BillFault}
 use Rattle.fare_side.specs.declared.bill_fault.BillFault.TheVariants.{UnknownOwner, BeforeStart, NotClosed}
-use Rattle.fare_side.specs.OpenDays.{first_open}
+use Rattle.fare_side.specs.OpenDays.{first_open, short_devices}
 use Rattle.fare_history.specs.Stores.{StoresValue}
 use Rattle.fare_sessions.specs.declared.closing.ClosingFault.{ClosingFault}
 use Rattle.fare_sessions.specs.declared.closing.ClosingFault.TheVariants as closing
@@ -26,11 +26,20 @@ refusal_of (Ok v) = None
 refusal_of (Err (Because why)) = Some why
 refusal_of (Err (Failed f)) = None
 
--- what a bill of a day is of, in an owner's ledger: the day is closed of each device, and these are the taps from where its week begins to the day
-pub record HasBasis (sc : SchemeValue) (l : LedgerValue) (day : ℕ) (rows : List RecordValue) : Type 0 where
+-- the first device of the scheme whose day an owner's ledger has neither closed nor its lane retired
+abbrev pub open_in : SchemeValue → LedgerValue → ℕ → Option ℕ
+open_in sc l day = first_open sc.start l.closed l.retired day sc.devices
+
+-- the devices whose lanes it has retired, and whose day it has not closed
+abbrev pub short_in : SchemeValue → LedgerValue → ℕ → List ℕ
+short_in sc l day = short_devices sc.start l.closed l.retired day sc.devices
+
+-- what a bill of a day is of, in an owner's ledger: of each device the day is closed or the lane retired, these are the taps from where its week begins to the day, and of these devices it is short
+pub record HasBasis (sc : SchemeValue) (l : LedgerValue) (day : ℕ) (rows : List RecordValue) (devices : List ℕ) : Type 0 where
   pub valid : IsScheme sc
   pub start : l.start ≡ sc.start
-  pub closed : first_open sc.start l.closed day sc.devices ≡ None
+  pub closed : open_in sc l day ≡ None
+  pub short : devices ≡ short_in sc l day
   pub taps : AreTapsBetween l (week_start sc day) day rows
 
 -- CLOSES
@@ -79,8 +88,8 @@ module _ {O L : Type 0} (outbox : O → Standing OutboxValue) (ledger : L → St
     pub sound : AreSound outbox ledger old → AreSound outbox ledger new
     pub same : AreClean outbox ledger new → AreSound outbox ledger old → (k : StoresValue) → MayStandAs outbox ledger new k → MayStandAs outbox ledger old k
 
-  -- the first of these refusals that applies: the owner is not registered, the day is before the first one, or it is not closed of this device, the first such one
+  -- the first of these refusals that applies: the owner is not registered, the day is before the first one, or of this device, the first such one, it is not closed and the lane not retired
   pub record IsBillRefusal (old : Hub O L) (owner day : ℕ) (refused : Option BillFault) : Type 0 where
     pub unknown : (refused ≡ Some UnknownOwner) ↔ (position_of_owner old.scheme owner ≡ None)
     pub early : (refused ≡ Some BeforeStart) ↔ ((position_of_owner old.scheme owner ≢ None) × (day < old.scheme.start))
-    pub not_closed : (device : ℕ) → refused ≡ Some (NotClosed device) → (h : StoresValue) → MayStandAs outbox ledger old h → first_open old.scheme.start (h.ledgers owner).closed day old.scheme.devices ≡ Some device
+    pub not_closed : (device : ℕ) → refused ≡ Some (NotClosed device) → (h : StoresValue) → MayStandAs outbox ledger old h → open_in old.scheme (h.ledgers owner) day ≡ Some device

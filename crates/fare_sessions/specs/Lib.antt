@@ -5,3 +5,4 @@ pub mod Running
 pub mod Boundaries
 pub mod Promises
 pub mod Billing
+pub mod Retiring

@@ -12,6 +12,7 @@ mod course;
 mod hub;
 mod reopening;
 mod report;
+mod retiring;
 mod running;
 mod session;
 
@@ -19,4 +20,5 @@ pub use closing::{ClosingFault, day_after};
 pub use hub::Hub;
 pub use reopening::stores_stand_again;
 pub use report::SessionsReport;
+pub use retiring::RetiringFault;
 pub use session::Session;

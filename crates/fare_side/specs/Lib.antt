@@ -1,4 +1,5 @@
 pub mod OpenDays
+pub mod Weeks
 pub mod Answering
 pub mod Resuming
 pub mod Acknowledging

@@ -10,7 +10,8 @@ pub enum BillFault {
     /// The day is before the scheme's first one.
     #[error("the day is before the first one")]
     BeforeStart,
-    /// The owner has not closed the day of this device, the first such one in order of registration.
+    /// The owner has neither closed the day of this device nor retired its lane, the first such one in order of
+    /// registration.
     #[error("the day of a device is not closed")]
     NotClosed { device: DeviceId },
 }

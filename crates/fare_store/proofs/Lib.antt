@@ -1,6 +1,7 @@
 pub mod FailingLemmas
 pub mod PlainLemmas
 pub mod Tables
+pub mod Retired
 pub mod Entries
 pub mod Keys
 pub mod Readings

@@ -7,9 +7,11 @@ use Rattle.fare_scheme.specs.Words.{position_of_device}
 use Rattle.fare_owner.specs.TapJudged.{tap_judged}
 use Rattle.fare_owner.specs.StatementJudged.{statement_judged}
 use Rattle.fare_owner.specs.CloseJudged.{close_judged}
+use Rattle.fare_owner.specs.RetireJudged.{retire_judged}
 use Rattle.fare_owner.specs.declared.tap.TapFault.{TapFault}
 use Rattle.fare_owner.specs.declared.statement.StatementFault.{StatementFault}
 use Rattle.fare_owner.specs.declared.closing.CloseFault.{CloseFault}
+use Rattle.fare_owner.specs.declared.retiring.RetireFault.{RetireFault}
 use Rattle.fare_store.specs.Tables.{put, put2}
 
 pub record LedgerValue : Type 0 where
@@ -24,6 +26,8 @@ pub record LedgerValue : Type 0 where
   pub stated : ℕ → ℕ → Option ℕ
   -- how many days of a device are closed, from the scheme's first on
   pub closed : ℕ → ℕ
+  -- whether its lane of a device is retired: nothing more of it is taken, stated or closed
+  pub retired : ℕ → Bool
 
 -- it was made with this scheme
 pub record IsOfScheme (sc : SchemeValue) (v : LedgerValue) : Type 0 where
@@ -34,6 +38,7 @@ pub record IsEmptyLedger (v : LedgerValue) : Type 0 where
   pub taken : (device : ℕ) → v.taken device ≡ []
   pub stated : (device day : ℕ) → v.stated device day ≡ None
   pub closed : (device : ℕ) → v.closed device ≡ 0
+  pub retired : (device : ℕ) → v.retired device ≡ false
 
 abbrev pub is_mine : LedgerValue → ℕ → ℕ → Bool
 is_mine v owner device = (owner == v.owner) && v.knows device
@@ -47,24 +52,31 @@ closed_through v device = if v.closed device == 0 then None else Some (v.start +
 
 -- TAKE
 abbrev pub take_judged : LedgerValue → RecordValue → Result Unit TapFault
-take_judged v r = tap_judged (is_mine v r.owner r.device) (length (v.taken r.device)) (is_closed v r.device r.tap.day) r.lane
+take_judged v r = tap_judged (is_mine v r.owner r.device) (length (v.taken r.device)) (is_closed v r.device r.tap.day) r.lane (v.retired r.device)
 
 abbrev pub took : RecordValue → LedgerValue → LedgerValue
 took r v = record v { taken = put v.taken r.device (v.taken r.device ++ r ∷ []) }
 
 -- STATE
 abbrev pub state_judged : LedgerValue → StatementValue → Result Unit StatementFault
-state_judged v s = statement_judged (is_mine v s.owner s.device) (v.stated s.device s.day) s.count
+state_judged v s = statement_judged (is_mine v s.owner s.device) (v.stated s.device s.day) s.count (v.retired s.device)
 
 abbrev pub with_statement : StatementValue → LedgerValue → LedgerValue
 with_statement s v = record v { stated = put2 v.stated s.device s.day (Some s.count) }
 
 -- CLOSE
 abbrev pub close_of : LedgerValue → ℕ → ℕ → Result Unit CloseFault
-close_of v device day = close_judged (v.stated device day) (is_closed v device day) (day == v.start + v.closed device) (day_count (v.taken device) day)
+close_of v device day = close_judged (v.stated device day) (is_closed v device day) (day == v.start + v.closed device) (day_count (v.taken device) day) (v.retired device)
 
 abbrev pub with_close : ℕ → LedgerValue → LedgerValue
 with_close device v = record v { closed = put v.closed device (v.closed device + 1) }
+
+-- RETIRE
+abbrev pub retire_of : LedgerValue → ℕ → Result Unit RetireFault
+retire_of v device = retire_judged (v.knows device) (v.retired device)
+
+abbrev pub with_retired : ℕ → LedgerValue → LedgerValue
+with_retired device v = record v { retired = put v.retired device true }
 
 -- TAPS BETWEEN TWO DAYS
 -- the one stands before the other, by day, moment, device and lane

@@ -6,12 +6,12 @@ ghost use Rattle.fare_store.specs.PlainLedgerWords.{plain_ledger};
 
 use crate::failing::fails_now;
 use crate::{Fault, Ledger, PlainLedger, Refused};
-use fare_owner::{CloseFault, StatementFault, TapFault};
+use fare_owner::{CloseFault, RetireFault, StatementFault, TapFault};
 use fare_record::{Day, DeviceId, OwnerId, Record, Statement};
 
 /// A ledger in memory that fails at one of its calls, for tests: that call answers `Store` and does nothing, and all
-/// others are passed on to the ledger inside. Every call of `Ledger` counts but `owner`, and those of `take` and `state`
-/// that are answered `NotMine`, which ask nothing of a store.
+/// others are passed on to the ledger inside. Every call of `Ledger` counts but `owner`, and those of `take`, `state` and
+/// `retire` that are answered `NotMine`, which ask nothing of a store.
 ///
 /// Its count of failures is one once that call was made.
 #[derive(Drop)]
@@ -76,6 +76,13 @@ impl Ledger for FailingLedger {
         self.ledger.stated(device, day)
     }
 
+    fn retired(&mut self, device: DeviceId) -> Result<bool, Fault> {
+        if fails_now(&mut self.left) {
+            return Err(Fault::Store);
+        }
+        self.ledger.retired(device)
+    }
+
     fn take(&mut self, row: &Record) -> Result<(), Refused<TapFault>> {
         if !self.ledger.is_mine(row.owner(), row.device()) {
             return self.ledger.take(row);
@@ -101,6 +108,16 @@ impl Ledger for FailingLedger {
             return Err(Refused::Failed(Fault::Store));
         }
         self.ledger.close(device, day)
+    }
+
+    fn retire(&mut self, device: DeviceId) -> Result<(), Refused<RetireFault>> {
+        if !self.ledger.knows(device) {
+            return self.ledger.retire(device);
+        }
+        if fails_now(&mut self.left) {
+            return Err(Refused::Failed(Fault::Store));
+        }
+        self.ledger.retire(device)
     }
 
     fn taps_between(&mut self, from: Day, to: Day) -> Result<Vec<Record>, Fault> {

@@ -1,17 +1,18 @@
 ghost use Rattle.std.specs.Prelude.{◌≡◌, ℕ, ◌↔◌, IsTrue, IsFalse, Err, length};
 ghost use Rattle.fare_owner.specs.declared.tap.TapFault.TheVariants as tap_fault;
 ghost use Rattle.fare_owner.specs.declared.statement.StatementFault.TheVariants as statement_fault;
+ghost use Rattle.fare_owner.specs.declared.retiring.RetireFault.TheVariants as retire_fault;
 ghost use Rattle.fare_store.specs.declared.fault.Refused.TheVariants.{Because};
 ghost use Rattle.fare_record.specs.Lanes.{day_count};
 ghost use Rattle.fare_store.specs.Standing.{Standing, IsSound, Reads, Writes};
-ghost use Rattle.fare_store.specs.LedgerWords.{LedgerValue, IsEmptyLedger, closed_through, is_mine, take_judged, took, state_judged, with_statement, close_of, with_close, AreTapsBetween};
+ghost use Rattle.fare_store.specs.LedgerWords.{LedgerValue, IsEmptyLedger, closed_through, is_mine, take_judged, took, state_judged, with_statement, close_of, with_close, retire_of, with_retired, AreTapsBetween};
 
 use crate::{Fault, Refused};
-use fare_owner::{CloseFault, StatementFault, TapFault};
+use fare_owner::{CloseFault, RetireFault, StatementFault, TapFault};
 use fare_record::{Day, DeviceId, OwnerId, Record, Statement};
 
-/// The ledger of an owner: by device, the taps that it has taken, the statements and the closed days. Each call
-/// but `owner` may want memory, and may find that the store fails; then nothing has changed.
+/// The ledger of an owner: by device, the taps that it has taken, the statements, the closed days, and whether its
+/// lane is retired. Each call but `owner` may want memory, and may find that the store fails; then nothing has changed.
 pub trait Ledger {
     /// What it holds, and how it stands.
     ghost standing: { Self → Standing LedgerValue };
@@ -20,7 +21,7 @@ pub trait Ledger {
     fn owner(&self) -> OwnerId
         ensures { result ≡ (standing self.now).value.owner };
 
-    /// Whether it has no tap, no statement and no closed day.
+    /// Whether it has no tap, no statement, no closed day and no retired lane.
     fn is_empty(&mut self) -> Result<bool, Fault>
         ensures { Reads (standing self.old) (standing self.new) (λ empty. IsTrue empty ↔ IsEmptyLedger (standing self.old).value) result };
 
@@ -39,6 +40,10 @@ pub trait Ledger {
     /// The stated count of a device's day, if it is stated.
     fn stated(&mut self, device: DeviceId, day: Day) -> Result<Option<u64>, Fault>
         ensures { Reads (standing self.old) (standing self.new) (λ count. count ≡ (standing self.old).value.stated device day) result };
+
+    /// Whether its lane of a device is retired.
+    fn retired(&mut self, device: DeviceId) -> Result<bool, Fault>
+        ensures { Reads (standing self.old) (standing self.new) (λ retired. retired ≡ (standing self.old).value.retired device) result };
 
     /// Takes the owner's next tap of a device.
     ///
@@ -63,6 +68,15 @@ pub trait Ledger {
     /// Refused by the first case of `CloseFault` that applies.
     fn close(&mut self, device: DeviceId, day: Day) -> Result<(), Refused<CloseFault>>
         ensures { Writes (standing self.old) (standing self.new) (close_of (standing self.old).value device day) (with_close device (standing self.old).value) result };
+
+    /// Retires the owner's lane of a device that will never be read out: from then on nothing of it is taken, stated or
+    /// closed, for good.
+    ///
+    /// Refused by the first case of `RetireFault` that applies; `NotMine` as in `take`.
+    fn retire(&mut self, device: DeviceId) -> Result<(), Refused<RetireFault>>
+        ensures not_mine { (result ≡ Err (Because retire_fault.NotMine)) ↔ IsFalse ((standing self.old).value.knows device) }
+        ensures unasked { result ≡ Err (Because retire_fault.NotMine) → self.new ≡ self.old }
+        ensures does { IsTrue ((standing self.old).value.knows device) → Writes (standing self.old) (standing self.new) (retire_of (standing self.old).value device) (with_retired device (standing self.old).value) result };
 
     /// The taps of the days from one to another, by day, moment, device and lane number.
     fn taps_between(&mut self, from: Day, to: Day) -> Result<Vec<Record>, Fault>

@@ -8,7 +8,7 @@ mod taking;
 
 use fare_record::{Day, DeviceId, OwnerId, Record};
 use std::alloc::Global;
-use std::collections::HashMap;
+use std::collections::{HashMap, HashSet};
 
 // A tap, by its device and its place among the device's.
 type Mark = (DeviceId, usize);
@@ -29,6 +29,8 @@ pub struct PlainLedger {
     stated: HashMap<(DeviceId, Day), u64>,
     // The last closed day of each device that has one.
     closed: HashMap<DeviceId, Day>,
+    // The devices whose lanes are retired.
+    retired: HashSet<DeviceId>,
     ghost numbered: { AreNumbered (λ device. items_of (get nat_eq taken device)) },
     ghost marked: { AreMarked (λ device. items_of (get nat_eq taken device)) (λ day. marks_of (get nat_eq days day)) },
     ghost counted: { AreCounted (λ device. items_of (get nat_eq taken device)) (get same_day counts) },
@@ -48,11 +50,13 @@ impl Drop for PlainLedger {
             counts,
             stated,
             closed,
+            retired,
         } = self;
         drop(taken);
         drop(days);
         drop(counts);
         drop(stated);
         drop(closed);
+        drop(retired);
     }
 }

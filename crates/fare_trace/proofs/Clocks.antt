@@ -59,6 +59,7 @@ same_step sc clock s (event.Forward owner device) same = refl
 same_step sc clock s (event.Fetch owner) same = refl
 same_step sc clock s (event.Take owner) same = refl
 same_step sc clock s (event.Close owner device day) same = refl
+same_step sc clock s (event.Retire owner device) same = refl
 same_step sc clock s (event.Prune owner device) same = refl
 same_step sc clock s (event.Resume device) same = refl
 same_step sc clock s (event.RestartDevice device) same = refl

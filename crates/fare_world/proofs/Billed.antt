@@ -1,218 +1,195 @@
--- Each bill of a run is of exactly the taps that the devices numbered, whatever comes after it.
-use Rattle.std.proofs.Common.{◌≡◌, ℕ, zero, suc, ◌<◌, ◌≤◌, List, [], ◌∷◌, ◌++◌, Some, None, Bool, true, false, refl, sym, ap, ◌∙◌, arith, inl, inr}
-use Rattle.std.specs.Prelude.{◌&&◌, ◌⊎◌, Contains, Option, Result, Ok, Err, nat_le, nat_lt, slice_get, if◌then◌else◌}
+-- Each bill of a run, and each settlement, is of what the events and their replies tell, whatever comes after it.
+use Rattle.std.proofs.Common.{◌≡◌, ℕ, suc, ◌+◌, ◌≤◌, Bool, true, false, List, [], ◌∷◌, ◌++◌, length, take, Some, None, refl, sym, ap, ◌∙◌, arith, inl, inr}
+use Rattle.std.specs.Prelude.{◌&&◌, ◌||◌, not, Contains, if◌then◌else◌, Option, Result, Ok, Err, nat_lt}
 use Rattle.std.specs.List.{flat_map}
 use Rattle.std.proofs.lemmas.Bool.Decides.{nat_tests}
-use Rattle.std.proofs.lemmas.List.{append-nil}
-use Rattle.std.proofs.lemmas.List.Elements.{filter-append}
+use Rattle.std.proofs.lemmas.Option.{slice_get_within, get_or_from_slice_get}
 use Rattle.fare_record.specs.Values.{RecordValue}
-use Rattle.fare_record.specs.Lanes.{part}
+use Rattle.fare_record.specs.Lanes.{part, lane_of}
 use Rattle.fare_scheme.specs.declared.entry.Placement.{Placement}
 use Rattle.fare_scheme.specs.Values.{SchemeValue}
 use Rattle.fare_cap.specs.Fares.{week_start}
 use Rattle.fare_cap.specs.Bills.{BillValue, bill_of}
-use Rattle.fare_cap.proofs.Sorting.{filter_no}
 use Rattle.fare_settle.specs.declared.settled.Settled.{Settled}
 use Rattle.fare_settle.specs.Settling.{settlement_of}
 use Rattle.fare_side.specs.declared.bill_fault.BillFault.{BillFault}
 use Rattle.fare_side.specs.declared.bill_fault.BillFault.TheVariants as fault
+use Rattle.fare_side.specs.OpenDays.{is_closed, first_open, short_devices, where_open}
 use Rattle.fare_event.specs.declared.event.Event.{Event}
 use Rattle.fare_event.specs.declared.event.Event.TheVariants as event
 use Rattle.fare_event.specs.declared.reply.Reply.{Reply}
 use Rattle.fare_event.specs.declared.reply.Reply.TheVariants as reply
-use Rattle.fare_world.specs.System.{System, start, numbered_for}
-use Rattle.fare_side.specs.OpenDays.{is_closed, first_open, where_open}
+use Rattle.fare_world.specs.System.{System, start, numbered_for, taken_by}
 use Rattle.fare_world.specs.Knowing.{knows_owner}
 use Rattle.fare_world.specs.Steps.{step, after, replies}
-use Rattle.fare_world.specs.Headline.{Lane, lane_at, IsLaneStep, of_days, IsAnswered}
-use Rattle.std.proofs.lemmas.Option.{slice_get_within, get_or_from_slice_get}
-use Rattle.fare_world.specs.Billing.{first_open_of, ClosedBefore, IsMet, bill_judged, unless, told, bill_refusal, basis, basis_told, BillsExactly}
+use Rattle.fare_world.specs.Headline.{numbered, of_days, IsAnswered}
+use Rattle.fare_world.specs.Billing.{first_open_of, short_of, counted_for, IsMet, bill_judged, unless, told, bill_refusal, basis, took_before, was_retired, was_closed, counted_told, basis_told, short_told, bill_told, settlement_told, BillsExactly}
 use Rattle.fare_world.specs.Kept.{IsSystem}
 use Rattle.fare_store.proofs.Entries.{if_all}
-use Rattle.fare_world.proofs.Kept.{moves_step}
-use Rattle.fare_world.proofs.Showing.{stated_past}
+use Rattle.fare_world.proofs.InRun.{at_place, at_end, system_at, answered_at, told_at, taken_on, closed_on}
 use Rattle.fare_world.proofs.Stepping.{start_is, taps_after}
-use Rattle.fare_world.proofs.Closing.{stays_closed, close_tells}
 use Rattle.fare_world.proofs.OneOrder.{In, in_at}
-use Rattle.fare_world.proofs.WeekInOrder.{closed_all}
+use Rattle.fare_world.proofs.WeekInOrder.{settled_all}
 use Rattle.fare_world.proofs.BillsShown.{none_is_open}
 
--- A CLOSED DAY GAINS NO TAP
-other_days : (from to : ℕ) (r : RecordValue) (rs : List RecordValue) → to < r.tap.day → of_days from to (rs ++ r ∷ []) ≡ of_days from to rs
-other_days from to r rs later =
-    filter-append among rs (r ∷ []) ∙ ap (λ l. of_days from to rs ++ l) (filter_no among r [] out) ∙ append-nil (of_days from to rs)
-  where
-    among : RecordValue → Bool
-    among q = nat_le from q.tap.day && nat_le q.tap.day to
+-- THE RUN FROM THE START
+module _ (sc : SchemeValue) (es : List Event) where
+  abbrev pub rs : List Reply
+  rs = replies sc (start sc) es
 
-    out : among r ≡ false
-    out = grind (arith, nat_tests)
+  abbrev pub at : ℕ → System
+  at place = at_place sc (start sc) es place
 
-still_numbered : (first : ℕ) (old new : Lane) (from to : ℕ) → IsLaneStep first old new → to < old.day → of_days from to new.numbered ≡ of_days from to old.numbered
-still_numbered first old new from to is past =
-    elim is [
-      | inl n ↦ ap (λ (l : Lane). of_days from to l.numbered) n.is ∙ other_days from to n.tap old.numbered (omega (arith, n.of_day, past))
-      | inr a ↦ elim a [
-        | inl t ↦ ap (λ (l : Lane). of_days from to l.numbered) t
-        | inr b ↦ elim b [
-          | inl k ↦ ap (λ (l : Lane). of_days from to l.numbered) k.is
-          | inr c ↦ elim c [
-            | inl z ↦ ap (λ (l : Lane). of_days from to l.numbered) z.is
-            | inr same ↦ ap (λ (l : Lane). of_days from to l.numbered) same
-          ]
-        ]
-      ]
-    ]
+  or_nothing : (b : Bool) → (b || false) ≡ b
+  or_nothing true = refl
+  or_nothing false = refl
 
-stays_numbered : (sc : SchemeValue) (s : System) (es : List Event) → IsSystem sc s → (o d from to : ℕ) → is_closed sc.start (s.lanes o d).closed to ≡ true → of_days from to (numbered_for (after sc s es) o d) ≡ of_days from to (numbered_for s o d)
-stays_numbered sc s [] h o d from to closed = refl
-stays_numbered sc s (e ∷ es) h o d from to closed =
-    let past = stated_past sc s h o d to ((h.lanes o d).closed to closed) in
-    stays_numbered sc (step sc s e).0 es (moves_step sc s e h).system o d from to (stays_closed sc s e h o d to closed)
-    ∙ still_numbered sc.start (lane_at sc s o d) (lane_at sc (step sc s e).0 o d) from to ((moves_step sc s e h).lane o d) past
+  took_at : (place o d : ℕ) → ((at place).lanes o d).took ≡ took_before es rs place o d
+  took_at place o d = omega (arith, (told_at sc (start sc) es place o d (start_is sc)).took)
 
--- THE BASIS
-flat_same : {X Y : Type 0} (f g : X → List Y) (xs : List X) → ((x : X) → In x xs → f x ≡ g x) → flat_map f xs ≡ flat_map g xs
-flat_same f g [] same = refl
-flat_same f g (x ∷ xs) same = (λ i. same x (inl refl) i ++ flat_same f g xs (λ y there. same y (inr there)) i)
+  retired_at : (place o d : ℕ) → ((at place).lanes o d).retired ≡ was_retired es rs place o d
+  retired_at place o d = (told_at sc (start sc) es place o d (start_is sc)).retired ∙ or_nothing (was_retired es rs place o d)
 
--- where no day of it is open, the basis stays
-basis_stays : (sc : SchemeValue) (s : System) (es : List Event) → IsSystem sc s → (o day : ℕ) → first_open_of sc s o day ≡ None → basis sc s o day ≡ basis sc (after sc s es) o day
-basis_stays sc s es h o day none =
-    flat_same (λ (d : ℕ × Placement). of_days (week_start sc day) day (numbered_for s o d.0)) (λ (d : ℕ × Placement). of_days (week_start sc day) day (numbered_for (after sc s es) o d.0)) sc.devices
-    (λ d i. sym (stays_numbered sc s es h o d.0 (week_start sc day) day (closed_all sc.start (λ e. (s.lanes o e).closed) day sc.devices none d i)))
+  closed_at : (place o d day : ℕ) → is_closed sc.start ((at place).lanes o d).closed day ≡ was_closed es rs place o d day
+  closed_at place o d day = (told_at sc (start sc) es place o d (start_is sc)).closed day ∙ ap (λ b. was_closed es rs place o d day || b) nothing ∙ or_nothing (was_closed es rs place o d day)
+    where
+      nothing : is_closed sc.start 0 day ≡ false
+      nothing = grind (arith, nat_tests)
 
-pub basis_after : (sc : SchemeValue) (es : List Event) (o day : ℕ) → basis sc (after sc (start sc) es) o day ≡ basis_told sc es (replies sc (start sc) es) o day
-basis_after sc es o day =
-    flat_same (λ (d : ℕ × Placement). of_days (week_start sc day) day (numbered_for (after sc (start sc) es) o d.0)) _ sc.devices
-    (λ d i. ap (λ l. of_days (week_start sc day) day (part o l)) (taps_after sc (start sc) es d.0 (start_is sc)))
+  -- what the devices number, in the whole run
+  all_numbered : (o d : ℕ) → numbered_for (after sc (start sc) es) o d ≡ lane_of o d (numbered sc es rs)
+  all_numbered o d = ap (part o) (taps_after sc (start sc) es d (start_is sc))
 
--- WHAT A REPLY TELLS
-judged_closed : (sc : SchemeValue) (s : System) (o day : ℕ) → bill_judged sc s o day ≡ Ok tt → first_open_of sc s o day ≡ None
-judged_closed sc s o day =
-    if_all (knows_owner sc o) (λ (r : Result Unit BillFault). r ≡ Ok tt → first_open_of sc s o day ≡ None) (if nat_lt day sc.start then Err fault.BeforeStart else where_open (first_open_of sc s o day)) (Err fault.UnknownOwner)
-    (λ _. if_all (nat_lt day sc.start) (λ (r : Result Unit BillFault). r ≡ Ok tt → first_open_of sc s o day ≡ None) (Err fault.BeforeStart) (where_open (first_open_of sc s o day))
-    (λ _ e. absurd (cc)) (λ _ e. none_is_open (first_open_of sc s o day) e))
-    (λ _ e. absurd (cc))
+  -- WHAT COUNTS
+  -- of a retired lane
+  counted_retired : (place o d : ℕ) → was_retired es rs place o d ≡ true → counted_for (at place) o d ≡ counted_told sc es rs place o d
+  counted_retired place o d is =
+      ap (λ b. if b then taken_by (at place) o d else numbered_for (at place) o d) (retired_at place o d ∙ is)
+      ∙ taken_on sc (start sc) es place o d (start_is sc)
+      ∙ (λ i. take (took_at place o d i) (all_numbered o d i))
+      ∙ sym (ap (λ b. if b then take (took_before es rs place o d) (lane_of o d (numbered sc es rs)) else lane_of o d (numbered sc es rs)) is)
 
--- a value is told only where it is judged so, and then it is this one
-tells : {V : Type 0} (tell : V → Reply) (untell : Reply → Option V) → ((v : V) → untell (tell v) ≡ Some v) → ((why : BillFault) → untell (reply.Refused (bill_refusal why)) ≡ None) → (judged : Result Unit BillFault) (v w : V) → told tell (unless judged v) ≡ tell w → (judged ≡ Ok tt) × (w ≡ v)
-tells tell untell known unknown (Ok u) v w e =
-    let same : Some v ≡ Some w = sym (known v) ∙ ap untell e ∙ known w in
-    let is : w ≡ v = cc in
-    (refl, is)
-tells tell untell known unknown (Err why) v w e =
-    let none : None ≡ Some w = sym (unknown why) ∙ ap untell e ∙ known w in
-    absurd (cc)
+  -- of another
+  counted_working : (place o d : ℕ) → was_retired es rs place o d ≡ false → (counted_for (at place) o d ≡ numbered_for (at place) o d) × (counted_told sc es rs place o d ≡ numbered_for (after sc (start sc) es) o d)
+  counted_working place o d is = (
+      ap (λ b. if b then taken_by (at place) o d else numbered_for (at place) o d) (retired_at place o d ∙ is),
+      ap (λ b. if b then take (took_before es rs place o d) (lane_of o d (numbered sc es rs)) else lane_of o d (numbered sc es rs)) is ∙ sym (all_numbered o d),
+    )
 
-abbrev bill_in : Reply → Option BillValue
-bill_in (reply.Bill o day b) = Some b
-bill_in r = None
+  by_test : (P : Type 0) (b : Bool) → (b ≡ true → P) → (b ≡ false → P) → P
+  by_test P true p q = p refl
+  by_test P false p q = q refl
 
-abbrev shares_in : Reply → Option (List Settled)
-shares_in (reply.Settlement o day shares) = Some shares
-shares_in r = None
+  first_of : (a b : Bool) → (a || b) ≡ true → b ≡ false → a ≡ true
+  first_of true b holds other = refl
+  first_of false b holds other =
+      let both : false ≡ true = sym other ∙ holds in
+      absurd (cc)
 
-same_event : {X : Type 0} {x y : X} → Some x ≡ Some y → x ≡ y
-same_event e = cc
+  -- where the day is closed or the lane retired, what counts then is what is told
+  counted_is : (place o d from to : ℕ) → (is_closed sc.start ((at place).lanes o d).closed to || ((at place).lanes o d).retired) ≡ true → of_days from to (counted_for (at place) o d) ≡ of_days from to (counted_told sc es rs place o d)
+  counted_is place o d from to done =
+      by_test (of_days from to (counted_for (at place) o d) ≡ of_days from to (counted_told sc es rs place o d)) (was_retired es rs place o d) (λ is. ap (of_days from to) (counted_retired place o d is)) (λ is.
+      let both = counted_working place o d is in
+      let closed = first_of (is_closed sc.start ((at place).lanes o d).closed to) ((at place).lanes o d).retired done (retired_at place o d ∙ is) in
+      ap (of_days from to) both.0 ∙ sym (closed_on sc (start sc) es place o d from to (start_is sc) closed) ∙ sym (ap (of_days from to) both.1))
 
-bill_told : (sc : SchemeValue) (s : System) (es : List Event) → IsSystem sc s → (o day i : ℕ) (b : BillValue) → IsAnswered es (replies sc s es) i (event.Bill o day) (reply.Bill o day b) → b ≡ bill_of sc (basis sc (after sc s es) o day) day
-bill_told sc s [] h o day i b at = absurd (nothing i at.event)
-  where
-    nothing : (i : ℕ) → slice_get [] i ≡ Some (event.Bill o day) → ⊥
-    nothing i is = absurd (cc)
-bill_told sc s (f ∷ es) h o day zero b at =
-    let is : f ≡ event.Bill o day = same_event at.event in
-    let answer : (step sc s f).1 ≡ reply.Bill o day b = same_event at.reply in
-    let tell = tells (reply.Bill o day) bill_in (λ v. refl) (λ why. refl) (bill_judged sc s o day) (bill_of sc (basis sc s o day) day) b (ap (λ g. (step sc s g).1) (sym is) ∙ answer) in
-    tell.1 ∙ ap (λ rs. bill_of sc rs day) (basis_stays sc s (f ∷ es) h o day (judged_closed sc s o day tell.0))
-bill_told sc s (f ∷ es) h o day (suc i) b at = bill_told sc (step sc s f).0 es (moves_step sc s f h).system o day i b (record { event = at.event; reply = at.reply })
+  -- THE BASIS
+  flat_same : {X Y : Type 0} (f g : X → List Y) (xs : List X) → ((x : X) → In x xs → f x ≡ g x) → flat_map f xs ≡ flat_map g xs
+  flat_same f g [] same = refl
+  flat_same f g (x ∷ xs) same = (λ i. same x (inl refl) i ++ flat_same f g xs (λ y there. same y (inr there)) i)
 
-shares_told : (sc : SchemeValue) (s : System) (es : List Event) → IsSystem sc s → (o day i : ℕ) (shares : List Settled) → IsAnswered es (replies sc s es) i (event.Settle o day) (reply.Settlement o day shares) → shares ≡ settlement_of sc (basis sc (after sc s es) o day) day
-shares_told sc s [] h o day i shares at = absurd (nothing i at.event)
-  where
-    nothing : (i : ℕ) → slice_get [] i ≡ Some (event.Settle o day) → ⊥
-    nothing i is = absurd (cc)
-shares_told sc s (f ∷ es) h o day zero shares at =
-    let is : f ≡ event.Settle o day = same_event at.event in
-    let answer : (step sc s f).1 ≡ reply.Settlement o day shares = same_event at.reply in
-    let tell = tells (reply.Settlement o day) shares_in (λ v. refl) (λ why. refl) (bill_judged sc s o day) (settlement_of sc (basis sc s o day) day) shares (ap (λ g. (step sc s g).1) (sym is) ∙ answer) in
-    tell.1 ∙ ap (λ rs. settlement_of sc rs day) (basis_stays sc s (f ∷ es) h o day (judged_closed sc s o day tell.0))
-shares_told sc s (f ∷ es) h o day (suc i) shares at = shares_told sc (step sc s f).0 es (moves_step sc s f h).system o day i shares (record { event = at.event; reply = at.reply })
+  -- where no device is open
+  basis_is : (place o day : ℕ) → first_open_of sc (at place) o day ≡ None → basis sc (at place) o day ≡ basis_told sc es rs place o day
+  basis_is place o day none =
+      flat_same (λ (d : ℕ × Placement). of_days (week_start sc day) day (counted_for (at place) o d.0)) (λ (d : ℕ × Placement). of_days (week_start sc day) day (counted_told sc es rs place o d.0)) sc.devices
+      (λ d there. counted_is place o d.0 (week_start sc day) day (settled_all sc.start (λ e. ((at place).lanes o e).closed) (λ e. ((at place).lanes o e).retired) day sc.devices none d there))
 
--- WHERE ALL COUNTS ARE MET
-none_of_closed : (start : ℕ) (closed : ℕ → ℕ) (day : ℕ) (ds : List (ℕ × Placement)) → ((d : ℕ × Placement) → In d ds → is_closed start (closed d.0) day ≡ true) → first_open start closed day ds ≡ None
-none_of_closed start closed day [] all = refl
-none_of_closed start closed day (d ∷ ds) all =
-    ap (λ t. if t then first_open start closed day ds else Some d.0) (all d (inl refl)) ∙ none_of_closed start closed day ds (λ e i. all e (inr i))
+  -- at the end, wherever it is
+  pub basis_after : (o day : ℕ) → basis sc (after sc (start sc) es) o day ≡ basis_told sc es rs (length es) o day
+  basis_after o day =
+      flat_same (λ (d : ℕ × Placement). of_days (week_start sc day) day (counted_for (after sc (start sc) es) o d.0)) (λ (d : ℕ × Placement). of_days (week_start sc day) day (counted_told sc es rs (length es) o d.0)) sc.devices
+      (λ d there. ap (of_days (week_start sc day) day) (ap (λ s. counted_for s o d.0) (sym end) ∙ same d.0))
+    where
+      end : at (length es) ≡ after sc (start sc) es
+      end = at_end sc (start sc) es
 
--- an answer that was given where all days were closed: at the system then, and of what its basis is to the end
-pub record IsAnsweredClosed (sc : SchemeValue) (end : System) (e : Event) (o day : ℕ) (r : Reply) : Type 0 where
-  pub state : System
-  pub reply_is : r ≡ (step sc state e).1
-  pub none : first_open_of sc state o day ≡ None
-  pub same : basis sc state o day ≡ basis sc end o day
+      same : (d : ℕ) → counted_for (at (length es)) o d ≡ counted_told sc es rs (length es) o d
+      same d = by_test (counted_for (at (length es)) o d ≡ counted_told sc es rs (length es) o d) (was_retired es rs (length es) o d) (counted_retired (length es) o d) (λ is.
+          let both = counted_working (length es) o d is in
+          both.0 ∙ ap (λ s. numbered_for s o d) end ∙ sym both.1)
 
-ClosedBy : SchemeValue → System → List Event → ℕ → ℕ → ℕ → ℕ → Type 0
-ClosedBy sc s es i o d day = (is_closed sc.start (s.lanes o d).closed day ≡ true) ⊎ ClosedBefore es (replies sc s es) i o d day
+  -- the devices of which a bill is short
+  short_is : (place o day : ℕ) (ds : List (ℕ × Placement)) → short_devices sc.start (λ d. ((at place).lanes o d).closed) (λ d. ((at place).lanes o d).retired) day ds ≡ short_told es rs place o day ds
+  short_is place o day [] = refl
+  short_is place o day (d ∷ ds) =
+      (λ i. if retired_at place o d.0 i && not (closed_at place o d.0 day i) then d.0 ∷ short_is place o day ds i else short_is place o day ds i)
 
-closed_by : (sc : SchemeValue) (s : System) (es : List Event) (i o d day : ℕ) → ClosedBefore es (replies sc s es) i o d day → ClosedBy sc s es i o d day
-unfolding ClosedBy
-closed_by sc s es i o d day before = inr before
+  -- WHAT A REPLY TELLS
+  judged_closed : (s : System) (o day : ℕ) → bill_judged sc s o day ≡ Ok tt → first_open_of sc s o day ≡ None
+  judged_closed s o day =
+      if_all (knows_owner sc o) (λ (r : Result Unit BillFault). r ≡ Ok tt → first_open_of sc s o day ≡ None) (if nat_lt day sc.start then Err fault.BeforeStart else where_open (first_open_of sc s o day)) (Err fault.UnknownOwner)
+      (λ _. if_all (nat_lt day sc.start) (λ (r : Result Unit BillFault). r ≡ Ok tt → first_open_of sc s o day ≡ None) (Err fault.BeforeStart) (where_open (first_open_of sc s o day))
+      (λ _ e. absurd (cc)) (λ _ e. none_is_open (first_open_of sc s o day) e))
+      (λ _ e. absurd (cc))
 
-at_first : (sc : SchemeValue) (s : System) (es : List Event) (o d day : ℕ) → ClosedBy sc s es zero o d day → is_closed sc.start (s.lanes o d).closed day ≡ true
-unfolding ClosedBy
-at_first sc s es o d day (inl closed) = closed
-at_first sc s es o d day (inr before) = absurd (omega (arith, before.1))
+  -- a value is told only where it is judged so, and then it is this one
+  tells : {V : Type 0} (tell : V → Reply) (telling : Reply → Bool) → ((why : BillFault) → telling (reply.Refused (bill_refusal why)) ≡ false) → (judged : Result Unit BillFault) (v : V) (r : Reply) → r ≡ told tell (unless judged v) → telling r ≡ true → (judged ≡ Ok tt) × (r ≡ tell v)
+  tells tell telling refused (Ok u) v r is telled = (refl, is)
+  tells tell telling refused (Err why) v r is telled =
+      let both : false ≡ true = sym (refused why) ∙ sym (ap telling is) ∙ telled in
+      absurd (cc)
 
-one_later : (sc : SchemeValue) (s : System) (f : Event) (es : List Event) → IsSystem sc s → (i o d day : ℕ) → ClosedBy sc s (f ∷ es) (suc i) o d day → ClosedBy sc (step sc s f).0 es i o d day
-unfolding ClosedBy
-one_later sc s f es h i o d day (inl closed) = inl (stays_closed sc s f h o d day closed)
-one_later sc s f es h i o d day (inr (zero, lt, at)) =
-    let is : f ≡ event.Close o d day = same_event at.event in
-    let answer : (step sc s f).1 ≡ reply.Closed d day = same_event at.reply in
-    let closed = close_tells sc s o d day (ap (λ g. (step sc s g).1) (sym is) ∙ answer) in
-    inl (ap (λ g. is_closed sc.start ((step sc s g).0.lanes o d).closed day) is ∙ closed)
-one_later sc s f es h i o d day (inr (suc j, lt, at)) = inr (j, omega (arith, lt), record { event = at.event; reply = at.reply })
+  abbrev is_bill : Reply → Bool
+  is_bill (reply.Bill o day b short) = true
+  is_bill r = false
 
-closed_then : (sc : SchemeValue) (s : System) (es : List Event) → IsSystem sc s → (e : Event) (o day i : ℕ) (r : Reply) → IsAnswered es (replies sc s es) i e r → ((d : ℕ × Placement) → In d sc.devices → ClosedBy sc s es i o d.0 day) → IsAnsweredClosed sc (after sc s es) e o day r
-closed_then sc s [] h e o day i r at closed = absurd (nothing i at.event)
-  where
-    nothing : (i : ℕ) → slice_get [] i ≡ Some e → ⊥
-    nothing i is = absurd (cc)
-closed_then sc s (f ∷ es) h e o day zero r at closed =
-    let is : f ≡ e = same_event at.event in
-    let answer : (step sc s f).1 ≡ r = same_event at.reply in
-    let none = none_of_closed sc.start (λ d. (s.lanes o d).closed) day sc.devices (λ d there. at_first sc s (f ∷ es) o d.0 day (closed d there)) in
-    record { state = s; reply_is = sym answer ∙ ap (λ g. (step sc s g).1) is; none = none; same = basis_stays sc s (f ∷ es) h o day none }
-closed_then sc s (f ∷ es) h e o day (suc i) r at closed =
-    closed_then sc (step sc s f).0 es (moves_step sc s f h).system e o day i r (record { event = at.event; reply = at.reply }) (λ d there. one_later sc s f es h i o d.0 day (closed d there))
+  abbrev is_settlement : Reply → Bool
+  is_settlement (reply.Settlement o day shares short) = true
+  is_settlement r = false
 
-judged_ok : (sc : SchemeValue) (s : System) (o day : ℕ) → knows_owner sc o ≡ true → sc.start ≤ day → first_open_of sc s o day ≡ None → bill_judged sc s o day ≡ Ok tt
-judged_ok sc s o day known first none = (λ i. if known i then (if late i then Err fault.BeforeStart else where_open (none i)) else Err fault.UnknownOwner)
-  where
-    late : nat_lt day sc.start ≡ false
-    late = grind (arith, nat_tests)
+  bill_is : (place o day : ℕ) → first_open_of sc (at place) o day ≡ None → reply.Bill o day (bill_of sc (basis sc (at place) o day) day) (short_of sc (at place) o day) ≡ bill_told sc es rs place o day
+  bill_is place o day none = (λ i. reply.Bill o day (bill_of sc (basis_is place o day none i) day) (short_is place o day sc.devices i))
 
-contained : {X : Type 0} (xs : List X) (x : X) → In x xs → Contains xs x
-contained xs x i = let at = in_at xs x i in (at.0, slice_get_within xs at.0 x at.1, get_or_from_slice_get xs at.0 x x at.1)
+  settlement_is : (place o day : ℕ) → first_open_of sc (at place) o day ≡ None → reply.Settlement o day (settlement_of sc (basis sc (at place) o day) day) (short_of sc (at place) o day) ≡ settlement_told sc es rs place o day
+  settlement_is place o day none = (λ i. reply.Settlement o day (settlement_of sc (basis_is place o day none i) day) (short_is place o day sc.devices i))
 
-met_at : (sc : SchemeValue) (es : List Event) (e : Event) (o day i : ℕ) (r : Reply) → IsAnswered es (replies sc (start sc) es) i e r → IsMet sc es (replies sc (start sc) es) i o day → IsAnsweredClosed sc (after sc (start sc) es) e o day r
-met_at sc es e o day i r at met = closed_then sc (start sc) es (start_is sc) e o day i r at (λ d there. before d.0 (met.closed d (contained sc.devices d there)))
-  where
-    before : (d : ℕ) → ClosedBefore es (replies sc (start sc) es) i o d day → ClosedBy sc (start sc) es i o d day
-    before d closed = closed_by sc (start sc) es i o d day closed
+  -- WHERE ALL COUNTS ARE MET
+  none_of_settled : (first : ℕ) (closed : ℕ → ℕ) (retired : ℕ → Bool) (day : ℕ) (ds : List (ℕ × Placement)) → ((d : ℕ × Placement) → In d ds → (is_closed first (closed d.0) day || retired d.0) ≡ true) → first_open first closed retired day ds ≡ None
+  none_of_settled first closed retired day [] all = refl
+  none_of_settled first closed retired day (d ∷ ds) all =
+      ap (λ t. if t then first_open first closed retired day ds else Some d.0) (all d (inl refl)) ∙ none_of_settled first closed retired day ds (λ e i. all e (inr i))
 
-pub bills_exactly : (sc : SchemeValue) (es : List Event) → BillsExactly sc es (replies sc (start sc) es)
-bills_exactly sc es = record {
-  bills = λ o day i b at. bill_told sc (start sc) es (start_is sc) o day i b at ∙ ap (λ rs. bill_of sc rs day) (basis_after sc es o day);
-  settlements = λ o day i shares at. shares_told sc (start sc) es (start_is sc) o day i shares at ∙ ap (λ rs. settlement_of sc rs day) (basis_after sc es o day);
-  met = λ o day i r at met.
-      let c = met_at sc es (event.Bill o day) o day i r at met in
-      c.reply_is ∙ ap (λ (q : Result Unit BillFault). told (reply.Bill o day) (unless q (bill_of sc (basis sc c.state o day) day))) (judged_ok sc c.state o day met.known met.first c.none)
-      ∙ ap (λ rs. reply.Bill o day (bill_of sc rs day)) (c.same ∙ basis_after sc es o day);
-  met_settlement = λ o day i r at met.
-      let c = met_at sc es (event.Settle o day) o day i r at met in
-      c.reply_is ∙ ap (λ (q : Result Unit BillFault). told (reply.Settlement o day) (unless q (settlement_of sc (basis sc c.state o day) day))) (judged_ok sc c.state o day met.known met.first c.none)
-      ∙ ap (λ rs. reply.Settlement o day (settlement_of sc rs day)) (c.same ∙ basis_after sc es o day);
-}
+  contained : {X : Type 0} (xs : List X) (x : X) → In x xs → Contains xs x
+  contained xs x i = let place = in_at xs x i in (place.0, slice_get_within xs place.0 x place.1, get_or_from_slice_get xs place.0 x x place.1)
+
+  met_none : (place o day : ℕ) → IsMet sc es rs place o day → first_open_of sc (at place) o day ≡ None
+  met_none place o day met =
+      none_of_settled sc.start (λ d. ((at place).lanes o d).closed) (λ d. ((at place).lanes o d).retired) day sc.devices
+      (λ d there. (λ i. closed_at place o d.0 day i || retired_at place o d.0 i) ∙ met.settled d (contained sc.devices d there))
+
+  judged_ok : (s : System) (o day : ℕ) → knows_owner sc o ≡ true → sc.start ≤ day → first_open_of sc s o day ≡ None → bill_judged sc s o day ≡ Ok tt
+  judged_ok s o day known first none = (λ i. if known i then (if late i then Err fault.BeforeStart else where_open (none i)) else Err fault.UnknownOwner)
+    where
+      late : nat_lt day sc.start ≡ false
+      late = grind (arith, nat_tests)
+
+  pub bills_exactly : BillsExactly sc es rs
+  bills_exactly = record {
+    bills = λ o day place b short is.
+        let tell = tells (λ (v : BillValue × List ℕ). reply.Bill o day v.0 v.1) is_bill (λ why. refl) (bill_judged sc (at place) o day) (bill_of sc (basis sc (at place) o day) day, short_of sc (at place) o day) (reply.Bill o day b short) (answered_at sc (start sc) es place (event.Bill o day) (reply.Bill o day b short) is) refl in
+        tell.1 ∙ bill_is place o day (judged_closed (at place) o day tell.0);
+    settlements = λ o day place shares short is.
+        let tell = tells (λ (v : List Settled × List ℕ). reply.Settlement o day v.0 v.1) is_settlement (λ why. refl) (bill_judged sc (at place) o day) (settlement_of sc (basis sc (at place) o day) day, short_of sc (at place) o day) (reply.Settlement o day shares short) (answered_at sc (start sc) es place (event.Settle o day) (reply.Settlement o day shares short) is) refl in
+        tell.1 ∙ settlement_is place o day (judged_closed (at place) o day tell.0);
+    met = λ o day place r is met.
+        let none = met_none place o day met in
+        answered_at sc (start sc) es place (event.Bill o day) r is
+        ∙ ap (λ (q : Result Unit BillFault). told (λ (v : BillValue × List ℕ). reply.Bill o day v.0 v.1) (unless q (bill_of sc (basis sc (at place) o day) day, short_of sc (at place) o day))) (judged_ok (at place) o day met.known met.first none)
+        ∙ bill_is place o day none;
+    met_settlement = λ o day place r is met.
+        let none = met_none place o day met in
+        answered_at sc (start sc) es place (event.Settle o day) r is
+        ∙ ap (λ (q : Result Unit BillFault). told (λ (v : List Settled × List ℕ). reply.Settlement o day v.0 v.1) (unless q (settlement_of sc (basis sc (at place) o day) day, short_of sc (at place) o day))) (judged_ok (at place) o day met.known met.first none)
+        ∙ settlement_is place o day none;
+  }

@@ -11,12 +11,13 @@ use Rattle.fare_cap.specs.Fares.{week_start}
 use Rattle.fare_cap.specs.Order.{in_order}
 use Rattle.fare_store.specs.declared.fault.Refused.{Refused}
 use Rattle.fare_store.specs.declared.fault.Refused.TheVariants as refused
-use Rattle.fare_store.specs.LedgerWords.{AreTapsBetween}
+use Rattle.fare_side.specs.declared.week_taps.WeekTaps.{WeekTaps}
+use Rattle.fare_side.specs.Weeks.{open_of, IsWeekOf, short_of as ledger_short_of}
 use Rattle.fare_side.specs.declared.bill_fault.BillFault.{BillFault}
 use Rattle.fare_side.specs.declared.bill_fault.BillFault.TheVariants as fault
 use Rattle.fare_world.specs.System.{System}
-use Rattle.fare_world.specs.Billing.{first_open_of, bill_judged, basis}
-use Rattle.fare_side.specs.OpenDays.{first_open, where_open}
+use Rattle.fare_world.specs.Billing.{first_open_of, bill_judged, basis, short_of}
+use Rattle.fare_side.specs.OpenDays.{first_open, short_devices, where_open}
 use Rattle.fare_world.specs.Shown.{IsOwnerOf, OwnerShape, Shape, Shows}
 use Rattle.fare_side.specs.Answering.{Answered}
 use Rattle.fare_world.proofs.Showing.{owner_shown}
@@ -43,10 +44,13 @@ from_start sc day = le_max (monday_on_or_before day) sc.start
     le_max : (a b : ℕ) → b ≤ Rattle.std.specs.Prelude.max a b
     le_max a b = omega arith
 
-pub week_answered : {T : Type 0} (items : T → List RecordValue) (sc : SchemeValue) (h : Shape) (s : System) (o day a : ℕ) (x : OwnerShape) (r : Result T (Refused BillFault)) → Shows sc h s → IsScheme sc → position_of_owner sc o ≡ Some a → h.owners o ≡ Some x → nat_lt day sc.start ≡ false
-    → (x.ledger.start ≤ day → Answered (λ (q : Result T BillFault). MatchResult q (λ taps. (where_open (first_open x.ledger.start x.ledger.closed day sc.devices) ≡ Ok tt) × AreTapsBetween x.ledger (week_start sc day) day (items taps)) (λ why. where_open (first_open x.ledger.start x.ledger.closed day sc.devices) ≡ Err why)) r)
-    → Answered (λ (q : Result T BillFault). MatchResult q (λ taps. (bill_judged sc s o day ≡ Ok tt) × (in_order (items taps) ≡ in_order (basis sc s o day))) (λ why. bill_judged sc s o day ≡ Err why)) r
-week_answered {T} items sc h s o day a x r w valid known here from answer = by r (answer late)
+-- what the world's call answers of a week: whether there is a bill, its taps in order, and of which devices they are short
+abbrev pub WeekAnswered : SchemeValue → System → ℕ → ℕ → Result WeekTaps BillFault → Type 0
+WeekAnswered sc s o day q = MatchResult q (λ week. (bill_judged sc s o day ≡ Ok tt) × (in_order week.taps.items ≡ in_order (basis sc s o day)) × (week.short.items ≡ short_of sc s o day)) (λ why. bill_judged sc s o day ≡ Err why)
+
+pub week_answered : (sc : SchemeValue) (h : Shape) (s : System) (o day a : ℕ) (x : OwnerShape) (r : Result WeekTaps (Refused BillFault)) → Shows sc h s → IsScheme sc → position_of_owner sc o ≡ Some a → h.owners o ≡ Some x → nat_lt day sc.start ≡ false
+    → (x.ledger.start ≤ day → Answered (IsWeekOf sc x.ledger day) r) → Answered (WeekAnswered sc s o day) r
+week_answered sc h s o day a x r w valid known here from answer = by r (answer late)
   where
     shown : IsOwnerOf sc s.devices o (s.owners o) (s.lanes o) x
     shown = owner_shown sc h s o x w here
@@ -57,15 +61,16 @@ week_answered {T} items sc h s o day a x r w valid known here from answer = by r
         not_less : (a b : ℕ) → nat_lt b a ≡ false → a ≤ b
         not_less a b e = grind (arith, nat_tests)
 
-    judged : where_open (first_open x.ledger.start x.ledger.closed day sc.devices) ≡ bill_judged sc s o day
-    judged = (λ i. where_open (first_open (shown.ledger.made.start i) (λ d. shown.closed d i) day sc.devices)) ∙ sym (judged_open sc s o day a known from)
+    judged : where_open (open_of x.ledger day sc) ≡ bill_judged sc s o day
+    judged = (λ i. where_open (first_open (shown.ledger.made.start i) (λ d. shown.closed d i) (λ d. shown.retired d i) day sc.devices)) ∙ sym (judged_open sc s o day a known from)
 
-    by : (q : Result T (Refused BillFault))
-        → Answered (λ (q : Result T BillFault). MatchResult q (λ taps. (where_open (first_open x.ledger.start x.ledger.closed day sc.devices) ≡ Ok tt) × AreTapsBetween x.ledger (week_start sc day) day (items taps)) (λ why. where_open (first_open x.ledger.start x.ledger.closed day sc.devices) ≡ Err why)) q
-        → Answered (λ (q : Result T BillFault). MatchResult q (λ taps. (bill_judged sc s o day ≡ Ok tt) × (in_order (items taps) ≡ in_order (basis sc s o day))) (λ why. bill_judged sc s o day ≡ Err why)) q
+    short : ledger_short_of x.ledger day sc ≡ short_of sc s o day
+    short = (λ i. short_devices (shown.ledger.made.start i) (λ d. shown.closed d i) (λ d. shown.retired d i) day sc.devices)
+
+    by : (q : Result WeekTaps (Refused BillFault)) → Answered (IsWeekOf sc x.ledger day) q → Answered (WeekAnswered sc s o day) q
     by (Ok taps) is =
         let ok : bill_judged sc s o day ≡ Ok tt = sym judged ∙ is.0 in
         let none : first_open_of sc s o day ≡ None = none_is_open (first_open_of sc s o day) (sym (judged_open sc s o day a known from) ∙ ok) in
-        (ok, week_in_order sc s w.system o x.ledger shown.taken (week_start sc day) day (items taps) is.1 valid (from_start sc day) none)
+        (ok, week_in_order sc s w.system o x.ledger shown.taken (week_start sc day) day taps.taps.items is.1 valid (from_start sc day) none, is.2 ∙ short)
     by (Err (refused.Because why)) is = sym judged ∙ is
     by (Err (refused.Failed f)) is = tt

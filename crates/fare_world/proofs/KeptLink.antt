@@ -16,13 +16,13 @@ use Rattle.fare_world.specs.Knowing.{knows_device, knows_station, knows_owner}
 use Rattle.fare_world.specs.Tapping.{sent, send, rewound, rewind, is_waiting, state}
 use Rattle.fare_world.specs.Storing.{are_all_held}
 use Rattle.fare_world.specs.Restarting.{resumed_device, resume, restart_device, resumed_devices, restart_station}
-use Rattle.fare_world.specs.Headline.{numbered_by}
 use Rattle.fare_world.specs.Kept.{IsDevice, IsPlace, IsTurned, IsPacket, IsSystem}
 use Rattle.fare_world.proofs.Known.{station_where_placed}
 use Rattle.fare_world.proofs.Lists.{AllByRecursion-push}
 use Rattle.fare_store.proofs.Entries.{if_all, below, is_one, put_all}
 use Rattle.fare_world.proofs.Orderly.{is_orderly}
 use Rattle.fare_world.proofs.KeptParts.{Goes, devices_change, device_changes, lines_change}
+use Rattle.fare_world.proofs.Told.{IsQuiet}
 use Rattle.fare_world.proofs.KeptMoves.{Moves, keeps_same, keeps_devices, rests, stays}
 
 -- where the air gains a packet
@@ -60,7 +60,7 @@ moves_send sc s d h =
 
 -- REWIND
 -- a device that goes back to its first unacknowledged tap
-goes_back : (sc : SchemeValue) (s : System) (d : ℕ) (e : Event) (r : Reply) → numbered_by sc e r ≡ None → is_orderly e r ≡ true → IsSystem sc s → Moves sc s e (rewound s d, r)
+goes_back : (sc : SchemeValue) (s : System) (d : ℕ) (e : Event) (r : Reply) → IsQuiet sc e r → is_orderly e r ≡ true → IsSystem sc s → Moves sc s e (rewound s d, r)
 goes_back sc s d e r none fine h =
     let is = h.devices d in
     let new : DeviceState = record (s.devices d) { cursor = (s.devices d).base } in
@@ -129,7 +129,7 @@ moves_restart_station sc s st h =
     (devices_change sc s (resumed_devices sc s st).devices h
     (each (λ j a. Goes (s.devices j) a) (λ j. record { taps = refl; upto = omega arith; day = omega arith }) (λ j. record { taps = refl; upto = omega arith; day = omega arith }))
     (each (IsDevice sc) (λ j. resumes sc j (s.devices j) (h.devices j)) h.devices))
-    (record { taps = each (λ j a. a.taps ≡ (s.devices j).taps) (λ j. refl) (λ j. refl); day = each (λ j a. a.day ≡ (s.devices j).day) (λ j. refl) (λ j. refl); took = λ o j. refl; closed = λ o j. refl; held = λ o j k e. e; waits = each (λ j a. (k : ℕ) → is_waiting (s.devices j).waiting k ≡ true → (is_waiting a.waiting k ≡ true) ⊎ (are_all_held sc s.held j k ≡ true)) (λ j k w. inl w) (λ j k w. inl w) }))
+    (record { taps = each (λ j a. a.taps ≡ (s.devices j).taps) (λ j. refl) (λ j. refl); day = each (λ j a. a.day ≡ (s.devices j).day) (λ j. refl) (λ j. refl); took = λ o j. refl; closed = λ o j. refl; retired = λ o j. refl; held = λ o j k e. e; waits = each (λ j a. (k : ℕ) → is_waiting (s.devices j).waiting k ≡ true → (is_waiting a.waiting k ≡ true) ⊎ (are_all_held sc s.held j k ≡ true)) (λ j k w. inl w) (λ j k w. inl w) }))
     (λ _. stays sc s e (Refused UnknownStation) refl refl h)
   where
     e : Event

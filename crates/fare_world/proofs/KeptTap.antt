@@ -29,6 +29,7 @@ use Rattle.fare_store.proofs.Entries.{is_one, if_all, above, not_below, put_all,
 use Rattle.fare_world.proofs.Lanes.{day_count-other}
 use Rattle.fare_world.proofs.Orderly.{orderly}
 use Rattle.fare_world.proofs.KeptParts.{took_numbered, statement_grows, turned_grows, parts_grow, device_changes}
+use Rattle.fare_world.proofs.Told.{untold}
 use Rattle.fare_world.proofs.KeptMoves.{Moves, stays}
 
 -- a tap at the end of the numbered ones
@@ -70,8 +71,9 @@ numbers sc s d o p t m day h knows owned dated current lt = record {
       (put_all (IsDevice sc) s.devices d new h.devices numbered_device)
       (λ q e k holds. statement_grows sc s.devices (put s.devices d new) same_day e k q (h.held q e k holds))
       (λ q. put_all (λ e a. IsLane sc.start (part q a.taps) (length (arrived_of q a)) (s.held q e) (lane_numbers e (pending (s.owners q))) (s.lanes q e)) s.devices d new (h.lanes q) (lane_here q));
-  lane = λ q. put_all (λ e a. IsLaneStep sc.start (lane_at sc s q e) (side q e a)) s.devices d new (λ e. inr (inr (inr (inr refl)))) (here q);
+  lane = λ q. put_all (λ e a. IsLaneStep sc.start (lane_at sc s q e) (side q e a)) s.devices d new (λ e. inr (inr (inr (inr (inr refl))))) (here q);
   taps = λ e. added e ∙ sym (ap (λ x. (s.devices e).taps ++ of_device e (with_first x [])) named);
+  told = λ p j. untold sc.start (s.lanes p j);
   orderly = orderly (event.Tap d p t m) (Recorded (length v.taps + 1) (length (numbered_for s o d) + 1)) refl;
   days = λ kept. put_all (λ e a. (k : ℕ) → IsSome (station_of sc e) → IsTurned sc.start a.day k → (is_waiting a.waiting k ≡ true) ⊎ (are_all_held sc s.held e k ≡ true)) s.devices d new kept (kept d);
 }
@@ -125,6 +127,7 @@ numbers sc s d o p t m day h knows owned dated current lt = record {
         let l = h.lanes q d in
         record {
           gone = l.gone;
+          took = l.took;
           run = l.run;
           forward = omega (arith, l.forward, same_arrived q);
           stated = l.stated;
@@ -133,7 +136,7 @@ numbers sc s d o p t m day h knows owned dated current lt = record {
         }
 
     side : ℕ → ℕ → DeviceState → Lane
-    side q e a = record { numbered = part q a.taps; taken = take (s.lanes q e).took (part q a.taps); closed = is_closed sc.start (s.lanes q e).closed; day = a.day }
+    side q e a = record { numbered = part q a.taps; taken = take (s.lanes q e).took (part q a.taps); closed = is_closed sc.start (s.lanes q e).closed; day = a.day; retired = (s.lanes q e).retired }
 
     named : numbered_by sc (event.Tap d p t m) (Recorded (length v.taps + 1) (length (numbered_for s o d) + 1)) ≡ Some r
     named = λ i. record_of d p t m (length v.taps + 1) (length (numbered_for s o d) + 1) (owned i) (dated i)
@@ -145,8 +148,8 @@ numbers sc s d o p t m day h knows owned dated current lt = record {
     here q =
         let kept = take-part-push (s.lanes q d).took q v.taps r (took_numbered sc s q d h) in
         if_all (r.owner == q) (λ l. (part q (v.taps ++ r ∷ []) ≡ l) → IsLaneStep sc.start (lane_at sc s q d) (side q d new)) (part q v.taps ++ r ∷ []) (part q v.taps)
-        (λ _ e. inl (record { tap = r; of_day = current; is = λ i. record { numbered = e i; taken = kept i; closed = is_closed sc.start (s.lanes q d).closed; day = v.day } }))
-        (λ _ e. inr (inr (inr (inr (λ i. record { numbered = e i; taken = kept i; closed = is_closed sc.start (s.lanes q d).closed; day = v.day })))))
+        (λ _ e. inl (record { tap = r; of_day = current; is = λ i. record { numbered = e i; taken = kept i; closed = is_closed sc.start (s.lanes q d).closed; day = v.day; retired = (s.lanes q d).retired } }))
+        (λ _ e. inr (inr (inr (inr (inr (λ i. record { numbered = e i; taken = kept i; closed = is_closed sc.start (s.lanes q d).closed; day = v.day; retired = (s.lanes q d).retired }))))))
         (part-push q v.taps r)
 
 pub moves_tap : (sc : SchemeValue) (s : System) (d p t m : ℕ) → IsSystem sc s → Moves sc s (event.Tap d p t m) (tap sc s d p t m)
@@ -189,13 +192,14 @@ moves_turn sc s d h =
     new = record v { day = v.day + 1; waiting = v.waiting ++ v.day ∷ [] }
 
     side : ℕ → ℕ → DeviceState → Lane
-    side q j a = record { numbered = part q a.taps; taken = take (s.lanes q j).took (part q a.taps); closed = is_closed sc.start (s.lanes q j).closed; day = a.day }
+    side q j a = record { numbered = part q a.taps; taken = take (s.lanes q j).took (part q a.taps); closed = is_closed sc.start (s.lanes q j).closed; day = a.day; retired = (s.lanes q j).retired }
 
     goes : v.day < 100000 → length v.waiting < 8 → Moves sc s e (turned s d, Opened (v.day + 1))
     goes early room = record {
       system = device_changes sc s d new h (record { taps = refl; upto = omega arith; day = omega arith }) device;
-      lane = λ q. put_all (λ j a. IsLaneStep sc.start (lane_at sc s q j) (side q j a)) s.devices d new (λ j. inr (inr (inr (inr refl)))) (inr (inl refl));
+      lane = λ q. put_all (λ j a. IsLaneStep sc.start (lane_at sc s q j) (side q j a)) s.devices d new (λ j. inr (inr (inr (inr (inr refl))))) (inr (inl refl));
       taps = λ j. put_all (λ i a. a.taps ≡ (s.devices i).taps) s.devices d new (λ i. refl) refl j ∙ sym (append-nil (s.devices j).taps);
+      told = λ p j. untold sc.start (s.lanes p j);
       orderly = orderly e (Opened (v.day + 1)) refl;
       days = λ kept. put_all (λ j a. (k : ℕ) → IsSome (station_of sc j) → IsTurned sc.start a.day k → (is_waiting a.waiting k ≡ true) ⊎ (are_all_held sc s.held j k ≡ true)) s.devices d new kept (λ k known turned. here k turned (k == v.day) refl (kept d k known));
     }

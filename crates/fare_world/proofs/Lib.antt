@@ -7,6 +7,7 @@ pub mod Orderly
 pub mod Lanes
 pub mod Waiting
 pub mod KeptParts
+pub mod Told
 pub mod KeptMoves
 pub mod KeptTap
 pub mod KeptLink
@@ -25,6 +26,7 @@ pub mod WeekInOrder
 pub mod Bills
 pub mod Asks
 pub mod BillsShown
+pub mod InRun
 pub mod Billed
 pub mod Stores
 pub mod OwnersSeen

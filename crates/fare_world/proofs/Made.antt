@@ -188,6 +188,7 @@ module _ {O L : Type 0} (out : O → Standing OutboxValue) (led : L → Standing
                 taken = λ d. ap (λ (z : LedgerValue). z.taken d) v ∙ empty.taken d;
                 stated = λ d day. ap (λ (z : LedgerValue). z.stated d day) v ∙ empty.stated d day;
                 closed = λ d. ap {B = ℕ} (λ (z : LedgerValue). z.closed d) v ∙ empty.closed d;
+                retired = λ d. ap {B = Bool} (λ (z : LedgerValue). z.retired d) v ∙ empty.retired d;
                 queue = subst (Each2 (IsRoutedOf (start sc).devices p) []) (sym is.fresh.queue) tt;
                 hand = subst (Both (IsRoutedOf (start sc).devices p) None) (sym (hands k x e)) tt;
                 cursors = λ d n known f. begins sc d n (ap (option_map (λ (c : Cursor). (c.lane, c.day))) (sym (is.fresh.cursors d)) ∙ f);

@@ -1,6 +1,6 @@
 -- A run so far, and one event more.
 use Rattle.std.proofs.Common.{◌≡◌, ◌+◌, ◌-◌, ◌<◌, ◌≤◌, ℕ, zero, suc, true, List, [], ◌∷◌, ◌++◌, length, take, drop, get_or, refl, sym, ap, ◌∙◌, subst, arith, inl, inr}
-use Rattle.std.specs.Prelude.{Some, map, option_map, slice_get}
+use Rattle.std.specs.Prelude.{◌&&◌, ◌||◌, not, if◌then◌else◌, Some, map, option_map, slice_get}
 use Rattle.std.proofs.lemmas.Option.{slice_get-map, slice_get_read}
 use Rattle.std.proofs.lemmas.List.{take_more, length_push, length-take-le}
 use Rattle.fare_record.specs.Values.{RecordValue}
@@ -18,7 +18,7 @@ use Rattle.fare_cap.specs.Fares.{week_start}
 use Rattle.fare_cap.specs.Bills.{bill_of}
 use Rattle.fare_settle.specs.Settling.{settlement_of}
 use Rattle.fare_event.specs.declared.reply.Reply.TheVariants as reply
-use Rattle.fare_world.specs.Billing.{IsMet, BillsExactly}
+use Rattle.fare_world.specs.Billing.{takes, retires, closes, took_before, was_retired, was_closed, basis_told, short_told, bill_told, settlement_told, IsMet, BillsExactly}
 use Rattle.fare_world.specs.Headline.{of_days, numbered, numbered_by, with_first, IsOrderly, EachAnswer, IsAnswered, TakesNoneAfterClose}
 use Rattle.fare_world.specs.Shown.{entry, Shape, Shows, IsDeviceOf, IsOwnerOf}
 use Rattle.fare_store.specs.declared.fault.Fault.{Fault}
@@ -65,6 +65,48 @@ event-take (x ∷ es) (q ∷ rs) (suc n) e r at answered = event-take es rs n e 
 
 answered-take : (es : List Event) (rs : List Reply) (place : ℕ) {e : Event} {r : Reply} → IsAnswered es rs place e r → IsAnswered (take (length rs) es) rs place e r
 answered-take es rs place {e} {r} h = record { event = event-take es rs place e r h.event h.reply; reply = h.reply }
+
+-- what the answered events alone tell is what all of them tell
+took-take : (es : List Event) (rs : List Reply) (place o d : ℕ) → took_before (take (length rs) es) rs place o d ≡ took_before es rs place o d
+took-take [] [] place o d = refl
+took-take [] (r ∷ rs) place o d = refl
+took-take (e ∷ es) [] place o d = refl
+took-take (e ∷ es) (r ∷ rs) zero o d = refl
+took-take (e ∷ es) (r ∷ rs) (suc place) o d = ap (λ n. (if takes e r o d then 1 else 0) + n) (took-take es rs place o d)
+
+retired-take : (es : List Event) (rs : List Reply) (place o d : ℕ) → was_retired (take (length rs) es) rs place o d ≡ was_retired es rs place o d
+retired-take [] [] place o d = refl
+retired-take [] (r ∷ rs) place o d = refl
+retired-take (e ∷ es) [] place o d = refl
+retired-take (e ∷ es) (r ∷ rs) zero o d = refl
+retired-take (e ∷ es) (r ∷ rs) (suc place) o d = ap (λ b. retires e r o d || b) (retired-take es rs place o d)
+
+closed-take : (es : List Event) (rs : List Reply) (place o d day : ℕ) → was_closed (take (length rs) es) rs place o d day ≡ was_closed es rs place o d day
+closed-take [] [] place o d day = refl
+closed-take [] (r ∷ rs) place o d day = refl
+closed-take (e ∷ es) [] place o d day = refl
+closed-take (e ∷ es) (r ∷ rs) zero o d day = refl
+closed-take (e ∷ es) (r ∷ rs) (suc place) o d day = ap (λ b. closes e r o d day || b) (closed-take es rs place o d day)
+
+basis-take : (sc : SchemeValue) (es : List Event) (rs : List Reply) (place o day : ℕ) → basis_told sc (take (length rs) es) rs place o day ≡ basis_told sc es rs place o day
+basis-take sc es rs place o day = λ i. flat_map (λ (d : ℕ × Placement). of_days (week_start sc day) day (if retired-take es rs place o d.0 i then take (took-take es rs place o d.0 i) (lane_of o d.0 (numbered-take sc es rs i)) else lane_of o d.0 (numbered-take sc es rs i))) sc.devices
+
+short-take : (es : List Event) (rs : List Reply) (place o day : ℕ) (ds : List (ℕ × Placement)) → short_told (take (length rs) es) rs place o day ds ≡ short_told es rs place o day ds
+short-take es rs place o day [] = refl
+short-take es rs place o day (d ∷ ds) = λ i. if retired-take es rs place o d.0 i && not (closed-take es rs place o d.0 day i) then d.0 ∷ short-take es rs place o day ds i else short-take es rs place o day ds i
+
+bill_same : (sc : SchemeValue) (es : List Event) (rs : List Reply) (place o day : ℕ) → bill_told sc (take (length rs) es) rs place o day ≡ bill_told sc es rs place o day
+bill_same sc es rs place o day = λ i. reply.Bill o day (bill_of sc (basis-take sc es rs place o day i) day) (short-take es rs place o day sc.devices i)
+
+settlement_same : (sc : SchemeValue) (es : List Event) (rs : List Reply) (place o day : ℕ) → settlement_told sc (take (length rs) es) rs place o day ≡ settlement_told sc es rs place o day
+settlement_same sc es rs place o day = λ i. reply.Settlement o day (settlement_of sc (basis-take sc es rs place o day i) day) (short-take es rs place o day sc.devices i)
+
+met_in : (sc : SchemeValue) (es : List Event) (rs : List Reply) (o day place : ℕ) → IsMet sc es rs place o day → IsMet sc (take (length rs) es) rs place o day
+met_in sc es rs o day place met = record {
+  known = met.known;
+  first = met.first;
+  settled = λ d there. (λ i. closed-take es rs place o d.0 day i || retired-take es rs place o d.0 i) ∙ met.settled d there;
+}
 
 module _ {O L : Type 0} (out : O → Standing OutboxValue) (led : L → Standing LedgerValue) where
   -- no store was called
@@ -178,26 +220,17 @@ module _ {O L : Type 0} (out : O → Standing OutboxValue) (led : L → Standing
       let found = all o d day lane i j lt (answered-take events rs i first) (answered-take events rs j later) in
       (found.0, ap (λ l. slice_get (lane_of o d l) (lane - 1)) (sym (numbered-take sc events rs)) ∙ found.1, found.2)
 
-  -- and each bill is of what was numbered
+  -- and each bill is of what was numbered, and of retired lanes of what was taken
   pub billed_replies : (old new : World O L) (events : List Event) (rs : List Reply) → HasLeft old new events rs → StandsAt out led old (start old.scheme) → AreLive out led new → BillsExactly old.scheme events rs
   billed_replies old new events rs h fresh live =
       let sc = old.scheme in
-      let all = subst (BillsExactly sc (take (length rs) events)) (sym (h.answers (start sc) fresh live)) (bills_exactly sc (take (length rs) events)) in
+      let es = take (length rs) events in
+      let all = subst (BillsExactly sc es) (sym (h.answers (start sc) fresh live)) (bills_exactly sc es) in
       record {
-        bills = λ o day i b at. all.bills o day i b (answered-take events rs i at) ∙ ap (λ l. bill_of sc (among l o day) day) (numbered-take sc events rs);
-        settlements = λ o day i shares at. all.settlements o day i shares (answered-take events rs i at) ∙ ap (λ l. settlement_of sc (among l o day) day) (numbered-take sc events rs);
-        met = λ o day i r at met. all.met o day i r (answered-take events rs i at) (met_in o day i met) ∙ ap (λ l. reply.Bill o day (bill_of sc (among l o day) day)) (numbered-take sc events rs);
-        met_settlement = λ o day i r at met. all.met_settlement o day i r (answered-take events rs i at) (met_in o day i met) ∙ ap (λ l. reply.Settlement o day (settlement_of sc (among l o day) day)) (numbered-take sc events rs);
-      }
-    where
-      among : List RecordValue → ℕ → ℕ → List RecordValue
-      among l o day = flat_map (λ (d : ℕ × Placement). of_days (week_start old.scheme day) day (lane_of o d.0 l)) old.scheme.devices
-
-      met_in : (o day i : ℕ) → IsMet old.scheme events rs i o day → IsMet old.scheme (take (length rs) events) rs i o day
-      met_in o day i met = record {
-        known = met.known;
-        first = met.first;
-        closed = λ d there. let c = met.closed d there in (c.0, c.1, answered-take events rs c.0 c.2);
+        bills = λ o day i b short at. all.bills o day i b short (answered-take events rs i at) ∙ bill_same sc events rs i o day;
+        settlements = λ o day i shares short at. all.settlements o day i shares short (answered-take events rs i at) ∙ settlement_same sc events rs i o day;
+        met = λ o day i r at met. all.met o day i r (answered-take events rs i at) (met_in sc events rs o day i met) ∙ bill_same sc events rs i o day;
+        met_settlement = λ o day i r at met. all.met_settlement o day i r (answered-take events rs i at) (met_in sc events rs o day i met) ∙ settlement_same sc events rs i o day;
       }
 
   -- what a run from the start numbered, by the replies that it had

@@ -62,6 +62,7 @@ owner_is_again sc s devices o x y is same p again = record {
   taken = λ d. ap (λ v. v.taken d) again.ledger ∙ p.taken d ∙ sym (ap (λ l. take (s.lanes o d).took (part o l)) (same d));
   stated = λ d day. ap (λ v. v.stated d day) again.ledger ∙ p.stated d day ∙ sym (ap (λ l. count_of ((s.lanes o d).stated day) (part o l) day) (same d));
   closed = λ d. ap (λ v. v.closed d) again.ledger ∙ p.closed d;
+  retired = λ d. ap (λ v. v.retired d) again.ledger ∙ p.retired d;
   queue = subst (Each2 (IsRoutedOf devices o) []) (sym again.queue) tt;
   hand = subst (Both (IsRoutedOf devices o) None) (sym again.hand) tt;
   cursors = λ d n known e. cursor_again sc s o x y d n is p again known e;

@@ -1,6 +1,6 @@
--- What a world shows after a forward, a fetch, a take, a close and a prune.
-use Rattle.std.proofs.Common.{◌≡◌, ℕ, ◌+◌, ◌-◌, ◌<◌, ◌≤◌, List, [], ◌∷◌, ◌++◌, length, take, drop, set, get_or, Some, None, Bool, true, false, refl, sym, ap, ◌∙◌, subst, arith}
-use Rattle.std.specs.Prelude.{◌==◌, ◌&&◌, slice_get, if◌then◌else◌, Option, Result, Ok, Err, option_map, is_some, IsSome, nat_lt, nat_le, not}
+-- What a world shows after a forward, a fetch, a take, a close, a retire and a prune.
+use Rattle.std.proofs.Common.{◌≡◌, ℕ, ◌+◌, ◌-◌, ◌<◌, ◌≤◌, List, [], ◌∷◌, ◌++◌, length, take, drop, set, get_or, Some, None, Bool, true, false, refl, sym, ap, ◌∙◌, subst, arith, inl, inr}
+use Rattle.std.specs.Prelude.{◌==◌, ◌&&◌, ◌⊎◌, slice_get, if◌then◌else◌, Option, Result, Ok, Err, option_map, is_some, IsSome, nat_lt, nat_le, not}
 use Rattle.std.proofs.lemmas.Bool.Decides.{nat_tests, Decides-eqb}
 use Rattle.std.proofs.lemmas.List.{take-append-drop, length-take-le}
 use Rattle.std.proofs.lemmas.List.Elements.{filter-append}
@@ -18,15 +18,18 @@ use Rattle.fare_owner.specs.CloseJudged.{close_judged}
 use Rattle.fare_owner.specs.declared.tap.TapFault.{TapFault}
 use Rattle.fare_owner.specs.declared.statement.StatementFault.{StatementFault}
 use Rattle.fare_owner.specs.declared.closing.CloseFault.{CloseFault}
+use Rattle.fare_owner.specs.RetireJudged.{retire_judged}
+use Rattle.fare_owner.specs.declared.retiring.RetireFault.{RetireFault}
+use Rattle.fare_owner.specs.declared.retiring.RetireFault.TheVariants as retiring
 use Rattle.fare_route.specs.declared.cursor.Cursor.{Cursor}
 use Rattle.fare_route.specs.Routing.{NoRow, IsNext}
 use Rattle.fare_store.specs.OutboxWords.{IsNextRow, behind, rows_upto}
 use Rattle.fare_store.specs.OutboxWords as outbox
-use Rattle.fare_store.specs.LedgerWords.{LedgerValue, is_mine, take_judged, state_judged, close_of}
+use Rattle.fare_store.specs.LedgerWords.{LedgerValue, is_mine, take_judged, state_judged, close_of, retire_of}
 use Rattle.fare_store.specs.LedgerWords as ledger
 use Rattle.fare_event.specs.declared.event.Event.TheVariants as event
 use Rattle.fare_event.specs.declared.reply.Refusal.{Refusal}
-use Rattle.fare_event.specs.declared.reply.Refusal.TheVariants.{UnknownDevice, UnknownOwner, Busy, HandFull}
+use Rattle.fare_event.specs.declared.reply.Refusal.TheVariants.{UnknownDevice, UnknownOwner, Busy, HandFull, Retired}
 use Rattle.fare_event.specs.declared.reply.Reply.{Reply}
 use Rattle.fare_event.specs.declared.reply.Reply.TheVariants as reply
 use Rattle.fare_event.specs.declared.reply.Reply.TheVariants.{Idle, Empty, Refused, Taken, Closed, Count, Pruned}
@@ -37,7 +40,7 @@ use Rattle.fare_world.specs.Steps.{count}
 use Rattle.fare_world.specs.Arriving.{is_full}
 use Rattle.fare_world.specs.Knowing.{knows_device}
 use Rattle.fare_world.specs.ItemReplies.{forwarded_item, fetched_item}
-use Rattle.fare_world.specs.Owning.{lane_room, next_routed, passed, forwarded_reply, forwarded, forward_item, forward, fetched_reply, fetch_from, fetch, emptied, with_lane, is_of_closed_day, tap_refusal, take_tap, statement_refusal, take_statement, take_from, take_event, close_refusal, closed_day, close_by, close_on, close, pruned, prune}
+use Rattle.fare_world.specs.Owning.{lane_room, next_routed, passed, forwarded_reply, forwarded, forward_item, forward_on, forward, fetched_reply, fetch_from, fetch, emptied, with_lane, is_of_closed_day, tap_refusal, take_tap, statement_refusal, take_statement, take_from, take_event, close_refusal, closed_day, close_by, close_on, close, retired_lane, retire_refusal, retire_on, retire, pruned, prune}
 use Rattle.fare_world.specs.Shown.{IsAt, IsRoutedOf, IsLedgerOf, IsOwnerOf, OwnerShape, Both, Each2, entry, Shape, Shows, row_at, count_of}
 use Rattle.fare_world.specs.Kept.{IsSystem}
 use Rattle.fare_world.specs.Whole.{Seen, shape}
@@ -47,7 +50,6 @@ use Rattle.fare_world.proofs.Lists.{IfSome-weaken, slice_get-past, length-Each2,
 use Rattle.fare_side.proofs.Positions.{element_at}
 use Rattle.fare_world.proofs.Places.{slice_get-front}
 use Rattle.fare_world.proofs.TableLemmas.{entry-set, owners_apart}
-use Rattle.fare_world.proofs.Lanes.{Runs-le}
 use Rattle.fare_world.proofs.Kept.{moves_step}
 use Rattle.fare_world.proofs.KeptParts.{took_numbered}
 use Rattle.fare_world.proofs.NextDay.{day_found, next_day_is, no_statement_found}
@@ -55,11 +57,11 @@ use Rattle.fare_world.proofs.Showing.{Answers, answers_by, put_other, shows_owne
 
 -- what was taken was stored
 pub took_arrived : (sc : SchemeValue) (s : System) (o d : ℕ) → IsSystem sc s → (s.lanes o d).took ≤ length (arrived_of o (s.devices d))
-took_arrived sc s o d is = omega (arith, Runs-le (s.lanes o d).took (s.lanes o d).forward _ (is.lanes o d).run, (is.lanes o d).forward)
+took_arrived sc s o d is = omega (arith, (is.lanes o d).took, (is.lanes o d).forward)
 
 -- and what was pruned was forwarded
 gone_forwarded : (sc : SchemeValue) (s : System) (o d : ℕ) → IsSystem sc s → (s.lanes o d).gone ≤ (s.lanes o d).forward
-gone_forwarded sc s o d is = omega (arith, (is.lanes o d).gone, Runs-le (s.lanes o d).took (s.lanes o d).forward _ (is.lanes o d).run)
+gone_forwarded sc s o d is = omega (arith, (is.lanes o d).gone, (is.lanes o d).took)
 
 -- one owner and its lanes with others in their place
 pub shows_owner_put : (sc : SchemeValue) (h : Shape) (s : System) (o : ℕ) (side : OwnerState) (lanes : ℕ → LaneState) (x : OwnerShape) → ((d : ℕ) → (lanes d).gone ≡ (s.lanes o d).gone) → Shows sc h s → IsSystem sc (record s { owners = put s.owners o side; lanes = put s.lanes o lanes }) → IsOwnerOf sc s.devices o side lanes x
@@ -78,23 +80,34 @@ shows_side_put sc h s o side x w is here =
 -- FORWARD
 pub shown_unknown_owner : (sc : SchemeValue) (h : Shape) (s : System) (o d : ℕ) → Shows sc h s → position_of_owner sc o ≡ None → Answers sc h (forward sc s o d) (Refused UnknownOwner)
 shown_unknown_owner sc h s o d w none =
-    answers_by sc h (Refused UnknownOwner) (forward sc s o d) (s, Refused UnknownOwner) (ap (λ p. if is_some p then (forward_device sc s o d) else (s, Refused UnknownOwner)) none) refl w
+    answers_by sc h (Refused UnknownOwner) (forward sc s o d) (s, Refused UnknownOwner) (ap (λ p. if is_some p then known else (s, Refused UnknownOwner)) none) refl w
   where
-    forward_device : SchemeValue → System → ℕ → ℕ → System × Reply
-    forward_device sc s o d = if knows_device sc d then forward_item sc s o d (next_routed s o d) else (s, Refused UnknownDevice)
+    known : System × Reply
+    known = if knows_device sc d then forward_on sc s o d else (s, Refused UnknownDevice)
 
 pub shown_forward_unknown : (sc : SchemeValue) (h : Shape) (s : System) (o d a : ℕ) → Shows sc h s → position_of_owner sc o ≡ Some a → is_some (position_of_device sc d) ≡ false → Answers sc h (forward sc s o d) (Refused UnknownDevice)
 shown_forward_unknown sc h s o d a w owner none =
     answers_by sc h (Refused UnknownDevice) (forward sc s o d) (s, Refused UnknownDevice) (λ i. known (is_some (owner i)) (none i)) refl w
   where
     known : Bool → Bool → System × Reply
-    known p q = if p then (if q then forward_item sc s o d (next_routed s o d) else (s, Refused UnknownDevice)) else (s, Refused UnknownOwner)
+    known p q = if p then (if q then forward_on sc s o d else (s, Refused UnknownDevice)) else (s, Refused UnknownOwner)
 
-forward_known : (sc : SchemeValue) (s : System) (o d a k : ℕ) → position_of_owner sc o ≡ Some a → position_of_device sc d ≡ Some k → forward sc s o d ≡ forward_item sc s o d (next_routed s o d)
-forward_known sc s o d a k owner device = λ i. known (is_some (owner i)) (is_some (device i))
+-- where the owner and the device are registered
+forward_by : (sc : SchemeValue) (s : System) (o d a k : ℕ) (retired : Bool) → position_of_owner sc o ≡ Some a → position_of_device sc d ≡ Some k → (s.lanes o d).retired ≡ retired → forward sc s o d ≡ (if retired then (s, Refused Retired) else forward_item sc s o d (next_routed s o d))
+forward_by sc s o d a k retired owner device is = λ i. known (is_some (owner i)) (is_some (device i)) (is i)
   where
-    known : Bool → Bool → System × Reply
-    known p q = if p then (if q then forward_item sc s o d (next_routed s o d) else (s, Refused UnknownDevice)) else (s, Refused UnknownOwner)
+    known : Bool → Bool → Bool → System × Reply
+    known p q r = if p then (if q then (if r then (s, Refused Retired) else forward_item sc s o d (next_routed s o d)) else (s, Refused UnknownDevice)) else (s, Refused UnknownOwner)
+
+forward_known : (sc : SchemeValue) (s : System) (o d a k : ℕ) → position_of_owner sc o ≡ Some a → position_of_device sc d ≡ Some k → (s.lanes o d).retired ≡ false → forward sc s o d ≡ forward_item sc s o d (next_routed s o d)
+forward_known sc s o d a k owner device works = forward_by sc s o d a k false owner device works
+
+-- a lane is retired in the model where it is in the ledger
+pub retired_there : (sc : SchemeValue) (h : Shape) (s : System) (o d : ℕ) (x : OwnerShape) (retired : Bool) → Shows sc h s → h.owners o ≡ Some x → x.ledger.retired d ≡ retired → (s.lanes o d).retired ≡ retired
+retired_there sc h s o d x retired w e is = sym ((owner_shown sc h s o x w e).retired d) ∙ is
+
+pub shown_forward_retired : (sc : SchemeValue) (h : Shape) (s : System) (o d a k : ℕ) → Shows sc h s → position_of_owner sc o ≡ Some a → position_of_device sc d ≡ Some k → (s.lanes o d).retired ≡ true → Answers sc h (forward sc s o d) (Refused Retired)
+shown_forward_retired sc h s o d a k w owner device is = answers_by sc h (Refused Retired) (forward sc s o d) (s, Refused Retired) (forward_by sc s o d a k true owner device is) refl w
 
 -- no row after the cursor is none that was not forwarded
 none_left_of : (sc : SchemeValue) (h : Shape) (s : System) (o d c : ℕ) → Shows sc h s → c ≡ (s.lanes o d).forward → NoRow h.outbox o d c → length (arrived_of o (s.devices d)) ≤ (s.lanes o d).forward
@@ -169,20 +182,20 @@ next_found sc h s o d c None first w lane day next =
     let none = no_statement_found sc h s o d c.day first w day next.1 in
     subst (λ z. Both (IsRoutedOf s.devices o) z None) (sym (no_row_routed s o d (none_left_of sc h s o d c.lane w lane next.0) ∙ ap (option_map (Day_of d)) none)) tt
 
-pub shown_idle : (sc : SchemeValue) (h : Shape) (s : System) (o d a k : ℕ) → Shows sc h s → position_of_owner sc o ≡ Some a → position_of_device sc d ≡ Some k → Both (IsRoutedOf s.devices o) (next_routed s o d) None → Answers sc h (forward sc s o d) Idle
-shown_idle sc h s o d a k w owner device next = answers_by sc h Idle (forward sc s o d) (s, Idle) (forward_known sc s o d a k owner device ∙ ap (forward_item sc s o d) (Both-none (IsRoutedOf s.devices o) (next_routed s o d) next)) refl w
+pub shown_idle : (sc : SchemeValue) (h : Shape) (s : System) (o d a k : ℕ) → Shows sc h s → position_of_owner sc o ≡ Some a → position_of_device sc d ≡ Some k → (s.lanes o d).retired ≡ false → Both (IsRoutedOf s.devices o) (next_routed s o d) None → Answers sc h (forward sc s o d) Idle
+shown_idle sc h s o d a k w owner device works next = answers_by sc h Idle (forward sc s o d) (s, Idle) (forward_known sc s o d a k owner device works ∙ ap (forward_item sc s o d) (Both-none (IsRoutedOf s.devices o) (next_routed s o d) next)) refl w
 
 -- what is to be forwarded, where something is
-forward_goes : (sc : SchemeValue) (s : System) (o d a k : ℕ) (x : Routed) (full : Bool) → position_of_owner sc o ≡ Some a → position_of_device sc d ≡ Some k → next_routed s o d ≡ Some x → is_full (lane_room sc o) (s.owners o).queue ≡ full → forward sc s o d ≡ (if full then (s, Refused Busy) else (forwarded s o d x, forwarded_reply x))
-forward_goes sc s o d a k x full owner device next is = forward_known sc s o d a k owner device ∙ ap (forward_item sc s o d) next ∙ ap (λ b. if b then (s, Refused Busy) else (forwarded s o d x, forwarded_reply x)) is
+forward_goes : (sc : SchemeValue) (s : System) (o d a k : ℕ) (x : Routed) (full : Bool) → position_of_owner sc o ≡ Some a → position_of_device sc d ≡ Some k → (s.lanes o d).retired ≡ false → next_routed s o d ≡ Some x → is_full (lane_room sc o) (s.owners o).queue ≡ full → forward sc s o d ≡ (if full then (s, Refused Busy) else (forwarded s o d x, forwarded_reply x))
+forward_goes sc s o d a k x full owner device works next is = forward_known sc s o d a k owner device works ∙ ap (forward_item sc s o d) next ∙ ap (λ b. if b then (s, Refused Busy) else (forwarded s o d x, forwarded_reply x)) is
 
 -- an item that finds the lane queue full
-pub shown_forward_busy : (sc : SchemeValue) (h : Shape) (s : System) (o d a k : ℕ) (x : OwnerShape) (y : Item) → Shows sc h s → position_of_owner sc o ≡ Some a → position_of_device sc d ≡ Some k → h.owners o ≡ Some x → Both (IsRoutedOf s.devices o) (next_routed s o d) (Some y) → lane_room sc o ≤ length x.queue
+pub shown_forward_busy : (sc : SchemeValue) (h : Shape) (s : System) (o d a k : ℕ) (x : OwnerShape) (y : Item) → Shows sc h s → position_of_owner sc o ≡ Some a → position_of_device sc d ≡ Some k → h.owners o ≡ Some x → (s.lanes o d).retired ≡ false → Both (IsRoutedOf s.devices o) (next_routed s o d) (Some y) → lane_room sc o ≤ length x.queue
     → Answers sc h (forward sc s o d) (Refused Busy)
-shown_forward_busy sc h s o d a k x y w owner device e next full =
+shown_forward_busy sc h s o d a k x y w owner device e works next full =
     let found = Both-some (IsRoutedOf s.devices o) (next_routed s o d) y next in
     answers_by sc h (Refused Busy) (forward sc s o d) (s, Refused Busy)
-    (forward_goes sc s o d a k found.0 true owner device found.1 (has_no_room (lane_room sc o) (s.owners o).queue (omega (arith, full, length-Each2 (IsRoutedOf s.devices o) (s.owners o).queue x.queue (owner_shown sc h s o x w e).queue)))) refl w
+    (forward_goes sc s o d a k found.0 true owner device works found.1 (has_no_room (lane_room sc o) (s.owners o).queue (omega (arith, full, length-Each2 (IsRoutedOf s.devices o) (s.owners o).queue x.queue (owner_shown sc h s o x w e).queue)))) refl w
 
 -- where a cursor goes with an item
 abbrev pub cursor_past : ℕ × ℕ → Item → ℕ × ℕ
@@ -197,13 +210,13 @@ routed_past sc s o d l (Day_of e day) (item.Tap r) is at next = absurd at
 routed_past sc s o d l (Day_of e day) (item.Stated y) is at next = let on : y.day ≡ day = ap (λ (q : StatementValue). q.day) at.is in (ap reply.ForwardedDay on, (λ i. (l.forward, on i + 1)))
 
 -- a lane that passed an item has taken what it had
-passed_keeps : (l : LaneState) (x : Routed) → ((passed l x).took ≡ l.took) × ((passed l x).gone ≡ l.gone) × ((passed l x).stated ≡ l.stated) × ((passed l x).closed ≡ l.closed)
-passed_keeps l (Lane_of d n) = (refl, refl, refl, refl)
-passed_keeps l (Day_of d day) = (refl, refl, refl, refl)
+passed_keeps : (l : LaneState) (x : Routed) → ((passed l x).took ≡ l.took) × ((passed l x).gone ≡ l.gone) × ((passed l x).stated ≡ l.stated) × ((passed l x).closed ≡ l.closed) × ((passed l x).retired ≡ l.retired)
+passed_keeps l (Lane_of d n) = (refl, refl, refl, refl, refl)
+passed_keeps l (Day_of d day) = (refl, refl, refl, refl, refl)
 
-pub shown_forward : (sc : SchemeValue) (h : Shape) (s : System) (o d a k : ℕ) (x : OwnerShape) (y : Item) (c : ℕ × ℕ) → Shows sc h s → position_of_owner sc o ≡ Some a → position_of_device sc d ≡ Some k → h.owners o ≡ Some x → x.cursors d ≡ Some c → Both (IsRoutedOf s.devices o) (next_routed s o d) (Some y) → length x.queue < lane_room sc o
+pub shown_forward : (sc : SchemeValue) (h : Shape) (s : System) (o d a k : ℕ) (x : OwnerShape) (y : Item) (c : ℕ × ℕ) → Shows sc h s → position_of_owner sc o ≡ Some a → position_of_device sc d ≡ Some k → h.owners o ≡ Some x → x.cursors d ≡ Some c → (s.lanes o d).retired ≡ false → Both (IsRoutedOf s.devices o) (next_routed s o d) (Some y) → length x.queue < lane_room sc o
     → Answers sc (record h { owners = put h.owners o (Some (record x { queue = x.queue ++ y ∷ []; cursors = put x.cursors d (Some (cursor_past c y)) })) }) (forward sc s o d) (forwarded_item y)
-shown_forward sc h s o d a k x y c w owner device e f next room =
+shown_forward sc h s o d a k x y c w owner device e f works next room =
     answers_by sc (record h { owners = put h.owners o (Some new) }) (forwarded_item y) (forward sc s o d) (forwarded s o d z, forwarded_reply z) goes past.0
     (shows_owner_put sc h s o side lanes new (put_all (λ j b. b.gone ≡ (s.lanes o j).gone) (s.lanes o) d after (λ j. refl) keeps.1) w (subst (λ (q : System × Reply). IsSystem sc q.0) goes (moves_step sc s (event.Forward o d) w.system).system)
     (record {
@@ -211,6 +224,7 @@ shown_forward sc h s o d a k x y c w owner device e f next room =
       taken = λ j. p.taken j ∙ put_all (λ i b. take (s.lanes o i).took (numbered_for s o i) ≡ take b.took (numbered_for s o i)) (s.lanes o) d after (λ i. refl) (ap (λ n. take n (numbered_for s o d)) (sym keeps.0)) j;
       stated = λ j day. p.stated j day ∙ put_all (λ i b. count_of ((s.lanes o i).stated day) (numbered_for s o i) day ≡ count_of (b.stated day) (numbered_for s o i) day) (s.lanes o) d after (λ i. refl) (ap (λ (g : ℕ → Bool). count_of (g day) (numbered_for s o d) day) (sym keeps.2)) j;
       closed = λ j. p.closed j ∙ put_all (λ i b. (s.lanes o i).closed ≡ b.closed) (s.lanes o) d after (λ i. refl) (sym keeps.3) j;
+      retired = λ j. p.retired j ∙ put_all (λ i b. (s.lanes o i).retired ≡ b.retired) (s.lanes o) d after (λ i. refl) (sym keeps.4) j;
       queue = Each2-push (IsRoutedOf s.devices o) (s.owners o).queue x.queue z y p.queue found.2;
       hand = p.hand;
       cursors = put_both (λ j b q. (n : ℕ × ℕ) → IsSome (position_of_device sc j) → b ≡ Some n → n ≡ (q.forward, q.from_day)) x.cursors (s.lanes o) d (Some (cursor_past c y)) after p.cursors (λ n known is. sym (same_place (cursor_past c y) n is) ∙ ap (λ q. cursor_past q y) (p.cursors d c known f) ∙ past.1);
@@ -234,7 +248,7 @@ shown_forward sc h s o d a k x y c w owner device e f next room =
     past : (forwarded_item y ≡ forwarded_reply z) × (cursor_past (l.forward, l.from_day) y ≡ ((passed l z).forward, (passed l z).from_day))
     past = routed_past sc s o d l z y w.system found.2 found.1
 
-    keeps : ((passed l z).took ≡ l.took) × ((passed l z).gone ≡ l.gone) × ((passed l z).stated ≡ l.stated) × ((passed l z).closed ≡ l.closed)
+    keeps : ((passed l z).took ≡ l.took) × ((passed l z).gone ≡ l.gone) × ((passed l z).stated ≡ l.stated) × ((passed l z).closed ≡ l.closed) × ((passed l z).retired ≡ l.retired)
     keeps = passed_keeps l z
 
     side : OwnerState
@@ -250,7 +264,7 @@ shown_forward sc h s o d a k x y c w owner device e f next room =
     new = record x { queue = x.queue ++ y ∷ []; cursors = put x.cursors d (Some (cursor_past c y)) }
 
     goes : forward sc s o d ≡ (forwarded s o d z, forwarded_reply z)
-    goes = forward_goes sc s o d a k z false owner device found.1 (has_room (lane_room sc o) (s.owners o).queue (omega (arith, room, length-Each2 (IsRoutedOf s.devices o) (s.owners o).queue x.queue p.queue)))
+    goes = forward_goes sc s o d a k z false owner device works found.1 (has_room (lane_room sc o) (s.owners o).queue (omega (arith, room, length-Each2 (IsRoutedOf s.devices o) (s.owners o).queue x.queue p.queue)))
 
 -- FETCH
 fetch_known : (sc : SchemeValue) (s : System) (o a : ℕ) → position_of_owner sc o ≡ Some a → fetch sc s o ≡ fetch_from s o (s.owners o).queue (s.owners o).hand
@@ -286,7 +300,7 @@ shown_fetch sc h s o a x y rest w at e f g =
     let goes : fetch sc s o ≡ (record s { owners = put s.owners o side }, fetched_reply found.0) = fetch_known sc s o a at ∙ (λ i. fetch_from s o (found.2 i) (hand i)) in
     answers_by sc (record h { owners = put h.owners o (Some (record x { queue = rest; hand = Some y })) }) (fetched_item y) (fetch sc s o) (record s { owners = put s.owners o side }, fetched_reply found.0) goes (fetched_by sc s o found.0 y w.system found.3)
     (shows_side_put sc h s o side (record x { queue = rest; hand = Some y }) w (subst (λ (y : System × Reply). IsSystem sc y.0) goes (moves_step sc s (event.Fetch o) w.system).system)
-    (record { ledger = p.ledger; taken = p.taken; stated = p.stated; closed = p.closed; queue = found.4; hand = found.3; cursors = p.cursors }))
+    (record { ledger = p.ledger; taken = p.taken; stated = p.stated; closed = p.closed; retired = p.retired; queue = found.4; hand = found.3; cursors = p.cursors }))
 
 pub shown_fetch_unknown : (sc : SchemeValue) (h : Shape) (s : System) (o : ℕ) → Shows sc h s → position_of_owner sc o ≡ None → Answers sc h (fetch sc s o) (Refused UnknownOwner)
 shown_fetch_unknown sc h s o w none = answers_by sc h (Refused UnknownOwner) (fetch sc s o) (s, Refused UnknownOwner) (ap (λ p. if is_some p then fetch_from s o (s.owners o).queue (s.owners o).hand else (s, Refused UnknownOwner)) none) refl w
@@ -329,15 +343,16 @@ with_empty_hand h o x v = record h { owners = put h.owners o (Some (record x { l
 
 -- what is seen where the hand is emptied, and one lane of it changes, whose forwarding and pruning go on where they were
 took_shows : (sc : SchemeValue) (h : Shape) (s : System) (o d : ℕ) (x : OwnerShape) (l : LaneState) (v : LedgerValue) → Shows sc h s → h.owners o ≡ Some x → IsSystem sc (with_lane s o d l) → l.forward ≡ (s.lanes o d).forward → l.from_day ≡ (s.lanes o d).from_day → l.gone ≡ (s.lanes o d).gone → IsLedgerOf sc o v
-    → ((j : ℕ) → v.taken j ≡ take (put (s.lanes o) d l j).took (numbered_for s o j)) → ((j day : ℕ) → v.stated j day ≡ count_of ((put (s.lanes o) d l j).stated day) (numbered_for s o j) day) → ((j : ℕ) → v.closed j ≡ (put (s.lanes o) d l j).closed)
+    → ((j : ℕ) → v.taken j ≡ take (put (s.lanes o) d l j).took (numbered_for s o j)) → ((j day : ℕ) → v.stated j day ≡ count_of ((put (s.lanes o) d l j).stated day) (numbered_for s o j) day) → ((j : ℕ) → v.closed j ≡ (put (s.lanes o) d l j).closed) → ((j : ℕ) → v.retired j ≡ (put (s.lanes o) d l j).retired)
     → Shows sc (with_empty_hand h o x v) (with_lane s o d l)
-took_shows sc h s o d x l v w e is forward from gone of taken stated closed =
+took_shows sc h s o d x l v w e is forward from gone of taken stated closed retired =
     shows_owner_put sc h s o (record (s.owners o) { hand = None }) (put (s.lanes o) d l) (record x { ledger = v; hand = None }) (put_all (λ j b. b.gone ≡ (s.lanes o j).gone) (s.lanes o) d l (λ j. refl) gone) w is
     (record {
       ledger = of;
       taken = taken;
       stated = stated;
       closed = closed;
+      retired = retired;
       queue = p.queue;
       hand = tt;
       cursors = put_all (λ j b. (n : ℕ × ℕ) → IsSome (position_of_device sc j) → x.cursors j ≡ Some n → n ≡ (b.forward, b.from_day)) (s.lanes o) d l p.cursors (λ n known f. p.cursors d n known f ∙ (λ i. (sym forward i, sym from i)));
@@ -353,7 +368,7 @@ refused_take sc h s o x why w e goes =
     answers_by sc (with_empty_hand h o x x.ledger) (Refused why) (take_event sc s o) (emptied s o, Refused why) goes refl
     (shows_side_put sc h s o (record (s.owners o) { hand = None }) (record x { hand = None }) w
     (subst (λ (y : System × Reply). IsSystem sc y.0) goes (moves_step sc s (event.Take o) w.system).system)
-    (record { ledger = p.ledger; taken = p.taken; stated = p.stated; closed = p.closed; queue = p.queue; hand = tt; cursors = p.cursors }))
+    (record { ledger = p.ledger; taken = p.taken; stated = p.stated; closed = p.closed; retired = p.retired; queue = p.queue; hand = tt; cursors = p.cursors }))
 
 -- A TAP IS TAKEN
 -- the step judges as the ledger does
@@ -361,9 +376,10 @@ tap_goes : (sc : SchemeValue) (h : Shape) (s : System) (o a : ℕ) (x : OwnerSha
 tap_goes sc h s o a x r w at e f =
     let found = hand_of sc h s o x (item.Tap r) w e f in
     let is = routed_is sc s o found.0 r w.system found.2 in
+    let p = owner_shown sc h s o x w e in
     let of_day : is_of_closed_day sc.start (s.lanes o r.device).closed (slice_get (numbered_for s o r.device) (r.lane - 1)) ≡ ledger.is_closed x.ledger r.device r.tap.day = ap (is_of_closed_day sc.start (s.lanes o r.device).closed) is.2.here ∙ sym (closed_there sc h s o r.device r.tap.day x w e) in (
       take_known sc s o a at ∙ ap (take_from sc s o) (found.1 ∙ ap Some is.0)
-          ∙ (λ i. take_tap s o r.device r.lane (tap_judged (sym (mine sc h s o r.device r.owner x w e is.1) i) (sym (taken_count sc h s o r.device x w e) i) (of_day i) r.lane)),
+          ∙ (λ i. take_tap s o r.device r.lane (tap_judged (sym (mine sc h s o r.device r.owner x w e is.1) i) (sym (taken_count sc h s o r.device x w e) i) (of_day i) r.lane (sym (p.retired r.device) i))),
       is.2,
     )
 
@@ -375,7 +391,8 @@ took_one sc h s o a x r w at e f judged did =
     (record { id = p.ledger.id; made = record { start = p.ledger.made.start; knows = p.ledger.made.knows } })
     (put_both (λ i b q. b ≡ take q.took (numbered_for s o i)) x.ledger.taken (s.lanes o) d (x.ledger.taken d ++ r ∷ []) after p.taken (ap (λ t. t ++ r ∷ []) (p.taken d) ∙ sym (take-one_more (numbered_for s o d) l.took r here)))
     (λ j day. p.stated j day ∙ put_all (λ i b. count_of ((s.lanes o i).stated day) (numbered_for s o i) day ≡ count_of (b.stated day) (numbered_for s o i) day) (s.lanes o) d after (λ i. refl) refl j)
-    (λ j. p.closed j ∙ put_all (λ i b. (s.lanes o i).closed ≡ b.closed) (s.lanes o) d after (λ i. refl) refl j))
+    (λ j. p.closed j ∙ put_all (λ i b. (s.lanes o i).closed ≡ b.closed) (s.lanes o) d after (λ i. refl) refl j)
+    (λ j. p.retired j ∙ put_all (λ i b. (s.lanes o i).retired ≡ b.retired) (s.lanes o) d after (λ i. refl) refl j))
   where
     d : ℕ
     d = r.device
@@ -410,9 +427,10 @@ TakeSeen sc h s o x r (Err why) = Answers sc (with_empty_hand h o x x.ledger) (t
 taken_next : (v : LedgerValue) (r : RecordValue) → take_judged v r ≡ Ok tt → r.lane ≡ length (v.taken r.device) + 1
 taken_next v r judged =
     if_all (not (is_mine v r.owner r.device)) (λ (q : Result Unit TapFault). q ≡ Ok tt → r.lane ≡ length (v.taken r.device) + 1) _ _ (λ _ q. absurd (cc))
+    (λ _. if_all (v.retired r.device) (λ (q : Result Unit TapFault). q ≡ Ok tt → r.lane ≡ length (v.taken r.device) + 1) _ _ (λ _ q. absurd (cc))
     (λ _. if_all (nat_le r.lane (length (v.taken r.device))) (λ (q : Result Unit TapFault). q ≡ Ok tt → r.lane ≡ length (v.taken r.device) + 1) _ _ (λ _ q. absurd (cc))
     (λ b. if_all (nat_lt (length (v.taken r.device) + 1) r.lane) (λ (q : Result Unit TapFault). q ≡ Ok tt → r.lane ≡ length (v.taken r.device) + 1) _ _ (λ _ q. absurd (cc))
-    (λ c q. omega (arith, above _ _ b, not_below _ _ c)))) judged
+    (λ c q. omega (arith, above _ _ b, not_below _ _ c))))) judged
 
 pub shown_take : (sc : SchemeValue) (h : Shape) (s : System) (o a : ℕ) (x : OwnerShape) (r : RecordValue) (judged : Result Unit TapFault) → Shows sc h s → position_of_owner sc o ≡ Some a → h.owners o ≡ Some x → x.hand ≡ Some (item.Tap r) → take_judged x.ledger r ≡ judged → TakeSeen sc h s o x r judged
 shown_take sc h s o a x r (Ok u) w at e f is = took_one sc h s o a x r w at e f (is ∙ ap Ok (unit_is u)) (taken_next x.ledger r (is ∙ ap Ok (unit_is u)))
@@ -428,7 +446,7 @@ statement_goes sc h s o a x y w at e f =
     let is = routed_states s.devices o found.0 y found.2 in
     let count : y.count ≡ day_count (numbered_for s o y.device) y.day = ap (λ (q : StatementValue). q.count) is.2.is in (
       take_known sc s o a at ∙ ap (take_from sc s o) (found.1 ∙ ap Some is.0)
-          ∙ (λ i. take_statement s o y.device y.day (statement_judged (sym (mine sc h s o y.device y.owner x w e is.1) i) (sym ((owner_shown sc h s o x w e).stated y.device y.day) i) (sym count i))),
+          ∙ (λ i. take_statement s o y.device y.day (statement_judged (sym (mine sc h s o y.device y.owner x w e is.1) i) (sym ((owner_shown sc h s o x w e).stated y.device y.day) i) (sym count i) (sym ((owner_shown sc h s o x w e).retired y.device) i))),
       count,
     )
 
@@ -441,7 +459,8 @@ stated_one sc h s o a x y w at e f judged =
     (λ j. p.taken j ∙ put_all (λ i b. take (s.lanes o i).took (numbered_for s o i) ≡ take b.took (numbered_for s o i)) (s.lanes o) d after (λ i. refl) refl j)
     (put_both (λ j (b : ℕ → Option ℕ) q. (day : ℕ) → b day ≡ count_of (q.stated day) (numbered_for s o j) day) x.ledger.stated (s.lanes o) d (put (x.ledger.stated d) y.day (Some y.count)) after p.stated
     (put_both (λ day (b : Option ℕ) (q : Bool). b ≡ count_of q (numbered_for s o d) day) (x.ledger.stated d) l.stated y.day (Some y.count) true (p.stated d) (ap Some found.1)))
-    (λ j. p.closed j ∙ put_all (λ i b. (s.lanes o i).closed ≡ b.closed) (s.lanes o) d after (λ i. refl) refl j))
+    (λ j. p.closed j ∙ put_all (λ i b. (s.lanes o i).closed ≡ b.closed) (s.lanes o) d after (λ i. refl) refl j)
+    (λ j. p.retired j ∙ put_all (λ i b. (s.lanes o i).retired ≡ b.retired) (s.lanes o) d after (λ i. refl) refl j))
   where
     d : ℕ
     d = y.device
@@ -491,7 +510,7 @@ shown_close_unknown sc h s o d day a w owner none = answers_by sc h (Refused Unk
 close_goes : (sc : SchemeValue) (h : Shape) (s : System) (o d day a : ℕ) (x : OwnerShape) → Shows sc h s → position_of_owner sc o ≡ Some a → is_some (position_of_device sc d) ≡ true → h.owners o ≡ Some x → close sc s o d day ≡ close_by s o d day (close_of x.ledger d day)
 close_goes sc h s o d day a x w owner device e =
     close_known sc s o d day a owner device
-    ∙ (λ i. close_by s o d day (close_judged (sym (p.stated d day) i) (sym (closed_there sc h s o d day x w e) i) (day == sym p.ledger.made.start i + sym (p.closed d) i) (day_count (sym (p.taken d) i) day)))
+    ∙ (λ i. close_by s o d day (close_judged (sym (p.stated d day) i) (sym (closed_there sc h s o d day x w e) i) (day == sym p.ledger.made.start i + sym (p.closed d) i) (day_count (sym (p.taken d) i) day) (sym (p.retired d) i)))
   where
     p : IsOwnerOf sc s.devices o (s.owners o) (s.lanes o) x
     p = owner_shown sc h s o x w e
@@ -512,6 +531,7 @@ closed_one sc h s o d day a x w owner e goes =
       taken = λ j. p.taken j ∙ put_all (λ i b. take (s.lanes o i).took (numbered_for s o i) ≡ take b.took (numbered_for s o i)) (s.lanes o) d after (λ i. refl) refl j;
       stated = λ j k. p.stated j k ∙ put_all (λ i b. count_of ((s.lanes o i).stated k) (numbered_for s o i) k ≡ count_of (b.stated k) (numbered_for s o i) k) (s.lanes o) d after (λ i. refl) refl j;
       closed = put_both (λ j (b : ℕ) q. b ≡ q.closed) x.ledger.closed (s.lanes o) d (x.ledger.closed d + 1) after p.closed (ap (λ n. n + 1) (p.closed d));
+      retired = λ j. p.retired j ∙ put_all (λ i b. (s.lanes o i).retired ≡ b.retired) (s.lanes o) d after (λ i. refl) refl j;
       queue = p.queue;
       hand = p.hand;
       cursors = put_all (λ j b. (n : ℕ × ℕ) → IsSome (position_of_device sc j) → x.cursors j ≡ Some n → n ≡ (b.forward, b.from_day)) (s.lanes o) d after p.cursors (p.cursors d);
@@ -532,6 +552,78 @@ closed_one sc h s o d day a x w owner e goes =
 pub shown_close : (sc : SchemeValue) (h : Shape) (s : System) (o d day a : ℕ) (x : OwnerShape) (judged : Result Unit CloseFault) → Shows sc h s → position_of_owner sc o ≡ Some a → is_some (position_of_device sc d) ≡ true → h.owners o ≡ Some x → close_of x.ledger d day ≡ judged → CloseSeen sc h s o d day x judged
 shown_close sc h s o d day a x (Ok u) w owner device e is = closed_one sc h s o d day a x w owner e (close_goes sc h s o d day a x w owner device e ∙ ap (close_by s o d day) is)
 shown_close sc h s o d day a x (Err why) w owner device e is = answers_by sc h (Refused (close_refusal why)) (close sc s o d day) (s, Refused (close_refusal why)) (close_goes sc h s o d day a x w owner device e ∙ ap (close_by s o d day) is) refl w
+
+-- RETIRE
+pub shown_retire_unknown_owner : (sc : SchemeValue) (h : Shape) (s : System) (o d : ℕ) → Shows sc h s → position_of_owner sc o ≡ None → Answers sc h (retire sc s o d) (Refused UnknownOwner)
+shown_retire_unknown_owner sc h s o d w none =
+    let known : System × Reply = if knows_device sc d then retire_on s o d else (s, Refused UnknownDevice) in
+    answers_by sc h (Refused UnknownOwner) (retire sc s o d) (s, Refused UnknownOwner) (ap (λ p. if is_some p then known else (s, Refused UnknownOwner)) none) refl w
+
+pub shown_retire_unknown : (sc : SchemeValue) (h : Shape) (s : System) (o d a : ℕ) → Shows sc h s → position_of_owner sc o ≡ Some a → is_some (position_of_device sc d) ≡ false → Answers sc h (retire sc s o d) (Refused UnknownDevice)
+shown_retire_unknown sc h s o d a w owner none = answers_by sc h (Refused UnknownDevice) (retire sc s o d) (s, Refused UnknownDevice) (λ i. if is_some (owner i) then (if none i then retire_on s o d else (s, Refused UnknownDevice)) else (s, Refused UnknownOwner)) refl w
+
+-- where the owner and the device are registered
+retire_known : (sc : SchemeValue) (h : Shape) (s : System) (o d a : ℕ) (x : OwnerShape) → Shows sc h s → position_of_owner sc o ≡ Some a → is_some (position_of_device sc d) ≡ true → h.owners o ≡ Some x → retire sc s o d ≡ (if x.ledger.retired d then (s, Refused Retired) else (retired_lane s o d, reply.Retired d))
+retire_known sc h s o d a x w owner device e = λ i. known (is_some (owner i)) (device i) (sym ((owner_shown sc h s o x w e).retired d) i)
+  where
+    known : Bool → Bool → Bool → System × Reply
+    known p q r = if p then (if q then (if r then (s, Refused Retired) else (retired_lane s o d, reply.Retired d)) else (s, Refused UnknownDevice)) else (s, Refused UnknownOwner)
+
+-- a lane that is retired is refused
+pub shown_retire_again : (sc : SchemeValue) (h : Shape) (s : System) (o d a : ℕ) (x : OwnerShape) → Shows sc h s → position_of_owner sc o ≡ Some a → is_some (position_of_device sc d) ≡ true → h.owners o ≡ Some x → x.ledger.retired d ≡ true → Answers sc h (retire sc s o d) (Refused Retired)
+shown_retire_again sc h s o d a x w owner device e is =
+    answers_by sc h (Refused Retired) (retire sc s o d) (s, Refused Retired) (retire_known sc h s o d a x w owner device e ∙ ap (λ b. if b then (s, Refused Retired) else (retired_lane s o d, reply.Retired d)) is) refl w
+
+-- and one that isn't, is retired
+pub shown_retire : (sc : SchemeValue) (h : Shape) (s : System) (o d a : ℕ) (x : OwnerShape) → Shows sc h s → position_of_owner sc o ≡ Some a → is_some (position_of_device sc d) ≡ true → h.owners o ≡ Some x → x.ledger.retired d ≡ false
+    → Answers sc (record h { owners = put h.owners o (Some (record x { ledger = ledger.with_retired d x.ledger })) }) (retire sc s o d) (reply.Retired d)
+shown_retire sc h s o d a x w owner device e works =
+    answers_by sc (record h { owners = put h.owners o (Some new) }) (reply.Retired d) (retire sc s o d) (retired_lane s o d, reply.Retired d) goes refl
+    (shows_owner sc h s o s.owners (put2 s.lanes o d after) new w (subst (λ (y : System × Reply). IsSystem sc y.0) goes (moves_step sc s (event.Retire o d) w.system).system) (λ j apart. refl) (put_other s.lanes o (put (s.lanes o) d after))
+    (put2_all (λ j i b. b.gone ≡ (s.lanes j i).gone) s.lanes o d after (λ j i. refl) refl)
+    (subst (λ (q : ℕ → LaneState). IsOwnerOf sc s.devices o (s.owners o) q new) (sym (put_here s.lanes o (put (s.lanes o) d after)))
+    (record {
+      ledger = record { id = p.ledger.id; made = record { start = p.ledger.made.start; knows = p.ledger.made.knows } };
+      taken = λ j. p.taken j ∙ put_all (λ i b. take (s.lanes o i).took (numbered_for s o i) ≡ take b.took (numbered_for s o i)) (s.lanes o) d after (λ i. refl) refl j;
+      stated = λ j k. p.stated j k ∙ put_all (λ i b. count_of ((s.lanes o i).stated k) (numbered_for s o i) k ≡ count_of (b.stated k) (numbered_for s o i) k) (s.lanes o) d after (λ i. refl) refl j;
+      closed = λ j. p.closed j ∙ put_all (λ i b. (s.lanes o i).closed ≡ b.closed) (s.lanes o) d after (λ i. refl) refl j;
+      retired = put_both (λ j (b : Bool) q. b ≡ q.retired) x.ledger.retired (s.lanes o) d true after p.retired refl;
+      queue = p.queue;
+      hand = p.hand;
+      cursors = put_all (λ j b. (n : ℕ × ℕ) → IsSome (position_of_device sc j) → x.cursors j ≡ Some n → n ≡ (b.forward, b.from_day)) (s.lanes o) d after p.cursors (p.cursors d);
+    })))
+  where
+    after : LaneState
+    after = record (s.lanes o d) { retired = true }
+
+    new : OwnerShape
+    new = record x { ledger = ledger.with_retired d x.ledger }
+
+    p : IsOwnerOf sc s.devices o (s.owners o) (s.lanes o) x
+    p = owner_shown sc h s o x w e
+
+    goes : retire sc s o d ≡ (retired_lane s o d, reply.Retired d)
+    goes = retire_known sc h s o d a x w owner device e ∙ ap (λ b. if b then (s, Refused Retired) else (retired_lane s o d, reply.Retired d)) works
+
+-- what is seen after a retire that was judged so
+abbrev pub RetireSeen : SchemeValue → Shape → System → ℕ → ℕ → OwnerShape → Result Unit RetireFault → Type 0
+RetireSeen sc h s o d x (Ok _) = Answers sc (record h { owners = put h.owners o (Some (record x { ledger = ledger.with_retired d x.ledger })) }) (retire sc s o d) (reply.Retired d)
+RetireSeen sc h s o d x (Err why) = Answers sc h (retire sc s o d) (Refused (retire_refusal why))
+
+-- a lane that the ledger knows is refused only where it is retired
+retire_parts : (known retired : Bool) (judged : Result Unit RetireFault) → known ≡ true → retire_judged known retired ≡ judged → ((judged ≡ Ok tt) × (retired ≡ false)) ⊎ ((judged ≡ Err retiring.Retired) × (retired ≡ true))
+retire_parts true true judged is judges = inr (sym judges, refl)
+retire_parts true false judged is judges = inl (sym judges, refl)
+retire_parts false retired judged is judges =
+    let both : false ≡ true = is in
+    absurd (cc)
+
+shown_retiring : (sc : SchemeValue) (h : Shape) (s : System) (o d a : ℕ) (x : OwnerShape) (judged : Result Unit RetireFault) → Shows sc h s → position_of_owner sc o ≡ Some a → is_some (position_of_device sc d) ≡ true → h.owners o ≡ Some x → retire_of x.ledger d ≡ judged → RetireSeen sc h s o d x judged
+shown_retiring sc h s o d a x judged w owner device e is =
+    elim (retire_parts (x.ledger.knows d) (x.ledger.retired d) judged ((owner_shown sc h s o x w e).ledger.made.knows d ∙ device) is) [
+      | inl goes ↦ subst (RetireSeen sc h s o d x) (sym goes.0) (shown_retire sc h s o d a x w owner device e goes.1)
+      | inr again ↦ subst (RetireSeen sc h s o d x) (sym again.0) (shown_retire_again sc h s o d a x w owner device e again.1)
+    ]
 
 -- COUNT
 pub shown_count : (sc : SchemeValue) (h : Shape) (s : System) (o d a : ℕ) (x : OwnerShape) (n : ℕ) → Shows sc h s → position_of_owner sc o ≡ Some a → is_some (position_of_device sc d) ≡ true → h.owners o ≡ Some x → n ≡ length (x.ledger.taken d) → Answers sc h (count sc s o d) (Count n)
@@ -607,6 +699,7 @@ shown_prune sc h s o d a x n w owner device e counted =
       taken = λ j. q.taken j ∙ ap (λ m. take m (part p (s.devices j).taps)) (sym (put2_all (λ v e b. b.took ≡ (s.lanes v e).took) s.lanes o d after (λ v e. refl) refl p j));
       stated = λ j day. q.stated j day ∙ ap (λ (g : ℕ → Bool). count_of (g day) (part p (s.devices j).taps) day) (sym (put2_all (λ v e b. b.stated ≡ (s.lanes v e).stated) s.lanes o d after (λ v e. refl) refl p j));
       closed = λ j. q.closed j ∙ sym (put2_all (λ v e b. b.closed ≡ (s.lanes v e).closed) s.lanes o d after (λ v e. refl) refl p j);
+      retired = λ j. q.retired j ∙ sym (put2_all (λ v e b. b.retired ≡ (s.lanes v e).retired) s.lanes o d after (λ v e. refl) refl p j);
       queue = q.queue;
       hand = q.hand;
       cursors = λ j m known f. q.cursors j m known f ∙ sym (put2_all (λ v e b. ◌≡◌ {A = ℕ × ℕ} (b.forward, b.from_day) ((s.lanes v e).forward, (s.lanes v e).from_day)) s.lanes o d after (λ v e. refl) refl p j);
@@ -639,13 +732,13 @@ pub same_owner : (w : Seen) (a : ℕ) (x y : OwnerShape) → a < length w.owners
 same_owner w a x y within e f = same_Some x y (sym (slice_get_read w.owners (length w.owners) a x refl within e) ∙ slice_get_read w.owners (length w.owners) a y refl within f)
 
 -- an owner with an item more in its queue, past which the cursor went
-pub world_forwarded : (w : Seen) (s : System) (o d a k : ℕ) (y new : OwnerShape) (x : Item) (c : ℕ × ℕ) (r : Reply) → Shows w.scheme (shape w) s → position_of_owner w.scheme o ≡ Some a → position_of_device w.scheme d ≡ Some k → a < length w.owners → y ≡ get_or w.owners a y → y.cursors d ≡ Some c → Both (IsRoutedOf s.devices o) (next_routed s o d) (Some x) → length y.queue < lane_room w.scheme o
+pub world_forwarded : (w : Seen) (s : System) (o d a k : ℕ) (y new : OwnerShape) (x : Item) (c : ℕ × ℕ) (r : Reply) → Shows w.scheme (shape w) s → position_of_owner w.scheme o ≡ Some a → position_of_device w.scheme d ≡ Some k → a < length w.owners → y ≡ get_or w.owners a y → y.cursors d ≡ Some c → (s.lanes o d).retired ≡ false → Both (IsRoutedOf s.devices o) (next_routed s o d) (Some x) → length y.queue < lane_room w.scheme o
     → new ≡ record y { queue = y.queue ++ x ∷ []; cursors = put y.cursors d (Some (cursor_past c x)) } → r ≡ forwarded_item x
     → Answers w.scheme (record (shape w) { owners = λ j. entry (position_of_owner w.scheme j) (set w.owners a new) }) (forward w.scheme s o d) r
-world_forwarded w s o d a k y new x c r sh owner device within read cursor next room seen same =
+world_forwarded w s o d a k y new x c r sh owner device within read cursor works next room seen same =
     owner_written w o a new (record y { queue = y.queue ++ x ∷ []; cursors = put y.cursors d (Some (cursor_past c x)) }) (forward w.scheme s o d) r owner within seen
     (subst (Answers w.scheme (record (shape w) { owners = put (shape w).owners o (Some (record y { queue = y.queue ++ x ∷ []; cursors = put y.cursors d (Some (cursor_past c x)) })) }) (forward w.scheme s o d)) (sym same)
-    (shown_forward w.scheme (shape w) s o d a k y x c sh owner device (owner_read w o a y owner within read) cursor next room))
+    (shown_forward w.scheme (shape w) s o d a k y x c sh owner device (owner_read w o a y owner within read) cursor works next room))
 
 pub world_fetched : (w : Seen) (s : System) (o a : ℕ) (y new : OwnerShape) (x : Item) (r : Reply) → Shows w.scheme (shape w) s → position_of_owner w.scheme o ≡ Some a → a < length w.owners → y ≡ get_or w.owners a y → y.hand ≡ None → y.queue ≡ x ∷ new.queue → new.ledger ≡ y.ledger → new.hand ≡ Some x → new.cursors ≡ y.cursors → r ≡ fetched_item x
     → Answers w.scheme (record (shape w) { owners = λ j. entry (position_of_owner w.scheme j) (set w.owners a new) }) (fetch w.scheme s o) r
@@ -665,3 +758,7 @@ world_statement w s o a y x judged sh owner within read held is = shown_statemen
 -- a close that was judged so
 pub world_close : (w : Seen) (s : System) (o d day a : ℕ) (y : OwnerShape) (judged : Result Unit CloseFault) → Shows w.scheme (shape w) s → position_of_owner w.scheme o ≡ Some a → is_some (position_of_device w.scheme d) ≡ true → a < length w.owners → y ≡ get_or w.owners a y → close_of y.ledger d day ≡ judged → CloseSeen w.scheme (shape w) s o d day y judged
 world_close w s o d day a y judged sh owner device within read is = shown_close w.scheme (shape w) s o d day a y judged sh owner device (owner_read w o a y owner within read) is
+
+-- a retire that was judged so
+pub world_retire : (w : Seen) (s : System) (o d a : ℕ) (y : OwnerShape) (judged : Result Unit RetireFault) → Shows w.scheme (shape w) s → position_of_owner w.scheme o ≡ Some a → is_some (position_of_device w.scheme d) ≡ true → a < length w.owners → y ≡ get_or w.owners a y → retire_of y.ledger d ≡ judged → RetireSeen w.scheme (shape w) s o d y judged
+world_retire w s o d a y judged sh owner device within read is = shown_retiring w.scheme (shape w) s o d a y judged sh owner device (owner_read w o a y owner within read) is

@@ -128,6 +128,7 @@ owner_grows sc s g is up took o x w = record {
   taken = λ d. w.taken d ∙ sym (took o d);
   stated = λ d day. w.stated d day ∙ count_same ((s.lanes o d).stated day) (numbered_for s o d) (part o (g d).taps) day (λ e. up.count o d day (stated_past sc s is o d day e));
   closed = w.closed;
+  retired = w.retired;
   queue = Each2-weaken (IsRoutedOf s.devices o) (IsRoutedOf g o) (routed_grows s.devices g up o) (s.owners o).queue x.queue w.queue;
   hand = Both-weaken (IsRoutedOf s.devices o) (IsRoutedOf g o) (routed_grows s.devices g up o) (s.owners o).hand x.hand w.hand;
   cursors = w.cursors;

@@ -1,6 +1,6 @@
 -- The taps of a week that a ledger holds, in the order of the lists that they are of.
 use Rattle.std.proofs.Common.{◌≡◌, refl, ℕ, ◌+◌, ◌<◌, ◌≤◌, Bool, true, false, not, List, [], ◌∷◌, Some, None, sym, ap, ◌∙◌, subst, arith, inl, inr}
-use Rattle.std.specs.Prelude.{◌⊎◌, ◌&&◌, slice_get, nat_eq, nat_le, nat_lt, option_map, if◌then◌else◌}
+use Rattle.std.specs.Prelude.{◌⊎◌, ◌&&◌, ◌||◌, slice_get, nat_eq, nat_le, nat_lt, option_map, if◌then◌else◌}
 use Rattle.std.specs.List.{IsDistinct, AllByRecursion, flat_map}
 use Rattle.std.specs.List.Sorted.{ties}
 use Rattle.std.specs.Map.{lookup, keys_of}
@@ -76,19 +76,19 @@ entry_of (e ∷ ds) d = by (nat_eq d e.0) refl (entry_of ds d)
     by false differ (inr there) = inr (there.0, inr there.1, there.2)
     by false differ (inl none) = inl (ap (λ t. option_map (λ (p : Placement). p.station) (if t then Some e.1 else lookup (nat_eq d) ds)) differ ∙ none)
 
--- where no device is open, each is closed
-pub closed_all : (start : ℕ) (closed : ℕ → ℕ) (day : ℕ) (ds : List (ℕ × Placement)) → first_open start closed day ds ≡ None → (d : ℕ × Placement) → In d ds → is_closed start (closed d.0) day ≡ true
-closed_all start closed day [] none d i = absurd i
-closed_all start closed day (e ∷ ds) none d i = by (λ rest there. closed_all start closed day ds rest d there) (is_closed start (closed e.0) day) refl i
+-- where no device is open, each is settled: closed, or retired
+pub settled_all : (start : ℕ) (closed : ℕ → ℕ) (retired : ℕ → Bool) (day : ℕ) (ds : List (ℕ × Placement)) → first_open start closed retired day ds ≡ None → (d : ℕ × Placement) → In d ds → (is_closed start (closed d.0) day || retired d.0) ≡ true
+settled_all start closed retired day [] none d i = absurd i
+settled_all start closed retired day (e ∷ ds) none d i = by (λ rest there. settled_all start closed retired day ds rest d there) (is_closed start (closed e.0) day || retired e.0) refl i
   where
-    by : (first_open start closed day ds ≡ None → In d ds → is_closed start (closed d.0) day ≡ true) → (t : Bool) → (is_closed start (closed e.0) day) ≡ t → In d (e ∷ ds) → is_closed start (closed d.0) day ≡ true
-    by rest true holds (inl same) = ap (λ (x : ℕ × Placement). is_closed start (closed x.0) day) (sym same) ∙ holds
-    by rest true holds (inr there) = rest (sym (ap (λ t. if t then first_open start closed day ds else Some e.0) holds) ∙ none) there
+    by : (first_open start closed retired day ds ≡ None → In d ds → (is_closed start (closed d.0) day || retired d.0) ≡ true) → (t : Bool) → (is_closed start (closed e.0) day || retired e.0) ≡ t → In d (e ∷ ds) → (is_closed start (closed d.0) day || retired d.0) ≡ true
+    by rest true holds (inl same) = ap (λ (x : ℕ × Placement). is_closed start (closed x.0) day || retired x.0) (sym same) ∙ holds
+    by rest true holds (inr there) = rest (sym (ap (λ t. if t then first_open start closed retired day ds else Some e.0) holds) ∙ none) there
     by rest false fails there =
-        let unclosed : Some e.0 ≡ None = sym (ap (λ t. if t then first_open start closed day ds else Some e.0) fails) ∙ none in
+        let unclosed : Some e.0 ≡ None = sym (ap (λ t. if t then first_open start closed retired day ds else Some e.0) fails) ∙ none in
         absurd (cc)
 
--- NUMBERED TAPS
+-- TAPS THAT COUNT
 -- lists of taps, by their devices, whose places tell their lane numbers; a device that isn't registered has none
 module _ (sc : SchemeValue) (taps : ℕ → List RecordValue) (placed : (d k : ℕ) (r : RecordValue) → slice_get (taps d) k ≡ Some r → (r.lane ≡ k + 1) × (r.device ≡ d)) (known : (d : ℕ) → station_of sc d ≡ None → taps d ≡ []) where
   -- no two of a device tie
@@ -158,8 +158,8 @@ module _ (sc : SchemeValue) (taps : ℕ → List RecordValue) (placed : (d k : �
                 let never : true ≡ false = sym (between.sorted j k a b lt first second) ∙ ap (λ x. ledger.is_before a x) (sym equal) ∙ before_itself a in
                 absurd (cc)
 
-    pub week_in_order : (start : ℕ) (closed : ℕ → ℕ) → IsScheme sc → ((d : ℕ) → is_closed start (closed d) to ≡ true → of_days from to (v.taken d) ≡ of_days from to (taps d)) → first_open start closed to sc.devices ≡ None → in_order rows ≡ in_order (flat_map (λ (d : ℕ × Placement). of_days from to (taps d.0)) sc.devices)
-    week_in_order start closed valid whole none = one_order rows _ rows_apart
+    pub week_in_order : (start : ℕ) (closed : ℕ → ℕ) (retired : ℕ → Bool) → IsScheme sc → ((d : ℕ) → (is_closed start (closed d) to || retired d) ≡ true → of_days from to (v.taken d) ≡ of_days from to (taps d)) → first_open start closed retired to sc.devices ≡ None → in_order rows ≡ in_order (flat_map (λ (d : ℕ × Placement). of_days from to (taps d.0)) sc.devices)
+    week_in_order start closed retired valid whole none = one_order rows _ rows_apart
         (flat_apart (λ d. of_days from to (taps d)) (λ d. apart_filter among (taps d) (lane_apart d)) of_one sc.devices valid.devices.distinct) forth back
       where
         among : RecordValue → Bool
@@ -187,8 +187,8 @@ module _ (sc : SchemeValue) (taps : ℕ → List RecordValue) (placed : (d k : �
         back r i =
             let there = of_flat (λ (d : ℕ × Placement). of_days from to (taps d.0)) sc.devices r i in
             let d = there.0.0 in
-            let shut : is_closed start (closed d) to ≡ true = closed_all start closed to sc.devices none there.0 there.1 in
-            let both = of_filter among (v.taken d) r (subst (In r) (sym (whole d shut)) there.2) in
+            let done : (is_closed start (closed d) to || retired d) ≡ true = settled_all start closed retired to sc.devices none there.0 there.1 in
+            let both = of_filter among (v.taken d) r (subst (In r) (sym (whole d done)) there.2) in
             let at = in_at (v.taken d) r both.0 in
             let days = and_parts (nat_le from r.tap.day) (nat_le r.tap.day to) both.1 in
             let found = between.all d at.0 r at.1 (within days.0) (within days.1) in

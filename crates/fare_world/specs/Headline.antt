@@ -40,12 +40,13 @@ abbrev pub IsPrefixOf : List RecordValue → List RecordValue → Type 0
 IsPrefixOf xs ys = (rest : List RecordValue) × (xs ++ rest ≡ ys)
 
 -- LANES
--- a lane, of a device and an owner: what was numbered, what was taken, the days that are closed, and the device's open day
+-- a lane, of a device and an owner: what was numbered, what was taken, the days that are closed, the device's open day, and whether the owner has retired it
 pub record Lane : Type 0 where
   pub numbered : List RecordValue
   pub taken : List RecordValue
   pub closed : ℕ → Bool
   pub day : ℕ
+  pub retired : Bool
 
 -- a tap of the open day is numbered
 pub record Numbers (old new : Lane) : Type 0 where
@@ -53,15 +54,17 @@ pub record Numbers (old new : Lane) : Type 0 where
   pub of_day : tap.tap.day ≡ old.day
   pub is : new ≡ record old { numbered = old.numbered ++ tap ∷ [] }
 
--- the first tap that was not taken is taken, where its day is not closed
+-- the first tap that was not taken is taken, where its day is not closed and the lane not retired
 pub record Takes (old new : Lane) : Type 0 where
+  pub working : old.retired ≡ false
   pub tap : RecordValue
   pub next : slice_get old.numbered (length old.taken) ≡ Some tap
   pub unclosed : old.closed tap.tap.day ≡ false
   pub is : new ≡ record old { taken = old.taken ++ tap ∷ [] }
 
--- the first day, from this one on, that is not closed is closed: a day before the open one, of which as many taps were taken as were numbered
+-- the first day, from this one on, that is not closed is closed, where the lane is not retired: a day before the open one, of which as many taps were taken as were numbered
 pub record Closes (start : ℕ) (old new : Lane) : Type 0 where
+  pub working : old.retired ≡ false
   pub closing : ℕ
   pub first : start ≤ closing
   pub past : closing < old.day
@@ -70,9 +73,14 @@ pub record Closes (start : ℕ) (old new : Lane) : Type 0 where
   pub counted : day_count old.taken closing ≡ day_count old.numbered closing
   pub is : new ≡ record old { closed = put old.closed closing true }
 
--- a lane step, where days count from this one: numbering, turning the open day, taking, closing, or nothing
+-- the lane, which was not retired, is
+pub record Retires (old new : Lane) : Type 0 where
+  pub working : old.retired ≡ false
+  pub is : new ≡ record old { retired = true }
+
+-- a lane step, where days count from this one: numbering, turning the open day, taking, closing, retiring, or nothing
 abbrev pub IsLaneStep : ℕ → Lane → Lane → Type 0
-IsLaneStep start old new = Numbers old new ⊎ ((new ≡ record old { day = old.day + 1 }) ⊎ (Takes old new ⊎ (Closes start old new ⊎ (new ≡ old))))
+IsLaneStep start old new = Numbers old new ⊎ ((new ≡ record old { day = old.day + 1 }) ⊎ (Takes old new ⊎ (Closes start old new ⊎ (Retires old new ⊎ (new ≡ old)))))
 
 -- a lane run: steps one after the other, through these lanes
 abbrev pub IsLaneRun : ℕ → Lane → List Lane → Lane → Type 0
@@ -86,6 +94,7 @@ lane_at sc s owner device = record {
   taken = taken_by s owner device;
   closed = is_closed sc.start (s.lanes owner device).closed;
   day = (s.devices device).day;
+  retired = (s.lanes owner device).retired;
 }
 
 -- the taps of each device are those before, and the one that the event's reply numbered, if it numbered one

@@ -1,5 +1,5 @@
 -- A system that events lead to.
-use Rattle.std.specs.Prelude.{◌≡◌, ℕ, ◌+◌, ◌<◌, ◌≤◌, ◌==◌, Bool, true, List, [], ◌∷◌, length, take, Option, Some, None, slice_get, if◌then◌else◌, IsSome, IfSome, ◌⊎◌}
+use Rattle.std.specs.Prelude.{◌≡◌, ℕ, ◌+◌, ◌<◌, ◌≤◌, ◌==◌, Bool, true, false, List, [], ◌∷◌, length, take, Option, Some, None, slice_get, if◌then◌else◌, IsSome, IfSome, ◌⊎◌}
 use Rattle.std.specs.List.{AllByRecursion}
 use Rattle.fare_record.specs.Values.{RecordValue}
 use Rattle.fare_record.specs.Lanes.{part, day_count}
@@ -112,10 +112,11 @@ abbrev pub Runs : ℕ → List ℕ → ℕ → Type 0
 Runs first [] last = first ≡ last
 Runs first (n ∷ ns) last = (n ≡ first + 1) × Runs (first + 1) ns last
 
--- a lane, by what was numbered, how many of these the outbox has had, the statements that it holds, and the lane numbers that its owner has not taken yet
+-- a lane, by what was numbered, how many of these the outbox has had, the statements that it holds, and the lane numbers that its owner has not taken yet, which follow one another unless the lane is retired
 pub record IsLane (start : ℕ) (numbered : List RecordValue) (arrived : ℕ) (held : ℕ → Bool) (coming : List ℕ) (l : LaneState) : Type 0 where
   pub gone : l.gone ≤ l.took
-  pub run : Runs l.took coming l.forward
+  pub took : l.took ≤ l.forward
+  pub run : l.retired ≡ false → Runs l.took coming l.forward
   pub forward : l.forward ≤ arrived
   pub stated : (day : ℕ) → l.stated day ≡ true → held day ≡ true
   pub closed : (day : ℕ) → is_closed start l.closed day ≡ true → l.stated day ≡ true

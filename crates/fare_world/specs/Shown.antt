@@ -155,6 +155,7 @@ pub record IsOwnerOf (sc : SchemeValue) (devices : ℕ → DeviceState) (owner :
   pub taken : (device : ℕ) → x.ledger.taken device ≡ take (lanes device).took (part owner (devices device).taps)
   pub stated : (device day : ℕ) → x.ledger.stated device day ≡ count_of ((lanes device).stated day) (part owner (devices device).taps) day
   pub closed : (device : ℕ) → x.ledger.closed device ≡ (lanes device).closed
+  pub retired : (device : ℕ) → x.ledger.retired device ≡ (lanes device).retired
   pub queue : Each2 (IsRoutedOf devices owner) w.queue x.queue
   pub hand : Both (IsRoutedOf devices owner) w.hand x.hand
   pub cursors : (device : ℕ) (p : ℕ × ℕ) → IsSome (position_of_device sc device) → x.cursors device ≡ Some p → p ≡ ((lanes device).forward, (lanes device).from_day)

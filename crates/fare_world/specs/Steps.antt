@@ -12,7 +12,7 @@ use Rattle.fare_world.specs.Knowing.{knows_device, knows_station, knows_owner}
 use Rattle.fare_world.specs.Tapping.{is_waiting, tap, turn, send, rewind, state}
 use Rattle.fare_world.specs.Arriving.{is_full, arrive}
 use Rattle.fare_world.specs.Storing.{draw, store, ack, day_ack, answer}
-use Rattle.fare_world.specs.Owning.{forward, fetch, take_event, close, prune}
+use Rattle.fare_world.specs.Owning.{forward, fetch, take_event, close, retire, prune}
 use Rattle.fare_world.specs.Billing.{bill, settle}
 use Rattle.fare_world.specs.Restarting.{resume, restart_device, restart_station, restart_writer, restart_owner, restart_hub}
 
@@ -43,6 +43,7 @@ step sc s (event.Forward owner device) = forward sc s owner device
 step sc s (event.Fetch owner) = fetch sc s owner
 step sc s (event.Take owner) = take_event sc s owner
 step sc s (event.Close owner device day) = close sc s owner device day
+step sc s (event.Retire owner device) = retire sc s owner device
 step sc s (event.Prune owner device) = prune sc s owner device
 step sc s (event.Resume device) = resume sc s device
 step sc s (event.RestartDevice device) = restart_device sc s device
@@ -91,6 +92,7 @@ may_fail sc s (event.Forward owner device) = knows_owner sc owner && knows_devic
 may_fail sc s (event.Fetch owner) = false
 may_fail sc s (event.Take owner) = knows_owner sc owner && is_some (s.owners owner).hand
 may_fail sc s (event.Close owner device day) = knows_owner sc owner && knows_device sc device
+may_fail sc s (event.Retire owner device) = knows_owner sc owner && knows_device sc device
 may_fail sc s (event.Prune owner device) = knows_owner sc owner && knows_device sc device
 may_fail sc s (event.Resume device) = knows_device sc device
 may_fail sc s (event.RestartDevice device) = false

@@ -1,4 +1,4 @@
-ghost use Rattle.std.specs.Prelude.{◌≡◌, ◌<◌, ℕ, List};
+ghost use Rattle.std.specs.Prelude.{◌≡◌, ◌<◌, ℕ, List, length};
 ghost use Rattle.fare_record.specs.Lanes.{lane_of};
 ghost use Rattle.fare_scheme.specs.Values.{SchemeValue};
 ghost use Rattle.fare_event.specs.declared.event.Event.{Event};
@@ -33,11 +33,11 @@ pub fn closed_days_are_whole()
 {}
 
 /// After any list of events from the start: each bill that a reply tells, and each settlement, is of exactly the
-/// taps of its week that the devices numbered for the owner, as the events and their replies tell, also after it;
-/// and so would be one asked for then.
+/// taps of its week that the devices numbered for the owner, as the events and their replies tell, also after it, but
+/// that of a lane that was retired before it has what was taken; and so would be one asked for then.
 pub fn bills_are_of_what_was_numbered()
     ensures told { (sc : SchemeValue) (es : List Event) → BillsExactly sc es (replies sc (start sc) es) }
-    ensures asked { (sc : SchemeValue) (es : List Event) (owner day : ℕ) → basis sc (after sc (start sc) es) owner day ≡ basis_told sc es (replies sc (start sc) es) owner day }
+    ensures asked { (sc : SchemeValue) (es : List Event) (owner day : ℕ) → basis sc (after sc (start sc) es) owner day ≡ basis_told sc es (replies sc (start sc) es) (length es) owner day }
 {}
 
 /// A statement keeps its count: what a device numbered for an owner of a day that it has turned stays.

@@ -113,6 +113,7 @@ impl<O: Outbox + Drop, L: Ledger + Drop> World<O, L> {
             Event::Fetch { owner } => Ok(self.fetch(owner)),
             Event::Take { owner } => self.take(owner),
             Event::Close { owner, device, day } => self.close(owner, device, day),
+            Event::Retire { owner, device } => self.retire(owner, device),
             Event::Prune { owner, device } => self.prune(owner, device),
             Event::Resume { device } => self.resume(device),
             Event::RestartDevice { device } => Ok(self.restart_device(device)),

@@ -4,7 +4,10 @@ ghost use Rattle.fare_store.specs.PlainLedgerWords.{plain_ledger};
 
 use super::PlainLedger;
 use crate::{Fault, Ledger, Refused};
-use fare_owner::{CloseFault, StatementFault, TapFault, judge_close, judge_statement, judge_tap};
+use fare_owner::{
+    CloseFault, RetireFault, StatementFault, TapFault, judge_close, judge_retire, judge_statement,
+    judge_tap,
+};
 use fare_record::{Day, DeviceId, OwnerId, Record, Statement};
 
 impl Ledger for PlainLedger {
@@ -36,11 +39,16 @@ impl Ledger for PlainLedger {
         Ok(self.stated_of(device, day))
     }
 
+    fn retired(&mut self, device: DeviceId) -> Result<bool, Fault> {
+        Ok(self.is_retired(device))
+    }
+
     fn take(&mut self, row: &Record) -> Result<(), Refused<TapFault>> {
         let (device, day) = (row.device(), row.tap().day());
         let mine = self.is_mine(row.owner(), device);
         let closed = self.is_closed(device, day);
-        match judge_tap(mine, self.held(device), closed, row.lane()) {
+        let retired = self.is_retired(device);
+        match judge_tap(mine, self.held(device), closed, row.lane(), retired) {
             Err(why) => Err(Refused::Because(why)),
             Ok(()) => match self.write_tap(row) {
                 Ok(()) => Ok(()),
@@ -52,7 +60,8 @@ impl Ledger for PlainLedger {
     fn state(&mut self, statement: &Statement) -> Result<(), Refused<StatementFault>> {
         let mine = self.is_mine(statement.owner(), statement.device());
         let held = self.stated_of(statement.device(), statement.day());
-        match judge_statement(mine, held, statement.count()) {
+        let retired = self.is_retired(statement.device());
+        match judge_statement(mine, held, statement.count(), retired) {
             Err(why) => Err(Refused::Because(why)),
             Ok(()) => match self.write_statement(statement) {
                 Ok(()) => Ok(()),
@@ -65,9 +74,20 @@ impl Ledger for PlainLedger {
         let stated = self.stated_of(device, day);
         let closed = self.is_closed(device, day);
         let next = self.is_next(device, day);
-        match judge_close(stated, closed, next, self.held_of(device, day)) {
+        let retired = self.is_retired(device);
+        match judge_close(stated, closed, next, self.held_of(device, day), retired) {
             Err(why) => Err(Refused::Because(why)),
             Ok(()) => match self.write_close(device, day) {
+                Ok(()) => Ok(()),
+                Err(_) => Err(Refused::Failed(Fault::Memory)),
+            },
+        }
+    }
+
+    fn retire(&mut self, device: DeviceId) -> Result<(), Refused<RetireFault>> {
+        match judge_retire(self.knows(device), self.is_retired(device)) {
+            Err(why) => Err(Refused::Because(why)),
+            Ok(()) => match self.write_retired(device) {
                 Ok(()) => Ok(()),
                 Err(_) => Err(Refused::Failed(Fault::Memory)),
             },

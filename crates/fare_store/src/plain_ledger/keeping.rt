@@ -1,7 +1,7 @@
 ghost use Rattle.std.specs.Prelude.{◌≡◌, ◌↔◌, ℕ, ◌+◌, ◌==◌, OnOk, OnErr, IsSome, IfOk, IfErr, IsTrue, length, unwrap_or};
 ghost use Rattle.fare_record.specs.Lanes.{day_count};
 ghost use Rattle.fare_scheme.specs.Words.{position_of_owner};
-ghost use Rattle.fare_store.specs.LedgerWords.{IsOfScheme, IsEmptyLedger, is_mine, is_closed, closed_through, with_statement, with_close};
+ghost use Rattle.fare_store.specs.LedgerWords.{IsOfScheme, IsEmptyLedger, is_mine, is_closed, closed_through, with_statement, with_close, with_retired};
 ghost use Rattle.fare_store.specs.Making.{new_refusal};
 ghost use Rattle.fare_store.specs.PlainLedgerWords.{plain_ledger};
 
@@ -10,10 +10,10 @@ use crate::LedgerFault;
 use fare_record::{Day, DeviceId, OwnerId, Record, Statement};
 use fare_scheme::Scheme;
 use std::alloc::{AllocError, Global};
-use std::collections::HashMap;
+use std::collections::{HashMap, HashSet};
 
 impl PlainLedger {
-    /// The ledger of an owner of a scheme, with no tap, no statement and no closed day.
+    /// The ledger of an owner of a scheme, with no tap, no statement, no closed day and no retired lane.
     ///
     /// Refused by the first case of `LedgerFault` that applies.
     pub fn new(alloc: Global, scheme: &Scheme, owner: OwnerId) -> Result<PlainLedger, LedgerFault>
@@ -44,21 +44,36 @@ impl PlainLedger {
             counts: HashMap::new(alloc),
             stated: HashMap::new(alloc),
             closed: HashMap::new(alloc),
+            retired: HashSet::new(alloc),
         })
     }
 
-    // Whether it has no tap, no statement and no closed day.
+    // Whether it has no tap, no statement, no closed day and no retired lane.
     pub(super) fn holds_nothing(&self) -> bool
         ensures { IsTrue result ↔ IsEmptyLedger (plain_ledger self.now) }
     {
-        self.counts.is_empty() && self.stated.is_empty()
+        self.counts.is_empty() && self.stated.is_empty() && self.retired.is_empty()
     }
 
     // Whether something of an owner and a device is this owner's, and of a device of the scheme.
     pub(crate) fn is_mine(&self, owner: OwnerId, device: DeviceId) -> bool
         ensures { result ≡ is_mine (plain_ledger self.now) owner device }
     {
-        owner == self.owner && self.taken.contains_key(&device)
+        owner == self.owner && self.knows(device)
+    }
+
+    // Whether a device is the scheme's.
+    pub(crate) fn knows(&self, device: DeviceId) -> bool
+        ensures { result ≡ (plain_ledger self.now).knows device }
+    {
+        self.taken.contains_key(&device)
+    }
+
+    // Whether the lane of a device is retired.
+    pub(super) fn is_retired(&self, device: DeviceId) -> bool
+        ensures { result ≡ (plain_ledger self.now).retired device }
+    {
+        self.retired.contains(&device)
     }
 
     // How many taps of a device it has taken.
@@ -133,6 +148,15 @@ impl PlainLedger {
         ensures err { OnErr result (plain_ledger self.new ≡ plain_ledger self.old) }
     {
         self.closed.insert(device, day)?;
+        Ok(())
+    }
+
+    // Retires the lane of a device. At an error nothing changes.
+    pub(super) fn write_retired(&mut self, device: DeviceId) -> Result<(), AllocError>
+        ensures ok { OnOk result (plain_ledger self.new ≡ with_retired device (plain_ledger self.old)) }
+        ensures err { OnErr result (plain_ledger self.new ≡ plain_ledger self.old) }
+    {
+        self.retired.insert(device)?;
         Ok(())
     }
 }

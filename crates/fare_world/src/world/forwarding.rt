@@ -1,14 +1,14 @@
 ghost use Rattle.std.specs.Prelude.{◌≡◌, Some};
 ghost use Rattle.fare_record.specs.declared.item.Item.TheVariants as item;
 ghost use Rattle.fare_scheme.specs.Words.{position_of_owner};
-ghost use Rattle.fare_world.specs.Owning.{tap_refusal, statement_refusal, close_refusal};
+ghost use Rattle.fare_world.specs.Owning.{tap_refusal, statement_refusal, close_refusal, retire_refusal};
 ghost use Rattle.fare_world.specs.Whole.{Applied, Holds, IsStepped};
 ghost use Rattle.fare_event.specs.declared.event.Event.TheVariants as event;
 
 use crate::item_reply::{fetched, forwarded};
 use crate::world::World;
 use fare_event::{Refusal, Reply};
-use fare_owner::{CloseFault, StatementFault, TapFault};
+use fare_owner::{CloseFault, RetireFault, StatementFault, TapFault};
 use fare_record::{Day, DeviceId, OwnerId, Record, Statement};
 use fare_store::{Fault, Ledger, Outbox, Refused};
 
@@ -24,6 +24,9 @@ impl<O: Outbox + Drop, L: Ledger + Drop> World<O, L> {
             return Ok(Reply::Refused(Refusal::UnknownDevice));
         }
         let side = &mut self.owners[at];
+        if side.ledger.retired(device)? {
+            return Ok(Reply::Refused(Refusal::Retired));
+        }
         let item = match side.forwarder.next(&mut self.outbox, device) {
             Ok(item) => item,
             Err(Refused::Failed(fault)) => return Err(fault),
@@ -148,6 +151,23 @@ impl<O: Outbox + Drop, L: Ledger + Drop> World<O, L> {
         }
     }
 
+    // The owner retires its lane of a device.
+    pub(super) fn retire(&mut self, owner: OwnerId, device: DeviceId) -> Result<Reply, Fault>
+        ensures { Applied O.standing L.standing self.old self.new (event.Retire owner device) result }
+    {
+        let Some(at) = self.scheme.owner_position(owner) else {
+            return Ok(Reply::Refused(Refusal::UnknownOwner));
+        };
+        if self.scheme.device_position(device).is_none() {
+            return Ok(Reply::Refused(Refusal::UnknownDevice));
+        }
+        match self.owners[at].ledger.retire(device) {
+            Ok(()) => Ok(Reply::Retired(device)),
+            Err(Refused::Because(why)) => Ok(Reply::Refused(retire_named(why))),
+            Err(Refused::Failed(fault)) => Err(fault),
+        }
+    }
+
     // The outbox loses the rows of a device that the owner's ledger has taken.
     pub(super) fn prune(&mut self, owner: OwnerId, device: DeviceId) -> Result<Reply, Fault>
         ensures { Applied O.standing L.standing self.old self.new (event.Prune owner device) result }
@@ -169,6 +189,7 @@ fn tap_named(refusal: TapFault) -> Refusal
 {
     match refusal {
         TapFault::NotMine => Refusal::NotMine,
+        TapFault::Retired => Refusal::Retired,
         TapFault::Duplicate => Refusal::Duplicate,
         TapFault::Gap => Refusal::Gap,
         TapFault::AfterClose => Refusal::AfterClose,
@@ -181,6 +202,7 @@ fn statement_named(refusal: StatementFault) -> Refusal
 {
     match refusal {
         StatementFault::NotMine => Refusal::NotMine,
+        StatementFault::Retired => Refusal::Retired,
         StatementFault::Repeated => Refusal::Repeated,
         StatementFault::Conflict => Refusal::Conflict,
     }
@@ -191,10 +213,21 @@ fn close_named(refusal: CloseFault) -> Refusal
     ensures { result ≡ close_refusal refusal }
 {
     match refusal {
+        CloseFault::Retired => Refusal::Retired,
         CloseFault::Unstated => Refusal::Unstated,
         CloseFault::AlreadyClosed => Refusal::AlreadyClosed,
         CloseFault::OutOfOrder => Refusal::OutOfOrder,
         CloseFault::CountsShort { stated, taken } => Refusal::CountsShort { stated, taken },
         CloseFault::CountsOver { stated, taken } => Refusal::CountsOver { stated, taken },
+    }
+}
+
+// The refusal of an event.
+fn retire_named(refusal: RetireFault) -> Refusal
+    ensures { result ≡ retire_refusal refusal }
+{
+    match refusal {
+        RetireFault::NotMine => Refusal::NotMine,
+        RetireFault::Retired => Refusal::Retired,
     }
 }

@@ -5,5 +5,5 @@ use Rattle.fare_lines.proofs.print_rows.append_bill.Goals as goal
 pub returns-then-is_err-clause-kept : goal.returns-then-is_err-clause-kept
 returns-then-is_err-clause-kept c =
     let at : c.len-length.result ≡ length c.args.out.now.items = search rules in
-    where_failed c.append_accounts-appended.result
-    (cut_back c.args.out.now.items _ c.append_bill_line.new.out.items c.append_accounts-appended.new.out.items c.truncate.new.self.items c.len-length.result at c.in_ok-append_bill_line.ensures.appended c.append_accounts-appended.ensures.front c.truncate.ensures.items)
+    where_failed c.append_bill_rows-appended.result
+    (cut_back c.args.out.now.items _ c.append_bill_line.new.out.items c.append_bill_rows-appended.new.out.items c.truncate.new.self.items c.len-length.result at c.in_ok-append_bill_line.ensures.appended c.append_bill_rows-appended.ensures.front c.truncate.ensures.items)

@@ -1,71 +1,71 @@
-use Rattle.std.proofs.Common.{◌≡◌, ℕ, ◌+◌, ◌<◌, ◌≤◌, Some, None, length, refl, sym, ap, ◌∙◌, arith}
-use Rattle.std.specs.Prelude.{Ok, Err, Option}
+use Rattle.std.proofs.Common.{◌≡◌, ℕ, ◌+◌, ◌<◌, ◌≤◌, Bool, Some, None, length, refl, sym, ap, ◌∙◌, arith}
+use Rattle.std.specs.Prelude.{◌||◌, Ok, Option}
 use Rattle.fare_scheme.specs.Words.{id_at}
 use Rattle.fare_store.specs.LedgerWords.{LedgerValue, closed_through}
 use Rattle.fare_store.specs.Standing.{Reads}
-use Rattle.fare_side.specs.OpenDays.{reaches, first_open}
+use Rattle.fare_side.specs.OpenDays.{is_closed, reaches}
+use Rattle.fare_side.specs.Weeks.{open_of}
 use Rattle.fare_store.proofs.Readings.{reads_none, reads_since, since_calls, calls_since, reads_say, read_failed}
-use Rattle.fare_side.proofs.Opens.{closed_by, AreClosedBefore, one_closed, one_open, none_open}
+use Rattle.fare_side.proofs.Asked.{one_more, asked_both}
+use Rattle.fare_side.proofs.Opens.{closed_by, ArePassedBefore, one_passed, one_open, none_open}
 use Rattle.fare_side.proofs.billing.first_open.Goals as goal
 
 pub loop-place-init : goal.loop-place-init
 loop-place-init g c = reads_none (g.L.Ledger.standing c.args.ledger.now) (0 < 0) _ (λ lt. omega (arith, lt)) (λ le. refl)
 
-pub returns-in_err-last : goal.returns-in_err-last
-returns-in_err-last g c =
-    let first = g.L.Ledger.standing c.args.ledger.now in
-    let before = g.L.Ledger.standing c.loop-place.ledger in
-    let now = g.L.Ledger.standing c.closed_through.new.self in
-    let one : Reads before now (λ n. n ≡ closed_through before.value c.in-Some.device) (Err c.in_err-last.field-0.0) = c.in_err-last.ensures in
-    read_failed first now _ _ c.from_residual.result c.in_err-last.field-0.0 c.from_residual.ensures.1
-    (reads_since first before now (0 < c.loop-place.place) (first.value.start ≤ c.args.day → AreClosedBefore first.value.start first.value.closed c.args.day c.args.scheme.now.devices c.loop-place.place) (Unit {0}) (Some c.in_err-last.field-0.0) c.loop-place.invariant one)
+-- whether the device is passed, by what was told of it
+told_is : (v : LedgerValue) (device day : ℕ) (last : Option ℕ) (retired settled : Bool) → v.start ≤ day → last ≡ closed_through v device → retired ≡ v.retired device → settled ≡ (reaches last day || retired) → (is_closed v.start (v.closed device) day || v.retired device) ≡ settled
+told_is v device day last retired settled le a b is = sym (is ∙ (λ i. reaches (a i) day || b i) ∙ ap (λ t. t || v.retired device) (closed_by v device day le))
 
-pub returns-then-not-reaches : goal.returns-then-not-reaches
-returns-then-not-reaches g c =
+pub returns-then-not-is_settled : goal.returns-then-not-is_settled
+returns-then-not-is_settled g c =
     let first = g.L.Ledger.standing c.args.ledger.now in
     let before = g.L.Ledger.standing c.loop-place.ledger in
-    let now = g.L.Ledger.standing c.closed_through.new.self in
-    let ds = c.args.scheme.now.devices in
+    let between = g.L.Ledger.standing c.closed_through.new.self in
+    let now = g.L.Ledger.standing c.retired.new.self in
+    let v = first.value in
+    let sc = c.args.scheme.now in
     let device = c.in-Some.device in
     let day = c.args.day in
-    let so = first.value.start ≤ day → AreClosedBefore first.value.start first.value.closed day ds c.loop-place.place in
-    let at : id_at ds c.loop-place.place ≡ Some device = sym c.device_at.ensures.value ∙ c.in-Some.is in
-    let one : Reads before now (λ n. n ≡ closed_through before.value device) (Ok c.in_ok-last.last) = c.in_ok-last.ensures in
-    reads_say first now ((before.value ≡ first.value) × so × (c.in_ok-last.last ≡ closed_through before.value device)) (first.value.start ≤ day → Some device ≡ first_open first.value.start first.value.closed day ds) None
-    (λ is. (
-      is.0,
-      λ le. one_open first.value.start first.value.closed day ds c.loop-place.place device at (is.1.1 le)
-          (sym (closed_by first.value device day le) ∙ ap (λ (v : LedgerValue). reaches (closed_through v device) day) (sym is.1.0) ∙ ap (λ (o : Option ℕ). reaches o day) (sym is.1.2) ∙ sym c.if-not-reaches.ensures),
-    ))
-    (reads_since first before now (0 < c.loop-place.place) so (c.in_ok-last.last ≡ closed_through before.value device) None c.loop-place.invariant one)
+    let last = c.in_ok-last.last in
+    let retired = c.in_ok-retired.retired in
+    let so = v.start ≤ day → ArePassedBefore v.start v.closed v.retired day sc.devices c.loop-place.place in
+    let at : id_at sc.devices c.loop-place.place ≡ Some device = sym c.device_at.ensures.value ∙ c.in-Some.is in
+    let one : Reads before between (λ n. n ≡ closed_through before.value device) (Ok last) = c.in_ok-last.ensures in
+    let two : Reads between now (λ r. r ≡ between.value.retired device) (Ok retired) = c.in_ok-retired.ensures in
+    reads_say first now (so × (last ≡ closed_through v device) × (retired ≡ v.retired device)) (v.start ≤ day → Some device ≡ open_of v day sc) None
+    (λ is. (is.0, λ le. one_open v.start v.closed v.retired day sc.devices c.loop-place.place device at (is.1.0 le) (told_is v device day last retired c.is_settled.result le is.1.1 is.1.2 c.is_settled.ensures ∙ c.if-not-is_settled.true)))
+    (asked_both first before between (0 < c.loop-place.place) so (λ (w : LedgerValue). closed_through w device) last c.loop-place.invariant one now (λ (w : LedgerValue). w.retired device) retired two)
 
 pub loop-place-preserved : goal.loop-place-preserved
 loop-place-preserved g c =
     let first = g.L.Ledger.standing c.args.ledger.now in
     let before = g.L.Ledger.standing c.loop-place.ledger in
-    let now = g.L.Ledger.standing c.closed_through.new.self in
-    let ds = c.args.scheme.now.devices in
+    let between = g.L.Ledger.standing c.closed_through.new.self in
+    let now = g.L.Ledger.standing c.retired.new.self in
+    let v = first.value in
+    let sc = c.args.scheme.now in
     let device = c.in-Some.device in
     let day = c.args.day in
-    let so = first.value.start ≤ day → AreClosedBefore first.value.start first.value.closed day ds c.loop-place.place in
-    let more = first.value.start ≤ day → AreClosedBefore first.value.start first.value.closed day ds (c.loop-place.place + 1) in
-    let at : id_at ds c.loop-place.place ≡ Some device = sym c.device_at.ensures.value ∙ c.in-Some.is in
-    let one : Reads before now (λ n. n ≡ closed_through before.value device) (Ok c.in_ok-last.last) = c.in_ok-last.ensures in
-    since_calls first now (0 < c.loop-place.place + 1) more (reads_say first now ((before.value ≡ first.value) × so × (c.in_ok-last.last ≡ closed_through before.value device)) more None
-    (λ is. (
-      is.0,
-      λ le. one_closed first.value.start first.value.closed day ds c.loop-place.place device at (is.1.1 le)
-          (sym (closed_by first.value device day le) ∙ ap (λ (v : LedgerValue). reaches (closed_through v device) day) (sym is.1.0) ∙ ap (λ (o : Option ℕ). reaches o day) (sym is.1.2) ∙ sym c.if-not-reaches.ensures),
-    ))
-    (reads_since first before now (0 < c.loop-place.place) so (c.in_ok-last.last ≡ closed_through before.value device) None c.loop-place.invariant one))
+    let last = c.in_ok-last.last in
+    let retired = c.in_ok-retired.retired in
+    let so = v.start ≤ day → ArePassedBefore v.start v.closed v.retired day sc.devices c.loop-place.place in
+    let more = v.start ≤ day → ArePassedBefore v.start v.closed v.retired day sc.devices (c.loop-place.place + 1) in
+    let at : id_at sc.devices c.loop-place.place ≡ Some device = sym c.device_at.ensures.value ∙ c.in-Some.is in
+    let one : Reads before between (λ n. n ≡ closed_through before.value device) (Ok last) = c.in_ok-last.ensures in
+    let two : Reads between now (λ r. r ≡ between.value.retired device) (Ok retired) = c.in_ok-retired.ensures in
+    since_calls first now (0 < c.loop-place.place + 1) more (reads_say first now (so × (last ≡ closed_through v device) × (retired ≡ v.retired device)) more None
+    (λ is. (is.0, λ le. one_passed v.start v.closed v.retired day sc.devices c.loop-place.place device at (is.1.0 le) (told_is v device day last retired c.is_settled.result le is.1.1 is.1.2 c.is_settled.ensures ∙ c.if-not-is_settled.false)))
+    (asked_both first before between (0 < c.loop-place.place) so (λ (w : LedgerValue). closed_through w device) last c.loop-place.invariant one now (λ (w : LedgerValue). w.retired device) retired two))
 
 pub returns : goal.returns
 returns g c =
     let first = g.L.Ledger.standing c.args.ledger.now in
     let now = g.L.Ledger.standing c.loop-place.ledger in
-    let ds = c.args.scheme.now.devices in
+    let v = first.value in
+    let sc = c.args.scheme.now in
     let day = c.args.day in
-    let long : length ds ≤ c.loop-place.place = omega (arith, c.loop-place-test.false, c.device_count-place-end.ensures.value) in
-    reads_say first now (first.value.start ≤ day → AreClosedBefore first.value.start first.value.closed day ds c.loop-place.place) (first.value.start ≤ day → None ≡ first_open first.value.start first.value.closed day ds) None
-    (λ is. (is.0, λ le. none_open first.value.start first.value.closed day ds c.loop-place.place (is.1 le) long))
-    (calls_since first now (0 < c.loop-place.place) (first.value.start ≤ day → AreClosedBefore first.value.start first.value.closed day ds c.loop-place.place) (omega (arith, long, c.device_count-place-end.ensures.valid.has_device)) c.loop-place.invariant)
+    let long : length sc.devices ≤ c.loop-place.place = omega (arith, c.loop-place-test.false, c.device_count-place-end.ensures.value) in
+    reads_say first now (v.start ≤ day → ArePassedBefore v.start v.closed v.retired day sc.devices c.loop-place.place) (v.start ≤ day → None ≡ open_of v day sc) None
+    (λ is. (is.0, λ le. none_open v.start v.closed v.retired day sc.devices c.loop-place.place (is.1 le) long))
+    (calls_since first now (0 < c.loop-place.place) (v.start ≤ day → ArePassedBefore v.start v.closed v.retired day sc.devices c.loop-place.place) (omega (arith, long, c.device_count-place-end.ensures.valid.has_device)) c.loop-place.invariant)

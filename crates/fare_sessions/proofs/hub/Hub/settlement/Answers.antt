@@ -1,19 +1,22 @@
-use Rattle.std.proofs.Common.{◌≡◌, ◌∙◌}
+use Rattle.std.proofs.Common.{◌≡◌, ◌∙◌, ap}
+use Rattle.std.specs.Prelude.{Vec}
+use Rattle.std.specs.Global.{Global}
+use Rattle.fare_record.specs.Values.{RecordValue}
 use Rattle.fare_settle.specs.Settling.{settlement_of}
 use Rattle.fare_sessions.proofs.Billed.{settlement_of_lists}
 use Rattle.fare_sessions.proofs.hub.Hub.settlement.Goals as goal
 
 pub returns-in-Ok-clause-closed : goal.returns-in-Ok-clause-closed
-returns-in-Ok-clause-closed g c = λ clean sound h may. (c.in_ok-taps.ensures.basis clean sound h may).closed
+returns-in-Ok-clause-closed g c = λ clean sound h may. (c.in_ok-basis.ensures.basis clean sound h may).closed
 
 pub returns-in-Ok-clause-taken : goal.returns-in-Ok-clause-taken
 returns-in-Ok-clause-taken g c =
-    let rows = c.in_ok-taps.taps.items in
-    let is : c.in-Ok.settlement ≡ settlement_of c.args.self.now.scheme rows c.args.day = c.in-Ok.ensures ∙ (λ i. settlement_of (c.basis.ensures.reads.scheme i) (c.deref.ensures.value i) c.args.day) in
-    λ clean sound. (rows, λ h may. (c.in_ok-taps.ensures.basis clean sound h may).taps, is)
+    let rows = c.in_ok-basis.field-0.taps.items in
+    let is : c.in-Ok.settlement ≡ settlement_of c.args.self.now.scheme rows c.args.day = c.in-Ok.ensures ∙ (λ i. settlement_of (c.basis.ensures.reads.scheme i) (c.deref.ensures.value i) c.args.day) ∙ ap (λ (v : Vec RecordValue Global). settlement_of c.args.self.now.scheme v.items c.args.day) c.into_parts-taps.ensures.taps in
+    λ clean sound. (rows, λ h may. (c.in_ok-basis.ensures.basis clean sound h may).taps, is)
 
 pub returns-in-Ok-clause-value : goal.returns-in-Ok-clause-value
 returns-in-Ok-clause-value g c =
-    let rows = c.in_ok-taps.taps.items in
-    let is : c.in-Ok.settlement ≡ settlement_of c.args.self.now.scheme rows c.args.day = c.in-Ok.ensures ∙ (λ i. settlement_of (c.basis.ensures.reads.scheme i) (c.deref.ensures.value i) c.args.day) in
-    λ clean sound lists h all may agrees. is ∙ settlement_of_lists c.args.self.now.scheme lists all h agrees c.args.owner c.in_ok-taps.ensures.known c.args.day rows (c.in_ok-taps.ensures.basis clean sound h may)
+    let rows = c.in_ok-basis.field-0.taps.items in
+    let is : c.in-Ok.settlement ≡ settlement_of c.args.self.now.scheme rows c.args.day = c.in-Ok.ensures ∙ (λ i. settlement_of (c.basis.ensures.reads.scheme i) (c.deref.ensures.value i) c.args.day) ∙ ap (λ (v : Vec RecordValue Global). settlement_of c.args.self.now.scheme v.items c.args.day) c.into_parts-taps.ensures.taps in
+    λ clean sound lists h all may agrees. is ∙ settlement_of_lists c.args.self.now.scheme lists all h agrees c.args.owner c.in_ok-basis.ensures.known c.args.day rows c.in_ok-basis.field-0.short.items (c.in_ok-basis.ensures.basis clean sound h may)

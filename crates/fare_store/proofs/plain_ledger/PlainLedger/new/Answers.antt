@@ -1,6 +1,7 @@
 use Rattle.std.proofs.Common.{◌≤◌, nat_eq, length, ap, arith}
 use Rattle.std.specs.HashMap.{get}
 use Rattle.std.specs.Map.{lookup}
+use Rattle.std.specs.List.{list_any}
 use Rattle.fare_store.specs.TapPlaces.{items_of, marks_of, same_day}
 use Rattle.fare_store.specs.PlainLedgerWords.{days_closed}
 use Rattle.fare_store.proofs.LedgerMaking.{none_fresh, more_fresh, all_known, fresh_numbered, fresh_marked, fresh_counted, fresh_positive, fresh_days}
@@ -29,6 +30,7 @@ returns-clause-empty c = record {
   taken = c.loop-position.invariant.empty;
   stated = λ d e. ap (lookup (same_day (d, e))) c.new-4.ensures.empty;
   closed = λ d. ap (λ es. days_closed c.start.result (lookup (nat_eq d) es)) c.new-5.ensures.empty;
+  retired = λ d. ap (λ ks. list_any (nat_eq d) ks) c.new-6.ensures.empty;
 }
 
 pub returns-clause-scheme : goal.returns-clause-scheme

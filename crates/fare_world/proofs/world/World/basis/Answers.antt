@@ -43,6 +43,6 @@ returns g c =
     let late : nat_le w.scheme.start c.args.day ≡ true = grind (arith, nat_tests) in
     asks_ledger g.O.Outbox.standing g.L.Ledger.standing c.args.self.now _ _ _ _ a y new _ _ refl refl (owner_here g.L.Ledger.standing xs a y within c.index_mut.ensures.value) refl c.taps_of_week.ensures
     (λ is i. record (shape w) { owners = λ j. entry (position_of_owner w.scheme j) (owners_kept g.L.Ledger.standing xs a y new c.index_mut.ensures.value (λ k. record (owner_seen g.L.Ledger.standing y) { ledger = is.0 k }) i) })
-    (λ s is sh. week_answered (λ taps. taps.items) w.scheme (shape w) s c.args.owner c.args.day a (owner_seen g.L.Ledger.standing y) c.taps_of_week.result sh c.start.ensures.valid owner
+    (λ s is sh. week_answered w.scheme (shape w) s c.args.owner c.args.day a (owner_seen g.L.Ledger.standing y) c.taps_of_week.result sh c.start.ensures.valid owner
     (owner_read w c.args.owner a (owner_seen g.L.Ledger.standing y) owner (within_seen g.L.Ledger.standing xs a within) (owner_at g.L.Ledger.standing xs a y within c.index_mut.ensures.value)) from is.1)
     (λ i. is_some (owner i) && late i)

@@ -7,5 +7,5 @@ use Rattle.fare_store.proofs.plain_ledger.calls.PlainLedgerLedger.close.Goals as
 
 pub returns-in-Ok-write_close : goal.returns-in-Ok-write_close
 returns-in-Ok-write_close c =
-    let judged : close_of (plain_ledger c.args.self.now) c.args.device c.args.day ≡ Ok tt = (λ i. close_judged (sym c.stated_of-stated.ensures i) (sym c.is_closed-closed.ensures i) (sym c.is_next-next.ensures i) (sym c.held_of.ensures i)) ∙ sym c.judge_close.ensures.judged ∙ c.in-Ok.is in
+    let judged : close_of (plain_ledger c.args.self.now) c.args.device c.args.day ≡ Ok tt = (λ i. close_judged (sym c.stated_of-stated.ensures i) (sym c.is_closed-closed.ensures i) (sym c.is_next-next.ensures i) (sym c.held_of.ensures i) (sym c.is_retired-retired.ensures i)) ∙ sym c.judge_close.ensures.judged ∙ c.in-Ok.is in
     plain_call (plain_ledger c.args.self.now) (plain_ledger c.write_close.new.self) None _ _ (λ e. absurd (cc)) (judged, c.in-Ok-write_close.ensures.ok) (inr (judged, c.in-Ok-write_close.ensures.ok))

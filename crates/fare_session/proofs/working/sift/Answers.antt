@@ -1,0 +1,40 @@
+use Rattle.std.proofs.Common.{rules, ◌≡◌, ℕ, ◌+◌, ◌++◌, ◌∷◌, [], None, Some, List, refl, sym, ap, ◌∙◌, subst, arith}
+use Rattle.std.specs.Prelude.{slice_get, get_or, Option, Ok}
+use Rattle.std.proofs.lemmas.Option.{slice_get-get_or}
+use Rattle.fare_store.specs.Standing.{Reads}
+use Rattle.fare_session.specs.Stores.{Stays}
+use Rattle.fare_session.proofs.StoreCalls.{stays_read}
+use Rattle.fare_session.proofs.Sifts.{InSift, sift_left, sift_more, sift_failed, sifted}
+use Rattle.fare_session.proofs.working.sift.Goals.{else-not-retired-via-then-not-retired+else-is_err, else-not-retired-via-else-not-retired}
+use Rattle.fare_session.proofs.working.sift.Goals as goal
+
+pub returns-in-Err : goal.returns-in-Err
+returns-in-Err g c =
+    let lo = g.L.Ledger.standing c.args.ledger.now in
+    let lm = g.L.Ledger.standing c.loop-place.ledger in
+    let ln = g.L.Ledger.standing c.retired.new.self in
+    sift_failed lo lm ln c.args.lanes.now c.loop-place.working.items c.in-Err.fault c.loop-place.invariant.stays (stays_read lm ln (Some c.in-Err.fault) (Unit {0}) (g.met.L.Ledger.sound c.loop-place.ledger) c.in-Err.ensures)
+
+pub loop-place-preserved : goal.loop-place-preserved
+loop-place-preserved g c =
+    let lo = g.L.Ledger.standing c.args.ledger.now in
+    let lm = g.L.Ledger.standing c.loop-place.ledger in
+    let ln = g.L.Ledger.standing c.retired.new.self in
+    let lanes = c.args.lanes.now in
+    let place = c.loop-place.place in
+    let before = c.loop-place.working.items in
+    let lane : ℕ × ℕ = c.index-lanes-place.result in
+    let here : slice_get lanes place ≡ Some lane = slice_get-get_or lanes place lane (omega (arith, c.loop-place-test.true)) ∙ ap {B = Option (ℕ × ℕ)} Some (sym c.index-lanes-place.is) in
+    let retired = c.in-Ok.retired in
+    let call : Reads lm ln (λ r. r ≡ lm.value.retired lane.0) (Ok retired) = c.in-Ok.ensures in
+    let read : Stays lm ln None = stays_read lm ln None (retired ≡ lm.value.retired lane.0) (g.met.L.Ledger.sound c.loop-place.ledger) call in
+    elim c.else-not-retired.branch [
+      | else-not-retired-via-then-not-retired+else-is_err w ↦
+          let more : w.push.new.self.items ≡ before ++ lane ∷ [] = search rules in
+          let goes_on = sift_more lo lm ln lanes before place lane retired here c.requires.apart c.loop-place.invariant read (λ keeps. (call.value (call.stays refl keeps.clean) keeps.lawful).1.1) w.if-not-retired.true in
+          subst (λ (l : List (ℕ × ℕ)). InSift lo ln lanes l (place + 1)) (sym (ap (λ v. v.items) w.working-is ∙ more)) goes_on
+      | else-not-retired-via-else-not-retired w ↦ subst (λ (l : List (ℕ × ℕ)). InSift lo ln lanes l (place + 1)) (sym (ap (λ v. v.items) w.working-is)) (sift_left lo lm ln lanes before place lane retired here c.requires.apart c.loop-place.invariant read (λ keeps. (call.value (call.stays refl keeps.clean) keeps.lawful).1.1) w.if-not-retired.false)
+    ]
+
+pub returns : goal.returns
+returns g c = sifted (g.L.Ledger.standing c.args.ledger.now) (g.L.Ledger.standing c.loop-place.ledger) c.args.lanes.now c.loop-place.working.items c.loop-place.place (omega (arith, c.loop-place-test.false)) c.loop-place.invariant
