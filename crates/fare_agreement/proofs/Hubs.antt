@@ -145,7 +145,6 @@ module _ {L : Type 0} (standing : L → Standing LedgerValue) (sc : SchemeValue)
               let done : k.ledgers owner ≡ with_close device (put k.ledgers owner from.0 owner) = e.1 ∙ ap (with_close device) (sym here) in
               inr (subst (λ l. MayClose l device day) (sym here) e.0, λ i. record { outbox = x.2 i; ledgers = sym (put_back k.ledgers owner from.0 (with_close device (put k.ledgers owner from.0 owner)) done) i })
 
-
   -- the ledger retired the lane, or not
   pub retire_became : (device : ℕ) → Leads (IsRetiredFrom device) (standing (ls owner)) (standing q) → Leads (λ w y. y ≡ w) o p
       → Became sc lists (MayStand sc o (λ j. standing (ls j))) (MayStand sc p (λ j. standing (put ls owner q j))) (Retires_lane owner device ∷ [])

@@ -47,7 +47,6 @@ kept_still sc h k grew (Closes_day o d day) is = closed_still (h.ledgers o) (k.l
     closed_still l m grew d day is =
         let late : open_days.is_closed l.start (m.closed d) day ≡ true = closed_later l.start (l.closed d) (m.closed d) day (grew.closed d) is in
         ap (λ n. open_days.is_closed n (m.closed d) day) grew.start ∙ late
-
 kept_still sc h k grew (Retires_lane o d) is = (grew.ledgers o).retired d is
 
 -- THE ITEM IN THE HAND
@@ -125,7 +124,6 @@ module _ (sc : SchemeValue) (lists : ℕ → List RecordValue) (all : AreNumbere
     };
     grew = record { outbox = outbox_self h.outbox; ledgers = put_all (λ p m. LedgerGrew (h.ledgers p) m) h.ledgers o (with_close d (h.ledgers o)) (λ p. ledger_self (h.ledgers p)) (close_grows lists o h.outbox (h.ledgers o) (λ e. is.lanes o e of.0) d day of.1) };
   }
-
   session_keeps h (Retires_lane o d) is of = record {
     agrees = record {
       lanes = λ p e known. put_all (λ p m. (e : ℕ) → knows_owner sc p ≡ true → lane_agrees lists h.outbox m p e) h.ledgers o (with_retired d (h.ledgers o)) (λ p e known. is.lanes p e known)
@@ -154,7 +152,6 @@ module _ (sc : SchemeValue) (lists : ℕ → List RecordValue) (all : AreNumbere
       subst (λ m. AllByRecursion (IsTaken m) v.taken) (sym (put_here h.ledgers o (given_all (h.ledgers o) v.taken)))
       (items_taken lists o h.outbox (λ d. is.stated o d) (h.ledgers o) (behind_ledger sc (h.ledgers o)) v.taken (λ d. is.lanes o d of.0) (λ d. refl) (items_first o h.outbox (behind_ledger sc (h.ledgers o)) v.taken (in_hand v.hand ++ v.queue) of.1.items)).kept
   session_kept h (Closes_day o d day) is of = subst (λ m. is_closed m d day ≡ true) (sym (put_here h.ledgers o (with_close d (h.ledgers o)))) (closed_now (h.ledgers o) d day of.1)
-
   session_kept h (Retires_lane o d) is of = ap (λ (m : LedgerValue). m.retired d) (put_here h.ledgers o (with_retired d (h.ledgers o))) ∙ put_here (h.ledgers o).retired d true
 
   pub sessions_kept : (h : StoresValue) (qs : List Session) → Agrees sc lists h → AreSessionsOf sc lists h qs → AllByRecursion (AreKept sc (stores_after_all h qs)) qs

@@ -111,8 +111,6 @@ session_leads sc s0 s h (Closes_day o d day) stations lanes room is leads = subs
         (λ i. if is.0 i then (if is.1 i then close_on sc s o d day else (s, reply.Refused UnknownDevice)) else (s, reply.Refused UnknownOwner))
         ∙ (λ i. close_by s o d day (close_judged (sym (l.stated d day) i) (is_closed (sym l.ledger.made.start i) (sym (l.closed d) i) day) (day == sym l.ledger.made.start i + sym (l.closed d) i) (day_count (sym (l.taken d) i) day) (sym (l.retired d) i)))
         ∙ ap (close_by s o d day) is.2
-
-
 session_leads sc s0 s h (Retires_lane o d) stations lanes room is leads = subst (λ z. Leads sc s0 (stores_after h (Retires_lane o d)) z.0) (sym here) (record {
   system = system_answered sc s (event.Retire o d) y here leads.system;
   stores = record {

@@ -72,9 +72,9 @@ module _ (sc : SchemeValue) (es : List Event) where
   -- of another
   counted_working : (place o d : ℕ) → was_retired es rs place o d ≡ false → (counted_for (at place) o d ≡ numbered_for (at place) o d) × (counted_told sc es rs place o d ≡ numbered_for (after sc (start sc) es) o d)
   counted_working place o d is = (
-      ap (λ b. if b then taken_by (at place) o d else numbered_for (at place) o d) (retired_at place o d ∙ is),
-      ap (λ b. if b then take (took_before es rs place o d) (lane_of o d (numbered sc es rs)) else lane_of o d (numbered sc es rs)) is ∙ sym (all_numbered o d),
-    )
+    ap (λ b. if b then taken_by (at place) o d else numbered_for (at place) o d) (retired_at place o d ∙ is),
+    ap (λ b. if b then take (took_before es rs place o d) (lane_of o d (numbered sc es rs)) else lane_of o d (numbered sc es rs)) is ∙ sym (all_numbered o d),
+  )
 
   by_test : (P : Type 0) (b : Bool) → (b ≡ true → P) → (b ≡ false → P) → P
   by_test P true p q = p refl
