@@ -61,6 +61,14 @@ no_day : fault_of hub_app (codes "bill" ∷ codes "--outbox" ∷ codes "x" ∷ c
 unfolding clap_on_literals
 no_day = refl
 
+retire : fault_of hub_app (codes "retire" ∷ codes "--outbox" ∷ codes "x" ∷ codes "--owner" ∷ codes "1" ∷ codes "--device" ∷ codes "4294967295" ∷ []) ≡ []
+unfolding clap_on_literals
+retire = refl
+
+no_device : fault_of hub_app (codes "retire" ∷ codes "--outbox" ∷ codes "x" ∷ codes "--owner" ∷ codes "1" ∷ codes "--device" ∷ codes "0" ∷ []) ≡ kind.ValueValidation ∷ []
+unfolding clap_on_literals
+no_device = refl
+
 no_stores : fault_of hub_app (codes "close" ∷ []) ≡ kind.MissingRequiredArgument ∷ []
 unfolding clap_on_literals
 no_stores = refl

@@ -1,7 +1,7 @@
 -- The command line, in the words of clap: `replay [--store STORE]`;
 -- `serve --port PORT --turns TURNS --outbox PATH [--read-ms MILLIS] [--write-ms MILLIS] [--rounds N] [--until FILE] [--patience N]`;
 -- and of the stores at a path `close --outbox PATH`, `bill --outbox PATH --owner O --day D`, `settle` with the same words,
--- and `stand --outbox PATH`.
+-- `stand --outbox PATH`, and `retire --outbox PATH --owner O --device D`.
 use Rattle.std.specs.Prelude.{◌≡◌, Some, false, true, codes, pos}
 use Rattle.clap.specs.Words.{App, Rule, Text, app_of, new_app, new_rule, with_rule, with_subcommand}
 use Rattle.clap.specs.declared.builder.command.Command.{Command}
@@ -54,6 +54,9 @@ owner_rule = record (option_rule (codes "owner")) { required = true; parser = So
 abbrev pub day_rule : Rule
 day_rule = record (option_rule (codes "day")) { required = true; parser = Some (vp.Signed (pos 0) (pos 100000)) }
 
+abbrev pub device_rule : Rule
+device_rule = record (option_rule (codes "device")) { required = true; parser = Some (vp.Signed (pos 1) (pos 4294967295)) }
+
 -- REPLAY
 abbrev pub replay_app : App
 replay_app = with_rule (new_app (codes "replay")) store_rule
@@ -80,6 +83,10 @@ stores_app name = with_rule (new_app name) outbox_rule
 abbrev pub day_app : Text → App
 day_app name = with_rule (with_rule (stores_app name) owner_rule) day_rule
 
+-- and of an owner's lane of a device
+abbrev pub lane_app : Text → App
+lane_app name = with_rule (with_rule (stores_app name) owner_rule) device_rule
+
 -- ALL
 -- the words are those after the program's name, one is a subcommand, and there is a version
 abbrev pub base_app : App
@@ -93,5 +100,8 @@ running_app = with_subcommand (with_subcommand base_app replay_app.top) serve_ap
 abbrev pub asking_app : App
 asking_app = with_subcommand (with_subcommand running_app (stores_app (codes "close")).top) (day_app (codes "bill")).top
 
+abbrev pub standing_app : App
+standing_app = with_subcommand (with_subcommand asking_app (day_app (codes "settle")).top) (stores_app (codes "stand")).top
+
 abbrev pub hub_app : App
-hub_app = with_subcommand (with_subcommand asking_app (day_app (codes "settle")).top) (stores_app (codes "stand")).top
+hub_app = with_subcommand standing_app (lane_app (codes "retire")).top

@@ -6,12 +6,12 @@ use Rattle.clap.specs.Kinds.{IsAmong}
 use Rattle.clap.specs.Words.{Row, Text, first_of, subcommand_of, takes}
 use Rattle.clap.specs.declared.error.kind.ErrorKind.{ErrorKind}
 use Rattle.clap.specs.declared.error.kind.ErrorKind.TheVariants.{DisplayHelp, DisplayVersion, OutOfMemory}
-use Rattle.fare_record.specs.Limits.{IsDay, IsOwnerId}
+use Rattle.fare_record.specs.Limits.{IsDay, IsDeviceId, IsOwnerId}
 use Rattle.fare_command.specs.CommandLine.{hub_app}
 use Rattle.fare_command.specs.declared.words.Job.{Job}
 use Rattle.fare_command.specs.declared.words.Job.TheVariants.{Replay, Serve, Ask}
 use Rattle.fare_command.specs.declared.words.Question.{Question}
-use Rattle.fare_command.specs.declared.words.Question.TheVariants.{Close, Bill, Settle, Stand}
+use Rattle.fare_command.specs.declared.words.Question.TheVariants.{Close, Bill, Settle, Stand, Retire}
 use Rattle.fare_command.specs.declared.words.WordsFault.{WordsFault}
 use Rattle.fare_command.specs.declared.words.WordsFault.TheVariants.{Asked, Refused, Memory}
 
@@ -43,12 +43,15 @@ abbrev pub usual_rounds : Option Text → ℕ
 usual_rounds None = 1
 usual_rounds (Some file) = 4294967295
 
--- an owner, and a day, that the texts of options say
+-- an owner, a day and a device that the texts of options say
 abbrev pub IsOwnerIn : List Row → ℕ → Type 0
 IsOwnerIn rows owner = IsNumber 16 (first_of (codes "owner") rows) owner × IsOwnerId owner
 
 abbrev pub IsDayIn : List Row → ℕ → Type 0
 IsDayIn rows day = IsNumber 32 (first_of (codes "day") rows) day × IsDay day
+
+abbrev pub IsDeviceIn : List Row → ℕ → Type 0
+IsDeviceIn rows device = IsNumber 32 (first_of (codes "device") rows) device × IsDeviceId device
 
 -- the question of a subcommand with these matches
 abbrev pub IsQuestion : Text → List Row → Question → Type 0
@@ -56,6 +59,7 @@ IsQuestion name rows Close = name ≡ codes "close"
 IsQuestion name rows (Bill owner day) = (name ≡ codes "bill") × IsOwnerIn rows owner × IsDayIn rows day
 IsQuestion name rows (Settle owner day) = (name ≡ codes "settle") × IsOwnerIn rows owner × IsDayIn rows day
 IsQuestion name rows Stand = name ≡ codes "stand"
+IsQuestion name rows (Retire owner device) = (name ≡ codes "retire") × IsOwnerIn rows owner × IsDeviceIn rows device
 
 -- the job of a subcommand with these matches
 abbrev pub JobIn : Text → List Row → Job → Type 0

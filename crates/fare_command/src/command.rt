@@ -1,6 +1,6 @@
 ghost use Rattle.std.specs.Prelude.{◌≡◌, IfOk, false, codes};
 ghost use Rattle.clap.specs.Words.{App, app_of, rule_of, with_subcommand};
-ghost use Rattle.fare_command.specs.CommandLine.{IsMade, asking_app, base_app, day_app, day_rule, hub_app, outbox_rule, owner_rule, patience_rule, plain_serve_app, port_rule, read_rule, replay_app, rounds_rule, running_app, serve_app, store_rule, stores_app, turns_rule, until_rule, waiting_serve_app, write_rule};
+ghost use Rattle.fare_command.specs.CommandLine.{IsMade, asking_app, base_app, day_app, day_rule, device_rule, hub_app, lane_app, outbox_rule, owner_rule, patience_rule, plain_serve_app, port_rule, read_rule, replay_app, rounds_rule, running_app, serve_app, standing_app, store_rule, stores_app, turns_rule, until_rule, waiting_serve_app, write_rule};
 
 use clap::{Arg, ArgAction, Command};
 use std::alloc::{AllocError, Global};
@@ -152,6 +152,20 @@ fn day_arg<'a>(alloc: Global) -> Arg<'a>
         .help("The traffic day, counted from 1970-01-01 = 0, up to 100,000")
 }
 
+/// `--device D`
+fn device_arg<'a>(alloc: Global) -> Arg<'a>
+    ensures rule { rule_of result ≡ device_rule }
+    ensures local { result.global ≡ false }
+{
+    Arg::new(alloc, "device")
+        .long("device")
+        .value_name("D")
+        .action(ArgAction::Set)
+        .required(true)
+        .value_parser(clap::value_parser!(u32).range(1..=4_294_967_295))
+        .help("The device, 1 to 4,294,967,295")
+}
+
 fn replay_command<'a>(alloc: Global) -> Result<Command<'a>, AllocError>
     ensures { IfOk result (IsMade replay_app) }
 {
@@ -211,6 +225,15 @@ fn day_command<'a>(alloc: Global, name: &'a str, about: &'a str) -> Result<Comma
     stores_command(alloc, name, about)?
         .arg(owner_arg(alloc))?
         .arg(day_arg(alloc))
+}
+
+/// An order of an owner's lane of a device.
+fn lane_command<'a>(alloc: Global, name: &'a str, about: &'a str) -> Result<Command<'a>, AllocError>
+    ensures { IfOk result (IsMade (lane_app name.now)) }
+{
+    stores_command(alloc, name, about)?
+        .arg(owner_arg(alloc))?
+        .arg(device_arg(alloc))
 }
 
 /// The program, with no subcommand yet.
@@ -277,10 +300,18 @@ fn with_settle<'a>(alloc: Global) -> Result<Command<'a>, AllocError>
     joined(asking_command(alloc), day_command(alloc, "settle", about))
 }
 
+/// And with `stand`.
+fn with_stand<'a>(alloc: Global) -> Result<Command<'a>, AllocError>
+    ensures { IfOk result (IsMade standing_app) }
+{
+    let about = "Reads a scheme, and writes where each device's lanes stand";
+    joined(with_settle(alloc), stores_command(alloc, "stand", about))
+}
+
 /// The command line of the program.
 pub fn hub_command<'a>(alloc: Global) -> Result<Command<'a>, AllocError>
     ensures { IfOk result (λ c. app_of c ≡ hub_app) }
 {
-    let about = "Reads a scheme, and writes where each device's lanes stand";
-    joined(with_settle(alloc), stores_command(alloc, "stand", about))
+    let about = "Reads a scheme, and ends an owner's lane of a device, for good";
+    joined(with_stand(alloc), lane_command(alloc, "retire", about))
 }

@@ -2,13 +2,13 @@ ghost use Rattle.std.specs.Prelude.{◌≡◌, ℕ, Bool, None, IfOk, IfErr, map
 ghost use Rattle.clap.specs.Words.{rows_of, found_of, first_of, subcommand_of, subcommand_rows_of};
 ghost use Rattle.clap.specs.Values.{kind_of};
 ghost use Rattle.fare_command.specs.CommandLine.{hub_app};
-ghost use Rattle.fare_command.specs.Jobs.{IsDayIn, IsGiven, IsOwnerIn, IsStore, IsNumber, IsTurns, JobIn, JobOf, RefusedFor, FailsOn, IsSound, Tells};
+ghost use Rattle.fare_command.specs.Jobs.{IsDayIn, IsDeviceIn, IsGiven, IsOwnerIn, IsStore, IsNumber, IsTurns, JobIn, JobOf, RefusedFor, FailsOn, IsSound, Tells};
 ghost use Rattle.fare_command.specs.declared.words.WordsFault.TheVariants.{Memory};
 
 use crate::command::hub_command;
 use clap::ArgMatches;
 use clap::error::ErrorKind;
-use fare_record::{Day, OwnerId};
+use fare_record::{Day, DeviceId, OwnerId};
 use std::alloc::{AllocError, Global};
 use thiserror::Error;
 
@@ -42,6 +42,8 @@ pub enum Question {
     Settle { owner: OwnerId, day: Day },
     /// Where each device's lanes stand.
     Stand,
+    /// End an owner's lane of a device, for good.
+    Retire { owner: OwnerId, device: DeviceId },
 }
 
 /// What the program is asked to do.
@@ -229,6 +231,24 @@ fn day_of(alloc: Global, matches: &ArgMatches<'_>) -> Result<Day, WordsFault>
     }
 }
 
+/// The device that is named.
+fn device_of(alloc: Global, matches: &ArgMatches<'_>) -> Result<DeviceId, WordsFault>
+    ensures ok { IfOk result (IsDeviceIn (rows_of (found_of matches.now))) }
+    ensures err { IfErr result (RefusedFor ((n : ℕ) → IsDeviceIn (rows_of (found_of matches.now)) n → ⊥)) }
+{
+    let text = "error: the device is a number from 1 to 4,294,967,295\n";
+    let Some(device) = text_of(matches, "device") else {
+        return Err(WordsFault::Refused(String::from_str(alloc, text)?));
+    };
+    let Ok(number) = device.parse::<u32>() else {
+        return Err(WordsFault::Refused(String::from_str(alloc, text)?));
+    };
+    match DeviceId::new(u64::from(number)) {
+        Some(device) => Ok(device),
+        None => Err(WordsFault::Refused(String::from_str(alloc, text)?)),
+    }
+}
+
 /// The path of the outbox's database.
 fn path_of<'a>(alloc: Global, matches: &ArgMatches<'a>) -> Result<&'a str, WordsFault>
     ensures ok { IfOk result (λ path. first_of (codes "outbox") (rows_of (found_of matches.now)) ≡ Some path.now) }
@@ -330,6 +350,20 @@ fn stand_job<'a>(alloc: Global, matches: &ArgMatches<'a>) -> Result<Job<'a>, Wor
     })
 }
 
+/// The job of `retire`.
+fn retire_job<'a>(alloc: Global, matches: &ArgMatches<'a>) -> Result<Job<'a>, WordsFault>
+    ensures ok { IfOk result (JobIn (codes "retire") (rows_of (found_of matches.now))) }
+    ensures err { IfErr result (RefusedFor ((job : Job) → JobIn (codes "retire") (rows_of (found_of matches.now)) job → ⊥)) }
+{
+    let path = path_of(alloc, matches)?;
+    let owner = owner_of(alloc, matches)?;
+    let device = device_of(alloc, matches)?;
+    Ok(Job::Ask {
+        path,
+        question: Question::Retire { owner, device },
+    })
+}
+
 /// The job that clap's matches ask for.
 fn job_in<'a>(alloc: Global, matches: &ArgMatches<'a>) -> Result<Job<'a>, WordsFault>
     ensures ok { IfOk result (JobOf (subcommand_rows_of matches.now)) }
@@ -342,8 +376,10 @@ fn job_in<'a>(alloc: Global, matches: &ArgMatches<'a>) -> Result<Job<'a>, WordsF
         Some(("bill", inner)) => bill_job(alloc, inner),
         Some(("settle", inner)) => settle_job(alloc, inner),
         Some(("stand", inner)) => stand_job(alloc, inner),
+        Some(("retire", inner)) => retire_job(alloc, inner),
         _ => {
-            let text = "error: the command is replay, serve, close, bill, settle or stand\n";
+            let text =
+                "error: the command is replay, serve, close, bill, settle, stand or retire\n";
             Err(WordsFault::Refused(String::from_str(alloc, text)?))
         }
     }

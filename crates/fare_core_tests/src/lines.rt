@@ -1,7 +1,7 @@
 use crate::checking::same;
 use fare_event::{Event, Refusal, Reply};
 use fare_lines::{Line, ParseFault, SchemeLine, parse, print_reply};
-use fare_record::{DeviceId, StationId};
+use fare_record::{DeviceId, OwnerId, StationId};
 use fare_scheme::DemoSize;
 use std::alloc::Global;
 use std::process::Abort;
@@ -83,6 +83,16 @@ fn parses_restart_lines(rt: HostRuntime) {
         Event::RestartWriter,
     ];
     let text = b"restart device 7\nrestart station 9\nrestart writer\n";
+    same(&rt, &has_events(rt.alloc(), text, &want), &Ok(true));
+}
+
+#[test]
+fn parses_retire_lines(rt: HostRuntime) {
+    let want = [Event::Retire {
+        owner: OwnerId::new(65535).expect(&rt, "owner"),
+        device: device(&rt, 4294967295),
+    }];
+    let text = b"retire 65535 4294967295\n";
     same(&rt, &has_events(rt.alloc(), text, &want), &Ok(true));
 }
 
@@ -282,6 +292,22 @@ fn refuses_bad_acknowledging_lines(rt: HostRuntime) {
 }
 
 #[test]
+fn refuses_bad_retire_lines(rt: HostRuntime) {
+    const CASES: [&[u8]; 7] = [
+        b"retire",
+        b"retire 1",
+        b"retire 0 1",
+        b"retire 1 0",
+        b"retire 65536 1",
+        b"retire 1 4294967296",
+        b"retire 1 1 1",
+    ];
+    for &text in &CASES {
+        is_refused(&rt, rt.alloc(), text, 1);
+    }
+}
+
+#[test]
 fn refuses_bad_restart_lines(rt: HostRuntime) {
     const CASES: [&[u8]; 11] = [
         b"restart",
@@ -369,4 +395,18 @@ refused Misrouted
 refused AckAhead
 ";
     are_printed(&rt, rt.alloc(), &replies, want);
+}
+
+#[test]
+fn prints_replies_of_retired_lanes(rt: HostRuntime) {
+    let replies = [
+        Reply::Retired(device(&rt, 4294967295)),
+        Reply::Refused(Refusal::Retired),
+    ];
+    are_printed(
+        &rt,
+        rt.alloc(),
+        &replies,
+        b"retired 4294967295\nrefused Retired\n",
+    );
 }

@@ -38,17 +38,27 @@ fn closed_world(alloc: Global) -> Option<PlainWorld> {
     Some(world)
 }
 
+/// A bill, and the devices of which it is short, or why there is none.
+type Told = Result<(Bill, Vec<DeviceId>), Refused<BillFault>>;
+
 // An owner's bill of a day.
-fn bill(world: &mut PlainWorld, owner: u64, day: u64) -> Option<Result<Bill, Refused<BillFault>>> {
+fn bill(world: &mut PlainWorld, owner: u64, day: u64) -> Option<Told> {
     Some(world.bill(OwnerId::new(owner)?, Day::new(day)?))
 }
 
-// How many accounts a bill has, the rides and the amount of the first, and the total.
-type Read = (usize, u64, u64, u128);
+// How many accounts a bill has, the rides and the amount of the first, and the total, and of how many devices it is short.
+type Read = (usize, u64, u64, u128, usize);
 
-fn read(bill: &Bill) -> Option<Read> {
+fn read(told: &(Bill, Vec<DeviceId>)) -> Option<Read> {
+    let (bill, short) = told;
     let row: &Row = bill.rows().first()?;
-    Some((bill.rows().len(), row.rides, row.amount.get(), bill.total()))
+    Some((
+        bill.rows().len(),
+        row.rides,
+        row.amount.get(),
+        bill.total(),
+        short.len(),
+    ))
 }
 
 // The one share of a settlement: operator, taps and amount.
@@ -64,16 +74,46 @@ fn closed_day(alloc: Global) -> Option<(Read, Read, (u16, u64, u128))> {
     let mut world = closed_world(alloc)?;
     let first = read(&bill(&mut world, 1, 19_723)?.ok()?)?;
     let again = read(&bill(&mut world, 1, 19_723)?.ok()?)?;
-    let settlement = world.settlement(OwnerId::new(1)?, Day::new(19_723)?).ok()?;
+    let (settlement, short) = world.settlement(OwnerId::new(1)?, Day::new(19_723)?).ok()?;
+    if !short.is_empty() {
+        return None;
+    }
     Some((first, again, share(&settlement)?))
 }
 
 #[test]
 fn a_closed_day_has_a_bill(rt: HostRuntime) {
-    let all = (1, 450, 525, 525);
+    let all = (1, 450, 525, 525, 0);
     same(
         &rt,
         &closed_day(rt.alloc()),
         &Some((all, all, (1, 450, 525))),
+    );
+}
+
+// The lane of device 1 is retired with all its taps taken and no day closed.
+fn retired_world(alloc: Global) -> Option<PlainWorld> {
+    let retire = Event::Retire {
+        owner: OwnerId::new(1)?,
+        device: DeviceId::new(1)?,
+    };
+    let (world, _replies) = busy_world(alloc)?.run(&[retire]).ok()?;
+    Some(world)
+}
+
+// The bill of an open day of a retired lane, and its settlement's share with how many devices it lacks.
+fn retired_day(alloc: Global) -> Option<(Read, (u16, u64, u128), usize)> {
+    let mut world = retired_world(alloc)?;
+    let told = read(&bill(&mut world, 1, 19_723)?.ok()?)?;
+    let (settlement, short) = world.settlement(OwnerId::new(1)?, Day::new(19_723)?).ok()?;
+    Some((told, share(&settlement)?, short.len()))
+}
+
+#[test]
+fn a_retired_lane_is_billed_with_what_was_taken(rt: HostRuntime) {
+    same(
+        &rt,
+        &retired_day(rt.alloc()),
+        &Some(((1, 450, 525, 525, 1), (1, 450, 525), 1)),
     );
 }

@@ -3,7 +3,7 @@ use Rattle.std.specs.Prelude.{Result, Ok, Err, IfOk}
 use Rattle.std.specs.declared.alloc.AllocError.{AllocError}
 use Rattle.clap.specs.Words.{App, app_of, with_subcommand}
 use Rattle.clap.specs.declared.builder.command.Command.{Command}
-use Rattle.fare_command.specs.CommandLine.{IsMade, asking_app, day_app, stores_app}
+use Rattle.fare_command.specs.CommandLine.{IsMade, lane_app, standing_app}
 use Rattle.fare_command.proofs.command.hub_command.Goals as goal
 
 -- the command alone
@@ -13,6 +13,5 @@ is_app app (Err error) made = tt
 
 pub returns : goal.returns
 returns c =
-    let outer : App = with_subcommand asking_app (day_app (codes "settle")).top in
-    let inner : App = stores_app (codes "stand") in
-    is_app (with_subcommand outer inner.top) c.joined.result (c.joined.ensures outer inner c.with_settle.ensures c.stores_command.ensures)
+    let inner : App = lane_app (codes "retire") in
+    is_app (with_subcommand standing_app inner.top) c.joined.result (c.joined.ensures standing_app inner c.with_stand.ensures c.lane_command.ensures)
