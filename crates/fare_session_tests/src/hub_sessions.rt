@@ -97,7 +97,8 @@ fn bill<O: Outbox, L: Ledger>(
         return None;
     }
     match hub.bill(alloc, OwnerId::new(owner)?, Day::new(day)?) {
-        Ok(bill) => Some(Ok(bill)),
+        Ok((bill, short)) if short.is_empty() => Some(Ok(bill)),
+        Ok(_) => None,
         Err(why) => Some(Err(Why::Bill(why))),
     }
 }
@@ -112,7 +113,8 @@ fn settlement<O: Outbox, L: Ledger>(
         return None;
     }
     match hub.settlement(alloc, OwnerId::new(owner)?, Day::new(day)?) {
-        Ok(settlement) => Some(Ok(settlement)),
+        Ok((settlement, short)) if short.is_empty() => Some(Ok(settlement)),
+        Ok(_) => None,
         Err(why) => Some(Err(Why::Bill(why))),
     }
 }

@@ -9,6 +9,8 @@ mod given;
 #[cfg(test)]
 mod hub_sessions;
 mod hubs;
+#[cfg(test)]
+mod retired_lanes;
 mod scripts;
 #[cfg(test)]
 mod sessions;

@@ -1,5 +1,5 @@
 use crate::checking::same;
-use crate::stores::{Answer, Call, answer_to};
+use crate::stores::{Answer, Call, RETIRED_ALONE, RETIRING, answer_to};
 use fare_ledger::{LedgerOpenFault, SqlLedger};
 use fare_owner::{CloseFault, StatementFault, TapFault};
 use fare_record::{Day, OwnerId};
@@ -70,7 +70,7 @@ fn says(ledger: &mut SqlLedger<MemStore>, calls: &[(Call, Answer)]) -> bool {
 #[test]
 fn a_ledger_in_tables_takes_each_next_tap(rt: HostRuntime) {
     const CALLS: [(Call, Answer); 7] = [
-        (Call::Empty, Answer::Empty(Ok(true))),
+        (Call::Empty, Answer::Holds(Ok(true))),
         (Call::Take(2), Answer::Taken(Err(Because(TapFault::Gap)))),
         (Call::TakeAll(300), Answer::Taken(Ok(()))),
         (
@@ -79,7 +79,7 @@ fn a_ledger_in_tables_takes_each_next_tap(rt: HostRuntime) {
         ),
         (Call::Count, Answer::Number(Ok(300))),
         (Call::DayCount, Answer::Number(Ok(300))),
-        (Call::Empty, Answer::Empty(Ok(false))),
+        (Call::Empty, Answer::Holds(Ok(false))),
     ];
     let mut ledger = ledger(rt.alloc(), &[]).expect(&rt, "ledger");
     same(&rt, &says(&mut ledger, &CALLS), &true);
@@ -103,7 +103,7 @@ fn a_ledger_in_tables_closes_a_day_where_the_counts_agree(rt: HostRuntime) {
         (Call::Stated, Answer::Maybe(Ok(Some(1)))),
         (Call::State(1), REPEATED),
         (Call::State(2), CONFLICT),
-        (Call::Empty, Answer::Empty(Ok(false))),
+        (Call::Empty, Answer::Holds(Ok(false))),
         (Call::Close, Answer::Closed(Err(Because(SHORT)))),
         (Call::ClosedThrough, Answer::Maybe(Ok(None))),
         (Call::Take(1), Answer::Taken(Ok(()))),
@@ -195,7 +195,7 @@ INSERT INTO rider (name) VALUES ('a'), ('b'); INSERT INTO pass VALUES (1, 5), (2
 #[test]
 fn a_ledger_opens_wherever_its_tables_stand(rt: HostRuntime) {
     const CALLS: [(Call, Answer); 7] = [
-        (Call::Empty, Answer::Empty(Ok(true))),
+        (Call::Empty, Answer::Holds(Ok(true))),
         (Call::TakeAll(3), Answer::Taken(Ok(()))),
         (
             Call::Take(3),

@@ -52,4 +52,6 @@ mod traces;
 #[cfg(test)]
 mod traces_of_days;
 #[cfg(test)]
+mod traces_of_retired;
+#[cfg(test)]
 mod worked;

@@ -1,5 +1,5 @@
 use crate::checking::same;
-use crate::worked::{TRACES_OF_DAYS, TRACES_OF_SCHEMES, TRACES_OF_TAPS};
+use crate::worked::{TRACES_OF_DAYS, TRACES_OF_RETIRED, TRACES_OF_SCHEMES, TRACES_OF_TAPS};
 use fare_replay::{ReplayFault, replay, replay_sql};
 use std::alloc::{AllocError, Global};
 use std::process::Abort;
@@ -32,6 +32,7 @@ fn are_answered(rt: &impl Abort, alloc: Global, cases: &[(&[u8], &[u8])]) {
 fn replays_traces_over_tables(rt: HostRuntime) {
     are_answered(&rt, rt.alloc(), &TRACES_OF_TAPS);
     are_answered(&rt, rt.alloc(), &TRACES_OF_DAYS);
+    are_answered(&rt, rt.alloc(), &TRACES_OF_RETIRED);
     are_answered(&rt, rt.alloc(), &TRACES_OF_SCHEMES);
 }
 

@@ -23,11 +23,12 @@ const STORED: [(Asked, Said); 4] = [
 ];
 
 // What a ledger is asked, and what it answers.
-const TAKEN: [(Call, Answer); 4] = [
+const TAKEN: [(Call, Answer); 5] = [
     (Call::Take(1), Answer::Taken(Ok(()))),
     (Call::Take(2), Answer::Taken(Ok(()))),
     (Call::State(2), Answer::Stated(Ok(()))),
     (Call::Close, Answer::Closed(Ok(()))),
+    (Call::Retire(1), Answer::Ended(Ok(()))),
 ];
 
 // How many steps an outbox acknowledges until one fails, which has to answer Store.
@@ -82,7 +83,8 @@ fn taken_in<L: Ledger>(ledger: &mut L) -> Option<u64> {
             return match answer {
                 Answer::Taken(Err(Refused::Failed(Fault::Store)))
                 | Answer::Stated(Err(Refused::Failed(Fault::Store)))
-                | Answer::Closed(Err(Refused::Failed(Fault::Store))) => Some(done),
+                | Answer::Closed(Err(Refused::Failed(Fault::Store)))
+                | Answer::Ended(Err(Refused::Failed(Fault::Store))) => Some(done),
                 _ => None,
             };
         }
@@ -109,7 +111,12 @@ fn held_in<L: Ledger>(ledger: &mut L) -> Option<(u64, bool)> {
     let rows = ledger.taps_between(day, day).ok()?.len() as u64;
     let stated = is_there(answer_to(ledger, Call::Stated)?, 2)?;
     let closed = is_there(answer_to(ledger, Call::ClosedThrough)?, 19_723)?;
-    let held = count.saturating_add(stated).saturating_add(closed);
+    let retired = match answer_to(ledger, Call::Retired)? {
+        Answer::Holds(Ok(retired)) => u64::from(retired),
+        _ => return None,
+    };
+    let days = stated.saturating_add(closed);
+    let held = count.saturating_add(days).saturating_add(retired);
     Some((held, rows == count))
 }
 
@@ -194,7 +201,7 @@ fn a_failure_at_any_call_leaves_each_step_whole_or_not_at_all(rt: HostRuntime) {
             same(&rt, &(calls, (kept, whole)), &(calls, (true, true)));
         }
         let [(stored, _, _), (taken, _, _)] = stops;
-        if (stored, taken) == (4, 4) {
+        if (stored, taken) == (4, 5) {
             full = true;
             break;
         }

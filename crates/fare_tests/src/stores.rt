@@ -1,5 +1,5 @@
 use crate::checking::same;
-use fare_owner::{CloseFault, StatementFault, TapFault};
+use fare_owner::{CloseFault, RetireFault, StatementFault, TapFault};
 use fare_part_tests::{FIRST, Numbers, record, statement};
 use fare_record::{Day, DeviceId, Moment, OwnerId, Record, Statement};
 use fare_scheme::{DemoSize, Scheme};
@@ -220,17 +220,22 @@ pub(crate) enum Call {
     State(u64),
     /// The day is closed.
     Close,
+    /// The lane of the device with this number is retired.
+    Retire(u64),
+    /// Whether the lane is retired.
+    Retired,
 }
 
 /// What it answers.
 #[derive(Clone, Copy, PartialEq, Eq, Debug)]
 pub(crate) enum Answer {
-    Empty(Result<bool, Fault>),
+    Holds(Result<bool, Fault>),
     Number(Result<u64, Fault>),
     Maybe(Result<Option<u64>, Fault>),
     Taken(Result<(), Refused<TapFault>>),
     Stated(Result<(), Refused<StatementFault>>),
     Closed(Result<(), Refused<CloseFault>>),
+    Ended(Result<(), Refused<RetireFault>>),
 }
 
 // The ledger of an owner of the demonstration scheme with one device.
@@ -285,7 +290,7 @@ fn between(alloc: Global, from: u64, to: u64) -> Option<(Option<u64>, Option<u64
 pub(crate) fn answer_to<L: Ledger>(ledger: &mut L, call: Call) -> Option<Answer> {
     let (device, day) = (device()?, Day::new(19_723)?);
     match call {
-        Call::Empty => Some(Answer::Empty(ledger.is_empty())),
+        Call::Empty => Some(Answer::Holds(ledger.is_empty())),
         Call::Count => Some(Answer::Number(ledger.count(device))),
         Call::DayCount => Some(Answer::Number(ledger.day_count(device, day))),
         Call::ClosedThrough => closed_through(ledger),
@@ -297,6 +302,8 @@ pub(crate) fn answer_to<L: Ledger>(ledger: &mut L, call: Call) -> Option<Answer>
             Some(Answer::Stated(ledger.state(&statement)))
         }
         Call::Close => Some(Answer::Closed(ledger.close(device, day))),
+        Call::Retire(device) => Some(Answer::Ended(ledger.retire(DeviceId::new(device)?))),
+        Call::Retired => Some(Answer::Holds(ledger.retired(device))),
     }
 }
 
@@ -322,7 +329,7 @@ fn a_ledger_is_of_an_owner_of_the_scheme(rt: HostRuntime) {
 #[test]
 fn a_ledger_takes_each_next_tap(rt: HostRuntime) {
     const CALLS: [(Call, Answer); 7] = [
-        (Call::Empty, Answer::Empty(Ok(true))),
+        (Call::Empty, Answer::Holds(Ok(true))),
         (Call::Take(2), Answer::Taken(Err(Because(TapFault::Gap)))),
         (Call::TakeAll(1_500), Answer::Taken(Ok(()))),
         (
@@ -331,7 +338,7 @@ fn a_ledger_takes_each_next_tap(rt: HostRuntime) {
         ),
         (Call::Count, Answer::Number(Ok(1_500))),
         (Call::DayCount, Answer::Number(Ok(1_500))),
-        (Call::Empty, Answer::Empty(Ok(false))),
+        (Call::Empty, Answer::Holds(Ok(false))),
     ];
     answers(&rt, rt.alloc(), &CALLS);
 }
@@ -432,4 +439,46 @@ fn a_ledger_closes_a_day_where_the_counts_agree(rt: HostRuntime) {
         ),
     ];
     answers(&rt, rt.alloc(), &CALLS);
+}
+
+/// Calls on a new ledger that retire its lane of device 1, with their answers.
+pub(crate) const RETIRING: [(Call, Answer); 13] = [
+    (Call::Retired, Answer::Holds(Ok(false))),
+    (Call::State(2), Answer::Stated(Ok(()))),
+    (Call::TakeAll(2), Answer::Taken(Ok(()))),
+    (
+        Call::Retire(9),
+        Answer::Ended(Err(Because(RetireFault::NotMine))),
+    ),
+    (Call::Retire(1), Answer::Ended(Ok(()))),
+    (
+        Call::Retire(1),
+        Answer::Ended(Err(Because(RetireFault::Retired))),
+    ),
+    (Call::Retired, Answer::Holds(Ok(true))),
+    (Call::Take(3), Answer::Taken(Err(Because(TapFault::Retired)))),
+    (
+        Call::State(2),
+        Answer::Stated(Err(Because(StatementFault::Retired))),
+    ),
+    (
+        Call::Close,
+        Answer::Closed(Err(Because(CloseFault::Retired))),
+    ),
+    (Call::Count, Answer::Number(Ok(2))),
+    (Call::Stated, Answer::Maybe(Ok(Some(2)))),
+    (Call::ClosedThrough, Answer::Maybe(Ok(None))),
+];
+
+/// A retired lane alone makes a ledger hold something.
+pub(crate) const RETIRED_ALONE: [(Call, Answer); 3] = [
+    (Call::Empty, Answer::Holds(Ok(true))),
+    (Call::Retire(1), Answer::Ended(Ok(()))),
+    (Call::Empty, Answer::Holds(Ok(false))),
+];
+
+#[test]
+fn a_ledger_takes_nothing_more_of_a_retired_lane(rt: HostRuntime) {
+    answers(&rt, rt.alloc(), &RETIRING);
+    answers(&rt, rt.alloc(), &RETIRED_ALONE);
 }

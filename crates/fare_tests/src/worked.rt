@@ -2,6 +2,7 @@
 
 use crate::traces::*;
 use crate::traces_of_days::*;
+use crate::traces_of_retired::*;
 
 /// A trace and the replies to its lines.
 type Worked = (&'static [u8], &'static [u8]);
@@ -36,6 +37,21 @@ pub(crate) const TRACES_OF_DAYS: [Worked; 10] = [
     (SMALL_ROOMS, SMALL_ROOMS_ANSWERED),
     (TWO_OWNERS_A_DAY, TWO_OWNERS_A_DAY_ANSWERED),
     (A_DAY_OF_WINDOWS, A_DAY_OF_WINDOWS_ANSWERED),
+];
+
+/// Devices that are retired, and the bills of their days.
+pub(crate) const TRACES_OF_RETIRED: [Worked; 5] = [
+    (RETIRED_DEVICE, RETIRED_DEVICE_ANSWERED),
+    (
+        RETIRED_WITH_A_TAP_IN_HAND,
+        RETIRED_WITH_A_TAP_IN_HAND_ANSWERED,
+    ),
+    (
+        RETIRED_WITH_TAPS_ON_THEIR_WAY,
+        RETIRED_WITH_TAPS_ON_THEIR_WAY_ANSWERED,
+    ),
+    (RETIRED_WITH_A_TAP_TAKEN, RETIRED_WITH_A_TAP_TAKEN_ANSWERED),
+    (THREE_DEVICES, THREE_DEVICES_ANSWERED),
 ];
 
 /// Schemes registered and sealed line by line, and what comes before they are.
