@@ -1,6 +1,6 @@
 use crate::checking::{contains, same};
 use fare_command::{Job, Question, WordsFault, read_words};
-use fare_record::{Day, OwnerId};
+use fare_record::{Day, DeviceId, OwnerId};
 use std::test::Fail;
 
 #[test]
@@ -92,7 +92,8 @@ fn reads_how_long_to_serve(rt: HostRuntime) -> Result<(), Fail> {
 fn reads_questions(rt: HostRuntime) -> Result<(), Fail> {
     let owner = OwnerId::new(65_535).expect(&rt, "owner");
     let day = Day::new(100_000).expect(&rt, "day");
-    let cases: [(&[&str], Question); 4] = [
+    let device = DeviceId::new(4_294_967_295).expect(&rt, "device");
+    let cases: [(&[&str], Question); 5] = [
         (&["close", "--outbox", "x"], Question::Close),
         (
             &[
@@ -112,6 +113,18 @@ fn reads_questions(rt: HostRuntime) -> Result<(), Fail> {
             Question::Settle { owner, day },
         ),
         (&["stand", "--outbox", "x"], Question::Stand),
+        (
+            &[
+                "retire",
+                "--device",
+                "4294967295",
+                "--outbox",
+                "x",
+                "--owner",
+                "65535",
+            ],
+            Question::Retire { owner, device },
+        ),
     ];
     for (words, want) in cases {
         match read_words(rt.alloc(), words)? {
@@ -125,7 +138,12 @@ fn reads_questions(rt: HostRuntime) -> Result<(), Fail> {
 // Words of a question that lacks something, or has a number out of its range.
 #[test]
 fn refuses_questions(rt: HostRuntime) -> Result<(), Fail> {
-    const CASES: [(&[&str], &str); 5] = [
+    const CASES: [(&[&str], &str); 7] = [
+        (&["retire", "--outbox", "x", "--owner", "1"], "--device <D>"),
+        (
+            &["retire", "--outbox", "x", "--owner", "1", "--device", "0"],
+            "0 is not in 1..=4294967295",
+        ),
         (&["close"], "--outbox <PATH>"),
         (&["bill", "--outbox", "x", "--owner", "1"], "--day <D>"),
         (&["settle", "--outbox", "x", "--day", "1"], "--owner <O>"),

@@ -9,6 +9,7 @@ use fare_scheme::{DemoSize, Scheme};
 use fare_sessions::Hub;
 use fare_store::{FailingLedger, Ledger, Outbox, PlainLedger, PlainOutbox};
 use std::alloc::Global;
+use std::process::Abort;
 
 // The day of the taps.
 const DAY: u64 = 19_723;
@@ -241,19 +242,20 @@ fn a_ledger_that_fails_ends_the_closes(rt: HostRuntime) {
     const TWO: &[u8] = b"close 1 1 19723: closed 1 19723\nclose 1 1 19724: closed 1 19724\n";
     const THREE: &[u8] =
         b"close 1 1 19723: closed 1 19723\nclose 1 1 19724: closed 1 19724\nclose 1 2 19723: closed 2 19723\n";
-    // Each day asks which is the last closed ONE and whether the next is stated, and closes it; a lane ends with TWO
-    // questions.
-    const CASES: [(u64, &[u8]); 10] = [
+    // A lane begins with the question whether it is retired; each day asks which is the last closed ONE and whether the
+    // next is stated, and closes it; a lane ends with TWO questions.
+    const CASES: [(u64, &[u8]); 11] = [
         (1, b""),
         (2, b""),
-        (3, b""),
-        (4, ONE),
-        (6, ONE),
-        (7, TWO),
+        (4, b""),
+        (5, ONE),
+        (7, ONE),
         (8, TWO),
         (9, TWO),
+        (10, TWO),
         (11, TWO),
-        (12, THREE),
+        (13, TWO),
+        (14, THREE),
     ];
     for &(calls, lines) in &CASES {
         let mut hub = failing_hub(alloc, calls).expect(&rt, "hub");
@@ -263,5 +265,111 @@ fn a_ledger_that_fails_ends_the_closes(rt: HostRuntime) {
             &(ended, said.as_slice()),
             &(Err(DeskFault::Store), lines),
         );
+    }
+}
+
+fn retire(owner: u64, device: u64) -> Option<Question> {
+    Some(Question::Retire {
+        owner: OwnerId::new(owner)?,
+        device: DeviceId::new(device)?,
+    })
+}
+
+// How each of these questions of one hub is answered.
+fn are_answered(
+    rt: &impl Abort,
+    alloc: Global,
+    hub: &mut Hub<PlainOutbox, PlainLedger>,
+    cases: &[(Option<Question>, Result<(), DeskFault>, &[u8])],
+) {
+    for &(question, end, lines) in cases {
+        let question = question.expect(rt, "question");
+        let (ended, said) = answered(alloc, hub, question).expect(rt, "answer");
+        same(rt, &(ended, said.as_slice()), &(end, lines));
+    }
+}
+
+// A retired lane is passed over by the closes, and billed with what was taken of it; the other lane is closed.
+#[test]
+fn a_retired_lane_is_passed_over_and_billed(rt: HostRuntime) {
+    let alloc = rt.alloc();
+    let mut hub = hub_with(alloc, WHOLE, WHOLE).expect(&rt, "hub");
+    let second = DeviceId::new(2).expect(&rt, "device");
+    let cases: [(Option<Question>, Result<(), DeskFault>, &[u8]); 10] = [
+        (retire(9, 9), Err(DeskFault::UnknownOwner), b""),
+        (retire(1, 9), Err(DeskFault::UnknownDevice), b""),
+        (retire(1, 1), Ok(()), b"retired 1\n"),
+        (retire(1, 1), Err(DeskFault::Retired), b""),
+        (
+            bill(1, DAY),
+            Err(DeskFault::NotClosed { device: second }),
+            b"",
+        ),
+        (
+            Some(Question::Close),
+            Ok(()),
+            b"close 1 2 19723: closed 2 19723\nclose 1 2 19724: closed 2 19724\n",
+        ),
+        (Some(Question::Close), Ok(()), b""),
+        (
+            bill(1, DAY),
+            Ok(()),
+            b"bill 1 19723 1 525\naccount 1 77 4 525\nshort 1\n",
+        ),
+        (
+            settle(1, DAY),
+            Ok(()),
+            b"settlement 1 19723 2\noperator 1 2 350\noperator 2 2 175\nshort 1\n",
+        ),
+        (
+            Some(Question::Stand),
+            Ok(()),
+            b"upto 1 0\nupto 2 0\nlane 1 1 taken 2 closed none rows 0 statements 0 retired\nlane 1 2 taken 2 closed 19724 rows 0 statements 0\n",
+        ),
+    ];
+    are_answered(&rt, alloc, &mut hub, &cases);
+}
+
+// A day that was closed before its lane was retired is billed whole, and no day behind it.
+#[test]
+fn a_day_that_was_closed_before_is_not_short(rt: HostRuntime) {
+    let alloc = rt.alloc();
+    let mut hub = hub_with(alloc, WHOLE, WHOLE).expect(&rt, "hub");
+    let cases: [(Option<Question>, Result<(), DeskFault>, &[u8]); 5] = [
+        (
+            Some(Question::Close),
+            Ok(()),
+            b"close 1 1 19723: closed 1 19723\nclose 1 1 19724: closed 1 19724\nclose 1 2 19723: closed 2 19723\nclose 1 2 19724: closed 2 19724\n",
+        ),
+        (retire(1, 2), Ok(()), b"retired 2\n"),
+        (
+            bill(1, DAY),
+            Ok(()),
+            b"bill 1 19723 1 525\naccount 1 77 4 525\n",
+        ),
+        (retire(1, 1), Ok(()), b"retired 1\n"),
+        (
+            bill(1, DAY + 2),
+            Ok(()),
+            b"bill 1 19725 0 0\nshort 1\nshort 2\n",
+        ),
+    ];
+    are_answered(&rt, alloc, &mut hub, &cases);
+}
+
+// A ledger that fails retires nothing, and nothing is written; asked again it retires the lane.
+#[test]
+fn a_ledger_that_fails_retires_nothing(rt: HostRuntime) {
+    let alloc = rt.alloc();
+    let mut hub = failing_hub(alloc, 1).expect(&rt, "hub");
+    let cases: [(Result<(), DeskFault>, &[u8]); 3] = [
+        (Err(DeskFault::Store), b""),
+        (Ok(()), b"retired 2\n"),
+        (Err(DeskFault::Retired), b""),
+    ];
+    for (end, lines) in cases {
+        let question = retire(1, 2).expect(&rt, "question");
+        let (ended, said) = answered(alloc, &mut hub, question).expect(&rt, "answer");
+        same(&rt, &(ended, said.as_slice()), &(end, lines));
     }
 }

@@ -3,7 +3,7 @@ use fare_command::Question;
 use fare_desk::DeskFault;
 use fare_event::Refusal;
 use fare_part_tests::{GREETED, STATED, TAPPED};
-use fare_record::{Day, OwnerId};
+use fare_record::{Day, DeviceId, OwnerId};
 use fare_replay::{ReplayFault, replay};
 use fare_run::{AskFailure, AskOptions, ServeFailure, ServeOptions, ask, serve};
 use fare_serve::Limits;
@@ -135,22 +135,43 @@ fn asked(rt: &HostRuntime, path: &str, question: Question) -> (Result<(), AskFai
     (ended, output)
 }
 
-// One tap is served; its day isn't closed, for want of a statement, so it has no bill.
+// One tap is served; its day isn't closed, for want of a statement, so it has no bill before its lane is retired.
 #[test]
 fn questions_of_what_was_served(rt: HostRuntime) {
     let (ended, _) = served(&rt, &rt, "asked.db", DEMO, &[&GREETED, &TAPPED]);
     same(&rt, &ended, &Ok(()));
     let owner = OwnerId::new(1).expect(&rt, "owner");
+    let device = DeviceId::new(1).expect(&rt, "device");
+    let retire = Question::Retire { owner, device };
     let day = Day::new(19_722).expect(&rt, "day");
+    let early = Question::Bill { owner, day };
+    let day = Day::new(19_723).expect(&rt, "day");
     let bill = Question::Bill { owner, day };
-    let cases: [(Question, Result<(), AskFailure>, &[u8]); 3] = [
+    let cases: [(Question, Result<(), AskFailure>, &[u8]); 8] = [
         (
             Question::Stand,
             Ok(()),
             b"upto 1 1\nlane 1 1 taken 1 closed none rows 0 statements 0\n",
         ),
         (Question::Close, Ok(()), b""),
-        (bill, Err(AskFailure::Desk(DeskFault::BeforeStart)), b""),
+        (early, Err(AskFailure::Desk(DeskFault::BeforeStart)), b""),
+        (
+            bill,
+            Err(AskFailure::Desk(DeskFault::NotClosed { device })),
+            b"",
+        ),
+        (retire, Ok(()), b"retired 1\n"),
+        (retire, Err(AskFailure::Desk(DeskFault::Retired)), b""),
+        (
+            bill,
+            Ok(()),
+            b"bill 1 19723 1 175\naccount 1 77 1 175\nshort 1\n",
+        ),
+        (
+            Question::Stand,
+            Ok(()),
+            b"upto 1 1\nlane 1 1 taken 1 closed none rows 0 statements 0 retired\n",
+        ),
     ];
     for (question, ends, lines) in cases {
         let (ended, said) = asked(&rt, "asked.db", question);
