@@ -11,7 +11,7 @@ use Rattle.fare_command.specs.Jobs.{JobOf}
 use Rattle.fare_command.specs.declared.words.Job.{Job}
 use Rattle.fare_command.specs.declared.words.Job.TheVariants as job
 use Rattle.fare_command.specs.declared.words.Question.{Question}
-use Rattle.fare_command.specs.declared.words.Question.TheVariants.{Close, Bill, Settle, Stand}
+use Rattle.fare_command.specs.declared.words.Question.TheVariants.{Close, Bill, Settle, Stand, Retire}
 use Rattle.fare_desk.specs.Closing.{AreLinesOf, lanes_of}
 use Rattle.fare_desk.specs.Showing.{AreLaneLines, AreUptoLines}
 use Rattle.fare_desk.specs.declared.fault.DeskFault.{DeskFault}
@@ -41,6 +41,13 @@ not_settle e = letters_apart (ap (λ (l : List ℕ). slice_index_or l 0 0) e)
 not_stand : codes "replay" ≡ codes "stand" → ⊥
 not_stand e = absurd (cc)
 
+-- and their third ones
+third_letters_apart : ◌≡◌ {A = ℕ} 112 116 → ⊥
+third_letters_apart e = absurd (omega (arith, e))
+
+not_retire : codes "replay" ≡ codes "retire" → ⊥
+not_retire e = third_letters_apart (ap (λ (l : List ℕ). slice_index_or l 2 0) e)
+
 -- words that ask for a replay ask for nothing else
 pub no_files : (matched : Option (Text × List Row)) (sql : _) (j : Job) → JobOf matched (job.Replay sql) → JobOf matched j → IsOfFiles j → ⊥
 no_files None sql j replays is files = replays
@@ -50,14 +57,15 @@ no_files (Some m) sql (job.Ask path Close) replays is files = not_close (sym rep
 no_files (Some m) sql (job.Ask path (Bill owner day)) replays is files = not_bill (sym replays.0 ∙ is.1.0)
 no_files (Some m) sql (job.Ask path (Settle owner day)) replays is files = not_settle (sym replays.0 ∙ is.1.0)
 no_files (Some m) sql (job.Ask path Stand) replays is files = not_stand (sym replays.0 ∙ is.1)
+no_files (Some m) sql (job.Ask path (Retire owner device)) replays is files = not_retire (sym replays.0 ∙ is.1.0)
 
 -- THE STORES
 module _ {O L : Type 0} (outbox : O → Standing OutboxValue) (ledger : L → Standing LedgerValue) where
   -- what was written, of a hub of this scheme
   answered : (question : Question) (sc : SchemeValue) (old new : Hub O L) (before after : Option (List ℕ)) → old.scheme ≡ sc → Answers outbox ledger question old new before after → IsAnswered sc question before after
   answered Close sc old new before after same a = (a.text, subst (λ (x : SchemeValue). AreLinesOf (lanes_of x) a.text) same a.lines, a.written)
-  answered (Bill owner day) sc old new before after same a = (a.bill, a.written)
-  answered (Settle owner day) sc old new before after same a = (a.shares, a.written)
+  answered (Bill owner day) sc old new before after same a = (a.bill, a.short, a.written)
+  answered (Settle owner day) sc old new before after same a = (a.shares, a.short, a.written)
   answered Stand sc old new before after same a = (
     a.uptos,
     a.lanes,
@@ -65,6 +73,7 @@ module _ {O L : Type 0} (outbox : O → Standing OutboxValue) (ledger : L → St
     subst (λ (x : SchemeValue). AreLaneLines (lanes_of x) a.lanes) same a.lane_lines,
     a.written,
   )
+  answered (Retire owner device) sc old new before after same a = a.written
 
   pub ask_done : (question : Question) (known : Option (List ℕ)) (sc : SchemeValue) (old new : Hub O L) (before after : Option (List ℕ)) → old.scheme ≡ sc → IfSome known (SpellsScheme sc) → Answers outbox ledger question old new before after → IfSome known (AskEnds question before after)
   ask_done question None sc old new before after same spelled a = tt
@@ -75,6 +84,8 @@ pub keeps_unless : (fault : DeskFault) (before after : Option (List ℕ)) → (f
 keeps_unless desk.UnknownOwner before after is = is (λ e. absurd (cc))
 keeps_unless desk.BeforeStart before after is = is (λ e. absurd (cc))
 keeps_unless (desk.NotClosed device) before after is = is (λ e. absurd (cc))
+keeps_unless desk.UnknownDevice before after is = is (λ e. absurd (cc))
+keeps_unless desk.Retired before after is = is (λ e. absurd (cc))
 keeps_unless desk.Memory before after is = is (λ e. absurd (cc))
 keeps_unless desk.Store before after is = is (λ e. absurd (cc))
 keeps_unless desk.Write before after is = tt

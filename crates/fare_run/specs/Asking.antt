@@ -1,23 +1,28 @@
 -- What comes of a question of the stores, or an order.
-use Rattle.std.specs.Prelude.{◌⊎◌, ℕ, List, ◌++◌, Option}
+use Rattle.std.specs.Prelude.{◌≡◌, ◌≢◌, ◌↔◌, ◌⊎◌, ℕ, List, ◌++◌, Option, None}
 use Rattle.std.specs.Io.KnownBytes.{Appends, Keeps}
 use Rattle.std.specs.Map.{keys_of}
 use Rattle.fare_cap.specs.Bills.{BillValue}
 use Rattle.fare_settle.specs.declared.settled.Settled.{Settled}
 use Rattle.fare_scheme.specs.Values.{SchemeValue}
+use Rattle.fare_scheme.specs.Words.{position_of_device, position_of_owner}
 use Rattle.fare_store.specs.Standing.{Standing}
 use Rattle.fare_store.specs.OutboxWords.{OutboxValue}
 use Rattle.fare_store.specs.LedgerWords.{LedgerValue}
 use Rattle.fare_event.specs.declared.reply.Reply.TheVariants as reply
 use Rattle.fare_lines.specs.Replies.{reply_text}
 use Rattle.fare_command.specs.declared.words.Question.{Question}
-use Rattle.fare_command.specs.declared.words.Question.TheVariants.{Close, Bill, Settle, Stand}
+use Rattle.fare_command.specs.declared.words.Question.TheVariants.{Close, Bill, Settle, Stand, Retire}
 use Rattle.fare_desk.specs.Billing.{WritesBill, WritesSettlement}
+use Rattle.fare_desk.specs.Faults.{name_of}
+use Rattle.fare_desk.specs.Retiring.{ComesOf, Leaves, RetiresLane}
 use Rattle.fare_desk.specs.Closing.{AreLinesOf, HasClosedLanes, lanes_of}
 use Rattle.fare_desk.specs.Showing.{AreLaneLines, AreUptoLines, WritesStanding}
 use Rattle.fare_desk.specs.declared.fault.DeskFault.{DeskFault}
 use Rattle.fare_desk.specs.declared.fault.DeskFault.TheVariants as desk
 use Rattle.fare_sessions.specs.declared.hub.Hub.{Hub}
+use Rattle.fare_sessions.specs.Billing.{IsBillRefusal}
+use Rattle.fare_sessions.specs.Stores.{AreClean, AreSound}
 use Rattle.fare_run.specs.Scheming.{MakesNoScheme, SpellsScheme}
 use Rattle.fare_run.specs.Serving.{HasScheme}
 use Rattle.fare_run.specs.Stores.{IsOfStores}
@@ -25,12 +30,13 @@ use Rattle.fare_run.specs.declared.ask_failure.AskFailure.{AskFailure}
 use Rattle.fare_run.specs.declared.ask_failure.AskFailure.TheVariants.{Stores, Desk}
 use Rattle.fare_run.specs.declared.serve_failure.ServeFailure.{ServeFailure}
 
--- it changes nothing
-abbrev pub IsQuestion : Question → Type 0
-IsQuestion Close = ⊥
-IsQuestion (Bill owner day) = Unit {0}
-IsQuestion (Settle owner day) = Unit {0}
-IsQuestion Stand = Unit {0}
+-- it is answered at once: where it fails, nothing was written, but where the writer failed
+abbrev pub IsAnsweredAtOnce : Question → Type 0
+IsAnsweredAtOnce Close = ⊥
+IsAnsweredAtOnce (Bill owner day) = Unit {0}
+IsAnsweredAtOnce (Settle owner day) = Unit {0}
+IsAnsweredAtOnce Stand = Unit {0}
+IsAnsweredAtOnce (Retire owner device) = Unit {0}
 
 -- what was written to it, of the stores of a hub
 abbrev pub Answers : {O L : Type 0} → (O → Standing OutboxValue) → (L → Standing LedgerValue) → Question → Hub O L → Hub O L → Option (List ℕ) → Option (List ℕ) → Type 0
@@ -38,14 +44,28 @@ Answers outbox ledger Close old new before after = HasClosedLanes outbox ledger 
 Answers outbox ledger (Bill owner day) old new before after = WritesBill outbox ledger old new owner day before after
 Answers outbox ledger (Settle owner day) old new before after = WritesSettlement outbox ledger old new owner day before after
 Answers outbox ledger Stand old new before after = WritesStanding outbox ledger old new before after
+Answers outbox ledger (Retire owner device) old new before after = RetiresLane outbox ledger owner device old new before after
+
+-- What a fault says of the stores of a hub: to a bill, which refusal applies; to `retire` also what the fault leaves.
+abbrev pub FailsOf : {O L : Type 0} → (O → Standing OutboxValue) → (L → Standing LedgerValue) → Question → Hub O L → Hub O L → DeskFault → Type 0
+FailsOf outbox ledger Close old new fault = Unit {0}
+FailsOf outbox ledger (Bill owner day) old new fault = AreClean outbox ledger new → AreSound outbox ledger old → IsBillRefusal outbox ledger old owner day (name_of fault)
+FailsOf outbox ledger (Settle owner day) old new fault = AreClean outbox ledger new → AreSound outbox ledger old → IsBillRefusal outbox ledger old owner day (name_of fault)
+FailsOf outbox ledger Stand old new fault = name_of fault ≡ None
+FailsOf outbox ledger (Retire owner device) old new fault =
+    ((fault ≡ desk.UnknownOwner) ↔ (position_of_owner old.scheme owner ≡ None))
+    × ((fault ≡ desk.UnknownDevice) ↔ ((position_of_owner old.scheme owner ≢ None) × (position_of_device old.scheme device ≡ None)))
+    × ComesOf outbox ledger old new (Leaves owner device fault)
 
 -- What was written to it, by the scheme alone. To `close`, for each lane a line for each of some days in a row, all of
--- which were closed but the last, which may have been refused; to `stand`, a line for each device and for each lane.
+-- which were closed but the last, which may have been refused; to `stand`, a line for each device and for each lane; to
+-- `retire`, the line that the lane is.
 abbrev pub IsAnswered : SchemeValue → Question → Option (List ℕ) → Option (List ℕ) → Type 0
 IsAnswered sc Close before after = (text : List ℕ) × AreLinesOf (lanes_of sc) text × Appends before after text
-IsAnswered sc (Bill owner day) before after = (bill : BillValue) × Appends before after (reply_text (reply.Bill owner day bill))
-IsAnswered sc (Settle owner day) before after = (shares : List Settled) × Appends before after (reply_text (reply.Settlement owner day shares))
+IsAnswered sc (Bill owner day) before after = (bill : BillValue) × (short : List ℕ) × Appends before after (reply_text (reply.Bill owner day bill short))
+IsAnswered sc (Settle owner day) before after = (shares : List Settled) × (short : List ℕ) × Appends before after (reply_text (reply.Settlement owner day shares short))
 IsAnswered sc Stand before after = (uptos : List ℕ) × (lanes : List ℕ) × AreUptoLines (keys_of sc.devices) uptos × AreLaneLines (lanes_of sc) lanes × Appends before after (uptos ++ lanes)
+IsAnswered sc (Retire owner device) before after = Appends before after (reply_text (reply.Retired device))
 
 -- answered: the input makes a scheme, and the answer for it was written
 pub record AskEnds (question : Question) (before after : Option (List ℕ)) (input : List ℕ) : Type 0 where
@@ -66,4 +86,4 @@ KeepsUnlessWrite _ before after = Keeps before after
 -- question writes nothing, but where the writer failed.
 abbrev pub AskFails : Question → Option (List ℕ) → Option (List ℕ) → Option (List ℕ) → AskFailure → Type 0
 AskFails question known before after (Stores why) = Keeps before after × OpensNone known why
-AskFails question known before after (Desk fault) = HasScheme known × (IsQuestion question → KeepsUnlessWrite fault before after)
+AskFails question known before after (Desk fault) = HasScheme known × (IsAnsweredAtOnce question → KeepsUnlessWrite fault before after)

@@ -9,7 +9,7 @@ use crate::serve_job::hub_at;
 use fare_databases::{Absent, close_files};
 use std::io::{Read, Write};
 
-/// Answers a question of the stores in files at a path, or closes their days, for the scheme that the lines of an input
+/// Answers a question of the stores in files at a path, closes their days or retires a lane, for the scheme that the lines of an input
 /// make. A file that isn't there is not made.
 ///
 /// `Stores` where the input makes no scheme, or where the stores can't be opened: nothing is written then. `Desk` as

@@ -2,17 +2,17 @@ ghost use Rattle.std.specs.Prelude.{◌≡◌, ◌≢◌, OnOk, IfErr};
 ghost use Rattle.std.specs.Io.KnownBytes.{Keeps};
 ghost use Rattle.fare_desk.specs.Closing.{GoesOn};
 ghost use Rattle.fare_sessions.specs.Stores.{HasLedgers};
-ghost use Rattle.fare_run.specs.Asking.{Answers, IsQuestion};
+ghost use Rattle.fare_run.specs.Asking.{Answers, FailsOf, IsAnsweredAtOnce};
 ghost use Rattle.fare_desk.specs.declared.fault.DeskFault.TheVariants.{Write};
 
 use fare_command::Question;
-use fare_desk::{DeskFault, close_days, write_bill, write_settlement, write_standing};
+use fare_desk::{DeskFault, close_days, retire_lane, write_bill, write_settlement, write_standing};
 use fare_sessions::Hub;
 use fare_store::{Ledger, Outbox};
 use std::alloc::Global;
 use std::io::Write;
 
-/// Answers a question of these stores, or closes their days, and writes what comes of it, as `fare_desk` says. Each
+/// Answers a question of these stores, closes their days or retires a lane, and writes what comes of it, as `fare_desk` says. Each
 /// failure comes as its call says.
 pub fn answer_over<Ob: Outbox, L: Ledger, O: Write>(
     alloc: Global,
@@ -23,12 +23,14 @@ pub fn answer_over<Ob: Outbox, L: Ledger, O: Write>(
     requires ledgers { HasLedgers hub.old }
     ensures goes { GoesOn Ob.standing L.standing hub.old hub.new }
     ensures answers { OnOk result (Answers Ob.standing L.standing question hub.old hub.new (O.contents output.old) (O.contents output.new)) }
-    ensures kept { IsQuestion question → IfErr result (λ fault. fault ≢ Write → Keeps (O.contents output.old) (O.contents output.new)) }
+    ensures fails { IfErr result (FailsOf Ob.standing L.standing question hub.old hub.new) }
+    ensures kept { IsAnsweredAtOnce question → IfErr result (λ fault. fault ≢ Write → Keeps (O.contents output.old) (O.contents output.new)) }
 {
     match question {
         Question::Close => close_days(alloc, hub, output),
         Question::Bill { owner, day } => write_bill(alloc, hub, owner, day, output),
         Question::Settle { owner, day } => write_settlement(alloc, hub, owner, day, output),
         Question::Stand => write_standing(alloc, hub, output),
+        Question::Retire { owner, device } => retire_lane(alloc, hub, owner, device, output),
     }
 }
