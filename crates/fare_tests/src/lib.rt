@@ -17,6 +17,8 @@ mod endings;
 #[cfg(test)]
 mod files;
 #[cfg(test)]
+mod first_format;
+#[cfg(test)]
 mod hub_stops;
 #[cfg(test)]
 mod layout;

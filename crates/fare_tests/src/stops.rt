@@ -174,13 +174,26 @@ fn stopped<S: Alter + Reopen + Drop>(
     ])
 }
 
-// A database in two disks in memory that fail after so many calls, if they last until it is open.
-pub(crate) fn burning(alloc: Global, calls: u64) -> Option<Connection<FileStore<Fuse<Memory>>>> {
+// A database in two disks in memory that fail after so many calls, of which one holds this file, if they last until it is
+// open.
+pub(crate) fn burning_over(
+    alloc: Global,
+    file: Memory,
+    calls: u64,
+) -> Option<Connection<FileStore<Fuse<Memory>>>> {
     let files = Files {
         log: Fuse::new(Memory::new(alloc), calls),
-        db: Fuse::new(Memory::new(alloc), calls),
+        db: Fuse::new(file, calls),
     };
+    if !files.may_be_used() {
+        return None;
+    }
     Connection::open_files(alloc, files, Options::new(1)).ok()
+}
+
+// The same with no file.
+pub(crate) fn burning(alloc: Global, calls: u64) -> Option<Connection<FileStore<Fuse<Memory>>>> {
+    burning_over(alloc, Memory::new(alloc), calls)
 }
 
 // An outbox and a ledger in such databases. It alone names their kind, since a function that does is slow to prove.

@@ -456,7 +456,10 @@ pub(crate) const RETIRING: [(Call, Answer); 13] = [
         Answer::Ended(Err(Because(RetireFault::Retired))),
     ),
     (Call::Retired, Answer::Holds(Ok(true))),
-    (Call::Take(3), Answer::Taken(Err(Because(TapFault::Retired)))),
+    (
+        Call::Take(3),
+        Answer::Taken(Err(Because(TapFault::Retired))),
+    ),
     (
         Call::State(2),
         Answer::Stated(Err(Because(StatementFault::Retired))),
