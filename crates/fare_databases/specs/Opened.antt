@@ -7,11 +7,13 @@ use Rattle.fare_tables.specs.Tabled.{IsFit, IsLeft}
 use Rattle.fare_store.specs.Standing.{Standing}
 use Rattle.fare_store.specs.OutboxWords.{OutboxValue, IsEmptyOutbox}
 use Rattle.fare_store.specs.LedgerWords.{LedgerValue, IsEmptyLedger, IsOfScheme}
+use Rattle.fare_opening.specs.declared.site.Site.{Site}
 use Rattle.fare_outbox.specs.declared.layout.Layout as outbox_layout
 use Rattle.fare_outbox.specs.Layouts as outbox_layouts
 use Rattle.fare_outbox.specs.Opening as outbox_opening
 use Rattle.fare_outbox.specs.Words as outbox_words
 use Rattle.fare_ledger.specs.declared.layout.Layout as ledger_layout
+use Rattle.fare_ledger.specs.First.{IsLawfulFirst, value_first}
 use Rattle.fare_ledger.specs.Layouts as ledger_layouts
 use Rattle.fare_ledger.specs.Opening as ledger_opening
 use Rattle.fare_ledger.specs.Words as ledger_words
@@ -26,14 +28,19 @@ pub record IsOpenedOutbox (was : State) (x : Standing OutboxValue) : Type 0 wher
   pub again : x.clean → (w : outbox_layout.Layout) → IsLeft (outbox_layouts.schema_in w) (outbox_words.IsLawful w) was.now.trees → x.live × x.lawful × (x.value ≡ outbox_words.value_at w was.now.trees)
   pub failures : x.failures ≡ 0
 
--- The same of an owner's ledger, which is that owner's, and made with this scheme.
+-- The same of an owner's ledger, which is that owner's, and made with this scheme. There is a third here: of a database
+-- that had the owner's ledger of the first format, one of the newest with the same lists, which has retired no lane.
 pub record IsOpenedLedger (sc : SchemeValue) (owner : ℕ) (was : State) (x : Standing LedgerValue) : Type 0 where
   pub own : x.value.owner ≡ owner
   pub scheme : IsOfScheme sc x.value
   pub made : x.live → ledger_opening.IsVacant was → x.lawful × IsEmptyLedger x.value
   pub kept : x.live → (w : ledger_layout.Layout) → IsFit (ledger_layouts.schema_in w) (ledger_words.IsLawful w owner sc.start) was → x.lawful × (x.value ≡ ledger_words.value_at w owner sc.start x.value.knows was.now.trees)
-  pub ours : x.live → ledger_opening.IsVacant was ⊎ ledger_opening.IsLedger owner was
+  -- of a lawful ledger of the first format, what that held
+  pub raised : x.live → (v : Site) → IsFit v.schema (IsLawfulFirst v owner sc.start) was → x.lawful × (x.value ≡ value_first v owner sc.start x.value.knows was.now.trees)
+  pub ours : x.live → ledger_opening.IsVacant was ⊎ (ledger_opening.IsLedger owner was ⊎ ledger_opening.IsFirstLedger owner was)
   pub again : x.clean → (w : ledger_layout.Layout) → IsLeft (ledger_layouts.schema_in w) (ledger_words.IsLawful w owner sc.start) was.now.trees → x.live × x.lawful × (x.value ≡ ledger_words.value_at w owner sc.start x.value.knows was.now.trees)
+  -- and of what a stop left of one
+  pub raised_again : x.clean → (v : Site) → IsLeft v.schema (IsLawfulFirst v owner sc.start) was.now.trees → x.live × x.lawful × (x.value ≡ value_first v owner sc.start x.value.knows was.now.trees)
   pub failures : x.failures ≡ 0
 
 -- The ledgers of a scheme's owners, in its order, each opened in the database at its place.
