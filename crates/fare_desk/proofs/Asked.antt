@@ -1,5 +1,5 @@
 -- Stores that are read, one call after the other.
-use Rattle.std.proofs.Common.{◌≡◌, ℕ, length, sym, ap, ◌∙◌, subst, refl, inl, inr}
+use Rattle.std.proofs.Common.{◌≡◌, ℕ, Bool, length, sym, ap, ◌∙◌, subst, refl, inl, inr}
 use Rattle.std.specs.Prelude.{Result, Ok, Err, IfOk, Vec, slice_get}
 use Rattle.std.specs.Global.{Global}
 use Rattle.fare_scheme.specs.Values.{SchemeValue}
@@ -32,6 +32,14 @@ module _ {O L : Type 0} (outbox : O → Standing OutboxValue) (ledger : L → St
     sound = λ sound. g.sound (f.sound sound);
     same = λ clean sound k may. f.same (clean_back outbox ledger b c g.follow clean) sound k (g.same clean (f.sound sound) k may);
   }
+
+  -- ONE LEDGER
+  -- whether a lane is retired, as a ledger tells it
+  pub retired_told : (old : Hub O L) (owner device : ℕ) (result : Result Bool Fault)
+      → IfOk result (λ retired. (h : StoresValue) → MayStandAs outbox ledger old h → ((h.ledgers owner).start ≡ old.scheme.start) × (retired ≡ (h.ledgers owner).retired device))
+      → IfOk result (λ retired. (h : StoresValue) → MayStandAs outbox ledger old h → (h.ledgers owner).retired device ≡ retired)
+  retired_told old owner device (Err f) told = tt
+  retired_told old owner device (Ok retired) told = λ h may. sym (told h may).1
 
   -- THE OUTBOX
   module _ {A : Type 0} (old new : Hub O L) (scheme : new.scheme ≡ old.scheme) (ledgers : new.ledgers ≡ old.ledgers) (sound_outbox : IsSound (outbox old.outbox)) (P : OutboxValue → A → Type 0) (result : Result A Fault) (call : Reads (outbox old.outbox) (outbox new.outbox) (P (outbox old.outbox).value) result) where

@@ -23,8 +23,9 @@ use Rattle.fare_sessions.specs.Stores.{AreClean, AreSound, MayStandAs}
 use Rattle.fare_sessions.proofs.Billed.{put_self}
 use Rattle.fare_sessions.proofs.Follow.{clean_back}
 use Rattle.fare_sessions.proofs.NextClose.{there_is_none}
-use Rattle.fare_desk.specs.Closing.{AreLinesOf, AreTries, IsDayBehind, GoesOn, HasAnswered, HasClosedLanes, IsMet, close_refusal, closed_lines, counted, unclosed_day, lane_lines, last_line, miscounted, try_line, with_closes, with_lane}
-use Rattle.fare_desk.proofs.Going.{goes_self, goes_read, goes_join}
+use Rattle.fare_desk.specs.Closing.{AreLinesOf, AreTries, CanClose, ClosesLane, ClosesLanes, IsDayBehind, GoesOn, HasAnswered, HasClosedLanes, IsMet, close_refusal, closed_lines, counted, unclosed_day, lane_lines, last_line, miscounted, try_line, with_closes, with_lane}
+use Rattle.fare_desk.specs.Showing.{OnlyAsks}
+use Rattle.fare_desk.proofs.Going.{goes_asks, goes_read, goes_join}
 
 -- ONE CLOSE
 stated_is : (v : LedgerValue) (device day c : ℕ) → stated_of v device day ≡ Some c → v.stated device day ≡ Some c
@@ -48,11 +49,12 @@ not_closed v device day e = by (nat_le v.start day)
 abbrev pub judged_by : ℕ → ℕ → Result Unit CloseFault
 judged_by stated taken = if nat_lt taken stated then Err (close.CountsShort stated taken) else (if nat_lt stated taken then Err (close.CountsOver stated taken) else Ok tt)
 
-pub judged_is : (v : LedgerValue) (device day c : ℕ) → stated_of v device day ≡ Some c → day ≡ first_unclosed v device → close_of v device day ≡ judged_by c (counted v device day)
-judged_is v device day c stated first =
-    ap (λ (o : Option ℕ). close_judged o (is_closed v device day) (day == v.start + v.closed device) (counted v device day)) (stated_is v device day c stated)
-    ∙ (ap (λ (b : Bool). close_judged (Some c) b (day == v.start + v.closed device) (counted v device day)) (not_closed v device day first)
-    ∙ ap (λ (b : Bool). close_judged (Some c) false b (counted v device day)) (ap (λ n. day == n) (sym first) ∙ is_self day))
+pub judged_is : (v : LedgerValue) (device day c : ℕ) → v.retired device ≡ false → stated_of v device day ≡ Some c → day ≡ first_unclosed v device → close_of v device day ≡ judged_by c (counted v device day)
+judged_is v device day c unretired stated first =
+    ap (λ (b : Bool). close_judged (v.stated device day) (is_closed v device day) (day == v.start + v.closed device) (counted v device day) b) unretired
+    ∙ (ap (λ (o : Option ℕ). close_judged o (is_closed v device day) (day == v.start + v.closed device) (counted v device day) false) (stated_is v device day c stated)
+    ∙ (ap (λ (b : Bool). close_judged (Some c) b (day == v.start + v.closed device) (counted v device day) false) (not_closed v device day first)
+    ∙ ap (λ (b : Bool). close_judged (Some c) false b (counted v device day) false) (ap (λ n. day == n) (sym first) ∙ is_self day)))
 
 judged_ok : (c t : ℕ) → judged_by c t ≡ Ok tt → c ≡ t
 judged_ok c t e = by (nat_lt t c) refl (nat_lt c t) refl
@@ -134,6 +136,9 @@ stated_then owner device n h m is day = ap (λ (z : StoresValue). stated_of (z.l
 counted_then : (owner device n : ℕ) (h m : StoresValue) → m ≡ with_lane owner device n h → (day : ℕ) → counted (m.ledgers owner) device day ≡ counted (h.ledgers owner) device day
 counted_then owner device n h m is day = ap (λ (z : StoresValue). counted (z.ledgers owner) device day) is ∙ ap (λ (v : LedgerValue). counted v device day) (lane_owner owner device n h)
 
+retired_then : (owner device n : ℕ) (h m : StoresValue) → m ≡ with_lane owner device n h → (h.ledgers owner).retired device ≡ false → (m.ledgers owner).retired device ≡ false
+retired_then owner device n h m is unretired = ap (λ (z : StoresValue). (z.ledgers owner).retired device) is ∙ (ap (λ (v : LedgerValue). v.retired device) (lane_owner owner device n h) ∙ unretired)
+
 some_is : (o : Option ℕ) → is_some o ≡ true → (c : ℕ) × (o ≡ Some c)
 some_is None e = absurd (cc)
 some_is (Some c) e = (c, refl)
@@ -149,6 +154,31 @@ module _ {O L : Type 0} (outbox : O → Standing OutboxValue) (ledger : L → St
   one_lane : (text : List ℕ) → AreTries owner device text → AreLinesOf ((owner, device) ∷ []) text
   one_lane text tries = (text, [], tries, sym (append-nil text), refl)
 
+  no_tries : AreTries owner device []
+  no_tries = record { first = 0; closed = 0; refused = None; closed_dated = omega arith; refused_dated = tt; is = refl }
+
+  -- what its closes make of the stores
+  one_closed : (h k : StoresValue) (text : List ℕ) → ClosesLane owner device h text k → ClosesLanes ((owner, device) ∷ []) h text k
+  one_closed h k text closes = (text, [], k, closes, sym (append-nil text), (refl, refl))
+
+  not_both : {b : Bool} → b ≡ true → b ≡ false → ⊥
+  not_both on off = let both : true ≡ false = sym on ∙ off in absurd (cc)
+
+  closes_open : (h k : StoresValue) (text : List ℕ) (n : ℕ) → (h.ledgers owner).retired device ≡ false → CanClose (h.ledgers owner) device n → text ≡ lane_lines owner device (h.ledgers owner) n → k ≡ with_lane owner device n h → ClosesLane owner device h text k
+  closes_open h k text n unretired can lines is = record { of_retired = λ on. absurd (not_both on unretired); of_other = λ off. (n, can, lines, is) }
+
+  -- it is retired
+  pub lane_passed : (old now : Hub O L) (before : Option (List ℕ)) → OnlyAsks outbox ledger old now → (AreClean outbox ledger now → AreSound outbox ledger old → (h : StoresValue) → MayStandAs outbox ledger old h → (h.ledgers owner).retired device ≡ true)
+      → HasClosedLanes outbox ledger ((owner, device) ∷ []) old now before before
+  lane_passed old now before asks told = record {
+    text = [];
+    written = Appends-nil before;
+    lines = one_lane [] no_tries;
+    came = λ clean sound k may.
+        let was = asks.same clean sound k may in
+        (k, was, one_closed k k [] (record { of_retired = λ on. (refl, refl); of_other = λ off. absurd (not_both (told clean sound k was) off) }));
+  }
+
   -- so many days are closed
   pub record StandsLane (old now : Hub O L) (before after : Option (List ℕ)) (last : Option ℕ) (n : ℕ) : Type 0 where
     pub goes : GoesOn outbox ledger old now
@@ -157,16 +187,18 @@ module _ {O L : Type 0} (outbox : O → Standing OutboxValue) (ledger : L → St
     pub dated : IfSome last IsDay
     pub in_row : (day : ℕ) → IsDayBehind last day → (first : ℕ) × (text ≡ closed_lines owner device first n) × (day ≡ first + n)
     pub came : AreClean outbox ledger now → AreSound outbox ledger old → (k : StoresValue) → MayStandAs outbox ledger now k
-        → (h : StoresValue) × MayStandAs outbox ledger old h × (k ≡ with_lane owner device n h) × ((j : ℕ) → j < n → IsMet (h.ledgers owner) device (unclosed_day (h.ledgers owner) device j)) × (text ≡ closed_lines owner device (first_unclosed (h.ledgers owner) device) n)
+        → (h : StoresValue) × MayStandAs outbox ledger old h × (k ≡ with_lane owner device n h) × ((j : ℕ) → j < n → IsMet (h.ledgers owner) device (unclosed_day (h.ledgers owner) device j)) × (text ≡ closed_lines owner device (first_unclosed (h.ledgers owner) device) n) × ((h.ledgers owner).retired device ≡ false)
 
-  pub lane_begins : (old : Hub O L) (before : Option (List ℕ)) → StandsLane old old before before None 0
-  lane_begins old before = record {
-    goes = goes_self outbox ledger old;
+  pub lane_begins : (old now : Hub O L) (before : Option (List ℕ)) → OnlyAsks outbox ledger old now → (AreClean outbox ledger now → AreSound outbox ledger old → (h : StoresValue) → MayStandAs outbox ledger old h → (h.ledgers owner).retired device ≡ false) → StandsLane old now before before None 0
+  lane_begins old now before asks told = record {
+    goes = goes_asks outbox ledger old now asks;
     text = [];
     written = Appends-nil before;
     dated = tt;
     in_row = λ day behind. (day, refl, sym (add-zero day));
-    came = λ clean sound k may. (k, may, sym (lane_none owner device k), λ j lt. absurd (omega (arith, lt)), refl);
+    came = λ clean sound k may.
+        let was = asks.same clean sound k may in
+        (k, was, sym (lane_none owner device k), λ j lt. absurd (omega (arith, lt)), refl, told clean sound k was);
   }
 
   -- the lines of the days that were closed
@@ -184,7 +216,7 @@ module _ {O L : Type 0} (outbox : O → Standing OutboxValue) (ledger : L → St
 
     -- what stood before the read
     earlier : AreClean outbox ledger mid → AreSound outbox ledger old → (m : StoresValue) → MayStandAs outbox ledger mid m
-        → MayStandAs outbox ledger now m × ((h : StoresValue) × MayStandAs outbox ledger old h × (m ≡ with_lane owner device n h) × ((j : ℕ) → j < n → IsMet (h.ledgers owner) device (unclosed_day (h.ledgers owner) device j)) × (s.text ≡ closed_lines owner device (first_unclosed (h.ledgers owner) device) n))
+        → MayStandAs outbox ledger now m × ((h : StoresValue) × MayStandAs outbox ledger old h × (m ≡ with_lane owner device n h) × ((j : ℕ) → j < n → IsMet (h.ledgers owner) device (unclosed_day (h.ledgers owner) device j)) × (s.text ≡ closed_lines owner device (first_unclosed (h.ledgers owner) device) n) × ((h.ledgers owner).retired device ≡ false))
     earlier clean sound m may =
         let there = r.same clean (s.goes.sound sound) m may in
         (there, s.came (clean_back outbox ledger now mid r.follow clean) sound m there)
@@ -203,18 +235,14 @@ module _ {O L : Type 0} (outbox : O → Standing OutboxValue) (ledger : L → St
           ap (stated_of v device) (sym (first_then owner device n h k e.1.2)) ∙ (sym (stated_then owner device n h k e.1.2 (first_unclosed (k.ledgers owner) device)) ∙ told clean (s.goes.sound sound) k e.0) in (
             h,
             e.1.1,
-            (
-              n,
-              [],
-              record { each = e.1.3; no_more = λ met. no none met },
-              e.1.4 ∙ (sym (append-nil (closed_lines owner device (first_unclosed v device) n)) ∙ (ap (λ (o : Option ℕ). closed_lines owner device (first_unclosed v device) n ++ last_line owner device (unclosed_day v device n) o (counted v device (unclosed_day v device n))) (sym none) ∙ sym (append-nil (lane_lines owner device v n)))),
-              (refl, e.1.2),
-            ),
+            one_closed h k s.text (closes_open h k s.text n e.1.5 (record { each = e.1.3; no_more = λ met. never none met })
+                (e.1.4 ∙ (sym (append-nil (closed_lines owner device (first_unclosed v device) n)) ∙ ap (λ (o : Option ℕ). closed_lines owner device (first_unclosed v device) n ++ last_line owner device (unclosed_day v device n) o (counted v device (unclosed_day v device n))) (sym none)))
+                e.1.2),
           );
     }
       where
-        no : {o : Option ℕ} {c : ℕ} → o ≡ None → o ≡ Some c → ⊥
-        no none some = let both : ◌≡◌ {A = Option ℕ} None (Some _) = sym none ∙ some in absurd (cc)
+        never : {o : Option ℕ} {c : ℕ} → o ≡ None → o ≡ Some c → ⊥
+        never none some = let both : ◌≡◌ {A = Option ℕ} None (Some _) = sym none ∙ some in absurd (cc)
 
     module _ (next : Hub O L) (day : ℕ) (behind : IsDayBehind last day) (dated : IsDay day) (told : AreClean outbox ledger mid → AreSound outbox ledger now → (h : StoresValue) → MayStandAs outbox ledger now h → IsToClose (h.ledgers owner) device (Some day)) (g : GoesOn outbox ledger mid next) (ends : Option (List ℕ)) where
       pub goes_next : GoesOn outbox ledger old next
@@ -247,7 +275,8 @@ module _ {O L : Type 0} (outbox : O → Standing OutboxValue) (ledger : L → St
             let v = h.ledgers owner in
             let to = told (clean_mid clean) (s.goes.sound sound) m e.0 in
             let some = some_is (stated_of (m.ledgers owner) device day) to.1 in
-            let met = judged_ok some.0 (counted (m.ledgers owner) device day) (sym (judged_is (m.ledgers owner) device day some.0 some.1 to.0) ∙ c.2) in
+            let unretired = retired_then owner device n h m e.1.2 e.1.5 in
+            let met = judged_ok some.0 (counted (m.ledgers owner) device day) (sym (judged_is (m.ledgers owner) device day some.0 unretired some.1 to.0) ∙ c.2) in
             let here : day ≡ unclosed_day v device n = to.0 ∙ first_then owner device n h m e.1.2 in
             let is_met : IsMet v device (unclosed_day v device n) =
             subst (λ d. IsMet v device d) here (sym (stated_then owner device n h m e.1.2 day) ∙ (some.1 ∙ ap Some (met ∙ counted_then owner device n h m e.1.2 day))) in (
@@ -259,6 +288,7 @@ module _ {O L : Type 0} (outbox : O → Standing OutboxValue) (ledger : L → St
                 | inr less ↦ e.1.3 j less
               ],
               ap (λ l. l ++ try_line owner device day (reply.Closed device day)) e.1.4 ∙ ap (λ d. closed_lines owner device (first_unclosed v device) n ++ try_line owner device d (reply.Closed device d)) here,
+              e.1.5,
             );
       }
         where
@@ -295,7 +325,8 @@ module _ {O L : Type 0} (outbox : O → Standing OutboxValue) (ledger : L → St
             let v = h.ledgers owner in
             let to = told (clean_mid clean) (s.goes.sound sound) m e.0 in
             let some = some_is (stated_of (m.ledgers owner) device day) to.1 in
-            let bad = judged_err some.0 (counted (m.ledgers owner) device day) why (sym (judged_is (m.ledgers owner) device day some.0 some.1 to.0) ∙ c.2) in
+            let unretired = retired_then owner device n h m e.1.2 e.1.5 in
+            let bad = judged_err some.0 (counted (m.ledgers owner) device day) why (sym (judged_is (m.ledgers owner) device day some.0 unretired some.1 to.0) ∙ c.2) in
             let here : day ≡ unclosed_day v device n = to.0 ∙ first_then owner device n h m e.1.2 in
             let count : counted (m.ledgers owner) device day ≡ counted v device (unclosed_day v device n) = counted_then owner device n h m e.1.2 day ∙ ap (counted v device) here in
             let held : stated_of v device (unclosed_day v device n) ≡ Some some.0 = ap (stated_of v device) (sym here) ∙ (sym (stated_then owner device n h m e.1.2 day) ∙ some.1) in
@@ -305,13 +336,9 @@ module _ {O L : Type 0} (outbox : O → Standing OutboxValue) (ledger : L → St
             ∙ ap (λ (o : Option ℕ). last_line owner device (unclosed_day v device n) o (counted v device (unclosed_day v device n))) (sym held)) in (
               h,
               e.1.1,
-              (
-                n,
-                [],
-                record { each = e.1.3; no_more = λ met. bad.1 (same_some (sym held ∙ met) ∙ sym count) },
-                ap (λ l. l ++ try_line owner device day (reply.Refused (close_refusal why))) e.1.4 ∙ (ap (λ l. closed_lines owner device (first_unclosed v device) n ++ l) line ∙ sym (append-nil (lane_lines owner device v n))),
-                (refl, c.3 ∙ e.1.2),
-              ),
+              one_closed h k (s.text ++ try_line owner device day (reply.Refused (close_refusal why))) (closes_open h k (s.text ++ try_line owner device day (reply.Refused (close_refusal why))) n e.1.5 (record { each = e.1.3; no_more = λ met. bad.1 (same_some (sym held ∙ met) ∙ sym count) })
+                  (ap (λ l. l ++ try_line owner device day (reply.Refused (close_refusal why))) e.1.4 ∙ ap (λ l. closed_lines owner device (first_unclosed v device) n ++ l) line)
+                  (c.3 ∙ e.1.2)),
             );
       }
         where
@@ -332,12 +359,8 @@ module _ {O L : Type 0} (outbox : O → Standing OutboxValue) (ledger : L → St
         let none = there_is_none (v.stated device) (unclosed_day v device n) late in (
           h,
           e.1,
-          (
-            n,
-            [],
-            record { each = e.3; no_more = λ met. let both : ◌≡◌ {A = Option ℕ} None (Some (counted v device (unclosed_day v device n))) = sym none ∙ met in absurd (cc) },
-            e.4 ∙ (sym (append-nil (closed_lines owner device (first_unclosed v device) n)) ∙ (ap (λ (o : Option ℕ). closed_lines owner device (first_unclosed v device) n ++ last_line owner device (unclosed_day v device n) o (counted v device (unclosed_day v device n))) (sym none) ∙ sym (append-nil (lane_lines owner device v n)))),
-            (refl, e.2),
-          ),
+          one_closed h k s.text (closes_open h k s.text n e.5 (record { each = e.3; no_more = λ met. let both : ◌≡◌ {A = Option ℕ} None (Some (counted v device (unclosed_day v device n))) = sym none ∙ met in absurd (cc) })
+              (e.4 ∙ (sym (append-nil (closed_lines owner device (first_unclosed v device) n)) ∙ ap (λ (o : Option ℕ). closed_lines owner device (first_unclosed v device) n ++ last_line owner device (unclosed_day v device n) o (counted v device (unclosed_day v device n))) (sym none)))
+              e.2),
         );
   }

@@ -15,7 +15,7 @@ use Rattle.fare_history.specs.Stores.{StoresValue}
 use Rattle.fare_sessions.specs.declared.hub.Hub.{Hub}
 use Rattle.fare_sessions.specs.Stores.{HasLedgers}
 use Rattle.fare_sessions.proofs.Follow.{clean_back}
-use Rattle.fare_desk.specs.Closing.{AreLinesOf, ClosesLanes, GoesOn, HasClosedLanes, lane_lines, lanes_with, with_lane}
+use Rattle.fare_desk.specs.Closing.{AreLinesOf, ClosesLanes, GoesOn, HasClosedLanes, lanes_with}
 use Rattle.fare_desk.proofs.Going.{goes_self, goes_join}
 
 -- the lanes of one list and then those of another
@@ -27,8 +27,9 @@ closes_then (l ∷ ls) ms h m k s t first second =
       first.0,
       rest ++ t,
       first.2,
-      ap (λ (x : List ℕ). x ++ t) first.3 ∙ append_assoc (lane_lines l.0 l.1 (h.ledgers l.0) first.0) rest t,
-      closes_then ls ms (with_lane l.0 l.1 first.0 h) m k rest t first.4 second,
+      first.3,
+      ap (λ (x : List ℕ). x ++ t) first.4 ∙ append_assoc first.0 rest t,
+      closes_then ls ms first.2 m k rest t first.5 second,
     )
 
 pub lines_then : (ls ms : List (ℕ × ℕ)) (s t : List ℕ) → AreLinesOf ls s → AreLinesOf ms t → AreLinesOf (ls ++ ms) (s ++ t)

@@ -1,5 +1,5 @@
 -- Lines of lanes and devices, one after the other.
-use Rattle.std.proofs.Common.{◌≡◌, ℕ, ◌+◌, List, [], ◌∷◌, ◌++◌, length, refl, sym, ap, ◌∙◌, subst, append_assoc, append-nil}
+use Rattle.std.proofs.Common.{◌≡◌, ℕ, Bool, ◌+◌, List, [], ◌∷◌, ◌++◌, length, refl, sym, ap, ◌∙◌, subst, append_assoc, append-nil}
 use Rattle.std.proofs.lemmas.Grind.{flat_map-append}
 use Rattle.fare_store.specs.Standing.{Standing}
 use Rattle.fare_store.specs.OutboxWords.{OutboxValue}
@@ -59,18 +59,22 @@ module _ {O L : Type 0} (outbox : O → Standing OutboxValue) (ledger : L → St
     shown = λ clean sound h may. (lane, [], tells clean sound h may, sym (append-nil (lane_line owner device lane)), refl);
   }
 
-  -- where a lane stands, by three questions
-  pub lane_is : (a b c d : Hub O L) (owner device taken rows statements : ℕ) (closed : Option ℕ) → OnlyAsks outbox ledger a b → OnlyAsks outbox ledger b c → OnlyAsks outbox ledger c d
+  -- where a lane stands, by four questions
+  pub lane_is : (a b c d e : Hub O L) (owner device taken rows statements : ℕ) (closed : Option ℕ) (retired : Bool) → OnlyAsks outbox ledger a b → OnlyAsks outbox ledger b c → OnlyAsks outbox ledger c d → OnlyAsks outbox ledger d e
       → (AreClean outbox ledger b → AreSound outbox ledger a → (h : StoresValue) → MayStandAs outbox ledger a h → ((h.ledgers owner).start ≡ a.scheme.start) × ((taken ≡ length ((h.ledgers owner).taken device)) × (closed ≡ closed_through (h.ledgers owner) device)))
       → (AreClean outbox ledger c → AreSound outbox ledger b → (h : StoresValue) → MayStandAs outbox ledger b h → HasFrom (h.outbox.rows owner device) (taken + 1) rows)
       → (AreClean outbox ledger d → AreSound outbox ledger c → (h : StoresValue) → MayStandAs outbox ledger c h → HasFrom (stated_days h.outbox owner device) (day_behind closed c.scheme.start) statements)
-      → AreClean outbox ledger d → AreSound outbox ledger a → (h : StoresValue) → MayStandAs outbox ledger d h → IsLane h owner device (record { taken = taken; closed = closed; rows = rows; statements = statements })
-  lane_is a b c d owner device taken rows statements closed f g k first second third clean sound h may =
+      → (AreClean outbox ledger e → AreSound outbox ledger d → (h : StoresValue) → MayStandAs outbox ledger d h → (h.ledgers owner).retired device ≡ retired)
+      → AreClean outbox ledger e → AreSound outbox ledger a → (h : StoresValue) → MayStandAs outbox ledger e h → IsLane h owner device (record { taken = taken; closed = closed; rows = rows; statements = statements; retired = retired })
+  lane_is a b c d e owner device taken rows statements closed retired f g k l first second third fourth clean sound h may =
       let sound_b = f.sound sound in
       let sound_c = g.sound sound_b in
-      let clean_c = clean_back outbox ledger c d k.follow clean in
+      let sound_d = k.sound sound_c in
+      let clean_d = clean_back outbox ledger d e l.follow clean in
+      let clean_c = clean_back outbox ledger c d k.follow clean_d in
       let clean_b = clean_back outbox ledger b c g.follow clean_c in
-      let may_c = k.same clean sound_c h may in
+      let may_d = l.same clean sound_d h may in
+      let may_c = k.same clean_d sound_c h may_d in
       let may_b = g.same clean_c sound_b h may_c in
       let may_a = f.same clean_b sound h may_b in
       let t = first clean_b sound h may_a in
@@ -81,7 +85,8 @@ module _ {O L : Type 0} (outbox : O → Standing OutboxValue) (ledger : L → St
         taken = t.1.0;
         closed = t.1.1;
         rows = subst (λ n. HasFrom (h.outbox.rows owner device) (n + 1) rows) t.1.0 (second clean_c sound_b h may_b);
-        statements = subst (λ n. HasFrom (stated_days h.outbox owner device) n statements) day (third clean sound_c h may_c);
+        statements = subst (λ n. HasFrom (stated_days h.outbox owner device) n statements) day (third clean_d sound_c h may_c);
+        retired = sym (fourth clean sound_d h may_d);
       }
 
   -- DEVICES

@@ -1,9 +1,11 @@
--- A settlement that was written.
-use Rattle.std.proofs.Common.{◌≡◌, ℕ, List, None, subst}
+-- A bill or a settlement that was written.
+use Rattle.std.proofs.Common.{◌≡◌, ℕ, List, None, ◌∙◌, subst}
 use Rattle.std.specs.Prelude.{Option, Result, Ok, Err, OnOk}
 use Rattle.std.specs.Io.KnownBytes.{Appends}
 use Rattle.fare_record.specs.Values.{RecordValue}
+use Rattle.fare_cap.specs.Bills.{BillValue, bill_of}
 use Rattle.fare_cap.specs.Fares.{week_start}
+use Rattle.fare_scheme.specs.Values.{SchemeValue}
 use Rattle.fare_settle.specs.declared.settled.Settled.{Settled}
 use Rattle.fare_settle.specs.Settling.{settlement_of}
 use Rattle.fare_store.specs.Standing.{Standing}
@@ -17,19 +19,25 @@ use Rattle.fare_agreement.specs.Parts.{parts_of}
 use Rattle.fare_sessions.specs.Billing.{open_in, short_in}
 use Rattle.fare_sessions.specs.declared.hub.Hub.{Hub}
 use Rattle.fare_sessions.specs.Stores.{AreClean, AreSound, MayStandAs}
-use Rattle.fare_desk.specs.Billing.{WritesSettlement}
+use Rattle.fare_desk.specs.Billing.{IsMadeOf, WritesBill, WritesSettlement}
 use Rattle.fare_desk.specs.declared.fault.DeskFault.{DeskFault}
 
-module _ {O L : Type 0} (outbox : O → Standing OutboxValue) (ledger : L → Standing LedgerValue) (old new : Hub O L) (owner day : ℕ) (before after : Option (List ℕ)) (shares : List Settled) (devices : List ℕ) (text : List ℕ) (is : text ≡ reply_text (reply.Settlement owner day shares devices))
-    (closed : AreClean outbox ledger new → AreSound outbox ledger old → (h : StoresValue) → MayStandAs outbox ledger old h → open_in old.scheme (h.ledgers owner) day ≡ None)
-    (short : AreClean outbox ledger new → AreSound outbox ledger old → (h : StoresValue) → MayStandAs outbox ledger old h → devices ≡ short_in old.scheme (h.ledgers owner) day)
-    (taken : AreClean outbox ledger new → AreSound outbox ledger old → (rows : List RecordValue) × ((h : StoresValue) → MayStandAs outbox ledger old h → AreTapsBetween (h.ledgers owner) (week_start old.scheme day) day rows) × (shares ≡ settlement_of old.scheme rows day))
-    (value : AreClean outbox ledger new → AreSound outbox ledger old → (lists : ℕ → List RecordValue) (h : StoresValue) → AreNumberedLists old.scheme lists → MayStandAs outbox ledger old h → Agrees old.scheme lists h → shares ≡ settlement_of old.scheme (parts_of old.scheme lists (h.ledgers owner) owner) day) where
-  pub settlement_written : (r : Result (Unit {0}) DeskFault) → OnOk r (Appends before after text) → OnOk r (WritesSettlement outbox ledger old new owner day before after)
-  settlement_written (Err f) w = tt
-  settlement_written (Ok u) w = record {
-    shares = shares;
-    short = devices;
-    written = subst (Appends before after) is w;
-    made = λ clean sound. record { closed = closed clean sound; short = short clean sound; taps = taken clean sound; numbered = value clean sound };
-  }
+module _ {O L : Type 0} (outbox : O → Standing OutboxValue) (ledger : L → Standing LedgerValue) (old new : Hub O L) (owner day : ℕ) (devices : List ℕ) where
+  module _ {V : Type 0} (rule : SchemeValue → List RecordValue → ℕ → V) (made : V) (told : List ℕ) (same : devices ≡ told)
+      (closed : AreClean outbox ledger new → AreSound outbox ledger old → (h : StoresValue) → MayStandAs outbox ledger old h → open_in old.scheme (h.ledgers owner) day ≡ None)
+      (short : AreClean outbox ledger new → AreSound outbox ledger old → (h : StoresValue) → MayStandAs outbox ledger old h → told ≡ short_in old.scheme (h.ledgers owner) day)
+      (taken : AreClean outbox ledger new → AreSound outbox ledger old → (rows : List RecordValue) × ((h : StoresValue) → MayStandAs outbox ledger old h → AreTapsBetween (h.ledgers owner) (week_start old.scheme day) day rows) × (made ≡ rule old.scheme rows day))
+      (value : AreClean outbox ledger new → AreSound outbox ledger old → (lists : ℕ → List RecordValue) (h : StoresValue) → AreNumberedLists old.scheme lists → MayStandAs outbox ledger old h → Agrees old.scheme lists h → made ≡ rule old.scheme (parts_of old.scheme lists (h.ledgers owner) owner) day) where
+    pub made_of : AreClean outbox ledger new → AreSound outbox ledger old → IsMadeOf outbox ledger rule old owner day made devices
+    made_of clean sound = record { closed = closed clean sound; short = λ h may. same ∙ short clean sound h may; taps = taken clean sound; numbered = value clean sound }
+
+  module _ (before after : Option (List ℕ)) (text : List ℕ) where
+    pub bill_written : (bill : BillValue) → text ≡ reply_text (reply.Bill owner day bill devices) → (AreClean outbox ledger new → AreSound outbox ledger old → IsMadeOf outbox ledger bill_of old owner day bill devices)
+        → (r : Result (Unit {0}) DeskFault) → OnOk r (Appends before after text) → OnOk r (WritesBill outbox ledger old new owner day before after)
+    bill_written bill is made (Err f) w = tt
+    bill_written bill is made (Ok u) w = record { bill = bill; short = devices; written = subst (Appends before after) is w; made = made }
+
+    pub settlement_written : (shares : List Settled) → text ≡ reply_text (reply.Settlement owner day shares devices) → (AreClean outbox ledger new → AreSound outbox ledger old → IsMadeOf outbox ledger settlement_of old owner day shares devices)
+        → (r : Result (Unit {0}) DeskFault) → OnOk r (Appends before after text) → OnOk r (WritesSettlement outbox ledger old new owner day before after)
+    settlement_written shares is made (Err f) w = tt
+    settlement_written shares is made (Ok u) w = record { shares = shares; short = devices; written = subst (Appends before after) is w; made = made }

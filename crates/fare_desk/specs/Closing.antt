@@ -1,5 +1,5 @@
 -- Closing all days that can be closed, lane by lane, and what is written of it.
-use Rattle.std.specs.Prelude.{◌≡◌, ℕ, zero, suc, ◌+◌, ◌<◌, ◌≤◌, nat_lt, List, [], ◌∷◌, ◌++◌, map, codes, Option, Some, None, IfSome, Result, Ok, Err, if◌then◌else◌}
+use Rattle.std.specs.Prelude.{◌≡◌, ℕ, zero, suc, ◌+◌, ◌<◌, ◌≤◌, true, false, nat_lt, List, [], ◌∷◌, ◌++◌, map, codes, Option, Some, None, IfSome, Result, Ok, Err, if◌then◌else◌}
 use Rattle.std.specs.List.{flat_map}
 use Rattle.std.specs.Fmt.{decimal}
 use Rattle.std.specs.Io.KnownBytes.{Appends}
@@ -114,10 +114,15 @@ lanes_of sc = flat_map (λ owner. lanes_with owner (keys_of sc.devices)) (keys_o
 abbrev pub with_lane : ℕ → ℕ → ℕ → StoresValue → StoresValue
 with_lane owner device n h = record { outbox = h.outbox; ledgers = put h.ledgers owner (with_closes device n (h.ledgers owner)) }
 
--- what these lanes' closes make of the stores h, one lane after the other: the stores k, and these lines
+-- what the closes of a lane make of the stores h: the stores k, and these lines. Of a lane that is retired nothing is tried: there is no line, and the stores are as they were. Of one that isn't, all days are closed that can be.
+pub record ClosesLane (owner device : ℕ) (h : StoresValue) (text : List ℕ) (k : StoresValue) : Type 0 where
+  pub of_retired : (h.ledgers owner).retired device ≡ true → (text ≡ []) × (k ≡ h)
+  pub of_other : (h.ledgers owner).retired device ≡ false → (n : ℕ) × CanClose (h.ledgers owner) device n × (text ≡ lane_lines owner device (h.ledgers owner) n) × (k ≡ with_lane owner device n h)
+
+-- what these lanes' closes make of them, one lane after the other
 abbrev pub ClosesLanes : List (ℕ × ℕ) → StoresValue → List ℕ → StoresValue → Type 0
 ClosesLanes [] h text k = (text ≡ []) × (k ≡ h)
-ClosesLanes (lane ∷ lanes) h text k = (n : ℕ) × (rest : List ℕ) × CanClose (h.ledgers lane.0) lane.1 n × (text ≡ lane_lines lane.0 lane.1 (h.ledgers lane.0) n ++ rest) × ClosesLanes lanes (with_lane lane.0 lane.1 n h) rest k
+ClosesLanes (lane ∷ lanes) h text k = (own : List ℕ) × (rest : List ℕ) × (m : StoresValue) × ClosesLane lane.0 lane.1 h own m × (text ≡ own ++ rest) × ClosesLanes lanes m rest k
 
 -- the lines of lanes, one after the other
 abbrev pub AreLinesOf : List (ℕ × ℕ) → List ℕ → Type 0
@@ -143,7 +148,7 @@ module _ {O L : Type 0} (outbox : O → Standing OutboxValue) (ledger : L → St
   pub record HasAnswered (owner device day : ℕ) (old new : Hub O L) (answer : Result Unit CloseFault) : Type 0 where
     pub came : AreClean outbox ledger new → AreSound outbox ledger old → (k : StoresValue) → MayStandAs outbox ledger new k → (h : StoresValue) × MayStandAs outbox ledger old h × (close_of (h.ledgers owner) device day ≡ answer) × (k ≡ after_close owner device answer h)
 
-  -- the closes of these lanes were made, and their lines written
+  -- the closes of these lanes were made, but of retired ones none, and their lines written
   pub record HasClosedLanes (lanes : List (ℕ × ℕ)) (old new : Hub O L) (before after : Option (List ℕ)) : Type 0 where
     pub text : List ℕ
     pub written : Appends before after text

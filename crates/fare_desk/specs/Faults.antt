@@ -1,9 +1,12 @@
--- Why an operator's question came to nothing.
+-- Why an operator's question or order came to nothing.
 use Rattle.std.specs.Prelude.{Option, None, Some, Result, Ok, Err}
 use Rattle.fare_store.specs.declared.fault.Fault.{Fault}
 use Rattle.fare_store.specs.declared.fault.Fault.TheVariants as fault
 use Rattle.fare_store.specs.declared.fault.Refused.{Refused}
 use Rattle.fare_store.specs.declared.fault.Refused.TheVariants.{Because, Failed}
+use Rattle.fare_owner.specs.declared.retiring.RetireFault.TheVariants as retire
+use Rattle.fare_sessions.specs.declared.retiring.RetiringFault.{RetiringFault}
+use Rattle.fare_sessions.specs.declared.retiring.RetiringFault.TheVariants as retiring
 use Rattle.fare_side.specs.declared.bill_fault.BillFault.{BillFault}
 use Rattle.fare_side.specs.declared.bill_fault.BillFault.TheVariants as bill
 use Rattle.fare_desk.specs.declared.fault.DeskFault.{DeskFault}
@@ -22,7 +25,28 @@ abbrev pub of_bill : Refused BillFault → DeskFault
 of_bill (Because why) = named_fault why
 of_bill (Failed f) = of_store f
 
--- the refusal by name that a fault is, if it is one
+-- why a lane was not retired: a ledger that knows no such device, where the scheme does, is none of this scheme's
+abbrev pub of_retiring : Refused RetiringFault → DeskFault
+of_retiring (Because retiring.UnknownOwner) = desk.UnknownOwner
+of_retiring (Because (retiring.Ledger retire.NotMine)) = desk.Store
+of_retiring (Because (retiring.Ledger retire.Retired)) = desk.Retired
+of_retiring (Failed f) = of_store f
+
+-- a fault that is no refusal: there was no memory, or a store or the writer failed
+abbrev pub IsNoRefusal : DeskFault → Type 0
+IsNoRefusal desk.Memory = Unit {0}
+IsNoRefusal desk.Store = Unit {0}
+IsNoRefusal desk.Write = Unit {0}
+IsNoRefusal _ = ⊥
+
+-- a fault of a retire: one of its refusals, or none
+abbrev pub IsOfRetire : DeskFault → Type 0
+IsOfRetire desk.UnknownOwner = Unit {0}
+IsOfRetire desk.UnknownDevice = Unit {0}
+IsOfRetire desk.Retired = Unit {0}
+IsOfRetire f = IsNoRefusal f
+
+-- the refusal of a bill that a fault is, if it is one
 abbrev pub name_of : DeskFault → Option BillFault
 name_of desk.UnknownOwner = Some bill.UnknownOwner
 name_of desk.BeforeStart = Some bill.BeforeStart

@@ -7,6 +7,7 @@ ghost use Rattle.std.specs.Map.{keys_of};
 ghost use Rattle.fare_desk.specs.Closing.{GoesOn, HasAnswered, HasClosedLanes, IsDayBehind, close_refusal, lanes_of, lanes_with, reply_of, try_line};
 
 use crate::fault::DeskFault;
+use crate::standing::ask_retired;
 use crate::writing::write_text;
 use fare_event::{Refusal, Reply};
 use fare_lines::print_reply;
@@ -97,8 +98,8 @@ fn is_behind(last: Option<Day>, day: Day) -> bool
 }
 
 // Closes the days of an owner's device, from the first one that isn't closed on, as long as a statement of the day is
-// held and its count is met; and writes a line for each, the last one's refusal among them. A ledger that names another
-// day than the one behind the last that it closed has lost that close: `Store`.
+// held and its count is met; and writes a line for each, the last one's refusal among them. Of a retired lane nothing is
+// tried. A ledger that names another day than the one behind the last that it closed has lost that close: `Store`.
 fn close_lane<O: Outbox, L: Ledger, W: Write>(
     alloc: Global,
     hub: &mut Hub<O, L>,
@@ -111,6 +112,9 @@ fn close_lane<O: Outbox, L: Ledger, W: Write>(
     ensures goes { GoesOn O.standing L.standing hub.old hub.new }
     ensures closed { OnOk result (HasClosedLanes O.standing L.standing ((owner, device) ∷ []) hub.old hub.new (W.contents output.old) (W.contents output.new)) }
 {
+    if ask_retired(hub, owner, device)? {
+        return Ok(());
+    }
     let mut last: Option<Day> = None;
     for _ in 0..DAYS {
         let Some(day) = hub.next_close(owner, device)? else {
@@ -154,7 +158,7 @@ fn close_owner<O: Outbox, L: Ledger, W: Write>(
 /// Closes all days that can be closed: for each owner and each device, in the scheme's orders, from the first day that
 /// isn't closed on, as long as a statement of the day is held. Writes a line for each try, `close OWNER DEVICE DAY: ` and
 /// the reply that a trace has for it; one that is refused, since the stated count is not that of the day's taps, ends
-/// its lane.
+/// its lane. A lane that the owner has retired is passed over: nothing of it is tried, and no line is written.
 ///
 /// `Memory` where there was none for it, `Store` where a ledger failed or has lost a close, `Write` where the writer
 /// failed: then the closes before it stand, and that of a line that isn't written may.

@@ -1,8 +1,10 @@
 ghost use Rattle.std.specs.Prelude.{◌≡◌};
-ghost use Rattle.fare_desk.specs.Faults.{named_fault, of_bill, of_store};
+ghost use Rattle.fare_desk.specs.Faults.{named_fault, of_bill, of_retiring, of_store};
 ghost use Rattle.fare_desk.specs.declared.fault.DeskFault.TheVariants.{Memory};
 
+use fare_owner::RetireFault;
 use fare_record::DeviceId;
+use fare_sessions::RetiringFault;
 use fare_store::{Fault, Refused};
 use fare_world::BillFault;
 use std::alloc::{AllocError, AllocFailed};
@@ -15,12 +17,19 @@ pub enum DeskFault {
     /// The owner is not registered.
     #[error("refused UnknownOwner")]
     UnknownOwner,
+    /// The device is not registered.
+    #[error("refused UnknownDevice")]
+    UnknownDevice,
     /// The day is before the scheme's first one.
     #[error("refused BeforeStart")]
     BeforeStart,
-    /// The owner has not closed the day of this device, the first such one in order of registration.
+    /// The owner has neither closed the day of this device nor retired its lane, the first such one in order of
+    /// registration.
     #[error("refused NotClosed {}", .device.get())]
     NotClosed { device: DeviceId },
+    /// The owner has retired its lane of the device before.
+    #[error("refused Retired")]
+    Retired,
     /// There was no memory.
     #[error("no memory")]
     Memory,
@@ -76,6 +85,18 @@ pub(crate) fn of_refusal(refused: Refused<BillFault>) -> DeskFault
 {
     match refused {
         Refused::Because(why) => of_name(why),
+        Refused::Failed(fault) => DeskFault::from(fault),
+    }
+}
+
+// Why a lane wasn't retired. A ledger that doesn't know a device of the scheme is none of this scheme's: `Store`.
+pub(crate) fn of_retire(refused: Refused<RetiringFault>) -> DeskFault
+    ensures { result ≡ of_retiring refused }
+{
+    match refused {
+        Refused::Because(RetiringFault::UnknownOwner) => DeskFault::UnknownOwner,
+        Refused::Because(RetiringFault::Ledger(RetireFault::NotMine)) => DeskFault::Store,
+        Refused::Because(RetiringFault::Ledger(RetireFault::Retired)) => DeskFault::Retired,
         Refused::Failed(fault) => DeskFault::from(fault),
     }
 }

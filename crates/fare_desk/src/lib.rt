@@ -1,17 +1,20 @@
 //! What an operator asks of a hub and orders of it between its sessions: bills and settlements of a day, the closes of
-//! all days that can be closed, and where each lane stands. It promises that what is written is the spelling of what
-//! the stores' rows make: of a bill of exactly the taps that the owner's ledger holds of the week, of the closes in
-//! their order with what came of each, of the numbers that the stores hold. A question changes nothing, and a close
-//! keeps the rows in agreement with the lists of taps that the devices numbered.
+//! all days that can be closed, the end of an owner's lane of a device that will never be read out, and where each lane
+//! stands. It promises that what is written is the spelling of what the stores' rows make: of a bill of exactly the taps
+//! that the owner's ledger holds of the week, with the devices of which it is short, of the closes in their order with
+//! what came of each, of the numbers that the stores hold. A question changes nothing; a close and the end of a lane
+//! keep the rows in agreement with the lists of taps that the devices numbered.
 #![tactic(auto)]
 
 mod billing;
 mod closing;
 mod fault;
+mod retiring;
 mod standing;
 mod writing;
 
 pub use billing::{write_bill, write_settlement};
 pub use closing::close_days;
 pub use fault::DeskFault;
+pub use retiring::retire_lane;
 pub use standing::write_standing;

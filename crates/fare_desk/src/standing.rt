@@ -9,7 +9,7 @@ ghost use Rattle.fare_store.specs.Standing.{Reads};
 ghost use Rattle.fare_sessions.specs.Billing.{day_behind};
 ghost use Rattle.fare_sessions.specs.Stores.{AreClean, AreSound, HasLedgers, MayStandAs};
 ghost use Rattle.fare_desk.specs.Closing.{lanes_of, lanes_with};
-ghost use Rattle.fare_desk.specs.Showing.{AddsLanes, AddsUptos, HasFrom, IsLane, OnlyAsks, WritesStanding, closed_word, lane_line, stated_days, upto_line};
+ghost use Rattle.fare_desk.specs.Showing.{AddsLanes, AddsUptos, HasFrom, IsLane, OnlyAsks, WritesStanding, closed_word, lane_line, retired_word, stated_days, upto_line};
 ghost use Rattle.fare_desk.specs.Faults.{name_of};
 ghost use Rattle.fare_desk.specs.declared.fault.DeskFault.TheVariants.{Write};
 
@@ -21,14 +21,15 @@ use fare_store::{Fault, Ledger, Outbox};
 use std::alloc::{AllocError, Global};
 use std::io::Write;
 
-/// Where an owner's lane of a device stands: how many taps are taken, the last day that is closed, and how many rows and
-/// statements wait.
+/// Where an owner's lane of a device stands: how many taps are taken, the last day that is closed, how many rows and
+/// statements wait, and whether it is retired.
 #[derive(Clone, Copy)]
 pub(crate) struct Lane {
     taken: u64,
     closed: Option<Day>,
     rows: u64,
     statements: u64,
+    retired: bool,
 }
 
 // How many taps of a device a ledger has taken, and the last day that it has closed.
@@ -137,6 +138,23 @@ fn ask_statements<O: Outbox, L: Ledger>(
     }
 }
 
+// Whether an owner's lane of a device is retired.
+pub(crate) fn ask_retired<O: Outbox, L: Ledger>(
+    hub: &mut Hub<O, L>,
+    owner: OwnerId,
+    device: DeviceId,
+) -> Result<bool, Fault>
+    requires ledgers { HasLedgers hub.old }
+    requires known { position_of_owner hub.old.scheme owner ≢ None }
+    ensures asks { OnlyAsks O.standing L.standing hub.old hub.new }
+    ensures tells { AreClean O.standing L.standing hub.new → AreSound O.standing L.standing hub.old → IfOk result (λ retired. (h : StoresValue) → MayStandAs O.standing L.standing hub.old h → (h.ledgers owner).retired device ≡ retired) }
+{
+    let Some(at) = hub.scheme.owner_position(owner) else {
+        unreachable!()
+    };
+    hub.ledgers[at].retired(device)
+}
+
 // Where an owner's lane of a device stands.
 fn lane_of<O: Outbox, L: Ledger>(
     hub: &mut Hub<O, L>,
@@ -151,11 +169,13 @@ fn lane_of<O: Outbox, L: Ledger>(
     let told = ask_ledger(hub, owner, device)?;
     let rows = ask_rows(hub, owner, device, told.0)?;
     let statements = ask_statements(hub, owner, device, told.1)?;
+    let retired = ask_retired(hub, owner, device)?;
     Ok(Lane {
         taken: told.0,
         closed: told.1,
         rows,
         statements,
+        retired,
     })
 }
 
@@ -170,6 +190,13 @@ fn closed_text(alloc: Global, closed: Option<Day>) -> Result<String, AllocError>
         }
         None => String::from_str(alloc, "none"),
     }
+}
+
+// What the line of a retired lane ends with.
+fn retired_text(retired: bool) -> &'static str
+    ensures { result.now ≡ retired_word retired }
+{
+    if retired { " retired" } else { "" }
 }
 
 // The line of a lane.
@@ -189,7 +216,9 @@ fn add_lane(
     let statements = lane.statements;
     text.push_str(&format!(in alloc; "lane {owner} {device} taken {taken} closed ")?)?;
     text.push_str(&closed_text(alloc, lane.closed)?)?;
-    text.push_str(&format!(in alloc; " rows {rows} statements {statements}\n")?)?;
+    text.push_str(&format!(in alloc; " rows {rows} statements {statements}")?)?;
+    text.push_str(retired_text(lane.retired))?;
+    text.push_str("\n")?;
     Ok(())
 }
 
@@ -273,7 +302,8 @@ fn add_uptos<O: Outbox, L: Ledger>(
 /// Writes where each device's lanes stand: for each device the line `upto DEVICE N` with the greatest link that the
 /// outbox has had of it; and for each owner and device `lane OWNER DEVICE taken N closed DAY rows N statements N`: how many
 /// taps the owner has taken, the last day that it has closed, or `none`, and how many rows and statements the outbox holds
-/// that it hasn't taken and of days that it hasn't closed. The stores hold what they held.
+/// that it hasn't taken and of days that it hasn't closed. The line of a lane that the owner has retired ends with one
+/// word more, ` retired`. The stores hold what they held.
 ///
 /// `Memory` where there was none for it, and `Store` where a store failed; nothing is written then. `Write` where the
 /// writer failed.
