@@ -55,6 +55,8 @@ CREATE TABLE IF NOT EXISTS fare.lane (
     closed bigint NOT NULL,
     PRIMARY KEY (owner, device)
 );
+-- Whether the owner has retired it.
+ALTER TABLE fare.lane ADD COLUMN IF NOT EXISTS retired boolean NOT NULL DEFAULT false;
 CREATE TABLE IF NOT EXISTS fare.tap (
     owner integer NOT NULL,
     device bigint NOT NULL,
@@ -126,7 +128,7 @@ LANGUAGE sql STABLE AS $$
 $$;
 
 -- Refuses, in this order, an owner that isn't registered, a day before the first one, and a day that isn't closed for
--- some device of some hub, the first in the order of registration.
+-- some device of some hub whose lane isn't retired, the first in the order of registration.
 CREATE OR REPLACE FUNCTION fare.judge(of_owner integer, of_day integer) RETURNS void
 LANGUAGE plpgsql STABLE AS $$
 DECLARE
@@ -143,12 +145,19 @@ BEGIN
     END IF;
     SELECT d.device INTO open_device
         FROM fare.device d LEFT JOIN fare.lane l ON l.owner = of_owner AND l.device = d.device
-        WHERE first_day + coalesce(l.closed, 0) - 1 < of_day
+        WHERE first_day + coalesce(l.closed, 0) - 1 < of_day AND NOT coalesce(l.retired, false)
         ORDER BY d.place LIMIT 1;
     IF FOUND THEN
         RAISE EXCEPTION 'refused NotClosed %', open_device;
     END IF;
 END $$;
+
+-- The devices of which a bill is short: their lanes are retired, and the day isn't closed.
+CREATE OR REPLACE FUNCTION fare.short(of_owner integer, of_day integer) RETURNS TABLE (device bigint, place integer)
+LANGUAGE sql STABLE AS $$
+    SELECT d.device, d.place FROM fare.scheme s, fare.device d JOIN fare.lane l ON l.owner = of_owner AND l.device = d.device
+    WHERE l.retired AND s.start + l.closed - 1 < of_day
+$$;
 
 -- What each account rode and paid on each day of the week up to a day: how many taps count, and how many are paid.
 -- Taps with more than a window between them are in different runs; a run no longer than a window has one paid tap.
@@ -206,6 +215,8 @@ BEGIN
             format('bill %s %s %s %s', of_owner, of_day, count(*), coalesce(sum(amount), 0)) AS line FROM accounts
         UNION ALL
         SELECT 1, product, token, format('account %s %s %s %s', product, token, rides, amount) FROM accounts
+        UNION ALL
+        SELECT 2, s.place, 0, format('short %s', s.device) FROM fare.short(of_owner, of_day) s
     ) lines ORDER BY part, product, token;
 END $$;
 
@@ -254,8 +265,10 @@ BEGIN
         SELECT s.*, o.place FROM fare.settlement_rows(of_owner, of_day) s JOIN fare.operator o USING (operator)
     )
     SELECT line FROM (
-        SELECT 0 AS place, format('settlement %s %s %s', of_owner, of_day, count(*)) AS line FROM shares
+        SELECT 0 AS part, 0 AS place, format('settlement %s %s %s', of_owner, of_day, count(*)) AS line FROM shares
         UNION ALL
-        SELECT s.place, format('operator %s %s %s', s.operator, s.taps, s.amount) FROM shares s
-    ) lines ORDER BY place;
+        SELECT 1, s.place, format('operator %s %s %s', s.operator, s.taps, s.amount) FROM shares s
+        UNION ALL
+        SELECT 2, s.place, format('short %s', s.device) FROM fare.short(of_owner, of_day) s
+    ) lines ORDER BY part, place;
 END $$;
