@@ -9,7 +9,7 @@ use fare_store::{Fault, Ledger, Refused};
 use sqlite::{Connection, MemStore};
 use std::alloc::Global;
 
-// The tables of a ledger.
+// The tables of a ledger of the first format.
 const TABLES: &str = "CREATE TABLE meta (format INTEGER NOT NULL, owner INTEGER NOT NULL) STRICT;
 CREATE TABLE lane (device INTEGER PRIMARY KEY, taken INTEGER NOT NULL CHECK (taken >= 0),
   closed INTEGER NOT NULL CHECK (closed >= 0)) STRICT;
@@ -184,6 +184,9 @@ CREATE TABLE tap (device INTEGER NOT NULL, lane INTEGER NOT NULL, link INTEGER N
 CREATE TABLE lane (device INTEGER PRIMARY KEY, taken INTEGER NOT NULL CHECK (taken >= 0),
   closed INTEGER NOT NULL CHECK (closed >= 0)) STRICT;";
 
+// The table that the newest format has besides.
+const RETIRED: &str = "CREATE TABLE retired (device INTEGER PRIMARY KEY) STRICT;";
+
 // Other tables, with an index, a view, a count of rows and a reference among themselves.
 const RIDERS: &str =
     "CREATE TABLE rider (id INTEGER PRIMARY KEY AUTOINCREMENT, name TEXT NOT NULL UNIQUE);
@@ -206,7 +209,11 @@ fn a_ledger_opens_wherever_its_tables_stand(rt: HostRuntime) {
         (Call::ClosedThrough, Answer::Maybe(Ok(Some(19_723)))),
         (Call::Count, Answer::Number(Ok(3))),
     ];
-    const CASES: [&[&str]; 6] = [
+    const NEWEST: &str = "UPDATE meta SET format = 2";
+    const CASES: [&[&str]; 9] = [
+        &[OTHERS, META, RETIRED, NEWEST],
+        &[RETIRED, META, OTHERS, NEWEST],
+        &[META, RETIRED, RIDERS, OTHERS, NEWEST],
         &[OTHERS, META],
         &[META, OTHERS],
         &[RIDERS],
@@ -247,7 +254,13 @@ fn another_database_is_foreign_to_a_ledger_and_stays(rt: HostRuntime) {
     const CHILD: &str = "CREATE TABLE child (d INTEGER, l INTEGER,
 FOREIGN KEY (d, l) REFERENCES tap (device, lane) ON DELETE CASCADE)";
     const BY_ROWID: &str = "CREATE UNIQUE INDEX again ON lane (device)";
-    const CASES: [(&[&str], &str, i64); 11] = [
+    const VIEW: &str = "CREATE VIEW retired AS SELECT 1";
+    const INDEX: &str = "CREATE INDEX retired ON tap (day)";
+    const CASES: [(&[&str], &str, i64); 15] = [
+        (&[META, OTHERS, RETIRED], METAS, 11),
+        (&[META, OTHERS, VIEW], METAS, 11),
+        (&[META, OTHERS, INDEX], METAS, 11),
+        (&[TABLES, "INSERT INTO meta VALUES (2, 1)"], METAS, 21),
         (&[TABLES, "INSERT INTO meta VALUES (9, 1)"], METAS, 91),
         (&[TABLES, "INSERT INTO meta VALUES (1, 0)"], METAS, 11),
         (&[TABLES, "INSERT INTO meta VALUES (1, 2)"], METAS, 11),
@@ -291,4 +304,39 @@ fn a_ledger_in_tables_is_of_an_owner_of_the_scheme(rt: HostRuntime) {
         &refusal(rt.alloc(), 9, &[TABLES, ours], "SELECT owner FROM meta"),
         &Some((LedgerOpenFault::UnknownOwner, 1)),
     );
+}
+
+#[test]
+fn a_ledger_in_tables_takes_nothing_more_of_a_retired_lane(rt: HostRuntime) {
+    for sql in [&[] as &[&str], &[META, OTHERS], &[RIDERS]] {
+        let mut retiring = ledger(rt.alloc(), sql).expect(&rt, "ledger");
+        same(&rt, &says(&mut retiring, &RETIRING), &true);
+        let mut alone = ledger(rt.alloc(), sql).expect(&rt, "ledger");
+        same(&rt, &says(&mut alone, &RETIRED_ALONE), &true);
+    }
+}
+
+// What the database of a ledger answers to a question once the ledger was open.
+fn left(alloc: Global, sql: &[&str], question: &str) -> Option<i64> {
+    let mut conn = ledger(alloc, sql)?.into_connection();
+    conn.query_row(question, &[]).ok()?.get(0).ok()
+}
+
+// A ledger of the first format gets the table and the number of the newest; what stands beside it stays.
+#[test]
+fn a_ledger_of_the_first_format_is_raised(rt: HostRuntime) {
+    const FORMAT: &str = "SELECT format * 10 + owner FROM meta";
+    const LANES: &str = "SELECT count(*) FROM retired";
+    const BESIDE: &str = "SELECT count(*) FROM names";
+    const CASES: [(&[&str], &str, i64); 6] = [
+        (&[], FORMAT, 21),
+        (&[META, OTHERS], FORMAT, 21),
+        (&[META, OTHERS], LANES, 0),
+        (&[OTHERS, RIDERS, META], FORMAT, 21),
+        (&[OTHERS, RIDERS, META], BESIDE, 2),
+        (&[RIDERS], BESIDE, 2),
+    ];
+    for &(sql, question, answer) in &CASES {
+        same(&rt, &left(rt.alloc(), sql, question), &Some(answer));
+    }
 }
