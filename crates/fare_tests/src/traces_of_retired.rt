@@ -124,7 +124,7 @@ fetched 2 lane 1
 refused Retired
 fetched 2 lane 2
 refused Retired
-idle
+empty
 count 0
 ";
 
