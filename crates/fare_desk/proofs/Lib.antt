@@ -3,6 +3,7 @@ pub mod Going
 pub mod Held
 pub mod Lane
 pub mod Lanes
+pub mod Retires
 pub mod Shown
 pub mod Tried
 pub mod Written

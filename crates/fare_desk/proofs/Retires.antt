@@ -1,12 +1,14 @@
 -- The end of a lane, asked of a hub.
-use Rattle.std.proofs.Common.{◌≡◌, ◌≢◌, ℕ, List, Some, None, Bool, true, false, refl, sym, ap, ◌∙◌, subst, inl, inr}
-use Rattle.std.specs.Prelude.{◌↔◌, Option, Result, Ok, Err, IfErr, OnOk}
+use Rattle.std.proofs.Common.{◌≡◌, ℕ, List, None, Bool, true, false, refl, sym, ap, ◌∙◌, subst, inl, inr}
+use Rattle.std.specs.Prelude.{Option, Result, Ok, Err, IfErr, IsErrAnd, OnOk, is_some}
 use Rattle.std.specs.Io.KnownBytes.{Appends}
 use Rattle.fare_event.specs.declared.reply.Reply.TheVariants as reply
 use Rattle.fare_lines.specs.Replies.{reply_text}
 use Rattle.fare_owner.specs.RetireJudged.{retire_judged}
 use Rattle.fare_owner.specs.declared.retiring.RetireFault.{RetireFault}
 use Rattle.fare_owner.specs.declared.retiring.RetireFault.TheVariants as retire
+use Rattle.fare_scheme.specs.Values.{SchemeValue}
+use Rattle.fare_scheme.specs.Words.{position_of_owner}
 use Rattle.fare_store.specs.declared.fault.Fault.{Fault}
 use Rattle.fare_store.specs.declared.fault.Fault.TheVariants as fault
 use Rattle.fare_store.specs.declared.fault.Refused.{Refused}
@@ -29,53 +31,11 @@ use Rattle.fare_sessions.specs.Stores.{AreClean, AreSound, StoresFollow, MayStan
 use Rattle.fare_sessions.proofs.Billed.{put_self}
 use Rattle.fare_sessions.proofs.Follow.{clean_back}
 use Rattle.fare_sessions.proofs.Steps.{put_back, stood_before, own_stands}
-use Rattle.fare_desk.specs.Faults.{is_of_retire, is_refusal, of_retiring, of_store}
+use Rattle.fare_desk.specs.Faults.{of_retiring, of_store}
 use Rattle.fare_desk.specs.Retiring.{ComesOf, Leaves, RetiresLane, RetiresOne}
 use Rattle.fare_desk.specs.Showing.{OnlyAsks}
 use Rattle.fare_desk.specs.declared.fault.DeskFault.{DeskFault}
 use Rattle.fare_desk.specs.declared.fault.DeskFault.TheVariants as desk
-
--- FAULTS
--- one that comes behind the first two refusals
-abbrev pub IsLater : DeskFault → Type 0
-IsLater desk.Retired = Unit {0}
-IsLater desk.Memory = Unit {0}
-IsLater desk.Store = Unit {0}
-IsLater desk.Write = Unit {0}
-IsLater _ = ⊥
-
-pub later_store : (f : Fault) → IsLater (of_store f)
-later_store fault.Memory = tt
-later_store fault.Store = tt
-
-pub later_write : (r : Result (Unit {0}) DeskFault) → IfErr r (λ f. f ≡ desk.Write) → IfErr r IsLater
-later_write (Ok u) is = tt
-later_write (Err f) is = subst IsLater (sym is) tt
-
-pub later_refused : (e : Refused RetiringFault) → (e ≡ Because retiring.UnknownOwner → ⊥) → IsLater (of_retiring e)
-later_refused (Because retiring.UnknownOwner) apart = absurd (apart refl)
-later_refused (Because (retiring.Ledger retire.NotMine)) apart = tt
-later_refused (Because (retiring.Ledger retire.Retired)) apart = tt
-later_refused (Failed f) apart = later_store f
-
-pub owner_known : (p : Option ℕ) → (p ≡ None → ⊥) → (r : Result (Unit {0}) DeskFault) → IfErr r IsLater → (r ≡ Err desk.UnknownOwner) ↔ (p ≡ None)
-owner_known p known (Ok u) later = ((λ e. absurd (cc)), λ none. absurd (known none))
-owner_known p known (Err f) later = ((λ e. let same : f ≡ desk.UnknownOwner = cc in absurd (subst IsLater same later)), λ none. absurd (known none))
-
-pub device_known : (p q : Option ℕ) → (q ≡ None → ⊥) → (r : Result (Unit {0}) DeskFault) → IfErr r IsLater → (r ≡ Err desk.UnknownDevice) ↔ ((p ≢ None) × (q ≡ None))
-device_known p q known (Ok u) later = ((λ e. absurd (cc)), λ is. absurd (known is.1))
-device_known p q known (Err f) later = ((λ e. let same : f ≡ desk.UnknownDevice = cc in absurd (subst IsLater same later)), λ is. absurd (known is.1))
-
-pub later_named : (r : Result (Unit {0}) DeskFault) → IfErr r IsLater → IfErr r (λ f. is_refusal f ≡ is_of_retire f)
-later_named (Ok u) later = tt
-later_named (Err desk.UnknownOwner) later = refl
-later_named (Err desk.UnknownDevice) later = refl
-later_named (Err desk.BeforeStart) later = absurd later
-later_named (Err (desk.NotClosed device)) later = absurd later
-later_named (Err desk.Retired) later = refl
-later_named (Err desk.Memory) later = refl
-later_named (Err desk.Store) later = refl
-later_named (Err desk.Write) later = refl
 
 -- ONE LEDGER
 retired_is : (mine retired : Bool) → retire_judged mine retired ≡ Err retire.Retired → retired ≡ true
@@ -122,6 +82,16 @@ module _ {O L : Type 0} (outbox : O → Standing OutboxValue) (ledger : L → St
 
   pub comes_asked : (old new : Hub O L) (R : StoresValue → StoresValue → Type 0) → OnlyAsks outbox ledger old new → (AreClean outbox ledger new → AreSound outbox ledger old → (k : StoresValue) → MayStandAs outbox ledger old k → R k k) → ComesOf outbox ledger old new R
   comes_asked old new R asks is = record { came = λ clean sound k may. let was = asks.same clean sound k may in (k, was, is clean sound k was) }
+
+  -- and this question had no answer
+  pub asked_failed : (owner device : ℕ) (old new : Hub O L) → OnlyAsks outbox ledger old new → (f : Fault) (r : Result (Unit {0}) DeskFault) → IsErrAnd r (λ e. e ≡ of_store f) → IfErr r (λ e. ComesOf outbox ledger old new (Leaves owner device e))
+  asked_failed owner device old new asks f (Ok u) is = tt
+  asked_failed owner device old new asks f (Err e) is = subst (λ x. ComesOf outbox ledger old new (Leaves owner device x)) (sym is) (comes_asked old new (Leaves owner device (of_store f)) asks (λ clean sound k may. left_as_is owner device f k))
+
+  pub still_there : (old new : Hub O L) (owner : ℕ) → OnlyAsks outbox ledger old new → is_some (position_of_owner old.scheme owner) ≡ true → position_of_owner new.scheme owner ≡ None → ⊥
+  still_there old new owner asks known none =
+      let both : false ≡ true = ap is_some (sym none) ∙ (ap (λ (sc : SchemeValue). is_some (position_of_owner sc owner)) asks.scheme ∙ known) in
+      absurd (cc)
 
   module _ (old mid new : Hub O L) (owner device : ℕ) (result : Result Unit (Refused RetiringFault)) (asks : OnlyAsks outbox ledger old mid) (follow : StoresFollow outbox ledger mid new) (h : HasRetired ledger mid new owner device result) (sound_old : IsSound (ledger h.one.own_old)) (sound_new : IsSound (ledger h.one.own_new)) where
     abbrev v : LedgerValue

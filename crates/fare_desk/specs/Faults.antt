@@ -1,5 +1,5 @@
 -- Why an operator's question or order came to nothing.
-use Rattle.std.specs.Prelude.{Option, None, Some, Result, Ok, Err}
+use Rattle.std.specs.Prelude.{Bool, true, false, Option, None, Some, Result, Ok, Err}
 use Rattle.fare_store.specs.declared.fault.Fault.{Fault}
 use Rattle.fare_store.specs.declared.fault.Fault.TheVariants as fault
 use Rattle.fare_store.specs.declared.fault.Refused.{Refused}
@@ -32,19 +32,19 @@ of_retiring (Because (retiring.Ledger retire.NotMine)) = desk.Store
 of_retiring (Because (retiring.Ledger retire.Retired)) = desk.Retired
 of_retiring (Failed f) = of_store f
 
--- a fault that is no refusal: there was no memory, or a store or the writer failed
-abbrev pub IsNoRefusal : DeskFault → Type 0
-IsNoRefusal desk.Memory = Unit {0}
-IsNoRefusal desk.Store = Unit {0}
-IsNoRefusal desk.Write = Unit {0}
-IsNoRefusal _ = ⊥
+-- whether a fault is a refusal: it is none where there was no memory, or a store or the writer failed
+abbrev pub is_refusal : DeskFault → Bool
+is_refusal desk.Memory = false
+is_refusal desk.Store = false
+is_refusal desk.Write = false
+is_refusal _ = true
 
--- a fault of a retire: one of its refusals, or none
-abbrev pub IsOfRetire : DeskFault → Type 0
-IsOfRetire desk.UnknownOwner = Unit {0}
-IsOfRetire desk.UnknownDevice = Unit {0}
-IsOfRetire desk.Retired = Unit {0}
-IsOfRetire f = IsNoRefusal f
+-- whether it is a refusal of a retire
+abbrev pub is_of_retire : DeskFault → Bool
+is_of_retire desk.UnknownOwner = true
+is_of_retire desk.UnknownDevice = true
+is_of_retire desk.Retired = true
+is_of_retire _ = false
 
 -- the refusal of a bill that a fault is, if it is one
 abbrev pub name_of : DeskFault → Option BillFault

@@ -1,10 +1,10 @@
 //! Bills and settlements of a day, written as the replies to the same questions of a trace.
-ghost use Rattle.std.specs.Prelude.{◌≢◌, IfErr, OnOk};
+ghost use Rattle.std.specs.Prelude.{◌≡◌, ◌≢◌, IfErr, OnOk, is_some};
 ghost use Rattle.std.specs.Io.KnownBytes.{Keeps};
 ghost use Rattle.fare_sessions.specs.Billing.{IsBillRefusal, OnlyReads};
 ghost use Rattle.fare_sessions.specs.Stores.{AreClean, AreSound, HasLedgers};
 ghost use Rattle.fare_desk.specs.Billing.{WritesBill, WritesSettlement};
-ghost use Rattle.fare_desk.specs.Faults.{refused_of};
+ghost use Rattle.fare_desk.specs.Faults.{is_refusal, name_of, refused_of};
 ghost use Rattle.fare_desk.specs.declared.fault.DeskFault.TheVariants.{Write};
 
 use crate::fault::{DeskFault, of_refusal};
@@ -33,6 +33,7 @@ pub fn write_bill<O: Outbox, L: Ledger, W: Write>(
     ensures reads { OnlyReads O.standing L.standing hub.old hub.new }
     ensures written { OnOk result (WritesBill O.standing L.standing hub.old hub.new owner day (W.contents output.old) (W.contents output.new)) }
     ensures refused { AreClean O.standing L.standing hub.new → AreSound O.standing L.standing hub.old → IsBillRefusal O.standing L.standing hub.old owner day (refused_of result) }
+    ensures named { IfErr result (λ fault. is_refusal fault ≡ is_some (name_of fault)) }
     ensures kept { IfErr result (λ fault. fault ≢ Write → Keeps (W.contents output.old) (W.contents output.new)) }
 {
     let (bill, short) = match hub.bill(alloc, owner, day) {
@@ -65,6 +66,7 @@ pub fn write_settlement<O: Outbox, L: Ledger, W: Write>(
     ensures reads { OnlyReads O.standing L.standing hub.old hub.new }
     ensures written { OnOk result (WritesSettlement O.standing L.standing hub.old hub.new owner day (W.contents output.old) (W.contents output.new)) }
     ensures refused { AreClean O.standing L.standing hub.new → AreSound O.standing L.standing hub.old → IsBillRefusal O.standing L.standing hub.old owner day (refused_of result) }
+    ensures named { IfErr result (λ fault. is_refusal fault ≡ is_some (name_of fault)) }
     ensures kept { IfErr result (λ fault. fault ≢ Write → Keeps (W.contents output.old) (W.contents output.new)) }
 {
     let (settlement, short) = match hub.settlement(alloc, owner, day) {

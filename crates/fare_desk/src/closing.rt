@@ -112,7 +112,8 @@ fn close_lane<O: Outbox, L: Ledger, W: Write>(
     ensures goes { GoesOn O.standing L.standing hub.old hub.new }
     ensures closed { OnOk result (HasClosedLanes O.standing L.standing ((owner, device) ∷ []) hub.old hub.new (W.contents output.old) (W.contents output.new)) }
 {
-    if ask_retired(hub, owner, device)? {
+    let retired = ask_retired(hub, owner, device)?;
+    if retired {
         return Ok(());
     }
     let mut last: Option<Day> = None;

@@ -4,7 +4,7 @@ ghost use Rattle.std.specs.Io.KnownBytes.{Keeps};
 ghost use Rattle.fare_scheme.specs.Words.{position_of_device, position_of_owner};
 ghost use Rattle.fare_sessions.specs.Stores.{HasLedgers};
 ghost use Rattle.fare_desk.specs.Closing.{GoesOn};
-ghost use Rattle.fare_desk.specs.Faults.{IsOfRetire};
+ghost use Rattle.fare_desk.specs.Faults.{is_of_retire, is_refusal};
 ghost use Rattle.fare_desk.specs.Retiring.{ComesOf, Leaves, RetiresLane};
 
 use crate::fault::{DeskFault, of_retire};
@@ -21,10 +21,10 @@ use std::io::Write;
 /// Retires an owner's lane of a device that will never be read out, for good: nothing more of the device is taken, and no
 /// day of it closed. Writes the line `retired DEVICE`.
 ///
-/// Refused by the first of `UnknownOwner`, `UnknownDevice` and `Retired` that applies; then nothing has changed, and nothing
-/// is written. Then `Memory` where there was none for it, and `Store` where the owner's ledger failed: nothing is written,
-/// and the lane may be retired, but for want of memory for the line, which is made before. `Write` where the writer failed:
-/// then the lane is retired.
+/// Refused by the first of `UnknownOwner`, `UnknownDevice` and `Retired` that applies: nothing has changed, and nothing is
+/// written. Then `Memory` where there was none for it, and `Store` where the owner's ledger failed, or knows no such device:
+/// nothing is written, and the lane may be retired all the same. The line is made before, so that want of memory for it
+/// changes nothing. `Write` where the writer failed: then the lane is retired.
 pub fn retire_lane<O: Outbox, L: Ledger, W: Write>(
     alloc: Global,
     hub: &mut Hub<O, L>,
@@ -39,7 +39,7 @@ pub fn retire_lane<O: Outbox, L: Ledger, W: Write>(
     ensures goes { GoesOn O.standing L.standing hub.old hub.new }
     ensures retired { OnOk result (RetiresLane O.standing L.standing owner device hub.old hub.new (W.contents output.old) (W.contents output.new)) }
     ensures failed { IfErr result (λ fault. ComesOf O.standing L.standing hub.old hub.new (Leaves owner device fault)) }
-    ensures named { IfErr result IsOfRetire }
+    ensures named { IfErr result (λ fault. is_refusal fault ≡ is_of_retire fault) }
     ensures kept { IfErr result (λ fault. fault ≢ DeskFault.Write → Keeps (W.contents output.old) (W.contents output.new)) }
 {
     if hub.scheme.owner_position(owner).is_none() {
@@ -48,7 +48,8 @@ pub fn retire_lane<O: Outbox, L: Ledger, W: Write>(
     if hub.scheme.device_position(device).is_none() {
         return Err(DeskFault::UnknownDevice);
     }
-    if ask_retired(hub, owner, device)? {
+    let retired = ask_retired(hub, owner, device)?;
+    if retired {
         return Err(DeskFault::Retired);
     }
     let mut text = Vec::new(alloc);

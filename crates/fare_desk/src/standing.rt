@@ -1,5 +1,5 @@
 //! Where each device's lanes stand.
-ghost use Rattle.std.specs.Prelude.{◌≡◌, ◌≢◌, ◌+◌, ◌++◌, ◌∷◌, [], None, length, string_bytes, IfOk, IfErr, OnOk};
+ghost use Rattle.std.specs.Prelude.{◌≡◌, ◌≢◌, ◌+◌, ◌++◌, ◌∷◌, [], None, false, length, string_bytes, IfOk, IfErr, OnOk};
 ghost use Rattle.std.specs.Io.KnownBytes.{Keeps};
 ghost use Rattle.std.specs.Map.{keys_of};
 ghost use Rattle.fare_history.specs.Stores.{StoresValue};
@@ -10,7 +10,7 @@ ghost use Rattle.fare_sessions.specs.Billing.{day_behind};
 ghost use Rattle.fare_sessions.specs.Stores.{AreClean, AreSound, HasLedgers, MayStandAs};
 ghost use Rattle.fare_desk.specs.Closing.{lanes_of, lanes_with};
 ghost use Rattle.fare_desk.specs.Showing.{AddsLanes, AddsUptos, HasFrom, IsLane, OnlyAsks, WritesStanding, closed_word, lane_line, retired_word, stated_days, upto_line};
-ghost use Rattle.fare_desk.specs.Faults.{name_of};
+ghost use Rattle.fare_desk.specs.Faults.{is_refusal};
 ghost use Rattle.fare_desk.specs.declared.fault.DeskFault.TheVariants.{Write};
 
 use crate::fault::DeskFault;
@@ -315,7 +315,7 @@ pub fn write_standing<O: Outbox, L: Ledger, W: Write>(
     requires ledgers { HasLedgers hub.old }
     ensures asks { OnlyAsks O.standing L.standing hub.old hub.new }
     ensures written { OnOk result (WritesStanding O.standing L.standing hub.old hub.new (W.contents output.old) (W.contents output.new)) }
-    ensures unnamed { IfErr result (λ fault. name_of fault ≡ None) }
+    ensures unnamed { IfErr result (λ fault. is_refusal fault ≡ false) }
     ensures kept { IfErr result (λ fault. fault ≢ Write → Keeps (W.contents output.old) (W.contents output.new)) }
 {
     let mut text = String::new(alloc);

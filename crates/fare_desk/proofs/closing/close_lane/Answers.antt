@@ -3,13 +3,22 @@ use Rattle.std.specs.Prelude.{Option}
 use Rattle.std.specs.Io.KnownBytes.{Appends}
 use Rattle.fare_sessions.specs.Billing.{IsToClose}
 use Rattle.fare_desk.specs.Closing.{HasAnswered, IsDayBehind, reply_of, try_line}
-use Rattle.fare_desk.proofs.Going.{goes_join}
-use Rattle.fare_desk.proofs.Lane.{StandsLane, lane_begins, goes_mid, lane_ends, lane_closed, lane_refused, lane_spent}
+use Rattle.fare_desk.proofs.Going.{goes_asks, goes_join}
+use Rattle.fare_desk.proofs.Lane.{StandsLane, lane_begins, lane_passed, goes_mid, lane_ends, lane_closed, lane_refused, lane_spent}
 use Rattle.fare_desk.proofs.Lanes.{still_known}
 use Rattle.fare_desk.proofs.closing.close_lane.Goals as goal
 
 pub loop-init : goal.loop-init
-loop-init g c = lane_begins g.O.Outbox.standing g.L.Ledger.standing c.args.owner c.args.device c.args.hub.now (g.W.Write.contents c.args.output.now)
+loop-init g c = lane_begins g.O.Outbox.standing g.L.Ledger.standing c.args.owner c.args.device c.args.hub.now c.ask_retired.new.hub (g.W.Write.contents c.args.output.now) c.ask_retired.ensures.asks (λ clean sound h may. c.in_ok-retired.ensures.tells clean sound h may ∙ c.if-retired.false)
+
+pub returns-in_err-retired-clause-goes : goal.returns-in_err-retired-clause-goes
+returns-in_err-retired-clause-goes g c = goes_asks g.O.Outbox.standing g.L.Ledger.standing c.args.hub.now c.ask_retired.new.hub c.ask_retired.ensures.asks
+
+pub returns-then-retired-clause-goes : goal.returns-then-retired-clause-goes
+returns-then-retired-clause-goes g c = goes_asks g.O.Outbox.standing g.L.Ledger.standing c.args.hub.now c.ask_retired.new.hub c.ask_retired.ensures.asks
+
+pub returns-then-retired-clause-closed : goal.returns-then-retired-clause-closed
+returns-then-retired-clause-closed g c = lane_passed g.O.Outbox.standing g.L.Ledger.standing c.args.owner c.args.device c.args.hub.now c.ask_retired.new.hub (g.W.Write.contents c.args.output.now) c.ask_retired.ensures.asks (λ clean sound h may. c.in_ok-retired.ensures.tells clean sound h may ∙ c.if-retired.true)
 
 pub returns-in_err-day-clause-goes : goal.returns-in_err-day-clause-goes
 returns-in_err-day-clause-goes g c = goes_mid g.O.Outbox.standing g.L.Ledger.standing c.args.owner c.args.device c.args.hub.now c.loop.hub c.next_close.new.self (g.W.Write.contents c.args.output.now) (g.W.Write.contents c.loop.output) c.loop.last c.loop.counter c.loop.invariant c.next_close.ensures.reads

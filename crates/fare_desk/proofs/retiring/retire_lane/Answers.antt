@@ -1,0 +1,60 @@
+use Rattle.std.proofs.Common.{◌≡◌, ◌∙◌, ◌++◌, refl, sym, ap, subst, true}
+use Rattle.std.specs.Prelude.{is_some}
+use Rattle.fare_event.specs.declared.reply.Reply.TheVariants as reply
+use Rattle.fare_lines.specs.Replies.{reply_text}
+use Rattle.fare_scheme.specs.Words.{position_of_owner}
+use Rattle.fare_store.specs.declared.fault.Fault.TheVariants as fault
+use Rattle.fare_desk.specs.Retiring.{ComesOf, Leaves}
+use Rattle.fare_desk.specs.declared.fault.DeskFault.TheVariants as desk
+use Rattle.fare_desk.proofs.Going.{goes_asks, goes_join}
+use Rattle.fare_desk.proofs.Retires.{asked_failed, comes_asked, comes_done, comes_refused, lane_retired, line_lost, still_there}
+use Rattle.fare_desk.proofs.retiring.retire_lane.Goals as goal
+
+pub returns-in_err-retired-clause-goes : goal.returns-in_err-retired-clause-goes
+returns-in_err-retired-clause-goes g c = goes_asks g.O.Outbox.standing g.L.Ledger.standing c.args.hub.now c.ask_retired.new.hub c.ask_retired.ensures.asks
+
+pub returns-in_err-retired-clause-failed : goal.returns-in_err-retired-clause-failed
+returns-in_err-retired-clause-failed g c = asked_failed g.O.Outbox.standing g.L.Ledger.standing c.args.owner c.args.device c.args.hub.now c.ask_retired.new.hub c.ask_retired.ensures.asks c.in_err-retired.field-0.0 c.from_residual.result c.from_residual.ensures.1
+
+pub returns-then-retired-clause-goes : goal.returns-then-retired-clause-goes
+returns-then-retired-clause-goes g c = goes_asks g.O.Outbox.standing g.L.Ledger.standing c.args.hub.now c.ask_retired.new.hub c.ask_retired.ensures.asks
+
+pub returns-then-retired-clause-failed : goal.returns-then-retired-clause-failed
+returns-then-retired-clause-failed g c = comes_asked g.O.Outbox.standing g.L.Ledger.standing c.args.hub.now c.ask_retired.new.hub (Leaves c.args.owner c.args.device desk.Retired) c.ask_retired.ensures.asks (λ clean sound k may. (c.in_ok-retired.ensures.tells clean sound k may ∙ c.if-retired.true, refl))
+
+pub returns-in_err-print_reply-clause-goes : goal.returns-in_err-print_reply-clause-goes
+returns-in_err-print_reply-clause-goes g c = goes_asks g.O.Outbox.standing g.L.Ledger.standing c.args.hub.now c.ask_retired.new.hub c.ask_retired.ensures.asks
+
+pub returns-in_err-print_reply-clause-failed : goal.returns-in_err-print_reply-clause-failed
+returns-in_err-print_reply-clause-failed g c = asked_failed g.O.Outbox.standing g.L.Ledger.standing c.args.owner c.args.device c.args.hub.now c.ask_retired.new.hub c.ask_retired.ensures.asks fault.Memory c.from_residual-in_err-print_reply.result c.from_residual-in_err-print_reply.ensures.1
+
+pub returns-in-Ok-clause-goes : goal.returns-in-Ok-clause-goes
+returns-in-Ok-clause-goes g c =
+    let r = c.retire.ensures in
+    goes_join g.O.Outbox.standing g.L.Ledger.standing c.args.hub.now c.ask_retired.new.hub c.retire.new.self (goes_asks g.O.Outbox.standing g.L.Ledger.standing c.args.hub.now c.ask_retired.new.hub c.ask_retired.ensures.asks) (record { scheme = r.scheme; follow = r.follow; sound = r.sound; agrees = r.agrees; grows = r.grows })
+
+pub returns-in-Ok-clause-retired : goal.returns-in-Ok-clause-retired
+returns-in-Ok-clause-retired g c =
+    let known : is_some (position_of_owner c.args.hub.now.scheme c.args.owner) ≡ true = ap is_some (sym c.owner_position.ensures.value) ∙ c.if-is_none.ensures in
+    let h = c.retire.ensures.retires (still_there g.O.Outbox.standing g.L.Ledger.standing c.args.hub.now c.ask_retired.new.hub c.args.owner c.ask_retired.ensures.asks known) in
+    lane_retired g.O.Outbox.standing g.L.Ledger.standing c.args.owner c.args.device c.args.hub.now c.retire.new.self (g.W.Write.contents c.args.output.now) (g.W.Write.contents c.write_text.new.output) c.deref.result.now
+    (c.deref.ensures.value ∙ (c.in_ok-print_reply.ensures.appended ∙ ap (λ l. l ++ reply_text (reply.Retired c.args.device)) c.new-text.ensures.items))
+    (comes_done g.O.Outbox.standing g.L.Ledger.standing c.args.hub.now c.ask_retired.new.hub c.retire.new.self c.args.owner c.args.device c.retire.result c.ask_retired.ensures.asks c.retire.ensures.follow h (g.met.L.Ledger.sound h.one.own_old) (g.met.L.Ledger.sound h.one.own_new) c.in-Ok.is) c.write_text.result c.write_text.ensures.written
+
+pub returns-in-Ok-clause-failed : goal.returns-in-Ok-clause-failed
+returns-in-Ok-clause-failed g c =
+    let known : is_some (position_of_owner c.args.hub.now.scheme c.args.owner) ≡ true = ap is_some (sym c.owner_position.ensures.value) ∙ c.if-is_none.ensures in
+    let h = c.retire.ensures.retires (still_there g.O.Outbox.standing g.L.Ledger.standing c.args.hub.now c.ask_retired.new.hub c.args.owner c.ask_retired.ensures.asks known) in
+    line_lost g.O.Outbox.standing g.L.Ledger.standing c.args.owner c.args.device c.args.hub.now c.retire.new.self (comes_done g.O.Outbox.standing g.L.Ledger.standing c.args.hub.now c.ask_retired.new.hub c.retire.new.self c.args.owner c.args.device c.retire.result c.ask_retired.ensures.asks c.retire.ensures.follow h (g.met.L.Ledger.sound h.one.own_old) (g.met.L.Ledger.sound h.one.own_new) c.in-Ok.is) c.write_text.result c.write_text.ensures.failed
+
+pub returns-clause-goes : goal.returns-clause-goes
+returns-clause-goes g c =
+    let r = c.retire.ensures in
+    goes_join g.O.Outbox.standing g.L.Ledger.standing c.args.hub.now c.ask_retired.new.hub c.retire.new.self (goes_asks g.O.Outbox.standing g.L.Ledger.standing c.args.hub.now c.ask_retired.new.hub c.ask_retired.ensures.asks) (record { scheme = r.scheme; follow = r.follow; sound = r.sound; agrees = r.agrees; grows = r.grows })
+
+pub returns-clause-failed : goal.returns-clause-failed
+returns-clause-failed g c =
+    let known : is_some (position_of_owner c.args.hub.now.scheme c.args.owner) ≡ true = ap is_some (sym c.owner_position.ensures.value) ∙ c.if-is_none.ensures in
+    let h = c.retire.ensures.retires (still_there g.O.Outbox.standing g.L.Ledger.standing c.args.hub.now c.ask_retired.new.hub c.args.owner c.ask_retired.ensures.asks known) in
+    subst (λ x. ComesOf g.O.Outbox.standing g.L.Ledger.standing c.args.hub.now c.retire.new.self (Leaves c.args.owner c.args.device x)) (sym c.of_retire.ensures)
+    (comes_refused g.O.Outbox.standing g.L.Ledger.standing c.args.hub.now c.ask_retired.new.hub c.retire.new.self c.args.owner c.args.device c.retire.result c.ask_retired.ensures.asks c.retire.ensures.follow h (g.met.L.Ledger.sound h.one.own_old) (g.met.L.Ledger.sound h.one.own_new) c.in-Err.refused c.in-Err.is)
