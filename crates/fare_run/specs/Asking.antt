@@ -1,5 +1,5 @@
 -- What comes of a question of the stores, or an order.
-use Rattle.std.specs.Prelude.{◌≡◌, ◌≢◌, ◌↔◌, ◌⊎◌, ℕ, List, ◌++◌, Option, None}
+use Rattle.std.specs.Prelude.{◌≡◌, ◌≢◌, ◌↔◌, ◌⊎◌, ℕ, false, List, ◌++◌, Option, None, is_some}
 use Rattle.std.specs.Io.KnownBytes.{Appends, Keeps}
 use Rattle.std.specs.Map.{keys_of}
 use Rattle.fare_cap.specs.Bills.{BillValue}
@@ -14,7 +14,7 @@ use Rattle.fare_lines.specs.Replies.{reply_text}
 use Rattle.fare_command.specs.declared.words.Question.{Question}
 use Rattle.fare_command.specs.declared.words.Question.TheVariants.{Close, Bill, Settle, Stand, Retire}
 use Rattle.fare_desk.specs.Billing.{WritesBill, WritesSettlement}
-use Rattle.fare_desk.specs.Faults.{name_of}
+use Rattle.fare_desk.specs.Faults.{is_of_retire, is_refusal, name_of}
 use Rattle.fare_desk.specs.Retiring.{ComesOf, Leaves, RetiresLane}
 use Rattle.fare_desk.specs.Closing.{AreLinesOf, HasClosedLanes, lanes_of}
 use Rattle.fare_desk.specs.Showing.{AreLaneLines, AreUptoLines, WritesStanding}
@@ -46,16 +46,26 @@ Answers outbox ledger (Settle owner day) old new before after = WritesSettlement
 Answers outbox ledger Stand old new before after = WritesStanding outbox ledger old new before after
 Answers outbox ledger (Retire owner device) old new before after = RetiresLane outbox ledger owner device old new before after
 
--- What a fault says of the stores of a hub: to a bill, which refusal applies; to `retire` also what the fault leaves.
-abbrev pub FailsOf : {O L : Type 0} → (O → Standing OutboxValue) → (L → Standing LedgerValue) → Question → Hub O L → Hub O L → DeskFault → Type 0
-FailsOf outbox ledger Close old new fault = Unit {0}
-FailsOf outbox ledger (Bill owner day) old new fault = AreClean outbox ledger new → AreSound outbox ledger old → IsBillRefusal outbox ledger old owner day (name_of fault)
-FailsOf outbox ledger (Settle owner day) old new fault = AreClean outbox ledger new → AreSound outbox ledger old → IsBillRefusal outbox ledger old owner day (name_of fault)
-FailsOf outbox ledger Stand old new fault = name_of fault ≡ None
-FailsOf outbox ledger (Retire owner device) old new fault =
-    ((fault ≡ desk.UnknownOwner) ↔ (position_of_owner old.scheme owner ≡ None))
+-- why there is no bill of an owner's day
+abbrev pub FailsBill : {O L : Type 0} → (O → Standing OutboxValue) → (L → Standing LedgerValue) → ℕ → ℕ → Hub O L → Hub O L → DeskFault → Type 0
+FailsBill outbox ledger owner day old new fault =
+    (is_refusal fault ≡ is_some (name_of fault)) × (AreClean outbox ledger new → AreSound outbox ledger old → IsBillRefusal outbox ledger old owner day (name_of fault))
+
+-- why a lane was not retired, and what is left
+abbrev pub FailsRetire : {O L : Type 0} → (O → Standing OutboxValue) → (L → Standing LedgerValue) → ℕ → ℕ → Hub O L → Hub O L → DeskFault → Type 0
+FailsRetire outbox ledger owner device old new fault =
+    (is_refusal fault ≡ is_of_retire fault) × ((fault ≡ desk.UnknownOwner) ↔ (position_of_owner old.scheme owner ≡ None))
     × ((fault ≡ desk.UnknownDevice) ↔ ((position_of_owner old.scheme owner ≢ None) × (position_of_device old.scheme device ≡ None)))
     × ComesOf outbox ledger old new (Leaves owner device fault)
+
+-- What a fault says of the stores of a hub: to a bill, which refusal applies; to `retire` also what the fault leaves. The
+-- other refusals never come.
+abbrev pub FailsOf : {O L : Type 0} → (O → Standing OutboxValue) → (L → Standing LedgerValue) → Question → Hub O L → Hub O L → DeskFault → Type 0
+FailsOf outbox ledger Close old new fault = is_refusal fault ≡ false
+FailsOf outbox ledger (Bill owner day) old new fault = FailsBill outbox ledger owner day old new fault
+FailsOf outbox ledger (Settle owner day) old new fault = FailsBill outbox ledger owner day old new fault
+FailsOf outbox ledger Stand old new fault = is_refusal fault ≡ false
+FailsOf outbox ledger (Retire owner device) old new fault = FailsRetire outbox ledger owner device old new fault
 
 -- What was written to it, by the scheme alone. To `close`, for each lane a line for each of some days in a row, all of
 -- which were closed but the last, which may have been refused; to `stand`, a line for each device and for each lane; to
