@@ -1,9 +1,10 @@
 //! The closes of all days that can be closed.
-ghost use Rattle.std.specs.Prelude.{◌≡◌, ◌≢◌, ◌↔◌, [], ◌∷◌, IsTrue, None, OnOk, IfOk};
+ghost use Rattle.std.specs.Prelude.{◌≡◌, ◌≢◌, ◌↔◌, [], ◌∷◌, IsTrue, None, false, OnOk, IfErr, IfOk};
 ghost use Rattle.fare_record.specs.Limits.{IsDay};
 ghost use Rattle.fare_scheme.specs.Words.{position_of_owner};
 ghost use Rattle.fare_sessions.specs.Stores.{HasLedgers};
 ghost use Rattle.std.specs.Map.{keys_of};
+ghost use Rattle.fare_desk.specs.Faults.{is_refusal};
 ghost use Rattle.fare_desk.specs.Closing.{GoesOn, HasAnswered, HasClosedLanes, IsDayBehind, close_refusal, lanes_of, lanes_with, reply_of, try_line};
 
 use crate::fault::DeskFault;
@@ -111,6 +112,7 @@ fn close_lane<O: Outbox, L: Ledger, W: Write>(
     requires known { position_of_owner hub.old.scheme owner ≢ None }
     ensures goes { GoesOn O.standing L.standing hub.old hub.new }
     ensures closed { OnOk result (HasClosedLanes O.standing L.standing ((owner, device) ∷ []) hub.old hub.new (W.contents output.old) (W.contents output.new)) }
+    ensures unnamed { IfErr result (λ fault. is_refusal fault ≡ false) }
 {
     let retired = ask_retired(hub, owner, device)?;
     if retired {
@@ -146,6 +148,7 @@ fn close_owner<O: Outbox, L: Ledger, W: Write>(
     requires known { position_of_owner hub.old.scheme owner ≢ None }
     ensures goes { GoesOn O.standing L.standing hub.old hub.new }
     ensures closed { OnOk result (HasClosedLanes O.standing L.standing (lanes_with owner (keys_of hub.old.scheme.devices)) hub.old hub.new (W.contents output.old) (W.contents output.new)) }
+    ensures unnamed { IfErr result (λ fault. is_refusal fault ≡ false) }
 {
     for place in 0..hub.scheme.device_count() {
         let Some(device) = hub.scheme.device_at(place) else {
@@ -171,6 +174,7 @@ pub fn close_days<O: Outbox, L: Ledger, W: Write>(
     requires ledgers { HasLedgers hub.old }
     ensures goes { GoesOn O.standing L.standing hub.old hub.new }
     ensures closed { OnOk result (HasClosedLanes O.standing L.standing (lanes_of hub.old.scheme) hub.old hub.new (W.contents output.old) (W.contents output.new)) }
+    ensures unnamed { IfErr result (λ fault. is_refusal fault ≡ false) }
 {
     for place in 0..hub.scheme.owner_count() {
         let Some(owner) = hub.scheme.owner_at(place) else {
