@@ -1,11 +1,11 @@
 //! The closes of all days that can be closed.
-ghost use Rattle.std.specs.Prelude.{◌≡◌, ◌≢◌, ◌↔◌, [], ◌∷◌, IsTrue, None, false, OnOk, IfOk, IfErr};
+ghost use Rattle.std.specs.Prelude.{◌≡◌, ◌≢◌, ◌↔◌, [], ◌∷◌, IsTrue, None, false, OnOk, IfErr, IfOk};
 ghost use Rattle.fare_record.specs.Limits.{IsDay};
 ghost use Rattle.fare_scheme.specs.Words.{position_of_owner};
 ghost use Rattle.fare_sessions.specs.Stores.{HasLedgers};
 ghost use Rattle.std.specs.Map.{keys_of};
-ghost use Rattle.fare_desk.specs.Closing.{GoesOn, HasAnswered, HasClosedLanes, IsDayBehind, close_refusal, lanes_of, lanes_with, reply_of, try_line};
 ghost use Rattle.fare_desk.specs.Faults.{is_refusal};
+ghost use Rattle.fare_desk.specs.Closing.{GoesOn, HasAnswered, HasClosedLanes, IsDayBehind, close_refusal, lanes_of, lanes_with, reply_of, try_line};
 
 use crate::fault::DeskFault;
 use crate::standing::ask_retired;
