@@ -350,51 +350,38 @@ fn format_of<S: Alter>(conn: &mut Connection<S>) -> Option<(i64, i64)> {
     Some((format, tables))
 }
 
-// What stands in the format and the lists of a ledger that is opened, whose lane of device 2 is then retired, and of which
-// the machine stops and comes back.
-fn raised<S: Alter + Reopen + Drop>(alloc: Global, conn: Connection<S>) -> Option<bool> {
-    let mut conn = conn;
-    let before = format_of(&mut conn)?;
-    let mut ledger = ledger_in(alloc, conn).ok()?;
-    let first = listed(&mut ledger)?;
-    ledger.retire(DeviceId::new(2)?).ok()?;
-    let mut conn = reopened(alloc, ledger.into_connection())?;
-    let after = format_of(&mut conn)?;
-    let mut ledger = ledger_in(alloc, conn).ok()?;
-    let second = listed(&mut ledger)?;
-    Some((before, first) == ((1, 0), lists(false)) && (after, second) == ((2, 1), lists(true)))
-}
-
-#[test]
-fn a_ledger_of_the_first_format_keeps_its_lists(rt: HostRuntime) {
-    let alloc = rt.alloc();
-    let disk = file(alloc).expect(&rt, "file");
-    let conn = burning_over(alloc, disk, u64::MAX).expect(&rt, "database");
-    same(&rt, &raised(alloc, conn), &Some(true));
-}
-
-/// How an open of the file ended whose disks fail.
+/// How an open of the file ended whose disks may fail.
 #[derive(Clone, Copy, PartialEq, Eq, Debug)]
 enum Ended {
     /// Before its database was there.
     Unopened,
-    /// In the midst, and all was there once they were back.
+    /// In the midst, and all was there once the disks were back.
     Stopped,
-    /// It was open.
-    Whole,
+    /// It was open, and all was there.
+    Opened,
+    /// The same, and its lane of device 2 was retired, and was so after the machine stopped and came back.
+    Retired,
 }
 
-// How it ended, if what was left is a ledger of one of the two formats, with the same lists.
-fn stopped<S: Alter + Reopen + Drop>(alloc: Global, conn: Option<Connection<S>>) -> Option<Ended> {
-    let Some(conn) = conn else {
-        return Some(Ended::Unopened);
-    };
-    let conn = match ledger_in(alloc, conn) {
-        Ok(mut ledger) => {
-            return (listed(&mut ledger)? == lists(false)).then_some(Ended::Whole);
-        }
-        Err(conn) => conn?,
-    };
+// How it went on with a ledger that is open.
+fn retired<S: Alter + Reopen + Drop>(alloc: Global, ledger: SqlLedger<S>) -> Option<Ended> {
+    let mut ledger = ledger;
+    if listed(&mut ledger)? != lists(false) {
+        return None;
+    }
+    if ledger.retire(DeviceId::new(2)?).is_err() {
+        return Some(Ended::Opened);
+    }
+    let mut conn = reopened(alloc, ledger.into_connection())?;
+    if format_of(&mut conn)? != (2, 1) {
+        return None;
+    }
+    let mut ledger = ledger_in(alloc, conn).ok()?;
+    (listed(&mut ledger)? == lists(true)).then_some(Ended::Retired)
+}
+
+// How it went on behind a failure, if what is left is a ledger of one of the two formats with the same lists.
+fn stopped<S: Alter + Reopen + Drop>(alloc: Global, conn: Connection<S>) -> Option<Ended> {
     let mut conn = reopened(alloc, conn)?;
     if !matches!(format_of(&mut conn)?, (1, 0) | (2, 1)) {
         return None;
@@ -403,22 +390,47 @@ fn stopped<S: Alter + Reopen + Drop>(alloc: Global, conn: Option<Connection<S>>)
     (listed(&mut ledger)? == lists(false)).then_some(Ended::Stopped)
 }
 
-// The disks fail at each of their calls in turn, from the first on until the ledger is open.
+// How an open of a database ended, if all was there.
+fn ended<S: Alter + Reopen + Drop>(alloc: Global, conn: Option<Connection<S>>) -> Option<Ended> {
+    let Some(conn) = conn else {
+        return Some(Ended::Unopened);
+    };
+    match ledger_in(alloc, conn) {
+        Ok(ledger) => retired(alloc, ledger),
+        Err(conn) => stopped(alloc, conn?),
+    }
+}
+
+// How an open of the file ended whose disks fail after so many calls. It alone names their kind, since a function that
+// does is slow to prove.
+fn ended_after(alloc: Global, calls: u64) -> Option<Ended> {
+    ended(alloc, burning_over(alloc, file(alloc)?, calls))
+}
+
+#[test]
+fn a_ledger_of_the_first_format_keeps_its_lists(rt: HostRuntime) {
+    same(
+        &rt,
+        &ended_after(rt.alloc(), u64::MAX),
+        &Some(Ended::Retired),
+    );
+}
+
+// The disks fail at each of their calls in turn, from the first on until the lane is retired.
 #[test]
 fn a_failure_at_any_call_leaves_one_format_whole(rt: HostRuntime) {
-    let alloc = rt.alloc();
-    let mut stops = 0_u64;
+    let (mut stops, mut opens) = (0_u64, 0_u64);
     let mut whole = false;
     for calls in 0..1_000 {
-        let disk = file(alloc).expect(&rt, "file");
-        match stopped(alloc, burning_over(alloc, disk, calls)).expect(&rt, "a ledger") {
+        match ended_after(rt.alloc(), calls).expect(&rt, "a ledger") {
             Ended::Unopened => {}
             Ended::Stopped => stops = stops.saturating_add(1),
-            Ended::Whole => {
+            Ended::Opened => opens = opens.saturating_add(1),
+            Ended::Retired => {
                 whole = true;
                 break;
             }
         }
     }
-    same(&rt, &(stops > 0, whole), &(true, true));
+    same(&rt, &(stops > 0, opens > 0, whole), &(true, true, true));
 }
