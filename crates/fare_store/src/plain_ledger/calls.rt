@@ -45,10 +45,10 @@ impl Ledger for PlainLedger {
 
     fn take(&mut self, row: &Record) -> Result<(), Refused<TapFault>> {
         let (device, day) = (row.device(), row.tap().day());
-        let mine = self.is_mine(row.owner(), device);
+        let (mine, held) = self.lane_of(row.owner(), device);
         let closed = self.is_closed(device, day);
         let retired = self.is_retired(device);
-        match judge_tap(mine, self.held(device), closed, row.lane(), retired) {
+        match judge_tap(mine, held, closed, row.lane(), retired) {
             Err(why) => Err(Refused::Because(why)),
             Ok(()) => match self.write_tap(row) {
                 Ok(()) => Ok(()),

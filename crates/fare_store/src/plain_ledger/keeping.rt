@@ -73,7 +73,7 @@ impl PlainLedger {
     pub(super) fn is_retired(&self, device: DeviceId) -> bool
         ensures { result ≡ (plain_ledger self.now).retired device }
     {
-        self.retired.contains(&device)
+        !self.retired.is_empty() && self.retired.contains(&device)
     }
 
     // How many taps of a device it has taken.
@@ -83,6 +83,17 @@ impl PlainLedger {
         match self.taken.get(&device) {
             Some(rows) => rows.len() as u64,
             None => 0,
+        }
+    }
+
+    // Whether a tap of an owner's device is the ledger's, and how many of the device it has taken: one look-up for both.
+    pub(super) fn lane_of(&self, owner: OwnerId, device: DeviceId) -> (bool, u64)
+        ensures mine { result.0 ≡ is_mine (plain_ledger self.now) owner device }
+        ensures held { result.1 ≡ length ((plain_ledger self.now).taken device) }
+    {
+        match self.taken.get(&device) {
+            Some(rows) => (owner == self.owner, rows.len() as u64),
+            None => (false, 0),
         }
     }
 
