@@ -11,9 +11,9 @@ returns-in-Ok-write_tap-clause-does c mine =
     let v = plain_ledger c.args.self.now in
     let row = c.args.row.now in
     let day : c.day-day.result ≡ row.tap.day = c.day-day.ensures ∙ ap (λ (t : TapValue). t.day) c.tap.ensures in
-    let mine : c.is_mine-mine.result ≡ is_mine v row.owner row.device = c.is_mine-mine.ensures ∙ (λ i. is_mine v (c.owner.ensures i) (c.device-device.ensures i)) in
+    let mine : c.lane_of-mine.result.0 ≡ is_mine v row.owner row.device = c.lane_of-mine.ensures.mine ∙ (λ i. is_mine v (c.owner.ensures i) (c.device-device.ensures i)) in
     let closed : c.is_closed-closed.result ≡ is_closed v row.device row.tap.day = c.is_closed-closed.ensures ∙ (λ i. is_closed v (c.device-device.ensures i) (day i)) in
-    let held : c.held.result ≡ length (v.taken row.device) = c.held.ensures ∙ ap (λ d. length (v.taken d)) c.device-device.ensures in
+    let held : c.lane_of-mine.result.1 ≡ length (v.taken row.device) = c.lane_of-mine.ensures.held ∙ ap (λ d. length (v.taken d)) c.device-device.ensures in
     let retired : c.is_retired-retired.result ≡ v.retired row.device = c.is_retired-retired.ensures ∙ ap v.retired c.device-device.ensures in
     let judged : take_judged v row ≡ Ok tt = (λ i. tap_judged (sym mine i) (sym held i) (sym closed i) (sym c.lane.ensures.value i) (sym retired i)) ∙ sym c.judge_tap.ensures.judged ∙ c.in-Ok.is in
     plain_call (plain_ledger c.args.self.now) (plain_ledger c.write_tap.new.self) None _ _ (λ e. absurd (cc)) (judged, c.in-Ok-write_tap.ensures.ok) (inr (judged, c.in-Ok-write_tap.ensures.ok))
