@@ -83,14 +83,14 @@ fn held<O: Outbox, L: Ledger>(hub: &mut Hub<O, L>) -> Option<(u64, Option<u64>)>
 fn a_session_leaves_the_rows_of_a_retired_lane(rt: HostRuntime) {
     let alloc = rt.alloc();
     let mut hub = waiting_hub(alloc).expect(&rt, "hub");
-    same(&rt, &billed(alloc, &mut hub), &None);
+    same(&rt, &bill_of_the_day(alloc, &mut hub), &None);
     same(&rt, &retire(&mut hub, 1, 1), &Some(Ok(())));
     let want = Billed {
         rides: 1,
         total: 175,
         short: (1, DeviceId::new(1)),
     };
-    same(&rt, &billed(alloc, &mut hub), &Some(want));
+    same(&rt, &bill_of_the_day(alloc, &mut hub), &Some(want));
     same(&rt, &held(&mut hub), &Some((1, Some(1))));
     for _ in 0..2 {
         let silent = scripts_of(alloc, 2, &[]).expect(&rt, "sources");
@@ -99,7 +99,7 @@ fn a_session_leaves_the_rows_of_a_retired_lane(rt: HostRuntime) {
         );
         same(&rt, &seen, &whole(0, 0));
         same(&rt, &held(&mut hub), &Some((1, Some(2))));
-        same(&rt, &billed(alloc, &mut hub), &Some(want));
+        same(&rt, &bill_of_the_day(alloc, &mut hub), &Some(want));
     }
 }
 
@@ -132,7 +132,7 @@ fn a_retire_may_fail_and_be_tried_again(rt: HostRuntime) {
     let mut hub = hub_of(alloc, scheme, outbox, ledger).expect(&rt, "hub");
     let failed = Err(Refused::Failed(Fault::Store));
     same(&rt, &retire(&mut hub, 1, 1), &Some(failed));
-    same(&rt, &billed(alloc, &mut hub), &None);
+    same(&rt, &bill_of_the_day(alloc, &mut hub), &None);
     same(&rt, &retire(&mut hub, 1, 1), &Some(Ok(())));
     let again = Err(Because(RetiringFault::Ledger(RetireFault::Retired)));
     same(&rt, &retire(&mut hub, 1, 1), &Some(again));

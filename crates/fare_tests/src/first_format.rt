@@ -307,7 +307,7 @@ fn ledger_in<S: Alter + Drop>(
 /// retired.
 type Told = (u64, Option<u64>, bool);
 
-fn told<L: Ledger>(ledger: &mut L, number: u64) -> Option<Told> {
+fn told_of<L: Ledger>(ledger: &mut L, number: u64) -> Option<Told> {
     let device = DeviceId::new(number)?;
     let taken = ledger.count(device).ok()?;
     let stated = ledger.stated(device, Day::new(DAY)?).ok()?;
@@ -316,7 +316,11 @@ fn told<L: Ledger>(ledger: &mut L, number: u64) -> Option<Told> {
 
 // What it tells of the three devices, and how many taps of the day it lists, with the device and lane of the last.
 fn listed<L: Ledger>(ledger: &mut L) -> Option<([Told; 3], usize, (u32, u64))> {
-    let all = [told(ledger, 1)?, told(ledger, 2)?, told(ledger, 3)?];
+    let all = [
+        told_of(ledger, 1)?,
+        told_of(ledger, 2)?,
+        told_of(ledger, 3)?,
+    ];
     let day = Day::new(DAY)?;
     let taps = ledger.taps_between(day, day).ok()?;
     let last = taps.last()?;
@@ -391,7 +395,10 @@ fn stopped<S: Alter + Reopen + Drop>(alloc: Global, conn: Connection<S>) -> Opti
 }
 
 // How an open of a database ended, if all was there.
-fn ended<S: Alter + Reopen + Drop>(alloc: Global, conn: Option<Connection<S>>) -> Option<Ended> {
+fn course_of<S: Alter + Reopen + Drop>(
+    alloc: Global,
+    conn: Option<Connection<S>>,
+) -> Option<Ended> {
     let Some(conn) = conn else {
         return Some(Ended::Unopened);
     };
@@ -404,7 +411,7 @@ fn ended<S: Alter + Reopen + Drop>(alloc: Global, conn: Option<Connection<S>>) -
 // How an open of the file ended whose disks fail after so many calls. It alone names their kind, since a function that
 // does is slow to prove.
 fn ended_after(alloc: Global, calls: u64) -> Option<Ended> {
-    ended(alloc, burning_over(alloc, file(alloc)?, calls))
+    course_of(alloc, burning_over(alloc, file(alloc)?, calls))
 }
 
 #[test]
