@@ -58,7 +58,7 @@ struct Billed {
     short: (usize, Option<DeviceId>),
 }
 
-fn billed<O: Outbox, L: Ledger>(alloc: Global, hub: &mut Hub<O, L>) -> Option<Billed> {
+fn bill_of_the_day<O: Outbox, L: Ledger>(alloc: Global, hub: &mut Hub<O, L>) -> Option<Billed> {
     if hub.ledgers.len() != hub.scheme.owner_count() {
         return None;
     }
