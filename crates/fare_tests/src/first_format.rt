@@ -256,12 +256,15 @@ const DAY: u64 = 19_723;
 // The file.
 fn file(alloc: Global) -> Option<Memory> {
     let mut disk = Memory::new(alloc);
+    if !disk.may_be_used() {
+        return None;
+    }
     disk.set_len(LENGTH).ok()?;
-    for (at, bytes) in &RUNS {
+    for &(at, bytes) in &RUNS {
         if !disk.may_be_used() {
             return None;
         }
-        disk.write_at(*at, bytes).ok()?;
+        disk.write_at(at, bytes).ok()?;
     }
     if !disk.may_be_used() {
         return None;
