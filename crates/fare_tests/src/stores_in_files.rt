@@ -135,45 +135,60 @@ fn asked(rt: &HostRuntime, path: &str, question: Question) -> (Result<(), AskFai
     (ended, output)
 }
 
+// The bill of a day.
+fn bill(day: u64) -> Option<Question> {
+    Some(Question::Bill {
+        owner: OwnerId::new(1)?,
+        day: Day::new(day)?,
+    })
+}
+
+// The end of the lane of device 1.
+fn retire() -> Option<Question> {
+    Some(Question::Retire {
+        owner: OwnerId::new(1)?,
+        device: DeviceId::new(1)?,
+    })
+}
+
 // One tap is served; its day isn't closed, for want of a statement, so it has no bill before its lane is retired.
 #[test]
 fn questions_of_what_was_served(rt: HostRuntime) {
     let (ended, _) = served(&rt, &rt, "asked.db", DEMO, &[&GREETED, &TAPPED]);
     same(&rt, &ended, &Ok(()));
-    let owner = OwnerId::new(1).expect(&rt, "owner");
     let device = DeviceId::new(1).expect(&rt, "device");
-    let retire = Question::Retire { owner, device };
-    let day = Day::new(19_722).expect(&rt, "day");
-    let early = Question::Bill { owner, day };
-    let day = Day::new(19_723).expect(&rt, "day");
-    let bill = Question::Bill { owner, day };
-    let cases: [(Question, Result<(), AskFailure>, &[u8]); 8] = [
+    let cases: [(Option<Question>, Result<(), AskFailure>, &[u8]); 8] = [
         (
-            Question::Stand,
+            Some(Question::Stand),
             Ok(()),
             b"upto 1 1\nlane 1 1 taken 1 closed none rows 0 statements 0\n",
         ),
-        (Question::Close, Ok(()), b""),
-        (early, Err(AskFailure::Desk(DeskFault::BeforeStart)), b""),
+        (Some(Question::Close), Ok(()), b""),
         (
-            bill,
+            bill(19_722),
+            Err(AskFailure::Desk(DeskFault::BeforeStart)),
+            b"",
+        ),
+        (
+            bill(19_723),
             Err(AskFailure::Desk(DeskFault::NotClosed { device })),
             b"",
         ),
-        (retire, Ok(()), b"retired 1\n"),
-        (retire, Err(AskFailure::Desk(DeskFault::Retired)), b""),
+        (retire(), Ok(()), b"retired 1\n"),
+        (retire(), Err(AskFailure::Desk(DeskFault::Retired)), b""),
         (
-            bill,
+            bill(19_723),
             Ok(()),
             b"bill 1 19723 1 175\naccount 1 77 1 175\nshort 1\n",
         ),
         (
-            Question::Stand,
+            Some(Question::Stand),
             Ok(()),
             b"upto 1 1\nlane 1 1 taken 1 closed none rows 0 statements 0 retired\n",
         ),
     ];
     for (question, ends, lines) in cases {
+        let question = question.expect(&rt, "question");
         let (ended, said) = asked(&rt, "asked.db", question);
         same(&rt, &(ended, said.as_slice()), &(ends, lines));
     }
