@@ -7,7 +7,7 @@ use Rattle.byteorder.specs.Endian.{big_bytes, big_number}
 use Rattle.byteorder.specs.Numbers.{big_from-take}
 use Rattle.fare_record.specs.Values.{AckValue}
 use Rattle.fare_record.specs.Wide.{AreBytes}
-use Rattle.fare_record.specs.Bodies.{number_at, record_bytes, record_in, statement_bytes, statement_in, ack_bytes, ack_in, day_ack_bytes, day_ack_in, hello_bytes, hello_in}
+use Rattle.fare_record.specs.Bodies.{number_at, record_bytes, record_in, routed_bytes, routed_in, statement_bytes, statement_in, ack_bytes, ack_in, day_ack_bytes, day_ack_in, hello_bytes, hello_in}
 
 small_first : (n : ℕ) (ys : List ℕ) → ((i : ℕ) → get_or ys i 0 < 256) → (i : ℕ) → get_or (take n ys) i 0 < 256
 small_first zero ys small i = let none : get_or (take 0 ys) i 0 ≡ 0 = get_or_past (take 0 ys) i 0 (omega arith) in omega arith
@@ -74,16 +74,25 @@ module _ (count : ℕ) (bytes : List ℕ) (are : AreBytes count bytes) where
 last_field : (front whole rest : List ℕ) → rest ≡ [] → front ++ rest ≡ whole → front ≡ whole
 last_field front whole rest none is = sym (append-nil front) ∙ sym (ap (λ t. front ++ t) none) ∙ is
 
+-- the eight fields of a record, and the bytes after them
+front : (count : ℕ) (bytes rest : List ℕ) → AreBytes count bytes → 46 ≤ count → rest ≡ drop 46 bytes → record_bytes (record_in bytes) ++ rest ≡ bytes
+front count bytes rest are many is =
+    let day = ap (λ t. big_bytes 4 (number_at 42 4 bytes) ++ t) is ∙ field_4 count bytes are 42 46 refl (omega (arith, many)) in
+    let moment = ap (λ t. big_bytes 8 (number_at 34 8 bytes) ++ t) day ∙ field_8 count bytes are 34 42 refl (omega (arith, many)) in
+    let token = ap (λ t. big_bytes 8 (number_at 26 8 bytes) ++ t) moment ∙ field_8 count bytes are 26 34 refl (omega (arith, many)) in
+    let product = ap (λ t. big_bytes 4 (number_at 22 4 bytes) ++ t) token ∙ field_4 count bytes are 22 26 refl (omega (arith, many)) in
+    let lane = ap (λ t. big_bytes 8 (number_at 14 8 bytes) ++ t) product ∙ field_8 count bytes are 14 22 refl (omega (arith, many)) in
+    let owner = ap (λ t. big_bytes 2 (number_at 12 2 bytes) ++ t) lane ∙ field_2 count bytes are 12 14 refl (omega (arith, many)) in
+    let link = ap (λ t. big_bytes 8 (number_at 4 8 bytes) ++ t) owner ∙ field_8 count bytes are 4 12 refl (omega (arith, many)) in
+    ap (λ t. big_bytes 4 (number_at 0 4 bytes) ++ t) link ∙ field_4 count bytes are 0 4 refl (omega (arith, many))
+
 pub record_spelled : (bytes : List ℕ) → AreBytes 46 bytes → record_bytes (record_in bytes) ≡ bytes
-record_spelled bytes are =
-    let day = last_field (big_bytes 4 (number_at 42 4 bytes)) (drop 42 bytes) (drop 46 bytes) (end 46 bytes are) (field_4 46 bytes are 42 46 refl (omega arith)) in
-    let moment = ap (λ t. big_bytes 8 (number_at 34 8 bytes) ++ t) day ∙ field_8 46 bytes are 34 42 refl (omega arith) in
-    let token = ap (λ t. big_bytes 8 (number_at 26 8 bytes) ++ t) moment ∙ field_8 46 bytes are 26 34 refl (omega arith) in
-    let product = ap (λ t. big_bytes 4 (number_at 22 4 bytes) ++ t) token ∙ field_4 46 bytes are 22 26 refl (omega arith) in
-    let lane = ap (λ t. big_bytes 8 (number_at 14 8 bytes) ++ t) product ∙ field_8 46 bytes are 14 22 refl (omega arith) in
-    let owner = ap (λ t. big_bytes 2 (number_at 12 2 bytes) ++ t) lane ∙ field_2 46 bytes are 12 14 refl (omega arith) in
-    let link = ap (λ t. big_bytes 8 (number_at 4 8 bytes) ++ t) owner ∙ field_8 46 bytes are 4 12 refl (omega arith) in
-    ap (λ t. big_bytes 4 (number_at 0 4 bytes) ++ t) link ∙ field_4 46 bytes are 0 4 refl (omega arith)
+record_spelled bytes are = front 46 bytes [] are (omega arith) (sym (end 46 bytes are))
+
+pub routed_spelled : (bytes : List ℕ) → AreBytes 48 bytes → routed_bytes (routed_in bytes) ≡ bytes
+routed_spelled bytes are =
+    let route = last_field (big_bytes 2 (number_at 46 2 bytes)) (drop 46 bytes) (drop 48 bytes) (end 48 bytes are) (field_2 48 bytes are 46 48 refl (omega arith)) in
+    front 48 bytes (big_bytes 2 (number_at 46 2 bytes)) are (omega arith) route
 
 pub statement_spelled : (bytes : List ℕ) → AreBytes 18 bytes → statement_bytes (statement_in bytes) ≡ bytes
 statement_spelled bytes are =

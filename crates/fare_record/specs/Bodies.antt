@@ -3,7 +3,7 @@ use Rattle.std.specs.Prelude.{ℕ, ◌==◌, ◌||◌, ◌++◌, Bool, false, Li
 use Rattle.byteorder.specs.Endian.{big_bytes, big_number}
 use Rattle.fare_record.specs.Values.{RecordValue, StatementValue, AckValue, DayAckValue, HelloValue}
 use Rattle.fare_record.specs.declared.fault.RecordFault.{RecordFault}
-use Rattle.fare_record.specs.declared.fault.RecordFault.TheVariants.{ZeroId, NumberRange, DayRange}
+use Rattle.fare_record.specs.declared.fault.RecordFault.TheVariants.{ZeroId, NumberRange, DayRange, ZeroRoute}
 
 -- the number in so many bytes from a place on
 abbrev pub number_at : ℕ → ℕ → List ℕ → ℕ
@@ -26,11 +26,11 @@ no_day n = nat_lt 100000 n
 abbrev pub no_moment : ℕ → Bool
 no_moment n = nat_lt 8640200000 n
 
--- the first fault, where an id is 0, where a number is out of its limits, where a day or a moment is
-abbrev pub first_fault : Bool → Bool → Bool → Option RecordFault
-first_fault id number day = if id then Some ZeroId else if number then Some NumberRange else if day then Some DayRange else None
+-- the first fault, where an id is 0, where a number is out of its limits, where a day or a moment is, where a route is 0
+abbrev pub first_fault : Bool → Bool → Bool → Bool → Option RecordFault
+first_fault id number day route = if id then Some ZeroId else if number then Some NumberRange else if day then Some DayRange else if route then Some ZeroRoute else None
 
--- A RECORD
+-- A RECORD, whose route is not spelled
 abbrev pub record_bytes : RecordValue → List ℕ
 record_bytes r =
     big_bytes 4 r.device ++ big_bytes 8 r.link ++ big_bytes 2 r.owner ++ big_bytes 8 r.lane
@@ -43,13 +43,28 @@ record_in bytes = record {
   link = number_at 4 8 bytes;
   owner = number_at 12 2 bytes;
   lane = number_at 14 8 bytes;
-  tap = record { product = number_at 22 4 bytes; token = number_at 26 8 bytes; moment = number_at 34 8 bytes; day = number_at 42 4 bytes };
+  tap = record { product = number_at 22 4 bytes; token = number_at 26 8 bytes; moment = number_at 34 8 bytes; day = number_at 42 4 bytes; route = 0 };
 }
 
-abbrev pub record_fault : RecordValue → Option RecordFault
-record_fault r =
+-- the first fault of a record, where a route of 0 is one or not
+abbrev pub fault_of : Bool → RecordValue → Option RecordFault
+fault_of route r =
     first_fault (r.device == 0 || r.owner == 0 || r.tap.product == 0) (no_number r.link || no_number r.lane || no_token r.tap.token)
-    (no_moment r.tap.moment || no_day r.tap.day)
+    (no_moment r.tap.moment || no_day r.tap.day) route
+
+abbrev pub record_fault : RecordValue → Option RecordFault
+record_fault r = fault_of false r
+
+-- A RECORD WITH ITS ROUTE, which comes last
+abbrev pub routed_bytes : RecordValue → List ℕ
+routed_bytes r = record_bytes r ++ big_bytes 2 r.tap.route
+
+-- the numbers in 48 bytes
+abbrev pub routed_in : List ℕ → RecordValue
+routed_in bytes = record (record_in bytes) { tap = record (record_in bytes).tap { route = number_at 46 2 bytes } }
+
+abbrev pub routed_fault : RecordValue → Option RecordFault
+routed_fault r = fault_of (r.tap.route == 0) r
 
 -- A STATEMENT
 abbrev pub statement_bytes : StatementValue → List ℕ
@@ -60,7 +75,7 @@ abbrev pub statement_in : List ℕ → StatementValue
 statement_in bytes = record { device = number_at 0 4 bytes; day = number_at 4 4 bytes; owner = number_at 8 2 bytes; count = number_at 10 8 bytes }
 
 abbrev pub statement_fault : StatementValue → Option RecordFault
-statement_fault s = first_fault (s.device == 0 || s.owner == 0) (no_count s.count) (no_day s.day)
+statement_fault s = first_fault (s.device == 0 || s.owner == 0) (no_count s.count) (no_day s.day) false
 
 -- AN ACKNOWLEDGEMENT
 abbrev pub ack_bytes : AckValue → List ℕ
@@ -71,7 +86,7 @@ abbrev pub ack_in : List ℕ → AckValue
 ack_in bytes = record { device = number_at 0 4 bytes; upto = number_at 4 8 bytes }
 
 abbrev pub ack_fault : AckValue → Option RecordFault
-ack_fault a = first_fault (a.device == 0) (no_count a.upto) false
+ack_fault a = first_fault (a.device == 0) (no_count a.upto) false false
 
 -- A DAY ACKNOWLEDGEMENT
 abbrev pub day_ack_bytes : DayAckValue → List ℕ
@@ -82,7 +97,7 @@ abbrev pub day_ack_in : List ℕ → DayAckValue
 day_ack_in bytes = record { device = number_at 0 4 bytes; day = number_at 4 4 bytes }
 
 abbrev pub day_ack_fault : DayAckValue → Option RecordFault
-day_ack_fault a = first_fault (a.device == 0) false (no_day a.day)
+day_ack_fault a = first_fault (a.device == 0) false (no_day a.day) false
 
 -- A GREETING
 abbrev pub hello_bytes : HelloValue → List ℕ
@@ -93,4 +108,4 @@ abbrev pub hello_in : List ℕ → HelloValue
 hello_in bytes = record { device = number_at 0 4 bytes; version = number_at 4 2 bytes }
 
 abbrev pub hello_fault : HelloValue → Option RecordFault
-hello_fault h = first_fault (h.device == 0) false false
+hello_fault h = first_fault (h.device == 0) false false false

@@ -8,5 +8,5 @@ record_of n = record {
   link = n.link;
   owner = n.owner;
   lane = n.lane;
-  tap = record { product = n.product; token = n.token; moment = n.moment; day = n.day };
+  tap = record { product = n.product; token = n.token; moment = n.moment; day = n.day; route = n.route };
 }

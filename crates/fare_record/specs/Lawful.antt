@@ -1,7 +1,11 @@
 -- The limits of the numbers in each kind of body.
 use Rattle.std.specs.Prelude.{◌≤◌}
-use Rattle.fare_record.specs.Limits.{IsDeviceId, IsOwnerId, IsProductId, IsToken, IsDay, IsMoment, IsNumber, IsCount}
+use Rattle.fare_record.specs.Limits.{IsDeviceId, IsOwnerId, IsProductId, IsToken, IsDay, IsMoment, IsRoute, IsNumber, IsCount}
 use Rattle.fare_record.specs.Values.{RecordValue, StatementValue, AckValue, DayAckValue, HelloValue}
+
+-- a record as one of a tap whose route is not known
+abbrev pub unrouted : RecordValue → RecordValue
+unrouted r = record r { tap = record r.tap { route = 0 } }
 
 pub record IsLawfulRecord (r : RecordValue) : Type 0 where
   pub device : IsDeviceId r.device
@@ -12,6 +16,7 @@ pub record IsLawfulRecord (r : RecordValue) : Type 0 where
   pub token : IsToken r.tap.token
   pub moment : IsMoment r.tap.moment
   pub day : IsDay r.tap.day
+  pub route : IsRoute r.tap.route
 
 pub record IsLawfulStatement (s : StatementValue) : Type 0 where
   pub device : IsDeviceId s.device

@@ -27,6 +27,10 @@ IsDay n = n ≤ 100000
 abbrev pub IsMoment : ℕ → Type 0
 IsMoment n = n ≤ 8640200000
 
+-- the number of a route, or 0 where none is known
+abbrev pub IsRoute : ℕ → Type 0
+IsRoute n = n ≤ 65535
+
 -- a number that a device gave a tap, in its link or in an owner's lane: 1 to 2^40 - 1
 abbrev pub IsNumber : ℕ → Type 0
 IsNumber n = (1 ≤ n) × (n ≤ 1099511627775)

@@ -2,12 +2,13 @@
 use Rattle.std.specs.Prelude.{ℕ}
 use Rattle.fare_record.specs.Limits.{IsNumber}
 
--- a tap: what was used, when, and the traffic day of that moment
+-- a tap: what was used, when, the traffic day of that moment, and the route, or 0 where none is known
 pub record TapValue : Type 0 where
   pub product : ℕ
   pub token : ℕ
   pub moment : ℕ
   pub day : ℕ
+  pub route : ℕ
 
 -- a numbered tap: its device, its place in all taps of the device, the owner of its product, and its place in that owner's taps of the device
 pub record RecordValue : Type 0 where

@@ -16,6 +16,7 @@ pub record IsWideRecord (r : RecordValue) : Type 0 where
   pub token : r.tap.token < 2 ^ 64
   pub moment : r.tap.moment < 2 ^ 64
   pub day : r.tap.day < 2 ^ 32
+  pub route : r.tap.route < 2 ^ 16
 
 pub record IsWideStatement (s : StatementValue) : Type 0 where
   pub device : s.device < 2 ^ 32

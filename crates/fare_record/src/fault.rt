@@ -12,4 +12,7 @@ pub enum RecordFault {
     /// A day or a moment is out of its limits.
     #[error("a day or a moment is out of its limits")]
     DayRange,
+    /// A route is spelled, and is 0.
+    #[error("a route is 0")]
+    ZeroRoute,
 }

@@ -1,8 +1,8 @@
-ghost use Rattle.std.specs.Prelude.{◌≡◌, Some, None, MatchResult, IfOk, not};
+ghost use Rattle.std.specs.Prelude.{◌≡◌, ◌≢◌, ◌≤◌, Some, None, MatchResult, IfOk, length, not};
 ghost use Rattle.fare_record.specs.Limits.{IsNumber};
 ghost use Rattle.fare_record.specs.Fields.{record_of};
-ghost use Rattle.fare_record.specs.Lawful.{IsLawfulRecord};
-ghost use Rattle.fare_record.specs.Bodies.{no_number, record_bytes, record_in, record_fault};
+ghost use Rattle.fare_record.specs.Lawful.{IsLawfulRecord, unrouted};
+ghost use Rattle.fare_record.specs.Bodies.{no_number, record_bytes, record_in, record_fault, routed_bytes, routed_in, routed_fault};
 
 use crate::fields::{u16_at, u32_at, u64_at};
 use crate::{Day, DeviceId, Moment, OwnerId, ProductId, RecordFault, Tap, Token};
@@ -89,13 +89,36 @@ impl Record {
         self.tap
     }
 
-    /// Its body of 46 bytes, the highest byte of each number first: device u32, link u64, owner u16, lane
-    /// u64, product u32, token u64, moment u64, day u32.
+    /// Its body of 46 bytes where no route is known, the highest byte of each number first: device u32, link u64,
+    /// owner u16, lane u64, product u32, token u64, moment u64, day u32.
     pub fn encode(&self) -> [u8; 46]
+        requires { self.now.tap.route ≡ 0 }
         ensures spelled { result ≡ record_bytes self.now }
         ensures lawful { IsLawfulRecord self.now }
     {
         let mut bytes = [0; 46];
+        self.write(&mut bytes);
+        bytes
+    }
+
+    /// Its body of 48 bytes where a route is known: the 46 as without one, and then route u16.
+    pub fn encode_routed(&self) -> [u8; 48]
+        requires { self.now.tap.route ≢ 0 }
+        ensures spelled { result ≡ routed_bytes self.now }
+        ensures lawful { IsLawfulRecord self.now }
+    {
+        let mut bytes = [0; 48];
+        self.write(&mut bytes[0..46]);
+        BigEndian::write_u16(&mut bytes[46..48], self.tap.route());
+        bytes
+    }
+
+    // All but the route, into 46 bytes.
+    fn write(&self, bytes: &mut [u8])
+        requires { length bytes.old ≡ 46 }
+        ensures written { bytes.new ≡ record_bytes self.now }
+        ensures lawful { IsLawfulRecord (unrouted self.now) }
+    {
         BigEndian::write_u32(&mut bytes[0..4], self.device.get());
         BigEndian::write_u64(&mut bytes[4..12], self.link);
         BigEndian::write_u16(&mut bytes[12..14], self.owner.get());
@@ -104,18 +127,35 @@ impl Record {
         BigEndian::write_u64(&mut bytes[26..34], self.tap.token().get());
         BigEndian::write_u64(&mut bytes[34..42], self.tap.moment().get());
         BigEndian::write_u32(&mut bytes[42..46], self.tap.day().get());
-        bytes
     }
 
-    /// The record of which these bytes are the body. `ZeroId` where its device, owner or product is 0, else
-    /// `NumberRange` where its link, lane or token is out of its limits, else `DayRange` where its moment or
-    /// day is.
+    /// The record of which these bytes are the body, whose route is not known. `ZeroId` where its device, owner or
+    /// product is 0, else `NumberRange` where its link, lane or token is out of its limits, else `DayRange` where its
+    /// moment or day is.
     pub fn decode(bytes: &[u8; 46]) -> Result<Record, RecordFault>
         ensures judged { MatchResult result (λ _. record_fault (record_in bytes.now) ≡ None) (λ fault. record_fault (record_in bytes.now) ≡ Some fault) }
         ensures value { IfOk result (λ r. r ≡ record_in bytes.now) }
         ensures spelled { IfOk result (λ r. record_bytes r ≡ bytes.now) }
     {
         Numbers::read(bytes).record()
+    }
+
+    /// The record of which these bytes are the body with a route. Refused as by `decode`, or else `ZeroRoute` where the
+    /// route is 0: a record without one has the shorter body alone.
+    pub fn decode_routed(bytes: &[u8; 48]) -> Result<Record, RecordFault>
+        ensures judged { MatchResult result (λ _. routed_fault (routed_in bytes.now) ≡ None) (λ fault. routed_fault (routed_in bytes.now) ≡ Some fault) }
+        ensures value { IfOk result (λ r. r ≡ routed_in bytes.now) }
+        ensures spelled { IfOk result (λ r. routed_bytes r ≡ bytes.now) }
+    {
+        let numbers = Numbers {
+            route: u16_at(bytes, 46),
+            ..Numbers::read(bytes)
+        };
+        let record = numbers.record()?;
+        if numbers.route == 0 {
+            return Err(RecordFault::ZeroRoute);
+        }
+        Ok(record)
     }
 }
 
@@ -130,10 +170,13 @@ struct Numbers {
     token: u64,
     moment: u64,
     day: u32,
+    route: u16,
 }
 
 impl Numbers {
-    fn read(bytes: &[u8; 46]) -> Numbers
+    // Those of the first 46 bytes, without a route.
+    fn read(bytes: &[u8]) -> Numbers
+        requires { 46 ≤ length bytes.now }
         ensures { record_of result ≡ record_in bytes.now }
     {
         Numbers {
@@ -145,6 +188,7 @@ impl Numbers {
             token: u64_at(bytes, 26),
             moment: u64_at(bytes, 34),
             day: u32_at(bytes, 42),
+            route: 0,
         }
     }
 
@@ -167,7 +211,7 @@ impl Numbers {
         let (Some(moment), Some(day)) = (Moment::new(self.moment), Day::new(self.day.into())) else {
             return Err(RecordFault::DayRange);
         };
-        let tap = Tap::new(product, token, moment, day);
+        let tap = Tap::new(product, token, moment, day, self.route);
         Ok(Record::new(device, link, owner, lane, tap))
     }
 }

@@ -1,9 +1,10 @@
-ghost use Rattle.std.specs.Prelude.{◌≡◌};
+ghost use Rattle.std.specs.Prelude.{◌≡◌, ◌≤◌};
 
 use crate::{Day, Moment, ProductId, Token};
 use std::marker::Model;
 
-/// A tap on a validator: the product and the token that were used, the moment, and its traffic day.
+/// A tap on a validator: the product and the token that were used, the moment, its traffic day, and the route on which
+/// it was made.
 #[derive(Clone, Copy, PartialEq, Eq, Debug)]
 pub struct Tap {
     // The long numbers first, which leaves no room unused between the fields.
@@ -11,6 +12,7 @@ pub struct Tap {
     moment: Moment,
     product: ProductId,
     day: Day,
+    route: u16,
 }
 
 impl Model for Tap {
@@ -18,21 +20,22 @@ impl Model for Tap {
 
     ghost Value = { TapValue };
 
-    ghost view = { λ a. record { product = a.product; token = a.token; moment = a.moment; day = a.day } };
+    ghost view = { λ a. record { product = a.product; token = a.token; moment = a.moment; day = a.day; route = a.route } };
 
-    ghost inverse = { λ v. record { product = v.product; token = v.token; moment = v.moment; day = v.day } };
+    ghost inverse = { λ v. record { product = v.product; token = v.token; moment = v.moment; day = v.day; route = v.route } };
 }
 
 impl Tap {
-    /// The tap with these parts.
-    pub fn new(product: ProductId, token: Token, moment: Moment, day: Day) -> Tap
-        ensures { result ≡ record { product = product; token = token; moment = moment; day = day } }
+    /// The tap with these parts: route 0 where none is known.
+    pub fn new(product: ProductId, token: Token, moment: Moment, day: Day, route: u16) -> Tap
+        ensures { result ≡ record { product = product; token = token; moment = moment; day = day; route = route } }
     {
         Tap {
             product,
             token,
             moment,
             day,
+            route,
         }
     }
 
@@ -62,5 +65,13 @@ impl Tap {
         ensures { result ≡ self.day }
     {
         self.day
+    }
+
+    /// The route on which it was made, by its operator's number: 0 where none is known.
+    pub fn route(self) -> u16
+        ensures value { result ≡ self.route }
+        ensures valid { result ≤ 65535 }
+    {
+        self.route
     }
 }

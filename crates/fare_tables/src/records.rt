@@ -47,7 +47,7 @@ pub fn cell_day(row: &Row, at: usize) -> Result<Day, Fault>
     }
 }
 
-/// The tap of four cells from a place on: product, token, moment and day. Where one of them holds no such number
+/// The tap of five cells from a place on: product, token, moment, day and route. Where one of them holds no such number
 /// within its limits, it answers Store.
 pub fn tap_in_cells(row: &Row, from: usize) -> Result<Tap, Fault>
     requires { from ≤ 1000 }
@@ -58,12 +58,16 @@ pub fn tap_in_cells(row: &Row, from: usize) -> Result<Tap, Fault>
     let token = cell_number(row, from + 1)?;
     let moment = cell_number(row, from + 2)?;
     let day = cell_day(row, from + 3)?;
+    let route = u16::try_from(cell_number(row, from + 4)?);
     match (
         ProductId::new(product),
         Token::new(token),
         Moment::new(moment),
+        route,
     ) {
-        (Some(product), Some(token), Some(moment)) => Ok(Tap::new(product, token, moment, day)),
+        (Some(product), Some(token), Some(moment), Ok(route)) => {
+            Ok(Tap::new(product, token, moment, day, route))
+        }
         _ => Err(Fault::Store),
     }
 }

@@ -1,9 +1,13 @@
-use Rattle.fare_record.proofs.Spelling.{record_spelled, statement_spelled, ack_spelled, day_ack_spelled, hello_spelled}
+use Rattle.fare_record.proofs.Spelling.{record_spelled, routed_spelled, statement_spelled, ack_spelled, day_ack_spelled, hello_spelled}
 use Rattle.fare_record.proofs.laws.bodies_read_back.Goals as goal
 
 -- src/laws.rt:8:1
 pub returns-clause-record_spelled : goal.returns-clause-record_spelled
 returns-clause-record_spelled c = record_spelled
+
+-- src/laws.rt:8:1
+pub returns-clause-routed_spelled : goal.returns-clause-routed_spelled
+returns-clause-routed_spelled c = routed_spelled
 
 -- src/laws.rt:8:1
 pub returns-clause-statement_spelled : goal.returns-clause-statement_spelled
