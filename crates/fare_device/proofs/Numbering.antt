@@ -139,8 +139,8 @@ numbered_fresh id day room owners = record {
   dated = tt;
 }
 
-pub numbered_tap : (sc : SchemeValue) (taps : List RecordValue) (x new : DeviceValue) (product token moment day : ℕ) (r : RecordValue) → x.owners ≡ keys_of sc.owners → HasNumbered taps x → IsTapped sc x product token moment day r new → HasNumbered (taps ++ r ∷ []) new
-numbered_tap sc taps x new product token moment day r made h did = subst (HasNumbered (taps ++ r ∷ [])) (sym did.value) (record {
+pub numbered_tap : (sc : SchemeValue) (taps : List RecordValue) (x new : DeviceValue) (product token moment day route : ℕ) (r : RecordValue) → x.owners ≡ keys_of sc.owners → HasNumbered taps x → IsTapped sc x product token moment day route r new → HasNumbered (taps ++ r ∷ []) new
+numbered_tap sc taps x new product token moment day route r made h did = subst (HasNumbered (taps ++ r ∷ [])) (sym did.value) (record {
   waiting = ap (λ l. l ++ r ∷ []) h.waiting ∙ sym (drop_push x.base taps r h.base);
   base = omega (arith, h.base, length_push taps r);
   lanes = counted_more x.owners taps r length x.lanes h.lanes did.place r.lane at (ap (λ (y : RecordValue). y.lane) did.is) (λ rs. length_push rs r);

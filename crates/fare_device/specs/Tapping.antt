@@ -21,14 +21,14 @@ pub record IsNumbered (old : DeviceValue) (owner place : ℕ) (tap : TapValue) (
   pub value : new ≡ record old { waiting = old.waiting ++ r ∷ []; lanes = slice_set old.lanes place r.lane; counts = slice_set old.counts place (slice_index old.counts place + 1) }
 
 -- the tap gets the device's next link and its owner's next lane, waits behind the others, and is one more of its owner's taps of the open day
-pub record IsTapped (sc : SchemeValue) (old : DeviceValue) (product token moment day : ℕ) (r : RecordValue) (new : DeviceValue) : Type 0 where
+pub record IsTapped (sc : SchemeValue) (old : DeviceValue) (product token moment day route : ℕ) (r : RecordValue) (new : DeviceValue) : Type 0 where
   pub place : ℕ
   pub owner : owner_of sc product ≡ Some r.owner
   pub at : position_of_owner sc r.owner ≡ Some place
   pub current : day ≡ old.day
   pub few : last_link old < 1099511627775
   pub room : length old.waiting < old.room
-  pub is : r ≡ record { device = old.id; link = last_link old + 1; owner = r.owner; lane = slice_index old.lanes place + 1; tap = record { product = product; token = token; moment = moment; day = day } }
+  pub is : r ≡ record { device = old.id; link = last_link old + 1; owner = r.owner; lane = slice_index old.lanes place + 1; tap = record { product = product; token = token; moment = moment; day = day; route = route } }
   pub value : new ≡ record old { waiting = old.waiting ++ r ∷ []; lanes = slice_set old.lanes place r.lane; counts = slice_set old.counts place (slice_index old.counts place + 1) }
 
 -- when each refusal comes: no earlier one applies, and this one does

@@ -278,8 +278,8 @@ impl Device {
     }
 
     /// Numbers a tap, counts it for its owner and keeps it at the end of those that wait. `day` is the traffic
-    /// day of `moment`, and the scheme is the one that the device was made with. Answers the numbered record, or the first refusal
-    /// that applies, in the order `UnknownProduct`, `DayClosed`, `DayAhead`, `NumbersSpent`,
+    /// day of `moment`, `route` that on which it was made, or 0 where none is known, and the scheme is the one that the
+    /// device was made with. Answers the numbered record, or the first refusal that applies, in the order `UnknownProduct`, `DayClosed`, `DayAhead`, `NumbersSpent`,
     /// `BufferFull`; then the device is as before.
     pub fn tap(
         &mut self,
@@ -288,15 +288,16 @@ impl Device {
         token: Token,
         moment: Moment,
         day: Day,
+        route: u16,
     ) -> Result<Record, TapRefusal>
         requires made_with { length self.old.lanes ≡ length scheme.now.owners }
-        ensures ok { IfOk result (λ r. IsTapped scheme.now self.old product token moment day r self.new) }
+        ensures ok { IfOk result (λ r. IsTapped scheme.now self.old product token moment day route r self.new) }
         ensures err { OnErr result (self.new ≡ self.old) }
         ensures cause { IfErr result (TapRefused scheme.now self.old product day) }
         ensures lanes { length self.new.lanes ≡ length self.old.lanes }
     {
         let (owner, place) = self.owner_for(scheme, product, day)?;
-        self.number(owner, place, Tap::new(product, token, moment, day))
+        self.number(owner, place, Tap::new(product, token, moment, day, route))
     }
 
     /// Turns the open day: the counts of its taps are final, and its statements wait for their

@@ -14,7 +14,7 @@ ghost use Rattle.fare_device.specs.Turning.{turned, day_acknowledged, kept_count
 /// numbered for its owner.
 pub fn a_device_counts_what_it_numbered()
     ensures fresh { (id day room : ℕ) (owners : List ℕ) → HasNumbered [] (fresh_device id day room owners) }
-    ensures tapped { (scheme : SchemeValue) (taps : List RecordValue) (old new : DeviceValue) (product token moment day : ℕ) (r : RecordValue) → old.owners ≡ keys_of scheme.owners → HasNumbered taps old → IsTapped scheme old product token moment day r new → HasNumbered (taps ++ r ∷ []) new }
+    ensures tapped { (scheme : SchemeValue) (taps : List RecordValue) (old new : DeviceValue) (product token moment day route : ℕ) (r : RecordValue) → old.owners ≡ keys_of scheme.owners → HasNumbered taps old → IsTapped scheme old product token moment day route r new → HasNumbered (taps ++ r ∷ []) new }
     ensures turned { (taps : List RecordValue) (x : DeviceValue) → HasNumbered taps x → HasNumbered taps (turned x) }
     ensures acknowledged { (taps : List RecordValue) (x : DeviceValue) (upto : ℕ) → upto ≤ last_link x → HasNumbered taps x → HasNumbered taps (acknowledged x upto) }
     ensures day_acknowledged { (taps : List RecordValue) (x : DeviceValue) (day : ℕ) → HasNumbered taps x → HasNumbered taps (day_acknowledged x day) }

@@ -3,8 +3,8 @@ use Rattle.std.proofs.Common.{◌≡◌, ◌<◌, ◌≤◌, ℕ, zero, suc, ◌
 use Rattle.std.proofs.lemmas.List.{get_or-drop, take-append-drop, take-append-le, take_at, length-append}
 use Rattle.fare_record.specs.declared.fault.RecordFault.{RecordFault}
 use Rattle.fare_frame.specs.Table.{code_of, length_of, head_of}
-use Rattle.fare_frame.specs.Grammar.{kind_of, body_of, frame_bytes, frame_in, IsFrame, IsHead, IsRest, IsBadLength, IsBadType, IsBadBody, IsFault}
-use Rattle.fare_frame.specs.Decoding.{frame_fault}
+use Rattle.fare_frame.specs.Grammar.{kind_of, body_of, frame_bytes, frame_in, IsFrame, IsFrameOf, IsHead, IsRest, IsBadLength, IsBadType, IsBadBody, IsFault}
+use Rattle.fare_frame.specs.Decoding.{fault_in}
 use Rattle.fare_frame.specs.declared.fault.ReadFault.{ReadFault}
 use Rattle.fare_frame.specs.declared.fault.ReadFault.TheVariants.{BadLength, BadType, BadBody, Memory, Failed}
 use Rattle.fare_frame.specs.declared.frame.Frame.{Frame}
@@ -36,24 +36,24 @@ small_take (suc n) (y ∷ ys) small (suc i) = small_take n ys (λ j. small (suc 
 module _ (bytes head body : List ℕ) (small : (i : ℕ) → get_or bytes i 0 < 256) (long : 3 ≤ length bytes) (first : head ≡ take 3 bytes) (behind : body ≡ drop 3 bytes) (k : Kind)
     (is : IsHead k (get_or head 0 0) (get_or head 1 0) (get_or head 2 0)) where
   -- the bytes begin with a frame whose head and body were read
-  pub frame_read : (f : Frame) → kind_of f ≡ k → body_of f ≡ take (length_of k - 1) body → f ≡ frame_in k (take (length_of k - 1) body) → frame_fault f ≡ None
+  pub frame_read : (f : Frame) → kind_of f ≡ k → body_of f ≡ take (length_of k - 1) body → f ≡ frame_in k (take (length_of k - 1) body) → fault_in k f ≡ None
       → (bytes ≡ frame_bytes f ++ drop (length_of k - 1) body) × IsFrame f
   frame_read f kind spelled value lawful =
       let low : get_or head 1 0 < 256 = rw first (small_take 3 bytes small 1) in
       let small_body : (i : ℕ) → get_or body i 0 < 256 = λ i. rw (behind, get_or-drop 3 bytes i 0) (small (3 + i)) in
       let wide : IsWide (frame_in k (take (length_of k - 1) body)) = wide_in k (take (length_of k - 1) body) (small_take (length_of k - 1) body small_body) in (
         parted bytes head body long first behind ∙ frame_stands k f (get_or head 0 0) (get_or head 1 0) (get_or head 2 0) body low is kind spelled,
-        within_limits f (subst IsWide (sym value) wide) lawful,
+        within_limits k f (subst IsWide (sym value) wide) lawful,
       )
 
   -- or with a head and a body that no frame has
-  pub body_fault_stands : (fault : RecordFault) → length_of k ≤ length body + 1 → frame_fault (frame_in k (take (length_of k - 1) body)) ≡ Some fault → IsFault bytes BadBody
+  pub body_fault_stands : (fault : RecordFault) → length_of k ≤ length body + 1 → fault_in k (frame_in k (take (length_of k - 1) body)) ≡ Some fault → IsFault bytes BadBody
   body_fault_stands fault whole found =
-      let none : IsFrame (frame_in k (take (length_of k - 1) body)) → ⊥ = λ lawful. cc (no_fault (frame_in k (take (length_of k - 1) body)) lawful, found) in
+      let none : IsFrameOf k (frame_in k (take (length_of k - 1) body)) → ⊥ = λ lawful. cc (no_fault k (frame_in k (take (length_of k - 1) body)) lawful, found) in
       subst (λ t. IsFault t BadBody) (sym (parted bytes head body long first behind)) (k, is, (whole, none))
 
 -- a rest is shorter than the longest frame
-pub rest_is_short : (bytes : List ℕ) → IsRest bytes → length bytes ≤ 48
+pub rest_is_short : (bytes : List ℕ) → IsRest bytes → length bytes ≤ 50
 rest_is_short [] rest = omega arith
 rest_is_short (a ∷ []) rest = omega arith
 rest_is_short (a ∷ b ∷ []) rest = omega arith
@@ -73,7 +73,7 @@ module _ (f : Frame) (more : List ℕ) (is : IsFrame f) where
       let as_long : length (body_of f) ≡ n = omega (arith, ap length_of same, length-body f) in
       let body : take n (body_of f ++ more) ≡ body_of f = take_at (body_of f) more n as_long in
       let own : frame_in j (take n (body_of f ++ more)) ≡ f = ap (frame_in j) body ∙ ap (λ k. frame_in k (body_of f)) same ∙ read_back f (wide_frame f is) in
-      bad.1 (subst IsFrame (sym own) is)
+      bad.1 (subst (IsFrameOf j) (sym own) (is, sym same))
 
   sound : (fault : ReadFault) → IsFault (0 ∷ length_of (kind_of f) ∷ code_of (kind_of f) ∷ (body_of f ++ more)) fault → ⊥
   sound BadLength (inl none) = none (kind_of f) (omega arith)
@@ -93,7 +93,7 @@ longer_fault (a ∷ b ∷ c ∷ body) more BadLength h = h
 longer_fault (a ∷ b ∷ c ∷ body) more BadType h = h
 longer_fault (a ∷ b ∷ c ∷ body) more BadBody (k, head, (long, bad)) =
     let same : take (length_of k - 1) (body ++ more) ≡ take (length_of k - 1) body = take-append-le (length_of k - 1) body more (omega arith) in
-    (k, head, (omega (arith, length-append body more), subst (λ t. IsFrame (frame_in k t) → ⊥) (sym same) bad))
+    (k, head, (omega (arith, length-append body more), subst (λ t. IsFrameOf k (frame_in k t) → ⊥) (sym same) bad))
 longer_fault (a ∷ b ∷ c ∷ body) more Memory h = absurd h
 longer_fault (a ∷ b ∷ c ∷ body) more Failed h = absurd h
 longer_fault [] more fault h = absurd h

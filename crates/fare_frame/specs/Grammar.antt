@@ -1,10 +1,10 @@
 -- Frames as bytes: a length of two bytes, the highest first, which counts the bytes after itself, a type of one byte, and a body.
-use Rattle.std.specs.Prelude.{◌≡◌, ◌≢◌, ◌+◌, ◌-◌, ◌*◌, ◌<◌, ◌≤◌, ◌⊎◌, ℕ, List, ◌∷◌, ◌++◌, length, take, Option, Some, None}
+use Rattle.std.specs.Prelude.{◌≡◌, ◌≢◌, ◌==◌, ◌+◌, ◌-◌, ◌*◌, ◌<◌, ◌≤◌, ◌⊎◌, ℕ, Bool, true, false, List, ◌∷◌, ◌++◌, length, take, Option, Some, None}
 use Rattle.std.specs.List.{flat_map}
 use Rattle.fare_record.specs.Values.{RecordValue, StatementValue, AckValue, DayAckValue, HelloValue}
 use Rattle.fare_record.specs.declared.ack_item.AckItem.{AckItem}
 use Rattle.fare_record.specs.declared.ack_item.AckItem.TheVariants as ack_item
-use Rattle.fare_record.specs.Bodies.{record_bytes, record_in, statement_bytes, statement_in, ack_bytes, ack_in, day_ack_bytes, day_ack_in, hello_bytes, hello_in}
+use Rattle.fare_record.specs.Bodies.{record_bytes, record_in, routed_bytes, routed_in, statement_bytes, statement_in, ack_bytes, ack_in, day_ack_bytes, day_ack_in, hello_bytes, hello_in}
 use Rattle.fare_record.specs.Lawful.{IsLawfulRecord, IsLawfulStatement, IsLawfulAck, IsLawfulDayAck, IsLawfulHello}
 use Rattle.fare_frame.specs.Table.{code_of, length_of, head_of}
 use Rattle.fare_frame.specs.declared.fault.ReadFault.{ReadFault}
@@ -15,15 +15,24 @@ use Rattle.fare_frame.specs.declared.kind.Kind.{Kind}
 use Rattle.fare_frame.specs.declared.kind.Kind.TheVariants as kind
 
 -- FRAMES
+-- a tap's kind and body, where its route is 0 or another: only another is spelled
+abbrev pub tap_kind : Bool → Kind
+tap_kind true = kind.Tapped
+tap_kind false = kind.Routed
+
+abbrev pub tap_body : Bool → RecordValue → List ℕ
+tap_body true r = record_bytes r
+tap_body false r = routed_bytes r
+
 abbrev pub kind_of : Frame → Kind
-kind_of (Tapped _) = kind.Tapped
+kind_of (Tapped r) = tap_kind (r.tap.route == 0)
 kind_of (Stated _) = kind.Stated
 kind_of (Acked _) = kind.Acked
 kind_of (DayAcked _) = kind.DayAcked
 kind_of (Greeted _) = kind.Greeted
 
 abbrev pub body_of : Frame → List ℕ
-body_of (Tapped r) = record_bytes r
+body_of (Tapped r) = tap_body (r.tap.route == 0) r
 body_of (Stated s) = statement_bytes s
 body_of (Acked a) = ack_bytes a
 body_of (DayAcked a) = day_ack_bytes a
@@ -74,6 +83,7 @@ frame_in kind.Stated body = Stated (statement_in body)
 frame_in kind.Acked body = Acked (ack_in body)
 frame_in kind.DayAcked body = DayAcked (day_ack_in body)
 frame_in kind.Greeted body = Greeted (hello_in body)
+frame_in kind.Routed body = Tapped (routed_in body)
 
 -- each number of the frame is within its limits
 abbrev pub IsFrame : Frame → Type 0
@@ -82,6 +92,10 @@ IsFrame (Stated s) = IsLawfulStatement s
 IsFrame (Acked a) = IsLawfulAck a
 IsFrame (DayAcked a) = IsLawfulDayAck a
 IsFrame (Greeted h) = IsLawfulHello h
+
+-- so it is, and it is spelled as one of this kind
+abbrev pub IsFrameOf : Kind → Frame → Type 0
+IsFrameOf k f = IsFrame f × (kind_of f ≡ k)
 
 -- PLACES
 -- these three bytes are the head of the kind's frames
@@ -108,9 +122,9 @@ IsHeadFault n code BadLength = IsBadLength n code
 IsHeadFault n code BadType = IsBadType n code
 IsHeadFault n code _ = ⊥
 
--- behind a right head all bytes of the frame are there, and a number in its body is out of its limits
+-- behind a right head all bytes of the frame are there, and a number in its body is out of its limits, or its route is 0
 abbrev pub IsBadBody : Kind → List ℕ → Type 0
-IsBadBody k body = (length_of k ≤ length body + 1) × (IsFrame (frame_in k (take (length_of k - 1) body)) → ⊥)
+IsBadBody k body = (length_of k ≤ length body + 1) × (IsFrameOf k (frame_in k (take (length_of k - 1) body)) → ⊥)
 
 -- the fault stands at a frame's place, once its first three bytes are there
 abbrev pub IsFault : List ℕ → ReadFault → Type 0

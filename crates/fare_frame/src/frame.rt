@@ -7,12 +7,12 @@ use fare_record::{Ack, AckItem, DayAck, Hello, Record, Statement};
 use std::alloc::AllocError;
 
 /// How many bytes the longest frame has.
-pub const LONGEST_FRAME: usize = 49;
+pub const LONGEST_FRAME: usize = 51;
 
 /// A frame of the stream between a device and its station.
 #[derive(Clone, Copy, PartialEq, Eq, Debug)]
 pub enum Frame {
-    /// A numbered tap.
+    /// A numbered tap. Where its route is known it has a type and a length of its own, and its route comes last.
     Tapped(Record),
     /// A device's statement of a day's taps for an owner.
     Stated(Statement),
@@ -47,7 +47,10 @@ impl Frame {
         ensures lawful { IsFrame self.now }
     {
         match self {
-            Frame::Tapped(record) => append(out, Kind::Tapped, &record.encode()),
+            Frame::Tapped(record) if record.tap().route() == 0 => {
+                append(out, Kind::Tapped, &record.encode())
+            }
+            Frame::Tapped(record) => append(out, Kind::Routed, &record.encode_routed()),
             Frame::Stated(statement) => append(out, Kind::Stated, &statement.encode()),
             Frame::Acked(ack) => append(out, Kind::Acked, &ack.encode()),
             Frame::DayAcked(ack) => append(out, Kind::DayAcked, &ack.encode()),

@@ -12,6 +12,7 @@ pub enum Kind {
     Acked,
     DayAcked,
     Greeted,
+    Routed,
 }
 
 impl Kind {
@@ -25,6 +26,7 @@ impl Kind {
             0x03 => Some(Kind::Acked),
             0x04 => Some(Kind::DayAcked),
             0x05 => Some(Kind::Greeted),
+            0x06 => Some(Kind::Routed),
             _ => None,
         }
     }
@@ -39,13 +41,14 @@ impl Kind {
             Kind::Acked => 0x03,
             Kind::DayAcked => 0x04,
             Kind::Greeted => 0x05,
+            Kind::Routed => 0x06,
         }
     }
 
     /// Its length field: the number of the bytes after that field, which are the type and the body.
     pub fn length(self) -> u16
         ensures value { result ≡ length_of self }
-        ensures few { result < 48 }
+        ensures few { result < 50 }
     {
         match self {
             Kind::Tapped => 47,
@@ -53,6 +56,7 @@ impl Kind {
             Kind::Acked => 13,
             Kind::DayAcked => 9,
             Kind::Greeted => 7,
+            Kind::Routed => 49,
         }
     }
 
@@ -70,5 +74,5 @@ impl Kind {
 pub fn is_length(length: u16) -> bool
     ensures { IsTrue result ↔ ((k : Kind) × (length_of k ≡ length)) }
 {
-    matches!(length, 7 | 9 | 13 | 19 | 47)
+    matches!(length, 7 | 9 | 13 | 19 | 47 | 49)
 }

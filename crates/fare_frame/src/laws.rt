@@ -24,10 +24,10 @@ pub fn pieces_are_one_stream()
 {}
 
 /// What stands at a frame's place is one thing: less than a frame, one fault, or a frame. What is less than a
-/// frame has at most 48 bytes.
+/// frame has at most 50 bytes.
 pub fn a_place_holds_one_thing()
     ensures rest { (bytes : List ℕ) (fault : ReadFault) → IsRest bytes → IsFault bytes fault → ⊥ }
     ensures fault { (bytes : List ℕ) (a b : ReadFault) → IsFault bytes a → IsFault bytes b → a ≡ b }
     ensures frame { (f : Frame) (more : List ℕ) → IsFrame f → HasNoFrame (frame_bytes f ++ more) → ⊥ }
-    ensures short { (bytes : List ℕ) → IsRest bytes → length bytes ≤ 48 }
+    ensures short { (bytes : List ℕ) → IsRest bytes → length bytes ≤ 50 }
 {}

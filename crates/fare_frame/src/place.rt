@@ -2,7 +2,7 @@
 ghost use Rattle.std.specs.Prelude.{◌≡◌, ◌≢◌, ◌+◌, ◌-◌, ◌*◌, ◌<◌, ◌≤◌, ◌++◌, ℕ, length, take, drop, slice_index, Some, None, MatchOption, IfSome, IfErr, IfOk, IsErrOf, vec_capacity};
 ghost use Rattle.fare_frame.specs.Table.{length_of};
 ghost use Rattle.fare_frame.specs.Grammar.{kind_of, body_of, frame_bytes, frame_in, IsFrame, IsHead, IsHeadFault, IsRest, IsFault};
-ghost use Rattle.fare_frame.specs.Decoding.{frame_fault};
+ghost use Rattle.fare_frame.specs.Decoding.{fault_in};
 ghost use Rattle.fare_frame.specs.Reading.{Reads, Stops, Overfills, IsBad};
 
 use crate::kind::{Kind, is_length};
@@ -26,9 +26,9 @@ fn judge_head(head: &[u8; 3]) -> Result<Kind, ReadFault>
 // The frame of this kind whose body the bytes begin with; None where they are too few.
 fn read_body(kind: Kind, bytes: &[u8]) -> Result<Option<Frame>, RecordFault>
     ensures whole { IfOk result (λ read. MatchOption read (length bytes.now + 1 < length_of kind)
-        (λ f. (length_of kind ≤ length bytes.now + 1) × (f ≡ frame_in kind (take (length_of kind - 1) bytes.now)) × (frame_fault f ≡ None))) }
+        (λ f. (length_of kind ≤ length bytes.now + 1) × (f ≡ frame_in kind (take (length_of kind - 1) bytes.now)) × (fault_in kind f ≡ None))) }
     ensures spelled { IfOk result (λ read. IfSome read (λ f. (kind_of f ≡ kind) × (body_of f ≡ take (length_of kind - 1) bytes.now))) }
-    ensures fault { IfErr result (λ fault. (length_of kind ≤ length bytes.now + 1) × (frame_fault (frame_in kind (take (length_of kind - 1) bytes.now)) ≡ Some fault)) }
+    ensures fault { IfErr result (λ fault. (length_of kind ≤ length bytes.now + 1) × (fault_in kind (frame_in kind (take (length_of kind - 1) bytes.now)) ≡ Some fault)) }
 {
     match kind {
         Kind::Tapped => match bytes.first_chunk::<46>() {
@@ -49,6 +49,10 @@ fn read_body(kind: Kind, bytes: &[u8]) -> Result<Option<Frame>, RecordFault>
         },
         Kind::Greeted => match bytes.first_chunk::<6>() {
             Some(body) => Ok(Some(Frame::Greeted(Hello::decode(body)?))),
+            None => Ok(None),
+        },
+        Kind::Routed => match bytes.first_chunk::<48>() {
+            Some(body) => Ok(Some(Frame::Tapped(Record::decode_routed(body)?))),
             None => Ok(None),
         },
     }

@@ -23,7 +23,7 @@ impl Model for Reader {
 
     ghost view = { λ r. record { held = r.held.items; failed = r.failed } };
 
-    ghost invariant = { λ r. IsRest r.held.items × (49 ≤ vec_capacity r.held) };
+    ghost invariant = { λ r. IsRest r.held.items × (51 ≤ vec_capacity r.held) };
 }
 
 impl Reader {
@@ -89,8 +89,8 @@ impl Reader {
 // held before are still the first ones.
 fn read_piece(held: &mut Vec<u8>, piece: &[u8], frames: &mut Vec<Frame>) -> Result<(), ReadFault>
     requires rest { IsRest held.old.items }
-    requires room { 49 ≤ vec_capacity held.old }
-    ensures room { 49 ≤ vec_capacity held.new }
+    requires room { 51 ≤ vec_capacity held.old }
+    ensures room { 51 ≤ vec_capacity held.new }
     ensures ok { OnOk result (Reads (held.old.items ++ piece.now) frames.old.items frames.new.items held.new.items × IsRest held.new.items) }
     ensures stopped { IfErr result (λ fault. IsBad fault → Stops fault (held.old.items ++ piece.now) frames.old.items frames.new.items) }
     ensures memory { IsErrOf result ReadFault.Memory → Overfills (vec_capacity frames.old) frames.old.items (held.old.items ++ piece.now) }

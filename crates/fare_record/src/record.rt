@@ -146,6 +146,7 @@ impl Record {
         ensures judged { MatchResult result (λ _. routed_fault (routed_in bytes.now) ≡ None) (λ fault. routed_fault (routed_in bytes.now) ≡ Some fault) }
         ensures value { IfOk result (λ r. r ≡ routed_in bytes.now) }
         ensures spelled { IfOk result (λ r. routed_bytes r ≡ bytes.now) }
+        ensures routed { IfOk result (λ r. r.tap.route ≢ 0) }
     {
         let numbers = Numbers {
             route: u16_at(bytes, 46),
