@@ -1,5 +1,5 @@
 -- A line has one spelling, and printed lines are read back.
-use Rattle.std.proofs.Common.{◌≡◌, ◌<◌, ◌==◌, cond, codes, get_or, Bool, ◌⊎◌, inl, inr, ℕ, List, [], ◌∷◌, ◌++◌, length, ap, ap₂, sym, refl, arith, ◌∙◌, map, length-append, append_assoc}
+use Rattle.std.proofs.Common.{◌≡◌, ◌<◌, ◌==◌, cond, codes, get_or, Bool, ◌⊎◌, inl, inr, ℕ, Some, None, List, [], ◌∷◌, ◌++◌, length, ap, ap₂, sym, refl, arith, ◌∙◌, map, length-append, append_assoc}
 use Rattle.std.specs.List.{AllByRecursion, slice_split, join_with_byte}
 use Rattle.std.specs.Fmt.{decimal}
 use Rattle.std.proofs.lemmas.List.Splits.{slice_split_none, slice_split_at, join_with_byte-slice_split}
@@ -40,7 +40,8 @@ line_from (Numbered (OfScheme key.Inbox) (c ∷ [])) = Setup (scheme.Inbox c)
 line_from (Numbered (OfScheme key.Start) (d ∷ [])) = Setup (scheme.Start d)
 line_from (Numbered (OfScheme key.Seal) _) = Setup scheme.Seal
 line_from (Numbered (OfScheme key.Demo) (n ∷ b ∷ i ∷ l ∷ [])) = Setup (scheme.Demo (size_of n) b i l)
-line_from (Numbered (OfEvent on.Tap) (d ∷ p ∷ t ∷ m ∷ [])) = Step (event.Tap d p t m)
+line_from (Numbered (OfEvent on.Tap) (d ∷ p ∷ t ∷ m ∷ [])) = Step (event.Tap d p t m None)
+line_from (Numbered (OfEvent on.Tap) (d ∷ p ∷ t ∷ m ∷ r ∷ [])) = Step (event.Tap d p t m (Some r))
 line_from (Numbered (OfEvent on.Turn) (d ∷ [])) = Step (event.Turn d)
 line_from (Numbered (OfEvent on.Send) (d ∷ [])) = Step (event.Send d)
 line_from (Numbered (OfEvent on.Rewind) (d ∷ [])) = Step (event.Rewind d)
@@ -82,7 +83,8 @@ line_again (Setup (scheme.Start d)) = refl
 line_again (Setup scheme.Seal) = refl
 line_again (Setup (scheme.Demo OneDevice b i l)) = refl
 line_again (Setup (scheme.Demo TwoDevices b i l)) = refl
-line_again (Step (event.Tap d p t m)) = refl
+line_again (Step (event.Tap d p t m None)) = refl
+line_again (Step (event.Tap d p t m (Some r))) = refl
 line_again (Step (event.Turn d)) = refl
 line_again (Step (event.Send d)) = refl
 line_again (Step (event.Rewind d)) = refl

@@ -7,7 +7,7 @@ use Rattle.std.specs.Char.{is_ascii_digit}
 use Rattle.fare_lines.specs.ZoneWord.{IsZoneText}
 use Rattle.fare_lines.specs.declared.line.Line.{Line}
 use Rattle.fare_lines.specs.declared.keyword.Keyword.{Keyword}
-use Rattle.fare_lines.specs.Grammar.{Kind, ADevice, AnOwner, AStation, AProduct, AToken, AMoment, ADay, OneOrTwo, AnyU16, AnyU32, AnyU64, IsOf, AreOf, Parts, Numbered, Worded, PartsFit, keyword_text, keyword_kinds, line_parts, parts_text, numbers_text}
+use Rattle.fare_lines.specs.Grammar.{Kind, ADevice, AnOwner, AStation, AProduct, AToken, AMoment, ADay, OneOrTwo, ARoute, AnyU16, AnyU32, AnyU64, IsOf, AreOf, Parts, Numbered, Worded, PartsFit, keyword_text, keyword_kinds, line_parts, parts_text, numbers_text}
 use Rattle.fare_lines.specs.Reading.{BeginsWith, CutsAt, ReadsNumbers, ReadsNumbered, ReadsLine, Builds}
 use Rattle.fare_lines.proofs.Cuts.{one_cut}
 use Rattle.fare_lines.proofs.Numbers.{IsU64, begins_with_digit, numbers_same}
@@ -22,6 +22,7 @@ kind_is_u64 AToken n h = omega arith
 kind_is_u64 AMoment n h = omega arith
 kind_is_u64 ADay n h = omega arith
 kind_is_u64 OneOrTwo n h = omega arith
+kind_is_u64 ARoute n h = omega arith
 kind_is_u64 AnyU16 n h = omega arith
 kind_is_u64 AnyU32 n h = omega arith
 kind_is_u64 AnyU64 n h = h
@@ -29,7 +30,7 @@ kind_is_u64 AnyU64 n h = h
 pub kinds_are_u64 : (ks : List Kind) (ns : List ℕ) → AreOf ks ns → AllByRecursion IsU64 ns
 kinds_are_u64 [] [] h = tt
 kinds_are_u64 [] (n ∷ ns) h = absurd h
-kinds_are_u64 (k ∷ ks) [] h = absurd h
+kinds_are_u64 (k ∷ ks) [] h = tt
 kinds_are_u64 (k ∷ ks) (n ∷ ns) h = (kind_is_u64 k n h.0, kinds_are_u64 ks ns h.1)
 
 -- THE CUT OF A KEYWORD AND NUMBERS

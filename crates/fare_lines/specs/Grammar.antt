@@ -1,6 +1,7 @@
 -- The lines of a trace: each is a keyword and its numbers, or a zone and its text, and has one spelling.
 use Rattle.std.specs.Prelude.{ℕ, ◌<◌, ◌≤◌, List, [], ◌∷◌, ◌++◌, codes, map}
 use Rattle.std.specs.List.{join_with_byte}
+use Rattle.std.specs.Option.{option_to_list}
 use Rattle.std.specs.Fmt.{decimal}
 use Rattle.fare_record.specs.Limits.{IsDeviceId, IsOwnerId, IsStationId, IsProductId, IsToken, IsMoment, IsDay}
 use Rattle.fare_scheme.specs.declared.demo.DemoSize.{DemoSize}
@@ -75,6 +76,7 @@ pub data Kind : Type 0 where
   AMoment : Kind
   ADay : Kind
   OneOrTwo : Kind
+  ARoute : Kind  -- below 2^16, and it may be left out
   AnyU16 : Kind  -- below 2^16
   AnyU32 : Kind  -- below 2^32
   AnyU64 : Kind  -- below 2^64
@@ -89,16 +91,22 @@ IsOf AToken n = IsToken n
 IsOf AMoment n = IsMoment n
 IsOf ADay n = IsDay n
 IsOf OneOrTwo n = (1 ≤ n) × (n ≤ 2)
+IsOf ARoute n = n < 65536
 IsOf AnyU16 n = n < 65536
 IsOf AnyU32 n = n < 4294967296
 IsOf AnyU64 n = n < 18446744073709551616
 
--- as many numbers as kinds, each of its kind
+-- it may be left out
+abbrev pub MayLack : Kind → Type 0
+MayLack ARoute = Unit {0}
+MayLack _ = ⊥
+
+-- as many numbers as kinds, each of its kind, but for those at the end that may be left out
 abbrev pub AreOf : List Kind → List ℕ → Type 0
 AreOf [] [] = Unit {0}
 AreOf (k ∷ ks) (n ∷ ns) = IsOf k n × AreOf ks ns
 AreOf [] (n ∷ ns) = ⊥
-AreOf (k ∷ ks) [] = ⊥
+AreOf (k ∷ ks) [] = MayLack k × AreOf ks []
 
 -- the kinds of the numbers of keywords
 abbrev pub scheme_keyword_kinds : SchemeKeyword → List Kind
@@ -115,7 +123,7 @@ scheme_keyword_kinds Seal = []
 scheme_keyword_kinds Demo = OneOrTwo ∷ AnyU32 ∷ AnyU32 ∷ AnyU32 ∷ []
 
 abbrev pub event_keyword_kinds : EventKeyword → List Kind
-event_keyword_kinds Tap = ADevice ∷ AProduct ∷ AToken ∷ AMoment ∷ []
+event_keyword_kinds Tap = ADevice ∷ AProduct ∷ AToken ∷ AMoment ∷ ARoute ∷ []
 event_keyword_kinds Turn = ADevice ∷ []
 event_keyword_kinds Send = ADevice ∷ []
 event_keyword_kinds Rewind = ADevice ∷ []
@@ -172,7 +180,7 @@ line_parts (Setup (scheme.Zone rule)) = Worded rule
 line_parts (Setup (scheme.Start day)) = Numbered (OfScheme Start) (day ∷ [])
 line_parts (Setup scheme.Seal) = Numbered (OfScheme Seal) []
 line_parts (Setup (scheme.Demo size buffer inbox lane)) = Numbered (OfScheme Demo) (size_number size ∷ buffer ∷ inbox ∷ lane ∷ [])
-line_parts (Step (event.Tap device product token moment)) = Numbered (OfEvent Tap) (device ∷ product ∷ token ∷ moment ∷ [])
+line_parts (Step (event.Tap device product token moment route)) = Numbered (OfEvent Tap) (device ∷ product ∷ token ∷ moment ∷ option_to_list route)
 line_parts (Step (event.Turn device)) = Numbered (OfEvent Turn) (device ∷ [])
 line_parts (Step (event.Send device)) = Numbered (OfEvent Send) (device ∷ [])
 line_parts (Step (event.Rewind device)) = Numbered (OfEvent Rewind) (device ∷ [])

@@ -1,9 +1,10 @@
 -- The text of a reply: its words with one space between each two, ended by a line feed.
-use Rattle.std.specs.Prelude.{ℕ, List, [], ◌∷◌, ◌++◌, length, codes}
+use Rattle.std.specs.Prelude.{ℕ, ◌==◌, List, [], ◌∷◌, ◌++◌, length, codes, if◌then◌else◌}
 use Rattle.std.specs.List.{join_with_byte, flat_map}
 use Rattle.std.specs.Fmt.{decimal}
 use Rattle.fare_cap.specs.declared.row.Row.{Row}
-use Rattle.fare_settle.specs.declared.settled.Settled.{Settled}
+use Rattle.fare_settle.specs.declared.route_share.RouteShare.{RouteShare}
+use Rattle.fare_settle.specs.Values.{SettledValue}
 use Rattle.fare_event.specs.declared.reply.Reply.{Reply}
 use Rattle.fare_event.specs.declared.reply.Reply.TheVariants as reply
 use Rattle.fare_event.specs.declared.reply.Refusal.{Refusal}
@@ -107,8 +108,12 @@ reply_words (reply.Settlement owner day settlement short) = codes "settlement" �
 abbrev pub account_words : Row → List (List ℕ)
 account_words row = codes "account" ∷ decimal row.account.product ∷ decimal row.account.token ∷ decimal row.rides ∷ decimal row.amount ∷ []
 
-abbrev pub operator_words : Settled → List (List ℕ)
+abbrev pub operator_words : SettledValue → List (List ℕ)
 operator_words share = codes "operator" ∷ decimal share.operator ∷ decimal share.taps ∷ decimal share.amount ∷ []
+
+-- the words of a route's row behind its operator's
+abbrev pub route_words : RouteShare → List (List ℕ)
+route_words share = codes "route" ∷ decimal share.route ∷ decimal share.taps ∷ decimal share.amount ∷ []
 
 -- the words of a device of which a bill or a settlement is short
 abbrev pub short_words : ℕ → List (List ℕ)
@@ -122,10 +127,24 @@ words_line words = join_with_byte 32 words ++ (10 ∷ [])
 abbrev pub rows_text : {X : Type 0} → (X → List (List ℕ)) → List X → List ℕ
 rows_text words rows = flat_map (λ row. words_line (words row)) rows
 
+-- a line for each route but 0
+abbrev pub route_text : RouteShare → List ℕ
+route_text share = if share.route == 0 then [] else words_line (route_words share)
+
+abbrev pub routes_text : List RouteShare → List ℕ
+routes_text shares = flat_map route_text shares
+
+-- an operator's line, and those of its routes
+abbrev pub operator_text : SettledValue → List ℕ
+operator_text share = words_line (operator_words share) ++ routes_text share.routes
+
+abbrev pub operators_text : List SettledValue → List ℕ
+operators_text shares = flat_map operator_text shares
+
 -- the one spelling of a reply
 abbrev pub reply_text : Reply → List ℕ
 reply_text (reply.Bill owner day bill short) = words_line (reply_words (reply.Bill owner day bill short)) ++ rows_text account_words bill.rows ++ rows_text short_words short
-reply_text (reply.Settlement owner day settlement short) = words_line (reply_words (reply.Settlement owner day settlement short)) ++ rows_text operator_words settlement ++ rows_text short_words short
+reply_text (reply.Settlement owner day settlement short) = words_line (reply_words (reply.Settlement owner day settlement short)) ++ operators_text settlement ++ rows_text short_words short
 reply_text r = words_line (reply_words r)
 
 -- the spellings of replies, one after the other

@@ -233,6 +233,14 @@ fn build_event(keyword: EventKeyword, numbers: &[u64]) -> Option<Event>
             product: ProductId::new(*product)?,
             token: Token::new(*token)?,
             moment: Moment::new(*moment)?,
+            route: None,
+        }),
+        (EventKeyword::Tap, [device, product, token, moment, route]) => Some(Event::Tap {
+            device: DeviceId::new(*device)?,
+            product: ProductId::new(*product)?,
+            token: Token::new(*token)?,
+            moment: Moment::new(*moment)?,
+            route: Some(u16::try_from(*route).ok()?),
         }),
         _ => None,
     }

@@ -98,6 +98,35 @@ fn put_word<const N: usize>(word: &[u8; N], out: &mut Vec<u8>) -> Result<(), All
     out.extend_from_slice(word)
 }
 
+/// Appends a space and a sum. After an error some of it may stand there.
+fn put_sum(sum: u128, out: &mut Vec<u8>) -> Result<(), AllocError>
+    ensures appended { OnOk result (out.new.items ≡ out.old.items ++ 32 ∷ decimal sum) }
+    ensures front { take (length out.old.items) out.new.items ≡ out.old.items }
+{
+    let mut buffer = Buffer::new();
+    out.push(b' ')?;
+    out.extend_from_slice(buffer.format(sum).as_bytes())
+}
+
+/// Appends a line of a number, how many taps it has, and the sum of what they are charged. After an error some of it may
+/// stand there.
+pub(crate) fn put_share_line<const N: usize>(
+    name: &[u8; N],
+    number: u16,
+    taps: u64,
+    amount: u128,
+    out: &mut Vec<u8>,
+) -> Result<(), AllocError>
+    ensures appended { OnOk result (out.new.items ≡ out.old.items ++ words_line (name.now ∷ decimal number ∷ decimal taps ∷ decimal amount ∷ [])) }
+    ensures front { take (length out.old.items) out.new.items ≡ out.old.items }
+{
+    put_named(name, u64::from(number), out)?;
+    put_number(taps, out)?;
+    put_sum(amount, out)?;
+    out.push(b'\n')?;
+    Ok(())
+}
+
 /// Appends a space and a number, of which many have one digit. After an error some of it may stand there.
 pub(crate) fn put_number(number: u64, out: &mut Vec<u8>) -> Result<(), AllocError>
     ensures appended { OnOk result (out.new.items ≡ out.old.items ++ 32 ∷ decimal number) }

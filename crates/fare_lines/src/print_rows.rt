@@ -1,13 +1,13 @@
 ghost use Rattle.std.specs.Prelude.{◌≡◌, [], ◌∷◌, ◌++◌, OnOk, OnErr, codes, length, take};
 ghost use Rattle.std.specs.Fmt.{decimal};
 ghost use Rattle.fare_event.specs.declared.reply.Reply.TheVariants as reply;
-ghost use Rattle.fare_lines.specs.Replies.{account_words, operator_words, reply_text, rows_text, short_words, words_line};
+ghost use Rattle.fare_lines.specs.Replies.{account_words, operator_text, operators_text, reply_text, route_words, routes_text, rows_text, short_words, words_line};
 
-use crate::print::{append_line, put_named, put_number, put_number_line};
+use crate::print::{append_line, put_named, put_number, put_number_line, put_share_line};
 use fare_cap::{Bill, Row};
 use fare_event::Short;
 use fare_record::{Day, DeviceId, OwnerId};
-use fare_settle::{Settled, Settlement};
+use fare_settle::{RouteShare, Settled, Settlement};
 use itoa::Buffer;
 use std::alloc::AllocError;
 
@@ -24,18 +24,36 @@ fn put_account(row: &Row, out: &mut Vec<u8>) -> Result<(), AllocError>
     Ok(())
 }
 
-/// Appends an operator's row of a settlement.
-fn append_operator(share: &Settled, out: &mut Vec<u8>) -> Result<(), AllocError>
-    ensures appended { OnOk result (out.new.items ≡ out.old.items ++ words_line (operator_words share.now)) }
-    ensures kept { OnErr result (out.new.items ≡ out.old.items) }
+/// Appends a route's row of a settlement. After an error some of it may stand there.
+fn put_route(share: &RouteShare, out: &mut Vec<u8>) -> Result<(), AllocError>
+    ensures appended { OnOk result (out.new.items ≡ out.old.items ++ words_line (route_words share.now)) }
+    ensures front { take (length out.old.items) out.new.items ≡ out.old.items }
 {
-    let mut one = Buffer::new();
-    let mut two = Buffer::new();
-    let mut three = Buffer::new();
-    let operator = one.format(share.operator.get()).as_bytes();
-    let taps = two.format(share.taps).as_bytes();
-    let amount = three.format(share.amount).as_bytes();
-    append_line(b"operator", &[operator, taps, amount], out)
+    put_share_line(b"route", share.route, share.taps, share.amount, out)
+}
+
+/// Appends the rows of an operator's routes, but for that of the taps whose route is not known. After an error some of
+/// them may stand there.
+fn append_routes(shares: &[RouteShare], out: &mut Vec<u8>) -> Result<(), AllocError>
+    ensures appended { OnOk result (out.new.items ≡ out.old.items ++ routes_text shares.now) }
+    ensures front { take (length out.old.items) out.new.items ≡ out.old.items }
+{
+    for share in shares {
+        if share.route != 0 {
+            put_route(share, out)?;
+        }
+    }
+    Ok(())
+}
+
+/// Appends an operator's row of a settlement, and those of its routes. After an error some of them may stand there.
+fn append_operator(share: &Settled, out: &mut Vec<u8>) -> Result<(), AllocError>
+    ensures appended { OnOk result (out.new.items ≡ out.old.items ++ operator_text share.now) }
+    ensures front { take (length out.old.items) out.new.items ≡ out.old.items }
+{
+    let operator = share.operator().get();
+    put_share_line(b"operator", operator, share.taps(), share.amount(), out)?;
+    append_routes(share.routes(), out)
 }
 
 /// Appends the accounts' rows. After an error some of them may stand there.
@@ -49,9 +67,9 @@ fn append_accounts(rows: &[Row], out: &mut Vec<u8>) -> Result<(), AllocError>
     Ok(())
 }
 
-/// Appends the operators' rows. After an error some of them may stand there.
+/// Appends the operators' rows, each with those of its routes. After an error some of them may stand there.
 fn append_operators(shares: &[Settled], out: &mut Vec<u8>) -> Result<(), AllocError>
-    ensures appended { OnOk result (out.new.items ≡ out.old.items ++ rows_text operator_words shares.now) }
+    ensures appended { OnOk result (out.new.items ≡ out.old.items ++ operators_text shares.now) }
     ensures front { take (length out.old.items) out.new.items ≡ out.old.items }
 {
     for share in shares {
@@ -129,14 +147,14 @@ fn append_bill_rows(bill: &Bill, short: &Short, out: &mut Vec<u8>) -> Result<(),
     append_short(short.devices(), out)
 }
 
-/// Appends what stands below the first line of a settlement: a line for each operator, and one for each device of which
-/// the settlement is short. After an error some of it may stand there.
+/// Appends what stands below the first line of a settlement: a line for each operator and each of its
+/// routes, and one for each device of which the settlement is short. After an error some of it may stand there.
 fn append_settlement_rows(
     settlement: &Settlement,
     short: &Short,
     out: &mut Vec<u8>,
 ) -> Result<(), AllocError>
-    ensures appended { OnOk result (out.new.items ≡ out.old.items ++ rows_text operator_words settlement.now ++ rows_text short_words short.now) }
+    ensures appended { OnOk result (out.new.items ≡ out.old.items ++ operators_text settlement.now ++ rows_text short_words short.now) }
     ensures front { take (length out.old.items) out.new.items ≡ out.old.items }
 {
     append_operators(settlement.shares(), out)?;
@@ -164,8 +182,8 @@ pub fn append_bill(
     appended
 }
 
-/// Appends a settlement: a line, a line for each operator, and one for each device of which it is short. After an error
-/// `out` is as before.
+/// Appends a settlement: a line, a line for each operator and each of its routes that is known, and one for each device
+/// of which it is short. After an error `out` is as before.
 pub fn append_settlement(
     owner: OwnerId,
     day: Day,

@@ -16,7 +16,7 @@ use Rattle.fare_cap.proofs.Amounts.{fares_before-same}
 use Rattle.fare_cap.proofs.CountedKeys.{rides_on-counted}
 use Rattle.fare_settle.specs.declared.charge.Charge.{Charge}
 use Rattle.fare_settle.specs.Charges.{charge_by, charge_behind, charges_behind, operator_or_none}
-use Rattle.fare_settle.proofs.Listing.{same_account_self}
+use Rattle.fare_settle.proofs.Accounts.{same_account_self}
 
 pub charges_behind-push : (scheme : SchemeValue) (ordered : List RecordValue) (day : ℕ) (front rest : List RecordValue) (tap : RecordValue)
     → charges_behind scheme ordered day front (rest ++ tap ∷ []) ≡ charges_behind scheme ordered day front rest ++ charge_behind scheme ordered day (front ++ rest) tap ∷ []
@@ -36,7 +36,7 @@ charge_by-same scheme f g day tap b c d e same before after =
     from : ℕ → ℕ → ℕ → Charge
     from week n m =
         let tariff = tariff_or_none scheme (account_of tap).product in
-        record { operator = operator_or_none scheme tap.device; amount = rise tariff (week + day_fare tariff n) (week + day_fare tariff m) }
+        record { operator = operator_or_none scheme tap.device; route = tap.tap.route; amount = rise tariff (week + day_fare tariff n) (week + day_fare tariff m) }
 
 -- after the taps so far
 pub record AreCharges (scheme : SchemeValue) (ordered front : List RecordValue) (day : ℕ) (table : AccountValue → ℕ → DayRides) (charges : List Charge) : Type 0 where

@@ -20,6 +20,7 @@ charge-same_week scheme day xs ys same front tap = ap by (fares-same_week scheme
     by : ℕ → Charge
     by week = record {
       operator = operator_or_none scheme tap.device;
+      route = tap.tap.route;
       amount =
           rise (tariff_or_none scheme (account_of tap).product) (week + day_fare (tariff_or_none scheme (account_of tap).product) (paid (hop_of scheme (account_of tap)) (part_of (account_of tap) front)))
           (week + day_fare (tariff_or_none scheme (account_of tap).product) (paid (hop_of scheme (account_of tap)) (part_of (account_of tap) front ++ tap ∷ [])));

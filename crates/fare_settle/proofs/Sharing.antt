@@ -23,10 +23,11 @@ use Rattle.fare_cap.proofs.CountedKeys.{same_account_is}
 use Rattle.fare_cap.proofs.Windows.{paid-grows}
 use Rattle.fare_settle.specs.declared.charge.Charge.{Charge}
 use Rattle.fare_settle.specs.Charges.{operator_or_none, paid_of_week, charge_behind, charges_behind, charges_of}
-use Rattle.fare_settle.specs.declared.settled.Settled.{Settled}
-use Rattle.fare_settle.specs.Settling.{charges_at, sum_of, share_of, OperatorsShareTheBill}
+use Rattle.fare_settle.specs.Values.{SettledValue}
+use Rattle.fare_settle.specs.Routes.{sum_of}
+use Rattle.fare_settle.specs.Settling.{charges_at, share_of, OperatorsShareTheBill}
 use Rattle.fare_settle.proofs.Summing.{sum_by-same, sum_by-plus, sum_by-map, sum_by-keys, IsApart, apart_from_distinct, sum_by-one_term}
-use Rattle.fare_settle.proofs.Listing.{AreAmong, accounts_apart, accounts_all}
+use Rattle.fare_settle.proofs.Accounts.{AreAmong, accounts_apart, accounts_all}
 
 -- BY OPERATOR
 -- each charge is one of these operators'
@@ -160,6 +161,6 @@ operators_share_the_bill scheme records day is =
     let ordered = in_order records in
     let charges = charges_of scheme ordered day in
     let each = all_filter (λ r. list_any (nat_eq (operator_or_none scheme r.device)) scheme.operators ≡ true) (λ r. counts scheme r && r.tap.day == day) ordered (theirs_when scheme is day) in
-    sum_by-map (λ (s : Settled). s.amount) (share_of charges) scheme.operators
+    sum_by-map (λ (s : SettledValue). s.amount) (share_of charges) scheme.operators
     ∙ by_operator scheme.operators charges (apart_from_distinct nat_eq scheme.operators is.operators.distinct) (theirs scheme ordered day [] (counted_on scheme day ordered) each)
     ∙ charges_add_up scheme ordered day

@@ -29,6 +29,7 @@ fn charge(scheme: &Scheme, rides: &Rides, day: Day, tap: Record, before: u64, af
     let weekly = tariff.weekly.get();
     Charge {
         operator,
+        route: tap.tap().route(),
         amount: Pence::new(weekly.min(to) - weekly.min(from)),
     }
 }

@@ -13,9 +13,9 @@ pub struct Settlement {
 
 impl Model for Settlement {
     ghost use Rattle.std.specs.Prelude.{List};
-    ghost use Rattle.fare_settle.specs.declared.settled.Settled.{Settled};
+    ghost use Rattle.fare_settle.specs.Values.{SettledValue};
 
-    ghost Value = { List Settled };
+    ghost Value = { List SettledValue };
 
     ghost view = { λ s. s.shares.items };
 }

@@ -1,6 +1,6 @@
 -- Two clocks that tell the same days give the same replies, so a trace has one answer.
 use Rattle.std.proofs.Common.{◌≡◌, ◌∙◌, ◌++◌, ℕ, List, [], ◌∷◌, Bool, true, false, Option, Some, None, inl, inr, if◌then◌else◌, ap, sym, refl, subst, unwrap_or}
-use Rattle.std.specs.Prelude.{is_none}
+use Rattle.std.specs.Prelude.{is_none, unwrap_or}
 use Rattle.fare_day.specs.declared.zone.Zone.{Zone}
 use Rattle.fare_day.specs.TrafficDay.{traffic_day_in_range}
 use Rattle.fare_day.proofs.Rules.{same_day_in_range}
@@ -39,12 +39,12 @@ SameDays clock other = (moment : ℕ) → traffic_day_in_range clock moment ≡ 
 abbrev pub on_clock : SchemeValue → Zone → SchemeValue
 on_clock sc clock = record sc { zone = clock }
 
-same_tap : (sc : SchemeValue) (clock : Zone) (s : System) (device product token moment : ℕ) → SameDays sc.zone clock → tap (on_clock sc clock) s device product token moment ≡ tap sc s device product token moment
-same_tap sc clock s device product token moment same =
-    ap (λ day. if knows_device sc device then tap_on sc s device product token moment day else (s, Refused UnknownDevice)) (sym (same moment))
+same_tap : (sc : SchemeValue) (clock : Zone) (s : System) (device product token moment route : ℕ) → SameDays sc.zone clock → tap (on_clock sc clock) s device product token moment route ≡ tap sc s device product token moment route
+same_tap sc clock s device product token moment route same =
+    ap (λ day. if knows_device sc device then tap_on sc s device product token moment route day else (s, Refused UnknownDevice)) (sym (same moment))
 
 same_step : (sc : SchemeValue) (clock : Zone) (s : System) (e : Event) → SameDays sc.zone clock → step (on_clock sc clock) s e ≡ step sc s e
-same_step sc clock s (event.Tap device product token moment) same = same_tap sc clock s device product token moment same
+same_step sc clock s (event.Tap device product token moment route) same = same_tap sc clock s device product token moment (unwrap_or route 0) same
 same_step sc clock s (event.Turn device) same = refl
 same_step sc clock s (event.Send device) same = refl
 same_step sc clock s (event.Rewind device) same = refl

@@ -1,6 +1,6 @@
 -- A tap that gets a device's next numbers, and a turn of its open day, lead to a system.
 use Rattle.std.proofs.Common.{◌≡◌, ℕ, ◌+◌, ◌<◌, ◌≤◌, List, [], ◌∷◌, ◌++◌, length, take, Some, None, true, false, refl, sym, ap, ◌∙◌, subst, arith, inl, inr}
-use Rattle.std.specs.Prelude.{◌==◌, slice_get, Option, is_some, nat_le, nat_lt, ◌⊎◌, IsSome, Bool}
+use Rattle.std.specs.Prelude.{◌==◌, slice_get, unwrap_or, Option, is_some, nat_le, nat_lt, ◌⊎◌, IsSome, Bool}
 use Rattle.std.proofs.lemmas.List.{take-append-le, append-nil, length_push}
 use Rattle.std.proofs.lemmas.Option.{slice_get_within}
 use Rattle.std.proofs.Math.Seq.{take-length}
@@ -57,9 +57,9 @@ has_station sc d knows none =
     absurd (cc)
 
 -- a tap of the open day that gets the device's next numbers
-numbers : (sc : SchemeValue) (s : System) (d o p t m day : ℕ) → IsSystem sc s → knows_device sc d ≡ true → owner_of sc p ≡ Some o → day_of sc m ≡ Some day → day ≡ (s.devices d).day → length (s.devices d).taps < 1099511627775
-    → Moves sc s (event.Tap d p t m) (with_tap s d (next_record s d o (record { product = p; token = t; moment = m; day = day })), Recorded (length (s.devices d).taps + 1) (length (numbered_for s o d) + 1))
-numbers sc s d o p t m day h knows owned dated current lt = record {
+numbers : (sc : SchemeValue) (s : System) (d o p t m u day : ℕ) → IsSystem sc s → knows_device sc d ≡ true → owner_of sc p ≡ Some o → day_of sc m ≡ Some day → day ≡ (s.devices d).day → length (s.devices d).taps < 1099511627775
+    → Moves sc s (event.Tap d p t m route) (with_tap s d (next_record s d o (record { product = p; token = t; moment = m; day = day; route = unwrap_or route 0 })), Recorded (length (s.devices d).taps + 1) (length (numbered_for s o d) + 1))
+numbers sc s d o p t m day route h knows owned dated current lt = record {
   system = parts_grow sc s (put s.devices d new) s.held h
       (record {
         taps = put_all (λ j a. length (s.devices j).taps ≤ length a.taps) s.devices d new (λ j. omega arith) (omega (arith, longer));
@@ -74,7 +74,7 @@ numbers sc s d o p t m day h knows owned dated current lt = record {
   lane = λ q. put_all (λ e a. IsLaneStep sc.start (lane_at sc s q e) (side q e a)) s.devices d new (λ e. inr (inr (inr (inr (inr refl))))) (here q);
   taps = λ e. added e ∙ sym (ap (λ x. (s.devices e).taps ++ of_device e (with_first x [])) named);
   told = λ p j. untold sc.start (s.lanes p j);
-  orderly = orderly (event.Tap d p t m) (Recorded (length v.taps + 1) (length (numbered_for s o d) + 1)) refl;
+  orderly = orderly (event.Tap d p t m route) (Recorded (length v.taps + 1) (length (numbered_for s o d) + 1)) refl;
   days = λ kept. put_all (λ e a. (k : ℕ) → IsSome (station_of sc e) → IsTurned sc.start a.day k → (is_waiting a.waiting k ≡ true) ⊎ (are_all_held sc s.held e k ≡ true)) s.devices d new kept (kept d);
 }
   where
@@ -85,7 +85,7 @@ numbers sc s d o p t m day h knows owned dated current lt = record {
     is = h.devices d
 
     r : RecordValue
-    r = next_record s d o (record { product = p; token = t; moment = m; day = day })
+    r = next_record s d o (record { product = p; token = t; moment = m; day = day; route = unwrap_or route 0 })
 
     new : DeviceState
     new = record v { taps = v.taps ++ r ∷ [] }
@@ -138,8 +138,8 @@ numbers sc s d o p t m day h knows owned dated current lt = record {
     side : ℕ → ℕ → DeviceState → Lane
     side q e a = record { numbered = part q a.taps; taken = take (s.lanes q e).took (part q a.taps); closed = is_closed sc.start (s.lanes q e).closed; day = a.day; retired = (s.lanes q e).retired }
 
-    named : numbered_by sc (event.Tap d p t m) (Recorded (length v.taps + 1) (length (numbered_for s o d) + 1)) ≡ Some r
-    named = λ i. record_of d p t m (length v.taps + 1) (length (numbered_for s o d) + 1) (owned i) (dated i)
+    named : numbered_by sc (event.Tap d p t m route) (Recorded (length v.taps + 1) (length (numbered_for s o d) + 1)) ≡ Some r
+    named = λ i. record_of d p t m (unwrap_or route 0) (length v.taps + 1) (length (numbered_for s o d) + 1) (owned i) (dated i)
 
     added : (e : ℕ) → (put s.devices d new e).taps ≡ (s.devices e).taps ++ of_device e (r ∷ [])
     added = put_apart (λ e a. a.taps ≡ (s.devices e).taps ++ of_device e (r ∷ [])) s.devices d new (λ e apart. grind (arith, nat_tests, append-nil (s.devices e).taps)) (grind (arith, nat_tests))
@@ -152,22 +152,22 @@ numbers sc s d o p t m day h knows owned dated current lt = record {
         (λ _ e. inr (inr (inr (inr (inr (λ i. record { numbered = e i; taken = kept i; closed = is_closed sc.start (s.lanes q d).closed; day = v.day; retired = (s.lanes q d).retired }))))))
         (part-push q v.taps r)
 
-pub moves_tap : (sc : SchemeValue) (s : System) (d p t m : ℕ) → IsSystem sc s → Moves sc s (event.Tap d p t m) (tap sc s d p t m)
-moves_tap sc s d p t m h = if_all (knows_device sc d) (Moves sc s e) (tap_on sc s d p t m (day_of sc m)) (s, Refused UnknownDevice) (λ knows. on knows (day_of sc m) refl) (λ _. stays sc s e (Refused UnknownDevice) refl refl h)
+pub moves_tap : (sc : SchemeValue) (s : System) (d p t m : ℕ) (route : Option ℕ) → IsSystem sc s → Moves sc s (event.Tap d p t m route) (tap sc s d p t m (unwrap_or route 0))
+moves_tap sc s d p t m route h = if_all (knows_device sc d) (Moves sc s e) (tap_on sc s d p t m (unwrap_or route 0) (day_of sc m)) (s, Refused UnknownDevice) (λ knows. on knows (day_of sc m) refl) (λ _. stays sc s e (Refused UnknownDevice) refl refl h)
   where
     e : Event
-    e = event.Tap d p t m
+    e = event.Tap d p t m route
 
-    of_owner : (day : ℕ) → knows_device sc d ≡ true → day_of sc m ≡ Some day → (o : Option ℕ) → owner_of sc p ≡ o → Moves sc s e (tap_for s d (room_of sc d) (record { product = p; token = t; moment = m; day = day }) o)
+    of_owner : (day : ℕ) → knows_device sc d ≡ true → day_of sc m ≡ Some day → (o : Option ℕ) → owner_of sc p ≡ o → Moves sc s e (tap_for s d (room_of sc d) (record { product = p; token = t; moment = m; day = day; route = unwrap_or route 0 }) o)
     of_owner day knows dated None owned = stays sc s e (Refused UnknownProduct) refl refl h
     of_owner day knows dated (Some o) owned =
         if_all (nat_lt day (s.devices d).day) (Moves sc s e) _ _ (λ _. stays sc s e (Refused DayClosed) refl refl h)
         (λ a. if_all (nat_lt (s.devices d).day day) (Moves sc s e) _ _ (λ _. stays sc s e (Refused DayAhead) refl refl h)
         (λ b. if_all (nat_le 1099511627775 (length (s.devices d).taps)) (Moves sc s e) _ _ (λ _. stays sc s e (Refused NumbersSpent) refl refl h)
         (λ c. if_all (nat_le (room_of sc d) (waiting_count s d)) (Moves sc s e) _ _ (λ _. stays sc s e (Refused BufferFull) refl refl h)
-        (λ _. numbers sc s d o p t m day h knows owned dated (omega (arith, not_below _ _ a, not_below _ _ b)) (above _ _ c)))))
+        (λ _. numbers sc s d o p t m day route h knows owned dated (omega (arith, not_below _ _ a, not_below _ _ b)) (above _ _ c)))))
 
-    on : knows_device sc d ≡ true → (o : Option ℕ) → day_of sc m ≡ o → Moves sc s e (tap_on sc s d p t m o)
+    on : knows_device sc d ≡ true → (o : Option ℕ) → day_of sc m ≡ o → Moves sc s e (tap_on sc s d p t m (unwrap_or route 0) o)
     on knows None dated = stays sc s e (Refused BadMoment) refl refl h
     on knows (Some day) dated = of_owner day knows dated (owner_of sc p) refl
 

@@ -49,59 +49,59 @@ waiting_is : (sc : SchemeValue) (d : ℕ) (v : DeviceState) (x : DeviceValue) �
 waiting_is sc d v x sd = ap length (waits_behind sc d v x sd) ∙ length-drop v.base v.taps
 
 -- TAP, down to its tests
-tap_on_known : (sc : SchemeValue) (s : System) (d k p t m : ℕ) → position_of_device sc d ≡ Some k → tap sc s d p t m ≡ tap_on sc s d p t m (day_of sc m)
-tap_on_known sc s d k p t m at = ap (λ o. if is_some o then tap_on sc s d p t m (day_of sc m) else (s, Refused UnknownDevice)) at
+tap_on_known : (sc : SchemeValue) (s : System) (d k p t m u : ℕ) → position_of_device sc d ≡ Some k → tap sc s d p t m u ≡ tap_on sc s d p t m u (day_of sc m)
+tap_on_known sc s d k p t m u at = ap (λ o. if is_some o then tap_on sc s d p t m u (day_of sc m) else (s, Refused UnknownDevice)) at
 
-tap_on_day : (sc : SchemeValue) (s : System) (d k p t m day : ℕ) → position_of_device sc d ≡ Some k → day_of sc m ≡ Some day → tap sc s d p t m ≡ tap_for s d (room_of sc d) (record { product = p; token = t; moment = m; day = day }) (owner_of sc p)
-tap_on_day sc s d k p t m day at dated = tap_on_known sc s d k p t m at ∙ ap (tap_on sc s d p t m) dated
+tap_on_day : (sc : SchemeValue) (s : System) (d k p t m u day : ℕ) → position_of_device sc d ≡ Some k → day_of sc m ≡ Some day → tap sc s d p t m u ≡ tap_for s d (room_of sc d) (record { product = p; token = t; moment = m; day = day; route = u }) (owner_of sc p)
+tap_on_day sc s d k p t m u day at dated = tap_on_known sc s d k p t m u at ∙ ap (tap_on sc s d p t m u) dated
 
-pub shown_unknown : (sc : SchemeValue) (h : Shape) (s : System) (d p t m : ℕ) → Shows sc h s → position_of_device sc d ≡ None → Answers sc h (tap sc s d p t m) (Refused UnknownDevice)
-shown_unknown sc h s d p t m w none = answers_by sc h (Refused UnknownDevice) (tap sc s d p t m) (s, Refused UnknownDevice) (ap (λ o. if is_some o then tap_on sc s d p t m (day_of sc m) else (s, Refused UnknownDevice)) none) refl w
+pub shown_unknown : (sc : SchemeValue) (h : Shape) (s : System) (d p t m u : ℕ) → Shows sc h s → position_of_device sc d ≡ None → Answers sc h (tap sc s d p t m u) (Refused UnknownDevice)
+shown_unknown sc h s d p t m u w none = answers_by sc h (Refused UnknownDevice) (tap sc s d p t m u) (s, Refused UnknownDevice) (ap (λ o. if is_some o then tap_on sc s d p t m u (day_of sc m) else (s, Refused UnknownDevice)) none) refl w
 
-pub shown_bad_moment : (sc : SchemeValue) (h : Shape) (s : System) (d k p t m : ℕ) → Shows sc h s → position_of_device sc d ≡ Some k → day_of sc m ≡ None → Answers sc h (tap sc s d p t m) (Refused BadMoment)
-shown_bad_moment sc h s d k p t m w at none = answers_by sc h (Refused BadMoment) (tap sc s d p t m) (s, Refused BadMoment) (tap_on_known sc s d k p t m at ∙ ap (tap_on sc s d p t m) none) refl w
+pub shown_bad_moment : (sc : SchemeValue) (h : Shape) (s : System) (d k p t m u : ℕ) → Shows sc h s → position_of_device sc d ≡ Some k → day_of sc m ≡ None → Answers sc h (tap sc s d p t m u) (Refused BadMoment)
+shown_bad_moment sc h s d k p t m u w at none = answers_by sc h (Refused BadMoment) (tap sc s d p t m u) (s, Refused BadMoment) (tap_on_known sc s d k p t m u at ∙ ap (tap_on sc s d p t m u) none) refl w
 
-pub shown_unknown_product : (sc : SchemeValue) (h : Shape) (s : System) (d k p t m day : ℕ) → Shows sc h s → position_of_device sc d ≡ Some k → day_of sc m ≡ Some day → owner_of sc p ≡ None → Answers sc h (tap sc s d p t m) (Refused UnknownProduct)
-shown_unknown_product sc h s d k p t m day w at dated none =
-    answers_by sc h (Refused UnknownProduct) (tap sc s d p t m) (s, Refused UnknownProduct) (tap_on_day sc s d k p t m day at dated ∙ ap (tap_for s d (room_of sc d) (record { product = p; token = t; moment = m; day = day })) none) refl w
+pub shown_unknown_product : (sc : SchemeValue) (h : Shape) (s : System) (d k p t m u day : ℕ) → Shows sc h s → position_of_device sc d ≡ Some k → day_of sc m ≡ Some day → owner_of sc p ≡ None → Answers sc h (tap sc s d p t m u) (Refused UnknownProduct)
+shown_unknown_product sc h s d k p t m u day w at dated none =
+    answers_by sc h (Refused UnknownProduct) (tap sc s d p t m u) (s, Refused UnknownProduct) (tap_on_day sc s d k p t m u day at dated ∙ ap (tap_for s d (room_of sc d) (record { product = p; token = t; moment = m; day = day; route = u })) none) refl w
 
 -- a refusal that comes after the product is known
-refused_for : (sc : SchemeValue) (h : Shape) (s : System) (d k p t m day : ℕ) (why : Refusal) → Shows sc h s → position_of_device sc d ≡ Some k → day_of sc m ≡ Some day → (o : Option ℕ) → owner_of sc p ≡ o → is_some o ≡ true → ((o : ℕ) → tap_for s d (room_of sc d) (record { product = p; token = t; moment = m; day = day }) (Some o) ≡ (s, Refused why)) → Answers sc h (tap sc s d p t m) (Refused why)
-refused_for sc h s d k p t m day why w at dated None owned some goes = absurd (cc)
-refused_for sc h s d k p t m day why w at dated (Some o) owned some goes =
-    answers_by sc h (Refused why) (tap sc s d p t m) (s, Refused why) (tap_on_day sc s d k p t m day at dated ∙ ap (tap_for s d (room_of sc d) (record { product = p; token = t; moment = m; day = day })) owned ∙ goes o) refl w
+refused_for : (sc : SchemeValue) (h : Shape) (s : System) (d k p t m u day : ℕ) (why : Refusal) → Shows sc h s → position_of_device sc d ≡ Some k → day_of sc m ≡ Some day → (o : Option ℕ) → owner_of sc p ≡ o → is_some o ≡ true → ((o : ℕ) → tap_for s d (room_of sc d) (record { product = p; token = t; moment = m; day = day; route = u }) (Some o) ≡ (s, Refused why)) → Answers sc h (tap sc s d p t m u) (Refused why)
+refused_for sc h s d k p t m u day why w at dated None owned some goes = absurd (cc)
+refused_for sc h s d k p t m u day why w at dated (Some o) owned some goes =
+    answers_by sc h (Refused why) (tap sc s d p t m u) (s, Refused why) (tap_on_day sc s d k p t m u day at dated ∙ ap (tap_for s d (room_of sc d) (record { product = p; token = t; moment = m; day = day; route = u })) owned ∙ goes o) refl w
 
-pub shown_day_closed : (sc : SchemeValue) (h : Shape) (s : System) (d k p t m day : ℕ) (x : DeviceValue) → Shows sc h s → position_of_device sc d ≡ Some k → day_of sc m ≡ Some day → h.devices d ≡ Some x → is_some (owner_of sc p) ≡ true → day < x.day → Answers sc h (tap sc s d p t m) (Refused DayClosed)
-shown_day_closed sc h s d k p t m day x w at dated here known lt =
+pub shown_day_closed : (sc : SchemeValue) (h : Shape) (s : System) (d k p t m u day : ℕ) (x : DeviceValue) → Shows sc h s → position_of_device sc d ≡ Some k → day_of sc m ≡ Some day → h.devices d ≡ Some x → is_some (owner_of sc p) ≡ true → day < x.day → Answers sc h (tap sc s d p t m u) (Refused DayClosed)
+shown_day_closed sc h s d k p t m u day x w at dated here known lt =
     let early : day < (s.devices d).day = omega (arith, (device_shown sc h s d x w here).day) in
-    refused_for sc h s d k p t m day DayClosed w at dated (owner_of sc p) refl known (λ o. grind (arith, nat_tests))
+    refused_for sc h s d k p t m u day DayClosed w at dated (owner_of sc p) refl known (λ o. grind (arith, nat_tests))
 
-pub shown_day_ahead : (sc : SchemeValue) (h : Shape) (s : System) (d k p t m day : ℕ) (x : DeviceValue) → Shows sc h s → position_of_device sc d ≡ Some k → day_of sc m ≡ Some day → h.devices d ≡ Some x → is_some (owner_of sc p) ≡ true → x.day < day → Answers sc h (tap sc s d p t m) (Refused DayAhead)
-shown_day_ahead sc h s d k p t m day x w at dated here known lt =
+pub shown_day_ahead : (sc : SchemeValue) (h : Shape) (s : System) (d k p t m u day : ℕ) (x : DeviceValue) → Shows sc h s → position_of_device sc d ≡ Some k → day_of sc m ≡ Some day → h.devices d ≡ Some x → is_some (owner_of sc p) ≡ true → x.day < day → Answers sc h (tap sc s d p t m u) (Refused DayAhead)
+shown_day_ahead sc h s d k p t m u day x w at dated here known lt =
     let late : (s.devices d).day < day = omega (arith, (device_shown sc h s d x w here).day) in
-    refused_for sc h s d k p t m day DayAhead w at dated (owner_of sc p) refl known (λ o. grind (arith, nat_tests))
+    refused_for sc h s d k p t m u day DayAhead w at dated (owner_of sc p) refl known (λ o. grind (arith, nat_tests))
 
-pub shown_spent : (sc : SchemeValue) (h : Shape) (s : System) (d k p t m day : ℕ) (x : DeviceValue) → Shows sc h s → position_of_device sc d ≡ Some k → day_of sc m ≡ Some day → h.devices d ≡ Some x → is_some (owner_of sc p) ≡ true → day ≡ x.day → 1099511627775 ≤ last_link x → Answers sc h (tap sc s d p t m) (Refused NumbersSpent)
-shown_spent sc h s d k p t m day x w at dated here known same full =
+pub shown_spent : (sc : SchemeValue) (h : Shape) (s : System) (d k p t m u day : ℕ) (x : DeviceValue) → Shows sc h s → position_of_device sc d ≡ Some k → day_of sc m ≡ Some day → h.devices d ≡ Some x → is_some (owner_of sc p) ≡ true → day ≡ x.day → 1099511627775 ≤ last_link x → Answers sc h (tap sc s d p t m u) (Refused NumbersSpent)
+shown_spent sc h s d k p t m u day x w at dated here known same full =
     let sd = device_shown sc h s d x w here in
     let current : day ≡ (s.devices d).day = same ∙ sd.day in
     let spent : 1099511627775 ≤ length (s.devices d).taps = omega (arith, last_link_is sc d (s.devices d) x (w.system.devices d) sd) in
-    refused_for sc h s d k p t m day NumbersSpent w at dated (owner_of sc p) refl known (λ o. grind (arith, nat_tests))
+    refused_for sc h s d k p t m u day NumbersSpent w at dated (owner_of sc p) refl known (λ o. grind (arith, nat_tests))
 
-pub shown_full : (sc : SchemeValue) (h : Shape) (s : System) (d k p t m day : ℕ) (x : DeviceValue) → Shows sc h s → position_of_device sc d ≡ Some k → day_of sc m ≡ Some day → h.devices d ≡ Some x → is_some (owner_of sc p) ≡ true → day ≡ x.day → last_link x < 1099511627775 → length x.waiting ≡ x.room → Answers sc h (tap sc s d p t m) (Refused BufferFull)
-shown_full sc h s d k p t m day x w at dated here known same few full =
+pub shown_full : (sc : SchemeValue) (h : Shape) (s : System) (d k p t m u day : ℕ) (x : DeviceValue) → Shows sc h s → position_of_device sc d ≡ Some k → day_of sc m ≡ Some day → h.devices d ≡ Some x → is_some (owner_of sc p) ≡ true → day ≡ x.day → last_link x < 1099511627775 → length x.waiting ≡ x.room → Answers sc h (tap sc s d p t m u) (Refused BufferFull)
+shown_full sc h s d k p t m u day x w at dated here known same few full =
     let sd = device_shown sc h s d x w here in
     let current : day ≡ (s.devices d).day = same ∙ sd.day in
     let left : length (s.devices d).taps < 1099511627775 = omega (arith, few, last_link_is sc d (s.devices d) x (w.system.devices d) sd) in
     let no_room : room_of sc d ≤ waiting_count s d = omega (arith, full, room_is sc d (s.devices d) x sd, waiting_is sc d (s.devices d) x sd) in
-    refused_for sc h s d k p t m day BufferFull w at dated (owner_of sc p) refl known (λ o. grind (arith, nat_tests))
+    refused_for sc h s d k p t m u day BufferFull w at dated (owner_of sc p) refl known (λ o. grind (arith, nat_tests))
 
 tap_goes : (s : System) (d o room : ℕ) (tv : TapValue) → tv.day ≡ (s.devices d).day → length (s.devices d).taps < 1099511627775 → waiting_count s d < room → tap_for s d room tv (Some o) ≡ (with_tap s d (next_record s d o tv), Recorded (length (s.devices d).taps + 1) (length (numbered_for s o d) + 1))
 tap_goes s d o room tv current few left = grind (arith, nat_tests)
 
 -- the device with the tap at its end
-tapped_device : (sc : SchemeValue) (d : ℕ) (v : DeviceState) (x new : DeviceValue) (p t m day : ℕ) (r : RecordValue) → IsDeviceOf sc d v x → IsTapped sc x p t m day r new → IsDeviceOf sc d (record v { taps = v.taps ++ r ∷ [] }) new
-tapped_device sc d v x new p t m day r sd did =
+tapped_device : (sc : SchemeValue) (d : ℕ) (v : DeviceState) (x new : DeviceValue) (p t m u day : ℕ) (r : RecordValue) → IsDeviceOf sc d v x → IsTapped sc x p t m day u r new → IsDeviceOf sc d (record v { taps = v.taps ++ r ∷ [] }) new
+tapped_device sc d v x new p t m u day r sd did =
     subst (IsDeviceOf sc d (record v { taps = v.taps ++ r ∷ [] })) (sym did.value)
     (record {
       id = sd.id;
@@ -111,14 +111,14 @@ tapped_device sc d v x new p t m day r sd did =
       cursor = sd.cursor;
       owners = sd.owners;
       days = sd.days;
-      numbered = subst (HasNumbered (v.taps ++ r ∷ [])) did.value (numbered_tap sc v.taps x new p t m day r sd.owners sd.numbered did);
+      numbered = subst (HasNumbered (v.taps ++ r ∷ [])) did.value (numbered_tap sc v.taps x new p t m day u r sd.owners sd.numbered did);
     })
 
-pub shown_tap : (sc : SchemeValue) (h : Shape) (s : System) (d k p t m day : ℕ) (x new : DeviceValue) (r : RecordValue) → Shows sc h s → position_of_device sc d ≡ Some k → day_of sc m ≡ Some day → h.devices d ≡ Some x → length x.lanes ≡ length sc.owners → IsTapped sc x p t m day r new → Answers sc (record h { devices = put h.devices d (Some new) }) (tap sc s d p t m) (Recorded r.link r.lane)
-shown_tap sc h s d k p t m day x new r w at dated here long did =
-    answers_by sc (record h { devices = put h.devices d (Some new) }) (Recorded r.link r.lane) (tap sc s d p t m) (with_tap s d r, Recorded r.link r.lane) goes refl
+pub shown_tap : (sc : SchemeValue) (h : Shape) (s : System) (d k p t m u day : ℕ) (x new : DeviceValue) (r : RecordValue) → Shows sc h s → position_of_device sc d ≡ Some k → day_of sc m ≡ Some day → h.devices d ≡ Some x → length x.lanes ≡ length sc.owners → IsTapped sc x p t m day u r new → Answers sc (record h { devices = put h.devices d (Some new) }) (tap sc s d p t m u) (Recorded r.link r.lane)
+shown_tap sc h s d k p t m u day x new r w at dated here long did =
+    answers_by sc (record h { devices = put h.devices d (Some new) }) (Recorded r.link r.lane) (tap sc s d p t m u) (with_tap s d r, Recorded r.link r.lane) goes refl
     (shows_devices sc h s g (put h.devices d (Some new)) h.stations w system (grows_by_tap s d after r refl refl (ap (λ (z : RecordValue). z.tap.day) same ∙ did.current ∙ sd.day))
-    (put_both (λ j a b. IfSome a (IsDeviceOf sc j b)) h.devices s.devices d (Some new) after w.devices (tapped_device sc d v x new p t m day r sd did))
+    (put_both (λ j a b. IfSome a (IsDeviceOf sc j b)) h.devices s.devices d (Some new) after w.devices (tapped_device sc d v x new p t m u day r sd did))
     (stations_same sc h s g (put_all (λ j a. a.next ≡ (s.devices j).next) s.devices d after (λ j. refl) refl) w)
     (put_all (λ j a. a.upto ≡ (s.devices j).upto) s.devices d after (λ j. refl) refl)
     (λ o. put_all (λ j a. arrived_of o a ≡ arrived_of o (s.devices j)) s.devices d after (λ j. refl) (ap (part o) (take-append-le v.upto v.taps (r ∷ []) is.upto)))
@@ -134,7 +134,7 @@ shown_tap sc h s d k p t m day x new r w at dated here long did =
     sd = device_shown sc h s d x w here
 
     tv : TapValue
-    tv = record { product = p; token = t; moment = m; day = day }
+    tv = record { product = p; token = t; moment = m; day = day; route = u }
 
     within : did.place < length x.lanes
     within = omega (arith, long, owner_within sc r.owner did.place did.at)
@@ -160,13 +160,13 @@ shown_tap sc h s d k p t m day x new r w at dated here long did =
     g : ℕ → DeviceState
     g = put s.devices d after
 
-    goes : tap sc s d p t m ≡ (with_tap s d r, Recorded r.link r.lane)
+    goes : tap sc s d p t m u ≡ (with_tap s d r, Recorded r.link r.lane)
     goes =
-        tap_on_day sc s d k p t m day at dated ∙ ap (tap_for s d (room_of sc d) tv) did.owner ∙ tap_goes s d r.owner (room_of sc d) tv (did.current ∙ sd.day) (omega (arith, did.few, last)) (omega (arith, did.room, room_is sc d v x sd, waiting_is sc d v x sd))
+        tap_on_day sc s d k p t m u day at dated ∙ ap (tap_for s d (room_of sc d) tv) did.owner ∙ tap_goes s d r.owner (room_of sc d) tv (did.current ∙ sd.day) (omega (arith, did.few, last)) (omega (arith, did.room, room_is sc d v x sd, waiting_is sc d v x sd))
         ∙ (λ i. (with_tap s d (sym same i), Recorded (sym link i) (sym lane i)))
 
     system : IsSystem sc (record s { devices = g })
-    system = subst (λ (y : System × Reply). IsSystem sc y.0) goes (moves_step sc s (event.Tap d p t m) w.system).system
+    system = subst (λ (y : System × Reply). IsSystem sc y.0) goes (moves_step sc s (event.Tap d p t m (Some u)) w.system).system
 
 -- SEND
 send_known : (sc : SchemeValue) (s : System) (d k : ℕ) → position_of_device sc d ≡ Some k → send sc s d ≡ send_next s d
@@ -270,35 +270,35 @@ device_same w k x new e same = λ i d. entry (position_of_device w.scheme d) (wr
     written : set w.devices k new ≡ w.devices
     written = ap (set w.devices k) (same ∙ e) ∙ set-get_or w.devices k x
 
-pub world_tapped : (w : Seen) (s : System) (d k p t m day : ℕ) (x new : DeviceValue) (r : RecordValue) (link lane : ℕ) → ((j : ℕ) (y : DeviceValue) → slice_get w.devices j ≡ Some y → length y.lanes ≡ length w.scheme.owners) → Shows w.scheme (shape w) s → position_of_device w.scheme d ≡ Some k → k < length w.devices → x ≡ get_or w.devices k x → day_of w.scheme m ≡ Some day → IsTapped w.scheme x p t m day r new → link ≡ r.link → lane ≡ r.lane
-    → Answers w.scheme (record (shape w) { devices = λ e. entry (position_of_device w.scheme e) (set w.devices k new) }) (tap w.scheme s d p t m) (Recorded link lane)
-world_tapped w s d k p t m day x new r link lane lanes sh at within e dated did same_link same_lane =
+pub world_tapped : (w : Seen) (s : System) (d k p t m u day : ℕ) (x new : DeviceValue) (r : RecordValue) (link lane : ℕ) → ((j : ℕ) (y : DeviceValue) → slice_get w.devices j ≡ Some y → length y.lanes ≡ length w.scheme.owners) → Shows w.scheme (shape w) s → position_of_device w.scheme d ≡ Some k → k < length w.devices → x ≡ get_or w.devices k x → day_of w.scheme m ≡ Some day → IsTapped w.scheme x p t m day u r new → link ≡ r.link → lane ≡ r.lane
+    → Answers w.scheme (record (shape w) { devices = λ e. entry (position_of_device w.scheme e) (set w.devices k new) }) (tap w.scheme s d p t m u) (Recorded link lane)
+world_tapped w s d k p t m u day x new r link lane lanes sh at within e dated did same_link same_lane =
     let here = device_read w d k x at within e in
     let long = lanes k x (slice_get_read w.devices (length w.devices) k x refl within e) in
-    subst (λ (q : (ℕ → Option DeviceValue) × Reply). Answers w.scheme (record (shape w) { devices = q.0 }) (tap w.scheme s d p t m) q.1)
+    subst (λ (q : (ℕ → Option DeviceValue) × Reply). Answers w.scheme (record (shape w) { devices = q.0 }) (tap w.scheme s d p t m u) q.1)
     (λ i. (sym (device_write w d k new at within) i, Recorded (sym same_link i) (sym same_lane i)))
-    (shown_tap w.scheme (shape w) s d k p t m day x new r sh at dated here long did)
+    (shown_tap w.scheme (shape w) s d k p t m u day x new r sh at dated here long did)
 
 -- what a refusal of the device says of the tap
-abbrev pub AnswersRefused : Seen → (ℕ → Option DeviceValue) → System → ℕ → ℕ → ℕ → ℕ → TapRefusal → Type 0
-AnswersRefused w devices s d p t m why.UnknownProduct = Answers w.scheme (record (shape w) { devices = devices }) (tap w.scheme s d p t m) (Refused UnknownProduct)
-AnswersRefused w devices s d p t m why.DayClosed = Answers w.scheme (record (shape w) { devices = devices }) (tap w.scheme s d p t m) (Refused DayClosed)
-AnswersRefused w devices s d p t m why.DayAhead = Answers w.scheme (record (shape w) { devices = devices }) (tap w.scheme s d p t m) (Refused DayAhead)
-AnswersRefused w devices s d p t m why.NumbersSpent = Answers w.scheme (record (shape w) { devices = devices }) (tap w.scheme s d p t m) (Refused NumbersSpent)
-AnswersRefused w devices s d p t m why.BufferFull = Answers w.scheme (record (shape w) { devices = devices }) (tap w.scheme s d p t m) (Refused BufferFull)
+abbrev pub AnswersRefused : Seen → (ℕ → Option DeviceValue) → System → ℕ → ℕ → ℕ → ℕ → ℕ → TapRefusal → Type 0
+AnswersRefused w devices s d p t m u why.UnknownProduct = Answers w.scheme (record (shape w) { devices = devices }) (tap w.scheme s d p t m u) (Refused UnknownProduct)
+AnswersRefused w devices s d p t m u why.DayClosed = Answers w.scheme (record (shape w) { devices = devices }) (tap w.scheme s d p t m u) (Refused DayClosed)
+AnswersRefused w devices s d p t m u why.DayAhead = Answers w.scheme (record (shape w) { devices = devices }) (tap w.scheme s d p t m u) (Refused DayAhead)
+AnswersRefused w devices s d p t m u why.NumbersSpent = Answers w.scheme (record (shape w) { devices = devices }) (tap w.scheme s d p t m u) (Refused NumbersSpent)
+AnswersRefused w devices s d p t m u why.BufferFull = Answers w.scheme (record (shape w) { devices = devices }) (tap w.scheme s d p t m u) (Refused BufferFull)
 
-refused_as_it_was : (w : Seen) (s : System) (d k p t m day : ℕ) (x : DeviceValue) (e : TapRefusal) → Shows w.scheme (shape w) s → position_of_device w.scheme d ≡ Some k → (shape w).devices d ≡ Some x → day_of w.scheme m ≡ Some day → TapRefused w.scheme x p day e → AnswersRefused w (shape w).devices s d p t m e
-refused_as_it_was w s d k p t m day x why.UnknownProduct sh at here dated cause = shown_unknown_product w.scheme (shape w) s d k p t m day sh at dated cause
-refused_as_it_was w s d k p t m day x why.DayClosed sh at here dated cause = shown_day_closed w.scheme (shape w) s d k p t m day x sh at dated here cause.0 cause.1
-refused_as_it_was w s d k p t m day x why.DayAhead sh at here dated cause = shown_day_ahead w.scheme (shape w) s d k p t m day x sh at dated here cause.0 cause.1
-refused_as_it_was w s d k p t m day x why.NumbersSpent sh at here dated cause = shown_spent w.scheme (shape w) s d k p t m day x sh at dated here cause.0 cause.1 cause.2
-refused_as_it_was w s d k p t m day x why.BufferFull sh at here dated cause = shown_full w.scheme (shape w) s d k p t m day x sh at dated here cause.0 cause.1 cause.2 cause.3
+refused_as_it_was : (w : Seen) (s : System) (d k p t m u day : ℕ) (x : DeviceValue) (e : TapRefusal) → Shows w.scheme (shape w) s → position_of_device w.scheme d ≡ Some k → (shape w).devices d ≡ Some x → day_of w.scheme m ≡ Some day → TapRefused w.scheme x p day e → AnswersRefused w (shape w).devices s d p t m u e
+refused_as_it_was w s d k p t m u day x why.UnknownProduct sh at here dated cause = shown_unknown_product w.scheme (shape w) s d k p t m u day sh at dated cause
+refused_as_it_was w s d k p t m u day x why.DayClosed sh at here dated cause = shown_day_closed w.scheme (shape w) s d k p t m u day x sh at dated here cause.0 cause.1
+refused_as_it_was w s d k p t m u day x why.DayAhead sh at here dated cause = shown_day_ahead w.scheme (shape w) s d k p t m u day x sh at dated here cause.0 cause.1
+refused_as_it_was w s d k p t m u day x why.NumbersSpent sh at here dated cause = shown_spent w.scheme (shape w) s d k p t m u day x sh at dated here cause.0 cause.1 cause.2
+refused_as_it_was w s d k p t m u day x why.BufferFull sh at here dated cause = shown_full w.scheme (shape w) s d k p t m u day x sh at dated here cause.0 cause.1 cause.2 cause.3
 
-pub world_refused : (w : Seen) (s : System) (d k p t m day : ℕ) (x new : DeviceValue) (e f : TapRefusal) → Shows w.scheme (shape w) s → position_of_device w.scheme d ≡ Some k → k < length w.devices → x ≡ get_or w.devices k x → day_of w.scheme m ≡ Some day → new ≡ x → TapRefused w.scheme x p day e → e ≡ f
-    → AnswersRefused w (λ j. entry (position_of_device w.scheme j) (set w.devices k new)) s d p t m f
-world_refused w s d k p t m day x new e f sh at within read dated same cause is =
-    subst (λ (q : (ℕ → Option DeviceValue) × TapRefusal). AnswersRefused w q.0 s d p t m q.1) (λ i. (sym (device_same w k x new read same) i, is i))
-    (refused_as_it_was w s d k p t m day x e sh at (device_read w d k x at within read) dated cause)
+pub world_refused : (w : Seen) (s : System) (d k p t m u day : ℕ) (x new : DeviceValue) (e f : TapRefusal) → Shows w.scheme (shape w) s → position_of_device w.scheme d ≡ Some k → k < length w.devices → x ≡ get_or w.devices k x → day_of w.scheme m ≡ Some day → new ≡ x → TapRefused w.scheme x p day e → e ≡ f
+    → AnswersRefused w (λ j. entry (position_of_device w.scheme j) (set w.devices k new)) s d p t m u f
+world_refused w s d k p t m u day x new e f sh at within read dated same cause is =
+    subst (λ (q : (ℕ → Option DeviceValue) × TapRefusal). AnswersRefused w q.0 s d p t m u q.1) (λ i. (sym (device_same w k x new read same) i, is i))
+    (refused_as_it_was w s d k p t m u day x e sh at (device_read w d k x at within read) dated cause)
 
 pub world_sent : (w : Seen) (s : System) (d k : ℕ) (x new : DeviceValue) (f : Frame) (air : List (List ℕ)) (n link : ℕ) → Shows w.scheme (shape w) s → position_of_device w.scheme d ≡ Some k → k < length w.devices → x ≡ get_or w.devices k x → option_map frame.Tapped (slice_get x.waiting (x.cursor - x.base)) ≡ Some f → IsFrame f → new ≡ record x { cursor = x.cursor + 1 } → air ≡ w.air ++ frame_bytes f ∷ [] → n ≡ length air → link ≡ x.cursor + 1
     → Answers w.scheme (record (shape w) { devices = λ e. entry (position_of_device w.scheme e) (set w.devices k new); air = air }) (send w.scheme s d) (Sent n link)

@@ -1,5 +1,5 @@
 -- What an owner has taken and closed, beside what a device numbered for it.
-use Rattle.std.specs.Prelude.{◌≡◌, ◌≢◌, ℕ, ◌+◌, ◌-◌, ◌<◌, ◌≤◌, ◌&&◌, Bool, true, false, List, [], ◌∷◌, ◌++◌, length, filter, nat_le, Option, Some, None, slice_get, ◌⊎◌}
+use Rattle.std.specs.Prelude.{◌≡◌, ◌≢◌, ℕ, ◌+◌, ◌-◌, ◌<◌, ◌≤◌, ◌&&◌, Bool, true, false, List, [], ◌∷◌, ◌++◌, length, filter, nat_le, Option, Some, None, unwrap_or, slice_get, ◌⊎◌}
 use Rattle.std.specs.List.{AllByRecursion, flat_map}
 use Rattle.fare_record.specs.Values.{RecordValue}
 use Rattle.fare_record.specs.Lanes.{of_device, lane_of, day_count}
@@ -16,14 +16,14 @@ use Rattle.fare_side.specs.OpenDays.{is_closed}
 
 -- THE NUMBERED TAPS, as the events and their replies alone tell
 -- the record that a tap answered with these numbers has
-abbrev pub record_of : ℕ → ℕ → ℕ → ℕ → ℕ → ℕ → Option ℕ → Option ℕ → Option RecordValue
-record_of device product token moment link lane (Some owner) (Some day) =
-    Some (record { device = device; link = link; owner = owner; lane = lane; tap = record { product = product; token = token; moment = moment; day = day } })
-record_of device product token moment link lane owner day = None
+abbrev pub record_of : ℕ → ℕ → ℕ → ℕ → ℕ → ℕ → ℕ → Option ℕ → Option ℕ → Option RecordValue
+record_of device product token moment route link lane (Some owner) (Some day) =
+    Some (record { device = device; link = link; owner = owner; lane = lane; tap = record { product = product; token = token; moment = moment; day = day; route = route } })
+record_of device product token moment route link lane owner day = None
 
 abbrev pub numbered_by : SchemeValue → Event → Reply → Option RecordValue
-numbered_by sc (event.Tap device product token moment) (Recorded link lane) =
-    record_of device product token moment link lane (owner_of sc product) (day_of sc moment)
+numbered_by sc (event.Tap device product token moment route) (Recorded link lane) =
+    record_of device product token moment (unwrap_or route 0) link lane (owner_of sc product) (day_of sc moment)
 numbered_by sc e r = None
 
 abbrev pub with_first : Option RecordValue → List RecordValue → List RecordValue

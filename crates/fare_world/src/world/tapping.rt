@@ -17,8 +17,9 @@ impl<O: Outbox + Drop, L: Ledger + Drop> World<O, L> {
         product: ProductId,
         token: Token,
         moment: Moment,
+        route: Option<u16>,
     ) -> Reply
-        ensures { IsStepped O.standing L.standing self.old self.new (event.Tap device product token moment) result }
+        ensures { IsStepped O.standing L.standing self.old self.new (event.Tap device product token moment route) result }
     {
         let Some(place) = self.scheme.device_position(device) else {
             return Reply::Refused(Refusal::UnknownDevice);
@@ -26,7 +27,8 @@ impl<O: Outbox + Drop, L: Ledger + Drop> World<O, L> {
         let Ok(day) = traffic_day(self.scheme.zone(), moment) else {
             return Reply::Refused(Refusal::BadMoment);
         };
-        match self.devices[place].tap(&self.scheme, product, token, moment, day) {
+        let route = route.unwrap_or(0);
+        match self.devices[place].tap(&self.scheme, product, token, moment, day, route) {
             Ok(row) => Reply::Recorded {
                 link: row.link(),
                 lane: row.lane(),

@@ -1,7 +1,7 @@
 use Rattle.std.proofs.Common.{rules, ◌≡◌, ◌+◌, ◌++◌, ◌∷◌, [], take, map, sym, ◌∙◌, ap, ℕ, List}
 use Rattle.std.proofs.lemmas.List.{take_more, map-append}
 use Rattle.std.proofs.lemmas.Option.{slice_get_within, get_or_from_slice_get}
-use Rattle.fare_settle.specs.declared.settled.Settled.{Settled}
+use Rattle.fare_settle.specs.Values.{SettledValue}
 use Rattle.fare_settle.specs.Settling.{share_of}
 use Rattle.fare_settle.proofs.settling.settle.Goals as goal
 
@@ -15,6 +15,6 @@ loop-position-preserved c =
     let grown : take (place + 1) operators ≡ take place operators ++ operator ∷ [] =
     take_more operators place operator (slice_get_within operators place operator here) ∙ ap (λ (o : ℕ). take place operators ++ o ∷ []) (get_or_from_slice_get operators place operator operator here) in
     let pushed : c.push.new.self.items ≡ c.loop-position.shares.items ++ share_of charges operator ∷ [] =
-    c.in_ok-push.ensures.items ∙ ap (λ (s : Settled). c.loop-position.shares.items ++ s ∷ []) (search rules) in
-    pushed ∙ ap (λ (l : List Settled). l ++ share_of charges operator ∷ []) c.loop-position.invariant
+    c.in_ok-push.ensures.items ∙ ap (λ (s : SettledValue). c.loop-position.shares.items ++ s ∷ []) (search rules) in
+    pushed ∙ ap (λ (l : List SettledValue). l ++ share_of charges operator ∷ []) c.loop-position.invariant
     ∙ sym (ap (map (share_of charges)) grown ∙ map-append (share_of charges) (take place operators) (operator ∷ []))
