@@ -57,7 +57,7 @@ has_station sc d knows none =
     absurd (cc)
 
 -- a tap of the open day that gets the device's next numbers
-numbers : (sc : SchemeValue) (s : System) (d o p t m u day : ℕ) → IsSystem sc s → knows_device sc d ≡ true → owner_of sc p ≡ Some o → day_of sc m ≡ Some day → day ≡ (s.devices d).day → length (s.devices d).taps < 1099511627775
+numbers : (sc : SchemeValue) (s : System) (d o p t m day : ℕ) (route : Option ℕ) → IsSystem sc s → knows_device sc d ≡ true → owner_of sc p ≡ Some o → day_of sc m ≡ Some day → day ≡ (s.devices d).day → length (s.devices d).taps < 1099511627775
     → Moves sc s (event.Tap d p t m route) (with_tap s d (next_record s d o (record { product = p; token = t; moment = m; day = day; route = unwrap_or route 0 })), Recorded (length (s.devices d).taps + 1) (length (numbered_for s o d) + 1))
 numbers sc s d o p t m day route h knows owned dated current lt = record {
   system = parts_grow sc s (put s.devices d new) s.held h

@@ -45,8 +45,11 @@ fn see_limits(frame: &Frame)
     ensures { IsFrame frame.now }
 {
     match frame {
-        Frame::Tapped(record) => {
+        Frame::Tapped(record) if record.tap().route() == 0 => {
             record.encode();
+        }
+        Frame::Tapped(record) => {
+            record.encode_routed();
         }
         Frame::Stated(statement) => {
             statement.encode();

@@ -1,7 +1,8 @@
-use Rattle.std.proofs.Common.{◌≡◌, ◌<◌, length, refl, sym, ap, ◌∙◌, arith}
+use Rattle.std.proofs.Common.{◌≡◌, ◌<◌, length, refl, sym, ap, subst, ◌∙◌, arith}
 use Rattle.std.specs.Prelude.{unwrap_or}
 use Rattle.std.proofs.lemmas.Option.{slice_get_read}
 use Rattle.fare_day.specs.TrafficDay.{traffic_day_in_range}
+use Rattle.fare_device.specs.Tapping.{IsTapped}
 use Rattle.fare_world.specs.System.{day_of}
 use Rattle.fare_world.proofs.ShowTap.{shown_unknown, shown_bad_moment, world_tapped, world_refused}
 use Rattle.fare_world.proofs.RoomLemmas.{rooms_of_device}
@@ -35,10 +36,12 @@ invariant_of-self-2 g c =
 pub returns-in-Ok-tap : goal.returns-in-Ok-tap
 returns-in-Ok-tap g c =
     let w = seen g.O.Outbox.standing g.L.Ledger.standing c.args.self.now in
+    let tapped =
+    subst (λ n. IsTapped w.scheme c.index_mut.result.now c.args.product c.args.token c.args.moment c.in-Ok.day n c.in-Ok-tap.row c.tap.new.self) c.unwrap_or-route.ensures c.in-Ok-tap.ensures.ok in
     let dated : day_of w.scheme c.args.moment ≡ traffic_day_in_range c.zone.result.now c.args.moment = ap (λ z. traffic_day_in_range z c.args.moment) (sym c.zone.ensures.value) in
     let within : c.in-Some.place < length w.devices = omega (arith, c.in-Some.ensures.within, c.args.self.now.rooms.device_count) in
     steps g.O.Outbox.standing g.L.Ledger.standing c.args.self.now _ _ _ refl (same_stores _ _ refl refl) (λ s sh. world_tapped w s c.args.device c.in-Some.place c.args.product c.args.token c.args.moment (unwrap_or c.args.route 0) c.in-Ok.day c.index_mut.result.now c.tap.new.self c.in-Ok-tap.row c.link.result c.lane.result c.args.self.now.rooms.lanes sh
-    (sym c.device_position.ensures.value ∙ c.in-Some.is) within c.index_mut.ensures.value (dated ∙ c.in-Ok.ensures.answer) c.in-Ok-tap.ensures.ok c.link.ensures.value c.lane.ensures.value)
+    (sym c.device_position.ensures.value ∙ c.in-Some.is) within c.index_mut.ensures.value (dated ∙ c.in-Ok.ensures.answer) tapped c.link.ensures.value c.lane.ensures.value)
 
 pub returns-in-Err-UnknownProduct : goal.returns-in-Err-UnknownProduct
 returns-in-Err-UnknownProduct g c =
