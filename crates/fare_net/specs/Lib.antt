@@ -1,3 +1,4 @@
+pub mod Spoken
 pub mod Turns
 pub mod Histories
 pub mod IntakeValue

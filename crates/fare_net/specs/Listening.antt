@@ -9,6 +9,7 @@ use Rattle.fare_frame.specs.declared.frame.Frame.TheVariants.{Greeted}
 use Rattle.fare_scheme.specs.Values.{SchemeValue}
 use Rattle.fare_scheme.specs.Words.{station_of}
 use Rattle.fare_net.specs.NetValue.{NetValue}
+use Rattle.fare_net.specs.Spoken.{IsSpoken}
 use Rattle.fare_net.specs.Sources.{IsFront}
 use Rattle.fare_net.specs.declared.fault.HelloFault.{HelloFault}
 use Rattle.fare_net.specs.declared.fault.HelloFault.TheVariants.{NoHello, BadVersion, UnknownDevice, Failed}
@@ -24,7 +25,7 @@ IsLast false rest unread = HasNoFrame rest
 -- no frame more.
 pub record HasHeard (scheme : SchemeValue) (station : ℕ) (frames : List Frame) (ended : Bool) (input : List ℕ) : Type 0 where
   pub hello : HelloValue
-  pub version : hello.version ≡ 1
+  pub version : IsSpoken hello.version
   pub is : station_of scheme hello.device ≡ Some station
   pub read : List ℕ
   pub unread : List ℕ
@@ -44,8 +45,8 @@ BeginsWithNone input = (read : List ℕ) × (unread : List ℕ) × (input ≡ re
 -- why nothing was heard
 abbrev pub IsRefused : SchemeValue → HelloFault → List ℕ → Type 0
 IsRefused scheme NoHello input = ((f : Frame) × Begins input f × (hello_of f ≡ None)) ⊎ IsRest input
-IsRefused scheme BadVersion input = (h : HelloValue) × Begins input (Greeted h) × (h.version ≢ 1)
-IsRefused scheme UnknownDevice input = (h : HelloValue) × Begins input (Greeted h) × (h.version ≡ 1) × (station_of scheme h.device ≡ None)
+IsRefused scheme BadVersion input = (h : HelloValue) × Begins input (Greeted h) × (¬ IsSpoken h.version)
+IsRefused scheme UnknownDevice input = (h : HelloValue) × Begins input (Greeted h) × IsSpoken h.version × (station_of scheme h.device ≡ None)
 IsRefused scheme Failed input = BeginsWithNone input
 
 abbrev pub HasNotHeard : SchemeValue → ListenFault → List ℕ → Type 0
@@ -55,7 +56,7 @@ HasNotHeard scheme (Hello fault) input = IsRefused scheme fault input
 -- so far: what was read of the input, and that all frames that were taken off are a greeting and these frames
 pub record IsHearing (scheme : SchemeValue) (station : ℕ) (frames : List Frame) (input : Option (List ℕ)) (source : NetValue) : Type 0 where
   pub hello : HelloValue
-  pub version : hello.version ≡ 1
+  pub version : IsSpoken hello.version
   pub is : station_of scheme hello.device ≡ Some station
   pub taken : source.intake.taken ≡ Greeted hello ∷ frames
   pub read : Consumes input source.unread source.intake.read

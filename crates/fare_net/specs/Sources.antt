@@ -13,6 +13,7 @@ use Rattle.fare_source.specs.declared.fault.SourceFault.{SourceFault}
 use Rattle.fare_source.specs.declared.fault.SourceFault.TheVariants as source
 use Rattle.fare_net.specs.Intakes.{fresh_intake}
 use Rattle.fare_net.specs.NetValue.{NetValue}
+use Rattle.fare_net.specs.Spoken.{IsSpoken}
 use Rattle.fare_net.specs.declared.fault.HelloFault.{HelloFault}
 use Rattle.fare_net.specs.declared.fault.HelloFault.TheVariants as hello
 use Rattle.fare_net.specs.declared.intake.Stage.TheVariants.{Ended}
@@ -123,12 +124,12 @@ pub record HasGreeted (old new : NetValue) : Type 0 where
 pub record Greets (scheme : SchemeValue) (old new : NetValue) (station : ℕ) : Type 0 where
   pub hello : HelloValue
   pub finds : Finds old new (Greeted hello)
-  pub version : hello.version ≡ 1
+  pub version : IsSpoken hello.version
   pub is : station_of scheme hello.device ≡ Some station
 
 -- why a greeting is refused
 abbrev pub HelloFails : SchemeValue → NetValue → NetValue → HelloFault → Type 0
 HelloFails scheme old new hello.NoHello = ((f : Frame) × Finds old new f × (hello_of f ≡ None)) ⊎ ((new.intake.taken ≡ old.intake.taken) × IsAllTaken new)
-HelloFails scheme old new hello.BadVersion = (h : HelloValue) × Finds old new (Greeted h) × (h.version ≢ 1)
-HelloFails scheme old new hello.UnknownDevice = (h : HelloValue) × Finds old new (Greeted h) × (h.version ≡ 1) × (station_of scheme h.device ≡ None)
+HelloFails scheme old new hello.BadVersion = (h : HelloValue) × Finds old new (Greeted h) × (¬ IsSpoken h.version)
+HelloFails scheme old new hello.UnknownDevice = (h : HelloValue) × Finds old new (Greeted h) × IsSpoken h.version × (station_of scheme h.device ≡ None)
 HelloFails scheme old new hello.Failed = (new.intake.taken ≡ old.intake.taken) × (((old.refused ≡ true) × (new.intake ≡ old.intake)) ⊎ IsWhole new HasNoFrame)

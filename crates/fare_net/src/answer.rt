@@ -9,9 +9,9 @@ use std::io::Write;
 
 // Spells a frame in place of what was spelled before; there is room for any frame.
 pub(crate) fn spell(frame: &Frame, spelled: &mut Vec<u8>)
-    requires { 49 ≤ vec_capacity spelled.old }
+    requires { 51 ≤ vec_capacity spelled.old }
     ensures bytes { spelled.new.items ≡ frame_bytes frame.now }
-    ensures room { 49 ≤ vec_capacity spelled.new }
+    ensures room { 51 ≤ vec_capacity spelled.new }
 {
     spelled.clear();
     if frame.put(spelled).is_err() {

@@ -3,6 +3,7 @@ ghost use Rattle.std.specs.Io.KnownBytes.{Appends};
 ghost use Rattle.fare_frame.specs.Grammar.{frame_bytes};
 ghost use Rattle.fare_source.specs.Talking.{Waits, Gives, Hears};
 ghost use Rattle.fare_net.specs.Intakes.{IsOver, IsWaiting};
+ghost use Rattle.fare_net.specs.Spoken.{IsSpoken};
 ghost use Rattle.fare_net.specs.Sources.{Advances, Counts, Greets, HasGreeted, HasRead, HelloFails, IsStill, TakesOff, fresh_source, talk_of};
 
 use crate::answer::{send, spell};
@@ -18,8 +19,16 @@ use std::alloc::{AllocError, Global};
 use std::io::{Read, Write};
 use std::marker::Model;
 
-/// The version of the frames that is spoken.
-const VERSION: u16 = 1;
+/// The newest version of the frames. Those of the first know of no routes; on a line of either both kinds of taps may
+/// come.
+const NEWEST_VERSION: u16 = 2;
+
+// Whether the frames of a version are spoken.
+fn is_spoken(version: u16) -> bool
+    ensures { IsTrue result ↔ IsSpoken version }
+{
+    (1..=NEWEST_VERSION).contains(&version)
+}
 
 /// A validator's line as a source, over a reader and a writer. It takes all its memory when it is made, and reads no
 /// oftener than it was told; a read that brought nothing counts. What it gave and was handed, proofs alone remember.
@@ -60,7 +69,7 @@ impl<R: Read + Drop, W: Write + Drop> Model for NetSource<R, W> {
       turns = s.turns;
     } };
 
-    ghost invariant = { λ s. (49 ≤ vec_capacity s.spelled) × (s.intake.stage ≡ Ended → IsAtEnd (R.remaining s.reader)) };
+    ghost invariant = { λ s. (51 ≤ vec_capacity s.spelled) × (s.intake.stage ≡ Ended → IsAtEnd (R.remaining s.reader)) };
 }
 
 // It is written out, so that a caller doesn't prove again how each part is let go.
@@ -196,7 +205,7 @@ impl<R: Read + Drop, W: Write + Drop> NetSource<R, W> {
         let Some(hello) = frame.greeted() else {
             return Err(HelloFault::NoHello);
         };
-        if hello.version() != VERSION {
+        if !is_spoken(hello.version()) {
             return Err(HelloFault::BadVersion);
         }
         let Some(station) = scheme.station_of(hello.device()) else {
@@ -208,7 +217,7 @@ impl<R: Read + Drop, W: Write + Drop> NetSource<R, W> {
     /// The station of the device that greets, by the first frame.
     ///
     /// `NoHello` where that is no greeting, or the reader is at its end before it; `BadVersion` where the greeting is of
-    /// a version that isn't 1; `UnknownDevice` where the scheme hasn't its device; `Failed` where the reader failed, a
+    /// a version other than 1 and 2; `UnknownDevice` where the scheme hasn't its device; `Failed` where the reader failed, a
     /// fault stands in place of the frame, or no read is left, and in each call after an error. From an error on the
     /// source is refused: `next` and `answer` answer `Failed`.
     pub fn hello(&mut self, scheme: &Scheme) -> Result<StationId, HelloFault>

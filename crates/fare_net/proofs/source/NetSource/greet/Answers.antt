@@ -10,8 +10,8 @@ returns-in_default-greeted-clause-fails g c =
     let filled = ap (λ (v : NetValue). v.intake.taken) c.self-2.view_is ∙ c.fill.ensures.advances.taken in
     inl (c.in-Some.frame, (c.in-Some.ensures.1 ∙ ap (λ t. t ++ c.in-Some.frame ∷ []) filled, front_taken _ _ _ c.stage-stage.ensures.holds c.in-Some.ensures), sym c.in_default-greeted.ensures)
 
-pub returns-then-version-ne-VERSION-clause-fails : goal.returns-then-version-ne-VERSION-clause-fails
-returns-then-version-ne-VERSION-clause-fails g c =
+pub returns-then-not-is_spoken-clause-fails : goal.returns-then-not-is_spoken-clause-fails
+returns-then-not-is_spoken-clause-fails g c =
     let filled = ap (λ (v : NetValue). v.intake.taken) c.self-2.view_is ∙ c.fill.ensures.advances.taken in
     let same = greeted_is c.in-Some.frame c.in-Some-greeted.hello (sym c.in-Some-greeted.ensures) in
     (c.in-Some-greeted.hello, (c.in-Some.ensures.1 ∙ ap (λ t. t ++ c.in-Some.frame ∷ []) filled ∙ ap (λ (f : Frame). c.args.self.now.intake.taken ++ f ∷ []) same, front_taken _ _ _ c.stage-stage.ensures.holds c.in-Some.ensures), search rules)
