@@ -6,7 +6,7 @@ use Rattle.fare_record.specs.Values.{RecordValue}
 use Rattle.fare_cap.specs.Bills.{BillValue, bill_of}
 use Rattle.fare_cap.specs.Fares.{week_start}
 use Rattle.fare_scheme.specs.Values.{SchemeValue}
-use Rattle.fare_settle.specs.declared.settled.Settled.{Settled}
+use Rattle.fare_settle.specs.Values.{SettledValue}
 use Rattle.fare_settle.specs.Settling.{settlement_of}
 use Rattle.fare_store.specs.Standing.{Standing}
 use Rattle.fare_store.specs.OutboxWords.{OutboxValue}
@@ -37,7 +37,7 @@ module _ {O L : Type 0} (outbox : O → Standing OutboxValue) (ledger : L → St
     bill_written bill is made (Err f) w = tt
     bill_written bill is made (Ok u) w = record { bill = bill; short = devices; written = subst (Appends before after) is w; made = made }
 
-    pub settlement_written : (shares : List Settled) → text ≡ reply_text (reply.Settlement owner day shares devices) → (AreClean outbox ledger new → AreSound outbox ledger old → IsMadeOf outbox ledger settlement_of old owner day shares devices)
+    pub settlement_written : (shares : List SettledValue) → text ≡ reply_text (reply.Settlement owner day shares devices) → (AreClean outbox ledger new → AreSound outbox ledger old → IsMadeOf outbox ledger settlement_of old owner day shares devices)
         → (r : Result (Unit {0}) DeskFault) → OnOk r (Appends before after text) → OnOk r (WritesSettlement outbox ledger old new owner day before after)
     settlement_written shares is made (Err f) w = tt
     settlement_written shares is made (Ok u) w = record { shares = shares; short = devices; written = subst (Appends before after) is w; made = made }

@@ -4,7 +4,7 @@ use Rattle.std.specs.Io.KnownBytes.{Appends}
 use Rattle.fare_record.specs.Values.{RecordValue}
 use Rattle.fare_cap.specs.Bills.{BillValue, bill_of}
 use Rattle.fare_cap.specs.Fares.{week_start}
-use Rattle.fare_settle.specs.declared.settled.Settled.{Settled}
+use Rattle.fare_settle.specs.Values.{SettledValue}
 use Rattle.fare_settle.specs.Settling.{settlement_of}
 use Rattle.fare_store.specs.Standing.{Standing}
 use Rattle.fare_store.specs.OutboxWords.{OutboxValue}
@@ -38,7 +38,7 @@ module _ {O L : Type 0} (outbox : O → Standing OutboxValue) (ledger : L → St
 
   -- an owner's settlement of a day was written
   pub record WritesSettlement (old new : Hub O L) (owner day : ℕ) (before after : Option (List ℕ)) : Type 0 where
-    pub shares : List Settled
+    pub shares : List SettledValue
     pub short : List ℕ
     pub written : Appends before after (reply_text (reply.Settlement owner day shares short))
     pub made : AreClean outbox ledger new → AreSound outbox ledger old → IsMadeOf settlement_of old owner day shares short

@@ -3,7 +3,7 @@ use Rattle.std.specs.Prelude.{◌≡◌, ◌≢◌, ◌↔◌, ◌⊎◌, ℕ, f
 use Rattle.std.specs.Io.KnownBytes.{Appends, Keeps}
 use Rattle.std.specs.Map.{keys_of}
 use Rattle.fare_cap.specs.Bills.{BillValue}
-use Rattle.fare_settle.specs.declared.settled.Settled.{Settled}
+use Rattle.fare_settle.specs.Values.{SettledValue}
 use Rattle.fare_scheme.specs.Values.{SchemeValue}
 use Rattle.fare_scheme.specs.Words.{position_of_device, position_of_owner}
 use Rattle.fare_store.specs.Standing.{Standing}
@@ -73,7 +73,7 @@ FailsOf outbox ledger (Retire owner device) old new fault = FailsRetire outbox l
 abbrev pub IsAnswered : SchemeValue → Question → Option (List ℕ) → Option (List ℕ) → Type 0
 IsAnswered sc Close before after = (text : List ℕ) × AreLinesOf (lanes_of sc) text × Appends before after text
 IsAnswered sc (Bill owner day) before after = (bill : BillValue) × (short : List ℕ) × Appends before after (reply_text (reply.Bill owner day bill short))
-IsAnswered sc (Settle owner day) before after = (shares : List Settled) × (short : List ℕ) × Appends before after (reply_text (reply.Settlement owner day shares short))
+IsAnswered sc (Settle owner day) before after = (shares : List SettledValue) × (short : List ℕ) × Appends before after (reply_text (reply.Settlement owner day shares short))
 IsAnswered sc Stand before after = (uptos : List ℕ) × (lanes : List ℕ) × AreUptoLines (keys_of sc.devices) uptos × AreLaneLines (lanes_of sc) lanes × Appends before after (uptos ++ lanes)
 IsAnswered sc (Retire owner device) before after = Appends before after (reply_text (reply.Retired device))
 

@@ -15,7 +15,7 @@ use Rattle.fare_scheme.specs.Values.{SchemeValue}
 use Rattle.fare_scheme.specs.Words.{position_of_owner}
 use Rattle.fare_cap.specs.Bills.{bill_of}
 use Rattle.fare_cap.specs.Fares.{week_start}
-use Rattle.fare_settle.specs.declared.settled.Settled.{Settled}
+use Rattle.fare_settle.specs.Values.{SettledValue}
 use Rattle.fare_settle.specs.Charges.{charges_of}
 use Rattle.fare_settle.specs.Settling.{settlement_of, share_of}
 use Rattle.fare_settle.proofs.SettledWeeks.{other_days_settle_nothing}
@@ -88,7 +88,7 @@ module _ (sc : SchemeValue) (lists : ℕ → List RecordValue) (all : AreNumbere
       ∙ (ap (λ (records : List RecordValue). settlement_of sc records day) (sym (filter_flat among (λ (d : ℕ × Placement). part_counted lists (h.ledgers owner) owner d.0) sc.devices))
       ∙ other_days_settle_nothing sc day among (parts_of sc lists (h.ledgers owner) owner) (record { kept = λ r first last. and_from (nat_le (week_start sc day) r.tap.day) (nat_le r.tap.day day) (within first) (within last) }))
     where
-      map_shares : List RecordValue → List Settled
+      map_shares : List RecordValue → List SettledValue
       map_shares ordered = map (share_of (charges_of sc ordered day)) sc.operators
 
       among : RecordValue → Bool

@@ -10,7 +10,7 @@ use Rattle.fare_scheme.specs.declared.entry.Placement.{Placement}
 use Rattle.fare_scheme.specs.Values.{SchemeValue}
 use Rattle.fare_cap.specs.Fares.{week_start}
 use Rattle.fare_cap.specs.Bills.{BillValue, bill_of}
-use Rattle.fare_settle.specs.declared.settled.Settled.{Settled}
+use Rattle.fare_settle.specs.Values.{SettledValue}
 use Rattle.fare_settle.specs.Settling.{settlement_of}
 use Rattle.fare_side.specs.declared.bill_fault.BillFault.{BillFault}
 use Rattle.fare_side.specs.declared.bill_fault.BillFault.TheVariants as fault
@@ -180,7 +180,7 @@ module _ (sc : SchemeValue) (es : List Event) where
         let tell = tells (λ (v : BillValue × List ℕ). reply.Bill o day v.0 v.1) is_bill (λ why. refl) (bill_judged sc (at place) o day) (bill_of sc (basis sc (at place) o day) day, short_of sc (at place) o day) (reply.Bill o day b short) (answered_at sc (start sc) es place (event.Bill o day) (reply.Bill o day b short) is) refl in
         tell.1 ∙ bill_is place o day (judged_closed (at place) o day tell.0);
     settlements = λ o day place shares short is.
-        let tell = tells (λ (v : List Settled × List ℕ). reply.Settlement o day v.0 v.1) is_settlement (λ why. refl) (bill_judged sc (at place) o day) (settlement_of sc (basis sc (at place) o day) day, short_of sc (at place) o day) (reply.Settlement o day shares short) (answered_at sc (start sc) es place (event.Settle o day) (reply.Settlement o day shares short) is) refl in
+        let tell = tells (λ (v : List SettledValue × List ℕ). reply.Settlement o day v.0 v.1) is_settlement (λ why. refl) (bill_judged sc (at place) o day) (settlement_of sc (basis sc (at place) o day) day, short_of sc (at place) o day) (reply.Settlement o day shares short) (answered_at sc (start sc) es place (event.Settle o day) (reply.Settlement o day shares short) is) refl in
         tell.1 ∙ settlement_is place o day (judged_closed (at place) o day tell.0);
     met = λ o day place r is met.
         let none = met_none place o day met in
@@ -190,6 +190,6 @@ module _ (sc : SchemeValue) (es : List Event) where
     met_settlement = λ o day place r is met.
         let none = met_none place o day met in
         answered_at sc (start sc) es place (event.Settle o day) r is
-        ∙ ap (λ (q : Result Unit BillFault). told (λ (v : List Settled × List ℕ). reply.Settlement o day v.0 v.1) (unless q (settlement_of sc (basis sc (at place) o day) day, short_of sc (at place) o day))) (judged_ok (at place) o day met.known met.first none)
+        ∙ ap (λ (q : Result Unit BillFault). told (λ (v : List SettledValue × List ℕ). reply.Settlement o day v.0 v.1) (unless q (settlement_of sc (basis sc (at place) o day) day, short_of sc (at place) o day))) (judged_ok (at place) o day met.known met.first none)
         ∙ settlement_is place o day none;
   }

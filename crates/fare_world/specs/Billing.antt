@@ -7,7 +7,7 @@ use Rattle.fare_scheme.specs.declared.entry.Placement.{Placement}
 use Rattle.fare_scheme.specs.Values.{SchemeValue}
 use Rattle.fare_cap.specs.Fares.{week_start}
 use Rattle.fare_cap.specs.Bills.{BillValue, bill_of}
-use Rattle.fare_settle.specs.declared.settled.Settled.{Settled}
+use Rattle.fare_settle.specs.Values.{SettledValue}
 use Rattle.fare_settle.specs.Settling.{settlement_of}
 use Rattle.fare_side.specs.declared.bill_fault.BillFault.{BillFault}
 use Rattle.fare_side.specs.declared.bill_fault.BillFault.TheVariants as fault
@@ -52,7 +52,7 @@ unless (Err why) v = Err why
 abbrev pub billed : SchemeValue → System → ℕ → ℕ → Result (BillValue × List ℕ) BillFault
 billed sc s owner day = unless (bill_judged sc s owner day) (bill_of sc (basis sc s owner day) day, short_of sc s owner day)
 
-abbrev pub settled : SchemeValue → System → ℕ → ℕ → Result (List Settled × List ℕ) BillFault
+abbrev pub settled : SchemeValue → System → ℕ → ℕ → Result (List SettledValue × List ℕ) BillFault
 settled sc s owner day = unless (bill_judged sc s owner day) (settlement_of sc (basis sc s owner day) day, short_of sc s owner day)
 
 -- BILL and SETTLE
@@ -130,6 +130,6 @@ settlement_told sc es rs place owner day = reply.Settlement owner day (settlemen
 -- each bill that a reply tells is the capped fare of exactly these taps, and names the devices of which it is short, and each settlement is of exactly these taps; and where all counts are met, one is told
 pub record BillsExactly (sc : SchemeValue) (es : List Event) (rs : List Reply) : Type 0 where
   pub bills : (owner day place : ℕ) (b : BillValue) (short : List ℕ) → IsAnswered es rs place (event.Bill owner day) (reply.Bill owner day b short) → reply.Bill owner day b short ≡ bill_told sc es rs place owner day
-  pub settlements : (owner day place : ℕ) (shares : List Settled) (short : List ℕ) → IsAnswered es rs place (event.Settle owner day) (reply.Settlement owner day shares short) → reply.Settlement owner day shares short ≡ settlement_told sc es rs place owner day
+  pub settlements : (owner day place : ℕ) (shares : List SettledValue) (short : List ℕ) → IsAnswered es rs place (event.Settle owner day) (reply.Settlement owner day shares short) → reply.Settlement owner day shares short ≡ settlement_told sc es rs place owner day
   pub met : (owner day place : ℕ) (r : Reply) → IsAnswered es rs place (event.Bill owner day) r → IsMet sc es rs place owner day → r ≡ bill_told sc es rs place owner day
   pub met_settlement : (owner day place : ℕ) (r : Reply) → IsAnswered es rs place (event.Settle owner day) r → IsMet sc es rs place owner day → r ≡ settlement_told sc es rs place owner day
