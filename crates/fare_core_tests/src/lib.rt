@@ -11,6 +11,8 @@ mod lines;
 #[cfg(test)]
 mod route;
 #[cfg(test)]
+mod routes;
+#[cfg(test)]
 mod settlements;
 #[cfg(test)]
 mod windows;

@@ -210,6 +210,8 @@ fn parses_a_zone_line(rt: HostRuntime) {
 fn reads_the_greatest_numbers(rt: HostRuntime) {
     let text = b"tap 4294967295 4294967295 9223372036854775807 8640200000
 tap 1 1 1 0
+tap 1 1 1 0 0
+tap 1 1 1 0 65535
 send 4294967295
 arrive 0
 forward 65535 1
@@ -219,11 +221,11 @@ upto 4294967295
 count 65535 4294967295
 ";
     let lines = parse(rt.alloc(), text).expect(&rt, "lines");
-    same(&rt, &lines.len(), &9);
+    same(&rt, &lines.len(), &11);
 }
 
 // Texts, and the bad line in each.
-const BAD_LINES: [(&[u8], u64); 39] = [
+const BAD_LINES: [(&[u8], u64); 42] = [
     (b"\n", 1),
     (b"draw\n\n", 2),
     (b"draw ", 1),
@@ -243,6 +245,9 @@ const BAD_LINES: [(&[u8], u64); 39] = [
     (b"tap 1 1 0 0", 1),
     (b"tap 1 1 9223372036854775808 0", 1),
     (b"tap 1 1 1 8640200001", 1),
+    (b"tap 1 1 1 0 65536", 1),
+    (b"tap 1 1 1 0 7 7", 1),
+    (b"tap 1 1 1 0 ", 1),
     (b"demo 0 1 1 1", 1),
     (b"demo 3 1 1 1", 1),
     (b"demo 1 4 4 4294967296", 1),

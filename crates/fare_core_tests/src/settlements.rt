@@ -22,7 +22,7 @@ fn billed(alloc: Global, scheme: &Scheme, taps: &[Record], day: u64) -> Option<u
 // The share of the operator at a place: operator, taps and amount.
 fn share(shares: &[Settled], place: usize) -> Option<(u16, u64, u128)> {
     let settled = shares.get(place)?;
-    Some((settled.operator.get(), settled.taps, settled.amount))
+    Some((settled.operator().get(), settled.taps(), settled.amount()))
 }
 
 // The shares of the two operators and of no third.
@@ -149,7 +149,7 @@ fn charges_by_moment_device_and_lane(rt: HostRuntime) {
 }
 
 // The charge of the tap at a place of a list in order, as the formula has it.
-fn plain_charge(taps: &[Record], place: usize, tap: Record, day: u64) -> u64 {
+pub(crate) fn plain_charge(taps: &[Record], place: usize, tap: Record, day: u64) -> u64 {
     let token = tap.tap().token().get();
     let earlier = match taps.get(..place) {
         Some(front) => counted(front, token, day),

@@ -36,6 +36,7 @@ pub(crate) fn journey(device: u64, product: u64, packet: u64) -> Option<[Event; 
             product: ProductId::new(product)?,
             token: Token::new(77)?,
             moment: Moment::new(1_704_100_000)?,
+            route: None,
         },
         Event::Send { device },
         Event::Arrive { packet },

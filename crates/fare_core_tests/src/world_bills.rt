@@ -66,7 +66,7 @@ fn share(settlement: &Settlement) -> Option<(u16, u64, u128)> {
     let [share] = settlement.shares() else {
         return None;
     };
-    Some((share.operator.get(), share.taps, share.amount))
+    Some((share.operator().get(), share.taps(), share.amount()))
 }
 
 // The bill of the closed day, asked twice, and its settlement.

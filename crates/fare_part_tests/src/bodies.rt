@@ -35,6 +35,43 @@ fn a_record_is_spelled_and_read(rt: HostRuntime) -> Result<(), Fail> {
     Ok(())
 }
 
+const ROUTED: [u8; 48] = [
+    0, 0, 0, 1, 0, 0, 0, 0, 0, 0, 0, 1, 0, 1, 0, 0, 0, 0, 0, 0, 0, 1, 0, 0, 0, 1, 0, 0, 0, 0, 0, 0,
+    0, 0x4d, 0, 0, 0, 0, 0x65, 0x92, 0x80, 0xa0, 0, 0, 0x4d, 0x0b, 0, 7,
+];
+
+#[test]
+fn a_record_with_a_route_is_spelled_and_read(rt: HostRuntime) -> Result<(), Fail> {
+    let record = Record::decode_routed(&ROUTED)?;
+    let tap = record.tap();
+    let read = (
+        record.link(),
+        tap.token().get(),
+        tap.day().get(),
+        tap.route(),
+    );
+    same(
+        &rt,
+        &(read, record.encode_routed()),
+        &((1, 77, 19_723, 7), ROUTED),
+    );
+    // Without a route; and with a link of 0 as well.
+    let mut unknown = ROUTED;
+    unknown[47] = 0;
+    let mut neither = unknown;
+    neither[11] = 0;
+    let faults = [
+        Record::decode_routed(&unknown).err(),
+        Record::decode_routed(&neither).err(),
+    ];
+    same(
+        &rt,
+        &faults,
+        &[Some(RecordFault::ZeroRoute), Some(RecordFault::NumberRange)],
+    );
+    Ok(())
+}
+
 #[test]
 fn a_statement_is_spelled_and_read(rt: HostRuntime) -> Result<(), Fail> {
     let statement = Statement::decode(&STATEMENT)?;

@@ -86,7 +86,7 @@ impl Stand {
         let (product, token) = (ProductId::new(product)?, Token::new(77)?);
         let tapped = self
             .device
-            .tap(&self.scheme, product, token, moment, Day::new(day)?);
+            .tap(&self.scheme, product, token, moment, Day::new(day)?, 0);
         Some(match tapped {
             Ok(record) => Answer::Numbered(record.link(), record.lane()),
             Err(refusal) => Answer::Refused(refusal),
@@ -144,6 +144,26 @@ fn small_device(alloc: Global, last: u64) -> Option<Stand> {
         old_device(alloc, &scheme, 19_723, last, &[last])?
     };
     Some(Stand { scheme, device })
+}
+
+// The routes of the record that a tap on a route is answered with, and of the one that is sent.
+fn routes(alloc: Global, route: u16) -> Option<(u16, u16)> {
+    let scheme = small_scheme(alloc)?;
+    let mut device = new_device(alloc, &scheme)?;
+    let (product, token) = (ProductId::new(1)?, Token::new(77)?);
+    let (moment, day) = (Moment::new(1_704_100_000)?, Day::new(19_723)?);
+    let numbered = device
+        .tap(&scheme, product, token, moment, day, route)
+        .ok()?;
+    let sent = device.next_frame()?.tapped()?;
+    Some((numbered.tap().route(), sent.tap().route()))
+}
+
+#[test]
+fn a_tap_keeps_its_route(rt: HostRuntime) {
+    for route in [0, 7, 65_535] {
+        same(&rt, &routes(rt.alloc(), route), &Some((route, route)));
+    }
 }
 
 // A tap of the first day.

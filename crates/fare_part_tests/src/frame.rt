@@ -3,7 +3,8 @@ ghost use Rattle.std.specs.Prelude.{◌<◌};
 use crate::checking::same;
 use crate::samples::{FIRST, record, statement};
 use crate::vectors::{
-    ACKED, DAY_ACKED, GREETED, STATED, TAPPED, acked, day_acked, greeted, stated, tapped,
+    ACKED, DAY_ACKED, GREETED, ROUTED, STATED, TAPPED, acked, day_acked, greeted, routed, stated,
+    tapped,
 };
 use fare_frame::{Frame, ReadFault, Reader};
 use fare_record::{Ack, AckItem, Day, DayAck, DeviceId, Hello, Item};
@@ -21,8 +22,9 @@ fn there_and_back(alloc: Global, frame: Frame) -> Option<(Vec<u8>, Vec<Frame>)> 
 
 #[test]
 fn each_frame_has_its_bytes(rt: HostRuntime) {
-    let cases: [(Option<Frame>, &[u8]); 5] = [
+    let cases: [(Option<Frame>, &[u8]); 6] = [
         (tapped(), &TAPPED),
+        (routed(), &ROUTED),
         (stated(), &STATED),
         (acked(), &ACKED),
         (day_acked(), &DAY_ACKED),
@@ -85,6 +87,70 @@ fn a_frame_comes_in_two_pieces(rt: HostRuntime) {
     }
 }
 
+// Whether bytes are refused whole, or read as another frame than the one on route 7, of which they are the spelling.
+fn is_another_or_refused(alloc: Global, bytes: &[u8]) -> Option<bool> {
+    match answer(alloc, &[bytes])? {
+        (Some(_fault), count, _) => Some(count == 0),
+        (None, 1, Some(frame)) => {
+            let (spelled, _frames) = there_and_back(alloc, frame)?;
+            Some(Some(frame) != routed() && spelled.as_slice() == bytes)
+        }
+        _ => Some(false),
+    }
+}
+
+#[test]
+fn a_frame_with_one_bit_turned_is_another_or_none(rt: HostRuntime) {
+    const BITS: [u8; 8] = [1, 2, 4, 8, 16, 32, 64, 128];
+    for place in 0..51usize {
+        for bit in &BITS {
+            let mut bytes = ROUTED;
+            bytes[place] ^= *bit;
+            let judged = is_another_or_refused(rt.alloc(), &bytes);
+            same(&rt, &(place, *bit, judged), &(place, *bit, Some(true)));
+        }
+    }
+}
+
+// A tap on route 0 spelled as if its route were known, and one with a known route spelled without it.
+#[test]
+fn a_tap_has_one_spelling(rt: HostRuntime) {
+    let mut unknown = ROUTED;
+    unknown[50] = 0;
+    stops(&rt, rt.alloc(), &unknown[..50], None);
+    stops(&rt, rt.alloc(), &unknown, Some(ReadFault::BadBody));
+    let frame = routed().expect(&rt, "frame");
+    let record = frame.tapped().expect(&rt, "record");
+    same(&rt, &record.tap().route(), &7);
+    let plain = tapped().expect(&rt, "frame").tapped().expect(&rt, "record");
+    same(&rt, &plain.tap().route(), &0);
+}
+
+// The bytes of taps of both kinds, and of an acknowledgement between them.
+fn mixed_stream(alloc: Global) -> Option<Vec<u8>> {
+    let mut stream = Vec::new(alloc);
+    let frames: [&[u8]; 6] = [&TAPPED, &ROUTED, &ROUTED, &ACKED, &TAPPED, &ROUTED];
+    for frame in frames {
+        stream.extend_from_slice(frame).ok()?;
+    }
+    Some(stream)
+}
+
+#[test]
+fn both_kinds_of_taps_come_in_pieces_of_every_size(rt: HostRuntime) {
+    let stream = mixed_stream(rt.alloc()).expect(&rt, "stream");
+    same(&rt, &stream.len(), &266);
+    let frames = [routed(), acked(), tapped(), routed()];
+    for size in 1..267usize {
+        let read = read_in(rt.alloc(), &stream, size).expect(&rt, "frames");
+        same(&rt, &(size, read.len()), &(size, 6));
+        for (place, frame) in frames.iter().enumerate() {
+            let read = read.get(place.saturating_add(2)).copied();
+            same(&rt, &(size, place, read), &(size, place, *frame));
+        }
+    }
+}
+
 #[test]
 fn a_stream_that_failed_is_read_no_further(rt: HostRuntime) {
     let bad: &[u8] = &[0x00, 0x30, 0x01];
@@ -129,8 +195,11 @@ fn stops(rt: &impl Abort, alloc: Global, bytes: &[u8], fault: Option<ReadFault>)
 
 #[test]
 fn a_place_is_judged_by_its_first_bytes(rt: HostRuntime) {
-    const CASES: [([u8; 3], ReadFault); 5] = [
+    const CASES: [([u8; 3], ReadFault); 8] = [
         ([0x00, 0x30, 0x09], ReadFault::BadLength),
+        ([0x00, 0x2f, 0x06], ReadFault::BadLength),
+        ([0x00, 0x31, 0x01], ReadFault::BadLength),
+        ([0x00, 0x31, 0x07], ReadFault::BadType),
         ([0x01, 0x2f, 0x01], ReadFault::BadLength),
         ([0x00, 0x2f, 0x02], ReadFault::BadLength),
         ([0x00, 0x0d, 0x09], ReadFault::BadType),
@@ -201,6 +270,7 @@ fn holds(frame: Frame) -> [bool; 4] {
 fn a_frame_tells_what_it_holds(rt: HostRuntime) {
     let cases = [
         (tapped(), [true, false, false, false]),
+        (routed(), [true, false, false, false]),
         (stated(), [false, true, false, false]),
         (acked(), [false, false, true, false]),
         (day_acked(), [false, false, false, true]),

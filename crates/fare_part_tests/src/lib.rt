@@ -34,5 +34,6 @@ mod vectors;
 
 pub use samples::{FIRST, Numbers, record, statement};
 pub use vectors::{
-    ACKED, DAY_ACKED, GREETED, STATED, TAPPED, acked, day_acked, greeted, stated, tapped,
+    ACKED, DAY_ACKED, GREETED, ROUTED, STATED, TAPPED, acked, day_acked, greeted, routed, stated,
+    tapped,
 };

@@ -16,6 +16,7 @@ pub struct Numbers {
     pub token: u64,
     pub moment: u64,
     pub day: u64,
+    pub route: u16,
 }
 
 /// Those of the first tap of device 1, on product 1 of owner 1.
@@ -28,18 +29,20 @@ pub const FIRST: Numbers = Numbers {
     token: 77,
     moment: 1_704_100_000,
     day: 19_723,
+    route: 0,
 };
 
 fn tap(of: Numbers) -> Option<Tap>
-    ensures { IfSome result (λ t. t ≡ record { product = of.product; token = of.token; moment = of.moment; day = of.day }) }
+    ensures { IfSome result (λ t. t ≡ record { product = of.product; token = of.token; moment = of.moment; day = of.day; route = of.route }) }
 {
     let (product, token) = (ProductId::new(of.product)?, Token::new(of.token)?);
-    Some(Tap::new(product, token, Moment::new(of.moment)?, Day::new(of.day)?))
+    let (moment, day) = (Moment::new(of.moment)?, Day::new(of.day)?);
+    Some(Tap::new(product, token, moment, day, of.route))
 }
 
 /// The record of these numbers.
 pub fn record(of: Numbers) -> Option<Record>
-    ensures { IfSome result (λ r. r ≡ record { device = of.device; link = of.link; owner = of.owner; lane = of.lane; tap = record { product = of.product; token = of.token; moment = of.moment; day = of.day } }) }
+    ensures { IfSome result (λ r. r ≡ record { device = of.device; link = of.link; owner = of.owner; lane = of.lane; tap = record { product = of.product; token = of.token; moment = of.moment; day = of.day; route = of.route } }) }
 {
     if of.link == 0 || of.link > LAST_NUMBER || of.lane == 0 || of.lane > LAST_NUMBER {
         return None;

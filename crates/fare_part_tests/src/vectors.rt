@@ -2,7 +2,7 @@
 ghost use Rattle.std.specs.Prelude.{◌≡◌, IfSome};
 ghost use Rattle.fare_frame.specs.Grammar.{frame_bytes};
 
-use crate::samples::{FIRST, record, statement};
+use crate::samples::{FIRST, Numbers, record, statement};
 use fare_frame::Frame;
 use fare_record::{Ack, Day, DayAck, DeviceId, Hello};
 
@@ -10,6 +10,12 @@ use fare_record::{Ack, Day, DayAck, DeviceId, Hello};
 pub const TAPPED: [u8; 49] = [
     0x00, 0x2f, 0x01, 0, 0, 0, 1, 0, 0, 0, 0, 0, 0, 0, 1, 0, 1, 0, 0, 0, 0, 0, 0, 0, 1, 0, 0, 0, 1,
     0, 0, 0, 0, 0, 0, 0, 0x4d, 0, 0, 0, 0, 0x65, 0x92, 0x80, 0xa0, 0, 0, 0x4d, 0x0b,
+];
+
+/// The bytes of the same tap on route 7.
+pub const ROUTED: [u8; 51] = [
+    0x00, 0x31, 0x06, 0, 0, 0, 1, 0, 0, 0, 0, 0, 0, 0, 1, 0, 1, 0, 0, 0, 0, 0, 0, 0, 1, 0, 0, 0, 1,
+    0, 0, 0, 0, 0, 0, 0, 0x4d, 0, 0, 0, 0, 0x65, 0x92, 0x80, 0xa0, 0, 0, 0x4d, 0x0b, 0x00, 0x07,
 ];
 
 /// The bytes of a statement of three taps.
@@ -31,6 +37,13 @@ pub fn tapped() -> Option<Frame>
     ensures { IfSome result (λ frame. frame_bytes frame ≡ TAPPED) }
 {
     Some(Frame::Tapped(record(FIRST)?))
+}
+
+/// The frame of that tap on route 7.
+pub fn routed() -> Option<Frame>
+    ensures { IfSome result (λ frame. frame_bytes frame ≡ ROUTED) }
+{
+    Some(Frame::Tapped(record(Numbers { route: 7, ..FIRST })?))
 }
 
 /// The frame of a statement of three taps.

@@ -177,8 +177,8 @@ fn shares(settlement: &Settlement) -> Option<[(u16, u64, u128); 2]> {
         return None;
     };
     Some([
-        (first.operator.get(), first.taps, first.amount),
-        (second.operator.get(), second.taps, second.amount),
+        (first.operator().get(), first.taps(), first.amount()),
+        (second.operator().get(), second.taps(), second.amount()),
     ])
 }
 
