@@ -165,6 +165,7 @@ old_design = record {
   puts_meant = old_puts;
   sets = inr (inr (inl refl));
   sets_meant = old_sets;
+  counted = tt;
 }
 
 pub new_design : IsDesign new_parts
@@ -188,7 +189,8 @@ new_design = record {
   puts_meant = new_puts;
   sets = inr (inr (inl refl));
   sets_meant = new_sets;
+  counted = tt;
 }
 
 pub new_older : AllByRecursion (IsOlder new_parts) new_parts.older
-new_older = (record { design = old_design; tables_are = refl }, tt)
+new_older = (record { design = old_design; tables_are = refl; moves = tt }, tt)

@@ -43,10 +43,10 @@ abbrev pub shelf_texts : List (TableNumber × List ℕ)
 shelf_texts = (Meta, read_meta) ∷ (Meta, put_meta) ∷ (Meta, set_meta) ∷ []
 
 abbrev pub old_parts : Parts
-old_parts = record { own = old_schema; tables = old_tables; texts = shelf_texts; format = 1; older = [] }
+old_parts = record { own = old_schema; tables = old_tables; texts = shelf_texts; format = 1; older = []; unused = None }
 
 abbrev pub first_format : OlderParts
-first_format = record { own = old_schema; tables = old_tables; texts = shelf_texts; format = 1; missing = missing_tables }
+first_format = record { own = old_schema; tables = old_tables; texts = shelf_texts; format = 1; missing = missing_tables; moving = None }
 
 abbrev pub new_parts : Parts
-new_parts = record { own = new_schema; tables = new_tables; texts = shelf_texts; format = 2; older = first_format ∷ [] }
+new_parts = record { own = new_schema; tables = new_tables; texts = shelf_texts; format = 2; older = first_format ∷ []; unused = None }

@@ -336,7 +336,7 @@ fn lists(retired: bool) -> ([Told; 3], usize, (u32, u64)) {
     (all, 6, (3, 3))
 }
 
-// The format that a database says, and how many tables it has of the name that the first format lacks.
+// The format that a database says, and how many tables it has of the names that the first format lacks.
 fn format_of<S: Alter>(conn: &mut Connection<S>) -> Option<(i64, i64)> {
     if !conn.is_autocommit() {
         return None;
@@ -348,7 +348,7 @@ fn format_of<S: Alter>(conn: &mut Connection<S>) -> Option<(i64, i64)> {
         .ok()?;
     let tables = conn
         .query_row(
-            "SELECT count(*) FROM sqlite_schema WHERE name = 'retired'",
+            "SELECT count(*) FROM sqlite_schema WHERE name = 'retired' OR name = 'tap2'",
             &[],
         )
         .ok()?
@@ -380,7 +380,7 @@ fn retired<S: Alter + Reopen + Drop>(alloc: Global, ledger: SqlLedger<S>) -> Opt
         return Some(Ended::Opened);
     }
     let mut conn = reopened(alloc, ledger.into_connection())?;
-    if format_of(&mut conn)? != (2, 1) {
+    if format_of(&mut conn)? != (3, 2) {
         return None;
     }
     let mut ledger = ledger_in(alloc, conn).ok()?;
@@ -390,7 +390,7 @@ fn retired<S: Alter + Reopen + Drop>(alloc: Global, ledger: SqlLedger<S>) -> Opt
 // How it went on behind a failure, if what is left is a ledger of one of the two formats with the same lists.
 fn stopped<S: Alter + Reopen + Drop>(alloc: Global, conn: Connection<S>) -> Option<Ended> {
     let mut conn = reopened(alloc, conn)?;
-    if !matches!(format_of(&mut conn)?, (1, 0) | (2, 1)) {
+    if !matches!(format_of(&mut conn)?, (1, 0) | (3, 2)) {
         return None;
     }
     let mut ledger = ledger_in(alloc, conn).ok()?;

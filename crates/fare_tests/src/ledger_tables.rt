@@ -164,11 +164,39 @@ fn a_ledger_takes_its_own_tables(rt: HostRuntime) {
             Answer::Taken(Err(Because(TapFault::AfterClose))),
         ),
     ];
-    let rows = "INSERT INTO meta VALUES (1, 1); INSERT INTO lane VALUES (1, 2, 1);
-INSERT INTO tap VALUES (1, 1, 1, 1, 77, 1704100000, 19723), (1, 2, 2, 1, 77, 1704186400, 19724);
-INSERT INTO stated VALUES (1, 19723, 1)";
-    let mut ledger = ledger(rt.alloc(), &[TABLES, rows]).expect(&rt, "ledger");
-    same(&rt, &says(&mut ledger, &CALLS), &true);
+    const CASES: [&[&str]; 3] = [
+        &[META, OTHERS, ROWS],
+        &[META, OTHERS, RETIRED, SECOND, ROWS],
+        &[META, OTHERS, RETIRED, ROUTED, NEWEST, ROUTED_ROWS],
+    ];
+    for &sql in &CASES {
+        let mut ledger = ledger(rt.alloc(), sql).expect(&rt, "ledger");
+        same(&rt, &says(&mut ledger, &CALLS), &true);
+    }
+}
+
+// The routes of the first and the last tap of a ledger.
+fn routes(alloc: Global, sql: &[&str]) -> Option<(u16, u16)> {
+    let mut ledger = ledger(alloc, sql)?;
+    let taps = ledger
+        .taps_between(Day::new(19_723)?, Day::new(19_724)?)
+        .ok()?;
+    Some((taps.first()?.tap().route(), taps.last()?.tap().route()))
+}
+
+#[test]
+fn a_ledger_in_tables_keeps_routes(rt: HostRuntime) {
+    const CASES: [(&[&str], (u16, u16)); 3] = [
+        (&[META, OTHERS, ROWS], (0, 0)),
+        (&[META, OTHERS, RETIRED, SECOND, ROWS], (0, 0)),
+        (
+            &[META, OTHERS, RETIRED, ROUTED, NEWEST, ROUTED_ROWS],
+            (7, 0),
+        ),
+    ];
+    for &(sql, want) in &CASES {
+        same(&rt, &routes(rt.alloc(), sql), &Some(want));
+    }
 }
 
 // The same tables, each made by one text.
@@ -184,8 +212,27 @@ CREATE TABLE tap (device INTEGER NOT NULL, lane INTEGER NOT NULL, link INTEGER N
 CREATE TABLE lane (device INTEGER PRIMARY KEY, taken INTEGER NOT NULL CHECK (taken >= 0),
   closed INTEGER NOT NULL CHECK (closed >= 0)) STRICT;";
 
-// The table that the newest format has besides.
+// The table that the second format has besides, and its number.
 const RETIRED: &str = "CREATE TABLE retired (device INTEGER PRIMARY KEY) STRICT;";
+
+const SECOND: &str = "UPDATE meta SET format = 2";
+
+// The one that the newest has besides, and its number.
+const ROUTED: &str = "CREATE TABLE tap2 (device INTEGER NOT NULL, lane INTEGER NOT NULL,
+  link INTEGER NOT NULL, product INTEGER NOT NULL, token INTEGER NOT NULL,
+  moment INTEGER NOT NULL, day INTEGER NOT NULL, route INTEGER NOT NULL,
+  PRIMARY KEY (device, lane)) STRICT;";
+
+const NEWEST: &str = "UPDATE meta SET format = 3";
+
+// Two taps of the older formats, of device 1, whose first day is closed.
+const ROWS: &str = "INSERT INTO lane VALUES (1, 2, 1); INSERT INTO stated VALUES (1, 19723, 1);
+INSERT INTO tap VALUES (1, 1, 1, 1, 77, 1704100000, 19723), (1, 2, 2, 1, 77, 1704186400, 19724)";
+
+// The same in the newest, the first on route 7.
+const ROUTED_ROWS: &str =
+    "INSERT INTO lane VALUES (1, 2, 1); INSERT INTO stated VALUES (1, 19723, 1);
+INSERT INTO tap2 VALUES (1, 1, 1, 1, 77, 1704100000, 19723, 7), (1, 2, 2, 1, 77, 1704186400, 19724, 0)";
 
 // Other tables, with an index, a view, a count of rows and a reference among themselves.
 const RIDERS: &str =
@@ -209,11 +256,13 @@ fn a_ledger_opens_wherever_its_tables_stand(rt: HostRuntime) {
         (Call::ClosedThrough, Answer::Maybe(Ok(Some(19_723)))),
         (Call::Count, Answer::Number(Ok(3))),
     ];
-    const NEWEST: &str = "UPDATE meta SET format = 2";
-    const CASES: [&[&str]; 9] = [
-        &[OTHERS, META, RETIRED, NEWEST],
-        &[RETIRED, META, OTHERS, NEWEST],
-        &[META, RETIRED, RIDERS, OTHERS, NEWEST],
+    const CASES: [&[&str]; 12] = [
+        &[OTHERS, META, RETIRED, ROUTED, NEWEST],
+        &[ROUTED, RETIRED, META, OTHERS, NEWEST],
+        &[META, ROUTED, RIDERS, RETIRED, OTHERS, NEWEST],
+        &[OTHERS, META, RETIRED, SECOND],
+        &[RETIRED, META, OTHERS, SECOND],
+        &[META, RETIRED, RIDERS, OTHERS, SECOND],
         &[OTHERS, META],
         &[META, OTHERS],
         &[RIDERS],
@@ -256,8 +305,16 @@ FOREIGN KEY (d, l) REFERENCES tap (device, lane) ON DELETE CASCADE)";
     const BY_ROWID: &str = "CREATE UNIQUE INDEX again ON lane (device)";
     const VIEW: &str = "CREATE VIEW retired AS SELECT 1";
     const INDEX: &str = "CREATE INDEX retired ON tap (day)";
-    const CASES: [(&[&str], &str, i64); 15] = [
+    const TAP: &str = "INSERT INTO tap VALUES (1, 1, 1, 1, 77, 1704100000, 19723)";
+    const VIEW_2: &str = "CREATE VIEW tap2 AS SELECT 1";
+    const CASES: [(&[&str], &str, i64); 21] = [
         (&[META, OTHERS, RETIRED], METAS, 11),
+        (&[META, OTHERS, ROUTED], METAS, 11),
+        (&[META, OTHERS, VIEW_2], METAS, 11),
+        (&[META, OTHERS, RETIRED, ROUTED, SECOND], METAS, 21),
+        (&[META, OTHERS, RETIRED, NEWEST], METAS, 31),
+        (&[META, OTHERS, RETIRED, ROUTED, NEWEST, TAP], METAS, 31),
+        (&[META, OTHERS, RETIRED, SECOND, CHILD], METAS, 21),
         (&[META, OTHERS, VIEW], METAS, 11),
         (&[META, OTHERS, INDEX], METAS, 11),
         (&[TABLES, "INSERT INTO meta VALUES (2, 1)"], METAS, 21),
@@ -322,17 +379,25 @@ fn left(alloc: Global, sql: &[&str], question: &str) -> Option<i64> {
     conn.query_row(question, &[]).ok()?.get(0).ok()
 }
 
-// A ledger of the first format gets the table and the number of the newest; what stands beside it stays.
+// A ledger of an older format gets the tables and the number of the newest, and its taps stand in the one of taps with
+// routes, by the numbers that they had; what stands beside it stays.
 #[test]
-fn a_ledger_of_the_first_format_is_raised(rt: HostRuntime) {
+fn a_ledger_of_an_older_format_is_raised(rt: HostRuntime) {
     const FORMAT: &str = "SELECT format * 10 + owner FROM meta";
     const LANES: &str = "SELECT count(*) FROM retired";
     const BESIDE: &str = "SELECT count(*) FROM names";
-    const CASES: [(&[&str], &str, i64); 6] = [
-        (&[], FORMAT, 21),
-        (&[META, OTHERS], FORMAT, 21),
+    const LEFT: &str = "SELECT count(*) FROM tap";
+    const TAPS: &str = "SELECT count(*) + 10 * sum(rowid) + 100 * sum(route) FROM tap2";
+    const CASES: [(&[&str], &str, i64); 11] = [
+        (&[], FORMAT, 31),
+        (&[META, OTHERS], FORMAT, 31),
         (&[META, OTHERS], LANES, 0),
-        (&[OTHERS, RIDERS, META], FORMAT, 21),
+        (&[META, OTHERS, ROWS], LEFT, 0),
+        (&[META, OTHERS, ROWS], TAPS, 32),
+        (&[META, OTHERS, RETIRED, SECOND], FORMAT, 31),
+        (&[META, OTHERS, RETIRED, SECOND, ROWS], LEFT, 0),
+        (&[META, OTHERS, RETIRED, SECOND, ROWS], TAPS, 32),
+        (&[OTHERS, RIDERS, META], FORMAT, 31),
         (&[OTHERS, RIDERS, META], BESIDE, 2),
         (&[RIDERS], BESIDE, 2),
     ];

@@ -27,6 +27,8 @@ mod ledger_tables;
 #[cfg(test)]
 mod net;
 #[cfg(test)]
+mod older_formats;
+#[cfg(test)]
 mod outbox_tables;
 #[cfg(test)]
 mod raising;
@@ -55,5 +57,7 @@ mod traces;
 mod traces_of_days;
 #[cfg(test)]
 mod traces_of_retired;
+#[cfg(test)]
+mod traces_of_routes;
 #[cfg(test)]
 mod worked;

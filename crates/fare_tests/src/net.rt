@@ -5,7 +5,9 @@ use fare_net::{
     AnswerFault, Heard, HelloFault, ListenFault, NetFault, NetSource, Turn, listen, station_answer,
     station_turn,
 };
-use fare_part_tests::{ACKED, FIRST, GREETED, Numbers, TAPPED, acked, greeted, record, tapped};
+use fare_part_tests::{
+    ACKED, FIRST, GREETED, Numbers, ROUTED, TAPPED, acked, greeted, record, routed, tapped,
+};
 use fare_scheme::{DemoSize, Scheme};
 use fare_source::{Source, SourceFault};
 use std::alloc::Global;
@@ -173,9 +175,14 @@ fn a_line_greets_first(rt: HostRuntime) {
     let bytes = two();
     let (mut version, mut device) = (bytes, bytes);
     version[8] = 9;
+    let (mut none, mut third) = (bytes, bytes);
+    none[8] = 0;
+    third[8] = 3;
     device[6] = 9;
-    let cases: [(&[u8], u64, HelloFault); 8] = [
+    let cases: [(&[u8], u64, HelloFault); 10] = [
         (&version, 10, HelloFault::BadVersion),
+        (&none, 10, HelloFault::BadVersion),
+        (&third, 10, HelloFault::BadVersion),
         (&device, 10, HelloFault::UnknownDevice),
         (&TAPPED, 10, HelloFault::NoHello),
         (&ACKED, 10, HelloFault::NoHello),
@@ -194,6 +201,29 @@ fn a_line_greets_first(rt: HostRuntime) {
             &rt,
             &hello_of(rt.alloc(), bytes, turns),
             &Some((Err(fault), Err(SourceFault::Failed))),
+        );
+    }
+}
+
+// A greeting of a version, and a tap of each kind.
+fn both_kinds(alloc: Global, version: u8) -> Option<Vec<u8>> {
+    let mut greeted = GREETED;
+    greeted[8] = version;
+    let mut bytes = Vec::new(alloc);
+    for frame in [&greeted as &[u8], &TAPPED, &ROUTED] {
+        bytes.extend_from_slice(frame).ok()?;
+    }
+    Some(bytes)
+}
+
+#[test]
+fn a_line_of_either_version_says_both_kinds_of_taps(rt: HostRuntime) {
+    for version in [1, 2] {
+        let bytes = both_kinds(rt.alloc(), version).expect(&rt, "bytes");
+        same(
+            &rt,
+            &(version, heard(rt.alloc(), bytes.as_slice(), 10)),
+            &(version, Some(Ok((1, 2, routed(), true)))),
         );
     }
 }

@@ -1,8 +1,9 @@
 use crate::checking::same;
 use crate::stores::{Asked, Said, ask, says};
 use fare_outbox::SqlOutbox;
+use fare_record::{DeviceId, OwnerId};
 use fare_store::Refused::Because;
-use fare_store::{Fault, StatedFault, StoreFault};
+use fare_store::{Fault, Outbox, StatedFault, StoreFault};
 use fare_tables::OpenFault;
 use sqlite::{Connection, MemStore};
 use std::alloc::Global;
@@ -100,10 +101,30 @@ fn an_outbox_takes_its_own_tables(rt: HostRuntime) {
         (Asked::Store(3, 3), Said::Stored(Ok(()))),
         (Asked::Prune(3), Said::Number(Ok(2))),
     ];
-    let rows = "INSERT INTO meta VALUES (1, 0); INSERT INTO device VALUES (1, 2);
-INSERT INTO tap VALUES (1, 1, 2, 2, 1, 77, 1704100000, 19723)";
-    let mut outbox = outbox(rt.alloc(), &[TABLES, rows]).expect(&rt, "outbox");
-    says(&rt, &mut outbox, &CALLS);
+    const CASES: [&[&str]; 2] = [
+        &[META, OTHERS, ROWS],
+        &[META, OTHERS, ROUTED, NEWEST, ROUTED_ROWS],
+    ];
+    for &sql in &CASES {
+        let mut outbox = outbox(rt.alloc(), sql).expect(&rt, "outbox");
+        says(&rt, &mut outbox, &CALLS);
+    }
+}
+
+// The route of the first row that an outbox has.
+fn route(alloc: Global, sql: &[&str]) -> Option<u16> {
+    let mut outbox = outbox(alloc, sql)?;
+    let row = outbox
+        .next_row(OwnerId::new(1)?, DeviceId::new(1)?, 0)
+        .ok()??;
+    Some(row.tap().route())
+}
+
+#[test]
+fn an_outbox_in_tables_keeps_routes(rt: HostRuntime) {
+    same(&rt, &route(rt.alloc(), &[META, OTHERS, ROWS]), &Some(0));
+    let routed = [META, OTHERS, ROUTED, NEWEST, ROUTED_ROWS];
+    same(&rt, &route(rt.alloc(), &routed), &Some(7));
 }
 
 // Its taps and statements are counted when it opens, whatever else its tables say.
@@ -146,6 +167,21 @@ CREATE TABLE tap (owner INTEGER NOT NULL, device INTEGER NOT NULL, lane INTEGER 
   PRIMARY KEY (owner, device, lane), UNIQUE (device, link)) STRICT;
 CREATE TABLE device (id INTEGER PRIMARY KEY, upto INTEGER NOT NULL CHECK (upto >= 0)) STRICT;";
 
+// The table that the newest format has besides, and its number.
+const ROUTED: &str = "CREATE TABLE tap2 (owner INTEGER NOT NULL, device INTEGER NOT NULL,
+  lane INTEGER NOT NULL, link INTEGER NOT NULL, product INTEGER NOT NULL, token INTEGER NOT NULL,
+  moment INTEGER NOT NULL, day INTEGER NOT NULL, route INTEGER NOT NULL,
+  PRIMARY KEY (owner, device, lane), UNIQUE (device, link)) STRICT;";
+
+const NEWEST: &str = "UPDATE meta SET format = 2";
+
+// A tap of the first format, and the same on route 7 in the newest.
+const ROWS: &str = "INSERT INTO device VALUES (1, 2);
+INSERT INTO tap VALUES (1, 1, 2, 2, 1, 77, 1704100000, 19723)";
+
+const ROUTED_ROWS: &str = "INSERT INTO device VALUES (1, 2);
+INSERT INTO tap2 VALUES (1, 1, 2, 2, 1, 77, 1704100000, 19723, 7)";
+
 // Other tables, with an index, a view, a count of rows and a reference among themselves.
 const RIDERS: &str =
     "CREATE TABLE rider (id INTEGER PRIMARY KEY AUTOINCREMENT, name TEXT NOT NULL UNIQUE);
@@ -166,7 +202,10 @@ fn an_outbox_opens_wherever_its_tables_stand(rt: HostRuntime) {
         (Asked::State(3), Said::Stated(Ok(()))),
         (Asked::NextStatement(0), Said::Found(Ok(Some(3)))),
     ];
-    const CASES: [&[&str]; 6] = [
+    const CASES: [&[&str]; 9] = [
+        &[OTHERS, META, ROUTED, NEWEST],
+        &[ROUTED, META, OTHERS, NEWEST],
+        &[META, RIDERS, ROUTED, OTHERS, NEWEST],
         &[OTHERS, META],
         &[META, OTHERS],
         &[RIDERS],
@@ -209,7 +248,15 @@ fn another_database_is_foreign_and_stays(rt: HostRuntime) {
     const CHILD: &str = "CREATE TABLE child (o INTEGER, d INTEGER, l INTEGER,
 FOREIGN KEY (o, d, l) REFERENCES tap (owner, device, lane) ON DELETE CASCADE)";
     const BY_ROWID: &str = "CREATE UNIQUE INDEX again ON device (id)";
-    const CASES: [(&[&str], &str, i64); 11] = [
+    const VIEW: &str = "CREATE VIEW tap2 AS SELECT 1";
+    const INDEX: &str = "CREATE INDEX tap2 ON tap (day)";
+    const CASES: [(&[&str], &str, i64); 17] = [
+        (&[META, OTHERS, ROUTED], METAS, 11),
+        (&[META, OTHERS, VIEW], METAS, 11),
+        (&[META, OTHERS, INDEX], METAS, 11),
+        (&[META, OTHERS, NEWEST], METAS, 21),
+        (&[META, OTHERS, ROUTED, NEWEST, ROWS], METAS, 21),
+        (&[META, OTHERS, ROUTED, NEWEST, CHILD], METAS, 21),
         (&[TABLES, "INSERT INTO meta VALUES (9, 0)"], METAS, 91),
         (&[TABLES, "INSERT INTO meta VALUES (1, 3)"], METAS, 11),
         (
@@ -236,5 +283,32 @@ FOREIGN KEY (o, d, l) REFERENCES tap (owner, device, lane) ON DELETE CASCADE)";
             &refusal(rt.alloc(), sql, question),
             &Some((OpenFault::Foreign, rows)),
         );
+    }
+}
+
+// What the database of an outbox answers to a question once the outbox was open.
+fn left(alloc: Global, sql: &[&str], question: &str) -> Option<i64> {
+    let mut conn = outbox(alloc, sql)?.into_connection();
+    conn.query_row(question, &[]).ok()?.get(0).ok()
+}
+
+// An outbox of the first format gets the table and the number of the newest, and its taps stand in that table, by the
+// numbers that they had; what stands beside it stays.
+#[test]
+fn an_outbox_of_the_first_format_is_raised(rt: HostRuntime) {
+    const FORMAT: &str = "SELECT format * 10 + owner FROM meta";
+    const LEFT: &str = "SELECT count(*) FROM tap";
+    const TAPS: &str = "SELECT count(*) + 10 * sum(rowid) + 100 * sum(route) FROM tap2";
+    const BESIDE: &str = "SELECT count(*) FROM names";
+    const CASES: [(&[&str], &str, i64); 6] = [
+        (&[], FORMAT, 20),
+        (&[META, OTHERS], FORMAT, 20),
+        (&[META, OTHERS, ROWS], LEFT, 0),
+        (&[META, OTHERS, ROWS], TAPS, 11),
+        (&[OTHERS, RIDERS, META, ROWS], FORMAT, 20),
+        (&[OTHERS, RIDERS, META, ROWS], BESIDE, 2),
+    ];
+    for &(sql, question, answer) in &CASES {
+        same(&rt, &left(rt.alloc(), sql, question), &Some(answer));
     }
 }

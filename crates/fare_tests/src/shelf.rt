@@ -24,6 +24,7 @@ static OLDER: [Older; 1] = [Older {
     tables: &OLD_TABLES,
     missing: &MISSING,
     texts: &TEXTS,
+    moving: None,
 }];
 
 /// A store of books, of format 1.
@@ -46,6 +47,10 @@ impl Design for OldShelf {
 
     fn older() -> &'static [Older] {
         &[]
+    }
+
+    fn unused() -> Option<(TableNumber, &'static str)> {
+        None
     }
 
     fn sound() {}
@@ -71,6 +76,10 @@ impl Design for Shelf {
 
     fn older() -> &'static [Older] {
         &OLDER
+    }
+
+    fn unused() -> Option<(TableNumber, &'static str)> {
+        None
     }
 
     fn sound() {}

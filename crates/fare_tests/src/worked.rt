@@ -3,6 +3,7 @@
 use crate::traces::*;
 use crate::traces_of_days::*;
 use crate::traces_of_retired::*;
+use crate::traces_of_routes::*;
 
 /// A trace and the replies to its lines.
 type Worked = (&'static [u8], &'static [u8]);
@@ -23,12 +24,13 @@ pub(crate) const TRACES_OF_TAPS: [Worked; 11] = [
 ];
 
 /// Days with their statements, closes, bills and settlements.
-pub(crate) const TRACES_OF_DAYS: [Worked; 10] = [
+pub(crate) const TRACES_OF_DAYS: [Worked; 11] = [
     (SHORT_COUNT_THEN_CLOSE, SHORT_COUNT_THEN_CLOSE_ANSWERED),
     (DAYS_IN_ORDER, DAYS_IN_ORDER_ANSWERED),
     (EIGHT_WAITING_DAYS, EIGHT_WAITING_DAYS_ANSWERED),
     (TWO_DEVICES_CLOSE, TWO_DEVICES_CLOSE_ANSWERED),
     (A_DAY_WITH_BILL, A_DAY_WITH_BILL_ANSWERED),
+    (A_DAY_WITH_ROUTE, A_DAY_WITH_ROUTE_ANSWERED),
     (A_STATEMENT_GOES_ONCE, A_STATEMENT_GOES_ONCE_ANSWERED),
     (
         A_STATEMENT_OUTLIVES_A_RESTART,
