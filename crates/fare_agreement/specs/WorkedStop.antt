@@ -9,11 +9,11 @@ use Rattle.fare_history.specs.Stores.{StoresValue}
 
 -- the first of two taps of owner 4 on device 7, on day 20
 abbrev pub first_tap : RecordValue
-first_tap = record { device = 7; link = 1; owner = 4; lane = 1; tap = record { product = 3; token = 11; moment = 1728000; day = 20 } }
+first_tap = record { device = 7; link = 1; owner = 4; lane = 1; tap = record { product = 3; token = 11; moment = 1728000; day = 20; route = 0 } }
 
 -- the second of them
 abbrev pub second_tap : RecordValue
-second_tap = record { device = 7; link = 2; owner = 4; lane = 2; tap = record { product = 3; token = 12; moment = 1728060; day = 20 } }
+second_tap = record { device = 7; link = 2; owner = 4; lane = 2; tap = record { product = 3; token = 12; moment = 1728060; day = 20; route = 0 } }
 
 -- the lists: the device numbered both, and no other device numbered any
 abbrev pub two_taps : ℕ → List RecordValue

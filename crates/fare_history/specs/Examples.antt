@@ -25,7 +25,7 @@ two_devices clock = demo_scheme TwoDevices 4 1 1 clock
 
 -- the tap that is this one of its device's taps, and of its owner's taps there, on the scheme's first day
 abbrev pub tap_number : ℕ → ℕ → RecordValue
-tap_number device n = record { device = device; link = n; owner = 1; lane = n; tap = record { product = 1; token = 77; moment = 1704100000; day = 19723 } }
+tap_number device n = record { device = device; link = n; owner = 1; lane = n; tap = record { product = 1; token = 77; moment = 1704100000; day = 19723; route = 0 } }
 
 -- the device's statement of that day
 abbrev pub day_statement : ℕ → ℕ → StatementValue

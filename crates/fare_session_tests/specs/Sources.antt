@@ -6,7 +6,7 @@ use Rattle.fare_session_tests.specs.declared.scripts.Script.{Script}
 
 -- the frame of a tap of a device with this link, and with the lane number that is like it
 abbrev pub tap_frame : ℕ → ℕ → Frame
-tap_frame device link = Tapped (record { device = device; link = link; owner = 1; lane = link; tap = record { product = 1; token = 77; moment = 1704100000; day = 19723 } })
+tap_frame device link = Tapped (record { device = device; link = link; owner = 1; lane = link; tap = record { product = 1; token = 77; moment = 1704100000; day = 19723; route = 0 } })
 
 -- a source of a device's taps with these links, the next one last, of which nothing was asked yet
 pub record IsSourceOf (device : ℕ) (links : List ℕ) (source : Script) : Type 0 where
