@@ -23,7 +23,9 @@ def greeted(device, version=1):
 
 
 def tapped(device, link):
-    return framed(1, struct.pack(">IQHQIQQI", device, link, 1, link, 1, 77, MOMENT, DAY))
+    """Its tap of this link: of four, one without a route and three on routes 1 to 3."""
+    body, route = struct.pack(">IQHQIQQI", device, link, 1, link, 1, 77, MOMENT, DAY), link % 4
+    return framed(6, body + struct.pack(">H", route)) if route else framed(1, body)
 
 
 def acked(device, link):
@@ -148,7 +150,7 @@ def looked_at(path):
     with contextlib.closing(sqlite3.connect(path)) as store:
         wants(f"integrity of {path}", store.execute("PRAGMA integrity_check").fetchall(), [("ok",)])
         names = [name for name, in store.execute("SELECT name FROM sqlite_schema WHERE type = 'table'")]
-        rows = store.execute("SELECT device, link FROM tap ORDER BY device, lane").fetchall() if "tap" in names else []
+        rows = store.execute("SELECT device, link FROM tap2 ORDER BY device, lane").fetchall() if "tap2" in names else []
         upto = dict(store.execute("SELECT id, upto FROM device").fetchall()) if "device" in names else {}
     links = {}
     for device, link in rows:

@@ -69,6 +69,8 @@ CREATE TABLE IF NOT EXISTS fare.tap (
     hub text NOT NULL,
     PRIMARY KEY (owner, device, lane)
 );
+-- The route on which it was made, or 0 where it is not known.
+ALTER TABLE fare.tap ADD COLUMN IF NOT EXISTS route integer NOT NULL DEFAULT 0;
 CREATE TABLE IF NOT EXISTS fare.statement (
     owner integer NOT NULL,
     device bigint NOT NULL,
@@ -220,10 +222,10 @@ BEGIN
     ) lines ORDER BY part, product, token;
 END $$;
 
--- What each operator gets of a day: how many taps its devices had, and the sum of their charges. A tap is charged what
--- the account pays with it less what it pays without it.
-CREATE OR REPLACE FUNCTION fare.settlement_rows(of_owner integer, of_day integer)
-RETURNS TABLE (operator integer, taps bigint, amount bigint)
+-- What each operator gets of a day for each route that its devices' taps have: how many they are, and the sum of their
+-- charges. A tap is charged what the account pays with it less what it pays without it.
+CREATE OR REPLACE FUNCTION fare.route_rows(of_owner integer, of_day integer)
+RETURNS TABLE (operator integer, route integer, taps bigint, amount bigint)
 LANGUAGE plpgsql STABLE AS $$
 BEGIN
     PERFORM fare.judge(of_owner, of_day);
@@ -235,40 +237,53 @@ BEGIN
     ), accounts AS (
         SELECT t.product, t.token,
             array_agg(t.device ORDER BY t.moment, t.device, t.lane) AS devices,
+            array_agg(t.route ORDER BY t.moment, t.device, t.lane) AS routes,
             fare.paid_flags(array_agg(t.moment ORDER BY t.moment, t.device, t.lane), p.hop) AS flags
         FROM fare.tap t JOIN fare.product p USING (product) JOIN fare.device d USING (device)
         WHERE t.owner = of_owner AND t.day = of_day GROUP BY t.product, t.token, p.hop
     ), taps AS (
-        SELECT a.product, a.token, u.device, u.paid::integer AS paid,
+        SELECT a.product, a.token, u.device, u.route, u.paid::integer AS paid,
             sum(u.paid::integer) OVER (PARTITION BY a.product, a.token ORDER BY u.at) AS upto
-        FROM accounts a, unnest(a.devices, a.flags) WITH ORDINALITY AS u (device, paid, at)
+        FROM accounts a, unnest(a.devices, a.routes, a.flags) WITH ORDINALITY AS u (device, route, paid, at)
     ), charges AS (
-        SELECT t.device,
+        SELECT t.device, t.route,
             least(p.weekly, coalesce(b.fares, 0) + least(p.daily, p.fare * t.upto))
             - least(p.weekly, coalesce(b.fares, 0) + least(p.daily, p.fare * (t.upto - t.paid))) AS charge
         FROM taps t JOIN fare.product p USING (product) LEFT JOIN before b USING (product, token)
-    ), shares AS (
-        SELECT s.operator, count(*) AS many, sum(c.charge) AS charged
-        FROM charges c JOIN fare.device d USING (device) JOIN fare.station s ON s.hub = d.hub AND s.station = d.station
-        GROUP BY s.operator
     )
-    SELECT o.operator, coalesce(h.many, 0)::bigint, coalesce(h.charged, 0)::bigint
-    FROM fare.operator o LEFT JOIN shares h USING (operator) ORDER BY o.place;
+    SELECT s.operator, c.route, count(*)::bigint, sum(c.charge)::bigint
+    FROM charges c JOIN fare.device d USING (device) JOIN fare.station s ON s.hub = d.hub AND s.station = d.station
+    GROUP BY s.operator, c.route ORDER BY s.operator, c.route;
 END $$;
+
+-- The same of each operator, with or without taps.
+CREATE OR REPLACE FUNCTION fare.settlement_rows(of_owner integer, of_day integer)
+RETURNS TABLE (operator integer, taps bigint, amount bigint)
+LANGUAGE sql STABLE AS $$
+    SELECT o.operator, coalesce(sum(r.taps), 0)::bigint, coalesce(sum(r.amount), 0)::bigint
+    FROM fare.operator o LEFT JOIN fare.route_rows(of_owner, of_day) r USING (operator)
+    GROUP BY o.operator, o.place ORDER BY o.place
+$$;
 
 -- A settlement in the lines of `fare_hub settle`.
 CREATE OR REPLACE FUNCTION fare.settlement(of_owner integer, of_day integer) RETURNS SETOF text
 LANGUAGE plpgsql STABLE AS $$
 BEGIN
     RETURN QUERY
-    WITH shares AS MATERIALIZED (
-        SELECT s.*, o.place FROM fare.settlement_rows(of_owner, of_day) s JOIN fare.operator o USING (operator)
+    WITH routes AS MATERIALIZED (
+        SELECT * FROM fare.route_rows(of_owner, of_day)
+    ), shares AS (
+        SELECT o.operator, o.place, coalesce(sum(r.taps), 0) AS taps, coalesce(sum(r.amount), 0) AS amount
+        FROM fare.operator o LEFT JOIN routes r USING (operator) GROUP BY o.operator, o.place
     )
     SELECT line FROM (
-        SELECT 0 AS part, 0 AS place, format('settlement %s %s %s', of_owner, of_day, count(*)) AS line FROM shares
+        SELECT 0 AS part, 0 AS place, 0 AS route, format('settlement %s %s %s', of_owner, of_day, count(*)) AS line FROM shares
         UNION ALL
-        SELECT 1, s.place, format('operator %s %s %s', s.operator, s.taps, s.amount) FROM shares s
+        SELECT 1, s.place, 0, format('operator %s %s %s', s.operator, s.taps, s.amount) FROM shares s
         UNION ALL
-        SELECT 2, s.place, format('short %s', s.device) FROM fare.short(of_owner, of_day) s
-    ) lines ORDER BY part, place;
+        SELECT 1, o.place, r.route, format('route %s %s %s', r.route, r.taps, r.amount)
+        FROM routes r JOIN fare.operator o USING (operator) WHERE r.route > 0
+        UNION ALL
+        SELECT 2, s.place, 0, format('short %s', s.device) FROM fare.short(of_owner, of_day) s
+    ) lines ORDER BY part, place, route;
 END $$;
