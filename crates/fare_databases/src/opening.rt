@@ -72,7 +72,7 @@ fn ledgers_in<S: Alter + Drop>(
 }
 
 /// Opens the stores of a scheme in these databases: one for its outbox, and one for the ledger of each owner, in the
-/// scheme's order. Tables that aren't there are made, and a ledger of the first format is raised to the newest, in one
+/// scheme's order. Tables that aren't there are made, and a store of an older format is raised to the newest, in one
 /// transaction, and keeps its lists.
 ///
 /// `Memory` where there was none for it, and `Store` where a database fails or holds something else, in that order;
