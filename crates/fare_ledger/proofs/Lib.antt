@@ -1,5 +1,5 @@
 pub mod Texts
-pub mod FirstTexts
+pub mod OlderTexts
 pub mod Placed
 pub mod Found
 pub mod Links
