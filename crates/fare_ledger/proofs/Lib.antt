@@ -13,6 +13,7 @@ pub mod Empty
 pub mod Listed
 pub mod Between
 pub mod Known
+pub mod Olders
 pub mod Rising
 pub mod Opened
 pub mod AnyOrder

@@ -49,7 +49,7 @@ tap_in r = record {
   device = nat_in (column r 0);
   lane = nat_in (column r 1);
   link = nat_in (column r 2);
-  tap = record { product = nat_in (column r 3); token = nat_in (column r 4); moment = nat_in (column r 5); day = nat_in (column r 6) };
+  tap = record { product = nat_in (column r 3); token = nat_in (column r 4); moment = nat_in (column r 5); day = nat_in (column r 6); route = nat_in (column r 7) };
 }
 
 abbrev tap_out : Output → TapRow
