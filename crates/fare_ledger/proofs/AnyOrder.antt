@@ -1,5 +1,6 @@
 -- The tables of a ledger fit in whatever order they were made.
-use Rattle.std.proofs.Common.{◌≡◌, ◌+◌, ℕ, Bool, true, false, Option, Result, [], ◌∷◌, ◌++◌, codes, List, length, map, refl, sym, ap, subst}
+use Rattle.std.proofs.Common.{◌≡◌, ◌+◌, ℕ, zero, suc, take, Bool, true, false, Option, Result, [], ◌∷◌, ◌++◌, codes, List, length, map, refl, sym, ap, subst}
+use Rattle.std.specs.Prelude.{drop}
 use Rattle.std.specs.List.{AllByRecursion}
 use Rattle.sqlite.specs.Change.{created}
 use Rattle.sqlite.specs.Does.{lacks_sequence}
@@ -25,7 +26,7 @@ use Rattle.fare_opening.specs.Parts.{Parts, parts_of}
 use Rattle.fare_opening.proofs.Orders.{are_as_many, standing_there, should_stand, have_own_trees, refer_to_none, rowid_first, meanings, meant_there, places_of, fit_as}
 use Rattle.fare_ledger.specs.Opening.{Rises}
 use Rattle.fare_ledger.specs.Orders.{table_of, five_orders, all_orders, FitInAnyOrder, FirstsRise, SecondsRise}
-use Rattle.fare_ledger.specs.Statements.{first_format, second_format, ledger_parts}
+use Rattle.fare_ledger.specs.Statements.{FitsLedger, first_format, second_format, ledger_parts}
 use Rattle.fare_ledger.specs.Tables.{first_schema, second_schema, ledger_schema, retired_table, routed_table}
 use Rattle.fare_ledger.proofs.Own.{make_retired_text, retired_can, make_routed_text, routed_can}
 use Rattle.fare_ledger.proofs.Texts.{understood_all}
@@ -79,9 +80,56 @@ module _ (d : Parts) (u : AreUnderstood d.own d.texts) where
   fit_all [] is = tt
   fit_all (ks ∷ kss) is = ((places_of d table_of ks, fit_at ks (same_head is)), fit_all kss (same_tail is))
 
-pub any_order : FitInAnyOrder
+-- in parts, since there are many
+abbrev FitsIn : List ℕ → Type 0
+FitsIn ks = (p : Places) × FitsLedger (made_of table_of ks) p
+
+both : (n : ℕ) (kss : List (List ℕ)) → AllByRecursion FitsIn (take n kss) → AllByRecursion FitsIn (drop n kss) → AllByRecursion FitsIn kss
+both zero kss first rest = rest
+both (suc n) [] first rest = tt
+both (suc n) (ks ∷ kss) first rest = (first.0, both n kss first.1 rest)
+
+abbrev from_1 : List (List ℕ)
+from_1 = drop 120 all_orders
+
+abbrev from_2 : List (List ℕ)
+from_2 = drop 120 from_1
+
+abbrev from_3 : List (List ℕ)
+from_3 = drop 120 from_2
+
+abbrev from_4 : List (List ℕ)
+from_4 = drop 120 from_3
+
+abbrev from_5 : List (List ℕ)
+from_5 = drop 120 from_4
+
+part_0 : AllByRecursion FitsIn (take 120 all_orders)
 unfolding everything ledger_schema same_name understood_all
-any_order = fit_all ledger_parts understood_all all_orders refl
+part_0 = fit_all ledger_parts understood_all (take 120 all_orders) refl
+
+part_1 : AllByRecursion FitsIn (take 120 from_1)
+unfolding everything ledger_schema same_name understood_all
+part_1 = fit_all ledger_parts understood_all (take 120 from_1) refl
+
+part_2 : AllByRecursion FitsIn (take 120 from_2)
+unfolding everything ledger_schema same_name understood_all
+part_2 = fit_all ledger_parts understood_all (take 120 from_2) refl
+
+part_3 : AllByRecursion FitsIn (take 120 from_3)
+unfolding everything ledger_schema same_name understood_all
+part_3 = fit_all ledger_parts understood_all (take 120 from_3) refl
+
+part_4 : AllByRecursion FitsIn (take 120 from_4)
+unfolding everything ledger_schema same_name understood_all
+part_4 = fit_all ledger_parts understood_all (take 120 from_4) refl
+
+part_5 : AllByRecursion FitsIn from_5
+unfolding everything ledger_schema same_name understood_all
+part_5 = fit_all ledger_parts understood_all from_5 refl
+
+pub any_order : FitInAnyOrder
+any_order = both 120 all_orders part_0 (both 120 from_1 part_1 (both 120 from_2 part_2 (both 120 from_3 part_3 (both 120 from_4 part_4 part_5))))
 
 -- ---- an older format's tables, and the others behind them
 
