@@ -1,5 +1,5 @@
 -- Where a ledger of an older format stands.
-use Rattle.std.proofs.Common.{◌≡◌, ◌≢◌, ◌<◌, ◌==◌, inl, inr, ℕ, zero, suc, Bool, true, false, List, [], ◌∷◌, codes, length, nat_lt, Some, if◌then◌else◌, refl, sym, ap, subst, ◌∙◌, arith}
+use Rattle.std.proofs.Common.{◌≡◌, ◌≢◌, ◌<◌, ◌≤◌, ◌==◌, inl, inr, ℕ, zero, suc, Bool, true, false, List, [], ◌∷◌, codes, length, nat_lt, Some, if◌then◌else◌, refl, sym, ap, subst, ◌∙◌, arith}
 use Rattle.std.specs.Prelude.{slice_get}
 use Rattle.sqlite.specs.Schema.{Schema}
 use Rattle.sqlite.specs.Tree.{Trees}
@@ -11,6 +11,7 @@ use Rattle.fare_layout.specs.declared.place.TableNumber.{TableNumber}
 use Rattle.fare_layout.specs.Growing.{GoOn, HasNone}
 use Rattle.fare_layout.specs.Places.{place_of, all_of, or_nowhere}
 use Rattle.fare_opening.specs.declared.site.Site.{Site}
+use Rattle.fare_opening.specs.Moving.{copies}
 use Rattle.fare_opening.specs.Parts.{OlderParts, IsDesign, parts_of}
 use Rattle.fare_opening.specs.Sites.{IsSite, tree_at}
 use Rattle.fare_opening.proofs.Standing as standing
@@ -18,7 +19,7 @@ use Rattle.fare_opening.proofs.Vacant as vacant
 use Rattle.fare_ledger.specs.declared.layout.Layout.{Layout}
 use Rattle.fare_ledger.specs.Held.{AreReadable, held_of}
 use Rattle.fare_ledger.specs.Layouts.{schema_in, table_at}
-use Rattle.fare_ledger.specs.Older.{copies, rows_in, olders, value_older, IsLawfulOlder}
+use Rattle.fare_ledger.specs.Older.{olders, value_older, IsLawfulOlder}
 use Rattle.fare_ledger.specs.Opening.{Rises}
 use Rattle.fare_ledger.specs.Statements.{Retired, Routed, first_format, second_format, tables, ledger_parts}
 use Rattle.fare_ledger.specs.Tables.{second_schema, retired_table}
@@ -36,7 +37,7 @@ used_by s name at named = rw named refl
 lacks_routed : (o : OlderParts) (s : Schema) → Has ledger_parts.older o → HasNone o.missing s → is_used s (codes "tap2") ≡ false
 lacks_routed o s (inl is) none = (subst (λ (x : OlderParts). HasNone x.missing s) is none).1.0
 lacks_routed o s (inr (inl is)) none = (subst (λ (x : OlderParts). HasNone x.missing s) is none).0
-lacks_routed o s (inr (inr no)) none = absurd no
+lacks_routed o s (inr (inr past)) none = absurd past
 
 pub not_older : (o : OlderParts) (w : Layout) (s : Schema) → Has ledger_parts.older o → HasNone o.missing s → s ≡ schema_in w → ⊥
 not_older o w s has none is =
@@ -47,13 +48,13 @@ not_older o w s has none is =
 pub older_design : (o : OlderParts) → Has ledger_parts.older o → IsDesign (parts_of o)
 older_design o (inl is) = subst (λ (x : OlderParts). IsDesign (parts_of x)) (sym is) first_design
 older_design o (inr (inl is)) = subst (λ (x : OlderParts). IsDesign (parts_of x)) (sym is) second_design
-older_design o (inr (inr no)) = absurd no
+older_design o (inr (inr past)) = absurd past
 
 -- where those of an older format stand, their names are taken
 older_names : (o : OlderParts) (s : Schema) → Has ledger_parts.older o → HasNone tables s → HasNone o.tables s
 older_names o s (inl is) none = subst (λ (x : OlderParts). HasNone x.tables s) (sym is) (none.0, (none.1.0, (none.1.1.0, (none.1.1.1.0, tt))))
 older_names o s (inr (inl is)) none = subst (λ (x : OlderParts). HasNone x.tables s) (sym is) (none.0, (none.1.0, (none.1.1.0, (none.1.1.1.0, (none.1.1.1.1.0, tt)))))
-older_names o s (inr (inr no)) none = absurd no
+older_names o s (inr (inr past)) none = absurd past
 
 pub older_taken : (o : OlderParts) (v : Site) (s : Schema) → Has ledger_parts.older o → IsSite (parts_of o) v → s ≡ v.schema → HasNone tables s → ⊥
 older_taken o v s has site is none = vacant.not_vacant (parts_of o) v s (older_design o has) site (older_names o s has none) is
@@ -68,12 +69,12 @@ not_both : (v : Site) (s : Schema) → HasNone first_format.missing s → IsSite
 not_both v s none site is = absurd (let e = sym (second_used v s site is) ∙ none.0 in cc)
 
 pub one_older : (o p : OlderParts) (u v : Site) (s : Schema) → Has ledger_parts.older o → Has ledger_parts.older p → IsSite (parts_of o) u → IsSite (parts_of p) v → s ≡ u.schema → s ≡ v.schema → HasNone o.missing s → HasNone p.missing s → o ≡ p
-one_older o p u v s (inl is) (inl too) from to at there none no = is ∙ sym too
-one_older o p u v s (inl is) (inr (inl too)) from to at there none no = absurd (not_both v s (subst (λ (x : OlderParts). HasNone x.missing s) is none) (subst (λ (x : OlderParts). IsSite (parts_of x) v) too to) there)
-one_older o p u v s (inr (inl is)) (inl too) from to at there none no = absurd (not_both u s (subst (λ (x : OlderParts). HasNone x.missing s) too no) (subst (λ (x : OlderParts). IsSite (parts_of x) u) is from) at)
-one_older o p u v s (inr (inl is)) (inr (inl too)) from to at there none no = is ∙ sym too
-one_older o p u v s (inr (inr not)) too from to at there none no = absurd not
-one_older o p u v s is (inr (inr not)) from to at there none no = absurd not
+one_older o p u v s (inl is) (inl too) from to at there none free = is ∙ sym too
+one_older o p u v s (inl is) (inr (inl too)) from to at there none free = absurd (not_both v s (subst (λ (x : OlderParts). HasNone x.missing s) is none) (subst (λ (x : OlderParts). IsSite (parts_of x) v) too to) there)
+one_older o p u v s (inr (inl is)) (inl too) from to at there none free = absurd (not_both u s (subst (λ (x : OlderParts). HasNone x.missing s) too free) (subst (λ (x : OlderParts). IsSite (parts_of x) u) is from) at)
+one_older o p u v s (inr (inl is)) (inr (inl too)) from to at there none free = is ∙ sym too
+one_older o p u v s (inr (inr past)) too from to at there none free = absurd past
+one_older o p u v s is (inr (inr past)) from to at there none free = absurd past
 
 -- ---- where its tables stand
 
@@ -111,3 +112,14 @@ same_place s (p ∷ from) (q ∷ to) goes (suc k) low = same_place s from to goe
 
 pub same_tree : (o : OlderParts) (v w : Site) (schema : Schema) (k : TableNumber) → Has ledger_parts.older o → Rises o schema v w → k.number < length o.tables → tree_at v k ≡ tree_at w k
 same_tree o v w schema k has rises low = ap (λ (p : Place). p.tree) (same_place schema (all_of v.places) (all_of w.places) rises.places k.number (older_within o v has rises.from k low))
+
+-- it has four tables, or five
+pub has_four : (o : OlderParts) → Has ledger_parts.older o → 4 ≤ length o.tables
+has_four o (inl is) = subst (λ (x : OlderParts). 4 ≤ length x.tables) (sym is) (omega arith)
+has_four o (inr (inl is)) = subst (λ (x : OlderParts). 4 ≤ length x.tables) (sym is) (omega arith)
+has_four o (inr (inr past)) = absurd past
+
+pub up_to_five : (o : OlderParts) → Has ledger_parts.older o → length o.tables ≤ 5
+up_to_five o (inl is) = subst (λ (x : OlderParts). length x.tables ≤ 5) (sym is) (omega arith)
+up_to_five o (inr (inl is)) = subst (λ (x : OlderParts). length x.tables ≤ 5) (sym is) (omega arith)
+up_to_five o (inr (inr past)) = absurd past

@@ -120,7 +120,7 @@ settles_as owner old new w (opened.Raised site) at placed it =
       raised = λ p other v could.
           let same : o ≡ p = one_older o p u v old.now.schema older other can.rises.from could.rises.from can.rises.has could.rises.has can.rises.free could.rises.free in
           (subst (λ x. raising.IsRaised ledger_parts p owner x old.now new.now) (sym at) (subst (λ (q : OlderParts). raising.IsRaised ledger_parts q owner site old.now new.now) same is), it.3);
-      others = λ settled. inr (o, older, u, site, can, keeps_all_but o u site owner old.now new.now older can is);
+      others = λ settled. inr (o, older, u, site, can, keeps_all_but o (record { schema = site.schema; places = site.places; fits = can.rises.site }) u owner 0 old.now new.now older can is);
     }
 
 -- and what it found there
@@ -193,7 +193,7 @@ left_open owner start old trees (inr raised) = inr (λ known. left_raised owner 
 -- a lawful ledger is one that an open finds
 pub lawful_is_ours : (w : Layout) (owner start : ℕ) (s : State) → IsFit (schema_in w) (IsLawful w owner start) s → IsBlankOrOurs owner s
 unfolding ours
-lawful_is_ours w owner start s fit = inr (site_of w, record { site = w.fits; schema = fit.rest.schema_is; meta = fit.fits.together.meta })
+lawful_is_ours w owner start s fit = inr (site_of w, record { site = w.fits; schema = fit.rest.schema_is; meta = fit.fits.together.meta; unused = fit.fits.together.unused })
 
 -- a database with no table has none of the names
 pub vacant_of : (s : Schema) → s ≡ no_schema → HasNone tables s

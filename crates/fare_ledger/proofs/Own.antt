@@ -1,10 +1,11 @@
 -- A database of a ledger alone.
-use Rattle.std.proofs.Common.{◌≡◌, [], ◌∷◌, codes, List, ℕ, Ok, inl, inr, refl, arith}
+use Rattle.std.proofs.Common.{◌≡◌, [], ◌∷◌, codes, List, ℕ, None, Ok, inl, inr, refl, arith}
 use Rattle.std.specs.Prelude.{drop}
 use Rattle.std.specs.List.{AllByRecursion}
 use Rattle.sqlite.specs.Compile.{table_defined_by}
 use Rattle.sqlite.specs.Listing.{understood}
 use Rattle.sqlite_tied.specs.Compute.{everything}
+use Rattle.sqlite_value.specs.Keys.{plain}
 use Rattle.sqlite_schema.specs.Names.{same_name}
 use Rattle.fare_tables.specs.Making.{no_schema}
 use Rattle.fare_tables.specs.Queries.{meta_table}
@@ -14,12 +15,14 @@ use Rattle.fare_layout.specs.Layouts.{Fits}
 use Rattle.fare_layout.specs.Places.{all_of}
 use Rattle.fare_layout.specs.Growing.{CanMake, CanMakeAll, Grows, GrowsBy, AreLast}
 use Rattle.fare_opening.proofs.Standing.{few_keys}
-use Rattle.fare_opening.specs.Parts.{IsDesign, IsOlder, HasFewKeys, parts_of}
+use Rattle.fare_opening.specs.Moving.{Shape}
+use Rattle.fare_opening.specs.Numbers.{Tap}
+use Rattle.fare_opening.specs.Parts.{IsDesign, IsCounted, IsMoving, IsOlder, HasFewKeys, parts_of}
 use Rattle.fare_opening.proofs.Orders.{fit_as}
-use Rattle.fare_ledger.specs.Statements.{first_tables, tables, texts, FitsLedger, first_format, second_format, ledger_parts}
+use Rattle.fare_ledger.specs.Statements.{tables, texts, FitsLedger, moving_taps, first_format, second_format, ledger_parts}
 use Rattle.fare_ledger.specs.Tables.{one_table, two_tables, three_tables, first_schema, second_schema, ledger_schema, lane_table, tap_table, stated_table, retired_table, routed_table}
-use Rattle.fare_ledger.proofs.Texts.{own_places, meta_own, put_meta_own, set_meta_own, understood_all}
-use Rattle.fare_ledger.proofs.OlderTexts.{meta_first, put_meta_first, set_meta_first, understood_first, meta_second, put_meta_second, set_meta_second, understood_second}
+use Rattle.fare_ledger.proofs.Texts.{own_places, meta_own, put_meta_own, set_meta_own, unused_text, unused_own, put_older_own, clear_older_own, understood_all}
+use Rattle.fare_ledger.proofs.OlderTexts.{meta_first, put_meta_first, set_meta_first, older_first, understood_first, meta_second, put_meta_second, set_meta_second, older_second, understood_second}
 
 -- TABLES
 abbrev pub make_meta_text : List ℕ
@@ -185,6 +188,72 @@ unfolding ledger_schema
 simple_tables = (record { columns = (tt, (tt, tt)); checks = tt; references = refl; stamps = tt; formats = refl }, (record { columns = (tt, (tt, (tt, tt))); checks = ((tt, tt), ((tt, tt), tt)); references = refl; stamps = tt; formats = refl }, (record { columns = (tt, (tt, (tt, (tt, (tt, (tt, (tt, tt))))))); checks = tt; references = refl; stamps = tt; formats = refl }, (record { columns = (tt, (tt, (tt, tt))); checks = tt; references = refl; stamps = tt; formats = refl }, (record { columns = (tt, tt); checks = tt; references = refl; stamps = tt; formats = refl }, (record { columns = (tt, (tt, (tt, (tt, (tt, (tt, (tt, (tt, tt)))))))); checks = tt; references = refl; stamps = tt; formats = refl }, tt))))))
 
 -- A LEDGER IS A STORE
+-- the table that holds no row, and what counts its rows
+unused_counted : IsCounted ledger_parts (Tap, unused_text)
+unfolding ledger_schema
+unused_counted = record { past = omega arith; within = omega arith; counts = inr (inr (inr (inr (inr (inr (inr (inr (inr (inr (inr (inr (inr (inr (inr (inr (inl refl)))))))))))))))); names = codes "count(*)" ∷ []; tree = 2; counts_meant = unused_own }
+
+-- the table that the taps move to
+abbrev routed_shape : Shape
+routed_shape = record {
+  name = codes "tap2";
+  columns = (routed_table 0).columns;
+  key = None;
+  primary = 1 ∷ 2 ∷ [];
+  uniques = (1 ∷ 2 ∷ []) ∷ [];
+  orders = plain ∷ [];
+  checks = [];
+}
+
+abbrev older_names : List (List ℕ)
+older_names = codes "rowid" ∷ codes "device" ∷ codes "lane" ∷ codes "link" ∷ codes "product" ∷ codes "token" ∷ codes "moment" ∷ codes "day" ∷ []
+
+first_moves : IsMoving ledger_parts first_format moving_taps
+unfolding first_schema ledger_schema
+first_moves = record {
+  past = omega arith;
+  has = omega arith;
+  lacks = omega arith;
+  shape = routed_shape;
+  tree = 7;
+  shape_is = refl;
+  integers = (refl, (refl, (refl, (refl, (refl, (refl, (refl, (refl, tt))))))));
+  names = older_names;
+  read_tree = 2;
+  put_at = 5;
+  clear_at = 2;
+  clear_tree = 2;
+  reads = inr (inr (inr (inl refl)));
+  reads_meant = older_first;
+  puts = inr (inr (inr (inr (inr (inr (inr (inr (inr (inr (inr (inr (inr (inr (inr (inr (inr (inl refl)))))))))))))))));
+  puts_meant = put_older_own;
+  clears = inr (inr (inr (inr (inr (inr (inr (inr (inr (inr (inr (inr (inr (inr (inr (inr (inr (inr (inl refl))))))))))))))))));
+  clears_meant = clear_older_own;
+}
+
+second_moves : IsMoving ledger_parts second_format moving_taps
+unfolding second_schema ledger_schema
+second_moves = record {
+  past = omega arith;
+  has = omega arith;
+  lacks = omega arith;
+  shape = routed_shape;
+  tree = 7;
+  shape_is = refl;
+  integers = (refl, (refl, (refl, (refl, (refl, (refl, (refl, (refl, tt))))))));
+  names = older_names;
+  read_tree = 2;
+  put_at = 5;
+  clear_at = 2;
+  clear_tree = 2;
+  reads = inr (inr (inr (inl refl)));
+  reads_meant = older_second;
+  puts = inr (inr (inr (inr (inr (inr (inr (inr (inr (inr (inr (inr (inr (inr (inr (inr (inr (inl refl)))))))))))))))));
+  puts_meant = put_older_own;
+  clears = inr (inr (inr (inr (inr (inr (inr (inr (inr (inr (inr (inr (inr (inr (inr (inr (inr (inr (inl refl))))))))))))))))));
+  clears_meant = clear_older_own;
+}
+
 pub first_design : IsDesign (parts_of first_format)
 unfolding first_schema
 first_design = record {
@@ -200,12 +269,13 @@ first_design = record {
   home = first_places;
   at_home = first_fits;
   last = first_last;
-  asks = inr (inr (inr (inr (inl refl))));
+  asks = inl refl;
   asks_meant = meta_first;
-  puts = inr (inr (inr (inr (inr (inl refl)))));
+  puts = inr (inl refl);
   puts_meant = put_meta_first;
-  sets = inr (inr (inr (inr (inr (inr (inl refl))))));
+  sets = inr (inr (inl refl));
   sets_meant = set_meta_first;
+  counted = tt;
 }
 
 pub second_design : IsDesign (parts_of second_format)
@@ -223,12 +293,13 @@ second_design = record {
   home = second_places;
   at_home = second_fits;
   last = second_last;
-  asks = inr (inr (inr (inr (inl refl))));
+  asks = inl refl;
   asks_meant = meta_second;
-  puts = inr (inr (inr (inr (inr (inl refl)))));
+  puts = inr (inl refl);
   puts_meant = put_meta_second;
-  sets = inr (inr (inr (inr (inr (inr (inl refl))))));
+  sets = inr (inr (inl refl));
   sets_meant = set_meta_second;
+  counted = tt;
 }
 
 pub ledger_design : IsDesign ledger_parts
@@ -252,8 +323,9 @@ ledger_design = record {
   puts_meant = put_meta_own;
   sets = inr (inr (inr (inr (inr (inr (inr (inr (inr (inl refl)))))))));
   sets_meant = set_meta_own;
+  counted = unused_counted;
 }
 
 -- the older formats are such as are raised
 pub ledger_older : AllByRecursion (IsOlder ledger_parts) ledger_parts.older
-ledger_older = (record { design = first_design; tables_are = refl }, (record { design = second_design; tables_are = refl }, tt))
+ledger_older = (record { design = first_design; tables_are = refl; moves = first_moves }, (record { design = second_design; tables_are = refl; moves = second_moves }, tt))

@@ -359,10 +359,6 @@ older_text = codes "SELECT rowid, device, lane, link, product, token, moment, da
 abbrev pub older_at : Place → Command
 older_at p = Select (record { lets = []; body = at_tree p.tree older_query }) (codes "rowid" ∷ codes "device" ∷ codes "lane" ∷ codes "link" ∷ codes "product" ∷ codes "token" ∷ codes "moment" ∷ codes "day" ∷ [])
 
-pub older_own : IsMeant ledger_schema older_text (older_at (place_of own_places Tap))
-unfolding everything ledger_schema
-older_own = refl
-
 abbrev pub older_terms : List Term
 older_terms = col 0 0 ∷ col 0 1 ∷ col 0 2 ∷ col 0 3 ∷ col 0 4 ∷ col 0 5 ∷ col 0 6 ∷ col 0 7 ∷ col 0 8 ∷ []
 
@@ -448,4 +444,4 @@ pub clear_older_simple : IsSimpleCommand (clear_older_at (place_of own_places Ta
 clear_older_simple = search
 
 unfoldable pub understood_all : AreUnderstood ledger_schema texts
-understood_all = ((lane_at (place_of own_places Device), lane_own, lane_simple), ((stated_at (place_of own_places Stated), stated_own, stated_simple), ((day_at (place_of own_places Routed), day_own, day_simple), ((between_at (place_of own_places Routed), between_own, between_simple), ((begun_at (place_of own_places Device), begun_own, begun_simple), ((taps_at (place_of own_places Routed), taps_own, taps_simple), ((statements_at (place_of own_places Stated), statements_own, statements_simple), ((meta_at (place_of own_places Meta), meta_own, meta_simple), ((put_meta_at (place_of own_places Meta), put_meta_own, put_meta_simple), ((set_meta_at (place_of own_places Meta), set_meta_own, set_meta_simple), ((put_lane_at (place_of own_places Device), put_lane_own, put_lane_simple), ((put_tap_at (place_of own_places Routed), put_tap_own, put_tap_simple), ((put_stated_at (place_of own_places Stated), put_stated_own, put_stated_simple), ((retired_at (place_of own_places Retired), retired_own, retired_simple), ((put_retired_at (place_of own_places Retired), put_retired_own, put_retired_simple), ((all_retired_at (place_of own_places Retired), all_retired_own, all_retired_simple), ((unused_at (place_of own_places Tap), unused_own, unused_simple), ((older_at (place_of own_places Tap), older_own, older_simple), ((put_older_at (place_of own_places Routed), put_older_own, put_older_simple), ((clear_older_at (place_of own_places Tap), clear_older_own, clear_older_simple), tt))))))))))))))))))))
+understood_all = ((lane_at (place_of own_places Device), lane_own, lane_simple), ((stated_at (place_of own_places Stated), stated_own, stated_simple), ((day_at (place_of own_places Routed), day_own, day_simple), ((between_at (place_of own_places Routed), between_own, between_simple), ((begun_at (place_of own_places Device), begun_own, begun_simple), ((taps_at (place_of own_places Routed), taps_own, taps_simple), ((statements_at (place_of own_places Stated), statements_own, statements_simple), ((meta_at (place_of own_places Meta), meta_own, meta_simple), ((put_meta_at (place_of own_places Meta), put_meta_own, put_meta_simple), ((set_meta_at (place_of own_places Meta), set_meta_own, set_meta_simple), ((put_lane_at (place_of own_places Device), put_lane_own, put_lane_simple), ((put_tap_at (place_of own_places Routed), put_tap_own, put_tap_simple), ((put_stated_at (place_of own_places Stated), put_stated_own, put_stated_simple), ((retired_at (place_of own_places Retired), retired_own, retired_simple), ((put_retired_at (place_of own_places Retired), put_retired_own, put_retired_simple), ((all_retired_at (place_of own_places Retired), all_retired_own, all_retired_simple), ((unused_at (place_of own_places Tap), unused_own, unused_simple), ((put_older_at (place_of own_places Routed), put_older_own, put_older_simple), ((clear_older_at (place_of own_places Tap), clear_older_own, clear_older_simple), tt)))))))))))))))))))

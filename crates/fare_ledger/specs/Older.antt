@@ -1,22 +1,18 @@
 -- A ledger of an older format: its taps have no route, and one of the first format knows of no retired lane.
-use Rattle.std.specs.Prelude.{ℕ, ◌==◌, ◌++◌, nat_lt, Bool, List, [], ◌∷◌, length, map, if◌then◌else◌}
+use Rattle.std.specs.Prelude.{ℕ, ◌==◌, nat_lt, Bool, List, [], length, if◌then◌else◌}
 use Rattle.sqlite_value.specs.Order.{Row}
 use Rattle.sqlite.specs.Tree.{Trees}
 use Rattle.fare_store.specs.LedgerWords.{LedgerValue}
-use Rattle.fare_tables.specs.Cells.{int}
 use Rattle.fare_layout.specs.declared.place.TableNumber.{TableNumber}
 use Rattle.fare_layout.specs.Growing.{HasNone}
 use Rattle.fare_opening.specs.declared.site.Site.{Site}
+use Rattle.fare_opening.specs.Moving.{copies}
 use Rattle.fare_opening.specs.Numbers.{Tap}
 use Rattle.fare_opening.specs.Parts.{OlderParts, parts_of}
 use Rattle.fare_opening.specs.Sites.{IsSite, rows_at}
 use Rattle.fare_ledger.specs.Held.{AreReadable, held_of}
 use Rattle.fare_ledger.specs.Layouts.{table_at}
 use Rattle.fare_ledger.specs.Words.{value_in, FitInFormat}
-
--- the rows, each with a 0 behind it
-abbrev pub copies : List Row → List Row
-copies rows = map (λ r. r ++ int 0 ∷ []) rows
 
 -- the rows of one of its tables; one that it lacks has none
 abbrev pub rows_in : OlderParts → Site → TableNumber → Trees → List Row

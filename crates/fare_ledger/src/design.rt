@@ -1,11 +1,20 @@
 ghost use Rattle.fare_ledger.specs.Statements.{ledger_parts};
 
 use crate::statements::{
-    FIRST_MISSING, FIRST_TABLES, FIRST_TEXTS, SECOND_MISSING, SECOND_TABLES, SECOND_TEXTS, TABLES,
-    TEXTS,
+    CLEAR_OLDER, COUNT_UNUSED, FIRST_MISSING, FIRST_TABLES, OLDER_TEXTS, PUT_OLDER, READ_OLDER,
+    ROUTED, SECOND_MISSING, SECOND_TABLES, TABLES, TEXTS,
 };
 use fare_layout::TableNumber;
-use fare_opening::{Design, Older};
+use fare_opening::{Design, Moving, Older, TAP};
+
+// How the taps of an older format move to the table that has their routes, each with route 0.
+const MOVED_TAPS: Moving = Moving {
+    from: TAP,
+    to: ROUTED,
+    read: READ_OLDER,
+    put: PUT_OLDER,
+    clear: CLEAR_OLDER,
+};
 
 // The first format, which knew of no retired lanes, and the second, whose taps had no route.
 static OLDER: [Older; 2] = [
@@ -13,13 +22,15 @@ static OLDER: [Older; 2] = [
         format: 1,
         tables: &FIRST_TABLES,
         missing: &FIRST_MISSING,
-        texts: &FIRST_TEXTS,
+        texts: &OLDER_TEXTS,
+        moving: Some(MOVED_TAPS),
     },
     Older {
         format: 2,
         tables: &SECOND_TABLES,
         missing: &SECOND_MISSING,
-        texts: &SECOND_TEXTS,
+        texts: &OLDER_TEXTS,
+        moving: Some(MOVED_TAPS),
     },
 ];
 
@@ -43,6 +54,10 @@ impl Design for LedgerDesign {
 
     fn older() -> &'static [Older] {
         &OLDER
+    }
+
+    fn unused() -> Option<(TableNumber, &'static str)> {
+        Some((TAP, COUNT_UNUSED))
     }
 
     fn sound() {}

@@ -123,7 +123,7 @@ pub(crate) const PUT_OLDER: &str =
 pub(crate) const CLEAR_OLDER: &str = "DELETE FROM tap";
 
 /// All statements of a ledger, each with its table: `DEVICE` is `lane` here.
-pub(crate) const TEXTS: [(TableNumber, &str); 20] = [
+pub(crate) const TEXTS: [(TableNumber, &str); 19] = [
     (DEVICE, READ_LANE),
     (STATED, READ_STATED),
     (ROUTED, COUNT_DAY),
@@ -141,42 +141,14 @@ pub(crate) const TEXTS: [(TableNumber, &str); 20] = [
     (RETIRED, PUT_RETIRED),
     (RETIRED, COUNT_ALL_RETIRED),
     (TAP, COUNT_UNUSED),
-    (TAP, READ_OLDER),
     (ROUTED, PUT_OLDER),
     (TAP, CLEAR_OLDER),
 ];
 
-/// Those of the first format which the newest has too.
-pub(crate) const FIRST_TEXTS: [(TableNumber, &str); 12] = [
-    (DEVICE, READ_LANE),
-    (STATED, READ_STATED),
-    (DEVICE, COUNT_BEGUN),
-    (STATED, COUNT_STATEMENTS),
+/// Those that an open needs of a ledger of an older format.
+pub(crate) const OLDER_TEXTS: [(TableNumber, &str); 4] = [
     (META, READ_META),
     (META, PUT_META),
     (META, SET_META),
-    (DEVICE, PUT_LANE),
-    (STATED, PUT_STATED),
-    (TAP, COUNT_UNUSED),
     (TAP, READ_OLDER),
-    (TAP, CLEAR_OLDER),
-];
-
-/// The same of the second format.
-pub(crate) const SECOND_TEXTS: [(TableNumber, &str); 15] = [
-    (DEVICE, READ_LANE),
-    (STATED, READ_STATED),
-    (DEVICE, COUNT_BEGUN),
-    (STATED, COUNT_STATEMENTS),
-    (META, READ_META),
-    (META, PUT_META),
-    (META, SET_META),
-    (DEVICE, PUT_LANE),
-    (STATED, PUT_STATED),
-    (TAP, COUNT_UNUSED),
-    (TAP, READ_OLDER),
-    (TAP, CLEAR_OLDER),
-    (RETIRED, COUNT_RETIRED),
-    (RETIRED, PUT_RETIRED),
-    (RETIRED, COUNT_ALL_RETIRED),
 ];
