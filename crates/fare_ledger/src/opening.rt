@@ -3,12 +3,12 @@ ghost use Rattle.sqlite.specs.Effect.{IsDatabase};
 ghost use Rattle.sqlite.specs.State.{HasCleanDisk, Survives};
 ghost use Rattle.sqlite.specs.Tree.{Trees};
 ghost use Rattle.sqlite.specs.Held.{state};
+ghost use Rattle.sqlite_rules.specs.Lists.{Has};
 ghost use Rattle.fare_scheme.specs.Words.{position_of_owner};
 ghost use Rattle.fare_store.specs.LedgerWords.{IsEmptyLedger, IsOfScheme};
 ghost use Rattle.fare_tables.specs.Asking.{IsLive, SameRows};
 ghost use Rattle.fare_tables.specs.Making.{no_schema};
 ghost use Rattle.fare_tables.specs.Tabled.{IsFit, IsLeft};
-ghost use Rattle.sqlite_rules.specs.Lists.{Has};
 ghost use Rattle.fare_opening.specs.declared.site.Site.{Site};
 ghost use Rattle.fare_opening.specs.Parts.{OlderParts};
 ghost use Rattle.fare_ledger.specs.declared.layout.Layout.{Layout};
@@ -94,9 +94,9 @@ impl<S: Alter> SqlLedger<S> {
     /// Takes a database for the ledger of an owner of a scheme, which may hold other tables too: one that holds
     /// this owner's ledger as it is, and one in which nothing has a name of the ledger's tables after it made them
     /// there, past the others, whose rows stay. A ledger of an older format gets the tables that it lacks, its
-    /// taps move to the newest one, each with route 0, and it gets the newest format, all in one transaction: it keeps
-    /// its lists. Where it can't, the connection comes
-    /// back, with its rows as before. A connection that is inside a transaction answers Store.
+    /// taps go to the newest one, each with route 0, and it gets the newest format, all in one transaction: it keeps
+    /// its lists. Where it can't, the connection comes back, with its rows as before. A connection that is inside a
+    /// transaction answers Store.
     ///
     /// Refused by the first case of `LedgerOpenFault` that applies.
     pub fn open(
