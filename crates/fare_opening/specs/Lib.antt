@@ -1,8 +1,10 @@
 pub mod Numbers
+pub mod Moving
 pub mod Parts
 pub mod Sites
 pub mod Making
 pub mod MetaRow
 pub mod Raising
+pub mod Moves
 pub mod Opening
 pub mod Orders

@@ -15,15 +15,16 @@ use Rattle.fare_opening.specs.declared.opening.Opened.TheVariants as opened
 use Rattle.fare_opening.specs.declared.site.Site.{Site}
 use Rattle.fare_opening.specs.MetaRow.{IsMeta}
 use Rattle.fare_opening.specs.Parts.{Parts}
-use Rattle.fare_opening.specs.Sites.{IsSite, rows_at}
+use Rattle.fare_opening.specs.Sites.{IsSite, IsEmptied, rows_at}
 use Rattle.fare_opening.specs.Making.{Makes, MayGrow, KeepsOthers, IsNew, IsMade}
 use Rattle.fare_opening.specs.Raising.{MayRaise, WasRaised}
 
--- the tables stand there, with the row of meta of this owner
+-- the tables stand there, with the row of meta of this owner, and the one that isn't used has no row
 pub record StandsAt (d : Parts) (owner : ℕ) (s : State) (w : Site) : Type 0 where
   pub site : IsSite d w
   pub schema : s.now.schema ≡ w.schema
   pub meta : IsMeta d.format owner (rows_at w Meta s.now.trees)
+  pub unused : IsEmptied d w s.now.trees
 
 -- a database has the store's tables, wherever they stand, with the row of meta of this owner
 abbrev pub IsStore : Parts → ℕ → State → Type 0

@@ -1,5 +1,5 @@
 -- What a store in tables is made of.
-use Rattle.std.specs.Prelude.{◌≡◌, ◌<◌, ◌++◌, ℕ, codes, List, [], ◌∷◌, map, length, slice_get, Some, IfOk}
+use Rattle.std.specs.Prelude.{◌≡◌, ◌<◌, ◌≤◌, ◌++◌, ℕ, suc, codes, List, [], ◌∷◌, map, length, slice_get, Option, Some, None, option_map, IfOk, IfSome}
 use Rattle.std.specs.List.{AllByRecursion}
 use Rattle.sqlite.specs.declared.types.Value.TheVariants.{Null}
 use Rattle.sqlite.specs.Command.TheVariants.{Insert, Select, Update}
@@ -14,6 +14,7 @@ use Rattle.fare_tables.specs.Making.{no_schema}
 use Rattle.fare_tables.specs.Queries.{query, meta_table}
 use Rattle.fare_layout.specs.declared.place.TableNumber.{TableNumber}
 use Rattle.fare_opening.specs.declared.design.Older.{Older}
+use Rattle.fare_opening.specs.Moving.{MovingParts, moving_told, reads_rows, puts_cells, clears_rows, counts_rows, columns_of, AreIntegers, Shape, shaped}
 use Rattle.fare_opening.specs.Numbers.{Meta}
 use Rattle.fare_layout.specs.declared.place.Places.{Places}
 use Rattle.fare_layout.specs.Commands.{IsMeant}
@@ -30,6 +31,8 @@ pub record OlderParts : Type 0 where
   pub format : ℕ
   -- what makes the tables that it lacks
   pub missing : List (List ℕ × List ℕ)
+  -- how the rows of one of its tables move to one of those
+  pub moving : Option MovingParts
 
 pub record Parts : Type 0 where
   -- its schema in a database of its own
@@ -42,10 +45,12 @@ pub record Parts : Type 0 where
   pub format : ℕ
   -- those from which it is raised
   pub older : List OlderParts
+  -- a table that holds no row, and what counts its rows
+  pub unused : Option (TableNumber × List ℕ)
 
 -- what a store of an older format is made of
 abbrev pub parts_of : OlderParts → Parts
-parts_of o = record { own = o.own; tables = o.tables; texts = o.texts; format = o.format; older = [] }
+parts_of o = record { own = o.own; tables = o.tables; texts = o.texts; format = o.format; older = []; unused = None }
 
 -- META: the table that says whose tables these are, and of what format
 abbrev pub meta_name : List ℕ
@@ -85,6 +90,15 @@ sets_meta at tree = Update at (record { lets = []; body = set_query tree })
 abbrev pub HasFewKeys : List ℕ → Type 0
 HasFewKeys sql = IfOk (table_defined_by sql) (λ table. length table.uniques < 1000)
 
+-- a text counts the rows of a table
+pub record IsCounted (d : Parts) (u : TableNumber × List ℕ) : Type 0 where
+  pub past : 0 < u.0.number
+  pub within : u.0.number < length d.own.tables
+  pub counts : Has d.texts u
+  pub names : List (List ℕ)
+  pub tree : ℕ
+  pub counts_meant : IsMeant d.own u.1 (counts_rows names tree)
+
 -- its tables can be made, its statements mean what they should where they are, and none needs another table
 pub record IsDesign (d : Parts) : Type 0 where
   pub rest : List (List ℕ × List ℕ)
@@ -105,11 +119,37 @@ pub record IsDesign (d : Parts) : Type 0 where
   pub puts_meant : IsMeant d.own put_meta (puts_meta 0)
   pub sets : Has d.texts (Meta, set_meta)
   pub sets_meant : IsMeant d.own set_meta (sets_meta 0 0)
+  pub counted : IfSome d.unused (IsCounted d)
+
+-- Rows move from a table of an older format, which isn't meta, to one that it lacks and that has one column more, all
+-- of integers. The older format's text reads them, and the newest's write one and remove them.
+pub record IsMoving (d : Parts) (o : OlderParts) (m : MovingParts) : Type 0 where
+  pub past : 0 < m.from.number
+  pub has : m.from.number < length o.tables
+  pub lacks : length o.tables ≤ m.to.number
+  -- the table that gets them
+  pub shape : Shape
+  pub tree : ℕ
+  pub shape_is : slice_get d.own.tables m.to.number ≡ Some (shaped shape tree)
+  pub integers : AreIntegers (suc (columns_of o.own m.from)) shape.columns
+  -- where the texts are for
+  pub names : List (List ℕ)
+  pub read_tree : ℕ
+  pub put_at : ℕ
+  pub clear_at : ℕ
+  pub clear_tree : ℕ
+  pub reads : Has o.texts (m.from, m.read)
+  pub reads_meant : IsMeant o.own m.read (reads_rows (suc (columns_of o.own m.from)) names read_tree)
+  pub puts : Has d.texts (m.to, m.put)
+  pub puts_meant : IsMeant d.own m.put (puts_cells (suc (suc (columns_of o.own m.from))) put_at)
+  pub clears : Has d.texts (m.from, m.clear)
+  pub clears_meant : IsMeant d.own m.clear (clears_rows clear_at clear_tree)
 
 -- an older format is a store's too, and the newest has its tables first, and then those that it lacks
 pub record IsOlder (d : Parts) (o : OlderParts) : Type 0 where
   pub design : IsDesign (parts_of o)
   pub tables_are : d.tables ≡ o.tables ++ o.missing
+  pub moves : IfSome o.moving (IsMoving d o)
 
 -- and it is told so
 pub record IsTold (told : Older) (o : OlderParts) : Type 0 where
@@ -117,3 +157,4 @@ pub record IsTold (told : Older) (o : OlderParts) : Type 0 where
   pub tables : map (λ t. (t.0.now, t.1.now)) told.tables.now ≡ o.tables
   pub missing : map (λ t. (t.0.now, t.1.now)) told.missing.now ≡ o.missing
   pub texts : map (λ t. (t.0, t.1.now)) told.texts.now ≡ o.texts
+  pub moving : option_map moving_told told.moving ≡ o.moving

@@ -1,5 +1,5 @@
 -- A store of an older format, and what an open makes of it.
-use Rattle.std.specs.Prelude.{◌≡◌, ◌≢◌, ◌≤◌, ◌<◌, ℕ, [], length}
+use Rattle.std.specs.Prelude.{◌≡◌, ◌≢◌, ◌≤◌, ◌<◌, ℕ, List, [], length, Option, Some, None, IfSome}
 use Rattle.std.specs.List.{AllByRecursion}
 use Rattle.sqlite.specs.Effect.{Database, IsDatabase}
 use Rattle.sqlite.specs.Schema.{Schema}
@@ -7,12 +7,14 @@ use Rattle.sqlite.specs.State.{State}
 use Rattle.sqlite.specs.Table.{Table}
 use Rattle.sqlite.specs.Tree.{Trees}
 use Rattle.sqlite_rules.specs.Lists.{Has}
+use Rattle.sqlite_value.specs.Order.{Row}
 use Rattle.fare_layout.specs.declared.place.TableNumber.{TableNumber}
 use Rattle.fare_layout.specs.Growing.{GrowsBy, GoOn, HasNone}
 use Rattle.fare_layout.specs.Places.{all_of}
 use Rattle.fare_opening.specs.declared.design.Older.{Older}
 use Rattle.fare_opening.specs.declared.site.Site.{Site}
 use Rattle.fare_opening.specs.MetaRow.{IsMeta}
+use Rattle.fare_opening.specs.Moving.{MovingParts, columns_of, AreNumbered, copies}
 use Rattle.fare_opening.specs.Numbers.{Meta}
 use Rattle.fare_opening.specs.Parts.{Parts, OlderParts, IsOlder, IsTold, parts_of}
 use Rattle.fare_opening.specs.Making.{KeepsAllButMeta}
@@ -44,17 +46,38 @@ pub record SetsMeta (d : Parts) (owner : ℕ) (w : Site) (old new : Database) : 
   pub others : KeepsAllButMeta w old new
   pub database : IsDatabase new
 
+-- no rows move from a table, by its tree
+abbrev pub IsKept : Option MovingParts → Site → ℕ → Type 0
+IsKept None w tree = Unit {0}
+IsKept (Some m) w tree = tree ≢ tree_at w m.from
+
+-- none move to it, by its number
+abbrev pub IsNotFilled : Option MovingParts → TableNumber → Type 0
+IsNotFilled None k = Unit {0}
+IsNotFilled (Some m) k = k.number ≢ m.to.number
+
+-- where the rows of a table are of its width, numbered and in order, it has none now, and the other table has a copy of
+-- each
+pub record HasMoved (o : OlderParts) (w : Site) (old new : Database) (m : MovingParts) : Type 0 where
+  pub emptied : AreNumbered (columns_of o.own m.from) (rows_at w m.from old.trees) → rows_at w m.from new.trees ≡ []
+  pub copied : AreNumbered (columns_of o.own m.from) (rows_at w m.from old.trees) → rows_at w m.to new.trees ≡ copies (rows_at w m.from old.trees)
+
 -- a store of the newest format was made of an older one: each table but meta that was there keeps its rows, and those
--- that it lacked have none; and the database keeps its rules
+-- that it lacked have none, but for the two between which rows move; and the database keeps its rules
 pub record IsRaised (d : Parts) (o : OlderParts) (owner : ℕ) (w : Site) (old new : Database) : Type 0 where
   pub schema : new.schema ≡ w.schema
   pub meta : IsMeta d.format owner (rows_at w Meta new.trees)
-  pub others : AllByRecursion (λ (t : Table). t.tree ≢ tree_at w Meta → new.trees t.tree ≡ old.trees t.tree) old.schema.tables
-  pub empty : (k : TableNumber) → length o.tables ≤ k.number → k.number < length (all_of w.places) → rows_at w k new.trees ≡ []
+  pub others : AllByRecursion (λ (t : Table). t.tree ≢ tree_at w Meta → IsKept o.moving w t.tree → new.trees t.tree ≡ old.trees t.tree) old.schema.tables
+  pub empty : (k : TableNumber) → length o.tables ≤ k.number → k.number < length (all_of w.places) → IsNotFilled o.moving k → rows_at w k new.trees ≡ []
+  pub moved : IfSome o.moving (HasMoved o w old new)
   pub database : IsDatabase new
 
--- a store of a format that is told so can be raised
-pub record IsRising (d : Parts) (told : Older) (db : Database) : Type 0 where
+-- the rows that a raise is to move were read, where they are of the table's width, numbered and in order
+abbrev pub AreRead : OlderParts → Site → Database → List Row → Type 0
+AreRead o v db rows = IfSome o.moving (λ m. AreNumbered (columns_of o.own m.from) (rows_at v m.from db.trees) → rows ≡ rows_at v m.from db.trees)
+
+-- a store of a format that is told so can be raised, and these are the rows to move
+pub record IsRising (d : Parts) (told : Older) (db : Database) (rows : List Row) : Type 0 where
   pub o : OlderParts
   pub older : IsOlder d o
   pub is_told : IsTold told o
@@ -62,6 +85,7 @@ pub record IsRising (d : Parts) (told : Older) (db : Database) : Type 0 where
   pub from : Site
   pub to : Site
   pub can : CanRise d o owner db from to
+  pub read : (o : OlderParts) → IsOlder d o → IsTold told o → (v : Site) → IsSite (parts_of o) v → db.schema ≡ v.schema → AreRead o v db rows
 
 -- and was raised, whatever format it is that is told so, whoever's store, and wherever its tables stand
 pub record RaisesAll (d : Parts) (told : Older) (old new : Database) : Type 0 where

@@ -1,7 +1,8 @@
-ghost use Rattle.std.specs.Prelude.{◌≡◌, map};
+ghost use Rattle.std.specs.Prelude.{◌≡◌, map, option_map};
 ghost use Rattle.std.specs.List.{AllByRecursion, AllZip};
 ghost use Rattle.fare_opening.specs.Parts.{Parts, IsDesign, IsOlder, IsTold};
 
+use crate::Moving;
 use fare_layout::TableNumber;
 
 /// The text that makes the table that says whose tables these are, with its name. Each store has it first.
@@ -28,8 +29,10 @@ pub struct Older {
     /// Those that make the tables which it lacks.
     pub missing: &'static [(&'static str, &'static str)],
     /// The texts of its statements, each with the table that it is of: `READ_META`, `PUT_META` and `SET_META` among
-    /// them.
+    /// them, and the `read` of its moving.
     pub texts: &'static [(TableNumber, &'static str)],
+    /// How the rows of one of its tables move to one that it lacks, if they do.
+    pub moving: Option<Moving>,
 }
 
 /// What a store in tables is made of.
@@ -43,7 +46,7 @@ pub trait Design {
         ensures { map (λ t. (t.0.now, t.1.now)) result.now ≡ parts.tables };
 
     /// The texts of its statements, each with the table that it is of: `READ_META`, `PUT_META` and `SET_META` among
-    /// them.
+    /// them, the `put` and `clear` of each moving, and what counts the rows of the unused table.
     fn texts() -> &'static [(TableNumber, &'static str)]
         ensures { map (λ t. (t.0, t.1.now)) result.now ≡ parts.texts };
 
@@ -51,13 +54,17 @@ pub trait Design {
     fn format() -> u8
         ensures { result ≡ parts.format };
 
+    /// A table that it keeps with no row, since an older format used it, with the text that counts its rows.
+    fn unused() -> Option<(TableNumber, &'static str)>
+        ensures { option_map (λ u. (u.0, u.1.now)) result ≡ parts.unused };
+
     /// Its older formats, which an open raises to this one.
     fn older() -> &'static [Older]
         ensures { AllZip IsTold result.now parts.older };
 
     /// Its tables can be made, its statements mean what they should where they are, and no text needs another table;
-    /// so it is of each older format too, and the tables that this one lacks are the last of them. This does
-    /// nothing, and its contract says it.
+    /// so it is of each older format too, the tables that this one lacks are the last of them, and rows move as its
+    /// moving says. This does nothing, and its contract says it.
     fn sound()
         ensures design { IsDesign parts }
         ensures older { AllByRecursion (IsOlder parts) parts.older };

@@ -2,7 +2,9 @@
 //! statements' texts, its format and its older ones. It promises that a database in which the tables stand, with their
 //! one row of `meta`, is found and stays as it is; that one in which nothing has a name of theirs gets them in one
 //! transaction, past what it holds, which stays; that a store of an older format gets the tables that it lacks, and the
-//! newest format, in one transaction, and keeps its rows; and that anything else is told apart from these and stays.
+//! newest format, in one transaction, and keeps its rows, of which those of one table may move to a new one, each with
+//! one column more; and that anything else is told apart from these and stays, also where a table that the newest
+//! format doesn't use holds a row.
 #![tactic(auto)]
 
 mod ascent;
@@ -11,14 +13,17 @@ mod design;
 mod looking;
 mod making;
 mod meta;
+mod moving;
 mod numbers;
 mod older;
 mod opening;
+mod ours;
 mod raising;
 mod site;
 
 pub use asking::{ask, ask_rows};
 pub use design::{Design, META_TABLE, Older, PUT_META, READ_META, SET_META};
+pub use moving::Moving;
 pub use numbers::{DEVICE, META, STATED, TAP};
 pub use opening::{Opened, open_tables};
 pub use site::Site;

@@ -1,21 +1,49 @@
-ghost use Rattle.std.specs.Prelude.{◌≡◌, false, List, None, IsTrue, IfOk, IfSome, OnErr};
+ghost use Rattle.std.specs.Prelude.{◌≡◌, false, List, None, IsTrue, IfOk, IfSome, OnOk, OnErr, MatchOption};
 ghost use Rattle.std.specs.List.{AllByRecursion, AllZip};
 ghost use Rattle.sqlite.specs.State.{HasCleanDisk, Survives};
 ghost use Rattle.sqlite.specs.Held.{state};
 ghost use Rattle.sqlite_rules.specs.Lists.{Has};
-ghost use Rattle.fare_tables.specs.Asking.{IsLive, SameRows};
+ghost use Rattle.fare_tables.specs.Asking.{IsLive, IsAtRest, SameRows};
 ghost use Rattle.fare_opening.specs.declared.site.Site.{Site};
-ghost use Rattle.fare_opening.specs.Parts.{OlderParts, IsOlder, IsTold};
-ghost use Rattle.fare_opening.specs.Sites.{IsSite};
-ghost use Rattle.fare_opening.specs.Raising.{CanRise, Raises, RaisesTo, IsOlderStore, MayRaise, WasRaised};
+ghost use Rattle.fare_opening.specs.MetaRow.{IsMeta};
+ghost use Rattle.fare_opening.specs.Numbers.{Meta};
+ghost use Rattle.fare_opening.specs.Parts.{Parts, OlderParts, IsOlder, IsTold, parts_of};
+ghost use Rattle.fare_opening.specs.Sites.{IsSite, rows_at};
+ghost use Rattle.fare_opening.specs.Raising.{AreRead, CanRise, Raises, RaisesTo, IsOlderStore, MayRaise, WasRaised};
 
 use crate::ascent::ascent_in;
 use crate::meta::has_meta;
+use crate::moving::rows_to_move;
 use crate::raising::raise_store;
 use crate::{Design, Older, Site};
 use fare_store::Fault;
-use sqlite::{Alter, Connection};
+use sqlite::{Alter, Connection, Row};
 use std::alloc::Global;
+
+// The rows that a raise is to move, if the row of meta is that of the format and the owner.
+fn look_back<S: Alter>(
+    alloc: Global,
+    conn: &mut Connection<S>,
+    from: &Site,
+    older: &Older,
+    owner: u16,
+) -> Result<Option<Vec<Row>>, Fault>
+    requires { (d : Parts) × (o : OlderParts) × IsOlder d o × IsTold older.now o × IsSite (parts_of o) from.now }
+    ensures meta { HasCleanDisk (state S.Store conn.new) → (state S.Store conn.old).now.schema ≡ from.now.schema → IfOk result (λ found. MatchOption found
+        (¬ IsMeta older.now.format owner (rows_at from.now Meta (state S.Store conn.old).now.trees))
+        (λ rows. IsMeta older.now.format owner (rows_at from.now Meta (state S.Store conn.old).now.trees) × ((d : Parts) (o : OlderParts) → IsOlder d o → IsTold older.now o → IsSite (parts_of o) from.now → AreRead o from.now (state S.Store conn.old).now rows.items))) }
+    ensures read { HasCleanDisk (state S.Store conn.new) → (state S.Store conn.old).now.schema ≡ from.now.schema → OnOk result (SameRows (state S.Store conn.old) (state S.Store conn.new)) }
+    ensures same { IsLive (state S.Store conn.new) → IsAtRest from.now.schema (state S.Store conn.old) → SameRows (state S.Store conn.old) (state S.Store conn.new) }
+    ensures crash { Survives (state S.Store conn.old) (state S.Store conn.new) (λ _. ¬ ((state S.Store conn.old).now.schema ≡ from.now.schema)) }
+    ensures live { IsLive (state S.Store conn.new) → IsLive (state S.Store conn.old) }
+    ensures up { HasCleanDisk (state S.Store conn.new) → IsTrue (state S.Store conn.old).is_open → OnOk result (IsTrue (state S.Store conn.new).is_open) }
+    ensures mode { conn.old.in_transaction ≡ false → conn.new.in_transaction ≡ false }
+{
+    if !has_meta(conn, from, older.format, owner)? {
+        return Ok(None);
+    }
+    Ok(Some(rows_to_move(alloc, conn, from, &older.moving)?))
+}
 
 // Raises the owner's store of an older format, if the database holds it; where the tables stand then.
 fn raise_from<D: Design, S: Alter>(
@@ -41,10 +69,10 @@ fn raise_from<D: Design, S: Alter>(
     let Some(ascent) = ascent_in::<D>(alloc, conn.schema(), older)? else {
         return Ok(None);
     };
-    if !has_meta(conn, &ascent.from, older.format, owner)? {
+    let Some(rows) = look_back(alloc, conn, &ascent.from, older, owner)? else {
         return Ok(None);
-    }
-    raise_store::<D, S>(conn, older)?;
+    };
+    raise_store::<D, S>(alloc, conn, older, rows.as_slice())?;
     Ok(Some(ascent.to))
 }
 

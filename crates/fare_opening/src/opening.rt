@@ -11,8 +11,8 @@ ghost use Rattle.fare_opening.specs.Raising.{IsOlderStore, MayRaise};
 
 use crate::looking::{Seen, look_at};
 use crate::making::make_store;
-use crate::meta::has_meta;
 use crate::older::raise;
+use crate::ours::has_store;
 use crate::{Design, Site};
 use fare_store::Fault;
 use sqlite::{Alter, Connection};
@@ -25,7 +25,8 @@ pub enum Opened {
     Kept(Site),
     /// They were made there, with no row but that of `meta`.
     Made(Site),
-    /// Those of an older format stood there, and the others were made, with no row; `meta` has the newest format.
+    /// Those of an older format stood there, and the others were made, with no row but those that moved to one of
+    /// them; `meta` has the newest format.
     Raised(Site),
 }
 
@@ -52,7 +53,7 @@ impl Opened {
     }
 }
 
-// The tables that stand here, if their meta is right, or else a store of an older format.
+// The tables that stand here, if their meta is right and the unused one has no row, or else a store of an older format.
 fn keep_or_raise<D: Design, S: Alter>(
     alloc: Global,
     conn: &mut Connection<S>,
@@ -75,7 +76,7 @@ fn keep_or_raise<D: Design, S: Alter>(
     ensures idle { conn.new.in_transaction ≡ false }
 {
     D::sound();
-    if has_meta(conn, &site, D::format(), owner)? {
+    if has_store::<D, S>(conn, &site, owner)? {
         return Ok(Some(Opened::Kept(site)));
     }
     match raise::<D, S>(alloc, conn, owner)? {
