@@ -17,3 +17,5 @@ pub mod Olders
 pub mod Rising
 pub mod Opened
 pub mod AnyOrder
+pub mod AllOrders
+pub mod AnyRise

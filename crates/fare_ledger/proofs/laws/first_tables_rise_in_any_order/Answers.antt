@@ -1,4 +1,4 @@
-use Rattle.fare_ledger.proofs.AnyOrder.{any_first_rises}
+use Rattle.fare_ledger.proofs.AnyRise.{any_first_rises}
 use Rattle.fare_ledger.proofs.laws.first_tables_rise_in_any_order.Goals as goal
 
 pub returns : goal.returns
