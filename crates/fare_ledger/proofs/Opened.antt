@@ -1,10 +1,8 @@
 -- What an open finds, and what it makes.
-use Rattle.std.proofs.Common.{◌≡◌, ◌≢◌, ◌⊎◌, inl, inr, ℕ, Bool, [], ◌∷◌, map, length, refl, sym, ap, subst, ◌∙◌, arith}
+use Rattle.std.proofs.Common.{◌≡◌, ◌⊎◌, inl, inr, ℕ, Bool, [], ◌∷◌, map, length, refl, sym, ap, subst, ◌∙◌, arith}
 use Rattle.std.specs.Prelude.{is_some}
-use Rattle.std.specs.List.{AllByRecursion}
 use Rattle.sqlite.specs.Schema.{Schema}
 use Rattle.sqlite.specs.Effect.{Database, IsDatabase}
-use Rattle.sqlite.specs.Table.{Table}
 use Rattle.sqlite.specs.Tree.{Trees}
 use Rattle.sqlite.specs.State.{State}
 use Rattle.sqlite_rules.specs.Lists.{Has}
@@ -14,7 +12,7 @@ use Rattle.fare_tables.specs.Making.{no_schema}
 use Rattle.fare_tables.specs.Tabled.{IsFit, IsLawfulIn, IsLeft, left_of}
 use Rattle.fare_tables.proofs.Steps.{same_database}
 use Rattle.fare_tables.proofs.Reopened.{fit_again}
-use Rattle.fare_opening.specs.Numbers.{Meta, Device, Tap, Stated}
+use Rattle.fare_opening.specs.Numbers.{Device, Tap, Stated}
 use Rattle.fare_layout.specs.Growing.{HasNone}
 use Rattle.fare_layout.proofs.Others.{all_kept}
 use Rattle.fare_opening.specs.declared.opening.Opened.{Opened}
@@ -22,10 +20,9 @@ use Rattle.fare_opening.specs.declared.opening.Opened.TheVariants as opened
 use Rattle.fare_opening.specs.declared.site.Site.{Site}
 use Rattle.fare_opening.specs.Making as store
 use Rattle.fare_opening.specs.Opening as opening
-use Rattle.fare_opening.specs.Parts.{OlderParts, parts_of}
+use Rattle.fare_opening.specs.Parts.{OlderParts}
 use Rattle.fare_opening.specs.Opening.{IsPlaced, WasMade, Opens, place_in}
 use Rattle.fare_opening.specs.Raising as raising
-use Rattle.fare_opening.specs.Sites.{tree_at}
 use Rattle.fare_opening.proofs.Vacant as vacant
 use Rattle.fare_ledger.specs.declared.layout.Layout.{Layout}
 use Rattle.fare_ledger.specs.Layouts.{schema_in, ours}
