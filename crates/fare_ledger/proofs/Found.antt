@@ -32,7 +32,7 @@ use Rattle.fare_ledger.specs.Layouts.{schema_in, tree_in, ours, at_tree}
 use Rattle.fare_opening.proofs.Asked.{asked_at}
 use Rattle.fare_ledger.proofs.Placed.{within}
 use Rattle.fare_ledger.specs.Making.{site_of}
-use Rattle.fare_ledger.specs.Statements.{Retired, ledger_parts}
+use Rattle.fare_ledger.specs.Statements.{Retired, Routed, ledger_parts}
 use Rattle.fare_ledger.specs.Tables.{lane_query, stated_terms, stated_query, day_terms, begun_terms, retired_terms}
 use Rattle.fare_ledger.specs.Held.{TapRow, StatedRow, lane_row, IsLane, lane_of, tap_cells, tap_of, IsTap, stated_cells, stated_of, IsStated, is_of, stated_in, is_on, is_begun, retired_row, IsRetired}
 use Rattle.fare_ledger.specs.Words.{AreApart}
@@ -47,9 +47,9 @@ pub at_lane : (w : Layout) (q : Query) (db : Trees) (params : Row) (rows : List 
 unfolding ours
 at_lane w q db params rows = asked_at ledger_parts (site_of w) w.fits kind.Device (within w kind.Device refl) q 1 db (overlay (ours w db) []) params rows refl
 
-pub at_tap : (w : Layout) (q : Query) (db : Trees) (params : Row) (rows : List Row) → IsAnswer (at_tree (tree_in w kind.Tap) q) (overlay db []) params rows → IsAnswer (at_tree 2 q) (overlay (ours w db) []) params rows
+pub at_tap : (w : Layout) (q : Query) (db : Trees) (params : Row) (rows : List Row) → IsAnswer (at_tree (tree_in w Routed) q) (overlay db []) params rows → IsAnswer (at_tree 7 q) (overlay (ours w db) []) params rows
 unfolding ours
-at_tap w q db params rows = asked_at ledger_parts (site_of w) w.fits kind.Tap (within w kind.Tap refl) q 2 db (overlay (ours w db) []) params rows refl
+at_tap w q db params rows = asked_at ledger_parts (site_of w) w.fits Routed (within w Routed refl) q 7 db (overlay (ours w db) []) params rows refl
 
 pub at_stated : (w : Layout) (q : Query) (db : Trees) (params : Row) (rows : List Row) → IsAnswer (at_tree (tree_in w kind.Stated) q) (overlay db []) params rows → IsAnswer (at_tree 4 q) (overlay (ours w db) []) params rows
 unfolding ours
@@ -185,16 +185,16 @@ day_cell id t d y = rw (eq_holds t.device d, eq_holds t.tap.day y) (two_terms (t
 day_each : (d y : ℕ) (r : Row) → IsTap r → matches_as Null (λ _. []) day_terms end (asked d y ∷ r ∷ []) ≡ chosen (is_on d y (tap_of r)) (asked d y ∷ r ∷ [])
 day_each d y r ok = subst (λ x. matches_as Null (λ _. []) day_terms end (asked d y ∷ x ∷ []) ≡ chosen (is_on d y (tap_of x)) (asked d y ∷ x ∷ [])) (sym ok) (day_cell (id_of r) (tap_of r) d y)
 
-pub day_counted : (w : Layout) (old new : State) (d y : ℕ) (row : Row) → old.now.schema ≡ schema_in w → AreRows IsTap (ours w old.now.trees 2) → QueriesRow day_text (asked d y) old new (Ok row) → row ≡ int (counted (length (filter (is_on d y) (map tap_of (ours w old.now.trees 2))))) ∷ []
+pub day_counted : (w : Layout) (old new : State) (d y : ℕ) (row : Row) → old.now.schema ≡ schema_in w → AreRows IsTap (ours w old.now.trees 7) → QueriesRow day_text (asked d y) old new (Ok row) → row ≡ int (counted (length (filter (is_on d y) (map tap_of (ours w old.now.trees 7))))) ∷ []
 day_counted w old new d y row has ok h =
     let got = (first_as day_text (asked d y) old new (schema_in w) has _ (day_meant w).command_is (day_meant w).plain (day_meant w).unlisted row h).1 in
-    let a : IsAnswer (count_query 2 day_terms) (overlay (ours w old.now.trees) []) (asked d y) (row ∷ got.0) = at_tap w (count_query 2 day_terms) old.now.trees (asked d y) (row ∷ got.0) (got.1 Null) in
-    let rows = count_answer 2 day_terms (overlay (ours w old.now.trees) []) (asked d y) (row ∷ got.0) a in
-    let first : row ≡ int (counted (length (found 2 day_terms (overlay (ours w old.now.trees) []) (asked d y)))) ∷ [] = cc in
-    let all = matched IsTap (λ r. is_on d y (tap_of r)) (asked d y) day_terms (day_each d y) (ours w old.now.trees 2) (all_of IsTap (ours w old.now.trees 2) ok) in
-    let some = filter (λ r. is_on d y (tap_of r)) (ours w old.now.trees 2) in
-    let size : length (found 2 day_terms (overlay (ours w old.now.trees) []) (asked d y)) ≡ length (filter (is_on d y) (map tap_of (ours w old.now.trees 2))) =
-    ap length all ∙ length-map some (λ r. asked d y ∷ r ∷ []) ∙ sym (length-map some tap_of) ∙ sym (ap length (filter_of_map tap_of (is_on d y) (ours w old.now.trees 2))) in
+    let a : IsAnswer (count_query 7 day_terms) (overlay (ours w old.now.trees) []) (asked d y) (row ∷ got.0) = at_tap w (count_query 7 day_terms) old.now.trees (asked d y) (row ∷ got.0) (got.1 Null) in
+    let rows = count_answer 7 day_terms (overlay (ours w old.now.trees) []) (asked d y) (row ∷ got.0) a in
+    let first : row ≡ int (counted (length (found 7 day_terms (overlay (ours w old.now.trees) []) (asked d y)))) ∷ [] = cc in
+    let all = matched IsTap (λ r. is_on d y (tap_of r)) (asked d y) day_terms (day_each d y) (ours w old.now.trees 7) (all_of IsTap (ours w old.now.trees 7) ok) in
+    let some = filter (λ r. is_on d y (tap_of r)) (ours w old.now.trees 7) in
+    let size : length (found 7 day_terms (overlay (ours w old.now.trees) []) (asked d y)) ≡ length (filter (is_on d y) (map tap_of (ours w old.now.trees 7))) =
+    ap length all ∙ length-map some (λ r. asked d y ∷ r ∷ []) ∙ sym (length-map some tap_of) ∙ sym (ap length (filter_of_map tap_of (is_on d y) (ours w old.now.trees 7))) in
     first ∙ ap (λ n. int (counted n) ∷ []) size
 
 or_truth : (a b : Bool) → is_true (binary by.Or (from_truth (Some a)) (from_truth (Some b))) ≡ (a || b)
@@ -230,13 +230,13 @@ all_found : (rows : List Row) → length (flat_map (λ r. matches_as Null (λ _.
 all_found [] = refl
 all_found (r ∷ rows) = ap (λ n. suc n) (all_found rows)
 
-pub taps_counted : (w : Layout) (old new : State) (row : Row) → old.now.schema ≡ schema_in w → QueriesRow taps_text [] old new (Ok row) → row ≡ int (counted (length (map tap_of (ours w old.now.trees 2)))) ∷ []
+pub taps_counted : (w : Layout) (old new : State) (row : Row) → old.now.schema ≡ schema_in w → QueriesRow taps_text [] old new (Ok row) → row ≡ int (counted (length (map tap_of (ours w old.now.trees 7)))) ∷ []
 taps_counted w old new row has h =
     let got = (first_as taps_text [] old new (schema_in w) has _ (taps_meant w).command_is (taps_meant w).plain (taps_meant w).unlisted row h).1 in
-    let a : IsAnswer (count_query 2 []) (overlay (ours w old.now.trees) []) [] (row ∷ got.0) = at_tap w (count_query 2 []) old.now.trees [] (row ∷ got.0) (got.1 Null) in
-    let rows = count_answer 2 [] (overlay (ours w old.now.trees) []) [] (row ∷ got.0) a in
-    let first : row ≡ int (counted (length (found 2 [] (overlay (ours w old.now.trees) []) []))) ∷ [] = cc in
-    first ∙ ap (λ n. int (counted n) ∷ []) (all_found (ours w old.now.trees 2) ∙ sym (length-map (ours w old.now.trees 2) tap_of))
+    let a : IsAnswer (count_query 7 []) (overlay (ours w old.now.trees) []) [] (row ∷ got.0) = at_tap w (count_query 7 []) old.now.trees [] (row ∷ got.0) (got.1 Null) in
+    let rows = count_answer 7 [] (overlay (ours w old.now.trees) []) [] (row ∷ got.0) a in
+    let first : row ≡ int (counted (length (found 7 [] (overlay (ours w old.now.trees) []) []))) ∷ [] = cc in
+    first ∙ ap (λ n. int (counted n) ∷ []) (all_found (ours w old.now.trees 7) ∙ sym (length-map (ours w old.now.trees 7) tap_of))
 
 pub statements_counted : (w : Layout) (old new : State) (row : Row) → old.now.schema ≡ schema_in w → QueriesRow statements_text [] old new (Ok row) → row ≡ int (counted (length (map stated_of (ours w old.now.trees 4)))) ∷ []
 statements_counted w old new row has h =

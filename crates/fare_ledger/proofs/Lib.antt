@@ -1,5 +1,5 @@
 pub mod Texts
-pub mod FirstTexts
+pub mod OlderTexts
 pub mod Placed
 pub mod Found
 pub mod Links
@@ -13,6 +13,9 @@ pub mod Empty
 pub mod Listed
 pub mod Between
 pub mod Known
+pub mod Olders
 pub mod Rising
 pub mod Opened
 pub mod AnyOrder
+pub mod AllOrders
+pub mod AnyRise

@@ -49,7 +49,7 @@ tap_in r = record {
   device = nat_in (column r 0);
   lane = nat_in (column r 1);
   link = nat_in (column r 2);
-  tap = record { product = nat_in (column r 3); token = nat_in (column r 4); moment = nat_in (column r 5); day = nat_in (column r 6) };
+  tap = record { product = nat_in (column r 3); token = nat_in (column r 4); moment = nat_in (column r 5); day = nat_in (column r 6); route = nat_in (column r 7) };
 }
 
 abbrev tap_out : Output → TapRow
@@ -88,17 +88,17 @@ rows_back : (os : List Output) → map tap_in (map (λ (p : Output). p.1) os) �
 rows_back [] = refl
 rows_back (o ∷ os) = ap (λ more. tap_out o ∷ more) (rows_back os)
 
-between_answer : (db : Trees) (from to : ℕ) (rows : List Row) → AreRows IsTap (db 2) → IsAnswer between_query (overlay db []) (asked from to) rows → AreListed (map tap_of (db 2)) from to (map tap_in rows)
+between_answer : (db : Trees) (from to : ℕ) (rows : List Row) → AreRows IsTap (db 7) → IsAnswer between_query (overlay db []) (asked from to) rows → AreListed (map tap_of (db 7)) from to (map tap_in rows)
 between_answer db from to rows ok a =
-    let all = all_of IsTap (db 2) ok in
-    let wanted : List TapRow = filter (is_between from to) (map tap_of (db 2)) in
-    let staged : a.staged ≡ map (λ r. asked from to ∷ r ∷ []) (filter (λ r. is_between from to (tap_of r)) (db 2)) = a.grouped ∙ matched IsTap (λ r. is_between from to (tap_of r)) (asked from to) between_terms (between_each from to) (db 2) all in
-    let kept : a.kept ≡ map out_of wanted = a.distinct ∙ ap (map (output between_query)) staged ∙ shown_as tap_of out_of (is_between from to) between_query (asked from to) IsTap (between_shown from to) (db 2) all in
+    let all = all_of IsTap (db 7) ok in
+    let wanted : List TapRow = filter (is_between from to) (map tap_of (db 7)) in
+    let staged : a.staged ≡ map (λ r. asked from to ∷ r ∷ []) (filter (λ r. is_between from to (tap_of r)) (db 7)) = a.grouped ∙ matched IsTap (λ r. is_between from to (tap_of r)) (asked from to) between_terms (between_each from to) (db 7) all in
+    let kept : a.kept ≡ map out_of wanted = a.distinct ∙ ap (map (output between_query)) staged ∙ shown_as tap_of out_of (is_between from to) between_query (asked from to) IsTap (between_shown from to) (db 7) all in
     let same = subst (λ k. IsPermutation k a.ordered) kept a.same in
     let outs = as_outs a.ordered (all-permutation (λ o. o ≡ out_of (tap_out o)) _ _ same (all_out wanted)) in
     let listed : map tap_in rows ≡ map tap_out a.ordered = ap (map tap_in) a.shown ∙ rows_back a.ordered in
     let sorted : IsSorted tap_order (map tap_out a.ordered) = subst (λ order. IsSorted order (map tap_out a.ordered)) order_is (IsSorted-from_map (output_cmp between_query) out_of (map tap_out a.ordered) (subst (IsSorted (output_cmp between_query)) outs a.sorted)) in
-    subst (AreListed (map tap_of (db 2)) from to) (sym listed) (record {
+    subst (AreListed (map tap_of (db 7)) from to) (sym listed) (record {
       same = subst (λ ts. IsPermutation ts (map tap_out a.ordered)) (back wanted) (IsPermutation-map tap_out (map out_of wanted) a.ordered same);
       sorted = sorted;
     })
@@ -114,6 +114,7 @@ shown_record r owner t shows = λ i. record {
     token = ap nat_in (sym shows.tap.token) i;
     moment = ap nat_in (sym shows.tap.moment) i;
     day = ap nat_in (sym shows.tap.day) i;
+    route = ap nat_in (sym shows.tap.route) i;
   };
 }
 
@@ -123,8 +124,8 @@ shown_records owner [] (t ∷ taps) shows = absurd shows
 shown_records owner (r ∷ rows) [] shows = absurd shows
 shown_records owner (r ∷ rows) (t ∷ taps) shows = λ i. shown_record r owner t shows.0 i ∷ shown_records owner rows taps shows.1 i
 
-pub between_rows : {E : Type 0} (w : Layout) (V : Type 0) (items : V → List RecordValue) (result : Result V E) (old new : State) (owner from to : ℕ) (rows : List Row) → old.now.schema ≡ schema_in w → AreRows IsTap (ours w old.now.trees 2) → Shown between_text (asked from to) old new rows
-    → IfOk result (λ v. ShowRows owner rows (items v)) → IfOk result (λ v. IsListedOf owner (map tap_of (ours w old.now.trees 2)) from to (items v))
+pub between_rows : {E : Type 0} (w : Layout) (V : Type 0) (items : V → List RecordValue) (result : Result V E) (old new : State) (owner from to : ℕ) (rows : List Row) → old.now.schema ≡ schema_in w → AreRows IsTap (ours w old.now.trees 7) → Shown between_text (asked from to) old new rows
+    → IfOk result (λ v. ShowRows owner rows (items v)) → IfOk result (λ v. IsListedOf owner (map tap_of (ours w old.now.trees 7)) from to (items v))
 between_rows w V items (Ok v) old new owner from to rows has ok shown shows =
     let read = reads_as between_text (asked from to) old new (schema_in w) has _ (between_meant w).command_is (between_meant w).plain (between_meant w).unlisted rows shown in
     record { rows = map tap_in rows; listed = between_answer (ours w old.now.trees) from to rows ok (at_tap w between_query old.now.trees (asked from to) rows (read.answer Null)); is = shown_records owner rows (items v) shows }

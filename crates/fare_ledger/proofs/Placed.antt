@@ -12,7 +12,7 @@ use Rattle.sqlite_rules.specs.Edit.{Edit, taken_by}
 use Rattle.sqlite_rules.specs.Keys.{shares}
 use Rattle.sqlite_schema.specs.declared.schema.Keys.{Keys}
 use Rattle.fare_layout.specs.declared.place.TableNumber.{TableNumber}
-use Rattle.fare_opening.specs.Numbers.{Device, Tap, Stated}
+use Rattle.fare_opening.specs.Numbers.{Device, Stated}
 use Rattle.fare_layout.specs.declared.place.Place.{Place}
 use Rattle.fare_layout.specs.Places.{all_of, place_of, or_nowhere}
 use Rattle.fare_layout.specs.Layouts.{Stands}
@@ -21,17 +21,20 @@ use Rattle.fare_opening.proofs.Standing as standing
 use Rattle.fare_ledger.specs.declared.layout.Layout.{Layout}
 use Rattle.fare_ledger.specs.Layouts.{schema_in, tree_in, place_in, table_at, ours}
 use Rattle.fare_ledger.specs.Making.{site_of}
-use Rattle.fare_ledger.specs.Statements.{Retired, ledger_parts}
-use Rattle.fare_ledger.specs.Tables.{ledger_schema, lane_table, tap_table, stated_table, retired_table}
+use Rattle.fare_ledger.specs.Statements.{Retired, Routed, ledger_parts}
+use Rattle.fare_ledger.specs.Tables.{ledger_schema, lane_table, stated_table, retired_table, routed_table}
 
 -- each table is where it stands
 pub lane_placed : (w : Layout) → slice_get (schema_in w).tables (place_in w Device) ≡ Some (lane_table (tree_in w Device))
 unfolding ledger_schema
 lane_placed w = (standing.this_stands ledger_parts (site_of w) w.fits Device (lane_table 1) refl).there
 
-pub tap_placed : (w : Layout) → slice_get (schema_in w).tables (place_in w Tap) ≡ Some (tap_table (tree_in w Tap))
+pub routed_stands : (w : Layout) → Stands (schema_in w) (routed_table 7) (place_of w.places Routed)
 unfolding ledger_schema
-tap_placed w = (standing.this_stands ledger_parts (site_of w) w.fits Tap (tap_table 2) refl).there
+routed_stands w = standing.this_stands ledger_parts (site_of w) w.fits Routed (routed_table 7) refl
+
+pub routed_placed : (w : Layout) → slice_get (schema_in w).tables (place_in w Routed) ≡ Some (routed_table (tree_in w Routed))
+routed_placed w = (routed_stands w).there
 
 pub stated_placed : (w : Layout) → slice_get (schema_in w).tables (place_in w Stated) ≡ Some (stated_table (tree_in w Stated))
 unfolding ledger_schema
@@ -45,25 +48,25 @@ pub retired_placed : (w : Layout) → slice_get (schema_in w).tables (place_in w
 retired_placed w = (retired_stands w).there
 
 -- each table has a place
-pub within : (w : Layout) (k : TableNumber) → nat_lt k.number 5 ≡ true → k.number < length (all_of w.places)
+pub within : (w : Layout) (k : TableNumber) → nat_lt k.number 6 ≡ true → k.number < length (all_of w.places)
 unfolding ledger_schema
 within w k low =
-    let five : 5 ≡ length (all_of w.places) = standing.place_count (schema_in w) ledger_schema.tables (all_of w.places) w.fits.stands in
+    let six : 6 ≡ length (all_of w.places) = standing.place_count (schema_in w) ledger_schema.tables (all_of w.places) w.fits.stands in
     grind (arith, nat_tests)
 
 -- what holds of each tree
-pub each : (P : ℕ → Type 0) (w : Layout) → AllByRecursion (λ (t : Table). P t.tree) (schema_in w).tables → (k : TableNumber) → nat_lt k.number 5 ≡ true → P (tree_in w k)
+pub each : (P : ℕ → Type 0) (w : Layout) → AllByRecursion (λ (t : Table). P t.tree) (schema_in w).tables → (k : TableNumber) → nat_lt k.number 6 ≡ true → P (tree_in w k)
 each P w all k low = standing.each_tree P ledger_parts (site_of w) w.fits all k (within w k low)
 
 -- two tables have two trees
-pub apart : (w : Layout) (k j : TableNumber) → (k.number == j.number) ≡ false → nat_lt k.number 5 ≡ true → nat_lt j.number 5 ≡ true → tree_in w k ≢ tree_in w j
+pub apart : (w : Layout) (k j : TableNumber) → (k.number == j.number) ≡ false → nat_lt k.number 6 ≡ true → nat_lt j.number 6 ≡ true → tree_in w k ≢ tree_in w j
 apart w k j other low high = elim (cases_Bool (nat_lt k.number j.number)) [
   | inl first ↦ standing.comes_first ledger_parts (site_of w) w.fits k j (grind (arith, nat_tests)) (within w j high)
   | inr last ↦ (λ e. standing.comes_first ledger_parts (site_of w) w.fits j k (grind (arith, nat_tests)) (within w k low) (sym e))
 ]
 
 -- no foreign key acts
-pub no_works : (w : Layout) (k : TableNumber) → nat_lt k.number 5 ≡ true → (keys : Keys) (db : Trees) (edit : Edit) → edit.table.tree ≡ tree_in w k → works (schema_in w) keys 0 edit.table.tree (taken_by db edit) edit.news ≡ []
+pub no_works : (w : Layout) (k : TableNumber) → nat_lt k.number 6 ≡ true → (keys : Keys) (db : Trees) (edit : Edit) → edit.table.tree ≡ tree_in w k → works (schema_in w) keys 0 edit.table.tree (taken_by db edit) edit.news ≡ []
 no_works w k low = standing.no_works ledger_parts (site_of w) w.fits k (within w k low)
 
 -- no index has the rowid for its key

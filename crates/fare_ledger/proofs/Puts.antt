@@ -21,12 +21,12 @@ use Rattle.fare_tables.proofs.Statements.{made, cast_int, cast_null, went, same_
 use Rattle.fare_opening.specs.Numbers.{Meta, Device, Tap, Stated}
 use Rattle.fare_ledger.specs.declared.layout.Layout.{Layout}
 use Rattle.fare_ledger.specs.Layouts.{schema_in, tree_in, ours}
-use Rattle.fare_ledger.specs.Statements.{Retired}
-use Rattle.fare_ledger.specs.Tables.{tap_table, stated_table, retired_table}
+use Rattle.fare_ledger.specs.Statements.{Retired, Routed}
+use Rattle.fare_ledger.specs.Tables.{routed_table, stated_table, retired_table}
 use Rattle.fare_ledger.specs.Held.{TapRow, StatedRow, PutsTap, PutsLane, PutsStated, PutsRetired, Becomes, AreReadable, IsLane, IsTap, IsStated, IsRetired, retired_row, lane_row, lane_of, tap_cells, tap_of, stated_cells, stated_of, held_of, with_lane, with_tap, with_stated, with_numbers, with_retired_lane}
 use Rattle.fare_ledger.proofs.Texts.{put_tap_text, put_tap_command, put_tap_meant, put_stated_text, put_stated_command, put_stated_meant, put_retired_text, put_retired_command, put_retired_meant}
 use Rattle.fare_opening.proofs.Standing.{at_found}
-use Rattle.fare_ledger.proofs.Placed.{no_works, tap_placed, stated_placed, retired_placed, each, apart}
+use Rattle.fare_ledger.proofs.Placed.{no_works, routed_placed, stated_placed, retired_placed, each, apart}
 use Rattle.fare_ledger.proofs.Found.{lane_ids, retired_ids}
 
 pub tap_ids : (r : Row) → IsTap r → column r 0 ≡ int (id_of r)
@@ -40,29 +40,30 @@ unfolding ours
 puts_tap w old new t count has h =
     let params = tap_cells t in
     let db = old.now.trees in
-    let table = tap_table (tree_in w Tap) in
+    let table = routed_table (tree_in w Routed) in
     let command = put_tap_command w in
     let means = put_tap_meant w in
     let run = runs_as put_tap_text params old new (schema_in w) has command means.command_is means.plain count h in
     let text = statement_of put_tap_text (understood (schema_in w) put_tap_text) in
     let task : Task = record { limit = old.step_limit; keys = Enforced; schema = schema_in w; table = table; params = params } in
-    let done = made task (mode_of old) command db run.tally new.now (at_found task (mode_of old) command db _ (run.tally, new.now) (tap_placed w) (subst (λ s. Does old.step_limit (mode_of old) params (record old.now { schema = s }) text None command (Ok (run.tally, new.now))) has run.changed)) in
+    let done = made task (mode_of old) command db run.tally new.now (at_found task (mode_of old) command db _ (run.tally, new.now) (routed_placed w) (subst (λ s. Does old.step_limit (mode_of old) params (record old.now { schema = s }) text None command (Ok (run.tally, new.now))) has run.changed)) in
     let given = went done.wrote in
     let written = went (went given.2).2 in
     let counted = went written.2 in
     let trees : new.now.trees ≡ written.0 = ap (λ (d : Database). d.trees) done.after_is ∙ ap (λ (it : Written). it.trees) (same_value counted.2) ∙ same_value counted.1 in
-    let step = one_step (schema_in w) Enforced db written.0 (edit_of db table [] Chosen 0 given.0) (no_works w Tap refl Enforced db (edit_of db table [] Chosen 0 given.0) refl) written.1 in
-    let kept = each (λ tree. tree ≢ tree_in w Tap → written.0 tree ≡ db tree) w step.tables in
-    let edit : edited db (edit_of db table [] Chosen 0 given.0) ≡ put_row (Int (next_rowid (db (tree_in w Tap))) ∷ tap_cells t) (db (tree_in w Tap)) = ap (λ all. edited db (edit_of db table [] Chosen 0 all)) given.1.1 ∙ simp (cast_int, cast_null) in
+    let step = one_step (schema_in w) Enforced db written.0 (edit_of db table [] Chosen 0 given.0) (no_works w Routed refl Enforced db (edit_of db table [] Chosen 0 given.0) refl) written.1 in
+    let kept = each (λ tree. tree ≢ tree_in w Routed → written.0 tree ≡ db tree) w step.tables in
+    let edit : edited db (edit_of db table [] Chosen 0 given.0) ≡ put_row (Int (next_rowid (db (tree_in w Routed))) ∷ tap_cells t) (db (tree_in w Routed)) = ap (λ all. edited db (edit_of db table [] Chosen 0 all)) given.1.1 ∙ simp (cast_int, cast_null) in
     let at : (k : ℕ) → new.now.trees k ≡ written.0 k = λ k. ap (λ (t : Trees). t k) trees in
     record {
       schema = ap (λ (d : Database). d.schema) done.after_is;
       database = run.sound;
-      lanes = at (tree_in w Device) ∙ kept Device refl (apart w Device Tap refl refl refl);
-      taps = at (tree_in w Tap) ∙ step.rows ∙ edit;
-      statements = at (tree_in w Stated) ∙ kept Stated refl (apart w Stated Tap refl refl refl);
-      retired = at (tree_in w Retired) ∙ kept Retired refl (apart w Retired Tap refl refl refl);
-      meta = at (tree_in w Meta) ∙ kept Meta refl (apart w Meta Tap refl refl refl);
+      lanes = at (tree_in w Device) ∙ kept Device refl (apart w Device Routed refl refl refl);
+      taps = at (tree_in w Routed) ∙ step.rows ∙ edit;
+      statements = at (tree_in w Stated) ∙ kept Stated refl (apart w Stated Routed refl refl refl);
+      retired = at (tree_in w Retired) ∙ kept Retired refl (apart w Retired Routed refl refl refl);
+      meta = at (tree_in w Meta) ∙ kept Meta refl (apart w Meta Routed refl refl refl);
+      unused = at (tree_in w Tap) ∙ kept Tap refl (apart w Tap Routed refl refl refl);
     }
 
 pub puts_stated : (w : Layout) (old new : State) (s : StatedRow) (count : ℕ) → old.now.schema ≡ schema_in w → Executes put_stated_text (stated_cells s) old new (Ok count) → PutsStated w old.now new.now s
@@ -89,10 +90,11 @@ puts_stated w old new s count has h =
       schema = ap (λ (d : Database). d.schema) done.after_is;
       database = run.sound;
       lanes = at (tree_in w Device) ∙ kept Device refl (apart w Device Stated refl refl refl);
-      taps = at (tree_in w Tap) ∙ kept Tap refl (apart w Tap Stated refl refl refl);
+      taps = at (tree_in w Routed) ∙ kept Routed refl (apart w Routed Stated refl refl refl);
       statements = at (tree_in w Stated) ∙ step.rows ∙ edit;
       retired = at (tree_in w Retired) ∙ kept Retired refl (apart w Retired Stated refl refl refl);
       meta = at (tree_in w Meta) ∙ kept Meta refl (apart w Meta Stated refl refl refl);
+      unused = at (tree_in w Tap) ∙ kept Tap refl (apart w Tap Stated refl refl refl);
     }
 
 pub puts_retired : (w : Layout) (old new : State) (d : ℕ) (count : ℕ) → old.now.schema ≡ schema_in w → Executes put_retired_text (int d ∷ []) old new (Ok count) → PutsRetired w old.now new.now d
@@ -119,10 +121,11 @@ puts_retired w old new d count has h =
       schema = ap (λ (d : Database). d.schema) done.after_is;
       database = run.sound;
       lanes = at (tree_in w Device) ∙ kept Device refl (apart w Device Retired refl refl refl);
-      taps = at (tree_in w Tap) ∙ kept Tap refl (apart w Tap Retired refl refl refl);
+      taps = at (tree_in w Routed) ∙ kept Routed refl (apart w Routed Retired refl refl refl);
       statements = at (tree_in w Stated) ∙ kept Stated refl (apart w Stated Retired refl refl refl);
       retired = at (tree_in w Retired) ∙ step.rows ∙ edit;
       meta = at (tree_in w Meta) ∙ kept Meta refl (apart w Meta Retired refl refl refl);
+      unused = at (tree_in w Tap) ∙ kept Tap refl (apart w Tap Retired refl refl refl);
     }
 
 -- ---- what is held then
@@ -144,7 +147,7 @@ lanes_after rows now d k c ok (inr is) = (
 
 pub both : (w : Layout) (old mid new : Database) (t : TapRow) (c : ℕ) → AreReadable (ours w old.trees) → PutsTap w old mid t → PutsLane w mid new t.device t.lane c → Becomes w new (with_tap t c (held_of (ours w old.trees)))
 both w old mid new t c ok first second =
-    let taps = appended IsTap tap_ids (ours w old.trees 2) (ours w new.trees 2) (tap_cells t) ok.taps (λ n. refl) (second.taps ∙ first.taps) in
+    let taps = appended IsTap tap_ids (ours w old.trees 7) (ours w new.trees 7) (tap_cells t) ok.taps (λ n. refl) (second.taps ∙ first.taps) in
     let lanes = lanes_after (ours w mid.trees 1) (ours w new.trees 1) t.device t.lane c (subst (AreRows IsLane) (sym first.lanes) ok.lanes) second.lanes in
     let statements = second.statements ∙ first.statements in
     let retired = second.retired ∙ first.retired in
@@ -154,10 +157,11 @@ both w old mid new t c ok first second =
       readable = record { lanes = lanes.0; taps = taps.0; statements = subst (AreRows IsStated) (sym statements) ok.statements; retired = subst (AreRows IsRetired) (sym retired) ok.retired };
       value = λ i. record {
         lanes = λ x. (lanes.1 x ∙ ap (λ all. with_lane t.device t.lane c (λ y. lane_of (held all y)) x) first.lanes) i;
-        taps = (ap (map tap_of) taps.1 ∙ map-append tap_of (ours w old.trees 2) _) i;
+        taps = (ap (map tap_of) taps.1 ∙ map-append tap_of (ours w old.trees 7) _) i;
         statements = ap (map stated_of) statements i;
         retired = λ x. is_some (held (retired i) x);
         meta = (second.meta ∙ first.meta) i;
+        unused = (second.unused ∙ first.unused) i;
       };
     }
 
@@ -174,6 +178,7 @@ one_more w old new s ok puts =
         statements = (ap (map stated_of) statements.1 ∙ map-append stated_of (ours w old.trees 4) _) i;
         retired = λ x. is_some (held (puts.retired i) x);
         meta = puts.meta i;
+        unused = puts.unused i;
       };
     }
 
@@ -190,6 +195,7 @@ other_numbers w old new d k c ok puts =
         statements = map stated_of (puts.statements i);
         retired = λ x. is_some (held (puts.retired i) x);
         meta = puts.meta i;
+        unused = puts.unused i;
       };
     }
 
@@ -215,5 +221,6 @@ one_retired w old new d ok puts =
         statements = map stated_of (puts.statements i);
         retired = λ x. (ap (λ all. is_some (held all x)) puts.retired ∙ ap is_some (held_put IsRetired retired_ids rows d (Null ∷ []) x ok.retired) ∙ some_if (d == x) (retired_row d) (held rows x)) i;
         meta = puts.meta i;
+        unused = puts.unused i;
       };
     }

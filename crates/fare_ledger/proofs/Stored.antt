@@ -107,6 +107,7 @@ take_fits o start known h r c may fit = record {
       fit.days d y low before
       ∙ ap {B = Option ℕ} Some (sym (same_count o h.taps r d y may.mine (λ same. day_apart start (h.lanes r.device).closed y r.tap.day may.open_day low (subst (λ e. y < start + (h.lanes e).closed) same before))));
   meta = fit.meta;
+  unused = fit.unused;
 }
 
 -- ---- a statement more
@@ -129,6 +130,7 @@ state_fits o start h s none fit = record {
   single = apart_pushed h.statements (row_stated s) fit.single none;
   days = λ d y low high. stays_stated h.statements (row_stated s) d y _ none (fit.days d y low high);
   meta = fit.meta;
+  unused = fit.unused;
 }
 
 -- ---- a day closed
@@ -177,6 +179,7 @@ close_fits o start known h d lane may fit = record {
   single = fit.single;
   days = close_days o start h d lane.taken (lane.closed + 1) (ap (λ n. n + 1) may.numbers.closed) may.stated fit.days;
   meta = fit.meta;
+  unused = fit.unused;
 }
 
 -- ---- a lane retired
@@ -193,4 +196,4 @@ retired_value o start known h d = λ i. record {
 }
 
 pub retired_fits : (o start : ℕ) (h : Held) (d : ℕ) → FitTogether o start h → FitTogether o start (with_retired_lane d h)
-retired_fits o start h d fit = record { counted = fit.counted; numbered = fit.numbered; single = fit.single; days = fit.days; meta = fit.meta }
+retired_fits o start h d fit = record { counted = fit.counted; numbered = fit.numbered; single = fit.single; days = fit.days; meta = fit.meta; unused = fit.unused }

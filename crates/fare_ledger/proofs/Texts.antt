@@ -3,7 +3,7 @@ use Rattle.std.proofs.Common.{[], ◌∷◌, codes, List, ℕ, refl, Some}
 use Rattle.sqlite_tied.specs.Compute.{everything}
 use Rattle.sqlite.specs.declared.types.Value.TheVariants.{Null}
 use Rattle.sqlite.specs.Term.{Term, lit, col}
-use Rattle.sqlite.specs.Command.TheVariants.{Insert, InsertOr, Select}
+use Rattle.sqlite.specs.Command.TheVariants.{Delete, Insert, InsertOr, Select}
 use Rattle.sqlite.specs.Source.TheVariants.{Values}
 use Rattle.sqlite_schema.specs.declared.command.Conflict.TheVariants.{Abort}
 use Rattle.fare_tables.specs.Queries.{count_query}
@@ -19,15 +19,15 @@ use Rattle.fare_layout.specs.Layouts.{AreUnderstood}
 use Rattle.fare_opening.specs.Parts.{reads_meta, puts_meta, sets_meta}
 use Rattle.fare_ledger.specs.declared.layout.Layout.{Layout}
 use Rattle.fare_ledger.specs.Layouts.{schema_in, at_tree}
-use Rattle.fare_ledger.specs.Statements.{Retired, texts}
-use Rattle.fare_ledger.specs.Tables.{ledger_schema, lane_query, stated_query, day_terms, between_query, renew_query, begun_terms, retired_terms}
+use Rattle.fare_ledger.specs.Statements.{Retired, Routed, texts}
+use Rattle.fare_ledger.specs.Tables.{ledger_schema, lane_query, stated_query, day_terms, between_query, renew_query, begun_terms, retired_terms, older_query, clear_query}
 
 -- where the tables stand in a database of a ledger alone
 abbrev pub own_places : Places
-own_places = record { all = record { at = 0; tree = 0 } ∷ record { at = 1; tree = 1 } ∷ record { at = 2; tree = 2 } ∷ record { at = 3; tree = 4 } ∷ record { at = 4; tree = 6 } ∷ [] }
+own_places = record { all = record { at = 0; tree = 0 } ∷ record { at = 1; tree = 1 } ∷ record { at = 2; tree = 2 } ∷ record { at = 3; tree = 4 } ∷ record { at = 4; tree = 6 } ∷ record { at = 5; tree = 7 } ∷ [] }
 
 abbrev pub tap_terms : List Term
-tap_terms = lit Null ∷ col 0 0 ∷ col 0 1 ∷ col 0 2 ∷ col 0 3 ∷ col 0 4 ∷ col 0 5 ∷ col 0 6 ∷ []
+tap_terms = lit Null ∷ col 0 0 ∷ col 0 1 ∷ col 0 2 ∷ col 0 3 ∷ col 0 4 ∷ col 0 5 ∷ col 0 6 ∷ col 0 7 ∷ []
 
 abbrev pub stated_cells_terms : List Term
 stated_cells_terms = lit Null ∷ col 0 0 ∷ col 0 1 ∷ col 0 2 ∷ []
@@ -83,20 +83,20 @@ pub stated_reads : (o : Layout) → Reads (schema_in o) stated_text
 stated_reads o = ((stated_meant o).plain, (stated_meant o).selects)
 
 abbrev pub day_text : List ℕ
-day_text = codes "SELECT count(*) FROM tap WHERE device = ?1 AND day = ?2"
+day_text = codes "SELECT count(*) FROM tap2 WHERE device = ?1 AND day = ?2"
 
 abbrev pub day_at : Place → Command
-day_at p = Select (record { lets = []; body = at_tree p.tree (count_query 2 day_terms) }) (codes "count(*)" ∷ [])
+day_at p = Select (record { lets = []; body = at_tree p.tree (count_query 7 day_terms) }) (codes "count(*)" ∷ [])
 
 abbrev pub day_command : Layout → Command
-day_command o = day_at (place_of o.places Tap)
+day_command o = day_at (place_of o.places Routed)
 
-pub day_own : IsMeant ledger_schema day_text (day_at (place_of own_places Tap))
+pub day_own : IsMeant ledger_schema day_text (day_at (place_of own_places Routed))
 unfolding everything ledger_schema
 day_own = refl
 
 day_means : (o : Layout) → IsMeant (schema_in o) day_text (day_command o)
-day_means o = o.fits.keeps.1.1.0 (day_at (place_of own_places Tap)) day_own
+day_means o = o.fits.keeps.1.1.0 (day_at (place_of own_places Routed)) day_own
 
 pub day_meant : (o : Layout) → Meant (schema_in o) day_text (day_command o)
 day_meant o = meant (schema_in o) day_text (day_command o) (day_means o)
@@ -105,20 +105,20 @@ pub day_reads : (o : Layout) → Reads (schema_in o) day_text
 day_reads o = ((day_meant o).plain, (day_meant o).selects)
 
 abbrev pub between_text : List ℕ
-between_text = codes "SELECT device, lane, link, product, token, moment, day FROM tap WHERE day >= ?1 AND day <= ?2 ORDER BY day, moment, device, lane"
+between_text = codes "SELECT device, lane, link, product, token, moment, day, route FROM tap2 WHERE day >= ?1 AND day <= ?2 ORDER BY day, moment, device, lane"
 
 abbrev pub between_at : Place → Command
-between_at p = Select (record { lets = []; body = at_tree p.tree between_query }) (codes "device" ∷ codes "lane" ∷ codes "link" ∷ codes "product" ∷ codes "token" ∷ codes "moment" ∷ codes "day" ∷ [])
+between_at p = Select (record { lets = []; body = at_tree p.tree between_query }) (codes "device" ∷ codes "lane" ∷ codes "link" ∷ codes "product" ∷ codes "token" ∷ codes "moment" ∷ codes "day" ∷ codes "route" ∷ [])
 
 abbrev pub between_command : Layout → Command
-between_command o = between_at (place_of o.places Tap)
+between_command o = between_at (place_of o.places Routed)
 
-pub between_own : IsMeant ledger_schema between_text (between_at (place_of own_places Tap))
+pub between_own : IsMeant ledger_schema between_text (between_at (place_of own_places Routed))
 unfolding everything ledger_schema
 between_own = refl
 
 between_means : (o : Layout) → IsMeant (schema_in o) between_text (between_command o)
-between_means o = o.fits.keeps.1.1.1.0 (between_at (place_of own_places Tap)) between_own
+between_means o = o.fits.keeps.1.1.1.0 (between_at (place_of own_places Routed)) between_own
 
 pub between_meant : (o : Layout) → Meant (schema_in o) between_text (between_command o)
 between_meant o = meant (schema_in o) between_text (between_command o) (between_means o)
@@ -149,20 +149,20 @@ pub begun_reads : (o : Layout) → Reads (schema_in o) begun_text
 begun_reads o = ((begun_meant o).plain, (begun_meant o).selects)
 
 abbrev pub taps_text : List ℕ
-taps_text = codes "SELECT count(*) FROM tap"
+taps_text = codes "SELECT count(*) FROM tap2"
 
 abbrev pub taps_at : Place → Command
-taps_at p = Select (record { lets = []; body = at_tree p.tree (count_query 2 []) }) (codes "count(*)" ∷ [])
+taps_at p = Select (record { lets = []; body = at_tree p.tree (count_query 7 []) }) (codes "count(*)" ∷ [])
 
 abbrev pub taps_command : Layout → Command
-taps_command o = taps_at (place_of o.places Tap)
+taps_command o = taps_at (place_of o.places Routed)
 
-pub taps_own : IsMeant ledger_schema taps_text (taps_at (place_of own_places Tap))
+pub taps_own : IsMeant ledger_schema taps_text (taps_at (place_of own_places Routed))
 unfolding everything ledger_schema
 taps_own = refl
 
 taps_means : (o : Layout) → IsMeant (schema_in o) taps_text (taps_command o)
-taps_means o = o.fits.keeps.1.1.1.1.1.0 (taps_at (place_of own_places Tap)) taps_own
+taps_means o = o.fits.keeps.1.1.1.1.1.0 (taps_at (place_of own_places Routed)) taps_own
 
 pub taps_meant : (o : Layout) → Meant (schema_in o) taps_text (taps_command o)
 taps_meant o = meant (schema_in o) taps_text (taps_command o) (taps_means o)
@@ -242,20 +242,20 @@ pub put_lane_meant : (o : Layout) → Meant (schema_in o) put_lane_text (put_lan
 put_lane_meant o = meant (schema_in o) put_lane_text (put_lane_command o) (put_lane_means o)
 
 abbrev pub put_tap_text : List ℕ
-put_tap_text = codes "INSERT INTO tap (device, lane, link, product, token, moment, day) VALUES (?1, ?2, ?3, ?4, ?5, ?6, ?7)"
+put_tap_text = codes "INSERT INTO tap2 (device, lane, link, product, token, moment, day, route) VALUES (?1, ?2, ?3, ?4, ?5, ?6, ?7, ?8)"
 
 abbrev pub put_tap_at : Place → Command
-put_tap_at p = Insert p.at (Values tap_terms 8)
+put_tap_at p = Insert p.at (Values tap_terms 9)
 
 abbrev pub put_tap_command : Layout → Command
-put_tap_command o = put_tap_at (place_of o.places Tap)
+put_tap_command o = put_tap_at (place_of o.places Routed)
 
-pub put_tap_own : IsMeant ledger_schema put_tap_text (put_tap_at (place_of own_places Tap))
+pub put_tap_own : IsMeant ledger_schema put_tap_text (put_tap_at (place_of own_places Routed))
 unfolding everything ledger_schema
 put_tap_own = refl
 
 put_tap_means : (o : Layout) → IsMeant (schema_in o) put_tap_text (put_tap_command o)
-put_tap_means o = o.fits.keeps.1.1.1.1.1.1.1.1.1.1.1.0 (put_tap_at (place_of own_places Tap)) put_tap_own
+put_tap_means o = o.fits.keeps.1.1.1.1.1.1.1.1.1.1.1.0 (put_tap_at (place_of own_places Routed)) put_tap_own
 
 pub put_tap_meant : (o : Layout) → Meant (schema_in o) put_tap_text (put_tap_command o)
 put_tap_meant o = meant (schema_in o) put_tap_text (put_tap_command o) (put_tap_means o)
@@ -342,6 +342,46 @@ all_retired_meant o = meant (schema_in o) all_retired_text (all_retired_command 
 pub all_retired_reads : (o : Layout) → Reads (schema_in o) all_retired_text
 all_retired_reads o = ((all_retired_meant o).plain, (all_retired_meant o).selects)
 
+-- what is asked of the table in which older formats have the taps, and how they are moved
+abbrev pub unused_text : List ℕ
+unused_text = codes "SELECT count(*) FROM tap"
+
+abbrev pub unused_at : Place → Command
+unused_at p = Select (record { lets = []; body = at_tree p.tree (count_query 2 []) }) (codes "count(*)" ∷ [])
+
+pub unused_own : IsMeant ledger_schema unused_text (unused_at (place_of own_places Tap))
+unfolding everything ledger_schema
+unused_own = refl
+
+abbrev pub older_text : List ℕ
+older_text = codes "SELECT rowid, device, lane, link, product, token, moment, day FROM tap ORDER BY rowid"
+
+abbrev pub older_at : Place → Command
+older_at p = Select (record { lets = []; body = at_tree p.tree older_query }) (codes "rowid" ∷ codes "device" ∷ codes "lane" ∷ codes "link" ∷ codes "product" ∷ codes "token" ∷ codes "moment" ∷ codes "day" ∷ [])
+
+abbrev pub older_terms : List Term
+older_terms = col 0 0 ∷ col 0 1 ∷ col 0 2 ∷ col 0 3 ∷ col 0 4 ∷ col 0 5 ∷ col 0 6 ∷ col 0 7 ∷ col 0 8 ∷ []
+
+abbrev pub put_older_text : List ℕ
+put_older_text = codes "INSERT INTO tap2 (rowid, device, lane, link, product, token, moment, day, route) VALUES (?1, ?2, ?3, ?4, ?5, ?6, ?7, ?8, ?9)"
+
+abbrev pub put_older_at : Place → Command
+put_older_at p = Insert p.at (Values older_terms 9)
+
+pub put_older_own : IsMeant ledger_schema put_older_text (put_older_at (place_of own_places Routed))
+unfolding everything ledger_schema
+put_older_own = refl
+
+abbrev pub clear_older_text : List ℕ
+clear_older_text = codes "DELETE FROM tap"
+
+abbrev pub clear_older_at : Place → Command
+clear_older_at p = Delete p.at (record { lets = []; body = at_tree p.tree clear_query })
+
+pub clear_older_own : IsMeant ledger_schema clear_older_text (clear_older_at (place_of own_places Tap))
+unfolding everything ledger_schema
+clear_older_own = refl
+
 -- each means something of the usual form
 pub lane_simple : IsSimpleCommand (lane_at (place_of own_places Device))
 lane_simple = search
@@ -349,16 +389,16 @@ lane_simple = search
 pub stated_simple : IsSimpleCommand (stated_at (place_of own_places Stated))
 stated_simple = search
 
-pub day_simple : IsSimpleCommand (day_at (place_of own_places Tap))
+pub day_simple : IsSimpleCommand (day_at (place_of own_places Routed))
 day_simple = search
 
-pub between_simple : IsSimpleCommand (between_at (place_of own_places Tap))
+pub between_simple : IsSimpleCommand (between_at (place_of own_places Routed))
 between_simple = search
 
 pub begun_simple : IsSimpleCommand (begun_at (place_of own_places Device))
 begun_simple = search
 
-pub taps_simple : IsSimpleCommand (taps_at (place_of own_places Tap))
+pub taps_simple : IsSimpleCommand (taps_at (place_of own_places Routed))
 taps_simple = search
 
 pub statements_simple : IsSimpleCommand (statements_at (place_of own_places Stated))
@@ -376,7 +416,7 @@ set_meta_simple = search
 pub put_lane_simple : IsSimpleCommand (put_lane_at (place_of own_places Device))
 put_lane_simple = search
 
-pub put_tap_simple : IsSimpleCommand (put_tap_at (place_of own_places Tap))
+pub put_tap_simple : IsSimpleCommand (put_tap_at (place_of own_places Routed))
 put_tap_simple = search
 
 pub put_stated_simple : IsSimpleCommand (put_stated_at (place_of own_places Stated))
@@ -391,5 +431,17 @@ put_retired_simple = search
 pub all_retired_simple : IsSimpleCommand (all_retired_at (place_of own_places Retired))
 all_retired_simple = search
 
+pub unused_simple : IsSimpleCommand (unused_at (place_of own_places Tap))
+unused_simple = search
+
+pub older_simple : IsSimpleCommand (older_at (place_of own_places Tap))
+older_simple = search
+
+pub put_older_simple : IsSimpleCommand (put_older_at (place_of own_places Routed))
+put_older_simple = search
+
+pub clear_older_simple : IsSimpleCommand (clear_older_at (place_of own_places Tap))
+clear_older_simple = search
+
 unfoldable pub understood_all : AreUnderstood ledger_schema texts
-understood_all = ((lane_at (place_of own_places Device), lane_own, lane_simple), ((stated_at (place_of own_places Stated), stated_own, stated_simple), ((day_at (place_of own_places Tap), day_own, day_simple), ((between_at (place_of own_places Tap), between_own, between_simple), ((begun_at (place_of own_places Device), begun_own, begun_simple), ((taps_at (place_of own_places Tap), taps_own, taps_simple), ((statements_at (place_of own_places Stated), statements_own, statements_simple), ((meta_at (place_of own_places Meta), meta_own, meta_simple), ((put_meta_at (place_of own_places Meta), put_meta_own, put_meta_simple), ((set_meta_at (place_of own_places Meta), set_meta_own, set_meta_simple), ((put_lane_at (place_of own_places Device), put_lane_own, put_lane_simple), ((put_tap_at (place_of own_places Tap), put_tap_own, put_tap_simple), ((put_stated_at (place_of own_places Stated), put_stated_own, put_stated_simple), ((retired_at (place_of own_places Retired), retired_own, retired_simple), ((put_retired_at (place_of own_places Retired), put_retired_own, put_retired_simple), ((all_retired_at (place_of own_places Retired), all_retired_own, all_retired_simple), tt))))))))))))))))
+understood_all = ((lane_at (place_of own_places Device), lane_own, lane_simple), ((stated_at (place_of own_places Stated), stated_own, stated_simple), ((day_at (place_of own_places Routed), day_own, day_simple), ((between_at (place_of own_places Routed), between_own, between_simple), ((begun_at (place_of own_places Device), begun_own, begun_simple), ((taps_at (place_of own_places Routed), taps_own, taps_simple), ((statements_at (place_of own_places Stated), statements_own, statements_simple), ((meta_at (place_of own_places Meta), meta_own, meta_simple), ((put_meta_at (place_of own_places Meta), put_meta_own, put_meta_simple), ((set_meta_at (place_of own_places Meta), set_meta_own, set_meta_simple), ((put_lane_at (place_of own_places Device), put_lane_own, put_lane_simple), ((put_tap_at (place_of own_places Routed), put_tap_own, put_tap_simple), ((put_stated_at (place_of own_places Stated), put_stated_own, put_stated_simple), ((retired_at (place_of own_places Retired), retired_own, retired_simple), ((put_retired_at (place_of own_places Retired), put_retired_own, put_retired_simple), ((all_retired_at (place_of own_places Retired), all_retired_own, all_retired_simple), ((unused_at (place_of own_places Tap), unused_own, unused_simple), ((put_older_at (place_of own_places Routed), put_older_own, put_older_simple), ((clear_older_at (place_of own_places Tap), clear_older_own, clear_older_simple), tt)))))))))))))))))))

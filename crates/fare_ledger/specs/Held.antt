@@ -48,14 +48,14 @@ abbrev pub record_of : ℕ → TapRow → RecordValue
 record_of owner t = record { device = t.device; link = t.link; owner = owner; lane = t.lane; tap = t.tap }
 
 abbrev pub tap_cells : TapRow → Row
-tap_cells t = int t.device ∷ int t.lane ∷ int t.link ∷ int t.tap.product ∷ int t.tap.token ∷ int t.tap.moment ∷ int t.tap.day ∷ []
+tap_cells t = int t.device ∷ int t.lane ∷ int t.link ∷ int t.tap.product ∷ int t.tap.token ∷ int t.tap.moment ∷ int t.tap.day ∷ int t.tap.route ∷ []
 
 abbrev pub tap_of : Row → TapRow
 tap_of r = record {
   device = nat_in (column r 1);
   lane = nat_in (column r 2);
   link = nat_in (column r 3);
-  tap = record { product = nat_in (column r 4); token = nat_in (column r 5); moment = nat_in (column r 6); day = nat_in (column r 7) };
+  tap = record { product = nat_in (column r 4); token = nat_in (column r 5); moment = nat_in (column r 6); day = nat_in (column r 7); route = nat_in (column r 8) };
 }
 
 abbrev pub IsTap : Row → Type 0
@@ -96,21 +96,24 @@ pub record Held : Type 0 where
   pub retired : ℕ → Bool
   -- the rows that say whose tables these are
   pub meta : List Row
+  -- those of the table in which older formats have the taps
+  pub unused : List Row
 
 -- the rows of all tables can be read
 pub record AreReadable (trees : Trees) : Type 0 where
   pub lanes : AreRows IsLane (trees 1)
-  pub taps : AreRows IsTap (trees 2)
+  pub taps : AreRows IsTap (trees 7)
   pub statements : AreRows IsStated (trees 4)
   pub retired : AreRows IsRetired (trees 6)
 
 abbrev pub held_of : Trees → Held
 held_of trees = record {
   lanes = λ device. lane_of (held (trees 1) device);
-  taps = map tap_of (trees 2);
+  taps = map tap_of (trees 7);
   statements = map stated_of (trees 4);
   retired = λ device. is_some (held (trees 6) device);
   meta = trees 0;
+  unused = trees 2;
 }
 
 -- between calls, over the tables of a ledger with rows that can be read
@@ -189,34 +192,38 @@ pub record PutsTap (o : Layout) (old new : Database) (t : TapRow) : Type 0 where
   pub schema : new.schema ≡ schema_in o
   pub database : IsDatabase new
   pub lanes : ours o new.trees 1 ≡ ours o old.trees 1
-  pub taps : ours o new.trees 2 ≡ put_row (Int (next_rowid (ours o old.trees 2)) ∷ tap_cells t) (ours o old.trees 2)
+  pub taps : ours o new.trees 7 ≡ put_row (Int (next_rowid (ours o old.trees 7)) ∷ tap_cells t) (ours o old.trees 7)
   pub statements : ours o new.trees 4 ≡ ours o old.trees 4
   pub retired : ours o new.trees 6 ≡ ours o old.trees 6
   pub meta : ours o new.trees 0 ≡ ours o old.trees 0
+  pub unused : ours o new.trees 2 ≡ ours o old.trees 2
 
 pub record PutsStated (o : Layout) (old new : Database) (s : StatedRow) : Type 0 where
   pub schema : new.schema ≡ schema_in o
   pub database : IsDatabase new
   pub lanes : ours o new.trees 1 ≡ ours o old.trees 1
-  pub taps : ours o new.trees 2 ≡ ours o old.trees 2
+  pub taps : ours o new.trees 7 ≡ ours o old.trees 7
   pub statements : ours o new.trees 4 ≡ put_row (Int (next_rowid (ours o old.trees 4)) ∷ stated_cells s) (ours o old.trees 4)
   pub retired : ours o new.trees 6 ≡ ours o old.trees 6
   pub meta : ours o new.trees 0 ≡ ours o old.trees 0
+  pub unused : ours o new.trees 2 ≡ ours o old.trees 2
 
 pub record PutsLane (o : Layout) (old new : Database) (device taken closed : ℕ) : Type 0 where
   pub schema : new.schema ≡ schema_in o
   pub database : IsDatabase new
   pub lanes : (ours o new.trees 1 ≡ put_row (lane_row device taken closed) (ours o old.trees 1)) ⊎ (ours o new.trees 1 ≡ put_row (lane_row device taken closed) (without_rowid (pos device) (ours o old.trees 1)))
-  pub taps : ours o new.trees 2 ≡ ours o old.trees 2
+  pub taps : ours o new.trees 7 ≡ ours o old.trees 7
   pub statements : ours o new.trees 4 ≡ ours o old.trees 4
   pub retired : ours o new.trees 6 ≡ ours o old.trees 6
   pub meta : ours o new.trees 0 ≡ ours o old.trees 0
+  pub unused : ours o new.trees 2 ≡ ours o old.trees 2
 
 pub record PutsRetired (o : Layout) (old new : Database) (device : ℕ) : Type 0 where
   pub schema : new.schema ≡ schema_in o
   pub database : IsDatabase new
   pub lanes : ours o new.trees 1 ≡ ours o old.trees 1
-  pub taps : ours o new.trees 2 ≡ ours o old.trees 2
+  pub taps : ours o new.trees 7 ≡ ours o old.trees 7
   pub statements : ours o new.trees 4 ≡ ours o old.trees 4
   pub retired : ours o new.trees 6 ≡ put_row (retired_row device) (ours o old.trees 6)
   pub meta : ours o new.trees 0 ≡ ours o old.trees 0
+  pub unused : ours o new.trees 2 ≡ ours o old.trees 2

@@ -6,6 +6,6 @@ pub mod Making
 pub mod Opening
 pub mod Known
 pub mod Words
-pub mod First
+pub mod Older
 pub mod Shown
 pub mod Orders

@@ -32,7 +32,14 @@ stated_table tree =
 abbrev pub retired_table : ℕ → Table
 retired_table tree = table (codes "retired") tree (rowid_column (codes "device") ∷ []) (Some 0) (0 ∷ []) [] [] []
 
--- after one, two, three, four and all five CREATE TABLE: tree 3 is the index of the taps, and tree 5 that of the statements
+-- the taps of the newest format: the routes are its last column
+abbrev pub routed_table : ℕ → Table
+routed_table tree =
+    table (codes "tap2") tree
+    (number (codes "device") ∷ number (codes "lane") ∷ number (codes "link") ∷ number (codes "product") ∷ number (codes "token") ∷ number (codes "moment") ∷ number (codes "day") ∷ number (codes "route") ∷ [])
+    None (1 ∷ 2 ∷ []) ((1 ∷ 2 ∷ []) ∷ []) (plain ∷ []) []
+
+-- after one, two, three, four, five and all six CREATE TABLE: trees 3, 5 and 8 are the indexes of the tables before them
 abbrev pub one_table : Schema
 one_table = record { tables = meta_table 0 ∷ []; indexes = []; views = [] }
 
@@ -50,10 +57,21 @@ first_schema = record {
   views = [];
 }
 
-unfoldable pub ledger_schema : Schema
-ledger_schema = record {
+abbrev pub five_tables : Schema
+five_tables = record {
   tables = meta_table 0 ∷ lane_table 1 ∷ tap_table 2 ∷ stated_table 4 ∷ retired_table 6 ∷ [];
   indexes = (created three_tables (stated_table 4)).indexes;
+  views = [];
+}
+
+-- of the second
+unfoldable pub second_schema : Schema
+second_schema = five_tables
+
+unfoldable pub ledger_schema : Schema
+ledger_schema = record {
+  tables = meta_table 0 ∷ lane_table 1 ∷ tap_table 2 ∷ stated_table 4 ∷ retired_table 6 ∷ routed_table 7 ∷ [];
+  indexes = (created five_tables (routed_table 7)).indexes;
   views = [];
 }
 
@@ -77,11 +95,11 @@ abbrev pub between_terms : List Term
 between_terms = is_from 7 0 ∷ is_upto 7 1 ∷ []
 
 abbrev pub tap_columns : List Term
-tap_columns = col 1 1 ∷ col 1 2 ∷ col 1 3 ∷ col 1 4 ∷ col 1 5 ∷ col 1 6 ∷ col 1 7 ∷ []
+tap_columns = col 1 1 ∷ col 1 2 ∷ col 1 3 ∷ col 1 4 ∷ col 1 5 ∷ col 1 6 ∷ col 1 7 ∷ col 1 8 ∷ []
 
 abbrev pub between_query : Query
 between_query =
-    query 2 between_terms tap_columns
+    query 7 between_terms tap_columns
     ((col 1 7, ascending Binary) ∷ (col 1 6, ascending Binary) ∷ (col 1 1, ascending Binary) ∷ (col 1 2, ascending Binary) ∷ [])
 
 -- the device's row that is written anew: the parameters are the three given, the rowid that is taken, and the row that couldn't go in
@@ -95,3 +113,14 @@ begun_terms = op2 by.Or (is_positive 2) (is_positive 3) ∷ []
 -- a device's retired lane
 abbrev pub retired_terms : List Term
 retired_terms = is_given 0 0 ∷ []
+
+-- the taps of an older format, by the numbers of their rows
+abbrev pub older_columns : List Term
+older_columns = col 1 0 ∷ col 1 1 ∷ col 1 2 ∷ col 1 3 ∷ col 1 4 ∷ col 1 5 ∷ col 1 6 ∷ col 1 7 ∷ []
+
+abbrev pub older_query : Query
+older_query = query 2 [] older_columns ((col 1 0, ascending Binary) ∷ [])
+
+-- all rows of their table, to be deleted
+abbrev pub clear_query : Query
+clear_query = query 2 [] (col 1 0 ∷ []) []

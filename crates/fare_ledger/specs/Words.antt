@@ -57,10 +57,12 @@ pub record FitInFormat (format owner start : ℕ) (h : Held) : Type 0 where
   pub days : AreCounted owner start h
   -- they are this owner's, of that format
   pub meta : IsMeta format owner h.meta
+  -- there is no row where older formats have the taps
+  pub unused : h.unused ≡ []
 
 -- and of the newest one
 abbrev pub FitTogether : ℕ → ℕ → Held → Type 0
-FitTogether = FitInFormat 2
+FitTogether = FitInFormat 3
 
 pub record IsLawful (o : Layout) (owner start : ℕ) (trees : Trees) : Type 0 where
   pub readable : AreReadable (ours o trees)

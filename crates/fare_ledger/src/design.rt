@@ -1,18 +1,40 @@
 ghost use Rattle.fare_ledger.specs.Statements.{ledger_parts};
 
-use crate::statements::{FIRST_TABLES, FIRST_TEXTS, LATER_TABLES, TABLES, TEXTS};
+use crate::statements::{
+    CLEAR_OLDER, COUNT_UNUSED, FIRST_MISSING, FIRST_TABLES, OLDER_TEXTS, PUT_OLDER, READ_OLDER,
+    ROUTED, SECOND_MISSING, SECOND_TABLES, TABLES, TEXTS,
+};
 use fare_layout::TableNumber;
-use fare_opening::{Design, Older};
+use fare_opening::{Design, Moving, Older, TAP};
 
-// The first format, which knew of no retired lanes.
-static OLDER: [Older; 1] = [Older {
-    format: 1,
-    tables: &FIRST_TABLES,
-    missing: &LATER_TABLES,
-    texts: &FIRST_TEXTS,
-}];
+// How the taps of an older format move to the table that has their routes, each with route 0.
+const MOVED_TAPS: Moving = Moving {
+    from: TAP,
+    to: ROUTED,
+    read: READ_OLDER,
+    put: PUT_OLDER,
+    clear: CLEAR_OLDER,
+};
 
-// What a ledger is made of: an owner's, of format 2.
+// The first format, which knew of no retired lanes, and the second, whose taps had no route.
+static OLDER: [Older; 2] = [
+    Older {
+        format: 1,
+        tables: &FIRST_TABLES,
+        missing: &FIRST_MISSING,
+        texts: &OLDER_TEXTS,
+        moving: Some(MOVED_TAPS),
+    },
+    Older {
+        format: 2,
+        tables: &SECOND_TABLES,
+        missing: &SECOND_MISSING,
+        texts: &OLDER_TEXTS,
+        moving: Some(MOVED_TAPS),
+    },
+];
+
+// What a ledger is made of: an owner's, of format 3.
 pub(crate) struct LedgerDesign;
 
 impl Design for LedgerDesign {
@@ -27,11 +49,15 @@ impl Design for LedgerDesign {
     }
 
     fn format() -> u8 {
-        2
+        3
     }
 
     fn older() -> &'static [Older] {
         &OLDER
+    }
+
+    fn unused() -> Option<(TableNumber, &'static str)> {
+        Some((TAP, COUNT_UNUSED))
     }
 
     fn sound() {}

@@ -3,17 +3,20 @@ ghost use Rattle.sqlite.specs.Effect.{IsDatabase};
 ghost use Rattle.sqlite.specs.State.{HasCleanDisk, Survives};
 ghost use Rattle.sqlite.specs.Tree.{Trees};
 ghost use Rattle.sqlite.specs.Held.{state};
+ghost use Rattle.sqlite_rules.specs.Lists.{Has};
 ghost use Rattle.fare_scheme.specs.Words.{position_of_owner};
 ghost use Rattle.fare_store.specs.LedgerWords.{IsEmptyLedger, IsOfScheme};
 ghost use Rattle.fare_tables.specs.Asking.{IsLive, SameRows};
 ghost use Rattle.fare_tables.specs.Making.{no_schema};
 ghost use Rattle.fare_tables.specs.Tabled.{IsFit, IsLeft};
 ghost use Rattle.fare_opening.specs.declared.site.Site.{Site};
+ghost use Rattle.fare_opening.specs.Parts.{OlderParts};
 ghost use Rattle.fare_ledger.specs.declared.layout.Layout.{Layout};
 ghost use Rattle.fare_ledger.specs.Layouts.{schema_in};
 ghost use Rattle.fare_ledger.specs.Making.{Makes, MayGrow, KeepsOthers};
-ghost use Rattle.fare_ledger.specs.Opening.{IsLedger, IsFirstLedger, IsVacant, IsBlankOrOurs, IsOpened, IsLeftEmpty, IsLeftRaised, KeepsAllButMeta, Rises, Settles, MayOpen};
-ghost use Rattle.fare_ledger.specs.First.{IsLawfulFirst, value_first};
+ghost use Rattle.fare_ledger.specs.Opening.{IsLedger, IsOlderLedger, IsVacant, IsBlankOrOurs, IsOpened, IsLeftEmpty, IsLeftRaised, KeepsAllButRaised, Rises, Settles, MayOpen};
+ghost use Rattle.fare_ledger.specs.Older.{IsLawfulOlder, value_older};
+ghost use Rattle.fare_ledger.specs.Statements.{ledger_parts};
 ghost use Rattle.fare_ledger.specs.Words.{IsLawful, value_at, connected, stands};
 
 use crate::design::LedgerDesign;
@@ -34,8 +37,9 @@ pub enum LedgerOpenFault {
     #[error("the owner isn't registered")]
     UnknownOwner,
     /// A name of the ledger's tables stands for something else in it: a table of another shape or format, the
-    /// ledger of another owner, or a table that other tables reach into. Or the ledger's tables, or the one that a
-    /// ledger of the first format lacks, can't be made beside those that are there.
+    /// ledger of another owner, a table that other tables reach into, or a tap where older formats have them in a
+    /// ledger of the newest. Or the ledger's tables, or those that a ledger of an older format lacks, can't be made
+    /// beside those that are there.
     #[error("the database holds something else")]
     Foreign,
     /// No memory is left for it.
@@ -58,7 +62,7 @@ fn open_fault(fault: Fault) -> LedgerOpenFault
 }
 
 // Makes the tables where nothing has their names, and looks whose ledger it is where it is one, which it raises if it
-// is of the first format; none if it isn't the owner's.
+// is of an older format; none if it isn't the owner's.
 fn settle<S: Alter>(
     alloc: Global,
     conn: &mut Connection<S>,
@@ -70,7 +74,7 @@ fn settle<S: Alter>(
     ensures refused { IsLive (state S.Store conn.new) → (state S.Store conn.old).now ≡ (state S.Store conn.old).committed → IfOk result (λ found. found ≡ None → SameRows (state S.Store conn.old) (state S.Store conn.new)) }
     ensures foreign { IfOk result (λ found. found ≡ None → (state S.Store conn.old).now.schema ≢ no_schema) }
     ensures lacks { IsLive (state S.Store conn.new) → IfOk result (λ found. found ≡ None → ¬ IsBlankOrOurs owner (state S.Store conn.old)) }
-    ensures first { IsLive (state S.Store conn.new) → IfOk result (λ found. found ≡ None → ¬ IsFirstLedger owner (state S.Store conn.old)) }
+    ensures older { IsLive (state S.Store conn.new) → IfOk result (λ found. found ≡ None → ¬ IsOlderLedger owner (state S.Store conn.old)) }
     ensures vacant { IfOk result (λ found. found ≡ None → IsVacant (state S.Store conn.old) → ¬ MayGrow (state S.Store conn.old).now.schema) }
     ensures crash { Survives (state S.Store conn.old) (state S.Store conn.new) (MayOpen owner (state S.Store conn.old)) }
     ensures failed { IsLive (state S.Store conn.new) → (state S.Store conn.old).now ≡ (state S.Store conn.old).committed → OnErr result (SameRows (state S.Store conn.old) (state S.Store conn.new)) }
@@ -89,9 +93,10 @@ fn settle<S: Alter>(
 impl<S: Alter> SqlLedger<S> {
     /// Takes a database for the ledger of an owner of a scheme, which may hold other tables too: one that holds
     /// this owner's ledger as it is, and one in which nothing has a name of the ledger's tables after it made them
-    /// there, past the others, whose rows stay. A ledger of the first format, which has no table of retired lanes,
-    /// gets it, and the newest format, in one transaction, and keeps its lists. Where it can't, the connection comes
-    /// back, with its rows as before. A connection that is inside a transaction answers Store.
+    /// there, past the others, whose rows stay. A ledger of an older format gets the tables that it lacks, its
+    /// taps go to the newest one, each with route 0, and it gets the newest format, all in one transaction: it keeps
+    /// its lists. Where it can't, the connection comes back, with its rows as before. A connection that is inside a
+    /// transaction answers Store.
     ///
     /// Refused by the first case of `LedgerOpenFault` that applies.
     pub fn open(
@@ -106,22 +111,22 @@ impl<S: Alter> SqlLedger<S> {
         ensures scheme { IfOk result (λ l. IsOfScheme scheme.now (stands S.Store l).value) }
         ensures made { IfOk result (λ l. (stands S.Store l).live → IsVacant (state S.Store conn) → (stands S.Store l).lawful × IsEmptyLedger (stands S.Store l).value) }
         ensures placed { IfOk result (λ l. (stands S.Store l).live → IsVacant (state S.Store conn) → Makes (state S.Store conn).now.schema l.layout) }
-        ensures others { IfOk result (λ l. (stands S.Store l).live → (state S.Store conn).now ≡ (state S.Store conn).committed → KeepsOthers (state S.Store conn).now (connected S.Store l).now ⊎ KeepsAllButMeta owner (state S.Store conn) (connected S.Store l)) }
+        ensures others { IfOk result (λ l. (stands S.Store l).live → (state S.Store conn).now ≡ (state S.Store conn).committed → KeepsOthers (state S.Store conn).now (connected S.Store l).now ⊎ KeepsAllButRaised owner (state S.Store conn) (connected S.Store l)) }
         ensures kept { IfOk result (λ l. (stands S.Store l).live → (w : Layout) → IsFit (schema_in w) (IsLawful w owner scheme.now.start) (state S.Store conn) → (stands S.Store l).lawful × ((stands S.Store l).value ≡ value_at w owner scheme.now.start (stands S.Store l).value.knows (state S.Store conn).now.trees)) }
-        ensures raised { IfOk result (λ l. (stands S.Store l).live → (v : Site) → IsFit v.schema (IsLawfulFirst v owner scheme.now.start) (state S.Store conn) → (stands S.Store l).lawful × ((stands S.Store l).value ≡ value_first v owner scheme.now.start (stands S.Store l).value.knows (state S.Store conn).now.trees)) }
-        ensures ours { IfOk result (λ l. (stands S.Store l).live → IsVacant (state S.Store conn) ⊎ (IsLedger owner (state S.Store conn) ⊎ IsFirstLedger owner (state S.Store conn))) }
+        ensures raised { IfOk result (λ l. (stands S.Store l).live → (o : OlderParts) → Has ledger_parts.older o → (v : Site) → IsFit v.schema (IsLawfulOlder o v owner scheme.now.start) (state S.Store conn) → (stands S.Store l).lawful × ((stands S.Store l).value ≡ value_older o v owner scheme.now.start (stands S.Store l).value.knows (state S.Store conn).now.trees)) }
+        ensures ours { IfOk result (λ l. (stands S.Store l).live → IsVacant (state S.Store conn) ⊎ (IsLedger owner (state S.Store conn) ⊎ IsOlderLedger owner (state S.Store conn))) }
         ensures failures { IfOk result (λ l. (stands S.Store l).failures ≡ 0) }
         ensures alive { IfOk result (λ l. (stands S.Store l).clean → (stands S.Store l).live) }
         ensures again { IfOk result (λ l. (stands S.Store l).clean → (w : Layout) → IsLeft (schema_in w) (IsLawful w owner scheme.now.start) (state S.Store conn).now.trees → (stands S.Store l).lawful × ((stands S.Store l).value ≡ value_at w owner scheme.now.start (stands S.Store l).value.knows (state S.Store conn).now.trees)) }
-        ensures raised_again { IfOk result (λ l. (stands S.Store l).clean → (v : Site) → IsLeft v.schema (IsLawfulFirst v owner scheme.now.start) (state S.Store conn).now.trees → (stands S.Store l).lawful × ((stands S.Store l).value ≡ value_first v owner scheme.now.start (stands S.Store l).value.knows (state S.Store conn).now.trees)) }
+        ensures raised_again { IfOk result (λ l. (stands S.Store l).clean → (o : OlderParts) → Has ledger_parts.older o → (v : Site) → IsLeft v.schema (IsLawfulOlder o v owner scheme.now.start) (state S.Store conn).now.trees → (stands S.Store l).lawful × ((stands S.Store l).value ≡ value_older o v owner scheme.now.start (stands S.Store l).value.knows (state S.Store conn).now.trees)) }
         ensures inside { conn.in_transaction ≡ true → IsSome (position_of_owner scheme.now owner) → result ≡ Err (conn, LedgerOpenFault.Store) }
         ensures foreign { IfErr result (λ e. e.1 ≡ LedgerOpenFault.Foreign → (state S.Store conn).now.schema ≢ no_schema) }
         ensures lacks { IfErr result (λ e. e.1 ≡ LedgerOpenFault.Foreign → IsLive (state S.Store e.0) → ¬ IsBlankOrOurs owner (state S.Store conn)) }
         ensures found { IfErr result (λ e. e.1 ≡ LedgerOpenFault.Foreign → IsLive (state S.Store e.0) → (w : Layout) → ¬ IsFit (schema_in w) (IsLawful w owner scheme.now.start) (state S.Store conn)) }
         ensures never { IfErr result (λ e. e.1 ≡ LedgerOpenFault.Foreign → HasCleanDisk (state S.Store e.0) → IsTrue (state S.Store conn).is_open → (w : Layout) → ¬ IsLeft (schema_in w) (IsLawful w owner scheme.now.start) (state S.Store conn).now.trees) }
-        ensures lacks_first { IfErr result (λ e. e.1 ≡ LedgerOpenFault.Foreign → IsLive (state S.Store e.0) → ¬ IsFirstLedger owner (state S.Store conn)) }
-        ensures found_first { IfErr result (λ e. e.1 ≡ LedgerOpenFault.Foreign → IsLive (state S.Store e.0) → (v w : Site) → Rises (state S.Store conn).now.schema v w → ¬ IsFit v.schema (IsLawfulFirst v owner scheme.now.start) (state S.Store conn)) }
-        ensures never_first { IfErr result (λ e. e.1 ≡ LedgerOpenFault.Foreign → HasCleanDisk (state S.Store e.0) → IsTrue (state S.Store conn).is_open → (v w : Site) → Rises (state S.Store conn).now.schema v w → ¬ IsLeft v.schema (IsLawfulFirst v owner scheme.now.start) (state S.Store conn).now.trees) }
+        ensures lacks_older { IfErr result (λ e. e.1 ≡ LedgerOpenFault.Foreign → IsLive (state S.Store e.0) → ¬ IsOlderLedger owner (state S.Store conn)) }
+        ensures found_older { IfErr result (λ e. e.1 ≡ LedgerOpenFault.Foreign → IsLive (state S.Store e.0) → (o : OlderParts) → Has ledger_parts.older o → (v w : Site) → Rises o (state S.Store conn).now.schema v w → ¬ IsFit v.schema (IsLawfulOlder o v owner scheme.now.start) (state S.Store conn)) }
+        ensures never_older { IfErr result (λ e. e.1 ≡ LedgerOpenFault.Foreign → HasCleanDisk (state S.Store e.0) → IsTrue (state S.Store conn).is_open → (o : OlderParts) → Has ledger_parts.older o → (v w : Site) → Rises o (state S.Store conn).now.schema v w → ¬ IsLeft v.schema (IsLawfulOlder o v owner scheme.now.start) (state S.Store conn).now.trees) }
         ensures vacant { IfErr result (λ e. e.1 ≡ LedgerOpenFault.Foreign → IsVacant (state S.Store conn) → ¬ MayGrow (state S.Store conn).now.schema) }
         ensures crash { IfOk result (λ l. Survives (state S.Store conn) (connected S.Store l) (MayOpen owner (state S.Store conn))) }
         ensures crash_refused { IfErr result (λ e. Survives (state S.Store conn) (state S.Store e.0) (MayOpen owner (state S.Store conn))) }

@@ -4,6 +4,9 @@ use fare_opening::{DEVICE, META, META_TABLE, PUT_META, READ_META, SET_META, STAT
 /// The table of the retired lanes, which no other store has.
 pub(crate) const RETIRED: TableNumber = TableNumber { number: 4 };
 
+/// The table of the taps, each with its route. `TAP`, where older formats have them, holds no row.
+pub(crate) const ROUTED: TableNumber = TableNumber { number: 5 };
+
 // The texts that make the tables behind that of `meta`, each with the name of its table.
 const LANE_TABLE: (&str, &str) = (
     "lane",
@@ -25,13 +28,19 @@ const RETIRED_TABLE: (&str, &str) = (
     "CREATE TABLE retired (device INTEGER PRIMARY KEY) STRICT",
 );
 
+const ROUTED_TABLE: (&str, &str) = (
+    "tap2",
+    "CREATE TABLE tap2 (device INTEGER NOT NULL, lane INTEGER NOT NULL, link INTEGER NOT NULL, product INTEGER NOT NULL, token INTEGER NOT NULL, moment INTEGER NOT NULL, day INTEGER NOT NULL, route INTEGER NOT NULL, PRIMARY KEY (device, lane)) STRICT",
+);
+
 /// The texts that make the tables, each with the name of its table.
-pub(crate) const TABLES: [(&str, &str); 5] = [
+pub(crate) const TABLES: [(&str, &str); 6] = [
     META_TABLE,
     LANE_TABLE,
     TAP_TABLE,
     STATED_TABLE,
     RETIRED_TABLE,
+    ROUTED_TABLE,
 ];
 
 /// Those that make the tables of the first format.
@@ -43,7 +52,19 @@ pub(crate) const FIRST_TABLES: [(&str, &str); 4] = [
 ];
 
 /// Those that make the tables which it lacks.
-pub(crate) const LATER_TABLES: [(&str, &str); 1] = [RETIRED_TABLE];
+pub(crate) const FIRST_MISSING: [(&str, &str); 2] = [RETIRED_TABLE, ROUTED_TABLE];
+
+/// Those that make the tables of the second format.
+pub(crate) const SECOND_TABLES: [(&str, &str); 5] = [
+    META_TABLE,
+    LANE_TABLE,
+    TAP_TABLE,
+    STATED_TABLE,
+    RETIRED_TABLE,
+];
+
+/// The one that makes the table which it lacks.
+pub(crate) const SECOND_MISSING: [(&str, &str); 1] = [ROUTED_TABLE];
 
 /// How many taps of a device are taken, and how many of its days closed.
 pub(crate) const READ_LANE: &str = "SELECT taken, closed FROM lane WHERE device = ?1";
@@ -52,17 +73,17 @@ pub(crate) const READ_LANE: &str = "SELECT taken, closed FROM lane WHERE device 
 pub(crate) const READ_STATED: &str = "SELECT total FROM stated WHERE device = ?1 AND day = ?2";
 
 /// How many taps of a device are of a day.
-pub(crate) const COUNT_DAY: &str = "SELECT count(*) FROM tap WHERE device = ?1 AND day = ?2";
+pub(crate) const COUNT_DAY: &str = "SELECT count(*) FROM tap2 WHERE device = ?1 AND day = ?2";
 
 /// The taps of the days from one to another, by day, moment, device and lane number.
 pub(crate) const READ_BETWEEN: &str =
-    "SELECT device, lane, link, product, token, moment, day FROM tap WHERE day >= ?1 AND day <= ?2 ORDER BY day, moment, device, lane";
+    "SELECT device, lane, link, product, token, moment, day, route FROM tap2 WHERE day >= ?1 AND day <= ?2 ORDER BY day, moment, device, lane";
 
 /// How many devices have a tap taken or a day closed.
 pub(crate) const COUNT_BEGUN: &str = "SELECT count(*) FROM lane WHERE taken > 0 OR closed > 0";
 
 /// How many taps there are.
-pub(crate) const COUNT_TAPS: &str = "SELECT count(*) FROM tap";
+pub(crate) const COUNT_TAPS: &str = "SELECT count(*) FROM tap2";
 
 /// How many statements there are.
 pub(crate) const COUNT_STATEMENTS: &str = "SELECT count(*) FROM stated";
@@ -73,7 +94,7 @@ pub(crate) const PUT_LANE: &str =
 
 /// A tap.
 pub(crate) const PUT_TAP: &str =
-    "INSERT INTO tap (device, lane, link, product, token, moment, day) VALUES (?1, ?2, ?3, ?4, ?5, ?6, ?7)";
+    "INSERT INTO tap2 (device, lane, link, product, token, moment, day, route) VALUES (?1, ?2, ?3, ?4, ?5, ?6, ?7, ?8)";
 
 /// A statement.
 pub(crate) const PUT_STATED: &str = "INSERT INTO stated (device, day, total) VALUES (?1, ?2, ?3)";
@@ -87,39 +108,47 @@ pub(crate) const PUT_RETIRED: &str = "INSERT INTO retired (device) VALUES (?1)";
 /// How many lanes are retired.
 pub(crate) const COUNT_ALL_RETIRED: &str = "SELECT count(*) FROM retired";
 
+/// How many rows the table has in which older formats have the taps: none.
+pub(crate) const COUNT_UNUSED: &str = "SELECT count(*) FROM tap";
+
+/// The taps of an older format, each with its row's number.
+pub(crate) const READ_OLDER: &str =
+    "SELECT rowid, device, lane, link, product, token, moment, day FROM tap ORDER BY rowid";
+
+/// A tap of an older format, with a row's number and a route.
+pub(crate) const PUT_OLDER: &str =
+    "INSERT INTO tap2 (rowid, device, lane, link, product, token, moment, day, route) VALUES (?1, ?2, ?3, ?4, ?5, ?6, ?7, ?8, ?9)";
+
+/// No tap is left where older formats have them.
+pub(crate) const CLEAR_OLDER: &str = "DELETE FROM tap";
+
 /// All statements of a ledger, each with its table: `DEVICE` is `lane` here.
-pub(crate) const TEXTS: [(TableNumber, &str); 16] = [
+pub(crate) const TEXTS: [(TableNumber, &str); 19] = [
     (DEVICE, READ_LANE),
     (STATED, READ_STATED),
-    (TAP, COUNT_DAY),
-    (TAP, READ_BETWEEN),
+    (ROUTED, COUNT_DAY),
+    (ROUTED, READ_BETWEEN),
     (DEVICE, COUNT_BEGUN),
-    (TAP, COUNT_TAPS),
+    (ROUTED, COUNT_TAPS),
     (STATED, COUNT_STATEMENTS),
     (META, READ_META),
     (META, PUT_META),
     (META, SET_META),
     (DEVICE, PUT_LANE),
-    (TAP, PUT_TAP),
+    (ROUTED, PUT_TAP),
     (STATED, PUT_STATED),
     (RETIRED, COUNT_RETIRED),
     (RETIRED, PUT_RETIRED),
     (RETIRED, COUNT_ALL_RETIRED),
+    (TAP, COUNT_UNUSED),
+    (ROUTED, PUT_OLDER),
+    (TAP, CLEAR_OLDER),
 ];
 
-/// Those of the first format.
-pub(crate) const FIRST_TEXTS: [(TableNumber, &str); 13] = [
-    (DEVICE, READ_LANE),
-    (STATED, READ_STATED),
-    (TAP, COUNT_DAY),
-    (TAP, READ_BETWEEN),
-    (DEVICE, COUNT_BEGUN),
-    (TAP, COUNT_TAPS),
-    (STATED, COUNT_STATEMENTS),
+/// Those that an open needs of a ledger of an older format.
+pub(crate) const OLDER_TEXTS: [(TableNumber, &str); 4] = [
     (META, READ_META),
     (META, PUT_META),
     (META, SET_META),
-    (DEVICE, PUT_LANE),
-    (TAP, PUT_TAP),
-    (STATED, PUT_STATED),
+    (TAP, READ_OLDER),
 ];

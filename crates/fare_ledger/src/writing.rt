@@ -15,7 +15,7 @@ use fare_tables::{change, fault_of, parameter};
 use sqlite::types::ValueRef;
 use sqlite::{Alter, Connection, Transaction};
 
-fn cells_of(row: &Record) -> [ValueRef<'static>; 7]
+fn cells_of(row: &Record) -> [ValueRef<'static>; 8]
     ensures { bound result ≡ tap_cells (row_of row.now) }
 {
     let tap = row.tap();
@@ -27,6 +27,7 @@ fn cells_of(row: &Record) -> [ValueRef<'static>; 7]
         parameter(tap.token().get()),
         parameter(tap.moment().get()),
         parameter(u64::from(tap.day().get())),
+        parameter(u64::from(tap.route())),
     ]
 }
 

@@ -22,12 +22,12 @@ use Rattle.fare_opening.specs.Sites.{rows_at}
 use Rattle.fare_opening.specs.Making.{Makes, HasGrown, IsBlank}
 use Rattle.fare_opening.proofs.Standing.{each_stands, meta_within}
 
-none_past : {X : Type 0} (xs : List X) (at : ℕ) (x : X) → length xs ≤ at → slice_get xs at ≡ Some x → ⊥
+pub none_past : {X : Type 0} (xs : List X) (at : ℕ) (x : X) → length xs ≤ at → slice_get xs at ≡ Some x → ⊥
 none_past [] at x low is = absurd (let e = is in cc)
 none_past (y ∷ ys) zero x low is = absurd (omega (arith, low))
 none_past (y ∷ ys) (suc at) x low is = none_past ys at x (omega (arith, low)) is
 
-here_or_past : (n m : ℕ) → n ≤ m → (m ≡ n) ⊎ (n + 1 ≤ m)
+pub here_or_past : (n m : ℕ) → n ≤ m → (m ≡ n) ⊎ (n + 1 ≤ m)
 here_or_past zero zero low = inl refl
 here_or_past zero (suc m) low = inr (omega arith)
 here_or_past (suc n) zero low = absurd (omega (arith, low))

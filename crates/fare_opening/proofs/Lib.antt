@@ -1,9 +1,16 @@
 pub mod Standing
+pub mod Cells
+pub mod Numbered
+pub mod Filled
 pub mod Grown
+pub mod Moved
 pub mod Makes
 pub mod Vacant
 pub mod Risen
 pub mod Asked
+pub mod Cleared
+pub mod ReadRows
+pub mod Unused
 pub mod Finds
 pub mod Raised
 pub mod Olders

@@ -1,9 +1,11 @@
 -- A store of an older format, found and raised.
-use Rattle.std.proofs.Common.{◌≡◌, ◌≤◌, inl, inr, ℕ, List, [], ◌∷◌, length, refl, sym, ap, subst, ◌∙◌, arith}
-use Rattle.std.specs.Prelude.{slice_index_or, take, drop, ◌-◌}
+use Rattle.std.proofs.Common.{◌≡◌, ◌≤◌, inl, inr, ℕ, List, [], ◌∷◌, length, Option, Some, None, refl, sym, ap, subst, ◌∙◌, arith}
+use Rattle.std.specs.Prelude.{slice_index_or, take, drop, ◌-◌, IfSome}
 use Rattle.std.proofs.Math.Seq.{take-length}
 use Rattle.std.specs.List.{AllByRecursion, AllZip}
 use Rattle.sqlite.specs.Effect.{Database}
+use Rattle.sqlite.specs.Schema.{Schema}
+use Rattle.sqlite_value.specs.Order.{Row}
 use Rattle.sqlite.specs.State.{State, HasCleanDisk, Survives}
 use Rattle.sqlite.specs.Tree.{Trees}
 use Rattle.sqlite.proofs.StateLemmas.{survives_weaker, survives_then}
@@ -13,14 +15,20 @@ use Rattle.fare_tables.proofs.Steps.{was_clean}
 use Rattle.fare_opening.specs.declared.design.Older.{Older}
 use Rattle.fare_opening.specs.declared.site.Site.{Site}
 use Rattle.fare_opening.specs.MetaRow.{IsMeta}
+use Rattle.fare_opening.specs.Moving.{MovingParts, columns_of, AreNumbered}
 use Rattle.fare_opening.specs.Numbers.{Meta}
 use Rattle.fare_opening.specs.Opening.{MayMake, MayOpen}
 use Rattle.fare_opening.specs.Parts.{Parts, OlderParts, IsOlder, IsTold, parts_of}
-use Rattle.fare_opening.specs.Raising.{Rises, CanRise, IsRaised, IsRising, RaisesAll, RaisesFrom, Raises, RaisesTo, IsOlderStore, MayRaise, WasRaised}
-use Rattle.fare_opening.specs.Sites.{rows_at}
+use Rattle.fare_opening.specs.Raising.{AreRead, Rises, CanRise, IsRaised, IsRising, RaisesAll, RaisesFrom, Raises, RaisesTo, IsOlderStore, MayRaise, WasRaised}
+use Rattle.fare_opening.specs.Sites.{IsSite, rows_at}
 use Rattle.fare_opening.proofs.Standing.{same_rows}
 
-module _ (d : Parts) (told : Older) (owner : ℕ) (old mid : State) (from to : Site) where
+-- two questions leave no more than one
+pub neither_leaves : (old mid new : State) (schema : Schema) → (HasCleanDisk mid → old.now.schema ≡ schema → SameRows old mid) → Survives old mid (λ _. ¬ (old.now.schema ≡ schema)) → Survives mid new (λ _. ¬ (mid.now.schema ≡ schema)) → Survives old new (λ _. ¬ (old.now.schema ≡ schema))
+neither_leaves old mid new schema same first second =
+    survives_then old mid new _ _ _ (λ clean trees no. no) (λ clean trees no is. no (ap (λ (db : Database). db.schema) (same (was_clean mid new _ second clean) is).0 ∙ is)) first second
+
+module _ (d : Parts) (told : Older) (owner : ℕ) (old mid : State) (from to : Site) (rows : List Row) where
   -- where its tables stand, and would stand
   abbrev pub AreFound : Type 0
   AreFound = (o : OlderParts) → IsOlder d o → IsTold told o → Rises d o old.now.schema from to
@@ -28,8 +36,26 @@ module _ (d : Parts) (told : Older) (owner : ℕ) (old mid : State) (from to : S
   pub can_rise : AreFound → IsMeta told.format owner (rows_at from Meta old.now.trees) → (o : OlderParts) → IsOlder d o → IsTold told o → CanRise d o owner old.now from to
   can_rise found meta o older is = record { rises = found o older is; meta = subst (λ f. IsMeta f owner (rows_at from Meta old.now.trees)) is.format meta }
 
-  pub is_rising : AreFound → IsMeta told.format owner (rows_at from Meta old.now.trees) → SameRows old mid → (o : OlderParts) → IsOlder d o → IsTold told o → IsRising d told mid.now
-  is_rising found meta same o older is = record { o = o; older = older; is_told = is; owner = owner; from = from; to = to; can = subst (λ db. CanRise d o owner db from to) (sym same.0) (can_rise found meta o older is) }
+  -- the rows that were read where its tables stand
+  abbrev pub WereRead : Type 0
+  WereRead = (e : Parts) (o : OlderParts) → IsOlder e o → IsTold told o → IsSite (parts_of o) from → AreRead o from old.now rows
+
+  same_read : (o : OlderParts) (v : Site) (trees : Trees) (x : Option MovingParts) → IsSite (parts_of o) from → IsSite (parts_of o) v → from.schema ≡ v.schema → IfSome x (λ (m : MovingParts). AreNumbered (columns_of o.own m.from) (rows_at from m.from trees) → rows ≡ rows_at from m.from trees)
+      → IfSome x (λ (m : MovingParts). AreNumbered (columns_of o.own m.from) (rows_at v m.from trees) → rows ≡ rows_at v m.from trees)
+  same_read o v trees None one two same read = tt
+  same_read o v trees (Some m) one two same read = subst (λ (there : List Row). AreNumbered (columns_of o.own m.from) there → rows ≡ there) (same_rows (parts_of o) from v m.from trees one two same) read
+
+  read_there : AreFound → WereRead → (o : OlderParts) → IsOlder d o → IsTold told o → (v : Site) → IsSite (parts_of o) v → old.now.schema ≡ v.schema → AreRead o v old.now rows
+  read_there found read o older is v site has =
+      let here = found o older is in
+      same_read o v old.now.trees o.moving here.from site (sym here.has ∙ has) (read d o older is here.from)
+
+  pub is_rising : AreFound → IsMeta told.format owner (rows_at from Meta old.now.trees) → WereRead → SameRows old mid → (o : OlderParts) → IsOlder d o → IsTold told o → IsRising d told mid.now rows
+  is_rising found meta read same o older is =
+      let can = can_rise found meta o older is in
+      let all = read_there found read in
+      let it : IsRising d told old.now rows = record { o = o; older = older; is_told = is; owner = owner; from = from; to = to; can = can; read = all } in
+      subst (λ db. IsRising d told db rows) (sym same.0) it
 
   pub raises : AreFound → IsMeta told.format owner (rows_at from Meta old.now.trees) → SameRows old mid → (o : OlderParts) → IsOlder d o → IsTold told o → (e : Database) → RaisesAll d told mid.now e → Raises d o owner old.now e to
   raises found meta same o older is e all =
@@ -37,18 +63,18 @@ module _ (d : Parts) (told : Older) (owner : ℕ) (old mid : State) (from to : S
       (from, can, subst (λ db. IsRaised d o owner to db e) same.0 (all.each o older is owner from to (subst (λ db. CanRise d o owner db from to) (sym same.0) can)))
 
   -- a stop leaves it as it was, or raised
-  pub raises_survives : (new : State) → AreFound → (HasCleanDisk mid → IsMeta told.format owner (rows_at from Meta old.now.trees)) → (HasCleanDisk mid → SameRows old mid) → old.now.schema ≡ from.schema → Survives old mid (λ _. ¬ (old.now.schema ≡ from.schema))
-      → Survives mid new (λ trees. IsRising d told mid.now → RaisesFrom d told mid.now trees) → Survives old new (λ trees. (o : OlderParts) → IsOlder d o → IsTold told o → RaisesTo d o owner old.now trees)
-  raises_survives new found meta same has first second =
+  pub raises_survives : (new : State) → AreFound → (HasCleanDisk mid → IsMeta told.format owner (rows_at from Meta old.now.trees)) → (HasCleanDisk mid → WereRead) → (HasCleanDisk mid → SameRows old mid) → old.now.schema ≡ from.schema → Survives old mid (λ _. ¬ (old.now.schema ≡ from.schema))
+      → Survives mid new (λ trees. IsRising d told mid.now rows → RaisesFrom d told mid.now trees) → Survives old new (λ trees. (o : OlderParts) → IsOlder d o → IsTold told o → RaisesTo d o owner old.now trees)
+  raises_survives new found meta read same has first second =
       survives_then old mid new _ _ _ (λ clean trees other. absurd (other has))
       (λ clean trees leaves o older is. (
       let before = was_clean mid new _ second clean in
-      let it = leaves (is_rising found (meta before) (same before) o older is) in
+      let it = leaves (is_rising found (meta before) (read before) (same before) o older is) in
       (to, it.0, raises found (meta before) (same before) o older is it.0 it.1, it.2)))
       first second
 
 -- a row of meta that isn't of this format and owner, wherever the older format's tables are found to stand
-pub none_rises : (d : Parts) (told : Older) (owner : ℕ) (old : State) (from to : Site) → AreFound d told owner old old from to → ¬ IsMeta told.format owner (rows_at from Meta old.now.trees)
+pub none_rises : (d : Parts) (told : Older) (owner : ℕ) (old : State) (from to : Site) → ((o : OlderParts) → IsOlder d o → IsTold told o → Rises d o old.now.schema from to) → ¬ IsMeta told.format owner (rows_at from Meta old.now.trees)
     → (o : OlderParts) → IsOlder d o → IsTold told o → (v w : Site) → ¬ CanRise d o owner old.now v w
 none_rises d told owner old from to found other o older is v w can =
     let here = found o older is in

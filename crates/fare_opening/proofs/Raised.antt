@@ -1,5 +1,6 @@
 -- What raising a store of an older format makes of it.
-use Rattle.std.proofs.Common.{is_eq, ◌≡◌, ◌≢◌, ◌≤◌, ◌<◌, ℕ, ℤ, true, List, [], ◌∷◌, map, length, None, Ok, Err, Result, OnOk, refl, sym, ap, subst, ◌∙◌, arith}
+use Rattle.std.proofs.Common.{is_eq, ◌≡◌, ◌≢◌, ◌≤◌, ◌<◌, ℕ, ℤ, true, List, [], ◌∷◌, map, length, Option, None, Some, Ok, Err, Result, OnOk, refl, sym, ap, subst, ◌∙◌, arith}
+use Rattle.std.specs.Prelude.{IfSome}
 use Rattle.std.specs.List.{AllByRecursion}
 use Rattle.std.specs.List.Sorted.{IsPermutation}
 use Rattle.sqlite.specs.declared.types.Value.{Value}
@@ -7,6 +8,7 @@ use Rattle.sqlite.specs.declared.types.Value.TheVariants.{Null, Int, Real, Text,
 use Rattle.std.proofs.lemmas.Cmp.{tied_itself}
 use Rattle.sqlite_value.proofs.OrderLemmas.{value_cmp_total}
 use Rattle.sqlite_value.specs.Order.{Row, column, value_cmp}
+use Rattle.sqlite.specs.Change.{next_tree}
 use Rattle.sqlite.specs.Tree.{Trees}
 use Rattle.sqlite.specs.Edit.{edit_of, edited}
 use Rattle.sqlite.specs.Rowids.TheVariants.{Given}
@@ -28,18 +30,21 @@ use Rattle.fare_tables.proofs.Statements.{made, cast_int, went, same_value}
 use Rattle.fare_tables.proofs.Terms.{matched}
 use Rattle.fare_layout.specs.declared.place.TableNumber.{TableNumber}
 use Rattle.fare_layout.specs.Places.{place_of, all_of}
-use Rattle.fare_layout.proofs.Others.{all_two, grown_all}
+use Rattle.fare_layout.proofs.Others.{all_two, all_below, grown_all}
 use Rattle.fare_opening.specs.declared.design.Older.{Older}
 use Rattle.fare_opening.specs.declared.site.Site.{Site}
 use Rattle.fare_opening.specs.MetaRow.{IsNumber, IsMeta}
+use Rattle.fare_opening.specs.Moves.{MovesAny}
+use Rattle.fare_opening.specs.Moving.{MovingParts, columns_of, AreNumbered, copies, shaped}
 use Rattle.fare_opening.specs.Numbers.{Meta}
-use Rattle.fare_opening.specs.Parts.{Parts, OlderParts, IsDesign, IsOlder, IsTold, set_meta, sets_meta, set_query, parts_of}
-use Rattle.fare_opening.specs.Raising.{CanRise, SetsMeta, IsRaised, IsRising, RaisesAll}
+use Rattle.fare_opening.specs.Parts.{Parts, OlderParts, IsDesign, IsOlder, IsMoving, IsTold, set_meta, sets_meta, set_query, parts_of}
+use Rattle.fare_opening.specs.Raising.{IsKept, IsNotFilled, HasMoved, AreRead, CanRise, SetsMeta, IsRaised, IsRising, RaisesAll}
 use Rattle.fare_opening.specs.Making.{HasGrown}
 use Rattle.fare_opening.specs.Sites.{IsSite, tree_at, rows_at}
 use Rattle.fare_opening.proofs.Asked.{all_rows, filter_all, over}
-use Rattle.fare_opening.proofs.Risen.{past_go, first_goes}
-use Rattle.fare_opening.proofs.Standing.{meta_stands, meta_placed, meta_within, each_stands, each_tree, is_not_meta, no_works, at_found, sets_means, place_count}
+use Rattle.fare_opening.proofs.Moved.{new_trees}
+use Rattle.fare_opening.proofs.Risen.{past_go, nth_goes}
+use Rattle.fare_opening.proofs.Standing.{meta_stands, meta_placed, meta_within, is_within, older_within, each_stands, each_tree, comes_first, two_trees, is_not_meta, no_works, at_found, sets_means, place_count}
 
 -- ---- the row of meta, with another format
 
@@ -95,44 +100,140 @@ sets_row d w old new format owner count design site has meta h =
       database = run.sound;
     }
 
--- ---- the tables that are made, and then the format
+-- ---- the tables that are made, the rows that move, and then the format
 
-module _ (d : Parts) (o : OlderParts) (owner : ℕ) (v w : Site) (a b : Database) (design : IsDesign d) (older : IsOlder d o) (can : CanRise d o owner a v w) (grown : HasGrown w.schema a b) where
-  same_tree : tree_at v Meta ≡ tree_at w Meta
-  same_tree = ap (λ p. p.tree) (first_goes a.schema (all_of v.places) (all_of w.places) can.rises.places (meta_within (parts_of o) v older.design can.rises.from))
+-- a tree isn't that of the table that gets rows
+abbrev IsApart : Option MovingParts → Site → ℕ → Type 0
+IsApart None w tree = Unit {0}
+IsApart (Some m) w tree = tree ≢ tree_at w m.to
 
-  -- the row of meta is as it was
-  pub meta_stays : IsMeta o.format owner (rows_at w Meta b.trees)
-  meta_stays =
+-- the schema is as it was, and each table but the two keeps its rows
+through_schema : (o : OlderParts) (w : Site) (rows : List Row) (b c : Database) (x : Option MovingParts) → b.schema ≡ w.schema → MovesAny o w rows b c x → c.schema ≡ w.schema
+through_schema o w rows b c None has same = ap (λ (db : Database). db.schema) same ∙ has
+through_schema o w rows b c (Some m) has it = it.schema
+
+through : (o : OlderParts) (w : Site) (rows : List Row) (b c : Database) (x : Option MovingParts) → MovesAny o w rows b c x → AllByRecursion (λ (t : Table). IsApart x w t.tree → IsKept x w t.tree → c.trees t.tree ≡ b.trees t.tree) w.schema.tables
+through o w rows b c None same = all_same w.schema.tables
+  where
+    all_same : (tables : List Table) → AllByRecursion (λ (t : Table). Unit {0} → Unit {0} → c.trees t.tree ≡ b.trees t.tree) tables
+    all_same [] = tt
+    all_same (t ∷ tables) = ((λ one two. ap (λ (db : Database). db.trees t.tree) same), all_same tables)
+through o w rows b c (Some m) it = it.others
+
+module _ (d : Parts) (o : OlderParts) (owner : ℕ) (v w : Site) (a b c : Database) (design : IsDesign d) (older : IsOlder d o) (can : CanRise d o owner a v w) (grown : HasGrown w.schema a b) where
+  -- each table of the older format stands where it stood
+  same_tree : (k : TableNumber) → k.number < length (all_of v.places) → tree_at v k ≡ tree_at w k
+  same_tree k low = ap (λ p. p.tree) (nth_goes a.schema (all_of v.places) (all_of w.places) can.rises.places k.number low)
+
+  -- and had its rows when the others were made
+  made_keeps : (k : TableNumber) → k.number < length (all_of v.places) → rows_at w k b.trees ≡ rows_at w k a.trees
+  made_keeps k low =
       let others = subst (λ (s : Schema). AllByRecursion (λ (t : Table). b.trees t.tree ≡ a.trees t.tree) s.tables) can.rises.has grown.others in
-      let kept : b.trees (tree_at v Meta) ≡ a.trees (tree_at v Meta) = each_tree (λ n. b.trees n ≡ a.trees n) (parts_of o) v can.rises.from others Meta (meta_within (parts_of o) v older.design can.rises.from) in
-      subst (IsMeta o.format owner) (sym kept ∙ ap b.trees same_tree) can.meta
+      subst (λ n. b.trees n ≡ a.trees n) (same_tree k low) (each_tree (λ n. b.trees n ≡ a.trees n) (parts_of o) v can.rises.from others k low)
+
+  old_meta : 0 < length (all_of v.places)
+  old_meta = meta_within (parts_of o) v older.design can.rises.from
+
+  old_count : length o.tables ≡ length (all_of v.places)
+  old_count = sym older.design.many ∙ place_count v.schema o.own.tables (all_of v.places) can.rises.from.stands
 
   -- a table that was made has no row
   none_there : (k : TableNumber) → length o.tables ≤ k.number → k.number < length (all_of w.places) → rows_at w k b.trees ≡ []
   none_there k past low =
-      let placed = place_count v.schema o.own.tables (all_of v.places) can.rises.from.stands in
-      let many = older.design.many in
-      let from : length (all_of v.places) ≤ k.number = omega (arith, placed, many, past) in
       let s = each_stands w.schema d.own.tables w.places can.rises.site.stands k low in
-      grown.empty (place_of w.places k).at (record s.0 { tree = (place_of w.places k).tree }) (past_go a.schema (all_of v.places) (all_of w.places) can.rises.places k.number from low) s.1.there
+      grown.empty (place_of w.places k).at (record s.0 { tree = (place_of w.places k).tree }) (past_go a.schema (all_of v.places) (all_of w.places) can.rises.places k.number (subst (λ n. n ≤ k.number) old_count past) low) s.1.there
 
-  pub is_raised : (e : Database) → SetsMeta d owner w b e → IsRaised d o owner w a e
-  is_raised e sets = record {
-    schema = sets.schema;
-    meta = sets.meta;
-    others = all_two (λ (t : Table). b.trees t.tree ≡ a.trees t.tree) (λ (t : Table). t.tree ≢ tree_at w Meta → e.trees t.tree ≡ b.trees t.tree) (λ (t : Table). t.tree ≢ tree_at w Meta → e.trees t.tree ≡ a.trees t.tree) (λ t one two not. two not ∙ one) a.schema.tables grown.others
-        (grown_all (λ (t : Table). t.tree ≢ tree_at w Meta → e.trees t.tree ≡ b.trees t.tree) o.missing a.schema w.schema can.rises.grows sets.others);
-    empty = λ k past low. (
-        let some = older.design.tables_are in
-        let least : 0 < length o.tables = subst (λ (ts : List (List ℕ × List ℕ)). 0 < length ts) (sym some) (omega arith) in
-        let high : 0 < k.number = omega (arith, least, past) in
-        each_tree (λ n. n ≢ tree_at w Meta → e.trees n ≡ b.trees n) d w can.rises.site sets.others k low (is_not_meta d w can.rises.site k high low) ∙ none_there k past low);
-    database = sets.database;
-  }
+  -- and a tree that no table had
+  new_tree : (k : TableNumber) → length o.tables ≤ k.number → k.number < length (all_of w.places) → next_tree a.schema ≤ tree_at w k
+  new_tree k past low =
+      let s = each_stands w.schema d.own.tables w.places can.rises.site.stands k low in
+      new_trees o.missing a.schema w.schema can.rises.grows (place_of w.places k).at (record s.0 { tree = (place_of w.places k).tree }) (past_go a.schema (all_of v.places) (all_of w.places) can.rises.places k.number (subst (λ n. n ≤ k.number) old_count past) low) s.1.there
+
+  to_within : (m : MovingParts) → IsMoving d o m → m.to.number < length (all_of w.places)
+  to_within m it = is_within d w can.rises.site m.to (shaped it.shape it.tree) it.shape_is
+
+  from_within : (m : MovingParts) → IsMoving d o m → m.from.number < length (all_of w.places)
+  from_within m it = older_within d o w design older can.rises.site m.from it.has
+
+  old_apart : (x : Option MovingParts) → IfSome x (IsMoving d o) → (tree : ℕ) → tree < next_tree a.schema → IsApart x w tree
+  old_apart None it tree low = tt
+  old_apart (Some m) it tree low = λ same. (let high = new_tree m.to it.lacks (to_within m it) in omega (arith, low, high, same))
+
+  meta_apart : (x : Option MovingParts) → IfSome x (IsMoving d o) → IsApart x w (tree_at w Meta) × IsKept x w (tree_at w Meta)
+  meta_apart None it = (tt, tt)
+  meta_apart (Some m) it =
+      let past = it.past in
+      let lacks = it.lacks in
+      let has = it.has in (
+        comes_first d w can.rises.site Meta m.to (omega (arith, past, lacks, has)) (to_within m it),
+        comes_first d w can.rises.site Meta m.from past (from_within m it),
+      )
+
+  -- a table that was made and gets no rows is none of the two
+  made_apart : (x : Option MovingParts) → IfSome x (IsMoving d o) → (k : TableNumber) → length o.tables ≤ k.number → k.number < length (all_of w.places) → IsNotFilled x k → IsApart x w (tree_at w k) × IsKept x w (tree_at w k)
+  made_apart None it k past low other = (tt, tt)
+  made_apart (Some m) it k past low other =
+      let has = it.has in (
+        two_trees d w can.rises.site k m.to other low (to_within m it),
+        (λ same. comes_first d w can.rises.site m.from k (omega (arith, has, past)) low (sym same)),
+      )
+
+  module _ (rows : List Row) (moves : MovesAny o w rows b c o.moving) where
+    -- the row of meta is as it was
+    pub meta_stays : IsMeta o.format owner (rows_at w Meta c.trees)
+    meta_stays =
+        let apart = meta_apart o.moving older.moves in
+        let moved : rows_at w Meta c.trees ≡ rows_at w Meta b.trees = each_tree (λ n. IsApart o.moving w n → IsKept o.moving w n → c.trees n ≡ b.trees n) d w can.rises.site (through o w rows b c o.moving moves) Meta (meta_within d w design can.rises.site) apart.0 apart.1 in
+        subst (IsMeta o.format owner) (ap a.trees (same_tree Meta old_meta) ∙ sym (moved ∙ made_keeps Meta old_meta)) can.meta
+
+    pub schema_stays : c.schema ≡ w.schema
+    schema_stays = through_schema o w rows b c o.moving grown.schema moves
+
+    module _ (e : Database) (sets : SetsMeta d owner w c e) where
+      -- a table but meta is as it was before the format was set
+      set_keeps : (k : TableNumber) → 0 < k.number → k.number < length (all_of w.places) → rows_at w k e.trees ≡ rows_at w k c.trees
+      set_keeps k high low = each_tree (λ n. n ≢ tree_at w Meta → e.trees n ≡ c.trees n) d w can.rises.site sets.others k low (is_not_meta d w can.rises.site k high low)
+
+      has_moved : (x : Option MovingParts) → IfSome x (IsMoving d o) → MovesAny o w rows b c x → IfSome x (λ (m : MovingParts). AreNumbered (columns_of o.own m.from) (rows_at v m.from a.trees) → rows ≡ rows_at v m.from a.trees) → IfSome x (HasMoved o w a e)
+      has_moved None it move read = tt
+      has_moved (Some m) it move read =
+          let columns = columns_of o.own m.from in
+          let has = it.has in
+          let lacks = it.lacks in
+          let past = it.past in
+          let old_low = subst (λ n. m.from.number < n) old_count it.has in
+          let from_is : rows_at v m.from a.trees ≡ rows_at w m.from a.trees = ap a.trees (same_tree m.from old_low) in
+          let kept = made_keeps m.from old_low in
+          record {
+            emptied = λ ok. set_keeps m.from past (from_within m it) ∙ move.cleared (subst (AreNumbered columns) (sym kept) ok);
+            copied = λ ok. (
+                let are : rows ≡ rows_at w m.from a.trees = read (subst (AreNumbered columns) (sym from_is) ok) ∙ from_is in
+                set_keeps m.to (omega (arith, past, has, lacks)) (to_within m it) ∙ move.filled (subst (AreNumbered columns) (sym are) ok) (none_there m.to lacks (to_within m it)) ∙ ap copies are);
+          }
+
+      pub is_raised : AreRead o v a rows → IsRaised d o owner w a e
+      is_raised read =
+          let later = grown_all (λ (t : Table). t.tree ≢ tree_at w Meta → e.trees t.tree ≡ c.trees t.tree) o.missing a.schema w.schema can.rises.grows sets.others in
+          let mid = grown_all (λ (t : Table). IsApart o.moving w t.tree → IsKept o.moving w t.tree → c.trees t.tree ≡ b.trees t.tree) o.missing a.schema w.schema can.rises.grows (through o w rows b c o.moving moves) in
+          let first = all_two (λ (t : Table). t.tree < next_tree a.schema) (λ (t : Table). IsApart o.moving w t.tree → IsKept o.moving w t.tree → c.trees t.tree ≡ b.trees t.tree) (λ (t : Table). IsKept o.moving w t.tree → c.trees t.tree ≡ b.trees t.tree) (λ t low step. step (old_apart o.moving older.moves t.tree low)) a.schema.tables (all_below a.schema) mid in
+          let both = all_two (λ (t : Table). b.trees t.tree ≡ a.trees t.tree) (λ (t : Table). IsKept o.moving w t.tree → c.trees t.tree ≡ b.trees t.tree) (λ (t : Table). IsKept o.moving w t.tree → c.trees t.tree ≡ a.trees t.tree) (λ t one two kept. two kept ∙ one) a.schema.tables grown.others first in
+          record {
+            schema = sets.schema;
+            meta = sets.meta;
+            others = all_two (λ (t : Table). IsKept o.moving w t.tree → c.trees t.tree ≡ a.trees t.tree) (λ (t : Table). t.tree ≢ tree_at w Meta → e.trees t.tree ≡ c.trees t.tree) (λ (t : Table). t.tree ≢ tree_at w Meta → IsKept o.moving w t.tree → e.trees t.tree ≡ a.trees t.tree) (λ t one two not kept. two not ∙ one kept) a.schema.tables both later;
+            empty = λ k past low other. (
+                let some = older.design.tables_are in
+                let least : 0 < length o.tables = subst (λ (ts : List (List ℕ × List ℕ)). 0 < length ts) (sym some) (omega arith) in
+                let high : 0 < k.number = omega (arith, least, past) in
+                let apart = made_apart o.moving older.moves k past low other in
+                let moved : rows_at w k c.trees ≡ rows_at w k b.trees = each_tree (λ n. IsApart o.moving w n → IsKept o.moving w n → c.trees n ≡ b.trees n) d w can.rises.site (through o w rows b c o.moving moves) k low apart.0 apart.1 in
+                set_keeps k high low ∙ moved ∙ none_there k past low);
+            moved = has_moved o.moving older.moves moves read;
+            database = sets.database;
+          }
 
 -- whoever's store it is
-pub all_raised : {X E : Type 0} (d : Parts) (told : Older) (r : Result X E) (a e : Database) (Q : Type 0) → IsRising d told a
+pub all_raised : {X E : Type 0} (d : Parts) (told : Older) (r : Result X E) (a e : Database) (rows : List Row) (Q : Type 0) → IsRising d told a rows
     → ((o : OlderParts) → IsOlder d o → IsTold told o → (owner : ℕ) (v w : Site) → CanRise d o owner a v w → OnOk r (IsRaised d o owner w a e × Q)) → OnOk r (RaisesAll d told a e × Q)
-all_raised d told (Ok x) a e Q it h = (record { each = λ o older is owner v w can. (h o older is owner v w can).0 }, (h it.o it.older it.is_told it.owner it.from it.to it.can).1)
-all_raised d told (Err x) a e Q it h = tt
+all_raised d told (Ok x) a e rows Q it h = (record { each = λ o older is owner v w can. (h o older is owner v w can).0 }, (h it.o it.older it.is_told it.owner it.from it.to it.can).1)
+all_raised d told (Err x) a e rows Q it h = tt

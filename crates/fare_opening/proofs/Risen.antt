@@ -81,8 +81,9 @@ past_go s (p ∷ from) [] goes k past low = absurd goes
 past_go s (p ∷ from) (q ∷ to) goes zero past low = absurd (omega (arith, past))
 past_go s (p ∷ from) (q ∷ to) goes (suc k) past low = past_go s from to goes.1 k (omega (arith, past)) (omega (arith, low))
 
--- and the first ones are the same
-pub first_goes : (s : Schema) (from to : List Place) → GoOn s from to → 0 < length from → or_nowhere (slice_get from 0) ≡ or_nowhere (slice_get to 0)
-first_goes s [] to goes low = absurd (omega (arith, low))
-first_goes s (p ∷ from) [] goes low = absurd goes
-first_goes s (p ∷ from) (q ∷ to) goes low = goes.0
+-- and the older ones are the same
+pub nth_goes : (s : Schema) (from to : List Place) → GoOn s from to → (k : ℕ) → k < length from → or_nowhere (slice_get from k) ≡ or_nowhere (slice_get to k)
+nth_goes s [] to goes k low = absurd (omega (arith, low))
+nth_goes s (p ∷ from) [] goes k low = absurd goes
+nth_goes s (p ∷ from) (q ∷ to) goes zero low = goes.0
+nth_goes s (p ∷ from) (q ∷ to) goes (suc k) low = nth_goes s from to goes.1 k (omega (arith, low))

@@ -1,7 +1,8 @@
 -- What holds where a store's tables stand.
-use Rattle.std.proofs.Common.{◌≡◌, ◌≢◌, ◌<◌, inl, inr, ℕ, zero, suc, length, IsSome, arith, List, [], ◌∷◌, Option, Some, None, Ok, Result, IfSome, IfOk, OnErr, Bool, false, IsTrue, refl, sym, ap, subst, ◌∙◌, Err, nat_le, ◌^◌}
-use Rattle.std.specs.Prelude.{slice_get}
+use Rattle.std.proofs.Common.{◌≡◌, ◌≢◌, ◌<◌, ◌⊎◌, inl, inr, ℕ, zero, suc, length, IsSome, arith, List, [], ◌∷◌, Option, Some, None, Ok, Result, IfSome, IfOk, OnOk, OnErr, Bool, false, IsTrue, refl, sym, ap, subst, ◌∙◌, Err, nat_le, ◌^◌}
+use Rattle.std.specs.Prelude.{slice_get, MatchOption}
 use Rattle.std.specs.List.{AllByRecursion, AllZip}
+use Rattle.std.proofs.lemmas.List.{length-append}
 use Rattle.sqlite.specs.Compile.{table_defined_by}
 use Rattle.sqlite.specs.Does.{AtPlace, OnRows, Tally}
 use Rattle.sqlite.specs.Effect.{Database}
@@ -29,9 +30,9 @@ use Rattle.fare_layout.proofs.Untouched as untouched
 use Rattle.fare_layout.proofs.Grown.{same_places}
 use Rattle.fare_layout.proofs.Meant.{Meant, meant, same_some}
 use Rattle.fare_opening.specs.declared.site.Site.{Site}
-use Rattle.fare_opening.specs.Parts.{Parts, IsDesign, HasFewKeys, read_meta, put_meta, set_meta, reads_meta, puts_meta, sets_meta}
+use Rattle.fare_opening.specs.Parts.{Parts, OlderParts, IsDesign, IsOlder, HasFewKeys, read_meta, put_meta, set_meta, reads_meta, puts_meta, sets_meta}
 use Rattle.fare_opening.specs.Numbers.{Meta}
-use Rattle.fare_opening.specs.Sites.{IsSite, tree_at, rows_at}
+use Rattle.fare_opening.specs.Sites.{IsSite, IsEmptied, tree_at, rows_at}
 
 -- ---- a table's keys
 
@@ -53,6 +54,12 @@ not_some o none some = absurd (let e = subst IsSome none some in cc)
 pub not_true : (b : Bool) → b ≡ false → IsTrue b → ⊥
 not_true b fails holds = absurd (let e = sym fails ∙ holds in cc)
 
+pub matched_some : {X : Type 0} (o : Option X) (x : X) (P : Type 0) (Q : X → Type 0) → o ≡ Some x → MatchOption o P Q → Q x
+matched_some o x P Q is m = subst (λ y. MatchOption y P Q) is m
+
+pub matched_none : {X : Type 0} (o : Option X) (P : Type 0) (Q : X → Type 0) → o ≡ None → MatchOption o P Q → P
+matched_none o P Q is m = subst (λ y. MatchOption y P Q) is m
+
 pub for_none : {T E : Type 0} (r : Result (Option T) E) (P : Type 0) → P → IfOk r (λ found. found ≡ None → P)
 for_none (Ok x) P p = λ none. p
 for_none (Err e) P p = tt
@@ -60,6 +67,10 @@ for_none (Err e) P p = tt
 pub for_err : {T E : Type 0} (r : Result T E) (P : Type 0) → P → OnErr r P
 for_err (Ok x) P p = tt
 for_err (Err e) P p = p
+
+pub on_any : {T E : Type 0} (r : Result T E) (P : T → Type 0) (Q : Type 0) → ((x : T) → P x → Q) → IfOk r P → OnOk r Q
+on_any (Ok x) P Q f p = f x p
+on_any (Err e) P Q f p = tt
 
 -- ---- each table is where it stands
 
@@ -85,6 +96,17 @@ within : {X : Type 0} (xs : List X) (k : ℕ) (x : X) → slice_get xs k ≡ Som
 within [] k x is = absurd (let e = is in cc)
 within (y ∷ ys) zero x is = omega arith
 within (y ∷ ys) (suc k) x is = let low = within ys k x is in omega (arith, low)
+
+pub is_within : (d : Parts) (w : Site) → IsSite d w → (k : TableNumber) (t : Table) → slice_get d.own.tables k.number ≡ Some t → k.number < length (all_of w.places)
+is_within d w site k t is = subst (λ n. k.number < n) (place_count w.schema d.own.tables (all_of w.places) site.stands) (within d.own.tables k.number t is)
+
+-- a table of an older format is one of the newest too
+pub older_within : (d : Parts) (o : OlderParts) (w : Site) → IsDesign d → IsOlder d o → IsSite d w → (k : TableNumber) → k.number < length o.tables → k.number < length (all_of w.places)
+older_within d o w design older site k low =
+    let many = design.many in
+    let placed = place_count w.schema d.own.tables (all_of w.places) site.stands in
+    let all = ap length older.tables_are ∙ length-append o.tables o.missing in
+    omega (arith, low, many, placed, all)
 
 -- and a table at its own
 pub this_stands : (d : Parts) (w : Site) → IsSite d w → (k : TableNumber) (t : Table) → slice_get d.own.tables k.number ≡ Some t → Stands w.schema t (place_of w.places k)
@@ -127,6 +149,18 @@ apart_nth (p ∷ ps) apart (suc k) (suc j) less low = apart_nth ps apart.1 k j (
 pub comes_first : (d : Parts) (w : Site) → IsSite d w → (k j : TableNumber) → k.number < j.number → j.number < length (all_of w.places) → tree_at w k ≢ tree_at w j
 comes_first d w site k j less low = apart_nth (all_of w.places) site.untouched.apart k.number j.number less low
 
+pub two_trees : (d : Parts) (w : Site) → IsSite d w → (k j : TableNumber) → k.number ≢ j.number → k.number < length (all_of w.places) → j.number < length (all_of w.places) → tree_at w k ≢ tree_at w j
+two_trees d w site k j other low_k low_j = elim (apart_or k.number j.number other) [
+  | inl less ↦ comes_first d w site k j less low_j
+  | inr more ↦ (λ same. comes_first d w site j k more low_k (sym same))
+]
+  where
+    apart_or : (a b : ℕ) → a ≢ b → (a < b) ⊎ (b < a)
+    apart_or zero zero other = absurd (other refl)
+    apart_or zero (suc b) other = inl (omega arith)
+    apart_or (suc a) zero other = inr (omega arith)
+    apart_or (suc a) (suc b) other = elim (apart_or a b (λ e. other (ap suc e))) [ inl l ↦ inl (omega (arith, l)) | inr l ↦ inr (omega (arith, l)) ]
+
 -- no other table has the tree of meta
 pub is_not_meta : (d : Parts) (w : Site) → IsSite d w → (k : TableNumber) → 0 < k.number → k.number < length (all_of w.places) → tree_at w k ≢ tree_at w Meta
 is_not_meta d w site k past low = λ e. comes_first d w site Meta k past low (sym e)
@@ -158,9 +192,13 @@ same_at d v w one two same = same_places v.schema d.own.tables (all_of v.places)
 pub same_rows : (d : Parts) (v w : Site) (k : TableNumber) (trees : Trees) → IsSite d v → IsSite d w → v.schema ≡ w.schema → rows_at v k trees ≡ rows_at w k trees
 same_rows d v w k trees one two same = ap (λ (ps : List Place). trees (or_nowhere (slice_get ps k.number)).tree) (same_at d v w one two same)
 
+-- so it is with the table that isn't used
+pub same_emptied : (d : Parts) (v w : Site) (trees : Trees) → IsSite d v → IsSite d w → v.schema ≡ w.schema → IsEmptied d v trees → IsEmptied d w trees
+same_emptied d v w trees one two same none = some_weaker d.unused _ _ (λ u is. sym (same_rows d v w u.0 trees one two same) ∙ is) none
+
 -- ---- what the texts of meta mean there
 
-all_has : {X : Type 0} (P : X → Type 0) (xs : List X) (x : X) → AllByRecursion P xs → Has xs x → P x
+pub all_has : {X : Type 0} (P : X → Type 0) (xs : List X) (x : X) → AllByRecursion P xs → Has xs x → P x
 all_has P [] x all has = absurd has
 all_has P (y ∷ ys) x all (inl is) = subst P (sym is) all.0
 all_has P (y ∷ ys) x all (inr has) = all_has P ys x all.1 has

@@ -6,7 +6,7 @@ ghost use Rattle.fare_tables.specs.Asking.{IsLive, IsAtRest, SameRows, Inside};
 ghost use Rattle.fare_opening.specs.declared.site.Site.{Site};
 ghost use Rattle.fare_opening.specs.Moves.{Fills, Clears, Moves, MovesAny};
 ghost use Rattle.fare_opening.specs.Moving.{MovingParts, moving_told, columns_of, IsNumbered, copy_of};
-ghost use Rattle.fare_opening.specs.Parts.{Parts, OlderParts, IsOlder, IsMoving, parts_of};
+ghost use Rattle.fare_opening.specs.Parts.{Parts, OlderParts, IsDesign, IsOlder, IsMoving, parts_of};
 ghost use Rattle.fare_opening.specs.Raising.{AreRead};
 ghost use Rattle.fare_opening.specs.Sites.{IsSite};
 
@@ -37,6 +37,9 @@ pub struct Moving {
 fn add_cells<'a>(cells: &mut Vec<ValueRef<'a>>, row: &'a Row, at: usize) -> Result<(), Fault>
     ensures { OnOk result ((n : ℕ) → IsNumbered n row.now → bound cells.new.items ≡ bound cells.old.items ++ drop at row.now) }
 {
+    if at >= row.column_count() {
+        return Ok(());
+    }
     match row.get_ref(at) {
         Ok(value) => {
             cells.push(value)?;
@@ -101,7 +104,7 @@ fn put_copies<S: Alter>(
 // No row stays in the table.
 fn clear_rows<S: Alter>(tx: &mut Transaction<'_, S>, clear: &str) -> Result<(), Fault>
     ensures same_reference { tx.new.conn.ghost_name ≡ tx.old.conn.ghost_name }
-    ensures cleared { HasCleanDisk (state S.Store tx.new.conn.now) → IsTrue (state S.Store tx.old.conn.now).in_transaction → (d : Parts) (o : OlderParts) (m : MovingParts) (w : Site) → IsMoving d o m → IsOlder d o → m.clear ≡ clear.now → IsSite d w → (state S.Store tx.old.conn.now).now.schema ≡ w.schema
+    ensures cleared { HasCleanDisk (state S.Store tx.new.conn.now) → IsTrue (state S.Store tx.old.conn.now).in_transaction → (d : Parts) (o : OlderParts) (m : MovingParts) (w : Site) → IsMoving d o m → IsDesign d → IsOlder d o → m.clear ≡ clear.now → IsSite d w → (state S.Store tx.old.conn.now).now.schema ≡ w.schema
         → OnOk result (Clears w m.from (columns_of o.own m.from) (state S.Store tx.old.conn.now).now (state S.Store tx.new.conn.now).now × IsTrue (state S.Store tx.new.conn.now).in_transaction) }
     ensures inside { HasCleanDisk (state S.Store tx.new.conn.now) → Inside (state S.Store tx.old.conn.now) (state S.Store tx.new.conn.now) }
     ensures survives { Survives (state S.Store tx.old.conn.now) (state S.Store tx.new.conn.now) (λ _. ⊥) }
@@ -120,7 +123,7 @@ fn move_these<S: Alter>(
     rows: &[Row],
 ) -> Result<(), Fault>
     ensures same_reference { tx.new.conn.ghost_name ≡ tx.old.conn.ghost_name }
-    ensures moved { HasCleanDisk (state S.Store tx.new.conn.now) → IsTrue (state S.Store tx.old.conn.now).in_transaction → (d : Parts) (o : OlderParts) (w : Site) → IsMoving d o (moving_told moving.now) → IsOlder d o → IsSite d w → (state S.Store tx.old.conn.now).now.schema ≡ w.schema
+    ensures moved { HasCleanDisk (state S.Store tx.new.conn.now) → IsTrue (state S.Store tx.old.conn.now).in_transaction → (d : Parts) (o : OlderParts) (w : Site) → IsMoving d o (moving_told moving.now) → IsDesign d → IsOlder d o → IsSite d w → (state S.Store tx.old.conn.now).now.schema ≡ w.schema
         → OnOk result (Moves o w rows.now (state S.Store tx.old.conn.now).now (state S.Store tx.new.conn.now).now (moving_told moving.now) × IsTrue (state S.Store tx.new.conn.now).in_transaction) }
     ensures inside { HasCleanDisk (state S.Store tx.new.conn.now) → Inside (state S.Store tx.old.conn.now) (state S.Store tx.new.conn.now) }
     ensures survives { Survives (state S.Store tx.old.conn.now) (state S.Store tx.new.conn.now) (λ _. ⊥) }
@@ -137,7 +140,7 @@ pub(crate) fn move_rows<S: Alter>(
     rows: &[Row],
 ) -> Result<(), Fault>
     ensures same_reference { tx.new.conn.ghost_name ≡ tx.old.conn.ghost_name }
-    ensures moved { HasCleanDisk (state S.Store tx.new.conn.now) → IsTrue (state S.Store tx.old.conn.now).in_transaction → (d : Parts) (o : OlderParts) (w : Site) → option_map moving_told moving.now ≡ o.moving → IsOlder d o → IsSite d w → (state S.Store tx.old.conn.now).now.schema ≡ w.schema
+    ensures moved { HasCleanDisk (state S.Store tx.new.conn.now) → IsTrue (state S.Store tx.old.conn.now).in_transaction → (d : Parts) (o : OlderParts) (w : Site) → option_map moving_told moving.now ≡ o.moving → IsDesign d → IsOlder d o → IsSite d w → (state S.Store tx.old.conn.now).now.schema ≡ w.schema
         → OnOk result (MovesAny o w rows.now (state S.Store tx.old.conn.now).now (state S.Store tx.new.conn.now).now o.moving × IsTrue (state S.Store tx.new.conn.now).in_transaction) }
     ensures inside { HasCleanDisk (state S.Store tx.new.conn.now) → Inside (state S.Store tx.old.conn.now) (state S.Store tx.new.conn.now) }
     ensures survives { Survives (state S.Store tx.old.conn.now) (state S.Store tx.new.conn.now) (λ _. ⊥) }

@@ -1,5 +1,5 @@
-use Rattle.fare_ledger.proofs.AnyOrder.{any_rises}
+use Rattle.fare_ledger.proofs.AnyRise.{any_first_rises}
 use Rattle.fare_ledger.proofs.laws.first_tables_rise_in_any_order.Goals as goal
 
 pub returns : goal.returns
-returns c = any_rises
+returns c = any_first_rises

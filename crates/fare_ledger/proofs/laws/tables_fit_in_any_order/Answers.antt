@@ -1,4 +1,4 @@
-use Rattle.fare_ledger.proofs.AnyOrder.{any_order}
+use Rattle.fare_ledger.proofs.AllOrders.{any_order}
 use Rattle.fare_ledger.proofs.laws.tables_fit_in_any_order.Goals as goal
 
 pub returns : goal.returns

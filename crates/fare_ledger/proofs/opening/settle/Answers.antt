@@ -8,7 +8,6 @@ use Rattle.fare_ledger.specs.Making.{site_of}
 use Rattle.fare_ledger.specs.Opening.{MayOpen}
 use Rattle.fare_ledger.specs.Statements.{ledger_parts}
 use Rattle.fare_ledger.proofs.Opened.{settles_as, opened_as}
-use Rattle.fare_ledger.proofs.Rising.{is_older}
 use Rattle.fare_ledger.proofs.opening.settle.Goals as goal
 
 pub returns-in-Some-clause-opens : goal.returns-in-Some-clause-opens
@@ -35,7 +34,7 @@ returns-in-Some-clause-crash g c =
     let new = state g.S.Store c.open_tables.new.conn in
     subst (λ o. Survives old new (MayOpen o old)) c.get.ensures.value c.in_ok-opened.ensures.crash
 
-pub returns-in-None-clause-first : goal.returns-in-None-clause-first
-returns-in-None-clause-first g c live none first =
+pub returns-in-None-clause-older : goal.returns-in-None-clause-older
+returns-in-None-clause-older g c live none older =
     let old = state g.S.Store c.args.conn.now in
-    c.in_ok-opened.ensures.older live c.in-None.is (subst (λ o. raising.IsOlderStore ledger_parts o old) (sym c.get.ensures.value) (is_older c.args.owner old first))
+    c.in_ok-opened.ensures.older live c.in-None.is (subst (λ o. raising.IsOlderStore ledger_parts o old) (sym c.get.ensures.value) older)

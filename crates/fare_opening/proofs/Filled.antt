@@ -1,0 +1,151 @@
+-- What a table gets where copies of rows are put into it.
+use Rattle.std.proofs.Common.{◌≡◌, ◌≢◌, ◌≤◌, ◌<◌, ◌+◌, ◌++◌, ℕ, zero, suc, List, [], ◌∷◌, map, length, pos, append-nil, length-append, None, Some, Ok, refl, sym, ap, subst, ◌∙◌, arith}
+use Rattle.std.specs.Prelude.{drop, take, ◌/◌, ◌-◌, slice_index_or, slice_get}
+use Rattle.std.specs.List.{AllByRecursion}
+use Rattle.std.proofs.Math.Nat.{div_self}
+use Rattle.std.proofs.Math.Seq.{take-length, drop-length}
+use Rattle.std.proofs.lemmas.List.{append_assoc}
+use Rattle.sqlite.specs.declared.types.Value.{Value}
+use Rattle.sqlite_value.specs.Order.{Row, column}
+use Rattle.sqlite.specs.Tree.{Trees, put_row}
+use Rattle.sqlite.specs.Term.{Term}
+use Rattle.sqlite_sql.specs.Term.{eval_all}
+use Rattle.sqlite.specs.Kind.TheVariants.{Integer}
+use Rattle.sqlite.specs.Cast.{cast, cast_all}
+use Rattle.sqlite.specs.Edit.{edit_of, edited}
+use Rattle.sqlite.specs.Rowids.TheVariants.{Chosen}
+use Rattle.sqlite.specs.Does.{Does}
+use Rattle.sqlite.specs.Rows.{Written, Task}
+use Rattle.sqlite.specs.Schema.{Schema}
+use Rattle.sqlite.specs.Table.{Table}
+use Rattle.sqlite_schema.specs.declared.schema.Column.{Column}
+use Rattle.sqlite_schema.specs.declared.schema.Keys.TheVariants.{Enforced}
+use Rattle.sqlite.specs.Listing.{understood}
+use Rattle.sqlite.specs.Effect.{Database, value_rows}
+use Rattle.sqlite.specs.State.{State, mode_of, Executes}
+use Rattle.sqlite.proofs.Callers.{statement_of, runs_as, one_step}
+use Rattle.fare_tables.specs.Cells.{nat_in, int, AreRows}
+use Rattle.fare_tables.proofs.Statements.{made, cast_int, went, same_value}
+use Rattle.fare_layout.specs.declared.place.TableNumber.{TableNumber}
+use Rattle.fare_layout.specs.Commands.{KeepsMeaning}
+use Rattle.fare_layout.specs.Places.{place_of, all_of}
+use Rattle.fare_layout.proofs.Meant.{Meant, meant}
+use Rattle.fare_layout.proofs.Others.{all_two}
+use Rattle.fare_opening.specs.declared.site.Site.{Site}
+use Rattle.fare_opening.specs.Moves.{Fills}
+use Rattle.fare_opening.specs.Moving.{MovingParts, cells_from, puts_cells, columns_of, AreIntegers, Shape, shaped, IsNumbered, AreNumbered, copy_of, copies}
+use Rattle.fare_opening.specs.Parts.{Parts, OlderParts, IsMoving}
+use Rattle.fare_opening.specs.Sites.{IsSite, tree_at, rows_at}
+use Rattle.fare_opening.proofs.Cells.{cells_in, numbered_long}
+use Rattle.fare_opening.proofs.Numbered.{rows_front, rows_last, copied_numbered, put_last}
+use Rattle.fare_opening.proofs.Standing.{all_has, at_found, no_works, is_within, this_stands}
+
+-- ---- the parameters make one row
+
+cells_count : (slot at n : ℕ) → length (cells_from slot at n) ≡ n
+cells_count slot at zero = refl
+cells_count slot at (suc n) = ap suc (cells_count slot (at + 1) n)
+
+all_taken : (n : ℕ) (terms : List Term) → length terms ≡ n → take n terms ≡ terms
+all_taken n terms long = subst (λ k. take k terms ≡ terms) long (take-length terms)
+
+pub one_row : (n : ℕ) (params : Row) → length params ≡ suc n → value_rows (params ++ []) (suc n) (length (cells_from 0 0 (suc n)) / suc n) (cells_from 0 0 (suc n)) ≡ params ∷ []
+one_row n params long =
+    let terms = cells_from 0 0 (suc n) in
+    let count : length terms / suc n ≡ 1 = ap (λ k. k / suc n) (cells_count 0 0 (suc n)) ∙ div_self (omega arith) in
+    ap (λ p. value_rows p (suc n) (length terms / suc n) terms) (append-nil params)
+    ∙ ap (λ k. value_rows params (suc n) k terms) count
+    ∙ ap (λ (ts : List Term). eval_all ts (params ∷ []) ∷ []) (all_taken (suc n) terms (cells_count 0 0 (suc n)))
+    ∙ ap (λ (r : Row). r ∷ []) (cells_in 0 0 (suc n) (params ∷ []) params refl (omega (arith, long)))
+
+-- ---- it is put as it is
+
+number_cast : (v : Value) → v ≡ int (nat_in v) → cast Integer v ≡ v
+number_cast v is = ap (cast Integer) is ∙ cast_int (pos (nat_in v)) ∙ sym is
+
+pub all_cast : (n : ℕ) (columns : List Column) (row : Row) → AreIntegers n columns → IsNumbered n row → cast_all columns row ≡ row
+all_cast zero [] [] integers ok = refl
+all_cast zero [] (v ∷ row) integers ok = absurd ok
+all_cast zero (c ∷ columns) row integers ok = absurd integers
+all_cast (suc n) [] row integers ok = absurd integers
+all_cast (suc n) (c ∷ columns) [] integers ok = absurd ok
+all_cast (suc n) (c ∷ columns) (v ∷ row) integers ok = λ i. (ap (λ k. cast k v) integers.0 ∙ number_cast v ok.0) i ∷ all_cast n columns row integers.1 ok.1 i
+
+-- a row with its rowid is put in its place
+pub put_as : (s : Shape) (tree n : ℕ) (db : Trees) (row : Row) → AreIntegers n s.columns → IsNumbered (suc n) row → edited db (edit_of db (shaped s tree) [] Chosen 0 (row ∷ [])) ≡ put_row row (db tree)
+put_as s tree n db [] integers ok = absurd ok
+put_as s tree n db (v ∷ row) integers ok =
+    let cells : cast_all s.columns row ≡ row = all_cast n s.columns row integers ok.1 in
+    let id : cast Integer v ≡ int (nat_in v) = number_cast v ok.0 ∙ ok.0 in
+    rw (id, cells) (ap (λ x. put_row (x ∷ row) (db tree)) (sym ok.0))
+
+-- ---- one copy
+
+pub puts_meant : (d : Parts) (o : OlderParts) (m : MovingParts) (w : Site) → IsMoving d o m → IsSite d w → Meant w.schema m.put (puts_cells (suc (suc (columns_of o.own m.from))) (place_of w.places m.to).at)
+puts_meant d o m w it site =
+    let keeps = all_has (λ (t : TableNumber × List ℕ). KeepsMeaning d.own w.schema (place_of w.places t.0) t.1) d.texts (m.to, m.put) site.keeps it.puts in
+    meant w.schema m.put (puts_cells (suc (suc (columns_of o.own m.from))) (place_of w.places m.to).at) (keeps (puts_cells (suc (suc (columns_of o.own m.from))) it.put_at) it.puts_meant)
+
+pub puts_copy : (d : Parts) (o : OlderParts) (m : MovingParts) (w : Site) (old new : State) (row params : Row) (count : ℕ) → IsMoving d o m → IsSite d w → old.now.schema ≡ w.schema → ((n : ℕ) → IsNumbered n row → params ≡ copy_of row) → Executes m.put params old new (Ok count)
+    → Fills w m.to (columns_of o.own m.from) (row ∷ []) old.now new.now
+puts_copy d o m w old new row params count it site has cells h =
+    let columns = columns_of o.own m.from in
+    let db = old.now.trees in
+    let tree = tree_at w m.to in
+    let table = shaped it.shape tree in
+    let command = puts_cells (suc (suc columns)) (place_of w.places m.to).at in
+    let means = puts_meant d o m w it site in
+    let run = runs_as m.put params old new w.schema has command means.command_is means.plain count h in
+    let text = statement_of m.put (understood w.schema m.put) in
+    let task : Task = record { limit = old.step_limit; keys = Enforced; schema = w.schema; table = table; params = params } in
+    let placed : slice_get w.schema.tables (place_of w.places m.to).at ≡ Some table = (this_stands d w site m.to (shaped it.shape it.tree) it.shape_is).there in
+    let done = made task (mode_of old) command db run.tally new.now (at_found task (mode_of old) command db _ (run.tally, new.now) placed (subst (λ s. Does old.step_limit (mode_of old) params (record old.now { schema = s }) text None command (Ok (run.tally, new.now))) has run.changed)) in
+    let given = went done.wrote in
+    let written = went (went given.2).2 in
+    let counted = went written.2 in
+    let trees : new.now.trees ≡ written.0 = ap (λ (d : Database). d.trees) done.after_is ∙ ap (λ (it : Written). it.trees) (same_value counted.2) ∙ same_value counted.1 in
+    let step = one_step w.schema Enforced db written.0 (edit_of db table [] Chosen 0 given.0) (no_works d w site m.to (is_within d w site m.to (shaped it.shape it.tree) it.shape_is) Enforced db (edit_of db table [] Chosen 0 given.0) refl) written.1 in
+    record {
+      schema = ap (λ (d : Database). d.schema) done.after_is;
+      others = subst (λ (t : Trees). AllByRecursion (λ (x : Table). x.tree ≢ tree → t x.tree ≡ db x.tree) w.schema.tables) (sym trees) step.tables;
+      filled = λ before ok is. (
+          let numbered = (rows_last (IsNumbered (suc (suc columns))) before (copy_of row) ok).0 in
+          let from = copied_numbered (suc (suc columns)) row numbered in
+          let params_are : params ≡ copy_of row = cells from.0 from.1 in
+          let all : IsNumbered (suc (suc columns)) params = subst (IsNumbered (suc (suc columns))) (sym params_are) numbered in
+          let rows : given.0 ≡ params ∷ [] = given.1.1 ∙ one_row (suc columns) params (numbered_long (suc (suc columns)) params all) in
+          let edit : edited db (edit_of db table [] Chosen 0 given.0) ≡ put_row params (db tree) = ap (λ all. edited db (edit_of db table [] Chosen 0 all)) rows ∙ put_as it.shape tree (suc columns) db params it.integers all in
+          ap (λ (t : Trees). t tree) trees ∙ step.rows ∙ edit ∙ ap (λ p. put_row p (db tree)) params_are ∙ ap (put_row (copy_of row)) is ∙ put_last (suc columns) before (copy_of row) ok);
+    }
+
+-- ---- several copies
+
+pub none_filled : (w : Site) (k : TableNumber) (columns : ℕ) (rows : List Row) (a : Database) → a.schema ≡ w.schema → length rows < 1 → Fills w k columns rows a a
+none_filled w k columns [] a has low = record {
+  schema = has;
+  others = all_same w.schema.tables;
+  filled = λ done ok is. is ∙ sym (append-nil done);
+}
+  where
+    all_same : (tables : List Table) → AllByRecursion (λ (t : Table). t.tree ≢ tree_at w k → a.trees t.tree ≡ a.trees t.tree) tables
+    all_same [] = tt
+    all_same (t ∷ tables) = ((λ not. refl), all_same tables)
+none_filled w k columns (r ∷ rows) a has low = absurd (omega (arith, low))
+
+pub then_filled : (w : Site) (k : TableNumber) (columns : ℕ) (r : Row) (rows : List Row) (a b e : Database) → Fills w k columns (r ∷ []) a b → Fills w k columns rows b e → Fills w k columns (r ∷ rows) a e
+then_filled w k columns r rows a b e one more = record {
+  schema = more.schema;
+  others = all_two (λ (t : Table). t.tree ≢ tree_at w k → b.trees t.tree ≡ a.trees t.tree) (λ (t : Table). t.tree ≢ tree_at w k → e.trees t.tree ≡ b.trees t.tree) (λ (t : Table). t.tree ≢ tree_at w k → e.trees t.tree ≡ a.trees t.tree) (λ t first second not. second not ∙ first not) w.schema.tables one.others more.others;
+  filled = λ done ok is. (
+      let same : (done ++ copy_of r ∷ []) ++ copies rows ≡ done ++ copies (r ∷ rows) = append_assoc done (copy_of r ∷ []) (copies rows) in
+      let all : AreNumbered (suc columns) ((done ++ copy_of r ∷ []) ++ copies rows) = subst (AreNumbered (suc columns)) (sym same) ok in
+      let first = one.filled done (rows_front (IsNumbered (suc (suc columns))) (done ++ copy_of r ∷ []) (copies rows) all) is in
+      more.filled (done ++ copy_of r ∷ []) all first ∙ same);
+}
+
+pub first_filled : (w : Site) (k : TableNumber) (columns : ℕ) (rows : List Row) (r : Row) (a b e : Database) → 1 ≤ length rows → r ≡ slice_index_or rows 0 r → Fills w k columns (r ∷ []) a b → Fills w k columns (take (length rows - 1) (drop 1 rows)) b e → Fills w k columns rows a e
+first_filled w k columns [] r a b e some is one more = absurd (omega (arith, some))
+first_filled w k columns (x ∷ rows) r a b e some is one more = then_filled w k columns x rows a b e (subst (λ y. Fills w k columns (y ∷ []) a b) is one) (subst (λ all. Fills w k columns all b e) (ap (λ n. take n rows) (one_less x rows) ∙ take-length rows) more)
+  where
+    one_less : (r : Row) (rows : List Row) → length (r ∷ rows) - 1 ≡ length rows
+    one_less r rows = omega arith
