@@ -1,6 +1,8 @@
 use crate::checking::same;
 use crate::readers::{Bytewise, Closed, Lossy, Zeros};
-use crate::worked::{TRACES_OF_DAYS, TRACES_OF_RETIRED, TRACES_OF_SCHEMES, TRACES_OF_TAPS};
+use crate::worked::{
+    TRACES_OF_DAYS, TRACES_OF_RETIRED, TRACES_OF_ROUTES, TRACES_OF_SCHEMES, TRACES_OF_TAPS,
+};
 use fare_lines::{ParseFault, parse};
 use fare_replay::{ReplayFault, replay};
 use std::alloc::{AllocError, Global};
@@ -60,6 +62,11 @@ fn replays_traces_of_days(rt: HostRuntime) {
 #[test]
 fn replays_traces_of_retired_devices(rt: HostRuntime) {
     are_answered(&rt, rt.alloc(), &TRACES_OF_RETIRED);
+}
+
+#[test]
+fn replays_traces_of_routes(rt: HostRuntime) {
+    are_answered(&rt, rt.alloc(), &TRACES_OF_ROUTES);
 }
 
 #[test]

@@ -1,5 +1,7 @@
 use crate::checking::same;
-use crate::worked::{TRACES_OF_DAYS, TRACES_OF_RETIRED, TRACES_OF_SCHEMES, TRACES_OF_TAPS};
+use crate::worked::{
+    TRACES_OF_DAYS, TRACES_OF_RETIRED, TRACES_OF_ROUTES, TRACES_OF_SCHEMES, TRACES_OF_TAPS,
+};
 use fare_replay::{ReplayFault, replay, replay_sql};
 use std::alloc::{AllocError, Global};
 use std::process::Abort;
@@ -33,6 +35,7 @@ fn replays_traces_over_tables(rt: HostRuntime) {
     are_answered(&rt, rt.alloc(), &TRACES_OF_TAPS);
     are_answered(&rt, rt.alloc(), &TRACES_OF_DAYS);
     are_answered(&rt, rt.alloc(), &TRACES_OF_RETIRED);
+    are_answered(&rt, rt.alloc(), &TRACES_OF_ROUTES);
     are_answered(&rt, rt.alloc(), &TRACES_OF_SCHEMES);
 }
 

@@ -24,13 +24,12 @@ pub(crate) const TRACES_OF_TAPS: [Worked; 11] = [
 ];
 
 /// Days with their statements, closes, bills and settlements.
-pub(crate) const TRACES_OF_DAYS: [Worked; 11] = [
+pub(crate) const TRACES_OF_DAYS: [Worked; 10] = [
     (SHORT_COUNT_THEN_CLOSE, SHORT_COUNT_THEN_CLOSE_ANSWERED),
     (DAYS_IN_ORDER, DAYS_IN_ORDER_ANSWERED),
     (EIGHT_WAITING_DAYS, EIGHT_WAITING_DAYS_ANSWERED),
     (TWO_DEVICES_CLOSE, TWO_DEVICES_CLOSE_ANSWERED),
     (A_DAY_WITH_BILL, A_DAY_WITH_BILL_ANSWERED),
-    (A_DAY_WITH_ROUTE, A_DAY_WITH_ROUTE_ANSWERED),
     (A_STATEMENT_GOES_ONCE, A_STATEMENT_GOES_ONCE_ANSWERED),
     (
         A_STATEMENT_OUTLIVES_A_RESTART,
@@ -55,6 +54,9 @@ pub(crate) const TRACES_OF_RETIRED: [Worked; 5] = [
     (RETIRED_WITH_A_TAP_TAKEN, RETIRED_WITH_A_TAP_TAKEN_ANSWERED),
     (THREE_DEVICES, THREE_DEVICES_ANSWERED),
 ];
+
+/// Taps that say on which route they were made, and the settlement of their day.
+pub(crate) const TRACES_OF_ROUTES: [Worked; 1] = [(A_DAY_WITH_ROUTE, A_DAY_WITH_ROUTE_ANSWERED)];
 
 /// Schemes registered and sealed line by line, and what comes before they are.
 pub(crate) const TRACES_OF_SCHEMES: [Worked; 10] = [
