@@ -33,7 +33,7 @@ use Rattle.fare_outbox.specs.Held.{AreReadable, IsReady, IsDevice, IsTap, IsStat
 use Rattle.fare_outbox.specs.First.{value_first, IsLawfulFirst}
 use Rattle.fare_outbox.specs.Making.{site_of}
 use Rattle.fare_outbox.proofs.Rising.{not_first, first_taken, moved_first, moved_value, raised_rows, raised_value, keeps_all_but, is_first, left_raised}
-use Rattle.fare_outbox.specs.Opening.{IsOutbox, IsFirstOutbox, IsVacant, IsBlankOrOurs, CanRise, IsOpened, IsCounted, IsLeftEmpty, IsLeftRaised, MayOpen, Settles}
+use Rattle.fare_outbox.specs.Opening.{IsOutbox, IsFirstOutbox, IsVacant, IsBlankOrOurs, CanRise, IsOpened, IsCounted, IsLeftEmpty, IsLeftRaised, IsRaisedFirst, MayOpen, Settles}
 use Rattle.fare_outbox.specs.Words.{tap_key, stated_key, first_at, itself, count_of, value_at, value_in, AreApart, IsKnown, FitTogether, IsLawful, IsWell}
 
 map_none : {X Y : Type 0} (f : X → Y) (xs : List X) → xs ≡ [] → map f xs ≡ []
@@ -277,3 +277,35 @@ opened_as old new w (opened.Made site) at placed it = inl placed.0
 opened_as old new w (opened.Raised site) at placed it =
     let raises = subst (λ o. raising.Raises outbox_parts o 0 old.now new.now site) (is_first it.0 it.1) it.2 in
     inr (inr (raises.0, subst (λ x. CanRise old raises.0 x) (sym at) raises.1))
+
+-- ---- where the rows can't be counted
+
+-- the tables stand there when they are counted
+stands_then : (old mid : State) (w : Layout) (o : Opened) → site_of w ≡ place_in o → was_made o ≡ false → old.now ≡ old.committed → Opens outbox_parts 0 old mid o → mid.now.schema ≡ schema_in w
+stands_then old mid w (opened.Kept site) at is settled it = ap (λ (d : Database). d.schema) (it.1 settled).0 ∙ it.0.schema ∙ ap (λ (s : Site). s.schema) (sym at)
+stands_then old mid w (opened.Made site) at is settled it = absurd (let e = is in cc)
+stands_then old mid w (opened.Raised site) at is settled it =
+    let raises = subst (λ o. raising.Raises outbox_parts o 0 old.now mid.now site) (is_first it.0 it.1) it.2 in
+    raises.2.schema ∙ ap (λ (s : Site). s.schema) (sym at)
+
+-- so a stop leaves no more than the open of the tables
+pub left_counted : (old mid new : State) (w : Layout) (o : Opened) → site_of w ≡ place_in o → was_made o ≡ false → (IsTrue old.is_open → old.now ≡ old.committed) → (IsLive mid → IsLive old) → (HasCleanDisk mid → IsTrue mid.is_open) → (IsLive mid → Opens outbox_parts 0 old mid o)
+    → Survives old mid (MayOpen old) → Survives mid new (λ _. ¬ (mid.now.schema ≡ schema_in w)) → Survives old new (MayOpen old)
+left_counted old mid new w o at is settled was up opens first second =
+    survives_then old mid new _ _ _ (λ clean trees may. may) (λ clean trees other. absurd (
+    let late : HasCleanDisk new = clean in
+    let before : HasCleanDisk mid = omega (arith, late, second.clean) in
+    let live : IsLive mid = (before, up before) in
+    other (stands_then old mid w o at is (settled (was live).1) (opens live)))) first second
+
+-- and the rows are as they were, or the outbox stays raised
+pub failed_as : (old mid new : State) (w : Layout) (o : Opened) → site_of w ≡ place_in o → was_made o ≡ false → Opens outbox_parts 0 old mid o → (IsAtRest (schema_in w) mid → SameRows mid new) → old.now ≡ old.committed → SameRows old new ⊎ IsRaisedFirst old new
+failed_as old mid new w (opened.Kept site) at is it second settled =
+    let one = it.1 settled in
+    let two = second (record { settled = one.0 ∙ settled ∙ sym one.1; schema_is = stands_then old mid w (opened.Kept site) at is settled it }) in
+    inl (two.0 ∙ one.0, two.1 ∙ one.1)
+failed_as old mid new w (opened.Made site) at is it second settled = absurd (let e = is in cc)
+failed_as old mid new w (opened.Raised site) at is it second settled =
+    let raises = subst (λ x. raising.Raises outbox_parts first_format 0 old.now mid.now x) (sym at) (subst (λ o. raising.Raises outbox_parts o 0 old.now mid.now site) (is_first it.0 it.1) it.2) in
+    let same = second (record { settled = it.3; schema_is = raises.2.schema }) in
+    inr (raises.0, w, raises.1, (subst (λ db. raising.IsRaised outbox_parts first_format 0 (site_of w) old.now db) (sym same.0) raises.2, same.0 ∙ it.3 ∙ sym same.1))

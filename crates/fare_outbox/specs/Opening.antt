@@ -75,6 +75,10 @@ KeepsAllButRaised old new = (v : Site) × (w : Site) × CanRise old v w × Keeps
 abbrev pub WasRaised : State → State → Layout → Type 0
 WasRaised old new w = raising.IsRaised outbox_parts first_format 0 (site_of w) old.now new.now × (new.now ≡ new.committed)
 
+-- so it is, wherever its tables stand
+abbrev pub IsRaisedFirst : State → State → Type 0
+IsRaisedFirst old new = (v : Site) × (w : Layout) × CanRise old v (site_of w) × WasRaised old new w
+
 pub record IsCounted (w : Layout) (trees : Trees) (rows statements : ℕ) : Type 0 where
   pub rows_are : rows ≡ length (held_of (ours w trees)).taps
   pub statements_are : statements ≡ length (held_of (ours w trees)).statements

@@ -11,7 +11,7 @@ ghost use Rattle.fare_store.specs.OutboxWords.{IsEmptyOutbox};
 ghost use Rattle.fare_tables.specs.Tabled.{IsFit, IsLeft};
 ghost use Rattle.fare_outbox.specs.Held.{IsReady};
 ghost use Rattle.fare_outbox.specs.Making.{Makes, MayGrow, KeepsOthers};
-ghost use Rattle.fare_outbox.specs.Opening.{IsOutbox, IsFirstOutbox, IsVacant, IsBlankOrOurs, IsCounted, IsOpened, IsLeftEmpty, IsLeftRaised, KeepsAllButRaised, Rises, Settles, MayOpen};
+ghost use Rattle.fare_outbox.specs.Opening.{IsOutbox, IsFirstOutbox, IsVacant, IsBlankOrOurs, IsCounted, IsOpened, IsLeftEmpty, IsLeftRaised, IsRaisedFirst, KeepsAllButRaised, Rises, Settles, MayOpen};
 ghost use Rattle.fare_opening.specs.declared.site.Site.{Site};
 ghost use Rattle.fare_outbox.specs.First.{IsLawfulFirst, value_first};
 ghost use Rattle.fare_outbox.specs.Words.{IsLawful, value_at, connected, stands};
@@ -57,7 +57,7 @@ fn settle<S: Alter>(
     ensures first { IsLive (state S.Store conn.new) → IfOk result (λ found. found ≡ None → ¬ IsFirstOutbox (state S.Store conn.old)) }
     ensures vacant { IfOk result (λ found. found ≡ None → IsVacant (state S.Store conn.old) → ¬ MayGrow (state S.Store conn.old).now.schema) }
     ensures crash { Survives (state S.Store conn.old) (state S.Store conn.new) (MayOpen (state S.Store conn.old)) }
-    ensures failed { IsLive (state S.Store conn.new) → (state S.Store conn.old).now ≡ (state S.Store conn.old).committed → OnErr result (SameRows (state S.Store conn.old) (state S.Store conn.new)) }
+    ensures failed { IsLive (state S.Store conn.new) → (state S.Store conn.old).now ≡ (state S.Store conn.old).committed → OnErr result (SameRows (state S.Store conn.old) (state S.Store conn.new) ⊎ IsRaisedFirst (state S.Store conn.old) (state S.Store conn.new)) }
     ensures stays { HasCleanDisk (state S.Store conn.new) → IfOk result (λ found. IfSome found (λ _. IsTrue (state S.Store conn.new).is_open)) }
     ensures up { HasCleanDisk (state S.Store conn.new) → IsTrue (state S.Store conn.old).is_open → IfOk result (λ _. IsTrue (state S.Store conn.new).is_open) }
     ensures database { IsTrue (state S.Store conn.old).is_open → IsDatabase (state S.Store conn.old).now }
@@ -81,7 +81,8 @@ impl<S: Alter> SqlOutbox<S> {
     /// one in which nothing has a name of the outbox's tables after it made them there, past the others, whose rows
     /// stay. An outbox of the first format, whose taps have no route, gets the table of those that have, with its taps,
     /// each of route 0, and the newest format, in one transaction. Where it can't, the connection comes back, with its
-    /// rows as before. A connection that is inside a transaction answers Store.
+    /// rows as before, but for an outbox of the first format that was raised and whose rows couldn't be counted then: it
+    /// stays raised. A connection that is inside a transaction answers Store.
     pub fn open(
         alloc: Global,
         conn: Connection<S>,
@@ -108,7 +109,8 @@ impl<S: Alter> SqlOutbox<S> {
         ensures crash { IfOk result (λ o. Survives (state S.Store conn) (connected S.Store o) (MayOpen (state S.Store conn))) }
         ensures crash_refused { IfErr result (λ e. Survives (state S.Store conn) (state S.Store e.0) (MayOpen (state S.Store conn))) }
         ensures leaves { IfErr result (λ e. HasCleanDisk (state S.Store e.0) → (trees : Trees) → (state S.Store e.0).may_leave trees → (state S.Store conn).may_leave trees ⊎ (IsLeftEmpty trees ⊎ IsLeftRaised (state S.Store conn) trees)) }
-        ensures refused { IfErr result (λ e. IsLive (state S.Store e.0) → (state S.Store conn).now ≡ (state S.Store conn).committed → SameRows (state S.Store conn) (state S.Store e.0)) }
+        ensures refused { IfErr result (λ e. IsLive (state S.Store e.0) → (state S.Store conn).now ≡ (state S.Store conn).committed → SameRows (state S.Store conn) (state S.Store e.0) ⊎ IsRaisedFirst (state S.Store conn) (state S.Store e.0)) }
+        ensures refused_foreign { IfErr result (λ e. e.1 ≡ OpenFault.Foreign → IsLive (state S.Store e.0) → (state S.Store conn).now ≡ (state S.Store conn).committed → SameRows (state S.Store conn) (state S.Store e.0)) }
     {
         let mut conn = conn;
         if !conn.is_autocommit() {
