@@ -1,12 +1,12 @@
 -- What a table gets where copies of rows are put into it.
-use Rattle.std.proofs.Common.{◌≡◌, ◌≢◌, ◌≤◌, ◌<◌, ◌+◌, ◌++◌, ℕ, zero, suc, List, [], ◌∷◌, map, length, pos, append-nil, length-append, None, Some, Ok, refl, sym, ap, subst, ◌∙◌, arith}
-use Rattle.std.specs.Prelude.{drop, take, ◌/◌, ◌-◌, slice_index_or, slice_get}
+use Rattle.std.proofs.Common.{◌≡◌, ◌≢◌, ◌+◌, ◌++◌, ℕ, zero, suc, List, [], ◌∷◌, length, pos, append-nil, None, Some, Ok, refl, sym, ap, subst, ◌∙◌, arith}
+use Rattle.std.specs.Prelude.{take, ◌/◌, slice_get}
 use Rattle.std.specs.List.{AllByRecursion}
 use Rattle.std.proofs.Math.Nat.{div_self}
-use Rattle.std.proofs.Math.Seq.{take-length, drop-length}
-use Rattle.std.proofs.lemmas.List.{append_assoc}
+use Rattle.std.proofs.Math.Seq.{take-length}
+use Rattle.std.proofs.lemmas.List.{append_assoc, map-append}
 use Rattle.sqlite.specs.declared.types.Value.{Value}
-use Rattle.sqlite_value.specs.Order.{Row, column}
+use Rattle.sqlite_value.specs.Order.{Row}
 use Rattle.sqlite.specs.Tree.{Trees, put_row}
 use Rattle.sqlite.specs.Term.{Term}
 use Rattle.sqlite_sql.specs.Term.{eval_all}
@@ -16,7 +16,6 @@ use Rattle.sqlite.specs.Edit.{edit_of, edited}
 use Rattle.sqlite.specs.Rowids.TheVariants.{Chosen}
 use Rattle.sqlite.specs.Does.{Does}
 use Rattle.sqlite.specs.Rows.{Written, Task}
-use Rattle.sqlite.specs.Schema.{Schema}
 use Rattle.sqlite.specs.Table.{Table}
 use Rattle.sqlite_schema.specs.declared.schema.Column.{Column}
 use Rattle.sqlite_schema.specs.declared.schema.Keys.TheVariants.{Enforced}
@@ -24,18 +23,18 @@ use Rattle.sqlite.specs.Listing.{understood}
 use Rattle.sqlite.specs.Effect.{Database, value_rows}
 use Rattle.sqlite.specs.State.{State, mode_of, Executes}
 use Rattle.sqlite.proofs.Callers.{statement_of, runs_as, one_step}
-use Rattle.fare_tables.specs.Cells.{nat_in, int, AreRows}
+use Rattle.fare_tables.specs.Cells.{nat_in, int}
 use Rattle.fare_tables.proofs.Statements.{made, cast_int, went, same_value}
 use Rattle.fare_layout.specs.declared.place.TableNumber.{TableNumber}
 use Rattle.fare_layout.specs.Commands.{KeepsMeaning}
-use Rattle.fare_layout.specs.Places.{place_of, all_of}
+use Rattle.fare_layout.specs.Places.{place_of}
 use Rattle.fare_layout.proofs.Meant.{Meant, meant}
 use Rattle.fare_layout.proofs.Others.{all_two}
 use Rattle.fare_opening.specs.declared.site.Site.{Site}
 use Rattle.fare_opening.specs.Moves.{Fills}
 use Rattle.fare_opening.specs.Moving.{MovingParts, cells_from, puts_cells, columns_of, AreIntegers, Shape, shaped, IsNumbered, AreNumbered, copy_of, copies}
 use Rattle.fare_opening.specs.Parts.{Parts, OlderParts, IsMoving}
-use Rattle.fare_opening.specs.Sites.{IsSite, tree_at, rows_at}
+use Rattle.fare_opening.specs.Sites.{IsSite, tree_at}
 use Rattle.fare_opening.proofs.Cells.{cells_in, numbered_long}
 use Rattle.fare_opening.proofs.Numbered.{rows_front, rows_last, copied_numbered, put_last}
 use Rattle.fare_opening.proofs.Standing.{all_has, at_found, no_works, is_within, this_stands}
@@ -120,8 +119,8 @@ puts_copy d o m w old new row params count it site has cells h =
 
 -- ---- several copies
 
-pub none_filled : (w : Site) (k : TableNumber) (columns : ℕ) (rows : List Row) (a : Database) → a.schema ≡ w.schema → length rows < 1 → Fills w k columns rows a a
-none_filled w k columns [] a has low = record {
+pub none_filled : (w : Site) (k : TableNumber) (columns : ℕ) (a : Database) → a.schema ≡ w.schema → Fills w k columns [] a a
+none_filled w k columns a has = record {
   schema = has;
   others = all_same w.schema.tables;
   filled = λ done ok is. is ∙ sym (append-nil done);
@@ -130,22 +129,14 @@ none_filled w k columns [] a has low = record {
     all_same : (tables : List Table) → AllByRecursion (λ (t : Table). t.tree ≢ tree_at w k → a.trees t.tree ≡ a.trees t.tree) tables
     all_same [] = tt
     all_same (t ∷ tables) = ((λ not. refl), all_same tables)
-none_filled w k columns (r ∷ rows) a has low = absurd (omega (arith, low))
 
-pub then_filled : (w : Site) (k : TableNumber) (columns : ℕ) (r : Row) (rows : List Row) (a b e : Database) → Fills w k columns (r ∷ []) a b → Fills w k columns rows b e → Fills w k columns (r ∷ rows) a e
-then_filled w k columns r rows a b e one more = record {
-  schema = more.schema;
-  others = all_two (λ (t : Table). t.tree ≢ tree_at w k → b.trees t.tree ≡ a.trees t.tree) (λ (t : Table). t.tree ≢ tree_at w k → e.trees t.tree ≡ b.trees t.tree) (λ (t : Table). t.tree ≢ tree_at w k → e.trees t.tree ≡ a.trees t.tree) (λ t first second not. second not ∙ first not) w.schema.tables one.others more.others;
+pub filled_behind : (w : Site) (k : TableNumber) (columns : ℕ) (rows : List Row) (r : Row) (a b e : Database) → Fills w k columns rows a b → Fills w k columns (r ∷ []) b e → Fills w k columns (rows ++ r ∷ []) a e
+filled_behind w k columns rows r a b e first one = record {
+  schema = one.schema;
+  others = all_two (λ (t : Table). t.tree ≢ tree_at w k → b.trees t.tree ≡ a.trees t.tree) (λ (t : Table). t.tree ≢ tree_at w k → e.trees t.tree ≡ b.trees t.tree) (λ (t : Table). t.tree ≢ tree_at w k → e.trees t.tree ≡ a.trees t.tree) (λ t early late not. late not ∙ early not) w.schema.tables first.others one.others;
   filled = λ done ok is. (
-      let same : (done ++ copy_of r ∷ []) ++ copies rows ≡ done ++ copies (r ∷ rows) = append_assoc done (copy_of r ∷ []) (copies rows) in
-      let all : AreNumbered (suc columns) ((done ++ copy_of r ∷ []) ++ copies rows) = subst (AreNumbered (suc columns)) (sym same) ok in
-      let first = one.filled done (rows_front (IsNumbered (suc (suc columns))) (done ++ copy_of r ∷ []) (copies rows) all) is in
-      more.filled (done ++ copy_of r ∷ []) all first ∙ same);
+      let same : done ++ copies (rows ++ r ∷ []) ≡ (done ++ copies rows) ++ copy_of r ∷ [] = ap (λ (l : List Row). done ++ l) (map-append copy_of rows (r ∷ [])) ∙ sym (append_assoc done (copies rows) (copy_of r ∷ [])) in
+      let all : AreNumbered (suc columns) ((done ++ copies rows) ++ copy_of r ∷ []) = subst (AreNumbered (suc columns)) same ok in
+      let early = first.filled done (rows_front (IsNumbered (suc (suc columns))) (done ++ copies rows) (copy_of r ∷ []) all) is in
+      one.filled (done ++ copies rows) all early ∙ sym same);
 }
-
-pub first_filled : (w : Site) (k : TableNumber) (columns : ℕ) (rows : List Row) (r : Row) (a b e : Database) → 1 ≤ length rows → r ≡ slice_index_or rows 0 r → Fills w k columns (r ∷ []) a b → Fills w k columns (take (length rows - 1) (drop 1 rows)) b e → Fills w k columns rows a e
-first_filled w k columns [] r a b e some is one more = absurd (omega (arith, some))
-first_filled w k columns (x ∷ rows) r a b e some is one more = then_filled w k columns x rows a b e (subst (λ y. Fills w k columns (y ∷ []) a b) is one) (subst (λ all. Fills w k columns all b e) (ap (λ n. take n rows) (one_less x rows) ∙ take-length rows) more)
-  where
-    one_less : (r : Row) (rows : List Row) → length (r ∷ rows) - 1 ≡ length rows
-    one_less r rows = omega arith

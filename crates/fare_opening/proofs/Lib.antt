@@ -2,6 +2,7 @@ pub mod Standing
 pub mod Cells
 pub mod Numbered
 pub mod Filled
+pub mod Copied
 pub mod Grown
 pub mod Moved
 pub mod Makes

@@ -92,13 +92,10 @@ fn put_copies<S: Alter>(
     ensures inside { HasCleanDisk (state S.Store tx.new.conn.now) → Inside (state S.Store tx.old.conn.now) (state S.Store tx.new.conn.now) }
     ensures survives { Survives (state S.Store tx.old.conn.now) (state S.Store tx.new.conn.now) (λ _. ⊥) }
 {
-    match rows {
-        [] => Ok(()),
-        [first, rest @ ..] => {
-            put_copy(alloc, tx, put, first)?;
-            put_copies(alloc, tx, put, rest)
-        }
+    for row in rows {
+        put_copy(alloc, tx, put, row)?;
     }
+    Ok(())
 }
 
 // No row stays in the table.
