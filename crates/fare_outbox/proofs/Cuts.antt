@@ -30,11 +30,12 @@ use Rattle.fare_tables.proofs.Terms.{chosen, matched, eq_holds, le_holds, three_
 use Rattle.fare_opening.specs.Numbers.{Meta, Device, Tap, Stated}
 use Rattle.fare_outbox.specs.declared.layout.Layout.{Layout}
 use Rattle.fare_outbox.specs.Layouts.{schema_in, tree_in, ours}
-use Rattle.fare_outbox.specs.Tables.{tap_table, cut_terms, cut_query}
+use Rattle.fare_outbox.specs.Statements.{Routed}
+use Rattle.fare_outbox.specs.Tables.{routed_table, cut_terms, cut_query}
 use Rattle.fare_outbox.specs.Held.{AreReadable, Becomes, IsDevice, IsTap, IsStated, upto_of, tap_cells, tap_of, stated_of, held_of, is_cut, without_lane}
 use Rattle.fare_outbox.proofs.Texts.{cut_text, cut_command, cut_meant}
 use Rattle.fare_opening.proofs.Standing.{at_found}
-use Rattle.fare_outbox.proofs.Placed.{no_works, tap_placed, each, apart}
+use Rattle.fare_outbox.proofs.Placed.{no_works, routed_placed, each, apart}
 use Rattle.fare_outbox.proofs.Found.{asked, at_tap}
 use Rattle.fare_outbox.proofs.Puts.{tap_ids}
 
@@ -51,19 +52,19 @@ shown : (o d l : ℕ) (rows : List Row) → map (output cut_query) (map (λ r. a
 shown o d l [] = refl
 shown o d l (r ∷ rows) = ap (λ more. id_shown r ∷ more) (shown o d l rows)
 
-kept_of : (db : Trees) (o d l : ℕ) (out : List Row) → AreRows IsTap (db 2) → (a : IsAnswer cut_query (overlay db []) (asked o d l) out) → a.kept ≡ map id_shown (filter (goes o d l) (db 2))
+kept_of : (db : Trees) (o d l : ℕ) (out : List Row) → AreRows IsTap (db 7) → (a : IsAnswer cut_query (overlay db []) (asked o d l) out) → a.kept ≡ map id_shown (filter (goes o d l) (db 7))
 kept_of db o d l out ok a =
-    a.distinct ∙ ap (map (output cut_query)) (a.grouped ∙ matched IsTap (goes o d l) (asked o d l) cut_terms (cut_each o d l) (db 2) (all_of IsTap (db 2) ok)) ∙ shown o d l (filter (goes o d l) (db 2))
+    a.distinct ∙ ap (map (output cut_query)) (a.grouped ∙ matched IsTap (goes o d l) (asked o d l) cut_terms (cut_each o d l) (db 7) (all_of IsTap (db 7) ok)) ∙ shown o d l (filter (goes o d l) (db 7))
 
-left : (db : Trees) (o d l : ℕ) (out : List Row) → AreRows IsTap (db 2) → IsAnswer cut_query (overlay db []) (asked o d l) out → without_all (db 2) (ids_of out) ≡ filter (λ r. not (goes o d l r)) (db 2)
+left : (db : Trees) (o d l : ℕ) (out : List Row) → AreRows IsTap (db 7) → IsAnswer cut_query (overlay db []) (asked o d l) out → without_all (db 7) (ids_of out) ≡ filter (λ r. not (goes o d l r)) (db 7)
 left db o d l out ok a =
-    ap (λ rows. without_all (db 2) (ids_of rows)) a.shown ∙ left_over IsTap tap_ids (goes o d l) (db 2) a.ordered ok (subst (λ k. IsPermutation k a.ordered) (kept_of db o d l out ok a) a.same)
+    ap (λ rows. without_all (db 7) (ids_of rows)) a.shown ∙ left_over IsTap tap_ids (goes o d l) (db 7) a.ordered ok (subst (λ k. IsPermutation k a.ordered) (kept_of db o d l out ok a) a.same)
 
-answer_length : (db : Trees) (o d l : ℕ) (out : List Row) → AreRows IsTap (db 2) → IsAnswer cut_query (overlay db []) (asked o d l) out → length out ≡ length (filter (is_cut o d l) (map tap_of (db 2)))
+answer_length : (db : Trees) (o d l : ℕ) (out : List Row) → AreRows IsTap (db 7) → IsAnswer cut_query (overlay db []) (asked o d l) out → length out ≡ length (filter (is_cut o d l) (map tap_of (db 7)))
 answer_length db o d l out ok a =
     let same = length_permutation _ _ (subst (λ k. IsPermutation k a.ordered) (kept_of db o d l out ok a) a.same) in
     let rows : length out ≡ length a.ordered = ap length a.shown ∙ length-map a.ordered (λ (p : Output). p.1) in
-    rows ∙ same ∙ length-map (filter (goes o d l) (db 2)) id_shown ∙ sym (ap length (filter_of_map tap_of (is_cut o d l) (db 2)) ∙ length-map (filter (goes o d l) (db 2)) tap_of)
+    rows ∙ same ∙ length-map (filter (goes o d l) (db 7)) id_shown ∙ sym (ap length (filter_of_map tap_of (is_cut o d l) (db 7)) ∙ length-map (filter (goes o d l) (db 7)) tap_of)
 
 pub record IsCut (w : Layout) (old new : Database) (o d l count : ℕ) : Type 0 where
   pub becomes : Becomes w new (without_lane o d l (held_of (ours w old.trees)))
@@ -75,23 +76,23 @@ cuts w old new o d l count has ok h =
     let db = old.now.trees in
     let all = ours w db in
     let params = asked o d l in
-    let table = tap_table (tree_in w Tap) in
+    let table = routed_table (tree_in w Routed) in
     let command = cut_command w in
     let means = cut_meant w in
     let run = runs_as cut_text params old new (schema_in w) has command means.command_is means.plain count h in
     let text = statement_of cut_text (understood (schema_in w) cut_text) in
     let task : Task = record { limit = old.step_limit; keys = Enforced; schema = schema_in w; table = table; params = params } in
-    let done = made task (mode_of old) command db run.tally new.now (at_found task (mode_of old) command db _ (run.tally, new.now) (tap_placed w) (subst (λ s. Does old.step_limit (mode_of old) params (record old.now { schema = s }) text None command (Ok (run.tally, new.now))) has run.changed)) in
+    let done = made task (mode_of old) command db run.tally new.now (at_found task (mode_of old) command db _ (run.tally, new.now) (routed_placed w) (subst (λ s. Does old.step_limit (mode_of old) params (record old.now { schema = s }) text None command (Ok (run.tally, new.now))) has run.changed)) in
     let it = went done.wrote in
     let step = went it.2 in
     let trees : new.now.trees ≡ step.0 = ap (λ (d : Database). d.trees) done.after_is ∙ ap (λ (x : Written). x.trees) (same_value step.2) in
-    let one = one_step (schema_in w) Enforced db step.0 (edit_of db table (ids_of it.0) Given 0 []) (no_works w Tap refl Enforced db (edit_of db table (ids_of it.0) Given 0 []) refl) step.1 in
-    let kept = each (λ tree. tree ≢ tree_in w Tap → step.0 tree ≡ db tree) w one.tables in
+    let one = one_step (schema_in w) Enforced db step.0 (edit_of db table (ids_of it.0) Given 0 []) (no_works w Routed refl Enforced db (edit_of db table (ids_of it.0) Given 0 []) refl) step.1 in
+    let kept = each (λ tree. tree ≢ tree_in w Routed → step.0 tree ≡ db tree) w one.tables in
     let at : (k : ℕ) → new.now.trees k ≡ step.0 k = λ k. ap (λ (t : Trees). t k) trees in
     let answer : IsAnswer cut_query (overlay all []) params it.0 = at_tap w cut_query db params it.0 (it.1.answer Null) in
-    let taps : ours w new.now.trees 2 ≡ filter (λ r. not (goes o d l r)) (all 2) = at (tree_in w Tap) ∙ one.rows ∙ left all o d l it.0 ok.taps answer in
-    let devices : ours w new.now.trees 1 ≡ all 1 = at (tree_in w Device) ∙ kept Device refl (apart w Device Tap refl refl refl) in
-    let statements : ours w new.now.trees 5 ≡ all 5 = at (tree_in w Stated) ∙ kept Stated refl (apart w Stated Tap refl refl refl) in
+    let taps : ours w new.now.trees 7 ≡ filter (λ r. not (goes o d l r)) (all 7) = at (tree_in w Routed) ∙ one.rows ∙ left all o d l it.0 ok.taps answer in
+    let devices : ours w new.now.trees 1 ≡ all 1 = at (tree_in w Device) ∙ kept Device refl (apart w Device Routed refl refl refl) in
+    let statements : ours w new.now.trees 5 ≡ all 5 = at (tree_in w Stated) ∙ kept Stated refl (apart w Stated Routed refl refl refl) in
     let gone : length done.written.rows ≡ length it.0 = ap (λ (x : Written). length x.rows) (same_value step.2) ∙ length-map (ids_of it.0) _ ∙ length-map it.0 _ in
     record {
       becomes = record {
@@ -99,14 +100,15 @@ cuts w old new o d l count has ok h =
         database = run.sound;
         readable = record {
           devices = subst (AreRows IsDevice) (sym devices) ok.devices;
-          taps = subst (AreRows IsTap) (sym taps) (rows_filter IsTap tap_ids _ (all 2) ok.taps);
+          taps = subst (AreRows IsTap) (sym taps) (rows_filter IsTap tap_ids _ (all 7) ok.taps);
           statements = subst (AreRows IsStated) (sym statements) ok.statements;
         };
         value = λ i. record {
           upto = λ x. upto_of (held (devices i) x);
-          taps = (ap (map tap_of) taps ∙ sym (filter_of_map tap_of (λ t. not (is_cut o d l t)) (all 2))) i;
+          taps = (ap (map tap_of) taps ∙ sym (filter_of_map tap_of (λ t. not (is_cut o d l t)) (all 7))) i;
           statements = map stated_of (statements i);
-          meta = (at (tree_in w Meta) ∙ kept Meta refl (apart w Meta Tap refl refl refl)) i;
+          meta = (at (tree_in w Meta) ∙ kept Meta refl (apart w Meta Routed refl refl refl)) i;
+          unused = (at (tree_in w Tap) ∙ kept Tap refl (apart w Tap Routed refl refl refl)) i;
         };
       };
       counted = run.counted ∙ ap (λ n. unwrap_or n 0) done.told ∙ gone ∙ answer_length all o d l it.0 ok.taps answer;

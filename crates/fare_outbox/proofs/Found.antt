@@ -19,13 +19,13 @@ use Rattle.fare_tables.proofs.Terms.{chosen, matched, eq_holds, gt_holds, ge_hol
 use Rattle.fare_tables.proofs.Rows.{all_of, held_one}
 use Rattle.fare_tables.proofs.Counting.{found, count_answer}
 use Rattle.fare_tables.proofs.Least.{IsLeastOf, least_answer}
-use Rattle.fare_opening.specs.Numbers.{Device, Tap, Stated}
+use Rattle.fare_opening.specs.Numbers.{Device, Stated}
 use Rattle.fare_outbox.specs.declared.layout.Layout.{Layout}
 use Rattle.fare_outbox.specs.Layouts.{schema_in, tree_in, ours, at_tree}
 use Rattle.fare_opening.proofs.Asked.{asked_at}
 use Rattle.fare_outbox.proofs.Placed.{within}
 use Rattle.fare_outbox.specs.Making.{site_of}
-use Rattle.fare_outbox.specs.Statements.{outbox_parts}
+use Rattle.fare_outbox.specs.Statements.{Routed, outbox_parts}
 use Rattle.fare_outbox.specs.Tables.{link_query, row_terms, row_columns, row_query, day_terms, day_columns, day_query, seen_terms}
 use Rattle.fare_outbox.specs.Held.{device_row, IsDevice, upto_of, tap_cells, tap_of, IsTap, stated_cells, stated_of, IsStated, is_past, IsNext, is_from, IsNextStated, is_seen}
 use Rattle.fare_outbox.specs.Shown.{ShowsRow, ShowsStatement}
@@ -40,9 +40,9 @@ pub at_device : (w : Layout) (q : Query) (db : Trees) (params : Row) (rows : Lis
 unfolding ours
 at_device w q db params rows = asked_at outbox_parts (site_of w) w.fits Device (within w Device refl) q 1 db (overlay (ours w db) []) params rows refl
 
-pub at_tap : (w : Layout) (q : Query) (db : Trees) (params : Row) (rows : List Row) → IsAnswer (at_tree (tree_in w Tap) q) (overlay db []) params rows → IsAnswer (at_tree 2 q) (overlay (ours w db) []) params rows
+pub at_tap : (w : Layout) (q : Query) (db : Trees) (params : Row) (rows : List Row) → IsAnswer (at_tree (tree_in w Routed) q) (overlay db []) params rows → IsAnswer (at_tree 7 q) (overlay (ours w db) []) params rows
 unfolding ours
-at_tap w q db params rows = asked_at outbox_parts (site_of w) w.fits Tap (within w Tap refl) q 2 db (overlay (ours w db) []) params rows refl
+at_tap w q db params rows = asked_at outbox_parts (site_of w) w.fits Routed (within w Routed refl) q 7 db (overlay (ours w db) []) params rows refl
 
 pub at_stated : (w : Layout) (q : Query) (db : Trees) (params : Row) (rows : List Row) → IsAnswer (at_tree (tree_in w Stated) q) (overlay db []) params rows → IsAnswer (at_tree 5 q) (overlay (ours w db) []) params rows
 unfolding ours
@@ -104,17 +104,17 @@ abbrev pub lane_of : RecordValue → ℕ
 lane_of t = t.lane
 
 abbrev pub row_shown : RecordValue → Row
-row_shown t = int t.lane ∷ int t.link ∷ int t.tap.product ∷ int t.tap.token ∷ int t.tap.moment ∷ int t.tap.day ∷ []
+row_shown t = int t.lane ∷ int t.link ∷ int t.tap.product ∷ int t.tap.token ∷ int t.tap.moment ∷ int t.tap.day ∷ int t.tap.route ∷ []
 
 row_out : (o d n : ℕ) (r : Row) → IsTap r → output row_query (asked o d n ∷ r ∷ []) ≡ (int (lane_of (tap_of r)) ∷ [], row_shown (tap_of r))
 row_out o d n r ok = subst (λ x. output row_query (asked o d n ∷ x ∷ []) ≡ (int (lane_of (tap_of x)) ∷ [], row_shown (tap_of x))) (sym ok) refl
 
-row_answer : (db : Trees) (o d n : ℕ) (rows : List Row) → AreRows IsTap (db 2) → IsAnswer row_query (overlay db []) (asked o d n) rows
-    → ((rows ≡ []) × (filter (is_past o d n) (map tap_of (db 2)) ≡ [])) ⊎ IsLeastOf (is_past o d n) lane_of row_shown (map tap_of (db 2)) rows
+row_answer : (db : Trees) (o d n : ℕ) (rows : List Row) → AreRows IsTap (db 7) → IsAnswer row_query (overlay db []) (asked o d n) rows
+    → ((rows ≡ []) × (filter (is_past o d n) (map tap_of (db 7)) ≡ [])) ⊎ IsLeastOf (is_past o d n) lane_of row_shown (map tap_of (db 7)) rows
 row_answer db o d n rows ok a =
-    let all = all_of IsTap (db 2) ok in
-    least_answer 2 row_terms row_columns 3 (is_past o d n) lane_of row_shown (asked o d n) tap_of IsTap (overlay db []) (db 2) rows (row_out o d n) all
-    (matched IsTap (λ r. is_past o d n (tap_of r)) (asked o d n) row_terms (row_each o d n) (db 2) all) a
+    let all = all_of IsTap (db 7) ok in
+    least_answer 7 row_terms row_columns 3 (is_past o d n) lane_of row_shown (asked o d n) tap_of IsTap (overlay db []) (db 7) rows (row_out o d n) all
+    (matched IsTap (λ r. is_past o d n (tap_of r)) (asked o d n) row_terms (row_each o d n) (db 7) all) a
 
 -- the row that is shown has this lane
 past_lane : (o d n : ℕ) (t : RecordValue) → is_past o d n t ≡ true → (t.owner ≡ o) × (t.device ≡ d)
@@ -134,11 +134,12 @@ same_tap o d n t u row shows past is =
         token = ap nat_in (at 3 ∙ shows.tap.token) i;
         moment = ap nat_in (at 4 ∙ shows.tap.moment) i;
         day = ap nat_in (at 5 ∙ shows.tap.day) i;
+        route = ap nat_in (at 6 ∙ shows.tap.route) i;
       };
     }
 
-pub next_row : (w : Layout) (old new : State) (o d n : ℕ) (t : RecordValue) (row : Row) → ShowsRow row o d t → old.now.schema ≡ schema_in w → AreRows IsTap (ours w old.now.trees 2)
-    → QueriesRow next_text (asked o d n) old new (Ok row) → IsNext (map tap_of (ours w old.now.trees 2)) o d n (Some t)
+pub next_row : (w : Layout) (old new : State) (o d n : ℕ) (t : RecordValue) (row : Row) → ShowsRow row o d t → old.now.schema ≡ schema_in w → AreRows IsTap (ours w old.now.trees 7)
+    → QueriesRow next_text (asked o d n) old new (Ok row) → IsNext (map tap_of (ours w old.now.trees 7)) o d n (Some t)
 next_row w old new o d n t row shows has ok h =
     let got = (first_as next_text (asked o d n) old new (schema_in w) has _ (next_meant w).command_is (next_meant w).plain (next_meant w).unlisted row h).1 in
     let a : IsAnswer row_query (overlay (ours w old.now.trees) []) (asked o d n) (row ∷ got.0) = at_tap w row_query old.now.trees (asked o d n) (row ∷ got.0) (got.1 Null) in
@@ -146,11 +147,11 @@ next_row w old new o d n t row shows has ok h =
       | inl none ↦ absurd (let e = none.0 in cc)
       | inr it ↦ (
           let first : row ≡ row_shown it.one = let e = it.is in cc in
-          let past = (of_filter (is_past o d n) (map tap_of (ours w old.now.trees 2)) it.one it.has).1 in
-          subst (λ u. IsNext (map tap_of (ours w old.now.trees 2)) o d n (Some u)) (same_tap o d n it.one t row shows past first) (it.has, it.least))
+          let past = (of_filter (is_past o d n) (map tap_of (ours w old.now.trees 7)) it.one it.has).1 in
+          subst (λ u. IsNext (map tap_of (ours w old.now.trees 7)) o d n (Some u)) (same_tap o d n it.one t row shows past first) (it.has, it.least))
     ]
 
-pub next_none : (w : Layout) (old new : State) (o d n : ℕ) → old.now.schema ≡ schema_in w → AreRows IsTap (ours w old.now.trees 2) → Shown next_text (asked o d n) old new [] → IsNext (map tap_of (ours w old.now.trees 2)) o d n None
+pub next_none : (w : Layout) (old new : State) (o d n : ℕ) → old.now.schema ≡ schema_in w → AreRows IsTap (ours w old.now.trees 7) → Shown next_text (asked o d n) old new [] → IsNext (map tap_of (ours w old.now.trees 7)) o d n None
 next_none w old new o d n has ok shown =
     let read = reads_as next_text (asked o d n) old new (schema_in w) has _ (next_meant w).command_is (next_meant w).plain (next_meant w).unlisted [] shown in
     elim (row_answer (ours w old.now.trees) o d n [] ok (at_tap w row_query old.now.trees (asked o d n) [] (read.answer Null))) [
@@ -224,13 +225,13 @@ all_found : (rows : List Row) → length (flat_map (λ r. matches_as Null (λ _.
 all_found [] = refl
 all_found (r ∷ rows) = ap (λ n. suc n) (all_found rows)
 
-pub rows_counted : (w : Layout) (old new : State) (row : Row) → old.now.schema ≡ schema_in w → QueriesRow rows_text [] old new (Ok row) → row ≡ int (counted (length (map tap_of (ours w old.now.trees 2)))) ∷ []
+pub rows_counted : (w : Layout) (old new : State) (row : Row) → old.now.schema ≡ schema_in w → QueriesRow rows_text [] old new (Ok row) → row ≡ int (counted (length (map tap_of (ours w old.now.trees 7)))) ∷ []
 rows_counted w old new row has h =
     let got = (first_as rows_text [] old new (schema_in w) has _ (rows_meant w).command_is (rows_meant w).plain (rows_meant w).unlisted row h).1 in
-    let a : IsAnswer (count_query 2 []) (overlay (ours w old.now.trees) []) [] (row ∷ got.0) = at_tap w (count_query 2 []) old.now.trees [] (row ∷ got.0) (got.1 Null) in
-    let rows = count_answer 2 [] (overlay (ours w old.now.trees) []) [] (row ∷ got.0) a in
-    let first : row ≡ int (counted (length (found 2 [] (overlay (ours w old.now.trees) []) []))) ∷ [] = cc in
-    first ∙ ap (λ n. int (counted n) ∷ []) (all_found (ours w old.now.trees 2) ∙ sym (length-map (ours w old.now.trees 2) tap_of))
+    let a : IsAnswer (count_query 7 []) (overlay (ours w old.now.trees) []) [] (row ∷ got.0) = at_tap w (count_query 7 []) old.now.trees [] (row ∷ got.0) (got.1 Null) in
+    let rows = count_answer 7 [] (overlay (ours w old.now.trees) []) [] (row ∷ got.0) a in
+    let first : row ≡ int (counted (length (found 7 [] (overlay (ours w old.now.trees) []) []))) ∷ [] = cc in
+    first ∙ ap (λ n. int (counted n) ∷ []) (all_found (ours w old.now.trees 7) ∙ sym (length-map (ours w old.now.trees 7) tap_of))
 
 pub statements_counted : (w : Layout) (old new : State) (row : Row) → old.now.schema ≡ schema_in w → QueriesRow statements_text [] old new (Ok row) → row ≡ int (counted (length (map stated_of (ours w old.now.trees 5)))) ∷ []
 statements_counted w old new row has h =

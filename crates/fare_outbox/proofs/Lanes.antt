@@ -43,6 +43,7 @@ store_fits h t low may fit = record {
   known = all_pushed (IsKnown (with_tap t h).upto) h.taps t (all_weaker (IsKnown h.upto) (IsKnown (with_tap t h).upto) h.taps (λ x known. known_more h t x may known) fit.known) (known_itself h t low);
   single = fit.single;
   meta = fit.meta;
+  unused = fit.unused;
 }
 
 -- ---- a statement more
@@ -57,7 +58,7 @@ statement_value h s free = λ i. record {
 }
 
 pub statement_fits : (h : Held) (s : StatementValue) → first_at stated_key count_of h.statements s.owner s.device s.day ≡ None → FitTogether h → FitTogether (with_statement s h)
-statement_fits h s free fit = record { apart = fit.apart; known = fit.known; single = apart_pushed stated_key count_of h.statements s fit.single free; meta = fit.meta }
+statement_fits h s free fit = record { apart = fit.apart; known = fit.known; single = apart_pushed stated_key count_of h.statements s fit.single free; meta = fit.meta; unused = fit.unused }
 
 -- ---- the next row
 

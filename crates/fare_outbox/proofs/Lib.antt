@@ -1,4 +1,5 @@
 pub mod Texts
+pub mod FirstTexts
 pub mod Placed
 pub mod Own
 pub mod Found
@@ -11,5 +12,7 @@ pub mod Pruned
 pub mod Stored
 pub mod Seen
 pub mod Judged
+pub mod Rising
 pub mod Opened
 pub mod AnyOrder
+pub mod AnyRise

@@ -37,6 +37,7 @@ use Rattle.fare_opening.specs.Numbers.{Meta, Device, Tap, Stated}
 use Rattle.fare_outbox.specs.declared.layout.Layout.{Layout}
 use Rattle.fare_outbox.specs.Layouts.{schema_in, tree_in, ours}
 use Rattle.fare_outbox.specs.Layouts.{at_tree}
+use Rattle.fare_outbox.specs.Statements.{Routed}
 use Rattle.fare_outbox.specs.Tables.{device_table, renew_query}
 use Rattle.fare_outbox.specs.Held.{PutsLink, device_row, IsDevice}
 use Rattle.fare_outbox.proofs.Texts.{put_link_text, put_link_command, put_link_meant}
@@ -89,7 +90,7 @@ conflict_id way r d u ok is =
 
 abbrev pub IsPut : Layout → Trees → Trees → ℕ → ℕ → Type 0
 IsPut way db next d u =
-    ((ours way next 1 ≡ put_row (device_row d u) (ours way db 1)) ⊎ (ours way next 1 ≡ put_row (device_row d u) (without_rowid (pos d) (ours way db 1)))) × (ours way next 0 ≡ ours way db 0) × (ours way next 2 ≡ ours way db 2) × (ours way next 5 ≡ ours way db 5)
+    ((ours way next 1 ≡ put_row (device_row d u) (ours way db 1)) ⊎ (ours way next 1 ≡ put_row (device_row d u) (without_rowid (pos d) (ours way db 1)))) × (ours way next 0 ≡ ours way db 0) × (ours way next 2 ≡ ours way db 2) × (ours way next 5 ≡ ours way db 5) × (ours way next 7 ≡ ours way db 7)
 
 module _ (way : Layout) (limit : Option ℕ) (keys : Keys) (d u : ℕ) where
   abbrev pub task : Task
@@ -108,6 +109,7 @@ module _ (way : Layout) (limit : Option ℕ) (keys : Keys) (d u : ℕ) where
         ap (λ (t : Trees). ours way t 0) next ∙ kept Meta refl (apart way Meta Device refl refl refl),
         ap (λ (t : Trees). ours way t 2) next ∙ kept Tap refl (apart way Tap Device refl refl refl),
         ap (λ (t : Trees). ours way t 5) next ∙ kept Stated refl (apart way Stated Device refl refl refl),
+        ap (λ (t : Trees). ours way t 7) next ∙ kept Routed refl (apart way Routed Device refl refl refl),
       )
 
   clears : (db : Trees) (w : Written) (found : List Row) → Clears task Abort (device_row d u) db found (Ok w) → IsPut way db w.trees d u
@@ -129,6 +131,7 @@ module _ (way : Layout) (limit : Option ℕ) (keys : Keys) (d u : ℕ) where
         ap (λ (t : Trees). ours way t 0) next ∙ kept Meta refl (apart way Meta Device refl refl refl),
         ap (λ (t : Trees). ours way t 2) next ∙ kept Tap refl (apart way Tap Device refl refl refl),
         ap (λ (t : Trees). ours way t 5) next ∙ kept Stated refl (apart way Stated Device refl refl refl),
+        ap (λ (t : Trees). ours way t 7) next ∙ kept Routed refl (apart way Routed Device refl refl refl),
       )
 
   abbrev clause : Upsert
@@ -187,4 +190,4 @@ puts_link way old new d u count has ok h =
     let done = made (task way old.step_limit Enforced d u) (mode_of old) command old.now.trees run.tally new.now (at_found (task way old.step_limit Enforced d u) (mode_of old) command old.now.trees _ (run.tally, new.now) (device_placed way) (subst (λ s. Does old.step_limit (mode_of old) params (record old.now { schema = s }) text None command (Ok (run.tally, new.now))) has run.changed)) in
     let put = inserts_or way old.step_limit Enforced d u old.now.trees done.written ok done.wrote in
     let trees = subst (λ t. IsPut way old.now.trees t d u) (sym (ap (λ (d : Database). d.trees) done.after_is)) put in
-    record { schema = ap (λ (d : Database). d.schema) done.after_is; database = run.sound; devices = trees.0; taps = trees.2; statements = trees.3; meta = trees.1 }
+    record { schema = ap (λ (d : Database). d.schema) done.after_is; database = run.sound; devices = trees.0; taps = trees.4; statements = trees.3; meta = trees.1; unused = trees.2 }

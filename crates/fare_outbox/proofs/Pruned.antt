@@ -128,7 +128,7 @@ same_stays : (o d last n : ℕ) (taps : List RecordValue) → AllByRecursion (λ
 same_stays o d last n taps all = all_weaker (λ t. is_cut o d last t ≡ is_cut o d n t) (λ t. not (is_cut o d last t) ≡ not (is_cut o d n t)) taps (λ t is. ap not is) all
 
 pub same_without : (o d last n : ℕ) (h : Held) → FitTogether h → last ≤ n → (last ≡ n) ⊎ (last ≡ 9223372036854775807) → without_lane o d last h ≡ without_lane o d n h
-same_without o d last n h fit low which = λ i. record { upto = h.upto; taps = same_filter _ _ h.taps (same_stays o d last n h.taps (same_cut o d last n h fit low which)) i; statements = h.statements; meta = h.meta }
+same_without o d last n h fit low which = λ i. record { upto = h.upto; taps = same_filter _ _ h.taps (same_stays o d last n h.taps (same_cut o d last n h fit low which)) i; statements = h.statements; meta = h.meta; unused = h.unused }
 
 pub cut_count : (o d last n : ℕ) (h : Held) → FitTogether h → last ≤ n → (last ≡ n) ⊎ (last ≡ 9223372036854775807) → length (filter (is_cut o d last) h.taps) ≡ rows_upto n (row_at h.taps o d)
 cut_count o d last n h fit low which = ap length (same_filter _ _ h.taps (same_cut o d last n h fit low which)) ∙ cut_is o d n h.taps fit.apart
@@ -148,4 +148,5 @@ prune_fits h o d n fit = record {
   known = all_in_filter (IsKnown h.upto) (λ t. not (is_cut o d n t)) h.taps fit.known;
   single = fit.single;
   meta = fit.meta;
+  unused = fit.unused;
 }

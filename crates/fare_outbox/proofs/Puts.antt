@@ -21,11 +21,12 @@ use Rattle.fare_tables.proofs.Statements.{made, cast_int, cast_null, went, same_
 use Rattle.fare_opening.specs.Numbers.{Meta, Device, Tap, Stated}
 use Rattle.fare_outbox.specs.declared.layout.Layout.{Layout}
 use Rattle.fare_outbox.specs.Layouts.{schema_in, tree_in, ours}
-use Rattle.fare_outbox.specs.Tables.{tap_table, stated_table}
+use Rattle.fare_outbox.specs.Statements.{Routed}
+use Rattle.fare_outbox.specs.Tables.{routed_table, stated_table}
 use Rattle.fare_outbox.specs.Held.{PutsTap, PutsLink, PutsStated, Becomes, AreReadable, IsDevice, IsTap, IsStated, device_row, upto_of, tap_cells, tap_of, stated_cells, stated_of, held_of, with_tap, with_statement}
 use Rattle.fare_outbox.proofs.Texts.{put_tap_text, put_tap_command, put_tap_meant, put_statement_text, put_statement_command, put_statement_meant}
 use Rattle.fare_opening.proofs.Standing.{at_found}
-use Rattle.fare_outbox.proofs.Placed.{no_works, tap_placed, stated_placed, each, apart}
+use Rattle.fare_outbox.proofs.Placed.{no_works, routed_placed, stated_placed, each, apart}
 use Rattle.fare_outbox.proofs.Found.{device_ids}
 
 pub tap_ids : (r : Row) → IsTap r → column r 0 ≡ int (id_of r)
@@ -39,28 +40,29 @@ unfolding ours
 puts_tap w old new t count has h =
     let params = tap_cells t in
     let db = old.now.trees in
-    let table = tap_table (tree_in w Tap) in
+    let table = routed_table (tree_in w Routed) in
     let command = put_tap_command w in
     let means = put_tap_meant w in
     let run = runs_as put_tap_text params old new (schema_in w) has command means.command_is means.plain count h in
     let text = statement_of put_tap_text (understood (schema_in w) put_tap_text) in
     let task : Task = record { limit = old.step_limit; keys = Enforced; schema = schema_in w; table = table; params = params } in
-    let done = made task (mode_of old) command db run.tally new.now (at_found task (mode_of old) command db _ (run.tally, new.now) (tap_placed w) (subst (λ s. Does old.step_limit (mode_of old) params (record old.now { schema = s }) text None command (Ok (run.tally, new.now))) has run.changed)) in
+    let done = made task (mode_of old) command db run.tally new.now (at_found task (mode_of old) command db _ (run.tally, new.now) (routed_placed w) (subst (λ s. Does old.step_limit (mode_of old) params (record old.now { schema = s }) text None command (Ok (run.tally, new.now))) has run.changed)) in
     let given = went done.wrote in
     let written = went (went given.2).2 in
     let counted = went written.2 in
     let trees : new.now.trees ≡ written.0 = ap (λ (d : Database). d.trees) done.after_is ∙ ap (λ (it : Written). it.trees) (same_value counted.2) ∙ same_value counted.1 in
-    let step = one_step (schema_in w) Enforced db written.0 (edit_of db table [] Chosen 0 given.0) (no_works w Tap refl Enforced db (edit_of db table [] Chosen 0 given.0) refl) written.1 in
-    let kept = each (λ tree. tree ≢ tree_in w Tap → written.0 tree ≡ db tree) w step.tables in
-    let edit : edited db (edit_of db table [] Chosen 0 given.0) ≡ put_row (Int (next_rowid (db (tree_in w Tap))) ∷ tap_cells t) (db (tree_in w Tap)) = ap (λ all. edited db (edit_of db table [] Chosen 0 all)) given.1.1 ∙ simp (cast_int, cast_null) in
+    let step = one_step (schema_in w) Enforced db written.0 (edit_of db table [] Chosen 0 given.0) (no_works w Routed refl Enforced db (edit_of db table [] Chosen 0 given.0) refl) written.1 in
+    let kept = each (λ tree. tree ≢ tree_in w Routed → written.0 tree ≡ db tree) w step.tables in
+    let edit : edited db (edit_of db table [] Chosen 0 given.0) ≡ put_row (Int (next_rowid (db (tree_in w Routed))) ∷ tap_cells t) (db (tree_in w Routed)) = ap (λ all. edited db (edit_of db table [] Chosen 0 all)) given.1.1 ∙ simp (cast_int, cast_null) in
     let at : (k : ℕ) → new.now.trees k ≡ written.0 k = λ k. ap (λ (t : Trees). t k) trees in
     record {
       schema = ap (λ (d : Database). d.schema) done.after_is;
       database = run.sound;
-      devices = at (tree_in w Device) ∙ kept Device refl (apart w Device Tap refl refl refl);
-      taps = at (tree_in w Tap) ∙ step.rows ∙ edit;
-      statements = at (tree_in w Stated) ∙ kept Stated refl (apart w Stated Tap refl refl refl);
-      meta = at (tree_in w Meta) ∙ kept Meta refl (apart w Meta Tap refl refl refl);
+      devices = at (tree_in w Device) ∙ kept Device refl (apart w Device Routed refl refl refl);
+      taps = at (tree_in w Routed) ∙ step.rows ∙ edit;
+      statements = at (tree_in w Stated) ∙ kept Stated refl (apart w Stated Routed refl refl refl);
+      meta = at (tree_in w Meta) ∙ kept Meta refl (apart w Meta Routed refl refl refl);
+      unused = at (tree_in w Tap) ∙ kept Tap refl (apart w Tap Routed refl refl refl);
     }
 
 pub puts_stated : (w : Layout) (old new : State) (s : StatementValue) (count : ℕ) → old.now.schema ≡ schema_in w → Executes put_statement_text (stated_cells s) old new (Ok count) → PutsStated w old.now new.now s
@@ -87,9 +89,10 @@ puts_stated w old new s count has h =
       schema = ap (λ (d : Database). d.schema) done.after_is;
       database = run.sound;
       devices = at (tree_in w Device) ∙ kept Device refl (apart w Device Stated refl refl refl);
-      taps = at (tree_in w Tap) ∙ kept Tap refl (apart w Tap Stated refl refl refl);
+      taps = at (tree_in w Routed) ∙ kept Routed refl (apart w Routed Stated refl refl refl);
       statements = at (tree_in w Stated) ∙ step.rows ∙ edit;
       meta = at (tree_in w Meta) ∙ kept Meta refl (apart w Meta Stated refl refl refl);
+      unused = at (tree_in w Tap) ∙ kept Tap refl (apart w Tap Stated refl refl refl);
     }
 
 -- ---- what is held then
@@ -114,7 +117,7 @@ devices_after rows now d u ok (inr is) = (
 
 pub both : (w : Layout) (old mid new : Database) (t : RecordValue) → AreReadable (ours w old.trees) → PutsTap w old mid t → PutsLink w mid new t.device t.link → Becomes w new (with_tap t (held_of (ours w old.trees)))
 both w old mid new t ok first second =
-    let taps = appended IsTap tap_ids (ours w old.trees 2) (ours w new.trees 2) (tap_cells t) ok.taps (λ n. refl) (second.taps ∙ first.taps) in
+    let taps = appended IsTap tap_ids (ours w old.trees 7) (ours w new.trees 7) (tap_cells t) ok.taps (λ n. refl) (second.taps ∙ first.taps) in
     let devices = devices_after (ours w mid.trees 1) (ours w new.trees 1) t.device t.link (subst (AreRows IsDevice) (sym first.devices) ok.devices) second.devices in
     let statements = second.statements ∙ first.statements in
     record {
@@ -123,9 +126,10 @@ both w old mid new t ok first second =
       readable = record { devices = devices.0; taps = taps.0; statements = subst (AreRows IsStated) (sym statements) ok.statements };
       value = λ i. record {
         upto = λ x. (devices.1 x ∙ ap (λ all. if t.device == x then t.link else upto_of (held all x)) first.devices) i;
-        taps = (ap (map tap_of) taps.1 ∙ map-append tap_of (ours w old.trees 2) _) i;
+        taps = (ap (map tap_of) taps.1 ∙ map-append tap_of (ours w old.trees 7) _) i;
         statements = ap (map stated_of) statements i;
         meta = (second.meta ∙ first.meta) i;
+        unused = (second.unused ∙ first.unused) i;
       };
     }
 
@@ -141,5 +145,6 @@ one_more w old new s ok puts =
         taps = map tap_of (puts.taps i);
         statements = (ap (map stated_of) statements.1 ∙ map-append stated_of (ours w old.trees 5) _) i;
         meta = puts.meta i;
+        unused = puts.unused i;
       };
     }

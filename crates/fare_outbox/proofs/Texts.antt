@@ -16,18 +16,19 @@ use Rattle.fare_layout.specs.Places.{place_of}
 use Rattle.fare_layout.specs.Commands.{IsMeant, IsSimpleCommand}
 use Rattle.fare_layout.proofs.Meant.{Meant, meant}
 use Rattle.fare_layout.specs.Layouts.{AreUnderstood}
+use Rattle.fare_opening.specs.Moving.{reads_rows, puts_cells, clears_rows, counts_rows}
 use Rattle.fare_opening.specs.Parts.{reads_meta, puts_meta, sets_meta}
 use Rattle.fare_outbox.specs.declared.layout.Layout.{Layout}
 use Rattle.fare_outbox.specs.Layouts.{schema_in, at_tree}
-use Rattle.fare_outbox.specs.Statements.{texts}
+use Rattle.fare_outbox.specs.Statements.{Routed, texts}
 use Rattle.fare_outbox.specs.Tables.{outbox_schema, link_query, row_query, day_query, cut_query, renew_query, seen_terms}
 
 -- where the tables stand in a database of an outbox alone
 abbrev pub own_places : Places
-own_places = record { all = record { at = 0; tree = 0 } ∷ record { at = 1; tree = 1 } ∷ record { at = 2; tree = 2 } ∷ record { at = 3; tree = 5 } ∷ [] }
+own_places = record { all = record { at = 0; tree = 0 } ∷ record { at = 1; tree = 1 } ∷ record { at = 2; tree = 2 } ∷ record { at = 3; tree = 5 } ∷ record { at = 4; tree = 7 } ∷ [] }
 
 abbrev pub tap_terms : List Term
-tap_terms = lit Null ∷ col 0 0 ∷ col 0 1 ∷ col 0 2 ∷ col 0 3 ∷ col 0 4 ∷ col 0 5 ∷ col 0 6 ∷ col 0 7 ∷ []
+tap_terms = lit Null ∷ col 0 0 ∷ col 0 1 ∷ col 0 2 ∷ col 0 3 ∷ col 0 4 ∷ col 0 5 ∷ col 0 6 ∷ col 0 7 ∷ col 0 8 ∷ []
 
 abbrev pub stated_terms : List Term
 stated_terms = lit Null ∷ col 0 0 ∷ col 0 1 ∷ col 0 2 ∷ col 0 3 ∷ []
@@ -55,20 +56,20 @@ pub link_reads : (o : Layout) → Reads (schema_in o) link_text
 link_reads o = ((link_meant o).plain, (link_meant o).selects)
 
 abbrev pub next_text : List ℕ
-next_text = codes "SELECT lane, link, product, token, moment, day FROM tap WHERE owner = ?1 AND device = ?2 AND lane > ?3 ORDER BY lane LIMIT 1"
+next_text = codes "SELECT lane, link, product, token, moment, day, route FROM tap2 WHERE owner = ?1 AND device = ?2 AND lane > ?3 ORDER BY lane LIMIT 1"
 
 abbrev pub next_at : Place → Command
-next_at p = Select (record { lets = []; body = at_tree p.tree row_query }) (codes "lane" ∷ codes "link" ∷ codes "product" ∷ codes "token" ∷ codes "moment" ∷ codes "day" ∷ [])
+next_at p = Select (record { lets = []; body = at_tree p.tree row_query }) (codes "lane" ∷ codes "link" ∷ codes "product" ∷ codes "token" ∷ codes "moment" ∷ codes "day" ∷ codes "route" ∷ [])
 
 abbrev pub next_command : Layout → Command
-next_command o = next_at (place_of o.places Tap)
+next_command o = next_at (place_of o.places Routed)
 
-pub next_own : IsMeant outbox_schema next_text (next_at (place_of own_places Tap))
+pub next_own : IsMeant outbox_schema next_text (next_at (place_of own_places Routed))
 unfolding everything outbox_schema
 next_own = refl
 
 next_means : (o : Layout) → IsMeant (schema_in o) next_text (next_command o)
-next_means o = o.fits.keeps.1.0 (next_at (place_of own_places Tap)) next_own
+next_means o = o.fits.keeps.1.0 (next_at (place_of own_places Routed)) next_own
 
 pub next_meant : (o : Layout) → Meant (schema_in o) next_text (next_command o)
 next_meant o = meant (schema_in o) next_text (next_command o) (next_means o)
@@ -99,20 +100,20 @@ pub next_day_reads : (o : Layout) → Reads (schema_in o) next_day_text
 next_day_reads o = ((next_day_meant o).plain, (next_day_meant o).selects)
 
 abbrev pub rows_text : List ℕ
-rows_text = codes "SELECT count(*) FROM tap"
+rows_text = codes "SELECT count(*) FROM tap2"
 
 abbrev pub rows_at : Place → Command
-rows_at p = Select (record { lets = []; body = at_tree p.tree (count_query 2 []) }) (codes "count(*)" ∷ [])
+rows_at p = Select (record { lets = []; body = at_tree p.tree (count_query 7 []) }) (codes "count(*)" ∷ [])
 
 abbrev pub rows_command : Layout → Command
-rows_command o = rows_at (place_of o.places Tap)
+rows_command o = rows_at (place_of o.places Routed)
 
-pub rows_own : IsMeant outbox_schema rows_text (rows_at (place_of own_places Tap))
+pub rows_own : IsMeant outbox_schema rows_text (rows_at (place_of own_places Routed))
 unfolding everything outbox_schema
 rows_own = refl
 
 rows_means : (o : Layout) → IsMeant (schema_in o) rows_text (rows_command o)
-rows_means o = o.fits.keeps.1.1.1.0 (rows_at (place_of own_places Tap)) rows_own
+rows_means o = o.fits.keeps.1.1.1.0 (rows_at (place_of own_places Routed)) rows_own
 
 pub rows_meant : (o : Layout) → Meant (schema_in o) rows_text (rows_command o)
 rows_meant o = meant (schema_in o) rows_text (rows_command o) (rows_means o)
@@ -214,20 +215,20 @@ pub put_link_meant : (o : Layout) → Meant (schema_in o) put_link_text (put_lin
 put_link_meant o = meant (schema_in o) put_link_text (put_link_command o) (put_link_means o)
 
 abbrev pub put_tap_text : List ℕ
-put_tap_text = codes "INSERT INTO tap (owner, device, lane, link, product, token, moment, day) VALUES (?1, ?2, ?3, ?4, ?5, ?6, ?7, ?8)"
+put_tap_text = codes "INSERT INTO tap2 (owner, device, lane, link, product, token, moment, day, route) VALUES (?1, ?2, ?3, ?4, ?5, ?6, ?7, ?8, ?9)"
 
 abbrev pub put_tap_at : Place → Command
-put_tap_at p = Insert p.at (Values tap_terms 9)
+put_tap_at p = Insert p.at (Values tap_terms 10)
 
 abbrev pub put_tap_command : Layout → Command
-put_tap_command o = put_tap_at (place_of o.places Tap)
+put_tap_command o = put_tap_at (place_of o.places Routed)
 
-pub put_tap_own : IsMeant outbox_schema put_tap_text (put_tap_at (place_of own_places Tap))
+pub put_tap_own : IsMeant outbox_schema put_tap_text (put_tap_at (place_of own_places Routed))
 unfolding everything outbox_schema
 put_tap_own = refl
 
 put_tap_means : (o : Layout) → IsMeant (schema_in o) put_tap_text (put_tap_command o)
-put_tap_means o = o.fits.keeps.1.1.1.1.1.1.1.1.1.1.0 (put_tap_at (place_of own_places Tap)) put_tap_own
+put_tap_means o = o.fits.keeps.1.1.1.1.1.1.1.1.1.1.0 (put_tap_at (place_of own_places Routed)) put_tap_own
 
 pub put_tap_meant : (o : Layout) → Meant (schema_in o) put_tap_text (put_tap_command o)
 put_tap_meant o = meant (schema_in o) put_tap_text (put_tap_command o) (put_tap_means o)
@@ -252,35 +253,76 @@ pub put_statement_meant : (o : Layout) → Meant (schema_in o) put_statement_tex
 put_statement_meant o = meant (schema_in o) put_statement_text (put_statement_command o) (put_statement_means o)
 
 abbrev pub cut_text : List ℕ
-cut_text = codes "DELETE FROM tap WHERE owner = ?1 AND device = ?2 AND lane <= ?3"
+cut_text = codes "DELETE FROM tap2 WHERE owner = ?1 AND device = ?2 AND lane <= ?3"
 
 abbrev pub cut_at : Place → Command
 cut_at p = Delete p.at (record { lets = []; body = at_tree p.tree cut_query })
 
 abbrev pub cut_command : Layout → Command
-cut_command o = cut_at (place_of o.places Tap)
+cut_command o = cut_at (place_of o.places Routed)
 
-pub cut_own : IsMeant outbox_schema cut_text (cut_at (place_of own_places Tap))
+pub cut_own : IsMeant outbox_schema cut_text (cut_at (place_of own_places Routed))
 unfolding everything outbox_schema
 cut_own = refl
 
 cut_means : (o : Layout) → IsMeant (schema_in o) cut_text (cut_command o)
-cut_means o = o.fits.keeps.1.1.1.1.1.1.1.1.1.1.1.1.0 (cut_at (place_of own_places Tap)) cut_own
+cut_means o = o.fits.keeps.1.1.1.1.1.1.1.1.1.1.1.1.0 (cut_at (place_of own_places Routed)) cut_own
 
 pub cut_meant : (o : Layout) → Meant (schema_in o) cut_text (cut_command o)
 cut_meant o = meant (schema_in o) cut_text (cut_command o) (cut_means o)
+
+-- where the first format has the taps, and how they move
+
+abbrev pub unused_text : List ℕ
+unused_text = codes "SELECT count(*) FROM tap"
+
+abbrev pub unused_at : Place → Command
+unused_at p = counts_rows (codes "count(*)" ∷ []) p.tree
+
+pub unused_own : IsMeant outbox_schema unused_text (unused_at (place_of own_places Tap))
+unfolding everything outbox_schema
+unused_own = refl
+
+abbrev pub first_names : List (List ℕ)
+first_names = codes "rowid" ∷ codes "owner" ∷ codes "device" ∷ codes "lane" ∷ codes "link" ∷ codes "product" ∷ codes "token" ∷ codes "moment" ∷ codes "day" ∷ []
+
+abbrev pub first_text : List ℕ
+first_text = codes "SELECT rowid, owner, device, lane, link, product, token, moment, day FROM tap ORDER BY rowid"
+
+abbrev pub first_at : Place → Command
+first_at p = reads_rows 9 first_names p.tree
+
+abbrev pub put_first_text : List ℕ
+put_first_text = codes "INSERT INTO tap2 (rowid, owner, device, lane, link, product, token, moment, day, route) VALUES (?1, ?2, ?3, ?4, ?5, ?6, ?7, ?8, ?9, ?10)"
+
+abbrev pub put_first_at : Place → Command
+put_first_at p = puts_cells 10 p.at
+
+pub put_first_own : IsMeant outbox_schema put_first_text (put_first_at (place_of own_places Routed))
+unfolding everything outbox_schema
+put_first_own = refl
+
+abbrev pub clear_first_text : List ℕ
+clear_first_text = codes "DELETE FROM tap"
+
+abbrev pub clear_first_at : Place → Command
+clear_first_at p = clears_rows p.at p.tree
+
+pub clear_first_own : IsMeant outbox_schema clear_first_text (clear_first_at (place_of own_places Tap))
+unfolding everything outbox_schema
+clear_first_own = refl
 
 -- each means something of the usual form
 pub link_simple : IsSimpleCommand (link_at (place_of own_places Device))
 link_simple = search
 
-pub next_simple : IsSimpleCommand (next_at (place_of own_places Tap))
+pub next_simple : IsSimpleCommand (next_at (place_of own_places Routed))
 next_simple = search
 
 pub next_day_simple : IsSimpleCommand (next_day_at (place_of own_places Stated))
 next_day_simple = search
 
-pub rows_simple : IsSimpleCommand (rows_at (place_of own_places Tap))
+pub rows_simple : IsSimpleCommand (rows_at (place_of own_places Routed))
 rows_simple = search
 
 pub statements_simple : IsSimpleCommand (statements_at (place_of own_places Stated))
@@ -301,14 +343,26 @@ set_meta_simple = search
 pub put_link_simple : IsSimpleCommand (put_link_at (place_of own_places Device))
 put_link_simple = search
 
-pub put_tap_simple : IsSimpleCommand (put_tap_at (place_of own_places Tap))
+pub put_tap_simple : IsSimpleCommand (put_tap_at (place_of own_places Routed))
 put_tap_simple = search
 
 pub put_statement_simple : IsSimpleCommand (put_statement_at (place_of own_places Stated))
 put_statement_simple = search
 
-pub cut_simple : IsSimpleCommand (cut_at (place_of own_places Tap))
+pub cut_simple : IsSimpleCommand (cut_at (place_of own_places Routed))
 cut_simple = search
 
+pub unused_simple : IsSimpleCommand (unused_at (place_of own_places Tap))
+unused_simple = search
+
+pub first_simple : IsSimpleCommand (first_at (place_of own_places Tap))
+first_simple = search
+
+pub put_first_simple : IsSimpleCommand (put_first_at (place_of own_places Routed))
+put_first_simple = search
+
+pub clear_first_simple : IsSimpleCommand (clear_first_at (place_of own_places Tap))
+clear_first_simple = search
+
 unfoldable pub understood_all : AreUnderstood outbox_schema texts
-understood_all = ((link_at (place_of own_places Device), link_own, link_simple), ((next_at (place_of own_places Tap), next_own, next_simple), ((next_day_at (place_of own_places Stated), next_day_own, next_day_simple), ((rows_at (place_of own_places Tap), rows_own, rows_simple), ((statements_at (place_of own_places Stated), statements_own, statements_simple), ((seen_at (place_of own_places Device), seen_own, seen_simple), ((meta_at (place_of own_places Meta), meta_own, meta_simple), ((put_meta_at (place_of own_places Meta), put_meta_own, put_meta_simple), ((set_meta_at (place_of own_places Meta), set_meta_own, set_meta_simple), ((put_link_at (place_of own_places Device), put_link_own, put_link_simple), ((put_tap_at (place_of own_places Tap), put_tap_own, put_tap_simple), ((put_statement_at (place_of own_places Stated), put_statement_own, put_statement_simple), ((cut_at (place_of own_places Tap), cut_own, cut_simple), tt)))))))))))))
+understood_all = ((link_at (place_of own_places Device), link_own, link_simple), ((next_at (place_of own_places Routed), next_own, next_simple), ((next_day_at (place_of own_places Stated), next_day_own, next_day_simple), ((rows_at (place_of own_places Routed), rows_own, rows_simple), ((statements_at (place_of own_places Stated), statements_own, statements_simple), ((seen_at (place_of own_places Device), seen_own, seen_simple), ((meta_at (place_of own_places Meta), meta_own, meta_simple), ((put_meta_at (place_of own_places Meta), put_meta_own, put_meta_simple), ((set_meta_at (place_of own_places Meta), set_meta_own, set_meta_simple), ((put_link_at (place_of own_places Device), put_link_own, put_link_simple), ((put_tap_at (place_of own_places Routed), put_tap_own, put_tap_simple), ((put_statement_at (place_of own_places Stated), put_statement_own, put_statement_simple), ((cut_at (place_of own_places Routed), cut_own, cut_simple), ((unused_at (place_of own_places Tap), unused_own, unused_simple), ((put_first_at (place_of own_places Routed), put_first_own, put_first_simple), ((clear_first_at (place_of own_places Tap), clear_first_own, clear_first_simple), tt))))))))))))))))

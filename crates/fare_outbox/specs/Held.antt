@@ -27,7 +27,7 @@ upto_of None = 0
 upto_of (Some r) = nat_in (column r 2)
 
 abbrev pub tap_cells : RecordValue → Row
-tap_cells t = int t.owner ∷ int t.device ∷ int t.lane ∷ int t.link ∷ int t.tap.product ∷ int t.tap.token ∷ int t.tap.moment ∷ int t.tap.day ∷ []
+tap_cells t = int t.owner ∷ int t.device ∷ int t.lane ∷ int t.link ∷ int t.tap.product ∷ int t.tap.token ∷ int t.tap.moment ∷ int t.tap.day ∷ int t.tap.route ∷ []
 
 abbrev pub tap_of : Row → RecordValue
 tap_of r = record {
@@ -35,7 +35,7 @@ tap_of r = record {
   link = nat_in (column r 4);
   owner = nat_in (column r 1);
   lane = nat_in (column r 3);
-  tap = record { product = nat_in (column r 5); token = nat_in (column r 6); moment = nat_in (column r 7); day = nat_in (column r 8) };
+  tap = record { product = nat_in (column r 5); token = nat_in (column r 6); moment = nat_in (column r 7); day = nat_in (column r 8); route = nat_in (column r 9) };
 }
 
 abbrev pub IsTap : Row → Type 0
@@ -58,15 +58,17 @@ pub record Held : Type 0 where
   pub statements : List StatementValue
   -- the rows that say whose tables these are
   pub meta : List Row
+  -- those of the table in which the first format has the taps
+  pub unused : List Row
 
 -- the rows of all tables can be read
 pub record AreReadable (trees : Trees) : Type 0 where
   pub devices : AreRows IsDevice (trees 1)
-  pub taps : AreRows IsTap (trees 2)
+  pub taps : AreRows IsTap (trees 7)
   pub statements : AreRows IsStated (trees 5)
 
 abbrev pub held_of : Trees → Held
-held_of trees = record { upto = λ device. upto_of (held (trees 1) device); taps = map tap_of (trees 2); statements = map stated_of (trees 5); meta = trees 0 }
+held_of trees = record { upto = λ device. upto_of (held (trees 1) device); taps = map tap_of (trees 7); statements = map stated_of (trees 5); meta = trees 0; unused = trees 2 }
 
 -- between calls, over the tables of the outbox with rows that can be read
 abbrev pub IsReady : Layout → State → Type 0
@@ -97,17 +99,17 @@ is_seen r = nat_lt 0 (nat_in (column r 2))
 
 -- WRITES
 abbrev pub with_tap : RecordValue → Held → Held
-with_tap t h = record { upto = λ device. if t.device == device then t.link else h.upto device; taps = h.taps ++ t ∷ []; statements = h.statements; meta = h.meta }
+with_tap t h = record { upto = λ device. if t.device == device then t.link else h.upto device; taps = h.taps ++ t ∷ []; statements = h.statements; meta = h.meta; unused = h.unused }
 
 abbrev pub with_statement : StatementValue → Held → Held
-with_statement s h = record { upto = h.upto; taps = h.taps; statements = h.statements ++ s ∷ []; meta = h.meta }
+with_statement s h = record { upto = h.upto; taps = h.taps; statements = h.statements ++ s ∷ []; meta = h.meta; unused = h.unused }
 
 -- a row of a lane up to a lane number
 abbrev pub is_cut : ℕ → ℕ → ℕ → RecordValue → Bool
 is_cut owner device lane t = (t.owner == owner) && (t.device == device) && nat_le t.lane lane
 
 abbrev pub without_lane : ℕ → ℕ → ℕ → Held → Held
-without_lane owner device lane h = record { upto = h.upto; taps = filter (λ t. not (is_cut owner device lane t)) h.taps; statements = h.statements; meta = h.meta }
+without_lane owner device lane h = record { upto = h.upto; taps = filter (λ t. not (is_cut owner device lane t)) h.taps; statements = h.statements; meta = h.meta; unused = h.unused }
 
 -- the database holds this, in rows that can be read
 pub record Becomes (o : Layout) (db : Database) (h : Held) : Type 0 where
@@ -125,22 +127,25 @@ pub record PutsTap (o : Layout) (old new : Database) (t : RecordValue) : Type 0 
   pub schema : new.schema ≡ schema_in o
   pub database : IsDatabase new
   pub devices : ours o new.trees 1 ≡ ours o old.trees 1
-  pub taps : ours o new.trees 2 ≡ put_row (Int (next_rowid (ours o old.trees 2)) ∷ tap_cells t) (ours o old.trees 2)
+  pub taps : ours o new.trees 7 ≡ put_row (Int (next_rowid (ours o old.trees 7)) ∷ tap_cells t) (ours o old.trees 7)
   pub statements : ours o new.trees 5 ≡ ours o old.trees 5
   pub meta : ours o new.trees 0 ≡ ours o old.trees 0
+  pub unused : ours o new.trees 2 ≡ ours o old.trees 2
 
 pub record PutsStated (o : Layout) (old new : Database) (s : StatementValue) : Type 0 where
   pub schema : new.schema ≡ schema_in o
   pub database : IsDatabase new
   pub devices : ours o new.trees 1 ≡ ours o old.trees 1
-  pub taps : ours o new.trees 2 ≡ ours o old.trees 2
+  pub taps : ours o new.trees 7 ≡ ours o old.trees 7
   pub statements : ours o new.trees 5 ≡ put_row (Int (next_rowid (ours o old.trees 5)) ∷ stated_cells s) (ours o old.trees 5)
   pub meta : ours o new.trees 0 ≡ ours o old.trees 0
+  pub unused : ours o new.trees 2 ≡ ours o old.trees 2
 
 pub record PutsLink (o : Layout) (old new : Database) (device upto : ℕ) : Type 0 where
   pub schema : new.schema ≡ schema_in o
   pub database : IsDatabase new
   pub devices : (ours o new.trees 1 ≡ put_row (device_row device upto) (ours o old.trees 1)) ⊎ (ours o new.trees 1 ≡ put_row (device_row device upto) (without_rowid (pos device) (ours o old.trees 1)))
-  pub taps : ours o new.trees 2 ≡ ours o old.trees 2
+  pub taps : ours o new.trees 7 ≡ ours o old.trees 7
   pub statements : ours o new.trees 5 ≡ ours o old.trees 5
   pub meta : ours o new.trees 0 ≡ ours o old.trees 0
+  pub unused : ours o new.trees 2 ≡ ours o old.trees 2

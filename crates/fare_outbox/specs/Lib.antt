@@ -3,7 +3,8 @@ pub mod Statements
 pub mod Layouts
 pub mod Held
 pub mod Making
-pub mod Opening
 pub mod Words
+pub mod First
+pub mod Opening
 pub mod Shown
 pub mod Orders

@@ -24,7 +24,15 @@ stated_table tree =
     (number (codes "owner") ∷ number (codes "device") ∷ number (codes "day") ∷ number (codes "total") ∷ [])
     None (1 ∷ 2 ∷ 3 ∷ []) ((1 ∷ 2 ∷ 3 ∷ []) ∷ []) (plain ∷ []) []
 
--- after one, two, three and all four CREATE TABLE: two trees are the indexes of the taps, and the last one that of the statements
+-- the taps of the newest format: the routes are its last column
+abbrev pub routed_table : ℕ → Table
+routed_table tree =
+    table (codes "tap2") tree
+    (number (codes "owner") ∷ number (codes "device") ∷ number (codes "lane") ∷ number (codes "link") ∷ number (codes "product") ∷ number (codes "token") ∷ number (codes "moment") ∷ number (codes "day") ∷ number (codes "route") ∷ [])
+    None (1 ∷ 2 ∷ 3 ∷ []) ((1 ∷ 2 ∷ 3 ∷ []) ∷ (2 ∷ 4 ∷ []) ∷ []) (plain ∷ plain ∷ []) []
+
+-- after one, two, three, four and all five CREATE TABLE: trees 3 and 4 are the indexes of the first format's taps, 6 is
+-- that of the statements, and 8 and 9 are those of the taps
 abbrev pub one_table : Schema
 one_table = record { tables = meta_table 0 ∷ []; indexes = []; views = [] }
 
@@ -34,10 +42,21 @@ two_tables = record { tables = meta_table 0 ∷ device_table 1 ∷ []; indexes =
 abbrev pub three_tables : Schema
 three_tables = record { tables = meta_table 0 ∷ device_table 1 ∷ tap_table 2 ∷ []; indexes = automatics (tap_table 2) 0 3 ((1 ∷ 2 ∷ 3 ∷ []) ∷ (2 ∷ 4 ∷ []) ∷ []); views = [] }
 
-unfoldable pub outbox_schema : Schema
-outbox_schema = record {
+abbrev pub four_tables : Schema
+four_tables = record {
   tables = meta_table 0 ∷ device_table 1 ∷ tap_table 2 ∷ stated_table 5 ∷ [];
   indexes = (created three_tables (stated_table 5)).indexes;
+  views = [];
+}
+
+-- of the first format
+unfoldable pub first_schema : Schema
+first_schema = four_tables
+
+unfoldable pub outbox_schema : Schema
+outbox_schema = record {
+  tables = meta_table 0 ∷ device_table 1 ∷ tap_table 2 ∷ stated_table 5 ∷ routed_table 7 ∷ [];
+  indexes = (created four_tables (routed_table 7)).indexes;
   views = [];
 }
 
@@ -50,10 +69,10 @@ abbrev pub row_terms : List Term
 row_terms = is_given 1 0 ∷ is_given 2 1 ∷ is_past 3 2 ∷ []
 
 abbrev pub row_columns : List Term
-row_columns = col 1 3 ∷ col 1 4 ∷ col 1 5 ∷ col 1 6 ∷ col 1 7 ∷ col 1 8 ∷ []
+row_columns = col 1 3 ∷ col 1 4 ∷ col 1 5 ∷ col 1 6 ∷ col 1 7 ∷ col 1 8 ∷ col 1 9 ∷ []
 
 abbrev pub row_query : Query
-row_query = least_query 2 row_terms row_columns 3
+row_query = least_query 7 row_terms row_columns 3
 
 -- the statement of least day from one on
 abbrev pub day_terms : List Term
@@ -70,7 +89,7 @@ abbrev pub cut_terms : List Term
 cut_terms = is_given 1 0 ∷ is_given 2 1 ∷ is_upto 3 2 ∷ []
 
 abbrev pub cut_query : Query
-cut_query = query 2 cut_terms (col 1 0 ∷ []) []
+cut_query = query 7 cut_terms (col 1 0 ∷ []) []
 
 -- the device's row that is written anew: the parameters are the two given, the rowid that is taken, and the row that couldn't go in
 abbrev pub renew_query : Query

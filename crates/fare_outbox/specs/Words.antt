@@ -56,13 +56,19 @@ value_in h = record { upto = h.upto; rows = first_at tap_key itself h.taps; row_
 abbrev pub value_at : Layout → Trees → OutboxValue
 value_at o trees = value_in (held_of (ours o trees))
 
--- the rows fit together
-pub record FitTogether (h : Held) : Type 0 where
+-- the rows fit together, as those of an outbox of a format
+pub record FitInFormat (format : ℕ) (h : Held) : Type 0 where
   pub apart : AreApart tap_key h.taps
   pub known : AllByRecursion (IsKnown h.upto) h.taps
   pub single : AreApart stated_key h.statements
-  -- they are an outbox's, of format 1
-  pub meta : IsMeta 1 0 h.meta
+  -- they are an outbox's, of that format
+  pub meta : IsMeta format 0 h.meta
+  -- there is no row where the first format has the taps
+  pub unused : h.unused ≡ []
+
+-- and of the newest one
+abbrev pub FitTogether : Held → Type 0
+FitTogether = FitInFormat 2
 
 pub record IsLawful (o : Layout) (trees : Trees) : Type 0 where
   pub readable : AreReadable (ours o trees)

@@ -1,10 +1,28 @@
 ghost use Rattle.fare_outbox.specs.Statements.{outbox_parts};
 
-use crate::statements::{TABLES, TEXTS};
+use crate::statements::{
+    CLEAR_FIRST, COUNT_UNUSED, FIRST_MISSING, FIRST_TABLES, FIRST_TEXTS, PUT_FIRST, READ_FIRST,
+    ROUTED, TABLES, TEXTS,
+};
 use fare_layout::TableNumber;
-use fare_opening::{Design, Older};
+use fare_opening::{Design, Moving, Older, TAP};
 
-// What an outbox is made of: no owner's, of format 1.
+// The first format, whose taps had no route: they move to the table that has them, each with route 0.
+static OLDER: [Older; 1] = [Older {
+    format: 1,
+    tables: &FIRST_TABLES,
+    missing: &FIRST_MISSING,
+    texts: &FIRST_TEXTS,
+    moving: Some(Moving {
+        from: TAP,
+        to: ROUTED,
+        read: READ_FIRST,
+        put: PUT_FIRST,
+        clear: CLEAR_FIRST,
+    }),
+}];
+
+// What an outbox is made of: no owner's, of format 2.
 pub(crate) struct OutboxDesign;
 
 impl Design for OutboxDesign {
@@ -19,11 +37,15 @@ impl Design for OutboxDesign {
     }
 
     fn format() -> u8 {
-        1
+        2
     }
 
     fn older() -> &'static [Older] {
-        &[]
+        &OLDER
+    }
+
+    fn unused() -> Option<(TableNumber, &'static str)> {
+        Some((TAP, COUNT_UNUSED))
     }
 
     fn sound() {}

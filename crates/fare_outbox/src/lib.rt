@@ -1,6 +1,7 @@
 //! The outbox of the hub in tables of SQLite: what was acknowledged outlives the program. It meets the contract of
 //! the outbox as the plain one does, for as long as the disk has kept what was committed and no failure has shut
-//! the connection. Each write is one transaction. The value alone holds its connection.
+//! the connection. Each write is one transaction. The value alone holds its connection. An outbox of the first format,
+//! whose taps have no route, is raised when it is opened.
 #![tactic(auto)]
 
 mod calls;

@@ -15,7 +15,7 @@ use fare_tables::{change, fault_of, parameter};
 use sqlite::types::ValueRef;
 use sqlite::{Alter, Connection, Transaction};
 
-fn cells_of(row: &Record) -> [ValueRef<'static>; 8]
+fn cells_of(row: &Record) -> [ValueRef<'static>; 9]
     ensures { bound result ≡ tap_cells row.now }
 {
     let tap = row.tap();
@@ -28,6 +28,7 @@ fn cells_of(row: &Record) -> [ValueRef<'static>; 8]
         parameter(tap.token().get()),
         parameter(tap.moment().get()),
         parameter(u64::from(tap.day().get())),
+        parameter(u64::from(tap.route())),
     ]
 }
 

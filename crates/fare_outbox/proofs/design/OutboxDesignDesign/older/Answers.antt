@@ -1,0 +1,5 @@
+use Rattle.std.proofs.Common.{refl}
+use Rattle.fare_outbox.proofs.design.OutboxDesignDesign.older.Goals as goal
+
+pub returns : goal.returns
+returns c = (record { format = refl; tables = refl; missing = refl; texts = refl; moving = refl }, tt)
