@@ -115,9 +115,9 @@ fn routes_stand_in_their_order(rt: HostRuntime) {
     let settlement = settlement(rt.alloc(), &scheme, &taps).expect(&rt, "settlement");
     let routes = routes_at(&settlement, 0).expect(&rt, "routes");
     same(&rt, &routes.len(), &4_000);
-    let mut number = 0;
+    let mut number = 0_u16;
     for share in routes {
-        number += 1;
+        number = number.wrapping_add(1);
         let want = RouteShare {
             route: number,
             taps: 1,

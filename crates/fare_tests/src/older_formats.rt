@@ -182,7 +182,7 @@ fn ledger_ended<S: Alter + Reopen + Drop>(
 }
 
 // How the three ended, each in a database of its own, if these are open.
-fn ended<S: Alter + Reopen + Drop>(
+fn three_ended<S: Alter + Reopen + Drop>(
     alloc: Global,
     outbox: Option<Connection<S>>,
     first: Option<Connection<S>>,
@@ -201,7 +201,7 @@ fn ended<S: Alter + Reopen + Drop>(
 // The same in disks that fail after so many calls. It alone names their kind, since a function that does is slow to
 // prove.
 fn ended_after(alloc: Global, calls: u64) -> Option<[Ended; 3]> {
-    ended(
+    three_ended(
         alloc,
         burning(alloc, calls),
         burning(alloc, calls),
