@@ -85,8 +85,8 @@ fn close(database: Connection<FileStore<File>>) {
 }
 
 /// Opens the stores of a scheme in files: the outbox at a path, and the ledger of each owner, in the scheme's order, at
-/// that path, a dot and the owner's number. What isn't there is made, or refused. A ledger of the first format is raised
-/// to the newest, and keeps its lists.
+/// that path, a dot and the owner's number. What isn't there is made, or refused. A store of an older format is raised to
+/// the newest, and keeps what it holds.
 ///
 /// `Memory` where there was none for it, and `Store` where a file can't be made or opened, among others since another
 /// program has it open, or holds something else, in the order in which they are opened; what was made or raised before

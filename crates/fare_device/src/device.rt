@@ -279,8 +279,8 @@ impl Device {
 
     /// Numbers a tap, counts it for its owner and keeps it at the end of those that wait. `day` is the traffic
     /// day of `moment`, `route` that on which it was made, or 0 where none is known, and the scheme is the one that the
-    /// device was made with. Answers the numbered record, or the first refusal that applies, in the order `UnknownProduct`, `DayClosed`, `DayAhead`, `NumbersSpent`,
-    /// `BufferFull`; then the device is as before.
+    /// device was made with. Answers the numbered record, or the first refusal that applies, in the order
+    /// `UnknownProduct`, `DayClosed`, `DayAhead`, `NumbersSpent`, `BufferFull`; then the device is as before.
     pub fn tap(
         &mut self,
         scheme: &Scheme,

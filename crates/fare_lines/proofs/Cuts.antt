@@ -27,6 +27,10 @@ index_of_lacks p [] lacks k d below = absurd (omega arith)
 index_of_lacks p (x ∷ xs) lacks zero d below = lacks.0
 index_of_lacks p (x ∷ xs) lacks (suc k) d below = index_of_lacks p xs lacks.1 k d (omega arith)
 
+pub lacks_append : (p : ℕ → Bool) (xs ys : List ℕ) → Lacks p xs → Lacks p ys → Lacks p (xs ++ ys)
+lacks_append p [] ys a b = b
+lacks_append p (x ∷ xs) ys a b = (a.0, lacks_append p xs ys a.1 b)
+
 -- THE CUT
 begins_of_first : (p : ℕ → Bool) (xs : List ℕ) → (0 < length xs → p (get_or xs 0 0) ≡ true) → BeginsWith p xs
 begins_of_first p [] first = tt
@@ -47,6 +51,13 @@ halves i xs = grind (arith, common_steps)
 
 get_in_front : (i k : ℕ) (xs : List ℕ) → k < i → get_or (take i xs) k 0 ≡ get_or xs k 0
 get_in_front i k xs below = grind (arith, common_steps)
+
+pub first_of_front : (i : ℕ) (xs : List ℕ) → 0 < i → get_or (take i xs) 0 0 ≡ get_or xs 0 0
+first_of_front i xs some = get_in_front i 0 xs some
+
+-- in the words of a slice `[i..]`
+pub whole_rest : (i : ℕ) (xs : List ℕ) → take (length xs - i) (drop i xs) ≡ drop i xs
+whole_rest i xs = grind (arith, common_steps)
 
 get_at_cut : (i : ℕ) (xs : List ℕ) → get_or (drop i xs) 0 0 ≡ get_or xs i 0
 get_at_cut i xs = grind (arith, common_steps)
@@ -88,6 +99,19 @@ one_cut p (a ∷ as') (b ∷ bs) x y la lb bx by e =
     let cut = one_cut p as' bs x y la.1 lb.1 bx by tails in
     (ap₂ (λ h t. h ∷ t) heads cut.0, cut.1)
 
+-- a text is cut in one way, and in some
+pub same_cut : (p : ℕ → Bool) (text a b x y : List ℕ) → CutsAt p text a x → CutsAt p text b y → (a ≡ b) × (x ≡ y)
+same_cut p text a b x y one other = one_cut p a b x y one.lacks other.lacks one.begins other.begins (sym one.is ∙ other.is)
+
+pub front_cut : (p : ℕ → Bool) (xs : List ℕ) (i : ℕ) → Lacks p (take i xs) → BeginsWith p (drop i xs) → CutsAt p xs (take i xs) (drop i xs)
+front_cut p xs i lacks begins = record { is = halves i xs; lacks = lacks; begins = begins }
+
+pub first_line : (p : ℕ → Bool) (text : List ℕ) → (line : List ℕ) × (rest : List ℕ) × CutsAt p text line rest
+first_line p text = elim (position p text) as (λ found. position p text ≡ found → (line : List ℕ) × (rest : List ℕ) × CutsAt p text line rest) [
+  | Some i ↦ λ is. (take i text, drop i text, cuts_at_some p text i is)
+  | None ↦ λ is. (text, [], cuts_at_none p text is)
+] refl
+
 -- SPLITS
 split_end_of : (p : ℕ → Bool) (text front rest : List ℕ) → CutsAt p text front rest → rest ≡ [] → slice_split p text ≡ front ∷ []
 split_end_of p text front rest cut none =
@@ -100,7 +124,7 @@ split_on p text front rest b next cut more =
     let passes : p b ≡ true = subst (BeginsWith p) more cut.begins in
     ap (slice_split p) is ∙ slice_split_at p front b next (index_of_lacks p front cut.lacks) passes
 
-after_first : (b : ℕ) (bs : List ℕ) → take (length (b ∷ bs) - 1) (drop 1 (b ∷ bs)) ≡ bs
+pub after_first : (b : ℕ) (bs : List ℕ) → take (length (b ∷ bs) - 1) (drop 1 (b ∷ bs)) ≡ bs
 after_first b bs = grind (arith, common_steps)
 
 -- the parts, in the words of a slice pattern `[_, next @ ..]`
@@ -111,7 +135,3 @@ split_next p text front (b ∷ bs) cut some = split_on p text front (b ∷ bs) b
 pub split_last : (p : ℕ → Bool) (text front rest : List ℕ) → CutsAt p text front rest → length rest < 1 → slice_split p text ≡ front ∷ []
 split_last p text front [] cut none = split_end_of p text front [] cut refl
 split_last p text front (b ∷ bs) cut none = absurd (omega arith)
-
-pub split_front : (p : ℕ → Bool) (text front rest : List ℕ) → CutsAt p text front rest → (parts : List (List ℕ)) × (slice_split p text ≡ front ∷ parts)
-split_front p text front [] cut = ([], split_end_of p text front [] cut refl)
-split_front p text front (b ∷ bs) cut = (slice_split p bs, split_on p text front (b ∷ bs) b bs cut refl)

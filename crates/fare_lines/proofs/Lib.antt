@@ -3,6 +3,8 @@ pub mod Rows
 pub mod Numbers
 pub mod Utf8
 pub mod Keywords
+pub mod Feeds
+pub mod Spaced
 pub mod Spelling
 pub mod Texts
 pub mod Printing

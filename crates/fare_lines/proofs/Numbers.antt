@@ -1,5 +1,5 @@
 -- Numbers and their decimal spelling, alone and in a row with one space between each two.
-use Rattle.std.proofs.Common.{◌≡◌, ◌≤◌, ◌<◌, ◌^◌, ◌==◌, ℕ, List, [], ◌∷◌, ◌++◌, length, get_or, Bool, true, false, Option, Some, None, IfSome, IfNone, take, ◌+◌, ◌*◌, ◌-◌, ap, ap₂, sym, subst, refl, arith, ◌∙◌, map, length-append}
+use Rattle.std.proofs.Common.{◌≡◌, ◌≤◌, ◌<◌, ◌^◌, ◌==◌, ℕ, List, [], ◌∷◌, ◌++◌, length, get_or, Bool, true, false, not, Option, Some, None, IfSome, IfNone, take, ◌+◌, ◌*◌, ◌-◌, ap, ap₂, sym, subst, refl, arith, ◌∙◌, map, length-append}
 use Prim.Native.Nat.{zero, suc}
 use Rattle.std.specs.List.{All, AllByRecursion, join_with_byte, slice_split}
 use Rattle.std.specs.Fmt.{decimal}
@@ -10,15 +10,14 @@ use Rattle.std.proofs.lemmas.List.{length-take}
 use Rattle.std.proofs.lemmas.Bool.Decides.{nat_tests}
 use Rattle.std.proofs.lemmas.Bool.{ne_eqb}
 use Rattle.std.proofs.lemmas.Grind.{common_steps}
-use Rattle.std.proofs.lemmas.List.Splits.{slice_split_none, slice_split_at, join_with_byte-slice_split}
+use Rattle.std.proofs.lemmas.List.Splits.{slice_split_none, slice_split_at}
 use Rattle.std.proofs.lemmas.Int.Digits.{digits_more, digits_value_more, digits_value-lt}
 use Rattle.std.proofs.lemmas.Str.{digit_value_digit}
 use Rattle.std.proofs.lemmas.Str.Parse.{IsNumeralModel, numerals_by_value, tells_digits, digit_at, digits_value-take-le}
 use Rattle.std.proofs.lemmas.Fmt.{decimal-digits_value, digits_value-decimal, decimal_nonempty, decimal_digit, decimal_injective, digits_decimal, first_decimal}
 use Rattle.fare_lines.specs.Grammar.{numbers_text}
-use Rattle.fare_lines.specs.Reading.{BeginsWith, ReadsNumbers}
-use Rattle.fare_lines.proofs.Cuts.{Lacks, append_nil, lacks_of_index}
-use Rattle.fare_lines.proofs.Rows.{one_of_row}
+use Rattle.fare_lines.specs.Reading.{BeginsWith, CutsAt, is_no_digit}
+use Rattle.fare_lines.proofs.Cuts.{Lacks, lacks_of_index, one_cut}
 
 -- ONE NUMBER
 abbrev pub IsU64 : ℕ → Type 0
@@ -28,10 +27,10 @@ numerals : IsNumeralModel (AllDigits 10) (digits_value 10)
 numerals = numerals_by_value (AllDigits 10) tells_digits
 
 -- digits with no leading zero are the spelling of their number
-pub digits_are_spelled : (word : List ℕ) (r : Option ℕ) → IfSome r (λ n. AllDigits 10 word × (n ≡ digits_value 10 word) × (n < 2 ^ 64)) → 0 < length word → (get_or word 0 0 ≡ 48 → length word ≡ 1) → IfSome r (λ n. word ≡ decimal n)
+pub digits_are_spelled : (word : List ℕ) (r : Option ℕ) → IfSome r (λ n. AllDigits 10 word × (n ≡ digits_value 10 word) × (n < 2 ^ 64)) → 0 < length word → (get_or word 0 0 ≡ 48 → length word ≡ 1) → IfSome r (λ n. (n < 2 ^ 64) × (word ≡ decimal n))
 digits_are_spelled word None read some lone = tt
 digits_are_spelled word (Some n) read some lone =
-    sym (decimal-digits_value numerals word read.0 some lone (omega (arith, read.1, read.2))) ∙ ap decimal (sym read.1)
+    (read.2, sym (decimal-digits_value numerals word read.0 some lone (omega (arith, read.1, read.2))) ∙ ap decimal (sym read.1))
 
 -- what is no number in digits is the spelling of none
 pub digits_are_none : (word : List ℕ) (r : Option ℕ) → IfNone r (AllDigits 10 word → digits_value 10 word < 2 ^ 64 → ⊥) → IfNone r ((n : ℕ) → n < 2 ^ 64 → word ≡ decimal n → ⊥)
@@ -67,11 +66,29 @@ too_large word i number below digit all is large small =
     omega (arith, (one_digit_more word i number below digit all is).1, digits_value-take-le 10 word (i + 1) (omega arith), large, small)
 
 -- fewer than 19 digits spell a number of which ten times as much, and a digit, has 64 bits
-pub few_digits : (word : List ℕ) (i number : ℕ) → i < length word → length word ≤ 19 → AllDigits 10 (take i word) → number ≡ digits_value 10 (take i word) → number < 1000000000000000000
-few_digits word i number below short all is =
-    let value : digits_value 10 (take i word) < 10 ^ length (take i word) = digits_value-lt 10 (take i word) all in
-    let most : 10 ^ length (take i word) ≤ 10 ^ 18 = pow-le-pow_right {n = 10} (omega arith) {i = length (take i word)} {j = 18} (omega (arith, below, short, length-take i word)) in
+pub few_digits : (word : List ℕ) (count number : ℕ) → count ≤ 18 → AllDigits 10 (take count word) → number ≡ digits_value 10 (take count word) → number < 1000000000000000000
+few_digits word count number few all is =
+    let value : digits_value 10 (take count word) < 10 ^ length (take count word) = digits_value-lt 10 (take count word) all in
+    let most : 10 ^ length (take count word) ≤ 10 ^ 18 = pow-le-pow_right {n = 10} (omega arith) {i = length (take count word)} {j = 18} (omega (arith, few, length-take count word)) in
     omega (arith, is, value, most)
+
+-- digits alone
+pub digits_lack_other : (word : List ℕ) → AllDigits 10 word → Lacks is_no_digit word
+digits_lack_other word all = lacks_of_index is_no_digit word (λ k below.
+    let digit = digit_at word k all below in
+    ap not (is_digit_of (get_or word k 0) digit.0 digit.1))
+
+pub decimal_lacks_other : (n : ℕ) → n < 2 ^ 64 → Lacks is_no_digit (decimal n)
+decimal_lacks_other n small = digits_lack_other (decimal n) (digits_decimal numerals n small)
+
+-- the number that the digits at the front of a text spell
+pub spelled_in_front : (text word rest : List ℕ) (n : ℕ) → CutsAt is_no_digit text word rest → word ≡ decimal n → CutsAt is_no_digit text (decimal n) rest
+spelled_in_front text word rest n cut e = subst (λ w. CutsAt is_no_digit text w rest) e cut
+
+-- no number stands at the front of a text whose digits there spell none
+pub none_in_front : (text word rest : List ℕ) → CutsAt is_no_digit text word rest → ((n : ℕ) → n < 2 ^ 64 → word ≡ decimal n → ⊥) → (n : ℕ) (other : List ℕ) → n < 2 ^ 64 → BeginsWith is_no_digit other → text ≡ decimal n ++ other → ⊥
+none_in_front text word rest cut none n other small begins is =
+    none n small (one_cut is_no_digit word (decimal n) rest other cut.lacks (decimal_lacks_other n small) cut.begins begins (sym cut.is ∙ is)).0
 
 pub take_all : (k : ℕ) (xs : List ℕ) → length xs ≤ k → take k xs ≡ xs
 take_all k xs whole = grind (arith, common_steps)
@@ -108,20 +125,14 @@ decimal_lacks_space n small k d below =
     let same : get_or (decimal n) k d ≡ get_or (decimal n) k 0 = grind (arith, common_steps) in
     ne_eqb (get_or (decimal n) k d) 32 (λ e. omega arith)
 
-begins_with_front : (p : ℕ → Bool) (xs rest : List ℕ) → 0 < length xs → p (get_or xs 0 0) ≡ true → BeginsWith p (xs ++ rest)
+pub begins_with_front : (p : ℕ → Bool) (xs rest : List ℕ) → 0 < length xs → p (get_or xs 0 0) ≡ true → BeginsWith p (xs ++ rest)
 begins_with_front p [] rest some passes = absurd (omega arith)
 begins_with_front p (x ∷ xs) rest some passes = passes
 
-begins_with_decimal : (n : ℕ) → IsU64 n → (rest : List ℕ) → BeginsWith is_ascii_digit (decimal n ++ rest)
-begins_with_decimal n small rest =
-    let some = decimal_nonempty n small in
-    let digit = digit_at (decimal n) 0 (digits_decimal numerals n small) some in
-    begins_with_front is_ascii_digit (decimal n) rest some (grind (arith, nat_tests))
-
-pub begins_with_digit : (ns : List ℕ) → AllByRecursion IsU64 ns → BeginsWith is_ascii_digit (numbers_text ns)
-begins_with_digit [] all = tt
-begins_with_digit (n ∷ []) all = subst (BeginsWith is_ascii_digit) (append_nil (decimal n)) (begins_with_decimal n all.0 [])
-begins_with_digit (n ∷ m ∷ ns) all = begins_with_decimal n all.0 (32 ∷ numbers_text (m ∷ ns))
+pub first_is_digit : (n : ℕ) → IsU64 n → is_ascii_digit (get_or (decimal n) 0 0) ≡ true
+first_is_digit n small =
+    let digit = digit_at (decimal n) 0 (digits_decimal numerals n small) (decimal_nonempty n small) in
+    is_digit_of (get_or (decimal n) 0 0) digit.0 digit.1
 
 decimals_lack_space : (ns : List ℕ) → AllByRecursion IsU64 ns → AllByRecursion (λ t. All (λ b. is_space b ≡ false) t) (map decimal ns)
 decimals_lack_space [] all = tt
@@ -134,17 +145,6 @@ split_joined p c passes w (v ∷ ws) all =
 
 split_numbers : (n : ℕ) (ns : List ℕ) → AllByRecursion IsU64 (n ∷ ns) → slice_split is_space (numbers_text (n ∷ ns)) ≡ map decimal (n ∷ ns)
 split_numbers n ns all = split_joined is_space 32 refl (decimal n) (map decimal ns) (decimals_lack_space (n ∷ ns) all)
-
--- a text whose words are the numbers' spellings is their text
-pub row_is_text : (text : List ℕ) (ns : List ℕ) → slice_split is_space text ≡ map decimal ns → text ≡ numbers_text ns
-row_is_text text ns e = sym (join_with_byte-slice_split 32 text) ∙ ap (join_with_byte 32) e
-
--- a text with a word that spells no number spells no numbers
-pub row_is_none : (text word : List ℕ) (ns : List ℕ) (rest : List (List ℕ)) → 0 < length text → slice_split is_space text ≡ map decimal ns ++ (word ∷ rest) → ((n : ℕ) → IsU64 n → word ≡ decimal n → ⊥) → ReadsNumbers text None
-row_is_none text word ns rest some e none [] all is = absurd (omega (arith, ap length is))
-row_is_none text word ns rest some e none (m ∷ ms) all is =
-    let found = one_of_row decimal IsU64 (m ∷ ms) ns word rest all (sym (split_numbers m ms all) ∙ ap (slice_split is_space) (sym is) ∙ e) in
-    none found.0 found.1 found.2
 
 decimals_same : (ns ms : List ℕ) → AllByRecursion IsU64 ns → AllByRecursion IsU64 ms → map decimal ns ≡ map decimal ms → ns ≡ ms
 decimals_same [] [] alln allm e = refl

@@ -20,8 +20,10 @@ use Rattle.fare_lines.proofs.Cuts.{Lacks, append_nil, index_of_lacks, lacks_of_i
 use Rattle.fare_lines.proofs.Rows.{all_push, map_push, one_of_row}
 use Rattle.fare_lines.proofs.Numbers.{IsU64, decimal_lacks}
 use Rattle.fare_lines.proofs.Keywords.{keyword_lacks, keyword_some}
-use Rattle.fare_lines.proofs.Spelling.{kinds_are_u64, numbered_same, zone_is_no_keyword}
-use Rattle.fare_lines.proofs.Texts.{is_feed, one_line}
+use Rattle.fare_lines.specs.Reading.{is_feed}
+use Rattle.fare_lines.proofs.Feeds.{line_lacks_feed}
+use Rattle.fare_lines.proofs.Spelling.{numbered_same, zone_is_no_keyword}
+use Rattle.fare_lines.proofs.Texts.{one_line}
 
 -- ONE SPELLING
 abbrev size_of : ℕ → DemoSize
@@ -40,8 +42,8 @@ line_from (Numbered (OfScheme key.Inbox) (c ∷ [])) = Setup (scheme.Inbox c)
 line_from (Numbered (OfScheme key.Start) (d ∷ [])) = Setup (scheme.Start d)
 line_from (Numbered (OfScheme key.Seal) _) = Setup scheme.Seal
 line_from (Numbered (OfScheme key.Demo) (n ∷ b ∷ i ∷ l ∷ [])) = Setup (scheme.Demo (size_of n) b i l)
-line_from (Numbered (OfEvent on.Tap) (d ∷ p ∷ t ∷ m ∷ [])) = Step (event.Tap d p t m None)
-line_from (Numbered (OfEvent on.Tap) (d ∷ p ∷ t ∷ m ∷ r ∷ [])) = Step (event.Tap d p t m (Some r))
+line_from (Numbered (OfEvent on.Tap) (d ∷ p ∷ t ∷ m ∷ [])) = Step (event.Tap d p None t m)
+line_from (Numbered (OfEvent on.Tap) (d ∷ p ∷ t ∷ m ∷ r ∷ [])) = Step (event.Tap d p (Some r) t m)
 line_from (Numbered (OfEvent on.Turn) (d ∷ [])) = Step (event.Turn d)
 line_from (Numbered (OfEvent on.Send) (d ∷ [])) = Step (event.Send d)
 line_from (Numbered (OfEvent on.Rewind) (d ∷ [])) = Step (event.Rewind d)
@@ -83,8 +85,8 @@ line_again (Setup (scheme.Start d)) = refl
 line_again (Setup scheme.Seal) = refl
 line_again (Setup (scheme.Demo OneDevice b i l)) = refl
 line_again (Setup (scheme.Demo TwoDevices b i l)) = refl
-line_again (Step (event.Tap d p t m None)) = refl
-line_again (Step (event.Tap d p t m (Some r))) = refl
+line_again (Step (event.Tap d p None t m)) = refl
+line_again (Step (event.Tap d p (Some r) t m)) = refl
 line_again (Step (event.Turn d)) = refl
 line_again (Step (event.Send d)) = refl
 line_again (Step (event.Rewind d)) = refl
@@ -137,31 +139,6 @@ pub never_both : (ls : List Line) (text : List ℕ) (number : ℕ) → Spells ls
 never_both ls text number spells bad =
     let found = one_of_row line_text Fits ls bad.before bad.bad bad.after spells.fits (sym spells.is ∙ bad.is) in
     bad.none found.0 found.1 found.2
-
--- NO LINE HAS A LINE FEED IN IT
-lacks_append : (p : ℕ → Bool) (xs ys : List ℕ) → Lacks p xs → Lacks p ys → Lacks p (xs ++ ys)
-lacks_append p [] ys a b = b
-lacks_append p (x ∷ xs) ys a b = (a.0, lacks_append p xs ys a.1 b)
-
-numbers_lack_feed : (ns : List ℕ) → AllByRecursion IsU64 ns → Lacks is_feed (numbers_text ns)
-numbers_lack_feed [] all = tt
-numbers_lack_feed (n ∷ []) all = decimal_lacks 10 (omega arith) n all.0
-numbers_lack_feed (n ∷ m ∷ ns) all =
-    lacks_append is_feed (decimal n) (32 ∷ numbers_text (m ∷ ns)) (decimal_lacks 10 (omega arith) n all.0) (refl, numbers_lack_feed (m ∷ ns) all.1)
-
-word_lacks_feed : (rule : List ℕ) → IsZoneText rule → Lacks is_feed rule
-word_lacks_feed rule word = lacks_of_index is_feed rule (λ k below.
-    let byte = word.printable k 0 below in
-    ne_eqb (get_or rule k 0) 10 (λ e. omega arith))
-
-parts_lack_feed : (p : Parts) → PartsFit p → Lacks is_feed (parts_text p)
-parts_lack_feed (Numbered k ns) fits =
-    lacks_append is_feed (keyword_text k) (numbers_text ns)
-    (keyword_lacks is_feed refl k) (numbers_lack_feed ns (kinds_are_u64 (keyword_kinds k) ns fits))
-parts_lack_feed (Worded rule) fits = lacks_append is_feed (codes "zone ") rule (refl, (refl, (refl, (refl, (refl, tt))))) (word_lacks_feed rule fits)
-
-line_lacks_feed : (l : Line) → Fits l → Lacks is_feed (line_text l)
-line_lacks_feed l fits = parts_lack_feed (line_parts l) fits
 
 -- WHAT IS PRINTED IS READ BACK
 split_printed : (ls : List Line) (end : List ℕ) → AllByRecursion Fits ls → Lacks is_feed end → slice_split is_feed (printed ls ++ end) ≡ map line_text ls ++ (end ∷ [])

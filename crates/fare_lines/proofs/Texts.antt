@@ -4,11 +4,8 @@ use Rattle.std.specs.List.{slice_split, onto_first}
 use Rattle.std.proofs.lemmas.Bool.{ne_eqb}
 use Rattle.std.proofs.lemmas.Grind.{common_steps}
 use Rattle.fare_lines.specs.Lines.{lines_of, without_empty_last}
-use Rattle.fare_lines.specs.Reading.{CutsAt}
-use Rattle.fare_lines.proofs.Cuts.{split_next, split_last}
-
-abbrev pub is_feed : ℕ → Bool
-is_feed b = b == 10
+use Rattle.fare_lines.specs.Reading.{CutsAt, behind_feed, is_feed}
+use Rattle.fare_lines.proofs.Cuts.{after_first, split_next, split_last}
 
 -- a split has a first part
 split_some : (p : ℕ → Bool) (text : List ℕ) → (first : List ℕ) × (rest : List (List ℕ)) × (slice_split p text ≡ first ∷ rest)
@@ -46,3 +43,12 @@ rest_is_shorter text front (b ∷ bs) cut some =
 pub no_lines : (text : List ℕ) → length text < 1 → lines_of text ≡ []
 no_lines [] none = refl
 no_lines (b ∷ bs) none = absurd (omega arith)
+
+-- the first line, and those of what stands behind its line feed
+pub first_of_lines : (text line rest : List ℕ) → CutsAt is_feed text line rest → 0 < length text → (lines_of text ≡ line ∷ lines_of (behind_feed rest)) × (length (behind_feed rest) + 1 ≤ length text)
+first_of_lines text line [] cut some = (lines_last text line [] cut (omega arith) some, omega (arith, some))
+first_of_lines text line (b ∷ bs) cut some =
+    let same = after_first b bs in (
+      lines_next text line (b ∷ bs) cut (omega arith) ∙ ap (λ t. line ∷ lines_of t) same,
+      omega (arith, rest_is_shorter text line (b ∷ bs) cut (omega arith), ap length same),
+    )

@@ -4,8 +4,9 @@ ghost use Rattle.fare_lines.specs.declared.keyword.Keyword.TheVariants.{OfScheme
 ghost use Rattle.fare_lines.specs.declared.keyword.SchemeKeyword.TheVariants.{Demo};
 ghost use Rattle.fare_lines.specs.declared.line.Line.TheVariants.{Setup, Step};
 ghost use Rattle.fare_lines.specs.Grammar.{ADevice, AreOf, event_keyword_kinds, scheme_keyword_kinds, size_number};
-ghost use Rattle.fare_lines.specs.Reading.{Builds, IsBuilt, ReadsLine, ReadsNumbered};
+ghost use Rattle.fare_lines.specs.Reading.{BeginsWithLine, Builds, IsBuilt, OfFirstLine, SpellsNoLine, SpellsNoNumbered};
 
+use crate::cut::cut_at;
 use crate::keyword::{EventKeyword, Keyword, SchemeKeyword};
 use crate::line::{Line, SchemeLine};
 use crate::number::read_numbers;
@@ -256,18 +257,24 @@ fn build(keyword: Keyword, numbers: &[u64]) -> Option<Line>
     }
 }
 
-/// The line that a text spells by a keyword and numbers.
-fn read_numbered(text: &[u8], numbers: &mut Vec<u64>) -> Result<Option<Line>, AllocError>
-    ensures { IfOk result (λ found. ReadsNumbered text.now found) }
+/// The line that the first line of a text spells by a keyword and numbers, and what stands from its line feed on.
+fn read_numbered<'a>(
+    text: &'a [u8],
+    numbers: &mut Vec<u64>,
+) -> Result<Option<(Line, &'a [u8])>, AllocError>
+    ensures found { IfOk result (λ found. IfSome found (λ read. BeginsWithLine text.now read.0 read.1.now)) }
+    ensures none { IfOk result (λ found. IfNone found (OfFirstLine SpellsNoNumbered text.now)) }
 {
-    let Some((keyword, rest)) = Keyword::cut(text) else {
+    let Some((keyword, behind)) = Keyword::cut(text) else {
         return Ok(None);
     };
-    let found = read_numbers(rest, numbers)?;
-    if !found {
+    let Some(rest) = read_numbers(behind, numbers)? else {
         return Ok(None);
+    };
+    match build(keyword, numbers) {
+        Some(line) => Ok(Some((line, rest))),
+        None => Ok(None),
     }
-    Ok(build(keyword, numbers))
 }
 
 /// What stands behind `zone` and a space.
@@ -281,19 +288,31 @@ fn after_zone(text: &[u8]) -> Option<&[u8]>
     }
 }
 
-/// The line that a text without a line feed spells. What `numbers` holds is lost.
-pub fn read_line(
-    alloc: Global,
-    text: &[u8],
-    numbers: &mut Vec<u64>,
-) -> Result<Option<Line>, AllocError>
-    ensures { IfOk result (λ found. ReadsLine text.now found) }
+/// The line of a zone that the first line of a text spells, where this stands behind `zone` and a space, and what stands
+/// from its line feed on.
+fn read_zone<'a>(alloc: Global, text: &'a [u8]) -> Result<Option<(Line, &'a [u8])>, AllocError>
+    ensures found { IfOk result (λ found. IfSome found (λ read. BeginsWithLine (codes "zone " ++ text.now) read.0 read.1.now)) }
+    ensures none { IfOk result (λ found. IfNone found (OfFirstLine SpellsNoLine (codes "zone " ++ text.now))) }
 {
-    let Some(rest) = after_zone(text) else {
-        return read_numbered(text, numbers);
-    };
-    let Some(rule) = ZoneText::read(alloc, rest)? else {
+    let (word, rest) = cut_at(text, b'\n');
+    let Some(rule) = ZoneText::read(alloc, word)? else {
         return Ok(None);
     };
-    Ok(Some(Line::Setup(SchemeLine::Zone { rule })))
+    Ok(Some((Line::Setup(SchemeLine::Zone { rule }), rest)))
+}
+
+/// The line that the first line of a text spells, and what stands from its line feed on; None where it spells no line.
+/// What `numbers` holds is lost.
+pub fn read_line<'a>(
+    alloc: Global,
+    text: &'a [u8],
+    numbers: &mut Vec<u64>,
+) -> Result<Option<(Line, &'a [u8])>, AllocError>
+    ensures found { IfOk result (λ found. IfSome found (λ read. BeginsWithLine text.now read.0 read.1.now)) }
+    ensures none { IfOk result (λ found. IfNone found (OfFirstLine SpellsNoLine text.now)) }
+{
+    match after_zone(text) {
+        Some(behind) => read_zone(alloc, behind),
+        None => read_numbered(text, numbers),
+    }
 }

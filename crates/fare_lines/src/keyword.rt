@@ -1,7 +1,6 @@
 ghost use Rattle.std.specs.Prelude.{◌≡◌, ◌<◌, ◌++◌, ℕ, List, IfSome, IfNone, length, slice_index, slice_index_or};
 ghost use Rattle.fare_lines.specs.Grammar.{event_keyword_text, keyword_text, scheme_keyword_text};
-ghost use Rattle.fare_lines.specs.Reading.{BeginsWith, CutsAt, HasKeyword, any_keyword};
-ghost use Rattle.std.specs.Char.{is_ascii_digit};
+ghost use Rattle.fare_lines.specs.Reading.{BeginsWith, CutsAt, HasKeyword, any_keyword, may_follow};
 
 /// What a scheme line begins with, but for that of a zone.
 #[derive(Clone, Copy, PartialEq, Eq, Debug)]
@@ -190,6 +189,13 @@ const OF_TU: [Keyword; 1] = [Keyword::OfEvent(EventKeyword::Turn)];
 
 const OF_UP: [Keyword; 1] = [Keyword::OfEvent(EventKeyword::Upto)];
 
+/// Whether this byte may stand behind a keyword and the space that parts it from numbers: a digit or a line feed.
+fn is_follower(byte: u8) -> bool
+    ensures { result ≡ may_follow byte }
+{
+    byte == b'\n' || byte.is_ascii_digit()
+}
+
 impl Keyword {
     // All keywords whose text begins with these two letters.
     fn of_letters(first: u8, second: u8) -> &'static [Keyword]
@@ -233,11 +239,11 @@ impl Keyword {
         }
     }
 
-    /// The keyword at the front of a text that nothing or a digit follows, and the text behind it; None where there
-    /// is no such keyword.
+    /// The keyword at the front of a text that nothing, a digit or a line feed follows, and the text behind it; None
+    /// where there is no such keyword.
     pub fn cut(text: &[u8]) -> Option<(Keyword, &[u8])>
-        ensures found { IfSome result (λ cut. CutsAt is_ascii_digit text.now (keyword_text cut.0) cut.1.now) }
-        ensures none { IfNone result ((k : Keyword) (rest : List ℕ) → BeginsWith is_ascii_digit rest → text.now ≡ keyword_text k ++ rest → ⊥) }
+        ensures found { IfSome result (λ cut. CutsAt may_follow text.now (keyword_text cut.0) cut.1.now) }
+        ensures none { IfNone result ((k : Keyword) (rest : List ℕ) → BeginsWith may_follow rest → text.now ≡ keyword_text k ++ rest → ⊥) }
     {
         let [first, second, ..] = text else {
             return None;
@@ -245,14 +251,14 @@ impl Keyword {
         find_keyword(Keyword::of_letters(*first, *second), text)
     }
 
-    // What stands behind this keyword at the front of a text, if that is nothing or begins with a digit.
+    // What stands behind this keyword at the front of a text, if that is nothing or begins with a digit or a line feed.
     fn behind(self, text: &[u8]) -> Option<&[u8]>
-        ensures found { IfSome result (λ rest. CutsAt is_ascii_digit text.now (keyword_text self) rest.now) }
-        ensures none { IfNone result ((rest : List ℕ) → BeginsWith is_ascii_digit rest → text.now ≡ keyword_text self ++ rest → ⊥) }
+        ensures found { IfSome result (λ rest. CutsAt may_follow text.now (keyword_text self) rest.now) }
+        ensures none { IfNone result ((rest : List ℕ) → BeginsWith may_follow rest → text.now ≡ keyword_text self ++ rest → ⊥) }
     {
         let rest = text.strip_prefix(self.text())?;
         match rest.first() {
-            Some(byte) if !byte.is_ascii_digit() => None,
+            Some(byte) if !is_follower(*byte) => None,
             _ => Some(rest),
         }
     }
@@ -260,8 +266,8 @@ impl Keyword {
 
 // The first of the keywords that stands so at the front of the text, and the text behind it.
 fn find_keyword<'a>(keywords: &[Keyword], text: &'a [u8]) -> Option<(Keyword, &'a [u8])>
-    ensures found { IfSome result (λ cut. CutsAt is_ascii_digit text.now (keyword_text cut.0) cut.1.now) }
-    ensures none { IfNone result ((i : ℕ) (rest : List ℕ) → i < length keywords.now → BeginsWith is_ascii_digit rest → text.now ≡ keyword_text (slice_index_or keywords.now i any_keyword) ++ rest → ⊥) }
+    ensures found { IfSome result (λ cut. CutsAt may_follow text.now (keyword_text cut.0) cut.1.now) }
+    ensures none { IfNone result ((i : ℕ) (rest : List ℕ) → i < length keywords.now → BeginsWith may_follow rest → text.now ≡ keyword_text (slice_index_or keywords.now i any_keyword) ++ rest → ⊥) }
 {
     for keyword in keywords {
         if let Some(rest) = keyword.behind(text) {

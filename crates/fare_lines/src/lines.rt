@@ -1,26 +1,12 @@
-ghost use Rattle.std.specs.Prelude.{◌≡◌, ◌+◌, ◌<◌, ◌≤◌, ◌∷◌, IfOk, IfErr, length};
-ghost use Rattle.fare_lines.specs.Lines.{lines_of};
+ghost use Rattle.std.specs.Prelude.{◌≡◌, IfOk, IfErr};
 ghost use Rattle.fare_lines.specs.Unread.{IsNext, StopsIn, whole};
 
 use crate::build::read_line;
-use crate::cut::cut_at;
+use crate::cut::behind;
 use crate::line::Line;
 use crate::text::ParseFault;
 use std::alloc::Global;
 use std::marker::Model;
-
-/// The first line of a text, and what stands behind its line feed.
-fn first_line(text: &[u8]) -> (&[u8], &[u8])
-    requires { 0 < length text.now }
-    ensures lines { lines_of text.now ≡ result.0.now ∷ lines_of result.1.now }
-    ensures shorter { length result.1.now + 1 ≤ length text.now }
-{
-    let (line, after) = cut_at(text, b'\n');
-    match after {
-        [] => (line, after),
-        [_, next @ ..] => (line, next),
-    }
-}
 
 /// The lines of a text, read one after the other.
 #[derive(Drop)]
@@ -65,11 +51,10 @@ impl<'a> Lines<'a> {
         if self.rest.is_empty() {
             return Ok(None);
         }
-        let (text, rest) = first_line(self.rest);
-        let Some(line) = read_line(alloc, text, &mut self.numbers)? else {
+        let Some((line, rest)) = read_line(alloc, self.rest, &mut self.numbers)? else {
             return Err(ParseFault::BadLine { line: self.number });
         };
-        self.rest = rest;
+        self.rest = behind(rest);
         self.number += 1;
         Ok(Some(line))
     }

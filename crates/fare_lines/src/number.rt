@@ -1,28 +1,33 @@
-ghost use Rattle.std.specs.Prelude.{◌≡◌, ◌≤◌, ◌<◌, ◌^◌, ℕ, IfSome, IfNone, IfOk, Some, None, cond, length};
+ghost use Rattle.std.specs.Prelude.{◌≡◌, ◌≢◌, ◌≤◌, ◌<◌, ◌^◌, ◌++◌, ℕ, List, IfSome, IfNone, IfOk, length, take, drop};
 ghost use Rattle.std.specs.Fmt.{decimal};
 ghost use Rattle.std.specs.Str.Parse.{AllDigits, digits_value};
-ghost use Rattle.fare_lines.specs.Reading.{ReadsNumbers};
+ghost use Rattle.fare_lines.specs.Reading.{BeginsWith, BeginsWithNumbers, CutsAt, OfFirstLine, SpellsNoNumbers, is_feed, is_no_digit};
 
-use crate::cut::cut_at;
+use crate::cut::{behind_space, cut_at_no_digit, ends_line};
 use std::alloc::AllocError;
 
 // So many digits always spell a number below 2^64.
 const SURE_DIGITS: usize = 19;
 
-/// The number that at most so many digits spell, also with leading zeros.
-fn read_short(word: &[u8]) -> Option<u64>
-    requires { length word.now ≤ 19 }
-    ensures found { IfSome result (λ n. AllDigits 10 word.now × (n ≡ digits_value 10 word.now)) }
-    ensures none { IfNone result (AllDigits 10 word.now → ⊥) }
+/// The number that the digits at the front of a text spell, also with leading zeros, and how many they are; of more
+/// than 19 that of the first 19.
+fn read_few(text: &[u8]) -> (u64, usize)
+    ensures within { result.1 ≤ length text.now }
+    ensures digits { AllDigits 10 (take result.1 text.now) }
+    ensures value { result.0 ≡ digits_value 10 (take result.1 text.now) }
+    ensures few { result.1 ≤ 19 }
+    ensures ends { result.1 ≢ 19 → BeginsWith is_no_digit (drop result.1 text.now) }
 {
     let mut number: u64 = 0;
-    for byte in word {
-        if !byte.is_ascii_digit() {
-            return None;
+    let mut count: usize = 0;
+    for byte in text {
+        if !byte.is_ascii_digit() || count == SURE_DIGITS {
+            return (number, count);
         }
         number = number * 10 + u64::from(*byte - b'0');
+        count += 1;
     }
-    Some(number)
+    (number, count)
 }
 
 /// The number below 2^64 that any digits spell, also with leading zeros.
@@ -42,21 +47,9 @@ fn read_long(word: &[u8]) -> Option<u64>
     Some(number)
 }
 
-/// The number below 2^64 that digits spell, also with leading zeros. Few are many enough to be too large.
-fn read_digits(word: &[u8]) -> Option<u64>
-    ensures found { IfSome result (λ n. AllDigits 10 word.now × (n ≡ digits_value 10 word.now) × (n < 2 ^ 64)) }
-    ensures none { IfNone result (AllDigits 10 word.now → digits_value 10 word.now < 2 ^ 64 → ⊥) }
-{
-    if word.len() <= SURE_DIGITS {
-        read_short(word)
-    } else {
-        read_long(word)
-    }
-}
-
 /// The number below 2^64 that a word spells: decimal digits, and no leading zero but in 0 itself.
-pub fn read_number(word: &[u8]) -> Option<u64>
-    ensures found { IfSome result (λ n. word.now ≡ decimal n) }
+fn read_number(word: &[u8]) -> Option<u64>
+    ensures found { IfSome result (λ n. (n < 2 ^ 64) × (word.now ≡ decimal n)) }
     ensures none { IfNone result ((n : ℕ) → n < 2 ^ 64 → word.now ≡ decimal n → ⊥) }
 {
     if word.is_empty() {
@@ -65,28 +58,63 @@ pub fn read_number(word: &[u8]) -> Option<u64>
     if word[0] == b'0' && word.len() > 1 {
         return None;
     }
-    read_digits(word)
+    read_long(word)
 }
 
-/// Whether a text spells numbers below 2^64, with one space between each two; they are then in `numbers`, in
-/// place of what it held. An empty text spells none.
-pub fn read_numbers(text: &[u8], numbers: &mut Vec<u64>) -> Result<bool, AllocError>
-    ensures { IfOk result (λ found. ReadsNumbers text.now (cond found (Some numbers.new.items) None)) }
+/// The number below 2^64 that the digits at the front of a text spell, however many they are, and what stands behind
+/// them.
+fn cut_long(text: &[u8]) -> Option<(u64, &[u8])>
+    ensures found { IfSome result (λ cut. (cut.0 < 2 ^ 64) × CutsAt is_no_digit text.now (decimal cut.0) cut.1.now) }
+    ensures none { IfNone result ((n : ℕ) (rest : List ℕ) → n < 2 ^ 64 → BeginsWith is_no_digit rest → text.now ≡ decimal n ++ rest → ⊥) }
+{
+    let (word, rest) = cut_at_no_digit(text);
+    match read_number(word) {
+        Some(number) => Some((number, rest)),
+        None => None,
+    }
+}
+
+/// The same, of few digits without a second look at them.
+fn cut_number(text: &[u8]) -> Option<(u64, &[u8])>
+    ensures found { IfSome result (λ cut. (cut.0 < 2 ^ 64) × CutsAt is_no_digit text.now (decimal cut.0) cut.1.now) }
+    ensures none { IfNone result ((n : ℕ) (rest : List ℕ) → n < 2 ^ 64 → BeginsWith is_no_digit rest → text.now ≡ decimal n ++ rest → ⊥) }
+{
+    let (number, count) = read_few(text);
+    match count {
+        0 => None,
+        1 => Some((number, &text[1..])),
+        SURE_DIGITS => cut_long(text),
+        _ if text[0] == b'0' => None,
+        _ => Some((number, &text[count..])),
+    }
+}
+
+/// Reads the numbers below 2^64 that the first line of a text spells, with one space between each two, and answers what
+/// stands from its line feed on; None where it spells no such. They are then in `numbers`, in place of what it held. An
+/// empty line spells none.
+pub fn read_numbers<'a>(
+    text: &'a [u8],
+    numbers: &mut Vec<u64>,
+) -> Result<Option<&'a [u8]>, AllocError>
+    ensures found { IfOk result (λ found. IfSome found (λ rest. BeginsWithNumbers text.now numbers.new.items rest.now)) }
+    ensures none { IfOk result (λ found. IfNone found (OfFirstLine SpellsNoNumbers text.now)) }
 {
     numbers.clear();
-    if text.is_empty() {
-        return Ok(true);
+    if ends_line(text) {
+        return Ok(Some(text));
     }
     let mut rest = text;
     loop {
-        let (word, after) = cut_at(rest, b' ');
-        match read_number(word) {
-            Some(number) => numbers.push(number)?,
-            None => return Ok(false),
+        let Some((number, after)) = cut_number(rest) else {
+            return Ok(None);
+        };
+        numbers.push(number)?;
+        if ends_line(after) {
+            return Ok(Some(after));
         }
-        match after {
-            [] => return Ok(true),
-            [_, next @ ..] => rest = next,
+        match behind_space(after) {
+            Some(next) => rest = next,
+            None => return Ok(None),
         }
     }
 }

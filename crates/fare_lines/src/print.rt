@@ -108,8 +108,8 @@ fn put_sum(sum: u128, out: &mut Vec<u8>) -> Result<(), AllocError>
     out.extend_from_slice(buffer.format(sum).as_bytes())
 }
 
-/// Appends a line of a number, how many taps it has, and the sum of what they are charged. After an error some of it may
-/// stand there.
+/// Appends a line of a number, how many taps it has, and the sum of what they are charged. After an error some of it
+/// may stand there.
 pub(crate) fn put_share_line<const N: usize>(
     name: &[u8; N],
     number: u16,

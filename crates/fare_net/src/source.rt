@@ -216,10 +216,10 @@ impl<R: Read + Drop, W: Write + Drop> NetSource<R, W> {
 
     /// The station of the device that greets, by the first frame.
     ///
-    /// `NoHello` where that is no greeting, or the reader is at its end before it; `BadVersion` where the greeting is of
-    /// a version other than 1 and 2; `UnknownDevice` where the scheme hasn't its device; `Failed` where the reader failed, a
-    /// fault stands in place of the frame, or no read is left, and in each call after an error. From an error on the
-    /// source is refused: `next` and `answer` answer `Failed`.
+    /// `NoHello` where that is no greeting, or the reader is at its end before it; `BadVersion` where the greeting is
+    /// of a version other than 1 and 2; `UnknownDevice` where the scheme hasn't its device; `Failed` where the reader
+    /// failed, a fault stands in place of the frame, or no read is left, and in each call after an error. From an error
+    /// on the source is refused: `next` and `answer` answer `Failed`.
     pub fn hello(&mut self, scheme: &Scheme) -> Result<StationId, HelloFault>
         ensures advances { HasGreeted self.old self.new }
         ensures station { IfOk result (Greets scheme.now self.old self.new) }

@@ -41,8 +41,8 @@ fn counts<S: Alter>(conn: &mut Connection<S>, layout: &Layout) -> Result<(u64, u
     Ok((rows, statements))
 }
 
-// Makes the tables where nothing has their names, raises an outbox of the first format, and counts the rows of an outbox;
-// none if it is none of these.
+// Makes the tables where nothing has their names, raises an outbox of the first format, and counts the rows of an
+// outbox; none if it is none of these.
 fn settle<S: Alter>(
     alloc: Global,
     conn: &mut Connection<S>,
@@ -81,8 +81,8 @@ impl<S: Alter> SqlOutbox<S> {
     /// one in which nothing has a name of the outbox's tables after it made them there, past the others, whose rows
     /// stay. An outbox of the first format, whose taps have no route, gets the table of those that have, with its taps,
     /// each of route 0, and the newest format, in one transaction. Where it can't, the connection comes back, with its
-    /// rows as before, but for an outbox of the first format that was raised and whose rows couldn't be counted then: it
-    /// stays raised. A connection that is inside a transaction answers Store.
+    /// rows as before, but for an outbox of the first format that was raised and whose rows couldn't be counted then:
+    /// it stays raised. A connection that is inside a transaction answers Store.
     pub fn open(
         alloc: Global,
         conn: Connection<S>,

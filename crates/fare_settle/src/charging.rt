@@ -60,8 +60,8 @@ fn charges_in_order(
 }
 
 /// The charge of each tap of the day, by moment, device and lane number; those that tie keep the places that they
-/// have in the list. A tap that is free is charged 0. One of an unknown product or device, or of a day before the scheme's first one, is charged
-/// nowhere. The one error is want of memory.
+/// have in the list. A tap that is free is charged 0. One of an unknown product or device, or of a day before the scheme's
+/// first one, is charged nowhere. The one error is want of memory.
 pub fn charges(
     alloc: Global,
     scheme: &Scheme,

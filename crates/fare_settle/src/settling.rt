@@ -42,8 +42,8 @@ fn share(alloc: Global, charges: &[Charge], operator: OperatorId) -> Result<Sett
 }
 
 /// What each operator gets for the day by these records, in order of registration: how many taps its devices took,
-/// and the sum of their charges, in pence, and the same of each route. A tap of an unknown product or device, or of a day before the scheme's
-/// first one, counts nowhere. The one error is want of memory.
+/// and the sum of their charges, in pence, and the same of each route. A tap of an unknown product or device, or of a day
+/// before the scheme's first one, counts nowhere. The one error is want of memory.
 pub fn settle(
     alloc: Global,
     scheme: &Scheme,

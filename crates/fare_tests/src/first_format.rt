@@ -12,9 +12,9 @@ use sqlite_disk::{Disk, Memory};
 use sqlite_trees::store::Reopen;
 use std::alloc::Global;
 
-// The bytes of the file that are not 0, with where they stand. It is what the program left that served the validators of
-// three devices: of device 1 two taps of day 19723 and their statement, of device 2 one tap, of device 3 three taps and
-// their statement.
+// The bytes of the file that are not 0, with where they stand. It is what the program left that served the validators
+// of three devices: of device 1 two taps of day 19723 and their statement, of device 2 one tap, of device 3 three taps
+// and their statement.
 const RUNS: [(usize, &[u8]); 64] = [
     (
         0,

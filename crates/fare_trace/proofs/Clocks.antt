@@ -44,7 +44,7 @@ same_tap sc clock s device product token moment route same =
     ap (λ day. if knows_device sc device then tap_on sc s device product token moment route day else (s, Refused UnknownDevice)) (sym (same moment))
 
 same_step : (sc : SchemeValue) (clock : Zone) (s : System) (e : Event) → SameDays sc.zone clock → step (on_clock sc clock) s e ≡ step sc s e
-same_step sc clock s (event.Tap device product token moment route) same = same_tap sc clock s device product token moment (unwrap_or route 0) same
+same_step sc clock s (event.Tap device product route token moment) same = same_tap sc clock s device product token moment (unwrap_or route 0) same
 same_step sc clock s (event.Turn device) same = refl
 same_step sc clock s (event.Send device) same = refl
 same_step sc clock s (event.Rewind device) same = refl

@@ -58,7 +58,7 @@ has_station sc d knows none =
 
 -- a tap of the open day that gets the device's next numbers
 numbers : (sc : SchemeValue) (s : System) (d o p t m day : ℕ) (route : Option ℕ) → IsSystem sc s → knows_device sc d ≡ true → owner_of sc p ≡ Some o → day_of sc m ≡ Some day → day ≡ (s.devices d).day → length (s.devices d).taps < 1099511627775
-    → Moves sc s (event.Tap d p t m route) (with_tap s d (next_record s d o (record { product = p; token = t; moment = m; day = day; route = unwrap_or route 0 })), Recorded (length (s.devices d).taps + 1) (length (numbered_for s o d) + 1))
+    → Moves sc s (event.Tap d p route t m) (with_tap s d (next_record s d o (record { product = p; token = t; moment = m; day = day; route = unwrap_or route 0 })), Recorded (length (s.devices d).taps + 1) (length (numbered_for s o d) + 1))
 numbers sc s d o p t m day route h knows owned dated current lt = record {
   system = parts_grow sc s (put s.devices d new) s.held h
       (record {
@@ -74,7 +74,7 @@ numbers sc s d o p t m day route h knows owned dated current lt = record {
   lane = λ q. put_all (λ e a. IsLaneStep sc.start (lane_at sc s q e) (side q e a)) s.devices d new (λ e. inr (inr (inr (inr (inr refl))))) (here q);
   taps = λ e. added e ∙ sym (ap (λ x. (s.devices e).taps ++ of_device e (with_first x [])) named);
   told = λ p j. untold sc.start (s.lanes p j);
-  orderly = orderly (event.Tap d p t m route) (Recorded (length v.taps + 1) (length (numbered_for s o d) + 1)) refl;
+  orderly = orderly (event.Tap d p route t m) (Recorded (length v.taps + 1) (length (numbered_for s o d) + 1)) refl;
   days = λ kept. put_all (λ e a. (k : ℕ) → IsSome (station_of sc e) → IsTurned sc.start a.day k → (is_waiting a.waiting k ≡ true) ⊎ (are_all_held sc s.held e k ≡ true)) s.devices d new kept (kept d);
 }
   where
@@ -138,7 +138,7 @@ numbers sc s d o p t m day route h knows owned dated current lt = record {
     side : ℕ → ℕ → DeviceState → Lane
     side q e a = record { numbered = part q a.taps; taken = take (s.lanes q e).took (part q a.taps); closed = is_closed sc.start (s.lanes q e).closed; day = a.day; retired = (s.lanes q e).retired }
 
-    named : numbered_by sc (event.Tap d p t m route) (Recorded (length v.taps + 1) (length (numbered_for s o d) + 1)) ≡ Some r
+    named : numbered_by sc (event.Tap d p route t m) (Recorded (length v.taps + 1) (length (numbered_for s o d) + 1)) ≡ Some r
     named = λ i. record_of d p t m (unwrap_or route 0) (length v.taps + 1) (length (numbered_for s o d) + 1) (owned i) (dated i)
 
     added : (e : ℕ) → (put s.devices d new e).taps ≡ (s.devices e).taps ++ of_device e (r ∷ [])
@@ -152,11 +152,11 @@ numbers sc s d o p t m day route h knows owned dated current lt = record {
         (λ _ e. inr (inr (inr (inr (inr (λ i. record { numbered = e i; taken = kept i; closed = is_closed sc.start (s.lanes q d).closed; day = v.day; retired = (s.lanes q d).retired }))))))
         (part-push q v.taps r)
 
-pub moves_tap : (sc : SchemeValue) (s : System) (d p t m : ℕ) (route : Option ℕ) → IsSystem sc s → Moves sc s (event.Tap d p t m route) (tap sc s d p t m (unwrap_or route 0))
+pub moves_tap : (sc : SchemeValue) (s : System) (d p t m : ℕ) (route : Option ℕ) → IsSystem sc s → Moves sc s (event.Tap d p route t m) (tap sc s d p t m (unwrap_or route 0))
 moves_tap sc s d p t m route h = if_all (knows_device sc d) (Moves sc s e) (tap_on sc s d p t m (unwrap_or route 0) (day_of sc m)) (s, Refused UnknownDevice) (λ knows. on knows (day_of sc m) refl) (λ _. stays sc s e (Refused UnknownDevice) refl refl h)
   where
     e : Event
-    e = event.Tap d p t m route
+    e = event.Tap d p route t m
 
     of_owner : (day : ℕ) → knows_device sc d ≡ true → day_of sc m ≡ Some day → (o : Option ℕ) → owner_of sc p ≡ o → Moves sc s e (tap_for s d (room_of sc d) (record { product = p; token = t; moment = m; day = day; route = unwrap_or route 0 }) o)
     of_owner day knows dated None owned = stays sc s e (Refused UnknownProduct) refl refl h

@@ -166,7 +166,7 @@ shown_tap sc h s d k p t m u day x new r w at dated here long did =
         ∙ (λ i. (with_tap s d (sym same i), Recorded (sym link i) (sym lane i)))
 
     system : IsSystem sc (record s { devices = g })
-    system = subst (λ (y : System × Reply). IsSystem sc y.0) goes (moves_step sc s (event.Tap d p t m (Some u)) w.system).system
+    system = subst (λ (y : System × Reply). IsSystem sc y.0) goes (moves_step sc s (event.Tap d p (Some u) t m) w.system).system
 
 -- SEND
 send_known : (sc : SchemeValue) (s : System) (d k : ℕ) → position_of_device sc d ≡ Some k → send sc s d ≡ send_next s d

@@ -22,7 +22,7 @@ record_of device product token moment route link lane (Some owner) (Some day) =
 record_of device product token moment route link lane owner day = None
 
 abbrev pub numbered_by : SchemeValue → Event → Reply → Option RecordValue
-numbered_by sc (event.Tap device product token moment route) (Recorded link lane) =
+numbered_by sc (event.Tap device product route token moment) (Recorded link lane) =
     record_of device product token moment (unwrap_or route 0) link lane (owner_of sc product) (day_of sc moment)
 numbered_by sc e r = None
 

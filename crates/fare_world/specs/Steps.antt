@@ -28,7 +28,7 @@ count sc s owner device =
 
 -- what an event changes, and its reply
 abbrev pub step : SchemeValue → System → Event → System × Reply
-step sc s (event.Tap device product token moment route) = tap sc s device product token moment (unwrap_or route 0)
+step sc s (event.Tap device product route token moment) = tap sc s device product token moment (unwrap_or route 0)
 step sc s (event.Turn device) = turn sc s device
 step sc s (event.Send device) = send sc s device
 step sc s (event.Rewind device) = rewind sc s device
@@ -77,7 +77,7 @@ may_bill sc owner day = knows_owner sc owner && nat_le sc.start day
 
 -- the event makes something grow, or it asks a store: a packet joins the air, a frame is read, the outbox or a ledger is called; only then may it fail
 abbrev pub may_fail : SchemeValue → System → Event → Bool
-may_fail sc s (event.Tap device product token moment route) = false
+may_fail sc s (event.Tap device product route token moment) = false
 may_fail sc s (event.Turn device) = false
 may_fail sc s (event.Send device) = knows_device sc device && nat_lt (s.devices device).cursor (length (s.devices device).taps)
 may_fail sc s (event.Rewind device) = false

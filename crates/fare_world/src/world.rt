@@ -135,8 +135,8 @@ impl<O: Outbox + Drop, L: Ledger + Drop> World<O, L> {
     /// replies tell; each tap so numbered is in the ledger, in the outbox behind what the ledger has, or in
     /// the device behind what the outbox has had, so none is lost; after an owner's reply that a device's day is
     /// closed, no reply says that a tap of that day was taken; each bill and settlement that a reply tells is of
-    /// exactly the taps of its week that the devices numbered for the owner; and no reply tells of a stranger, of another
-    /// owner's item, of a conflict, of more taps than stated, or of a tap that is not the next to be taken.
+    /// exactly the taps of its week that the devices numbered for the owner; and no reply tells of a stranger, of
+    /// another owner's item, of a conflict, of more taps than stated, or of a tap that is not the next to be taken.
     pub fn run(mut self, events: &[Event]) -> Result<(World<O, L>, Vec<Reply>), Stopped<O, L>>
         ensures ran { IfOk result (λ r. HasRun O.standing L.standing self r.0 events.now r.1.items) }
         ensures whole { IfOk result (λ r. length r.1.items ≡ length events.now) }

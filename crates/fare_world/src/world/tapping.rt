@@ -19,7 +19,7 @@ impl<O: Outbox + Drop, L: Ledger + Drop> World<O, L> {
         moment: Moment,
         route: Option<u16>,
     ) -> Reply
-        ensures { IsStepped O.standing L.standing self.old self.new (event.Tap device product token moment route) result }
+        ensures { IsStepped O.standing L.standing self.old self.new (event.Tap device product route token moment) result }
     {
         let Some(place) = self.scheme.device_position(device) else {
             return Reply::Refused(Refusal::UnknownDevice);

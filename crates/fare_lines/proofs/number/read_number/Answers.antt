@@ -12,11 +12,11 @@ returns-then-word-gt1-clause-none c = padded_is_none c.args.word.now c.if-word-e
 pub returns-clause-found : goal.returns-clause-found
 returns-clause-found c =
     let some : 0 < length c.args.word.now = search rules in
-    digits_are_spelled c.args.word.now c.read_digits.result c.read_digits.ensures.found some
+    digits_are_spelled c.args.word.now c.read_long.result c.read_long.ensures.found some
     (λ e. elim c.else-word-eq48.branch [
       | else-word-eq48-via-then-word-eq48+else-word-gt1 w ↦ omega arith
       | else-word-eq48-via-else-word-eq48 w ↦ absurd (w.if-word-eq48.false e)
     ])
 
 pub returns-clause-none : goal.returns-clause-none
-returns-clause-none c = digits_are_none c.args.word.now c.read_digits.result c.read_digits.ensures.none
+returns-clause-none c = digits_are_none c.args.word.now c.read_long.result c.read_long.ensures.none

@@ -1,14 +1,15 @@
-use Rattle.std.proofs.Common.{◌≡◌, ◌<◌, ◌++◌, length, map}
-use Rattle.std.specs.List.{AllByRecursion, slice_split}
-use Rattle.std.specs.Fmt.{decimal}
-use Rattle.fare_lines.proofs.Numbers.{IsU64, is_space}
+use Rattle.std.proofs.Common.{◌≡◌, ◌++◌, length}
+use Rattle.std.specs.List.{AllByRecursion}
+use Rattle.fare_lines.specs.Reading.{BeginsWith, is_feed}
+use Rattle.fare_lines.proofs.Numbers.{IsU64}
+use Rattle.fare_lines.proofs.Spaced.{spaced}
 use Rattle.fare_lines.proofs.number.read_numbers.Given as goal
 
 abbrev pub invariant-loop-number : goal.invariant-loop-number
 invariant-loop-number l = record {
-  some : 0 < length l.text;
+  some : BeginsWith is_feed l.text → ⊥;
   fits : AllByRecursion IsU64 l.numbers.items;
-  is : slice_split is_space l.text ≡ map decimal l.numbers.items ++ slice_split is_space l.rest;
+  is : l.text ≡ spaced l.numbers.items ++ l.rest;
 }
 
 abbrev pub decreases-loop-number : goal.decreases-loop-number
