@@ -1,10 +1,10 @@
 -- How serving ends, by what is known of the input before, and of the output before and after.
-use Rattle.std.specs.Prelude.{◌⊎◌, ℕ, ◌++◌, Bool, List, Option, IfSome, codes}
+use Rattle.std.specs.Prelude.{◌≡◌, ◌⊎◌, ℕ, ◌++◌, Bool, List, Option, IfSome, codes}
 use Rattle.std.specs.Fmt.{decimal}
 use Rattle.std.specs.Io.KnownBytes.{Appends, Keeps}
 use Rattle.fare_scheme.specs.Values.{SchemeValue}
 use Rattle.fare_serve.specs.Counting.{IsCountsText}
-use Rattle.fare_serve.specs.Serving.{HasServedLines}
+use Rattle.fare_serve.specs.Serving.{HasFailedLines, HasServedLines}
 use Rattle.fare_sessions.specs.declared.hub.Hub.{Hub}
 use Rattle.fare_store.specs.Standing.{Standing}
 use Rattle.fare_store.specs.OutboxWords.{OutboxValue}
@@ -52,6 +52,11 @@ pub record ServesOver {O L : Type 0} (outbox : O → Standing OutboxValue) (ledg
   pub mid : Option (List ℕ)
   pub told : Appends before mid (listening_line port)
   pub served : HasServedLines outbox ledger old new most untold mid after
+
+-- What serving that failed made of a hub's stores: nothing, where no round began; else what the calls of sessions up to the
+-- fault did, with what these keep.
+abbrev pub LeavesStores : {O L : Type 0} → (O → Standing OutboxValue) → (L → Standing LedgerValue) → Hub O L → Hub O L → ServeFailure → Type 0
+LeavesStores outbox ledger old new failure = (new ≡ old) ⊎ ((fault : ServeFault) × (failure ≡ serving_failure fault) × HasFailedLines outbox ledger old new fault)
 
 -- how far serving over stores came at each failure
 abbrev pub FailsOver : Option (List ℕ) → Option (List ℕ) → ServeFailure → Type 0

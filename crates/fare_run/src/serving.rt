@@ -1,7 +1,7 @@
 ghost use Rattle.std.specs.Prelude.{◌≡◌, is_none, OnOk, IfErr};
 ghost use Rattle.std.specs.Io.KnownBytes.{Appends};
 ghost use Rattle.fare_sessions.specs.Stores.{HasLedgers};
-ghost use Rattle.fare_run.specs.Serving.{FailsOver, IsUntold, ServesOver, listening_line};
+ghost use Rattle.fare_run.specs.Serving.{FailsOver, IsUntold, LeavesStores, ServesOver, listening_line};
 ghost use Rattle.fare_run.specs.declared.serve_failure.ServeFailure.TheVariants.{Network};
 
 use crate::serve_failure::{ServeFailure, of_serving};
@@ -49,7 +49,8 @@ fn announce<O: Write>(rt: &HostRuntime, port: u16, output: &mut O) -> Result<(),
 /// rounds, as `fare_serve::serve_rounds` says, and writes the counts.
 ///
 /// `Network` where the port can't be listened on, and nothing was written then; else the failures of
-/// `fare_serve::serve_rounds`, of which only `Write` may come where a count was written.
+/// `fare_serve::serve_rounds`, of which only `Write` may come where a count was written. The stores then hold what the
+/// sessions up to the failure made of them.
 pub fn serve_over<
     Ob: Outbox + Send,
     L: Ledger + Send,
@@ -67,6 +68,7 @@ pub fn serve_over<
     requires owners { HasLedgers hub.old }
     ensures served { OnOk result (ServesOver Ob.standing L.standing hub.old hub.new limits.rounds (is_none until.entry) (O.contents output.old) (O.contents output.new)) }
     ensures fails { IfErr result (FailsOver (O.contents output.old) (O.contents output.new)) }
+    ensures stores { IfErr result (LeavesStores Ob.standing L.standing hub.old hub.new) }
 {
     let (listener, port) = listen(handles, port)?;
     announce(rt, port, output)?;

@@ -1,5 +1,5 @@
 -- Calls of a hub's sessions, one after the other: what holds of each holds of all.
-use Rattle.std.proofs.Common.{◌≡◌, ℕ, zero, suc, List, [], ◌∷◌, ◌++◌, length, map, Some, refl, sym, ap, ◌∙◌, subst}
+use Rattle.std.proofs.Common.{◌≡◌, ℕ, zero, suc, List, [], ◌∷◌, ◌++◌, length, map, Some, None, refl, sym, ap, ◌∙◌, subst}
 use Rattle.std.specs.Prelude.{slice_get, Vec}
 use Rattle.std.specs.Global.{Global}
 use Rattle.std.specs.List.{AllByRecursion, flat_map}
@@ -14,19 +14,32 @@ use Rattle.fare_store.specs.LedgerWords.{LedgerValue}
 use Rattle.fare_source.specs.Talking.{Talk}
 use Rattle.fare_collect.specs.declared.station.Station.{Station}
 use Rattle.fare_world.specs.Knowing.{knows_owner}
-use Rattle.fare_history.proofs.Entries.{all-append}
+use Rattle.fare_frame.specs.declared.frame.Frame.{Frame}
+use Rattle.fare_frame.specs.declared.frame.Frame.TheVariants as frame
+use Rattle.fare_record.specs.declared.ack_item.AckItem.TheVariants as ack
+use Rattle.fare_history.specs.Stores.{StoresValue}
+use Rattle.fare_history.proofs.Entries.{all-append, all-weaken}
 use Rattle.fare_agreement.specs.Agreeing.{AreNumberedLists}
-use Rattle.fare_agreement.proofs.Collecting.{outbox_self, outbox_trans}
+use Rattle.fare_agreement.specs.Growing.{OutboxGrew}
+use Rattle.fare_agreement.proofs.Collecting.{covered_still, outbox_self, outbox_trans}
 use Rattle.fare_agreement.proofs.Takes.{ledger_self, ledger_trans}
 use Rattle.fare_sessions.specs.declared.hub.Hub.{Hub}
 use Rattle.fare_sessions.specs.declared.session.Session.{Session}
 use Rattle.fare_sessions.specs.declared.session.Session.TheVariants.{Collect}
-use Rattle.fare_sessions.specs.Stores.{HasLedgers, AreClean, AreSound, StoresFollow, IsAgreed, HasGrown}
-use Rattle.fare_sessions.specs.Promises.{GaveOf}
+use Rattle.fare_sessions.specs.Stores.{HasLedgers, AreClean, AreSound, StoresFollow, IsAgreed, HasGrown, MayStandAs}
+use Rattle.fare_sessions.specs.Promises.{AreCovered, GaveOf, IsFrameCovered}
 use Rattle.fare_sessions.proofs.Follow.{clean_back, follow_join, follow_self}
 use Rattle.fare_sessions.specs.Reopening.{AreLasting, AreOwned}
-use Rattle.fare_serve.specs.Calls.{Call, AreHeld}
+use Rattle.fare_serve.specs.Calls.{Call, AreHeld, AreUnended, ended_by}
 use Rattle.fare_serve.specs.Rounds.{AreServed, HaveGiven, IsRound, Round, calls_of, olds_of, serving_of}
+
+-- what an outbox covers, one that has grown from it does
+frame_still : (sc : SchemeValue) (x y : OutboxValue) → OutboxGrew x y → (f : Frame) → IsFrameCovered sc x f → IsFrameCovered sc y f
+frame_still sc x y grew (frame.Acked a) is = covered_still sc x y grew (ack.Upto a) is
+frame_still sc x y grew (frame.DayAcked a) is = covered_still sc x y grew (ack.Day a) is
+frame_still sc x y grew (frame.Tapped r) is = absurd is
+frame_still sc x y grew (frame.Stated v) is = absurd is
+frame_still sc x y grew (frame.Greeted d) is = absurd is
 
 module _ {S O L : Type 0} (talks : S → Talk) (outbox : O → Standing OutboxValue) (ledger : L → Standing LedgerValue) where
   -- CHAINS
@@ -41,9 +54,15 @@ module _ {S O L : Type 0} (talks : S → Talk) (outbox : O → Standing OutboxVa
   held_scheme a b [] h = ap (λ (x : Hub O L). x.scheme) h
   held_scheme a b (x ∷ xs) h = held_scheme h.0 b xs h.2 ∙ h.1.scheme
 
-  held_follow : (a b : Hub O L) (xs : List (Call S)) → AreHeld talks outbox ledger a b xs → StoresFollow outbox ledger a b
+  pub held_follow : (a b : Hub O L) (xs : List (Call S)) → AreHeld talks outbox ledger a b xs → StoresFollow outbox ledger a b
   held_follow a b [] h = subst (StoresFollow outbox ledger a) (sym h) (follow_self outbox ledger a)
   held_follow a b (x ∷ xs) h = follow_join outbox ledger a h.0 b h.1.follow (held_follow h.0 b xs h.2)
+
+  pub held_sound : (a b : Hub O L) (xs : List (Call S)) → AreHeld talks outbox ledger a b xs → AreClean outbox ledger b → AreSound outbox ledger a → AreSound outbox ledger b
+  held_sound a b [] h clean sound = subst (AreSound outbox ledger) (sym h) sound
+  held_sound a b (x ∷ xs) h clean sound =
+      let clean_m = clean_back outbox ledger h.0 b (held_follow h.0 b xs h.2) clean in
+      held_sound h.0 b xs h.2 clean (h.1.sound clean_m sound)
 
   -- each owner still has its ledger
   pub ledgers_on : (a b : Hub O L) (xs : List (Call S)) → AreHeld talks outbox ledger a b xs → HasLedgers a → HasLedgers b
@@ -72,7 +91,7 @@ module _ {S O L : Type 0} (talks : S → Talk) (outbox : O → Standing OutboxVa
   abbrev Gave : SchemeValue → (ℕ → List RecordValue) → List (Call S) → Type 0
   Gave sc lists xs = AllByRecursion (λ x. GaveOf talks sc lists x.olds x.news) xs
 
-  held_keeps : (a b : Hub O L) (xs : List (Call S)) → AreHeld talks outbox ledger a b xs → AreClean outbox ledger b → AreSound outbox ledger a
+  pub held_keeps : (a b : Hub O L) (xs : List (Call S)) → AreHeld talks outbox ledger a b xs → AreClean outbox ledger b → AreSound outbox ledger a
       → (lists : ℕ → List RecordValue) → AreNumberedLists a.scheme lists → Gave a.scheme lists xs → IsAgreed outbox ledger lists a → Keeps lists a b
   held_keeps a b [] h clean sound lists numbered gave agreed = (subst (IsAgreed outbox ledger lists) (sym h) agreed, subst (HasGrown outbox ledger a) (sym h) (grown_self a))
   held_keeps a b (x ∷ xs) h clean sound lists numbered gave agreed =
@@ -82,8 +101,33 @@ module _ {S O L : Type 0} (talks : S → Talk) (outbox : O → Standing OutboxVa
       let rest = held_keeps m b xs h.2 clean (h.1.sound clean_m sound) lists (subst (λ sc. AreNumberedLists sc lists) (sym same) numbered) (subst (λ sc. Gave sc lists xs) (sym same) gave.1) (h.1.agrees clean_m sound lists numbered gave.0 agreed) in
       (rest.0, grown_then a m b same (h.1.grows clean_m sound lists numbered gave.0 agreed) rest.1)
 
+  -- what is covered stays so
+  covered_more : (sc : SchemeValue) (x y : OutboxValue) → OutboxGrew x y → (c : Call S) → AreCovered talks sc x c.olds c.news → AreCovered talks sc y c.olds c.news
+  covered_more sc x y grew c h = record {
+    covered = λ place before after was now k d lt.
+        let told = h.covered place before after was now k d lt in
+        (told.0, told.1, all-weaken (IsFrameCovered sc x) (IsFrameCovered sc y) (frame_still sc x y grew) told.0 told.2);
+  }
+
+  pub held_covers : (a b : Hub O L) (xs : List (Call S)) → AreHeld talks outbox ledger a b xs → AreClean outbox ledger b → AreSound outbox ledger a
+      → (lists : ℕ → List RecordValue) → AreNumberedLists a.scheme lists → Gave a.scheme lists xs → IsAgreed outbox ledger lists a
+      → (k : StoresValue) → MayStandAs outbox ledger b k → AllByRecursion (λ x. AreCovered talks a.scheme k.outbox x.olds x.news) xs
+  held_covers a b [] h clean sound lists numbered gave agreed k may = tt
+  held_covers a b (x ∷ xs) h clean sound lists numbered gave agreed k may =
+      let m = h.0 in
+      let clean_m = clean_back outbox ledger m b (held_follow m b xs h.2) clean in
+      let same = h.1.scheme in
+      let sound_m = h.1.sound clean_m sound in
+      let numbered_m = subst (λ sc. AreNumberedLists sc lists) (sym same) numbered in
+      let gave_m = subst (λ sc. Gave sc lists xs) (sym same) gave.1 in
+      let agreed_m = h.1.agrees clean_m sound lists numbered gave.0 agreed in
+      let stood = (held_keeps m b xs h.2 clean sound_m lists numbered_m gave_m agreed_m).1.grown k may in (
+        covered_more a.scheme stood.0.outbox k.outbox stood.2 x (h.1.covered clean_m sound lists numbered gave.0 agreed stood.0 stood.1),
+        subst (λ sc. AllByRecursion (λ y. AreCovered talks sc k.outbox y.olds y.news) xs) same (held_covers m b xs h.2 clean sound_m lists numbered_m gave_m agreed_m k may),
+      )
+
   -- and what a stop would leave fits together
-  held_lasts : (a b : Hub O L) (xs : List (Call S)) → AreHeld talks outbox ledger a b xs → AreClean outbox ledger b → AreSound outbox ledger a → AreLasting outbox ledger a → AreOwned outbox ledger a → AreLasting outbox ledger b × AreOwned outbox ledger b
+  pub held_lasts : (a b : Hub O L) (xs : List (Call S)) → AreHeld talks outbox ledger a b xs → AreClean outbox ledger b → AreSound outbox ledger a → AreLasting outbox ledger a → AreOwned outbox ledger a → AreLasting outbox ledger b × AreOwned outbox ledger b
   held_lasts a b [] h clean sound lasting owned = (subst (AreLasting outbox ledger) (sym h) lasting, subst (AreOwned outbox ledger) (sym h) owned)
   held_lasts a b (x ∷ xs) h clean sound lasting owned =
       let clean_m = clean_back outbox ledger h.0 b (held_follow h.0 b xs h.2) clean in
@@ -108,31 +152,23 @@ module _ {S O L : Type 0} (talks : S → Talk) (outbox : O → Standing OutboxVa
   abbrev AreRounds : SchemeValue → List (Round S) → Type 0
   AreRounds sc rounds = AllByRecursion (λ r. (before : List (Station S)) × IsRound sc r before) rounds
 
-  gave_all : (sc : SchemeValue) (lists : ℕ → List RecordValue) (rounds : List (Round S)) → AreRounds sc rounds → HaveGiven talks outbox ledger sc lists rounds → Gave sc lists (flat_map calls_of rounds)
+  pub gave_all : (sc : SchemeValue) (lists : ℕ → List RecordValue) (rounds : List (Round S)) → AreRounds sc rounds → HaveGiven talks outbox ledger sc lists rounds → Gave sc lists (flat_map calls_of rounds)
   gave_all sc lists [] are gave = tt
   gave_all sc lists (r ∷ rs) are gave =
       all-append (λ x. GaveOf talks sc lists x.olds x.news) (calls_of r) (flat_map calls_of rs)
       (gave.0, gave_owners sc lists r.owners (keys_of sc.owners) are.0.1.serves) (gave_all sc lists rs are.1 gave.1)
 
-  -- where the stores agreed with lists of which the sources' frames are, they do after the rounds, and nothing fell
-  pub rounds_keep : (old new : Hub O L) (rounds : List (Round S)) → AreServed talks outbox ledger old new rounds → AreClean outbox ledger new → AreSound outbox ledger old
-      → (lists : ℕ → List RecordValue) → AreNumberedLists old.scheme lists → HaveGiven talks outbox ledger old.scheme lists rounds → IsAgreed outbox ledger lists old → IsAgreed outbox ledger lists new × HasGrown outbox ledger old new
-  rounds_keep old new rounds served clean sound lists numbered gave agreed =
-      held_keeps old new (flat_map calls_of rounds) served.held clean sound lists numbered (gave_all old.scheme lists rounds served.each gave) agreed
-
-  pub rounds_last : (old new : Hub O L) (rounds : List (Round S)) → AreServed talks outbox ledger old new rounds → AreClean outbox ledger new → AreSound outbox ledger old → AreLasting outbox ledger old → AreOwned outbox ledger old → AreLasting outbox ledger new × AreOwned outbox ledger new
-  rounds_last old new rounds served = held_lasts old new (flat_map calls_of rounds) served.held
-
   -- ROUNDS
   pub rounds_none : (hub : Hub O L) → AreServed talks outbox ledger hub hub []
-  rounds_none hub = record { each = tt; held = refl }
+  rounds_none hub = record { each = tt; held = refl; unended = tt }
 
-  pub rounds_more : (old middle new : Hub O L) (rounds : List (Round S)) (r : Round S) (before : List (Station S)) → AreServed talks outbox ledger old middle rounds → IsRound middle.scheme r before → AreHeld talks outbox ledger middle new (calls_of r) → AreServed talks outbox ledger old new (rounds ++ r ∷ [])
-  rounds_more old middle new rounds r before was is held =
+  pub rounds_more : (old middle new : Hub O L) (rounds : List (Round S)) (r : Round S) (before : List (Station S)) → AreServed talks outbox ledger old middle rounds → IsRound middle.scheme r before → AreHeld talks outbox ledger middle new (calls_of r) → AreUnended (calls_of r) → AreServed talks outbox ledger old new (rounds ++ r ∷ [])
+  rounds_more old middle new rounds r before was is held unended =
       let same = held_scheme old middle (flat_map calls_of rounds) was.held in
       let one : IsRound old.scheme r before = subst (λ sc. IsRound sc r before) same is in
       let calls = sym (flat_map-append calls_of rounds (r ∷ []) ∙ ap (λ (l : List (Call S)). flat_map calls_of rounds ++ l) (append-nil (calls_of r))) in
       record {
         each = all-append (λ q. (b : List (Station S)) × IsRound old.scheme q b) rounds (r ∷ []) was.each ((before, one), tt);
         held = subst (AreHeld talks outbox ledger old new) calls (held_then old middle new (flat_map calls_of rounds) (calls_of r) was.held held);
+        unended = subst AreUnended calls (all-append (λ (x : Call S). ended_by x ≡ None) (flat_map calls_of rounds) (calls_of r) was.unended unended);
       }

@@ -20,7 +20,8 @@ use Rattle.fare_sessions.specs.declared.hub.Hub.{Hub}
 use Rattle.fare_sessions.specs.declared.report.SessionsReport.{SessionsReport}
 use Rattle.fare_sessions.specs.declared.session.Session.{Session}
 use Rattle.fare_sessions.specs.declared.session.Session.TheVariants.{Serve}
-use Rattle.fare_serve.specs.Calls.{Call, HasCollected, HasHeld, HasServed}
+use Rattle.fare_history.proofs.Entries.{all-append}
+use Rattle.fare_serve.specs.Calls.{Call, HasCollected, HasHeld, HasServed, ended_by, first_ending}
 use Rattle.fare_serve.specs.declared.fault.ServeFault.{ServeFault}
 use Rattle.fare_serve.specs.Counting.{AddsOwner, AddsStations, AreNoCounts, IsCountsOf, kept_count, owner_in}
 use Rattle.fare_serve.specs.Rounds.{AddsRound, AreCountsOf, HasServedRound, HaveServedOwners, Round, left_in, left_over, olds_of, serving_of, stored_in, taken_at, taken_in}
@@ -124,9 +125,9 @@ before_end (y ∷ xs) x (suc k) lt = before_end xs x k (omega (arith, lt))
 
 module _ {S O L : Type 0} (talks : S → Talk) (outbox : O → Standing OutboxValue) (ledger : L → Standing LedgerValue) where
   -- however a call of an owner's session ended
-  pub served_result : (old new : Hub O L) (owner : ℕ) (news : List (Session S)) (r : Result SessionsReport ServeFault) → IfOk r (HasHeld talks outbox ledger old new (Serve owner ∷ []) news) → IfOk r (HasServed talks outbox ledger old new owner)
-  served_result old new owner news (Ok report) held = record { call = record { olds = Serve owner ∷ []; news = news; report = report }; olds = refl; told = refl; held = held }
-  served_result old new owner news (Err fault) held = tt
+  pub served_result : (old new : Hub O L) (owner : ℕ) (news : List (Session S)) (r : Result SessionsReport ServeFault) → IfOk r (HasHeld talks outbox ledger old new (Serve owner ∷ []) news) → IfOk r (λ report. first_ending report.faults.items ≡ None) → IfOk r (HasServed talks outbox ledger old new owner)
+  served_result old new owner news (Ok report) held unended = record { call = record { olds = Serve owner ∷ []; news = news; report = report }; olds = refl; told = refl; held = held; unended = unended }
+  served_result old new owner news (Err fault) held unended = tt
 
   pub owners_none : (hub : Hub O L) (c : Counts) → HaveServedOwners talks outbox ledger hub hub 0 c c
   owners_none hub c = record {
@@ -134,6 +135,7 @@ module _ {S O L : Type 0} (talks : S → Talk) (outbox : O → Standing OutboxVa
     many = refl;
     serves = refl;
     held = held_none talks outbox ledger hub;
+    unended = tt;
     owners = refl;
     stored = refl;
     taken = λ k d lt. absurd (omega (arith, lt));
@@ -149,6 +151,7 @@ module _ {S O L : Type 0} (talks : S → Talk) (outbox : O → Standing OutboxVa
     many = length-append was.calls (one.call ∷ []) ∙ ap (λ n. n + 1) was.many;
     serves = serves;
     held = held_then talks outbox ledger old now next was.calls (one.call ∷ []) was.held (next, one.held, refl);
+    unended = all-append (λ (c : Call S). ended_by c ≡ None) was.calls (one.call ∷ []) was.unended (one.unended, tt);
     owners = adds.owners ∙ was.owners;
     stored = adds.stored ∙ was.stored;
     taken = λ k d lt. by k d lt (same_or_apart k place);
@@ -191,7 +194,7 @@ module _ {S O L : Type 0} (talks : S → Talk) (outbox : O → Standing OutboxVa
   pub round_of : (old middle new : Hub O L) (stations : Vec (Station S) Global) (report : SessionsReport) (c0 c1 c2 : Counts)
       → HasCollected talks outbox ledger old middle stations report → AddsStations c0 c1 report → HaveServedOwners talks outbox ledger middle new (length middle.scheme.owners) c1 c2
       → AreStations old.scheme stations.items → length stations.items ≡ length old.scheme.stations → length c0.taken.items ≡ length old.scheme.owners
-      → HasServedRound talks outbox ledger old new stations.items c0 c2
+      → HasServedRound talks outbox ledger old new stations.items report c0 c2
   round_of old middle new stations report c0 c1 c2 one adds owners are all entries = record {
     round = round_from one.call owners.calls;
     is = record {
@@ -202,7 +205,9 @@ module _ {S O L : Type 0} (talks : S → Talk) (outbox : O → Standing OutboxVa
       all = all;
       serves = owners.serves ∙ ap (map (serving_of {S = S})) (all_ids middle.scheme.owners ∙ ap (λ (sc : SchemeValue). keys_of sc.owners) one.held.scheme);
     };
+    told = one.told;
     held = (middle, one.held, owners.held);
+    unended = (one.unended, owners.unended);
     counted = record {
       owners = owners.owners ∙ ap (λ (v : Vec Taken Global). map owner_in v.items) adds.taken;
       stored = owners.stored ∙ (adds.stored ∙ ap (λ (r : SessionsReport). kept_count (c0.stored + r.stored)) (sym one.told));

@@ -1,3 +1,4 @@
 pub mod Chained
 pub mod Counted
 pub mod Held
+pub mod Failed

@@ -1,13 +1,17 @@
 -- What the calls of a hub's sessions promise, one after the other, and which of their faults end all.
-use Rattle.std.specs.Prelude.{◌≡◌, ◌<◌, ◌↔◌, ℕ, List, [], ◌∷◌, length, Option, Some, None, IsTrue, Vec}
+use Rattle.std.specs.Prelude.{◌≡◌, ◌<◌, ◌↔◌, ◌⊎◌, ℕ, List, [], ◌∷◌, length, Option, Some, None, IsTrue, Vec}
 use Rattle.std.specs.Global.{Global}
+use Rattle.std.specs.List.{AllByRecursion}
 use Rattle.fare_record.specs.Values.{RecordValue}
+use Rattle.fare_scheme.specs.Values.{SchemeValue}
+use Rattle.fare_scheme.specs.Words.{id_at}
 use Rattle.fare_store.specs.Standing.{Standing}
 use Rattle.fare_store.specs.OutboxWords.{OutboxValue}
 use Rattle.fare_store.specs.LedgerWords.{LedgerValue}
 use Rattle.fare_session.specs.declared.fault.SessionFault.{SessionFault}
 use Rattle.fare_session.specs.declared.fault.SessionFault.TheVariants as session
 use Rattle.fare_source.specs.Talking.{Talk}
+use Rattle.fare_collect.specs.Resuming.{AreStations}
 use Rattle.fare_collect.specs.declared.station.Station.{Station}
 use Rattle.fare_history.specs.Stores.{StoresValue}
 use Rattle.fare_agreement.specs.Agreeing.{AreNumberedLists}
@@ -47,8 +51,34 @@ pub record Call (S : Type 0) : Type 0 where
   pub news : List (Session S)
   pub report : SessionsReport
 
+-- the fault of memory or of a store that ended a call
+abbrev pub ended_by : {S : Type 0} → Call S → Option ServeFault
+ended_by c = first_ending c.report.faults.items
+
+-- none ended one of these
+abbrev pub AreUnended : {S : Type 0} → List (Call S) → Type 0
+AreUnended calls = AllByRecursion (λ c. ended_by c ≡ None) calls
+
+-- a fault that may come outside of sessions
+abbrev pub IsOutside : ServeFault → Type 0
+IsOutside serve.Memory = Unit {0}
+IsOutside serve.Write = Unit {0}
+IsOutside serve.Store = ⊥
+
+-- A fault ended these calls: it is that of the last one, and the first such of all; or none ended one, and it came outside of
+-- sessions.
+abbrev pub AreEndedBy : {S : Type 0} → ServeFault → List (Call S) → Type 0
+AreEndedBy fault [] = IsOutside fault
+AreEndedBy fault (c ∷ cs) = ((ended_by c ≡ Some fault) × (cs ≡ [])) ⊎ ((ended_by c ≡ None) × AreEndedBy fault cs)
+
+-- a session of all of the scheme's stations, in its order, or one of an owner of the scheme
+abbrev pub IsOfScheme : {S : Type 0} → SchemeValue → Call S → Type 0
+IsOfScheme {S} sc c =
+    ((stations : Vec (Station S) Global) × (c.olds ≡ Collect stations ∷ []) × AreStations sc stations.items × (length stations.items ≡ length sc.stations))
+    ⊎ ((owner : ℕ) × (place : ℕ) × (c.olds ≡ Serve owner ∷ []) × (id_at sc.owners place ≡ Some owner))
+
 module _ {S O L : Type 0} (talks : S → Talk) (outbox : O → Standing OutboxValue) (ledger : L → Standing LedgerValue) where
-  -- What a hub promises of a call, as its sessions do; and no fault of memory or of a store ended one of them.
+  -- What a hub promises of a call, as its sessions do.
   pub record IsHeld (old new : Hub O L) (c : Call S) : Type 0 where
     pub scheme : new.scheme ≡ old.scheme
     pub follow : StoresFollow outbox ledger old new
@@ -69,7 +99,6 @@ module _ {S O L : Type 0} (talks : S → Talk) (outbox : O → Standing OutboxVa
     pub gave_up : (limit : ℕ) × (IsTrue c.report.gave_up ↔ (limit < length c.report.faults.items))
     pub in_order : AreInOrder 0 c.report.faults.items (ran c.report (length c.olds))
     pub untouched : AreUntouched (ran c.report (length c.olds)) c.olds c.news
-    pub unended : first_ending c.report.faults.items ≡ None
 
   -- calls one after the other, each over the stores that the one before it left
   abbrev pub AreHeld : Hub O L → Hub O L → List (Call S) → Type 0
@@ -86,6 +115,7 @@ module _ {S O L : Type 0} (talks : S → Talk) (outbox : O → Standing OutboxVa
     pub olds : call.olds ≡ Collect stations ∷ []
     pub told : call.report ≡ report
     pub held : IsHeld old new call
+    pub unended : ended_by call ≡ None
 
   -- one call of a session of an owner
   pub record HasServed (old new : Hub O L) (owner : ℕ) (report : SessionsReport) : Type 0 where
@@ -93,3 +123,18 @@ module _ {S O L : Type 0} (talks : S → Talk) (outbox : O → Standing OutboxVa
     pub olds : call.olds ≡ Serve owner ∷ []
     pub told : call.report ≡ report
     pub held : IsHeld old new call
+    pub unended : ended_by call ≡ None
+
+  -- What came of sessions of which one met a fault of memory or of a store: that was the first such one; or there was no
+  -- memory before any began.
+  abbrev pub HasEnded : Hub O L → Hub O L → List (Session S) → List (Session S) → ServeFault → Type 0
+  HasEnded old new olds news fault =
+      ((new ≡ old) × (fault ≡ serve.Memory)) ⊎ ((report : SessionsReport) × HasHeld old new olds news report × (first_ending report.faults.items ≡ Some fault))
+
+  -- All that was done to the stores up to a fault that ended it: calls one after the other, each of the scheme's stations or
+  -- of one of its owners.
+  pub record HasFailed (old new : Hub O L) (fault : ServeFault) : Type 0 where
+    pub calls : List (Call S)
+    pub held : AreHeld old new calls
+    pub ended : AreEndedBy fault calls
+    pub each : AllByRecursion (IsOfScheme old.scheme) calls

@@ -15,7 +15,8 @@ use Rattle.fare_sessions.specs.declared.hub.Hub.{Hub}
 use Rattle.fare_sessions.specs.declared.session.Session.{Session}
 use Rattle.fare_sessions.specs.declared.session.Session.TheVariants.{Collect, Serve}
 use Rattle.fare_sessions.specs.Promises.{GaveOf}
-use Rattle.fare_serve.specs.Calls.{Call, AreHeld}
+use Rattle.fare_sessions.specs.declared.report.SessionsReport.{SessionsReport}
+use Rattle.fare_serve.specs.Calls.{Call, AreHeld, AreUnended}
 use Rattle.fare_serve.specs.Counting.{IsCountsOf, kept_count, owner_in}
 use Rattle.fare_serve.specs.declared.counts.Counts.{Counts}
 use Rattle.fare_serve.specs.declared.counts.Taken.{Taken}
@@ -81,16 +82,19 @@ module _ {S O L : Type 0} (talks : S → Talk) (outbox : O → Standing OutboxVa
   pub record AreServed (old new : Hub O L) (rounds : List (Round S)) : Type 0 where
     pub each : AllByRecursion (λ r. (before : List (Station S)) × IsRound old.scheme r before) rounds
     pub held : AreHeld talks outbox ledger old new (flat_map calls_of rounds)
+    pub unended : AreUnended (flat_map calls_of rounds)
 
   -- each frame that a source gave in one of these rounds is of the lists
   abbrev pub HaveGiven : SchemeValue → (ℕ → List RecordValue) → List (Round S) → Type 0
   HaveGiven sc lists rounds = AllByRecursion (λ r. GaveOf talks sc lists r.stations.olds r.stations.news) rounds
 
-  -- one round more of these stations, and what was counted of it
-  pub record HasServedRound (old new : Hub O L) (before : List (Station S)) (counts_old counts_new : Counts) : Type 0 where
+  -- one round more of these stations, with this report of their session, and what was counted of it
+  pub record HasServedRound (old new : Hub O L) (before : List (Station S)) (report : SessionsReport) (counts_old counts_new : Counts) : Type 0 where
     pub round : Round S
     pub is : IsRound old.scheme round before
+    pub told : round.stations.report ≡ report
     pub held : AreHeld talks outbox ledger old new (calls_of round)
+    pub unended : AreUnended (calls_of round)
     pub counted : AddsRound counts_old counts_new round
 
   -- one session more of each of the first so many owners, and what was counted of them
@@ -99,6 +103,7 @@ module _ {S O L : Type 0} (talks : S → Talk) (outbox : O → Standing OutboxVa
     pub many : length calls ≡ place
     pub serves : map olds_of calls ≡ map serving_of (take place (keys_of old.scheme.owners))
     pub held : AreHeld talks outbox ledger old new calls
+    pub unended : AreUnended calls
     pub owners : map owner_in counts_new.taken.items ≡ map owner_in counts_old.taken.items
     pub stored : counts_new.stored ≡ counts_old.stored
     pub taken : (k : ℕ) (d : Taken) → k < place → (slice_index_or counts_new.taken.items k d).count ≡ kept_count ((slice_index_or counts_old.taken.items k d).count + unwrap_or (option_map taken_in (slice_get calls k)) 0)

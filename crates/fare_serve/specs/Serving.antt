@@ -1,7 +1,7 @@
 -- What serving over a listener did, and what was written of it.
 use Rattle.std.specs.Prelude.{◌≡◌, ◌<◌, ◌≤◌, ℕ, ◌&&◌, nat_le, max, Bool, true, List, length, map, Option}
 use Rattle.std.specs.Io.KnownBytes.{Appends}
-use Rattle.std.specs.List.{AllByRecursion}
+use Rattle.std.specs.List.{AllByRecursion, flat_map}
 use Rattle.fare_record.specs.Values.{RecordValue}
 use Rattle.fare_store.specs.Standing.{Standing}
 use Rattle.fare_store.specs.OutboxWords.{OutboxValue}
@@ -14,17 +14,30 @@ use Rattle.fare_collect.specs.declared.station.Station.{Station}
 use Rattle.fare_net.specs.NetValue.{NetValue}
 use Rattle.fare_net.specs.Sources.{talk_of}
 use Rattle.fare_agreement.specs.Agreeing.{AreNumberedLists}
+use Rattle.fare_history.specs.Stores.{StoresValue}
 use Rattle.fare_sessions.specs.declared.hub.Hub.{Hub}
-use Rattle.fare_sessions.specs.Stores.{AreClean, AreSound, IsAgreed, HasGrown}
+use Rattle.fare_sessions.specs.declared.report.SessionsReport.{SessionsReport}
+use Rattle.fare_sessions.specs.Promises.{AreCovered, GaveOf}
+use Rattle.fare_sessions.specs.Stores.{AreClean, AreSound, IsAgreed, HasGrown, MayStandAs, StoresFollow}
 use Rattle.fare_sessions.specs.Reopening.{AreLasting, AreOwned}
 use Rattle.fare_serve.specs.Counting.{counts_text}
 use Rattle.fare_scheme.specs.Values.{SchemeValue}
-use Rattle.fare_serve.specs.Rounds.{Round, IsRound, AreCountsOf, AreServed, HasServedRound, HaveGiven}
+use Rattle.fare_serve.specs.Calls.{AreHeld, Call, HasFailed}
+use Rattle.fare_serve.specs.Rounds.{Round, IsRound, AreCountsOf, AreServed, HasServedRound, HaveGiven, calls_of}
+use Rattle.fare_serve.specs.declared.fault.ServeFault.{ServeFault}
 use Rattle.fare_serve.specs.declared.counts.Counts.{Counts}
 
 -- what a shift of a line tells: it has come to its end where the shift is over, and a whole one only at the line's end
 abbrev pub shift_talk : Shift NetValue → Talk
 shift_talk s = in_shift s.whole s.over (talk_of s.source)
+
+-- each frame that a line's source gave in one of these calls is of the lists
+abbrev pub HaveTold : SchemeValue → (ℕ → List RecordValue) → List (Call (Shift NetValue)) → Type 0
+HaveTold sc lists calls = AllByRecursion (λ c. GaveOf shift_talk sc lists c.olds c.news) calls
+
+-- each acknowledgement that one was answered is covered by an outbox that holds this
+abbrev pub AreAllCovered : SchemeValue → OutboxValue → List (Call (Shift NetValue)) → Type 0
+AreAllCovered sc x calls = AllByRecursion (λ c. AreCovered shift_talk sc x c.olds c.news) calls
 
 -- each of these shifts is a whole one
 abbrev pub AreWhole : List (Shift NetValue) → Type 0
@@ -34,7 +47,8 @@ AreWhole shifts = AllByRecursion (λ s. s.whole ≡ true) shifts
 -- whole ones.
 pub record HasHeldRound {O L : Type 0} (outbox : O → Standing OutboxValue) (ledger : L → Standing LedgerValue) (old new : Hub O L) (whole : Bool) (counts_old counts_new : Counts) : Type 0 where
   pub before : List (Station (Shift NetValue))
-  pub served : HasServedRound shift_talk outbox ledger old new before counts_old counts_new
+  pub report : SessionsReport
+  pub served : HasServedRound shift_talk outbox ledger old new before report counts_old counts_new
   pub to_ends : whole ≡ true → AreWhole (map source_of before)
 
 -- lines are read to their ends where there is one round, which no file ends
@@ -61,12 +75,26 @@ pub record HasHeldRounds {O L : Type 0} (outbox : O → Standing OutboxValue) (l
   pub all : untold ≡ true → count ≡ max most 1
   pub held : HaveBeenHeld outbox ledger old new (reads_to_ends most untold) count counts
 
--- What was written is the counts of the sessions' reports in rounds over lines; and where the stores agreed with lists of
--- taps of which the lines' frames are, they do afterwards, and nothing fell; and whatever a stop would leave of them fits
--- together, where it did.
+-- What calls of sessions over lines, one after the other, keep of the stores: the scheme is the same, the stores go on from
+-- those before, and what each holds fits together, where it did; and where they agreed with lists of taps of which the
+-- lines' frames are, they do afterwards, nothing fell, and each acknowledgement that a line was answered is covered by the
+-- outbox; and whatever a stop would leave of them fits together, where it did.
+pub record KeepsStores {O L : Type 0} (outbox : O → Standing OutboxValue) (ledger : L → Standing LedgerValue) (old new : Hub O L) (calls : List (Call (Shift NetValue))) (AreGiven : (ℕ → List RecordValue) → Type 0) : Type 0 where
+  pub scheme : new.scheme ≡ old.scheme
+  pub follow : StoresFollow outbox ledger old new
+  pub sound : AreClean outbox ledger new → AreSound outbox ledger old → AreSound outbox ledger new
+  pub agrees : AreClean outbox ledger new → AreSound outbox ledger old → (lists : ℕ → List RecordValue) → AreNumberedLists old.scheme lists → AreGiven lists → IsAgreed outbox ledger lists old → IsAgreed outbox ledger lists new × HasGrown outbox ledger old new
+  pub covered : AreClean outbox ledger new → AreSound outbox ledger old → (lists : ℕ → List RecordValue) → AreNumberedLists old.scheme lists → AreGiven lists → IsAgreed outbox ledger lists old → (k : StoresValue) → MayStandAs outbox ledger new k → AreAllCovered old.scheme k.outbox calls
+  pub lasts : AreClean outbox ledger new → AreSound outbox ledger old → AreLasting outbox ledger old → AreOwned outbox ledger old → AreLasting outbox ledger new × AreOwned outbox ledger new
+
+-- What was written is the counts of the sessions' reports in rounds over lines, and what these keep of the stores.
 pub record HasServedLines {O L : Type 0} (outbox : O → Standing OutboxValue) (ledger : L → Standing LedgerValue) (old new : Hub O L) (most : ℕ) (untold : Bool) (written_old written_new : Option (List ℕ)) : Type 0 where
   pub counts : Counts
   pub held : HasHeldRounds outbox ledger old new most untold counts
   pub written : Appends written_old written_new (counts_text counts)
-  pub agrees : AreClean outbox ledger new → AreSound outbox ledger old → (lists : ℕ → List RecordValue) → AreNumberedLists old.scheme lists → HaveGiven shift_talk outbox ledger old.scheme lists held.held.rounds → IsAgreed outbox ledger lists old → IsAgreed outbox ledger lists new × HasGrown outbox ledger old new
-  pub lasts : AreClean outbox ledger new → AreSound outbox ledger old → AreLasting outbox ledger old → AreOwned outbox ledger old → AreLasting outbox ledger new × AreOwned outbox ledger new
+  pub keeps : KeepsStores outbox ledger old new (flat_map calls_of held.held.rounds) (λ lists. HaveGiven shift_talk outbox ledger old.scheme lists held.held.rounds)
+
+-- Where a fault ended the rounds: the calls up to it, the fault that it was, and what they keep of the stores.
+pub record HasFailedLines {O L : Type 0} (outbox : O → Standing OutboxValue) (ledger : L → Standing LedgerValue) (old new : Hub O L) (fault : ServeFault) : Type 0 where
+  pub failed : HasFailed shift_talk outbox ledger old new fault
+  pub keeps : KeepsStores outbox ledger old new failed.calls (λ lists. HaveTold old.scheme lists failed.calls)

@@ -1,5 +1,6 @@
 ghost use Rattle.std.specs.Prelude.{◌≡◌, ◌≢◌, ◌<◌, ◌++◌, length, IfOk, IfErr, OnOk, string_bytes};
 ghost use Rattle.std.specs.Io.KnownBytes.{Appends, Keeps};
+ghost use Rattle.fare_serve.specs.Calls.{IsOutside};
 ghost use Rattle.fare_serve.specs.Counting.{AddsOwner, AddsStations, AreNoCounts, counts_text, taken_line, taken_lines};
 
 use crate::fault::ServeFault;
@@ -107,6 +108,7 @@ pub fn write_counts<W: Write>(
 ) -> Result<(), ServeFault>
     ensures written { OnOk result (Appends (W.contents output.old) (W.contents output.new) (counts_text counts.now)) }
     ensures kept { IfErr result (λ fault. fault ≢ ServeFault.Write → Keeps (W.contents output.old) (W.contents output.new)) }
+    ensures outside { IfErr result IsOutside }
 {
     let text = text_of(alloc, counts)?;
     if output.write_all(text.as_bytes()).is_err() || output.flush().is_err() {

@@ -2,6 +2,7 @@ ghost use Rattle.std.specs.Prelude.{◌≡◌, ◌≢◌, ◌≤◌, length, IfE
 ghost use Rattle.fare_collect.specs.Collected.{HaveDevices};
 ghost use Rattle.fare_collect.specs.Resuming.{AreStations};
 ghost use Rattle.fare_sessions.specs.Stores.{HasLedgers};
+ghost use Rattle.fare_serve.specs.Calls.{HasFailed};
 ghost use Rattle.fare_serve.specs.Rounds.{HasServedRound, HaveServedOwners};
 
 use crate::counts::Counts;
@@ -35,6 +36,7 @@ fn serve_owners<
     requires ledgers { HasLedgers hub.old }
     requires owners { length counts.old.taken.items ≡ length hub.old.scheme.owners }
     ensures served { OnOk result (HaveServedOwners S.talk O.standing L.standing hub.old hub.new (length hub.old.scheme.owners) counts.old counts.new) }
+    ensures failed { IfErr result (HasFailed S.talk O.standing L.standing hub.old hub.new) }
     ensures fault { IfErr result (λ fault. fault ≢ ServeFault.Write) }
 {
     for place in 0..hub.scheme.owner_count() {
@@ -52,8 +54,8 @@ fn serve_owners<
 /// its source.
 ///
 /// `Memory` or `Store` where that is the first such fault of a session, in their order, and none follows it then; `Memory`
-/// also where there is none for a session's list of faults, before that session reads anything. What was counted is then
-/// not said.
+/// also where there is none for a session's list of faults, before that session reads anything. The stores then hold what
+/// the sessions up to the fault made of them; what was counted is not said.
 pub fn serve_round<
     S: Source + Drop + Send,
     O: Outbox + Send,
@@ -75,7 +77,8 @@ pub fn serve_round<
     requires all { length stations.items ≡ length hub.old.scheme.stations }
     requires devices { HaveDevices hub.old.scheme stations.items }
     requires owners { length counts.old.taken.items ≡ length hub.old.scheme.owners }
-    ensures served { OnOk result (HasServedRound S.talk O.standing L.standing hub.old hub.new stations.items counts.old counts.new) }
+    ensures served { IfOk result (λ done. HasServedRound S.talk O.standing L.standing hub.old hub.new stations.items done.0 counts.old counts.new) }
+    ensures failed { IfErr result (HasFailed S.talk O.standing L.standing hub.old hub.new) }
     ensures fault { IfErr result (λ fault. fault ≢ ServeFault.Write) }
 {
     let (report, stations) = collect_once(rt, alloc, gate, turns, hub, stations)?;

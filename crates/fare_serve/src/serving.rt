@@ -2,7 +2,8 @@ ghost use Rattle.std.specs.Prelude.{◌≡◌, ◌≢◌, ◌≤◌, false, leng
 ghost use Rattle.std.specs.Io.KnownBytes.{Keeps};
 ghost use Rattle.fare_sessions.specs.Stores.{HasLedgers};
 ghost use Rattle.fare_serve.specs.Counting.{AreNoCounts};
-ghost use Rattle.fare_serve.specs.Serving.{HasHeldRound, HasHeldRounds, HasServedLines, reads_to_ends};
+ghost use Rattle.fare_serve.specs.Calls.{HasFailed};
+ghost use Rattle.fare_serve.specs.Serving.{HasFailedLines, HasHeldRound, HasHeldRounds, HasServedLines, reads_to_ends, shift_talk};
 
 use crate::counts::{Counts, write_counts};
 use crate::fault::ServeFault;
@@ -80,6 +81,7 @@ fn hold_round<O: Outbox + Send, L: Ledger + Send, R: Threads + Wait + Clock + Ep
     requires few { vec_len lines.old.seats ≤ 16 }
     requires owners { length counts.old.taken.items ≡ length hub.old.scheme.owners }
     ensures held { OnOk result (HasHeldRound O.standing L.standing hub.old hub.new whole counts.old counts.new) }
+    ensures failed { IfErr result (HasFailed shift_talk O.standing L.standing hub.old hub.new) }
     ensures seats { vec_len lines.new.seats ≡ vec_len lines.old.seats }
     ensures fault { IfErr result (λ fault. fault ≢ ServeFault.Write) }
 {
@@ -108,6 +110,7 @@ fn hold_rounds<O: Outbox + Send, L: Ledger + Send, R: Threads + Wait + Clock + E
     requires ledgers { HasLedgers hub.old }
     requires none { AreNoCounts hub.old.scheme counts.old }
     ensures held { OnOk result (HasHeldRounds O.standing L.standing hub.old hub.new limits.rounds (is_none until.entry) counts.new) }
+    ensures failed { IfErr result (HasFailed shift_talk O.standing L.standing hub.old hub.new) }
     ensures fault { IfErr result (λ fault. fault ≢ ServeFault.Write) }
 {
     let alloc = rt.alloc();
@@ -139,7 +142,8 @@ fn hold_rounds<O: Outbox + Send, L: Ledger + Send, R: Threads + Wait + Clock + E
 ///
 /// `Memory` or `Store` where that is the first such fault of a session, in their order, and none follows it then; `Memory`
 /// also where there is none for a line's seat, a station or a session's list of faults, or for the text; nothing was
-/// written then. `Write` where the writer failed.
+/// written then. `Write` where the writer failed. Whatever ended it, the stores hold what the sessions up to there made of
+/// them.
 pub fn serve_rounds<
     O: Outbox + Send,
     L: Ledger + Send,
@@ -156,6 +160,7 @@ pub fn serve_rounds<
 ) -> Result<(), ServeFault>
     requires ledgers { HasLedgers hub.old }
     ensures served { OnOk result (HasServedLines O.standing L.standing hub.old hub.new limits.rounds (is_none until.entry) (W.contents output.old) (W.contents output.new)) }
+    ensures failed { IfErr result (HasFailedLines O.standing L.standing hub.old hub.new) }
     ensures kept { IfErr result (λ fault. fault ≢ ServeFault.Write → Keeps (W.contents output.old) (W.contents output.new)) }
 {
     let alloc = rt.alloc();

@@ -1,10 +1,12 @@
-ghost use Rattle.std.specs.Prelude.{◌≡◌, ◌≢◌, ◌≤◌, length, IfOk, IfErr, IfSome};
+ghost use Rattle.std.specs.Prelude.{◌≡◌, ◌≢◌, ◌≤◌, [], ◌∷◌, List, None, length, IfOk, IfErr, IfSome};
 ghost use Rattle.fare_collect.specs.Collected.{HaveDevices};
 ghost use Rattle.fare_collect.specs.Resuming.{AreStations};
 ghost use Rattle.fare_scheme.specs.Words.{position_of_owner};
 ghost use Rattle.fare_sessions.specs.Running.{AreRunnable};
 ghost use Rattle.fare_sessions.specs.Stores.{HasLedgers};
-ghost use Rattle.fare_serve.specs.Calls.{HasCollected, HasHeld, HasServed, ending_of, first_ending};
+ghost use Rattle.fare_sessions.specs.declared.session.Session.{Session};
+ghost use Rattle.fare_sessions.specs.declared.session.Session.TheVariants.{Serve};
+ghost use Rattle.fare_serve.specs.Calls.{HasCollected, HasEnded, HasFailed, HasHeld, HasServed, ending_of, first_ending};
 
 use crate::fault::ServeFault;
 use fare_collect::Station;
@@ -63,6 +65,8 @@ fn hold<
     requires ledgers { HasLedgers hub.old }
     requires can { AreRunnable hub.old.scheme sessions.old }
     ensures held { IfOk result (HasHeld S.talk O.standing L.standing hub.old hub.new sessions.old sessions.new) }
+    ensures unended { IfOk result (λ report. first_ending report.faults.items ≡ None) }
+    ensures ended { IfErr result (HasEnded S.talk O.standing L.standing hub.old hub.new sessions.old sessions.new) }
     ensures fault { IfErr result (λ fault. fault ≢ ServeFault.Write) }
 {
     let supervisor = Supervisor::new(u32::MAX);
@@ -99,8 +103,10 @@ pub(crate) fn collect_once<
     requires ledgers { HasLedgers hub.old }
     requires few { length stations.items ≤ 16 }
     requires order { AreStations hub.old.scheme stations.items }
+    requires all { length stations.items ≡ length hub.old.scheme.stations }
     requires devices { HaveDevices hub.old.scheme stations.items }
     ensures held { IfOk result (λ done. HasCollected S.talk O.standing L.standing hub.old hub.new stations done.0) }
+    ensures failed { IfErr result (HasFailed S.talk O.standing L.standing hub.old hub.new) }
     ensures fault { IfErr result (λ fault. fault ≢ ServeFault.Write) }
 {
     let mut sessions = [Session::Collect(stations)];
@@ -128,6 +134,7 @@ pub(crate) fn serve_once<
     requires ledgers { HasLedgers hub.old }
     requires known { position_of_owner hub.old.scheme owner ≡ Some place }
     ensures held { IfOk result (HasServed S.talk O.standing L.standing hub.old hub.new owner) }
+    ensures ended { IfErr result (λ fault. (news : List (Session S)) × HasEnded S.talk O.standing L.standing hub.old hub.new (Serve owner ∷ []) news fault) }
     ensures fault { IfErr result (λ fault. fault ≢ ServeFault.Write) }
 {
     let mut sessions: [Session<S>; 1] = [Session::Serve(owner)];

@@ -1,8 +1,11 @@
-use Rattle.std.proofs.Common.{◌≡◌, ◌∙◌, ◌+◌, true, false, ap, sym, refl, subst, length, arith}
+use Rattle.std.proofs.Common.{◌≡◌, ◌∙◌, ◌+◌, true, false, ap, sym, refl, subst, length, arith, rules}
 use Rattle.std.specs.Prelude.{is_none}
 use Rattle.fare_scheme.specs.Values.{SchemeValue}
-use Rattle.fare_serve.specs.Serving.{HaveBeenHeld}
-use Rattle.fare_serve.proofs.Held.{been_entries, been_more, been_none, round_ledgers, round_scheme}
+use Rattle.fare_serve.specs.Calls.{HasFailed}
+use Rattle.fare_serve.specs.Serving.{HaveBeenHeld, shift_talk}
+use Rattle.fare_serve.specs.declared.fault.ServeFault.TheVariants.{Memory}
+use Rattle.fare_serve.proofs.Failed.{failed_outside}
+use Rattle.fare_serve.proofs.Held.{been_entries, been_more, been_none, round_ledgers, round_scheme, rounds_failed}
 use Rattle.fare_serve.proofs.serving.hold_rounds.Goals as goal
 
 pub loop-round-init : goal.loop-round-init
@@ -57,3 +60,16 @@ returns-clause-held g c =
       all = λ untold. omega (arith, past, within, most);
       held = subst (λ b. HaveBeenHeld g.O.Outbox.standing g.L.Ledger.standing c.args.hub.now c.loop-round.hub b c.loop-round.round c.loop-round.counts) c.reads_to_ends-whole.ensures c.loop-round.invariant.held;
     }
+
+pub returns-in_err-lines-clause-failed : goal.returns-in_err-lines-clause-failed
+returns-in_err-lines-clause-failed g c =
+    let failed : HasFailed shift_talk g.O.Outbox.standing g.L.Ledger.standing c.args.hub.now c.args.hub.now Memory = failed_outside shift_talk g.O.Outbox.standing g.L.Ledger.standing c.args.hub.now Memory tt in
+    search (rules, failed)
+
+pub returns-in_err-hold_round-clause-failed : goal.returns-in_err-hold_round-clause-failed
+returns-in_err-hold_round-clause-failed g c =
+    let held = c.loop-round.invariant.held in
+    let fault = c.in_err-hold_round.field-0.0 in
+    let failed : HasFailed shift_talk g.O.Outbox.standing g.L.Ledger.standing c.args.hub.now c.hold_round.new.hub fault =
+    rounds_failed g.O.Outbox.standing g.L.Ledger.standing c.args.hub.now c.loop-round.hub c.hold_round.new.hub held.rounds fault held.served c.in_err-hold_round.ensures.failed in
+    search (rules, failed)

@@ -1,0 +1,89 @@
+-- Calls up to a fault.
+use Rattle.std.proofs.Common.{◌≡◌, ◌⊎◌, ℕ, zero, suc, List, [], ◌∷◌, ◌++◌, length, map, take, slice_get, Some, None, refl, sym, ap, ◌∙◌, subst, inl, inr}
+use Rattle.std.specs.List.{AllByRecursion, flat_map}
+use Rattle.std.specs.Map.{keys_of}
+use Rattle.std.proofs.lemmas.Option.{slice_get-map}
+use Rattle.fare_scheme.specs.Values.{SchemeValue}
+use Rattle.fare_scheme.specs.Words.{id_at}
+use Rattle.fare_store.specs.Standing.{Standing}
+use Rattle.fare_store.specs.OutboxWords.{OutboxValue}
+use Rattle.fare_store.specs.LedgerWords.{LedgerValue}
+use Rattle.fare_source.specs.Talking.{Talk}
+use Rattle.fare_collect.specs.Resuming.{AreStations}
+use Rattle.fare_collect.specs.declared.station.Station.{Station}
+use Rattle.fare_history.proofs.Entries.{all-append}
+use Rattle.fare_sessions.specs.declared.hub.Hub.{Hub}
+use Rattle.fare_sessions.specs.declared.session.Session.{Session}
+use Rattle.fare_serve.specs.Calls.{AreEndedBy, AreHeld, AreUnended, Call, HasEnded, HasFailed, IsOfScheme, IsOutside, ended_by}
+use Rattle.fare_serve.specs.Rounds.{IsRound, Round, calls_of, olds_of, serving_of}
+use Rattle.fare_serve.specs.declared.fault.ServeFault.{ServeFault}
+use Rattle.fare_serve.proofs.Chained.{held_scheme, held_then}
+
+-- OWNERS
+-- the id stands at a place of the scheme's owners
+abbrev pub IsOwner : SchemeValue → ℕ → Type 0
+IsOwner sc owner = (place : ℕ) × (id_at sc.owners place ≡ Some owner)
+
+all_at : (P : ℕ → Type 0) (xs : List ℕ) → ((i x : ℕ) → slice_get xs i ≡ Some x → P x) → AllByRecursion P xs
+all_at P [] at = tt
+all_at P (x ∷ xs) at = (at 0 x refl, all_at P xs (λ i y is. at (suc i) y is))
+
+in_front : (n : ℕ) (xs : List ℕ) (i x : ℕ) → slice_get (take n xs) i ≡ Some x → slice_get xs i ≡ Some x
+in_front zero xs i x at = absurd (cc)
+in_front (suc n) [] i x at = absurd (cc)
+in_front (suc n) (y ∷ xs) zero x at = at
+in_front (suc n) (y ∷ xs) (suc i) x at = in_front n xs i x at
+
+pub first_owners : (sc : SchemeValue) (n : ℕ) → AllByRecursion (IsOwner sc) (take n (keys_of sc.owners))
+first_owners sc n = all_at (IsOwner sc) (take n (keys_of sc.owners)) (λ i x at. (i, sym (slice_get-map _ sc.owners i) ∙ in_front n (keys_of sc.owners) i x at))
+
+all_owners : (sc : SchemeValue) → AllByRecursion (IsOwner sc) (keys_of sc.owners)
+all_owners sc = all_at (IsOwner sc) (keys_of sc.owners) (λ i x at. (i, sym (slice_get-map _ sc.owners i) ∙ at))
+
+pub owners_of_scheme : {S : Type 0} (sc : SchemeValue) (ks : List ℕ) (calls : List (Call S)) → map olds_of calls ≡ map serving_of ks → AllByRecursion (IsOwner sc) ks → AllByRecursion (IsOfScheme sc) calls
+owners_of_scheme sc [] [] same known = tt
+owners_of_scheme sc [] (c ∷ cs) same known = absurd (cc)
+owners_of_scheme sc (k ∷ ks) [] same known = absurd (cc)
+owners_of_scheme sc (k ∷ ks) (c ∷ cs) same known =
+    let first : c.olds ≡ serving_of k = cc in
+    let rest : map olds_of cs ≡ map serving_of ks = cc in
+    (inr (k, known.0.0, first, known.0.1), owners_of_scheme sc ks cs rest known.1)
+
+-- ROUNDS
+pub rounds_of_scheme : {S : Type 0} (sc : SchemeValue) (rounds : List (Round S)) → AllByRecursion (λ r. (before : List (Station S)) × IsRound sc r before) rounds → AllByRecursion (IsOfScheme sc) (flat_map calls_of rounds)
+rounds_of_scheme sc [] are = tt
+rounds_of_scheme sc (r ∷ rs) are =
+    let round = are.0.1 in
+    all-append (IsOfScheme sc) (calls_of r) (flat_map calls_of rs)
+    (inl (round.sessions, round.collects, subst (AreStations sc) (sym round.stations_are) round.stations, ap length round.stations_are ∙ round.all), owners_of_scheme sc (keys_of sc.owners) r.owners round.serves (all_owners sc))
+    (rounds_of_scheme sc rs are.1)
+
+-- WHAT ENDED THEM
+ended_then : {S : Type 0} (xs ys : List (Call S)) (fault : ServeFault) → AreUnended xs → AreEndedBy fault ys → AreEndedBy fault (xs ++ ys)
+ended_then [] ys fault unended ended = ended
+ended_then (x ∷ xs) ys fault unended ended = inr (unended.0, ended_then xs ys fault unended.1 ended)
+
+module _ {S O L : Type 0} (talks : S → Talk) (outbox : O → Standing OutboxValue) (ledger : L → Standing LedgerValue) where
+  -- outside of sessions
+  pub failed_outside : (hub : Hub O L) (fault : ServeFault) → IsOutside fault → HasFailed talks outbox ledger hub hub fault
+  failed_outside hub fault outside = record { calls = []; held = refl; ended = outside; each = tt }
+
+  -- in one call, or before it
+  pub failed_one : (old new : Hub O L) (olds news : List (Session S)) (fault : ServeFault) → HasEnded talks outbox ledger old new olds news fault → ((c : Call S) → c.olds ≡ olds → IsOfScheme old.scheme c) → HasFailed talks outbox ledger old new fault
+  failed_one old new olds news fault (inl none) is =
+      subst (λ (h : Hub O L). HasFailed talks outbox ledger old h fault) (sym none.0) (failed_outside old fault (subst IsOutside (sym none.1) tt))
+  failed_one old new olds news fault (inr ended) is = record {
+    calls = record { olds = olds; news = news; report = ended.0 } ∷ [];
+    held = (new, ended.1, refl);
+    ended = inl (ended.2, refl);
+    each = (is (record { olds = olds; news = news; report = ended.0 }) refl, tt);
+  }
+
+  -- behind calls that none ended
+  pub failed_after : (a b c : Hub O L) (xs : List (Call S)) (fault : ServeFault) → AreHeld talks outbox ledger a b xs → AreUnended xs → AllByRecursion (IsOfScheme a.scheme) xs → HasFailed talks outbox ledger b c fault → HasFailed talks outbox ledger a c fault
+  failed_after a b c xs fault held unended each next = record {
+    calls = xs ++ next.calls;
+    held = held_then talks outbox ledger a b c xs next.calls held next.held;
+    ended = ended_then xs next.calls fault unended next.ended;
+    each = all-append (IsOfScheme a.scheme) xs next.calls each (subst (λ sc. AllByRecursion (IsOfScheme sc) next.calls) (held_scheme talks outbox ledger a b xs held) next.each);
+  }
