@@ -25,11 +25,13 @@ use Rattle.fare_agreement.proofs.Prefixes.{prefix_self, prefix_trans, prefix_mor
 
 -- LEDGERS THAT GREW
 pub ledger_self : (l : LedgerValue) → LedgerGrew l l
-ledger_self l = record { start = refl; taken = λ d. prefix_self (l.taken d); stated = λ d day c e. e; closed = λ d. omega arith; retired = λ d e. e }
+ledger_self l = record { owner = refl; start = refl; knows = λ d. refl; taken = λ d. prefix_self (l.taken d); stated = λ d day c e. e; closed = λ d. omega arith; retired = λ d e. e }
 
 pub ledger_trans : (l m n : LedgerValue) → LedgerGrew l m → LedgerGrew m n → LedgerGrew l n
 ledger_trans l m n p q = record {
+  owner = q.owner ∙ p.owner;
   start = q.start ∙ p.start;
+  knows = λ d. q.knows d ∙ p.knows d;
   taken = λ d. prefix_trans (l.taken d) (m.taken d) (n.taken d) (p.taken d) (q.taken d);
   stated = λ d day c e. q.stated d day c (p.stated d day c e);
   closed = λ d. omega (arith, p.closed d, q.closed d);
@@ -60,7 +62,9 @@ module _ (lists : ℕ → List RecordValue) (owner : ℕ) (x : OutboxValue) (cou
         (lane_took _ _ _ _ _ _ (is r.device) r (part_front owner (x.upto r.device) (lists r.device)) next);
     far = put_both (λ d (n : ℕ) (t : List RecordValue). n ≡ length t) c.lane l.taken r.device r.lane (l.taken r.device ++ r ∷ []) far (omega (arith, lane, length-append (l.taken r.device) (r ∷ [])));
     grew = record {
+      owner = refl;
       start = refl;
+      knows = λ d. refl;
       taken = put_all (λ d (t : List RecordValue). IsPrefixOf (l.taken d) t) l.taken r.device (l.taken r.device ++ r ∷ []) (λ d. prefix_self (l.taken d)) (prefix_more (l.taken r.device) (r ∷ []));
       stated = λ d day k e. e;
       closed = λ d. omega arith;
@@ -84,7 +88,9 @@ module _ (lists : ℕ → List RecordValue) (owner : ℕ) (x : OutboxValue) (cou
         (lane_stated _ _ _ _ _ _ (is v.device) v.day v.count right);
     far = far;
     grew = record {
+      owner = refl;
       start = refl;
+      knows = λ d. refl;
       taken = λ d. prefix_self (l.taken d);
       stated = put_all (λ d (s : ℕ → Option ℕ). (day k : ℕ) → l.stated d day ≡ Some k → s day ≡ Some k) l.stated v.device (put (l.stated v.device) v.day (Some v.count)) (λ d day k e. e)
           (put_all (λ day (o : Option ℕ). (k : ℕ) → l.stated v.device day ≡ Some k → o ≡ Some k) (l.stated v.device) v.day (Some v.count) (λ day k e. e) (λ k e. ap Some (right ∙ sym ((is v.device).stated_are.counted v.day k e))));
@@ -154,7 +160,9 @@ module _ (lists : ℕ → List RecordValue) (owner : ℕ) (x : OutboxValue) (l :
 
   pub close_grows : LedgerGrew l (with_close device l)
   close_grows = record {
+    owner = refl;
     start = refl;
+    knows = λ d. refl;
     taken = λ d. prefix_self (l.taken d);
     stated = λ d day c e. e;
     closed = put_all (λ d n. l.closed d ≤ n) l.closed device (l.closed device + 1) (λ d. omega arith) (omega arith);
@@ -167,7 +175,9 @@ retire_agrees lists owner x l device is d = is d
 
 pub retire_grows : (l : LedgerValue) (device : ℕ) → LedgerGrew l (with_retired device l)
 retire_grows l device = record {
+  owner = refl;
   start = refl;
+  knows = λ d. refl;
   taken = λ d. prefix_self (l.taken d);
   stated = λ d day c e. e;
   closed = λ d. omega arith;

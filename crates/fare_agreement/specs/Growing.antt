@@ -10,9 +10,12 @@ pub record OutboxGrew (old new : OutboxValue) : Type 0 where
   pub upto : (device : ℕ) → old.upto device ≤ new.upto device
   pub stated : (owner device day count : ℕ) → old.stated owner device day ≡ Some count → new.stated owner device day ≡ Some count
 
--- what was taken is a prefix of what is, and each statement, each closed day and each retired lane stays
+-- it is the same owner's, made with the same scheme; what was taken is a prefix of what is, and each statement, each closed
+-- day and each retired lane stays
 pub record LedgerGrew (old new : LedgerValue) : Type 0 where
+  pub owner : new.owner ≡ old.owner
   pub start : new.start ≡ old.start
+  pub knows : (device : ℕ) → new.knows device ≡ old.knows device
   pub taken : (device : ℕ) → IsPrefixOf (old.taken device) (new.taken device)
   pub stated : (device day count : ℕ) → old.stated device day ≡ Some count → new.stated device day ≡ Some count
   pub closed : (device : ℕ) → old.closed device ≤ new.closed device
