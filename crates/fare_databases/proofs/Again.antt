@@ -47,7 +47,7 @@ module _ {S : Type 0} (g : Ghosts S) where
       record { live = it.0; lawful = it.1; value = (s.now.trees, left, (λ i. ledger_words.value_at was.layout (mine i) (day i) (known i) s.now.trees) ∙ sym it.2) }
 
 -- the owner at a place of the scheme
-owner_at : (owners : List (ℕ × ℕ)) (place : ℕ) → place < length owners → (owner : ℕ) × (id_at owners place ≡ Some owner)
+pub owner_at : (owners : List (ℕ × ℕ)) (place : ℕ) → place < length owners → (owner : ℕ) × (id_at owners place ≡ Some owner)
 owner_at owners place lt = let it = element_at owners place lt in (it.0.0, ap (option_map (λ (e : ℕ × ℕ). e.0)) it.1)
 
 pub hub_again : {S D : Type 0} (g : Ghosts S) (state : D → State) (sc : SchemeValue) (was hub : Hub (SqlOutbox S g) (SqlLedger S g)) (outbox : State) (ledgers : List D) → IsScheme sc → hub.scheme ≡ sc → was.scheme ≡ sc → length ledgers ≡ length sc.owners

@@ -1,2 +1,9 @@
-pub mod Pushed
 pub mod Again
+pub mod Back
+pub mod Held
+pub mod Kept
+pub mod Looks
+pub mod Now
+pub mod Pushed
+pub mod Sound
+pub mod Staying

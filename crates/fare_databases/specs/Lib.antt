@@ -1,2 +1,5 @@
+pub mod Closed
+pub mod Held
+pub mod Holding
 pub mod Opened
 pub mod Reopened

@@ -25,6 +25,7 @@ use Rattle.fare_ledger.specs.Words as ledger_words
 -- Of a database that had no name of the outbox's tables, the empty outbox; of one that had a lawful outbox, that one;
 -- of one that had a lawful outbox of the first format, one of the newest with the same lists. There is no fourth.
 pub record IsOpenedOutbox (was : State) (x : Standing OutboxValue) : Type 0 where
+  pub alive : x.clean → x.live
   pub made : x.live → outbox_opening.IsVacant was → x.lawful × IsEmptyOutbox x.value
   pub kept : x.live → (w : outbox_layout.Layout) → IsFit (outbox_layouts.schema_in w) (outbox_words.IsLawful w) was → x.lawful × (x.value ≡ outbox_words.value_at w was.now.trees)
   -- each tap of route 0
@@ -41,6 +42,7 @@ pub record IsOpenedOutbox (was : State) (x : Standing OutboxValue) : Type 0 wher
 pub record IsOpenedLedger (sc : SchemeValue) (owner : ℕ) (was : State) (x : Standing LedgerValue) : Type 0 where
   pub own : x.value.owner ≡ owner
   pub scheme : IsOfScheme sc x.value
+  pub alive : x.clean → x.live
   pub made : x.live → ledger_opening.IsVacant was → x.lawful × IsEmptyLedger x.value
   pub kept : x.live → (w : ledger_layout.Layout) → IsFit (ledger_layouts.schema_in w) (ledger_words.IsLawful w owner sc.start) was → x.lawful × (x.value ≡ ledger_words.value_at w owner sc.start x.value.knows was.now.trees)
   -- of a lawful ledger of an older format, what that held

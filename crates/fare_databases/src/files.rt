@@ -1,12 +1,8 @@
 ghost use Rattle.std.specs.Prelude.{◌≡◌, ◌<◌, length, IfOk};
-ghost use Rattle.fare_sessions.specs.Stores.{HasLedgers};
 
-use crate::connected::{Databases, apart, end, take_last};
+use crate::databases::{Databases, end, take_last};
 use fare_files::make_file;
-use fare_ledger::SqlLedger;
-use fare_outbox::SqlOutbox;
 use fare_scheme::Scheme;
-use fare_sessions::Hub;
 use fare_store::Fault;
 use fare_tables::fault_of;
 use sqlite::Connection;
@@ -15,8 +11,8 @@ use sqlite_store::FileStore;
 use std::fs;
 use std::io::ErrorKind;
 
-/// A hub with its stores in files of this machine.
-pub type FileHub = Hub<SqlOutbox<FileStore<File>>, SqlLedger<FileStore<File>>>;
+/// The databases of a scheme's stores in files of this machine.
+pub type FileDatabases = Databases<FileStore<File>>;
 
 /// What comes of a database that isn't there.
 #[derive(Clone, Copy, PartialEq, Eq, Debug)]
@@ -84,33 +80,33 @@ fn close(database: Connection<FileStore<File>>) {
     let _ = database.close();
 }
 
-/// Opens the stores of a scheme in files: the outbox at a path, and the ledger of each owner, in the scheme's order, at
-/// that path, a dot and the owner's number. What isn't there is made, or refused. A store of an older format is raised to
-/// the newest, and keeps what it holds.
+/// Connects to the databases of a scheme's stores in files: that of the outbox at a path, and that of each owner's ledger,
+/// in the scheme's order, at that path, a dot and the owner's number. A file that isn't there is made, or refused.
 ///
 /// `Memory` where there was none for it, and `Store` where a file can't be made or opened, among others since another
-/// program has it open, or holds something else, in the order in which they are opened; what was made or raised before
-/// stays.
-pub fn open_files(
+/// program has it open, in the order in which they are opened; a file that was made before stays.
+pub fn connect_files(
     rt: &HostRuntime,
-    scheme: Scheme,
+    scheme: &Scheme,
     path: &str,
     absent: Absent,
-) -> Result<FileHub, Fault>
-    ensures scheme { IfOk result (λ hub. hub.scheme ≡ scheme) }
-    ensures owners { IfOk result HasLedgers }
+) -> Result<FileDatabases, Fault>
+    ensures owners { IfOk result (λ databases. length databases.ledgers.items ≡ length scheme.now.owners) }
 {
     let mut databases = Databases::first(rt.alloc(), connect(rt, path, absent))?;
     for place in 0..scheme.owner_count() {
-        databases = databases.and(connect_owner(rt, &scheme, place, path, absent))?;
+        databases = databases.and(connect_owner(rt, scheme, place, path, absent))?;
     }
-    databases.open(rt.alloc(), scheme)
+    Ok(databases)
 }
 
-/// Closes the stores of a hub, so that all rows of each are in the one file that its path names. Where that fails no row
-/// is lost: they are also in the log beside the file, from which the next open takes them.
-pub fn close_files(hub: FileHub) {
-    let (outbox, mut ledgers) = apart(hub);
+/// Closes databases in files, so that all rows of each are in the one file that its path names. Where that fails no row is
+/// lost: they are also in the log beside the file, from which the next open takes them.
+pub fn close_files(databases: FileDatabases) {
+    let Databases {
+        outbox,
+        mut ledgers,
+    } = databases;
     close(outbox);
     for _ in 0..ledgers.len() {
         if let Some(database) = take_last(&mut ledgers) {

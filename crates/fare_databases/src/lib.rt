@@ -2,13 +2,17 @@
 //! path, a dot and the owner's number. It promises that a hub is made only with one ledger for each owner of its
 //! scheme, in the scheme's order, each of which is that owner's and made with that scheme; and that each store holds
 //! what its database held: nothing where it had none of the store's tables, and what a lawful one held. A store of an
-//! older format is raised to the newest, and keeps its lists. A file that isn't there is made, or refused; one that
-//! holds something else is left alone.
+//! older format is raised to the newest, and keeps its lists. Where a hub can't be opened its databases come back, and
+//! hold what they held; and a hub that is closed is its databases again, with all that its stores hold. A file that
+//! isn't there is made, or refused; one that holds something else is left alone.
 #![tactic(auto)]
 
-mod connected;
+mod closing;
+mod databases;
 mod files;
 mod opening;
 
-pub use files::{Absent, FileHub, close_files, open_files};
-pub use opening::open_hub;
+pub use closing::close_hub;
+pub use databases::Databases;
+pub use files::{Absent, FileDatabases, close_files, connect_files};
+pub use opening::{OpenHub, open_hub};

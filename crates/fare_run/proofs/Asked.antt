@@ -1,5 +1,6 @@
 -- How a question ends, by how its parts do.
-use Rattle.std.proofs.Common.{◌≡◌, ◌≢◌, ℕ, List, Option, Some, None, IfSome, sym, ap, ◌∙◌, subst, codes, slice_index_or, arith}
+use Rattle.std.proofs.Common.{◌≡◌, ◌≢◌, ℕ, List, Option, Some, None, IfSome, sym, ap, ◌∙◌, subst, codes, slice_index_or, arith, inr}
+use Rattle.std.specs.Prelude.{Result, Ok, Err, OnOk, IfErr}
 use Rattle.std.specs.Io.KnownBytes.{Keeps}
 use Rattle.std.specs.Map.{keys_of}
 use Rattle.clap.specs.Words.{Row, Text}
@@ -17,9 +18,12 @@ use Rattle.fare_desk.specs.Showing.{AreLaneLines, AreUptoLines}
 use Rattle.fare_desk.specs.declared.fault.DeskFault.{DeskFault}
 use Rattle.fare_desk.specs.declared.fault.DeskFault.TheVariants as desk
 use Rattle.fare_sessions.specs.declared.hub.Hub.{Hub}
-use Rattle.fare_run.specs.Asking.{Answers, AskEnds, IsAnswered, KeepsUnlessWrite}
+use Rattle.fare_run.specs.Asking.{Answers, AskEnds, AskFails, FailsIn, IsAnswered, KeepsUnlessWrite}
 use Rattle.fare_run.specs.Runs.{IsOfFiles}
 use Rattle.fare_run.specs.Scheming.{SpellsScheme}
+use Rattle.fare_run.specs.declared.ask_failure.AskFailure.{AskFailure}
+use Rattle.fare_run.specs.declared.ask_failure.AskFailure.TheVariants.{Stores, Desk}
+use Rattle.fare_run.proofs.Served.{has_scheme}
 
 -- THE JOB
 -- the first letters of two words
@@ -62,7 +66,7 @@ no_files (Some m) sql (job.Ask path (Retire owner device)) replays is files = no
 -- THE STORES
 module _ {O L : Type 0} (outbox : O → Standing OutboxValue) (ledger : L → Standing LedgerValue) where
   -- what was written, of a hub of this scheme
-  answered : (question : Question) (sc : SchemeValue) (old new : Hub O L) (before after : Option (List ℕ)) → old.scheme ≡ sc → Answers outbox ledger question old new before after → IsAnswered sc question before after
+  pub answered : (question : Question) (sc : SchemeValue) (old new : Hub O L) (before after : Option (List ℕ)) → old.scheme ≡ sc → Answers outbox ledger question old new before after → IsAnswered sc question before after
   answered Close sc old new before after same a = (a.text, subst (λ (x : SchemeValue). AreLinesOf (lanes_of x) a.text) same a.lines, a.written)
   answered (Bill owner day) sc old new before after same a = (a.bill, a.short, a.written)
   answered (Settle owner day) sc old new before after same a = (a.shares, a.short, a.written)
@@ -75,9 +79,16 @@ module _ {O L : Type 0} (outbox : O → Standing OutboxValue) (ledger : L → St
   )
   answered (Retire owner device) sc old new before after same a = a.written
 
-  pub ask_done : (question : Question) (known : Option (List ℕ)) (sc : SchemeValue) (old new : Hub O L) (before after : Option (List ℕ)) → old.scheme ≡ sc → IfSome known (SpellsScheme sc) → Answers outbox ledger question old new before after → IfSome known (AskEnds question before after)
-  ask_done question None sc old new before after same spelled a = tt
-  ask_done question (Some input) sc old new before after same spelled a = record { sc = sc; spelled = spelled; writes = answered question sc old new before after same a }
+-- OVER DATABASES
+pub asked_done : (question : Question) (known : Option (List ℕ)) (sc : SchemeValue) (before after : Option (List ℕ)) (r : Result (Unit {0}) AskFailure) → IfSome known (SpellsScheme sc) → OnOk r (IsAnswered sc question before after) → OnOk r (IfSome known (AskEnds question before after))
+asked_done question None sc before after (Ok u) spelled is = tt
+asked_done question (Some input) sc before after (Ok u) spelled is = record { sc = sc; spelled = spelled; writes = is }
+asked_done question known sc before after (Err failure) spelled is = tt
+
+pub asked_failed : (question : Question) (known : Option (List ℕ)) (sc : SchemeValue) (before after : Option (List ℕ)) (r : Result (Unit {0}) AskFailure) → IfSome known (SpellsScheme sc) → IfErr r (FailsIn question before after) → IfErr r (AskFails question known before after)
+asked_failed question known sc before after (Ok u) spelled is = tt
+asked_failed question known sc before after (Err (Stores why)) spelled is = (is.0, inr (has_scheme known sc spelled, is.1))
+asked_failed question known sc before after (Err (Desk fault)) spelled is = (has_scheme known sc spelled, is)
 
 -- FAILURES
 pub keeps_unless : (fault : DeskFault) (before after : Option (List ℕ)) → (fault ≢ desk.Write → Keeps before after) → KeepsUnlessWrite fault before after

@@ -1,2 +1,4 @@
 mod Asked
+mod InDatabases
+mod Many
 mod Served

@@ -1,5 +1,5 @@
 -- How serving ends, by how its parts do.
-use Rattle.std.proofs.Common.{◌≡◌, ◌≢◌, ℕ, Bool, List, Option, Some, None, IfSome, refl, sym, subst, inl, inr, arith}
+use Rattle.std.proofs.Common.{◌≡◌, ◌≢◌, ℕ, Bool, List, Option, Some, None, IfSome, refl, sym, ap, subst, inl, inr, arith, length}
 use Rattle.std.specs.Prelude.{Result, Ok, Err, OnOk, IfErr}
 use Rattle.std.specs.Io.KnownBytes.{Appends, Keeps}
 use Rattle.std.proofs.KnownBytes.{Appends-kept, Appends-trans, Keeps-refl}
@@ -12,7 +12,7 @@ use Rattle.fare_serve.specs.Counting.{counts_text}
 use Rattle.fare_serve.specs.declared.fault.ServeFault.{ServeFault}
 use Rattle.fare_serve.specs.declared.fault.ServeFault.TheVariants as serve
 use Rattle.fare_run.specs.Scheming.{MakesNoScheme, SpellsScheme}
-use Rattle.fare_run.specs.Serving.{FailsOver, HasScheme, IsUntold, ServeEnds, ServeFails, ServesOver, WritesCounts, listening_line, serving_failure}
+use Rattle.fare_run.specs.Serving.{FailsOver, HasScheme, IsUntold, LeavesStores, ServeEnds, ServeFails, ServesOver, WritesCounts, listening_line, serving_failure}
 use Rattle.fare_run.specs.Stores.{IsOfStores}
 use Rattle.fare_run.specs.declared.serve_failure.ServeFailure.{ServeFailure}
 use Rattle.fare_run.specs.declared.serve_failure.ServeFailure.TheVariants.{Lines, Refused, NoScheme, Memory, Store, Network, Write}
@@ -80,6 +80,15 @@ failed_over (Err failure) known old new sc spelled is = fails_over known old new
 pub over_network : (old : Option (List ℕ)) (failure : ServeFailure) → failure ≡ Network → FailsOver old old failure
 over_network old failure is = subst (FailsOver old old) (sym is) (Keeps-refl old)
 
+pub over_stores : (old : Option (List ℕ)) (failure : ServeFailure) → IsOfStores failure → FailsOver old old failure
+over_stores old (Lines fault) is = absurd is
+over_stores old (Refused why) is = absurd is
+over_stores old NoScheme is = absurd is
+over_stores old Memory is = inl (Keeps-refl old)
+over_stores old Store is = inl (Keeps-refl old)
+over_stores old Network is = absurd is
+over_stores old Write is = absurd is
+
 pub over_told : (old new : Option (List ℕ)) (failure : ServeFailure) → IsUntold old new failure → FailsOver old new failure
 over_told old new (Lines fault) is = absurd is
 over_told old new (Refused why) is = absurd is
@@ -93,3 +102,10 @@ pub over_serving : (old mid new : Option (List ℕ)) (port : ℕ) (fault : Serve
 over_serving old mid new port serve.Memory told kept = inr (port, Appends-kept old mid new (listening_line port) told (kept (λ e. grind (arith, e))))
 over_serving old mid new port serve.Store told kept = inr (port, Appends-kept old mid new (listening_line port) told (kept (λ e. grind (arith, e))))
 over_serving old mid new port serve.Write told kept = tt
+
+-- the ledgers are as many
+pub count_still : {O L : Type 0} (outbox : O → Standing OutboxValue) (ledger : L → Standing LedgerValue) (old new : Hub O L) (most : ℕ) (untold : Bool) (before after : Option (List ℕ)) (r : Result (Unit {0}) ServeFailure) → OnOk r (ServesOver outbox ledger old new most untold before after) → IfErr r (LeavesStores outbox ledger old new)
+    → length new.ledgers.items ≡ length old.ledgers.items
+count_still outbox ledger old new most untold before after (Ok u) over none = over.served.keeps.follow.count
+count_still {O} {L} outbox ledger old new most untold before after (Err failure) none (inl still) = ap (λ (hub : Hub O L). length hub.ledgers.items) still
+count_still outbox ledger old new most untold before after (Err failure) none (inr it) = it.2.keeps.follow.count

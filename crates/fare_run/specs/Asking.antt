@@ -92,6 +92,12 @@ abbrev pub KeepsUnlessWrite : DeskFault → Option (List ℕ) → Option (List �
 KeepsUnlessWrite desk.Write before after = Unit {0}
 KeepsUnlessWrite _ before after = Keeps before after
 
+-- What each failure over databases says: one of opening the stores comes before anything is written, and one of a question
+-- writes nothing, but where the writer failed.
+abbrev pub FailsIn : Question → Option (List ℕ) → Option (List ℕ) → AskFailure → Type 0
+FailsIn question before after (Stores why) = Keeps before after × IsOfStores why
+FailsIn question before after (Desk fault) = IsAnsweredAtOnce question → KeepsUnlessWrite fault before after
+
 -- What each failure says: one of the scheme or of opening the stores comes before anything is written, and one of a
 -- question writes nothing, but where the writer failed.
 abbrev pub AskFails : Question → Option (List ℕ) → Option (List ℕ) → Option (List ℕ) → AskFailure → Type 0

@@ -1,13 +1,48 @@
-ghost use Rattle.std.specs.Prelude.{OnOk, IfErr, IfSome};
-ghost use Rattle.fare_run.specs.Asking.{AskEnds, AskFails};
+ghost use Rattle.std.specs.Prelude.{◌≡◌, length, OnOk, IfErr, IfSome};
+ghost use Rattle.fare_run.specs.Asking.{AskEnds, AskFails, FailsIn, IsAnswered};
+ghost use Rattle.fare_run.specs.Databases.{AnswersIn, KeepsIn};
 
 use crate::ask_failure::AskFailure;
 use crate::asking::answer_over;
 use crate::left::AskOptions;
 use crate::scheming::read_scheme;
-use crate::serve_job::hub_at;
-use fare_databases::{Absent, close_files};
+use crate::serve_job::{databases_at, of_opening};
+use fare_command::Question;
+use fare_databases::{Absent, Databases, close_files, close_hub, open_hub};
+use fare_scheme::Scheme;
+use sqlite::Alter;
+use std::alloc::Global;
 use std::io::{Read, Write};
+
+/// Opens the stores of a scheme in these databases, answers a question of them, closes their days or retires a lane, as
+/// `answer_over` says, and hands the databases back. What the stores held they hold afterwards, whatever came of it.
+///
+/// `Stores` where the stores can't be opened, and nothing was written then; `Desk` as `answer_over` says.
+pub fn ask_databases<S: Alter + Drop, O: Write>(
+    alloc: Global,
+    scheme: Scheme,
+    databases: Databases<S>,
+    question: Question,
+    output: &mut O,
+) -> (Databases<S>, Result<(), AskFailure>)
+    requires owners { length databases.ledgers.items ≡ length scheme.owners }
+    ensures done { OnOk result.1 (IsAnswered scheme question (O.contents output.old) (O.contents output.new)) }
+    ensures fails { IfErr result.1 (FailsIn question (O.contents output.old) (O.contents output.new)) }
+    ensures answers { OnOk result.1 (AnswersIn S.Store scheme question databases result.0 (O.contents output.old) (O.contents output.new)) }
+    ensures keeps { KeepsIn S.Store scheme databases result.0 }
+{
+    match open_hub(alloc, scheme, databases) {
+        Ok(mut opened) => {
+            let answered = answer_over(alloc, &mut opened.hub, question, output);
+            let databases = close_hub(opened);
+            match answered {
+                Ok(()) => (databases, Ok(())),
+                Err(fault) => (databases, Err(AskFailure::Desk(fault))),
+            }
+        }
+        Err((databases, fault)) => (databases, Err(AskFailure::Stores(of_opening(fault)))),
+    }
+}
 
 /// Answers a question of the stores in files at a path, closes their days or retires a lane, for the scheme that the lines of an input
 /// make. A file that isn't there is not made.
@@ -27,14 +62,17 @@ pub fn ask<I: Read, O: Write>(
         Ok(scheme) => scheme,
         Err(failure) => return Err(AskFailure::Stores(failure)),
     };
-    let mut hub = match hub_at(rt, scheme, options.path, Absent::Refused) {
-        Ok(hub) => hub,
+    let databases = match databases_at(rt, &scheme, options.path, Absent::Refused) {
+        Ok(databases) => databases,
         Err(failure) => return Err(AskFailure::Stores(failure)),
     };
-    let answered = answer_over(rt.alloc(), &mut hub, options.question, output);
-    close_files(hub);
-    match answered {
-        Ok(()) => Ok(()),
-        Err(fault) => Err(AskFailure::Desk(fault)),
-    }
+    let (databases, answered) = ask_databases(
+        rt.alloc(),
+        scheme,
+        databases,
+        options.question,
+        output,
+    );
+    close_files(databases);
+    answered
 }

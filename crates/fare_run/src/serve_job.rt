@@ -1,5 +1,5 @@
-ghost use Rattle.std.specs.Prelude.{◌≡◌, OnOk, IfOk, IfErr, IfSome};
-ghost use Rattle.fare_sessions.specs.Stores.{HasLedgers};
+ghost use Rattle.std.specs.Prelude.{◌≡◌, length, OnOk, IfOk, IfErr, IfSome};
+ghost use Rattle.fare_run.specs.Databases.{ServesIn};
 ghost use Rattle.fare_run.specs.Serving.{FailsOver, ServeEnds, ServeFails, WritesCounts};
 ghost use Rattle.fare_run.specs.Stores.{IsOfStores};
 
@@ -7,11 +7,10 @@ use crate::left::ServeOptions;
 use crate::scheming::read_scheme;
 use crate::serve_failure::ServeFailure;
 use crate::serving::serve_over;
-use fare_databases::{Absent, FileHub, close_files, open_files};
-use fare_ledger::SqlLedger;
-use fare_outbox::SqlOutbox;
+use fare_databases::{
+    Absent, Databases, FileDatabases, close_files, close_hub, connect_files, open_hub,
+};
 use fare_scheme::Scheme;
-use fare_sessions::Hub;
 use fare_store::Fault;
 use sqlite::Alter;
 use std::io::{Read, Write};
@@ -20,50 +19,69 @@ use std::sync::Wait;
 use std::thread::Threads;
 use std::time::Clock;
 
-// The hub of a scheme over its stores at a path.
-pub(crate) fn hub_at(
-    rt: &HostRuntime,
-    scheme: Scheme,
-    path: &str,
-    absent: Absent,
-) -> Result<FileHub, ServeFailure>
-    ensures scheme { IfOk result (λ hub. hub.scheme ≡ scheme) }
-    ensures owners { IfOk result HasLedgers }
-    ensures fails { IfErr result IsOfStores }
+// Why stores weren't opened.
+pub(crate) fn of_opening(fault: Fault) -> ServeFailure
+    ensures { IsOfStores result }
 {
-    match open_files(rt, scheme, path, absent) {
-        Ok(hub) => Ok(hub),
-        Err(Fault::Memory) => Err(ServeFailure::Memory),
-        Err(Fault::Store) => Err(ServeFailure::Store),
+    match fault {
+        Fault::Memory => ServeFailure::Memory,
+        Fault::Store => ServeFailure::Store,
     }
 }
 
-// Serves over the stores of a hub in databases. Written for any kind of database, so that no proof carries both what a
-// database in a file is made of and the sockets and threads.
-fn serve_hub<
+// The databases of a scheme's stores in files at a path.
+pub(crate) fn databases_at(
+    rt: &HostRuntime,
+    scheme: &Scheme,
+    path: &str,
+    absent: Absent,
+) -> Result<FileDatabases, ServeFailure>
+    ensures owners { IfOk result (λ databases. length databases.ledgers.items ≡ length scheme.now.owners) }
+    ensures fails { IfErr result IsOfStores }
+{
+    match connect_files(rt, scheme, path, absent) {
+        Ok(databases) => Ok(databases),
+        Err(fault) => Err(of_opening(fault)),
+    }
+}
+
+/// Opens the stores of a scheme in these databases, serves the scheme's stations over them, as `serve_over` says, and hands
+/// the databases back. Where the stores agree with lists of taps of which all frames are that came, they agree with them
+/// afterwards, however it ended: so after any number of runs, each over what the one before it left.
+///
+/// `Memory` or `Store` where the stores can't be opened, and nothing was written then; else the failures of `serve_over`.
+pub fn serve_databases<
     S: Alter + Drop + Send,
     O: Write,
     R: Net<Listener = TcpListener, Stream = TcpStream> + Threads + Wait + Clock + Eprint + Sync,
 >(
     rt: &HostRuntime,
     handles: &R,
-    hub: &mut Hub<SqlOutbox<S>, SqlLedger<S>>,
+    scheme: Scheme,
+    databases: Databases<S>,
     options: &ServeOptions<'_>,
     output: &mut O,
-) -> Result<(), ServeFailure>
-    requires owners { HasLedgers hub.old }
-    ensures served { OnOk result (WritesCounts hub.old.scheme (O.contents output.old) (O.contents output.new)) }
-    ensures fails { IfErr result (FailsOver (O.contents output.old) (O.contents output.new)) }
+) -> (Databases<S>, Result<(), ServeFailure>)
+    requires owners { length databases.ledgers.items ≡ length scheme.owners }
+    ensures served { OnOk result.1 (WritesCounts scheme (O.contents output.old) (O.contents output.new)) }
+    ensures fails { IfErr result.1 (FailsOver (O.contents output.old) (O.contents output.new)) }
+    ensures runs { ServesIn S.Store scheme databases result.0 (O.contents output.old) (O.contents output.new) result.1 }
 {
-    serve_over(
-        rt,
-        handles,
-        options.port,
-        hub,
-        options.limits,
-        options.until,
-        output,
-    )
+    match open_hub(rt.alloc(), scheme, databases) {
+        Ok(mut opened) => {
+            let served = serve_over(
+                rt,
+                handles,
+                options.port,
+                &mut opened.hub,
+                options.limits,
+                options.until,
+                output,
+            );
+            (close_hub(opened), served)
+        }
+        Err((databases, fault)) => (databases, Err(of_opening(fault))),
+    }
 }
 
 /// Serves the stations of the scheme that the lines of an input make, over the stores in files at a path, in rounds of one
@@ -86,8 +104,8 @@ pub fn serve<
     ensures fails { IfErr result (ServeFails (I.remaining input.old) (O.contents output.old) (O.contents output.new)) }
 {
     let scheme = read_scheme(rt.alloc(), input)?;
-    let mut hub = hub_at(rt, scheme, options.path, Absent::Made)?;
-    let served = serve_hub(rt, handles, &mut hub, options, output);
-    close_files(hub);
+    let databases = databases_at(rt, &scheme, options.path, Absent::Made)?;
+    let (databases, served) = serve_databases(rt, handles, scheme, databases, options, output);
+    close_files(databases);
     served
 }

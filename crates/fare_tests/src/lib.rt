@@ -11,6 +11,8 @@ mod checking;
 #[cfg(test)]
 mod command_line;
 #[cfg(test)]
+mod databases;
+#[cfg(test)]
 mod desk;
 #[cfg(test)]
 mod endings;

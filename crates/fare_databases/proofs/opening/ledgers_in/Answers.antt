@@ -1,12 +1,15 @@
-use Rattle.std.proofs.Common.{◌≡◌, ◌+◌, ◌<◌, ◌++◌, ◌∷◌, ℕ, zero, suc, [], Some, length, sym, ap, ◌∙◌, arith, rules}
+use Rattle.std.proofs.Common.{◌≡◌, ◌+◌, ◌<◌, ◌++◌, ◌∷◌, ℕ, zero, suc, [], Some, length, refl, sym, ap, ◌∙◌, subst, arith, rules}
 use Rattle.std.specs.Prelude.{slice_get}
-use Rattle.std.specs.Vec.Iter.{into_iter_len}
+use Rattle.std.specs.Vec.Iter.{into_iter_len, into_iter_items}
 use Rattle.std.proofs.lemmas.List.{length_push}
 use Rattle.sqlite.specs.Held.{state}
 use Rattle.fare_scheme.specs.Words.{id_at}
 use Rattle.fare_ledger.specs.Words.{stands}
+use Rattle.fare_databases.specs.Closed.{AreHandedBack}
+use Rattle.fare_databases.specs.Holding.{AreStaying}
 use Rattle.fare_databases.specs.Opened.{IsOpenedLedger}
 use Rattle.fare_collect.proofs.Last.{at_known}
+use Rattle.fare_databases.proofs.Back.{back_again}
 use Rattle.fare_databases.proofs.Pushed.{each_more}
 use Rattle.fare_databases.proofs.opening.ledgers_in.Goals as goal
 
@@ -16,14 +19,26 @@ nothing_at (suc k) x e = absurd (cc)
 
 pub loop-database-init : goal.loop-database-init
 loop-database-init g c =
-    let gives = c.into_iter-database-iterator.ensures.into_iter_gives in
-    let none = c.new-ledgers.ensures.items in (
-      tt,
-      tt,
-      search rules,
+    let gives = c.into_iter-waiting.ensures.rest in
+    let none = c.requires.empty.0 in
+    let nothing : length c.args.opened.items ≡ 0 = ap length none in
+    let many : into_iter_len c.into_iter-waiting.result ≡ length c.args.databases.items = search rules in
+    let owners = c.requires.owners in (
+      omega (arith, nothing, many, owners),
       λ k x owner d e known there. absurd (nothing_at k x (ap (λ l. slice_get l k) (sym none) ∙ e)),
-      λ k. let same : k ≡ length c.new-ledgers.result.items + k = (let n = ap length none in omega (arith, n)) in ap (λ l. slice_get l k) gives.0 ∙ ap (slice_get c.args.databases.items) same,
+      λ k. let same : k ≡ length c.args.opened.items + k = omega (arith, nothing) in ap (λ l. slice_get l k) gives ∙ ap (slice_get c.args.databases.items) same,
+      c.requires.room.0,
+      refl,
+      ap length gives ∙ sym many,
     )
+
+pub unreachable-requires : goal.unreachable-requires
+unreachable-requires g c =
+    let at : c.len.result ≡ length c.loop-database.ledgers.items = search rules in
+    let fewer : into_iter_len c.next.new.self + 1 ≡ into_iter_len c.loop-database.waiting = c.in-Some.ensures.cases.1 in
+    let count = c.loop-database.invariant.0 in
+    let less : c.len.result < length c.args.scheme.now.owners = omega (arith, at, fewer, count) in
+    at_known c.args.scheme.now.owners c.len.result less (sym c.owner_at.ensures.value ∙ c.in_default-owner_at.is)
 
 pub loop-database-preserved : goal.loop-database-preserved
 loop-database-preserved g c =
@@ -31,36 +46,55 @@ loop-database-preserved g c =
     let ds = c.args.databases.items in
     let xs = c.loop-database.ledgers.items in
     let i = c.loop-database.invariant in
-    let ledger = c.in_ok-ledger_in.field-0 in
+    let ledger = c.in-Ok.ledger in
     let at : c.len.result ≡ length xs = search rules in
     let known : id_at sc.owners (length xs) ≡ Some c.in-Some-owner_at.owner = ap (id_at sc.owners) (sym at) ∙ sym c.owner_at.ensures.value ∙ c.in-Some-owner_at.is in
-    let items = c.in-Some.ensures.steps.0 in
+    let items = c.in-Some.ensures.items in
     let here : length xs + 0 ≡ length xs = omega arith in
-    let there : slice_get ds (length xs) ≡ Some c.in-Some.database = ap (slice_get ds) (sym here) ∙ (sym (i.4 0) ∙ ap (λ l. slice_get l 0) items) in
-    let pushed : c.push.new.self.items ≡ xs ++ ledger ∷ [] = c.in_ok-push.ensures.items in
-    let grown : length c.push.new.self.items ≡ length xs + 1 = ap length pushed ∙ length_push xs ledger in
-    let fewer : into_iter_len c.next.new.self + 1 ≡ into_iter_len c.loop-database.database-iterator = c.in-Some.ensures.steps.1 in
-    let count = i.2 in (
-      tt,
-      tt,
+    let there : slice_get ds (length xs) ≡ Some c.in-Some.database = ap (slice_get ds) (sym here) ∙ (sym (i.2 0) ∙ ap (λ l. slice_get l 0) items) in
+    let pushed : c.push_reserved.new.self.items ≡ xs ++ ledger ∷ [] = c.push_reserved.ensures.items in
+    let grown : length c.push_reserved.new.self.items ≡ length xs + 1 = ap length pushed ∙ length_push xs ledger in
+    let fewer : into_iter_len c.next.new.self + 1 ≡ into_iter_len c.loop-database.waiting = c.in-Some.ensures.cases.1 in
+    let count = i.0 in
+    let long : length (into_iter_items c.loop-database.waiting) ≡ suc (length (into_iter_items c.next.new.self)) = ap length items in
+    let same = i.5 in (
       omega (arith, grown, fewer, count),
-      λ k x owner d e known_k there_k. each_more sc.owners ds (λ o d y. IsOpenedLedger sc o (state g.S.Store d) (stands g.S.Store y)) xs ledger c.in-Some-owner_at.owner c.in-Some.database i.3 known there c.in_ok-ledger_in.ensures k x owner d (ap (λ l. slice_get l k) (sym pushed) ∙ e) known_k there_k,
+      λ k x owner d e known_k there_k. each_more sc.owners ds (λ o d y. IsOpenedLedger sc o (state g.S.Store d) (stands g.S.Store y)) xs ledger c.in-Some-owner_at.owner c.in-Some.database i.1 known there c.in-Ok.ensures.opened k x owner d (ap (λ l. slice_get l k) (sym pushed) ∙ e) known_k there_k,
       λ k.
-          let next : length xs + suc k ≡ length c.push.new.self.items + k = omega (arith, grown) in
-          ap (λ l. slice_get l (suc k)) (sym items) ∙ (i.4 (suc k) ∙ ap (slice_get ds) next),
+          let next : length xs + suc k ≡ length c.push_reserved.new.self.items + k = omega (arith, grown) in
+          ap (λ l. slice_get l (suc k)) (sym items) ∙ (i.2 (suc k) ∙ ap (slice_get ds) next),
+      (let kept = c.push_reserved.ensures.capacity in let was = i.3 in omega (arith, kept, was)),
+      i.4,
+      omega (arith, long, same, fewer),
     )
 
-pub unreachable-requires : goal.unreachable-requires
-unreachable-requires g c =
-    let at : c.len.result ≡ length c.loop-database.ledgers.items = search rules in
-    let fewer : into_iter_len c.next.new.self + 1 ≡ into_iter_len c.loop-database.database-iterator = c.in-Some.ensures.steps.1 in
-    let count = c.loop-database.invariant.2 in
-    let less : c.len.result < length c.args.scheme.now.owners = omega (arith, at, fewer, count) in
-    at_known c.args.scheme.now.owners c.len.result less (sym c.owner_at.ensures.value ∙ c.in_default.is)
-
-pub returns : goal.returns
-returns g c =
+pub returns-in-Err-clause-stay : goal.returns-in-Err-clause-stay
+returns-in-Err-clause-stay g c =
+    let sc = c.args.scheme.now in
+    let ds = c.args.databases.items in
+    let xs = c.loop-database.ledgers.items in
     let i = c.loop-database.invariant in
-    let ended : into_iter_len c.loop-database.database-iterator ≡ 0 = c.in-None.ensures.steps.0 in
-    let count = i.2 in
-    record { count = omega (arith, ended, count); each = i.3 }
+    let at : c.len.result ≡ length xs = search rules in
+    let known : id_at sc.owners (length xs) ≡ Some c.in-Some-owner_at.owner = ap (id_at sc.owners) (sym at) ∙ sym c.owner_at.ensures.value ∙ c.in-Some-owner_at.is in
+    let items = c.in-Some.ensures.items in
+    let here : length xs + 0 ≡ length xs = omega arith in
+    let there : slice_get ds (length xs) ≡ Some c.in-Some.database = ap (slice_get ds) (sym here) ∙ (sym (i.2 0) ∙ ap (λ l. slice_get l 0) items) in
+    let rest = into_iter_items c.next.new.self in
+    let long : length (into_iter_items c.loop-database.waiting) ≡ suc (length rest) = ap length items in
+    let same = i.5 in
+    let count = i.0 in
+    let owners = c.requires.owners in
+    let many : length ds ≡ length xs + suc (length rest) = omega (arith, long, same, count, owners) in
+    let empty = ap (λ r. r.items) i.4 ∙ c.requires.empty.1 in
+    let after = c.hand_back.new.databases.items in
+    let back = subst (λ before. AreHandedBack g.S.Store xs before after) empty c.hand_back.ensures.back in
+    let whole = c.hand_on.ensures ∙ ap (λ l. l ++ rest) c.push_reserved-in-Err.ensures.items in
+    subst (λ l. AreStaying (λ d. state g.S.Store d) sc ds l) (sym whole)
+    (back_again g.S.Store sc (record { settled = g.met.S.Store.settled; survives = g.met.S.Store.survives }) ds xs c.in-Some-owner_at.owner c.in-Some.database c.in-Err.database rest after i.1 known there c.in-Err.ensures.stays (λ k. ap (λ l. slice_get l (suc k)) (sym items) ∙ i.2 (suc k)) many back)
+
+pub returns-clause-opened : goal.returns-clause-opened
+returns-clause-opened g c =
+    let i = c.loop-database.invariant in
+    let ended : into_iter_len c.loop-database.waiting ≡ 0 = c.in_default.ensures.cases.0 in
+    let count = i.0 in
+    record { count = omega (arith, ended, count); each = i.1 }

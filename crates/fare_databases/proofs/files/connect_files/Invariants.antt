@@ -1,5 +1,5 @@
 use Rattle.std.proofs.Common.{◌≡◌, length}
-use Rattle.fare_databases.proofs.files.open_files.Given as goal
+use Rattle.fare_databases.proofs.files.connect_files.Given as goal
 
 abbrev pub invariant-loop-place : goal.invariant-loop-place
 invariant-loop-place l = length l.databases.ledgers.items ≡ l.place

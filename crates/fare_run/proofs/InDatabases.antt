@@ -1,0 +1,167 @@
+-- What serving and asking make of the databases in which a scheme's stores lie.
+use Rattle.std.proofs.Common.{◌≡◌, ℕ, List, [], Some, None, Ok, Err, refl, sym, ap, ◌∙◌, subst, inl, inr}
+use Rattle.std.specs.Prelude.{Bool, Option, OnOk, IfErr, Result, is_some, length}
+use Rattle.std.specs.Io.KnownBytes.{Appends}
+use Rattle.std.specs.List.{AllByRecursion, flat_map}
+use Rattle.std.proofs.KnownBytes.{Appends-trans}
+use Rattle.sqlite_trees.specs.Tree.{Trees}
+use Rattle.sqlite_trees.specs.declared.store.Store.{Ghosts}
+use Rattle.fare_record.specs.Values.{RecordValue}
+use Rattle.fare_scheme.specs.Facts.{IsScheme}
+use Rattle.fare_scheme.specs.Values.{SchemeValue}
+use Rattle.fare_scheme.specs.Words.{position_of_owner}
+use Rattle.fare_cap.specs.Bills.{bill_of}
+use Rattle.fare_settle.specs.Settling.{settlement_of}
+use Rattle.fare_source.specs.declared.shift.Shift.{Shift}
+use Rattle.fare_net.specs.NetValue.{NetValue}
+use Rattle.fare_collect.specs.declared.station.Station.{Station}
+use Rattle.fare_outbox.specs.declared.tables.SqlOutbox.{SqlOutbox}
+use Rattle.fare_ledger.specs.declared.tables.SqlLedger.{SqlLedger}
+use Rattle.fare_history.specs.Stores.{StoresValue}
+use Rattle.fare_agreement.specs.Agreeing.{AreNumberedLists, Agrees}
+use Rattle.fare_agreement.specs.Parts.{parts_of}
+use Rattle.fare_sessions.specs.Billing.{open_in, short_in}
+use Rattle.fare_sessions.specs.Reopening.{AreLasting}
+use Rattle.fare_sessions.specs.Stores.{AreClean, AreLive, AreSound, HasLedgers, MayStandAs}
+use Rattle.fare_sessions.specs.declared.hub.Hub.{Hub}
+use Rattle.fare_sessions.proofs.Follow.{clean_back}
+use Rattle.fare_desk.specs.Billing as desk
+use Rattle.fare_desk.specs.Closing.{GoesOn}
+use Rattle.fare_serve.specs.Calls.{AreHeld, IsOfScheme}
+use Rattle.fare_serve.specs.Counting.{counts_text}
+use Rattle.fare_serve.specs.Rounds.{AreCountsOf, IsRound, calls_of}
+use Rattle.fare_serve.specs.Serving.{AreAllCovered, HaveTold, KeepsStores, shift_talk}
+use Rattle.fare_serve.proofs.Held.{calls_keep}
+use Rattle.fare_command.specs.declared.words.Question.{Question}
+use Rattle.fare_command.specs.declared.words.Question.TheVariants.{Close, Bill, Settle, Stand, Retire}
+use Rattle.fare_databases.specs.Closed.{IsHandedBack}
+use Rattle.fare_databases.specs.Held.{AreCleanDisks, Holds, Show, StayStores}
+use Rattle.fare_databases.specs.Holding.{HoldStores, LedgersLook, StoresLook}
+use Rattle.fare_databases.specs.declared.databases.Databases.{Databases}
+use Rattle.fare_databases.proofs.Kept.{agreed_old, clean_new, known, run_keeps, sound_old, stands_ledger, stands_outbox, unopened_keeps}
+use Rattle.fare_databases.proofs.Looks.{ledger_self, open_alike, parts_alike, short_alike, stores_agree}
+use Rattle.fare_databases.proofs.Now.{now_all, stands_now, unknown_now}
+use Rattle.fare_run.specs.Asking.{Answers}
+use Rattle.fare_run.specs.Databases.{AnswersIn, IsBilled, IsMadeOf, KeepDatabases, KeepsIn, LineCall, ServesIn, bill_text, settlement_text}
+use Rattle.fare_run.specs.Serving.{LeavesStores, ServesOver, listening_line}
+use Rattle.fare_run.specs.declared.serve_failure.ServeFailure.{ServeFailure}
+
+module _ {S : Type 0} (g : Ghosts S) (sc : SchemeValue) (valid : IsScheme sc) (before after : Databases S) where
+  -- NOT OPENED
+  pub keeps_unopened : (AreGiven : (ℕ → List RecordValue) → Type 0) (IsSo : StoresValue → Type 0) → ((k : StoresValue) → IsSo k) → length before.ledgers.items ≡ length sc.owners → StayStores g sc before after → KeepDatabases g sc before after AreGiven IsSo
+  keeps_unopened AreGiven IsSo so count stay = record {
+    keeps = λ clean lists numbered given outbox ledgers shows agreed outbox_left ledgers_left leave.
+        let kept = unopened_keeps g sc valid before after count stay clean outbox ledgers shows agreed.0 agreed.1 outbox_left ledgers_left leave lists agreed.2 in
+        (kept, so kept.is);
+  }
+
+  pub serves_unopened : (written : Option (List ℕ)) (failure : ServeFailure) → length before.ledgers.items ≡ length sc.owners → StayStores g sc before after → ServesIn g sc before after written written (Err failure)
+  serves_unopened written failure count stay = record { calls = []; came = inl refl; keeps = keeps_unopened (λ lists. HaveTold sc lists []) (λ k. AreAllCovered sc k.outbox []) (λ k. tt) count stay }
+
+  -- OPENED
+  module _ (old new : Hub (SqlOutbox S g) (SqlLedger S g)) (same : old.scheme ≡ sc) (count : HasLedgers old) (holds : AreClean (stands_outbox g) (stands_ledger g) old → Holds g before old) (back : IsHandedBack g new after) where
+    numbered_old : (lists : ℕ → List RecordValue) → AreNumberedLists sc lists → AreNumberedLists old.scheme lists
+    numbered_old lists numbered = subst (λ s. AreNumberedLists s lists) (sym same) numbered
+
+    -- SERVING
+    keeps_calls : (calls : List LineCall) → AreHeld shift_talk (stands_outbox g) (stands_ledger g) old new calls → KeepDatabases g sc before after (λ lists. HaveTold sc lists calls) (λ k. AreAllCovered sc k.outbox calls)
+    keeps_calls calls held = record {
+      keeps = λ clean lists numbered told outbox ledgers shows agreed outbox_left ledgers_left leave.
+          let h = agreed.0 in
+          let clean_now = clean_new g sc valid before after old new same count holds k.scheme k.follow back clean in
+          let sound = sound_old g sc valid before after old new same count holds k.scheme k.follow back clean outbox ledgers shows h agreed.1 in
+          let is = agreed_old g sc valid before after old new same count holds k.scheme k.follow back clean outbox ledgers shows h agreed.1 lists agreed.2 in
+          let both = k.agrees clean_now sound lists (numbered_old lists numbered) told is in
+          let kept = run_keeps g sc valid before after old new same count holds k.scheme k.follow back clean outbox ledgers shows h agreed.1 lists both.0 both.1 outbox_left ledgers_left leave in
+          (kept.0, subst (λ s. AreAllCovered s kept.0.is.outbox calls) same (k.covered clean_now sound lists (numbered_old lists numbered) told is kept.0.is kept.1));
+    }
+      where
+        k : KeepsStores (stands_outbox g) (stands_ledger g) old new calls (λ lists. HaveTold sc lists calls)
+        k = calls_keep (stands_outbox g) (stands_ledger g) old new calls (λ lists. HaveTold sc lists calls) (λ lists told. subst (λ s. HaveTold s lists calls) (sym same) told) held
+
+    pub serves_opened : (most : ℕ) (untold : Bool) (written_before written_after : Option (List ℕ)) (r : Result (Unit {0}) ServeFailure) → OnOk r (ServesOver (stands_outbox g) (stands_ledger g) old new most untold written_before written_after) → IfErr r (LeavesStores (stands_outbox g) (stands_ledger g) old new) → ServesIn g sc before after written_before written_after r
+    serves_opened most untold written_before written_after (Ok u) over none =
+        let been = over.served.held.held in
+        record {
+          calls = flat_map calls_of been.rounds;
+          came = (
+            over.port,
+            been.rounds,
+            over.served.counts,
+            refl,
+            subst (λ s. AreCountsOf s been.rounds over.served.counts) same been.counted,
+            subst (λ s. AllByRecursion (λ r. (stations : List (Station (Shift NetValue))) × IsRound s r stations) been.rounds) same been.served.each,
+            Appends-trans written_before over.mid written_after (listening_line over.port) (counts_text over.served.counts) over.told over.served.written,
+          );
+          keeps = keeps_calls (flat_map calls_of been.rounds) been.served.held;
+        }
+    serves_opened most untold written_before written_after (Err failure) none (inl still) = record { calls = []; came = inl refl; keeps = keeps_calls [] still }
+    serves_opened most untold written_before written_after (Err failure) none (inr it) =
+        let failed = it.2.failed in
+        record {
+          calls = failed.calls;
+          came = inr (it.0, it.1, failed.ended, subst (λ s. AllByRecursion (IsOfScheme s) failed.calls) same failed.each);
+          keeps = keeps_calls failed.calls failed.held;
+        }
+
+    -- ASKING
+    module _ (goes : GoesOn (stands_outbox g) (stands_ledger g) old new) where
+      pub keeps_asked : KeepsIn g sc before after
+      keeps_asked = record {
+        keeps = λ clean lists numbered given outbox ledgers shows agreed outbox_left ledgers_left leave.
+            let h = agreed.0 in
+            let clean_now = clean_new g sc valid before after old new same count holds goes.scheme goes.follow back clean in
+            let sound = sound_old g sc valid before after old new same count holds goes.scheme goes.follow back clean outbox ledgers shows h agreed.1 in
+            let is = agreed_old g sc valid before after old new same count holds goes.scheme goes.follow back clean outbox ledgers shows h agreed.1 lists agreed.2 in
+            let kept = run_keeps g sc valid before after old new same count holds goes.scheme goes.follow back clean outbox ledgers shows h agreed.1 lists (goes.agrees clean_now sound lists (numbered_old lists numbered) is) (goes.grows clean_now sound lists (numbered_old lists numbered) is) outbox_left ledgers_left leave in
+            (kept.0, tt);
+      }
+
+      module _ (clean : AreCleanDisks g after) (lists : ℕ → List RecordValue) (numbered : AreNumberedLists sc lists) (outbox : Trees) (ledgers : ℕ → Trees) (shows : Show g before outbox ledgers) (h : StoresValue) (held : HoldStores sc outbox ledgers h) (agrees : Agrees sc lists h) where
+        is_known : AreLive (stands_outbox g) (stands_ledger g) old × AreSound (stands_outbox g) (stands_ledger g) old × AreLasting (stands_outbox g) (stands_ledger g) old × ((k : StoresValue) → MayStandAs (stands_outbox g) (stands_ledger g) old k → HoldStores sc outbox ledgers k × StoresLook sc h k)
+        is_known = known g sc valid before after old new same count holds goes.scheme goes.follow back clean outbox ledgers shows h held
+
+        clean_now : AreClean (stands_outbox g) (stands_ledger g) new
+        clean_now = clean_new g sc valid before after old new same count holds goes.scheme goes.follow back clean
+
+        -- what the stores hold now
+        abbrev k : StoresValue
+        k = now_all (stands_outbox g) (stands_ledger g) sc valid old same count h
+
+        may : MayStandAs (stands_outbox g) (stands_ledger g) old k
+        may = stands_now (stands_outbox g) (stands_ledger g) sc valid old same count h is_known.0
+
+        looks : (owner : ℕ) → LedgersLook (h.ledgers owner) (k.ledgers owner)
+        looks owner = by (position_of_owner sc owner) refl
+          where
+            by : (o : Option ℕ) (e : position_of_owner sc owner ≡ o) → LedgersLook (h.ledgers owner) (k.ledgers owner)
+            by None e = subst (λ l. LedgersLook (h.ledgers owner) l) (sym (unknown_now (stands_outbox g) (stands_ledger g) sc valid old same count h owner e)) (ledger_self (h.ledgers owner))
+            by (Some place) e = (is_known.3 k may).1.ledgers_look owner (ap is_some e)
+
+        made_billed : {V : Type 0} (rule : SchemeValue → List RecordValue → ℕ → V) (text : V → List ℕ → List ℕ) (owner day : ℕ) (made : V) (devices : List ℕ) (written_before written_after : Option (List ℕ))
+            → desk.IsMadeOf (stands_outbox g) (stands_ledger g) rule old owner day made devices → Appends written_before written_after (text made devices) → IsMadeOf rule text sc lists h owner day written_before written_after
+        made_billed rule text owner day made devices written_before written_after m written =
+            let closed : open_in sc (k.ledgers owner) day ≡ None = ap (λ s. open_in s (k.ledgers owner) day) (sym same) ∙ m.closed k may in
+            let short : devices ≡ short_in sc (h.ledgers owner) day = m.short k may ∙ ap (λ s. short_in s (k.ledgers owner) day) same ∙ short_alike sc (h.ledgers owner) (k.ledgers owner) day (looks owner) in
+            let now : Agrees old.scheme lists k = subst (λ s. Agrees s lists k) (sym same) (stores_agree sc lists h k (is_known.3 k may).1 agrees) in
+            let is : made ≡ rule sc (parts_of sc lists (h.ledgers owner) owner) day =
+            m.numbered lists k (numbered_old lists numbered) may now ∙ ap (λ s. rule s (parts_of s lists (k.ledgers owner) owner) day) same ∙ ap (λ taps. rule sc taps day) (parts_alike sc lists (h.ledgers owner) (k.ledgers owner) owner (looks owner)) in
+            (sym (open_alike sc (h.ledgers owner) (k.ledgers owner) day (looks owner)) ∙ closed, subst (λ (z : _ × List ℕ). Appends written_before written_after (text z.0 z.1)) (λ i. (is i, short i)) written)
+
+        pub is_billed : (question : Question) (written_before written_after : Option (List ℕ)) → Answers (stands_outbox g) (stands_ledger g) question old new written_before written_after → IsBilled sc lists h question written_before written_after
+        is_billed Close written_before written_after a = tt
+        is_billed (Bill owner day) written_before written_after a = made_billed bill_of (bill_text owner day) owner day a.bill a.short written_before written_after (a.made clean_now is_known.1) a.written
+        is_billed (Settle owner day) written_before written_after a = made_billed settlement_of (settlement_text owner day) owner day a.shares a.short written_before written_after (a.made clean_now is_known.1) a.written
+        is_billed Stand written_before written_after a = tt
+        is_billed (Retire owner device) written_before written_after a = tt
+
+      pub answers_opened : (question : Question) (written_before written_after : Option (List ℕ)) → Answers (stands_outbox g) (stands_ledger g) question old new written_before written_after → AnswersIn g sc question before after written_before written_after
+      answers_opened question written_before written_after a = record {
+        old = old;
+        new = new;
+        scheme = same;
+        back = back;
+        answers = a;
+        holds = λ clean. holds (clean_back (stands_outbox g) (stands_ledger g) old new goes.follow (clean_new g sc valid before after old new same count holds goes.scheme goes.follow back clean));
+        billed = λ clean lists numbered outbox ledgers shows h held agrees. is_billed clean lists numbered outbox ledgers shows h held agrees question written_before written_after a;
+      }

@@ -1,0 +1,27 @@
+use Rattle.fare_run.proofs.Asked.{answered, keeps_unless}
+use Rattle.fare_run.proofs.InDatabases.{answers_opened, keeps_asked, keeps_unopened}
+use Rattle.fare_run.proofs.ask_job.ask_databases.Goals as goal
+
+pub returns-in-Ok-answered-clause-done : goal.returns-in-Ok-answered-clause-done
+returns-in-Ok-answered-clause-done g c =
+    answered _ _ c.args.question c.args.scheme c.in-Ok.opened.hub c.answer_over-answered.new.hub (g.O.Write.contents c.args.output.now) (g.O.Write.contents c.answer_over-answered.new.output) c.in-Ok.ensures.scheme c.in-Ok-answered.ensures.answers
+
+pub returns-in-Ok-answered-clause-answers : goal.returns-in-Ok-answered-clause-answers
+returns-in-Ok-answered-clause-answers g c =
+    answers_opened g.S.Store c.args.scheme c.in-Ok.ensures.valid c.args.databases c.close_hub-databases.result c.in-Ok.opened.hub c.answer_over-answered.new.hub c.in-Ok.ensures.scheme c.in-Ok.ensures.count c.in-Ok.ensures.holds c.close_hub-databases.ensures.back c.in-Ok-answered.ensures.goes
+    c.args.question (g.O.Write.contents c.args.output.now) (g.O.Write.contents c.answer_over-answered.new.output) c.in-Ok-answered.ensures.answers
+
+pub returns-in-Ok-answered-clause-keeps : goal.returns-in-Ok-answered-clause-keeps
+returns-in-Ok-answered-clause-keeps g c =
+    keeps_asked g.S.Store c.args.scheme c.in-Ok.ensures.valid c.args.databases c.close_hub-databases.result c.in-Ok.opened.hub c.answer_over-answered.new.hub c.in-Ok.ensures.scheme c.in-Ok.ensures.count c.in-Ok.ensures.holds c.close_hub-databases.ensures.back c.in-Ok-answered.ensures.goes
+
+pub returns-in-Err-answered-clause-fails : goal.returns-in-Err-answered-clause-fails
+returns-in-Err-answered-clause-fails g c question = keeps_unless c.in-Err-answered.fault (g.O.Write.contents c.args.output.now) (g.O.Write.contents c.answer_over-answered.new.output) (c.in-Err-answered.ensures.kept question)
+
+pub returns-in-Err-answered-clause-keeps : goal.returns-in-Err-answered-clause-keeps
+returns-in-Err-answered-clause-keeps g c =
+    keeps_asked g.S.Store c.args.scheme c.in-Ok.ensures.valid c.args.databases c.close_hub-databases.result c.in-Ok.opened.hub c.answer_over-answered.new.hub c.in-Ok.ensures.scheme c.in-Ok.ensures.count c.in-Ok.ensures.holds c.close_hub-databases.ensures.back c.in-Err-answered.ensures.goes
+
+pub returns-in-Err-clause-keeps : goal.returns-in-Err-clause-keeps
+returns-in-Err-clause-keeps g c =
+    keeps_unopened g.S.Store c.args.scheme c.in-Err.ensures.valid c.args.databases c.in-Err.databases (λ lists. Unit {0}) (λ k. Unit {0}) (λ k. tt) c.requires.owners c.in-Err.ensures.stay

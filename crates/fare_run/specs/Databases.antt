@@ -1,0 +1,106 @@
+-- What serving, and asking, make of the databases in which a scheme's stores lie.
+use Rattle.std.specs.Prelude.{◌≡◌, ◌⊎◌, ℕ, ◌++◌, List, [], Option, None, Result, Ok, Err}
+use Rattle.std.specs.Io.KnownBytes.{Appends}
+use Rattle.std.specs.List.{AllByRecursion, flat_map}
+use Rattle.sqlite_trees.specs.Tree.{Trees}
+use Rattle.sqlite_trees.specs.declared.store.Store.{Ghosts}
+use Rattle.fare_record.specs.Values.{RecordValue}
+use Rattle.fare_scheme.specs.Values.{SchemeValue}
+use Rattle.fare_cap.specs.Bills.{BillValue, bill_of}
+use Rattle.fare_settle.specs.Settling.{settlement_of}
+use Rattle.fare_settle.specs.Values.{SettledValue}
+use Rattle.fare_source.specs.declared.shift.Shift.{Shift}
+use Rattle.fare_net.specs.NetValue.{NetValue}
+use Rattle.fare_collect.specs.declared.station.Station.{Station}
+use Rattle.fare_outbox.specs.declared.tables.SqlOutbox.{SqlOutbox}
+use Rattle.fare_outbox.specs.Words as outbox_words
+use Rattle.fare_ledger.specs.declared.tables.SqlLedger.{SqlLedger}
+use Rattle.fare_ledger.specs.Words as ledger_words
+use Rattle.fare_history.specs.Stores.{StoresValue}
+use Rattle.fare_agreement.specs.Agreeing.{AreNumberedLists, Agrees}
+use Rattle.fare_agreement.specs.Parts.{parts_of}
+use Rattle.fare_sessions.specs.Billing.{open_in, short_in}
+use Rattle.fare_sessions.specs.declared.hub.Hub.{Hub}
+use Rattle.fare_serve.specs.Calls.{AreEndedBy, Call, IsOfScheme}
+use Rattle.fare_serve.specs.Counting.{counts_text}
+use Rattle.fare_serve.specs.Rounds.{AreCountsOf, IsRound, Round, calls_of}
+use Rattle.fare_serve.specs.Serving.{AreAllCovered, HaveTold}
+use Rattle.fare_serve.specs.declared.counts.Counts.{Counts}
+use Rattle.fare_serve.specs.declared.fault.ServeFault.{ServeFault}
+use Rattle.fare_command.specs.declared.words.Question.{Question}
+use Rattle.fare_command.specs.declared.words.Question.TheVariants.{Bill, Settle}
+use Rattle.fare_event.specs.declared.reply.Reply.TheVariants as reply
+use Rattle.fare_lines.specs.Replies.{reply_text}
+use Rattle.fare_databases.specs.Closed.{IsHandedBack}
+use Rattle.fare_databases.specs.Held.{AreCleanDisks, Holds, Leave, Show}
+use Rattle.fare_databases.specs.Holding.{HoldAgreed, HoldStores, StayAgreed}
+use Rattle.fare_databases.specs.declared.databases.Databases.{Databases}
+use Rattle.fare_run.specs.Asking.{Answers}
+use Rattle.fare_run.specs.Serving.{listening_line, serving_failure}
+use Rattle.fare_run.specs.declared.serve_failure.ServeFailure.{ServeFailure}
+
+-- ONE RUN
+-- Where databases show stores that agree with lists of taps, whatever a stop would leave of them behind the run does, and has
+-- all of what they showed, and this is so of it.
+pub record KeepDatabases {S : Type 0} (g : Ghosts S) (sc : SchemeValue) (before after : Databases S) (AreGiven : (ℕ → List RecordValue) → Type 0) (IsSo : StoresValue → Type 0) : Type 0 where
+  pub keeps : AreCleanDisks g after → (lists : ℕ → List RecordValue) → AreNumberedLists sc lists → AreGiven lists
+      → (outbox : Trees) (ledgers : ℕ → Trees) → Show g before outbox ledgers → HoldAgreed sc lists outbox ledgers
+      → (outbox_left : Trees) (ledgers_left : ℕ → Trees) → Leave g after outbox_left ledgers_left
+      → (kept : StayAgreed sc lists outbox ledgers outbox_left ledgers_left) × IsSo kept.is
+
+-- SERVING
+-- the lines' calls of sessions
+abbrev pub LineCall : Type 0
+LineCall = Call (Shift NetValue)
+
+-- Served to the end, these are the calls of rounds of the scheme's stations and owners, and what was written is the port and
+-- the sums of the calls' reports. Where a failure ended it they are those up to it, each of the scheme's stations or of an
+-- owner; none where it came before any.
+abbrev pub CameOf : SchemeValue → List LineCall → Option (List ℕ) → Option (List ℕ) → Result (Unit {0}) ServeFailure → Type 0
+CameOf sc calls before after (Ok _) =
+    (port : ℕ) × (rounds : List (Round (Shift NetValue))) × (counts : Counts) × (calls ≡ flat_map calls_of rounds) × AreCountsOf sc rounds counts
+    × AllByRecursion (λ r. (stations : List (Station (Shift NetValue))) × IsRound sc r stations) rounds × Appends before after (listening_line port ++ counts_text counts)
+CameOf sc calls before after (Err failure) = (calls ≡ []) ⊎ ((fault : ServeFault) × (failure ≡ serving_failure fault) × AreEndedBy fault calls × AllByRecursion (IsOfScheme sc) calls)
+
+-- What serving over databases does: these calls, and where the frames that the lines gave in them are of lists with which the
+-- stores in the databases agree, they agree with them behind it, however it ended; nothing that they held is missing; and each
+-- acknowledgement that a line was answered is covered by the outbox.
+pub record ServesIn {S : Type 0} (g : Ghosts S) (sc : SchemeValue) (before after : Databases S) (written_before written_after : Option (List ℕ)) (result : Result (Unit {0}) ServeFailure) : Type 0 where
+  pub calls : List LineCall
+  pub came : CameOf sc calls written_before written_after result
+  pub keeps : KeepDatabases g sc before after (λ lists. HaveTold sc lists calls) (λ k. AreAllCovered sc k.outbox calls)
+
+-- ASKING
+-- databases keep what they held
+abbrev pub KeepsIn : {S : Type 0} → Ghosts S → SchemeValue → Databases S → Databases S → Type 0
+KeepsIn g sc before after = KeepDatabases g sc before after (λ lists. Unit {0}) (λ k. Unit {0})
+
+-- what was written is what a rule makes of just these taps of an owner's day, for a day that the owner has closed of each device
+-- whose lane it has not retired, and the devices of which it is short
+abbrev pub IsMadeOf : {V : Type 0} → (SchemeValue → List RecordValue → ℕ → V) → (V → List ℕ → List ℕ) → SchemeValue → (ℕ → List RecordValue) → StoresValue → ℕ → ℕ → Option (List ℕ) → Option (List ℕ) → Type 0
+IsMadeOf rule text sc lists h owner day before after =
+    (open_in sc (h.ledgers owner) day ≡ None) × Appends before after (text (rule sc (parts_of sc lists (h.ledgers owner) owner) day) (short_in sc (h.ledgers owner) day))
+
+abbrev pub bill_text : ℕ → ℕ → BillValue → List ℕ → List ℕ
+bill_text owner day bill short = reply_text (reply.Bill owner day bill short)
+
+abbrev pub settlement_text : ℕ → ℕ → List SettledValue → List ℕ → List ℕ
+settlement_text owner day shares short = reply_text (reply.Settlement owner day shares short)
+
+-- A bill of the stores in databases is the capped fare of just the taps in the lists with which they agree, and so is a
+-- settlement.
+abbrev pub IsBilled : SchemeValue → (ℕ → List RecordValue) → StoresValue → Question → Option (List ℕ) → Option (List ℕ) → Type 0
+IsBilled sc lists h (Bill owner day) before after = IsMadeOf bill_of (bill_text owner day) sc lists h owner day before after
+IsBilled sc lists h (Settle owner day) before after = IsMadeOf settlement_of (settlement_text owner day) sc lists h owner day before after
+IsBilled sc lists h _ before after = Unit {0}
+
+-- What was written to a question of the stores in databases: what is written of a hub, as `Answers` says, all that whose stores
+-- hold is what the databases showed; so a bill is of just the lists with which these agree.
+pub record AnswersIn {S : Type 0} (g : Ghosts S) (sc : SchemeValue) (question : Question) (before after : Databases S) (written_before written_after : Option (List ℕ)) : Type 0 where
+  pub old : Hub (SqlOutbox S g) (SqlLedger S g)
+  pub new : Hub (SqlOutbox S g) (SqlLedger S g)
+  pub scheme : old.scheme ≡ sc
+  pub back : IsHandedBack g new after
+  pub answers : Answers (outbox_words.stands g) (ledger_words.stands g) question old new written_before written_after
+  pub holds : AreCleanDisks g after → Holds g before old
+  pub billed : AreCleanDisks g after → (lists : ℕ → List RecordValue) → AreNumberedLists sc lists → (outbox : Trees) (ledgers : ℕ → Trees) → Show g before outbox ledgers → (h : StoresValue) → HoldStores sc outbox ledgers h → Agrees sc lists h → IsBilled sc lists h question written_before written_after
