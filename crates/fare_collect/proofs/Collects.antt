@@ -39,19 +39,20 @@ use Rattle.fare_writer.specs.declared.halt.Halt.{Halt}
 use Rattle.fare_writer.specs.Entries.{item_of, is_new, done_by, Entry, items_of, storing_all, AreEntries, new_count, in_hand, told_to}
 use Rattle.fare_collect.specs.Arriving.{arrivals}
 use Rattle.fare_writer.specs.Arriving.{IsUnexpected}
-use Rattle.fare_writer.specs.Writing.{store_fault, Leaves}
-use Rattle.fare_collect.specs.Stations.{SourceCounted, frame_for, held_list}
+use Rattle.fare_writer.specs.Writing.{store_fault, LeavesOutbox}
+use Rattle.fare_collect.specs.Stations.{AreExpected, SourceCounted, frame_for, held_list}
 use Rattle.fare_writer.specs.Handling.{hand_of, fault_of, RefusedBy, IsRefusedItem}
 use Rattle.fare_collect.specs.Resting.{IsNoneOf}
-use Rattle.fare_collect.specs.Ending.{Keeps, HasHanded, last_answers}
+use Rattle.fare_collect.specs.Ending.{AreSomeOf, HasHanded, last_answers}
 use Rattle.fare_collect.specs.Noting.{days_named}
 use Rattle.fare_writer.specs.Noting.{noting}
 use Rattle.fare_collect.specs.Resuming.{AreStations, resumed_next, HaveBegun, HaveResumed}
 use Rattle.fare_collect.specs.Session.{HasGathered, HasEnded, HasSession}
-use Rattle.fare_collect.specs.Collected.{fault_of_halt, HaveDevices, first_links, IsFitting, IsStoredBy, SaysOf, HasTalked, IsCollected}
+use Rattle.fare_collect.specs.Collected.{fault_of_halt, HaveDevices, first_links, IsFitting, IsStoredBy, SaysOfGathering, HasTalked, IsCollected}
 use Rattle.fare_collect.proofs.Served.{element}
 use Rattle.fare_collect.proofs.Handed.{keeps_append, handed_then}
-use Rattle.fare_collect.proofs.Named.{Knows, AreNamed, named_arrivals, by_parts, named_part, items_arrive}
+use Rattle.fare_collect.proofs.Read.{expected_kept}
+use Rattle.fare_collect.proofs.Named.{Knows, known_all, AreNamed, named_arrivals, by_parts, named_part, items_arrive}
 use Rattle.fare_collect.proofs.Gathers.{entry_of, items_are, storing_is, new_is, stored_is, told_is, gathering_of, accepted_is, left_length}
 use Rattle.fare_collect.proofs.Opens.{HaveOpened, opened, opened_stations, resumed_first, first_known, here_or_not}
 
@@ -64,11 +65,11 @@ have_stations : (sc : SchemeValue) (xs : List Arrived) → AreNamed sc xs → Al
 have_stations sc [] all = tt
 have_stations sc (a ∷ xs) all = (ap is_some all.0, have_stations sc xs all.1)
 
-keeps_all : (xs : List AckItem) → Keeps xs (map frame_for xs)
+keeps_all : (xs : List AckItem) → AreSomeOf xs (map frame_for xs)
 keeps_all [] = refl
 keeps_all (a ∷ xs) = inl (map frame_for xs, refl, keeps_all xs)
 
-keeps_none : (xs : List AckItem) → Keeps xs []
+keeps_none : (xs : List AckItem) → AreSomeOf xs []
 keeps_none [] = refl
 keeps_none (a ∷ xs) = inr (keeps_none xs)
 
@@ -199,7 +200,7 @@ store_halt None e = absurd (cc)
 store_halt (Some h) e = let is : h.fault ≡ writer.Store = cc in ap store_fault is
 
 pub section_says : {S : Type 0} (sc : SchemeValue) (talks : S → Talk) (a b c : Standing OutboxValue) (n0 n1 : Tally) → n0.stored ≡ 0 → n0.days.keys ≡ [] → (before mid after : List (Station S)) (left : ℕ) (halt : Option Halt) (s : HasSession sc talks b c n0 n1 mid after left halt)
-    → AreStations sc before → HaveOpened sc a b before mid → HasBegun sc a b before mid → c.clean → SaysOf sc before (gathering_of s.written.entries (hand_of halt) s.inbox s.last) n1.stored (fault_of_halt halt) a.value
+    → AreStations sc before → HaveOpened sc a b before mid → HasBegun sc a b before mid → c.clean → SaysOfGathering sc before (gathering_of s.written.entries (hand_of halt) s.inbox s.last) n1.stored (fault_of_halt halt) a.value
 section_says {S} sc talks a b c n0 n1 zero_count unnoted before mid after left halt s are o begun clean =
     let es = s.written.entries in
     let are_mid = opened_stations sc a b before mid are o in
@@ -239,7 +240,7 @@ section_says {S} sc talks a b c n0 n1 zero_count unnoted before mid after left h
         ∙ λ i. fold (noting sc) (unnoted i) ((ap (map item_of) (s.written.all ∙ (ap (λ h. items_of s.written.entries ++ in_hand (hand_of h)) none ∙ append-nil (items_of s.written.entries))) ∙ sym (items_are s.written.entries)) i)
 
 -- WHAT IT LEAVES
-leaves_by : (x : OutboxValue) (es : List Entry) (hand : Option Arrived) (inbox : List Arrived) (last : List AckItem) (v : OutboxValue) → Leaves x es hand v → IsStoredBy (gathering_of es hand inbox last) x v
+leaves_by : (x : OutboxValue) (es : List Entry) (hand : Option Arrived) (inbox : List Arrived) (last : List AckItem) (v : OutboxValue) → LeavesOutbox x es hand v → IsStoredBy (gathering_of es hand inbox last) x v
 leaves_by x es None inbox last v is = inl (is ∙ sym (storing_is x es))
 leaves_by x es (Some a) inbox last v (inl is) = inl (is ∙ sym (storing_is x es))
 leaves_by x es (Some a) inbox last v (inr is) = inr (item_of a, refl, ap (λ y. is_new y a) (storing_is x es) ∙ is.0, is.1 ∙ ap (done_by a) (sym (storing_is x es)))
@@ -262,12 +263,15 @@ pub record IsToldAll {S : Type 0} (sc : SchemeValue) (talks : S → Talk) (told 
   pub given : (talks new.source).given ≡ (talks old.source).given ++ (frames ++ held_list held)
   pub kept : List Frame
   pub answered : (talks new.source).answered ≡ (talks old.source).answered ++ kept
-  pub keeps : Keeps (told ++ last) kept
+  pub keeps : AreSomeOf (told ++ last) kept
   pub whole : new.end.fault ≡ None → kept ≡ map frame_for (told ++ last)
   pub named : new.collector.station ≡ old.collector.station
+  pub devices : (device : ℕ) → is_some (next_in new.collector device) ≡ is_some (next_in old.collector device)
   pub ended : new.end.fault ≡ None → new.end.ended ≡ true → (talks new.source).ended
   pub cause : new.end.fault ≡ Some Source → Rose (talks old.source).failures (talks new.source).failures
   pub unexpected : new.end.fault ≡ Some Unexpected → (front : List Frame) × (f : Frame) × (frames ≡ front ++ f ∷ []) × IsUnexpected f
+  pub expected : AreExpected new.end.fault (frames ++ held_list held)
+  pub failed : new.end.fault ≡ None → (talks new.source).failures ≡ (talks old.source).failures
   pub none_held : new.end.ended ≡ true → held ≡ None
 
 told_all : {S : Type 0} (sc : SchemeValue) (talks : S → Talk) (all : List Arrived) (left : ℕ → List Arrived) (t : Teller) (h : HearPass) (last : List AckItem) (told : List AckItem) (old new : Station S) → HasEnded sc talks all left t h last old new → put_list t.pass ≡ told → IsToldAll sc talks told last old new
@@ -280,7 +284,7 @@ told_all {S} sc talks all left t h last told old new e put = record {
       e.answered.handed.answered
       ∙ (ap (λ l. l ++ two) (e.line.handed.handed.answered ∙ ap (λ l. l ++ one) g.answered ∙ append_assoc (talks old.source).answered (map frame_for g.handed) one)
       ∙ append_assoc (talks old.source).answered (map frame_for g.handed ++ one) two);
-  keeps = subst (λ (l : List AckItem). Keeps (l ++ last) ((map frame_for g.handed ++ one) ++ two)) parts
+  keeps = subst (λ (l : List AckItem). AreSomeOf (l ++ last) ((map frame_for g.handed ++ one) ++ two)) parts
       (keeps_append (g.handed ++ (g.lost ++ e.line.items)) last (map frame_for g.handed ++ one) two
       (keeps_append g.handed (g.lost ++ e.line.items) (map frame_for g.handed) one (keeps_all g.handed) (keeps_append g.lost e.line.items [] one (keeps_none g.lost) e.line.handed.handed.keeps))
       e.answered.handed.keeps);
@@ -293,11 +297,14 @@ told_all {S} sc talks all left t h last told old new e put = record {
       ∙ (sym (map-append frame_for (g.handed ++ e.line.items) last)
       ∙ ap (λ l. map frame_for (l ++ last)) (ap (λ l. g.handed ++ (l ++ e.line.items)) (sym lost) ∙ parts)));
   named = ap (λ c. c.station) e.answered.collector ∙ (ap (λ c. c.station) e.line.handed.collector ∙ g.named);
+  devices = λ device. ap (λ c. is_some (next_in c device)) (e.answered.collector ∙ e.line.handed.collector) ∙ (ap (λ (n : ℕ → Option ℕ). is_some (n device)) g.next ∙ known_all sc (next_in old.collector) (λ d. is_some (next_in old.collector d)) g.frames (λ d. refl) device);
   ended = λ none at_end.
       let mid : e.middle.end.ended ≡ true = sym (e.answered.at_end ∙ e.line.handed.at_end) ∙ at_end in
       e.answered.handed.ended (e.line.handed.handed.ended (g.ended mid).0);
   cause = λ is. rose e.middle.end.fault refl is;
   unexpected = λ is. g.unexpected (unexpected_at e.middle.end.fault refl is);
+  expected = expected_kept e.middle.end.fault new.end.fault (g.frames ++ held_list e.middle.end.held) both.first g.expected;
+  failed = λ none. both.failed none ∙ subst (λ (w : Option StationFault). SourceCounted (talks old.source).failures (talks e.middle.source).failures w) (both.whole none).0 g.cause;
   none_held = λ at_end. (g.ended (sym (e.answered.at_end ∙ e.line.handed.at_end) ∙ at_end)).1;
 }
   where
@@ -361,11 +368,14 @@ station_talks {S} sc talks a b c n0 n1 before begun mid after left halt s sound 
       ∙ ap (λ y. links.arrivals sc (first_links sc y id) w.frames) (sym (held_is a sound start.live start.lawful x may)));
   kept = w.kept;
   answered = w.answered ∙ ap (λ (q : S). (talks q).answered ++ w.kept) (o.each k d lt).0;
-  keeps = λ fit. subst (λ (l : List AckItem). Keeps l w.kept) (sym (answers fit)) w.keeps;
+  keeps = λ fit. subst (λ (l : List AckItem). AreSomeOf l w.kept) (sym (answers fit)) w.keeps;
   whole = λ fit none. w.whole none ∙ ap (map frame_for) (sym (answers fit));
   named = w.named ∙ (o.each k d lt).1;
+  devices = λ device. w.devices device ∙ o.devices k d device lt;
   cause = λ is. subst (λ (q : S). Rose (talks q).failures (talks (slice_index_or after k d).source).failures) (o.each k d lt).0 (w.cause is);
   unexpected = w.unexpected;
+  expected = w.expected;
+  failed = λ none. w.failed none ∙ ap (λ (q : S). (talks q).failures) (o.each k d lt).0;
   none_held = w.none_held;
 }
   where
@@ -400,7 +410,7 @@ ran {S} sc talks a b c n0 n1 zero_count unnoted before begun mid after left halt
   g = gathering_of es hand s.inbox s.last;
   says = λ fit x may.
       let start = starts fit.clean fit.lawful in
-      subst (SaysOf sc before (gathering_of es hand s.inbox s.last) n1.stored (fault_of_halt halt)) (sym (held_is a sound start.live start.lawful x may)) (section_says sc talks a b c n0 n1 zero_count unnoted before mid after left halt s are o start fit.clean);
+      subst (SaysOfGathering sc before (gathering_of es hand s.inbox s.last) n1.stored (fault_of_halt halt)) (sym (held_is a sound start.live start.lawful x may)) (section_says sc talks a b c n0 n1 zero_count unnoted before mid after left halt s are o start fit.clean);
   outbox = λ fit. record {
     leads = λ v may.
         let start = starts fit.clean fit.lawful in
@@ -444,4 +454,4 @@ ran {S} sc talks a b c n0 n1 zero_count unnoted before begun mid after left halt
 
     leads : IsFitting a c → HasBegun sc a b before mid → (v : OutboxValue) → MayHold c v → IsStoredBy (gathering_of es hand s.inbox s.last) a.value v
     leads fit start v (inl now) = inl (now.1 ∙ ((s.written.wrote.value now.0 start.fits).1 ∙ value start))
-    leads fit start v (inr leaves) = leaves_by a.value es hand s.inbox s.last v (subst (λ x. Leaves x es hand v) start.same (s.written.wrote.stop fit.clean start.going start.fits v leaves))
+    leads fit start v (inr leaves) = leaves_by a.value es hand s.inbox s.last v (subst (λ x. LeavesOutbox x es hand v) start.same (s.written.wrote.stop fit.clean start.going start.fits v leaves))

@@ -12,14 +12,14 @@ use Rattle.fare_collect.specs.Stations.{frame_for}
 use Rattle.fare_inbox_queue.specs.declared.ack_passes.HearPass.{HearPass}
 use Rattle.fare_collect.specs.declared.station.Station.{Station}
 use Rattle.fare_writer.specs.declared.teller.Teller.{Teller}
-use Rattle.fare_collect.specs.Ending.{Keeps, HasHanded, IsHandedLeft, AreBeingHanded}
+use Rattle.fare_collect.specs.Ending.{AreSomeOf, HasHanded, IsHandedLeft, AreBeingHanded}
 use Rattle.fare_collect.proofs.Lent.{same_or_apart, last_at}
 
 pub handed_none : (t : Talk) (f : Option StationFault) → HasHanded t t [] f f
-handed_none t f = record { kept = []; keeps = refl; answered = sym (append-nil t.answered); given = refl; ended = λ e. e; first = λ n. refl; whole = λ e. (e, refl); rises = omega arith; cause = λ e z. absurd (let q : ◌≡◌ {A = Option StationFault} None (Some Source) = sym e ∙ z in cc); other = λ e z. absurd (let q : ◌≡◌ {A = Option StationFault} None (Some Unexpected) = sym e ∙ z in cc) }
+handed_none t f = record { kept = []; keeps = refl; answered = sym (append-nil t.answered); given = refl; ended = λ e. e; first = λ n. refl; whole = λ e. (e, refl); rises = omega arith; cause = λ e z. absurd (let q : ◌≡◌ {A = Option StationFault} None (Some Source) = sym e ∙ z in cc); failed = λ e. refl; other = λ e z. absurd (let q : ◌≡◌ {A = Option StationFault} None (Some Unexpected) = sym e ∙ z in cc) }
 
-pub keeps_append : (xs ys : List AckItem) (fs gs : List Frame) → Keeps xs fs → Keeps ys gs → Keeps (xs ++ ys) (fs ++ gs)
-keeps_append [] ys fs gs none more = subst (λ l. Keeps ys (l ++ gs)) (sym none) more
+pub keeps_append : (xs ys : List AckItem) (fs gs : List Frame) → AreSomeOf xs fs → AreSomeOf ys gs → AreSomeOf (xs ++ ys) (fs ++ gs)
+keeps_append [] ys fs gs none more = subst (λ l. AreSomeOf ys (l ++ gs)) (sym none) more
 keeps_append (a ∷ xs) ys fs gs (inl k) more = inl (k.0 ++ gs, ap (λ l. l ++ gs) k.1, keeps_append xs ys k.0 gs k.2 more)
 keeps_append (a ∷ xs) ys fs gs (inr k) more = inr (keeps_append xs ys fs gs k more)
 
@@ -47,6 +47,7 @@ handed_then a b c xs ys f g h first second = record {
   whole = λ e. let two = second.whole e in let one = first.whole two.0 in (one.0, (λ i. one.1 i ++ two.1 i) ∙ sym (map-append frame_for xs ys));
   rises = let a = first.rises in let b = second.rises in omega (arith, a, b);
   cause = λ e z. by g refl e z;
+  failed = λ e. second.failed e ∙ first.failed (second.whole e).0;
   other = λ e z. not_by g refl e z;
 }
   where

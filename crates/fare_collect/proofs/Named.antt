@@ -45,6 +45,10 @@ known_next sc next known (Acked a) knows = knows
 known_next sc next known (DayAcked a) knows = knows
 known_next sc next known (Greeted h) knows = knows
 
+pub known_all : (sc : SchemeValue) (next : ℕ → Option ℕ) (known : ℕ → Bool) (fs : List Frame) → Knows next known → Knows (next_links_all sc next fs) known
+known_all sc next known [] knows = knows
+known_all sc next known (f ∷ fs) knows = known_all sc (next_links sc next f) known fs (known_next sc next known f knows)
+
 -- NAMED ITEMS
 -- the item comes with the name of its device's station
 abbrev pub IsNamed : SchemeValue → Arrived → Type 0

@@ -5,7 +5,7 @@ use Rattle.std.proofs.lemmas.List.{append-nil}
 use Rattle.std.proofs.lemmas.Bool.Decides.{nat_tests}
 use Rattle.fare_scheme.specs.Values.{SchemeValue}
 use Rattle.fare_scheme.specs.Words.{station_of, position_of_station}
-use Rattle.fare_collector.specs.Collecting.{is_id}
+use Rattle.fare_collector.specs.Collecting.{is_id, next_in}
 use Rattle.fare_store.specs.declared.fault.Fault.{Fault}
 use Rattle.fare_store.specs.declared.fault.Fault.TheVariants as fault
 use Rattle.fare_store.specs.Standing.{Standing}
@@ -28,6 +28,7 @@ use Rattle.fare_collect.proofs.Gathers.{gathering_of}
 pub record HaveOpened {S : Type 0} (sc : SchemeValue) (old new : Standing OutboxValue) (before after : List (Station S)) : Type 0 where
   pub len : length after ≡ length before
   pub each : (k : ℕ) (d : Station S) → k < length before → ((slice_index_or after k d).source ≡ (slice_index_or before k d).source) × ((slice_index_or after k d).collector.station ≡ (slice_index_or before k d).collector.station) × ((slice_index_or after k d).end.fault ≡ None)
+  pub devices : (k : ℕ) (d : Station S) (device : ℕ) → k < length before → is_some (next_in (slice_index_or after k d).collector device) ≡ is_some (next_in (slice_index_or before k d).collector device)
 
 pub begun_stations : {S : Type 0} (sc : SchemeValue) (before after : List (Station S)) → AreStations sc before → HaveBegun before after → AreStations sc after
 begun_stations {S} sc before after are begun = record {
@@ -44,6 +45,7 @@ opened {S} sc a b before begun after result first then_ = record {
       let one = first.each k d lt in
       let two = then_.each k d at in
       (two.0 ∙ ap (λ (t : Station S). t.source) one, two.1 ∙ ap (λ (t : Station S). t.collector.station) one, ap (λ e. e.fault) (then_.ends k d at) ∙ ap (λ (t : Station S). t.end.fault) one);
+  devices = λ k d device lt. then_.devices k d device (let l = first.len in omega (arith, lt, l)) ∙ ap (λ (t : Station S). is_some (next_in t.collector device)) (first.each k d lt);
 }
 
 -- after a resume they are still the scheme's
@@ -129,8 +131,11 @@ nothing {S} sc talks a b f before after w wrote o other rose = record {
         keeps = λ fit. refl;
         whole = λ fit none. refl;
         named = e.1;
+        devices = λ device. o.devices k d device lt;
         cause = λ is. absurd (let q : ◌≡◌ {A = Option StationFault} None (Some Source) = sym e.2 ∙ is in cc);
         unexpected = λ is. absurd (let q : ◌≡◌ {A = Option StationFault} None (Some Unexpected) = sym e.2 ∙ is in cc);
+        expected = tt;
+        failed = λ none. ap (λ (s : S). (talks s).failures) e.0;
         none_held = λ at_end. refl;
       };
   left_is = refl;

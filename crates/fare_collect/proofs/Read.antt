@@ -15,7 +15,7 @@ use Rattle.fare_source.specs.Talking.{Talk, Waits, Gives, Hears}
 use Rattle.fare_history.specs.AcceptedLinks.{next_links, next_links_all}
 use Rattle.fare_collect.specs.Arriving.{arrivals}
 use Rattle.fare_writer.specs.Arriving.{arrived_of, IsUnexpected}
-use Rattle.fare_collect.specs.Stations.{frame_for, as_station, SourceCounted, HasPassedOn, HasAnswered, HasRead}
+use Rattle.fare_collect.specs.Stations.{frame_for, as_station, AreExpected, SourceCounted, HasPassedOn, HasAnswered, HasRead}
 
 -- FRAMES
 pub arrivals_append : (sc : SchemeValue) (station : ℕ) (next : ℕ → Option ℕ) (fs gs : List Frame) → arrivals sc station next (fs ++ gs) ≡ arrivals sc station next fs ++ arrivals sc station (next_links_all sc next fs) gs
@@ -27,6 +27,28 @@ arrivals_append sc station next (f ∷ fs) gs =
 pub next_append : (sc : SchemeValue) (next : ℕ → Option ℕ) (fs gs : List Frame) → next_links_all sc next (fs ++ gs) ≡ next_links_all sc (next_links_all sc next fs) gs
 next_append sc next [] gs = refl
 next_append sc next (f ∷ fs) gs = next_append sc (next_links sc next f) fs gs
+
+-- without a fault each of them is one that a device sends, whatever comes later
+pub expected_by : (fault : Option StationFault) (fs : List Frame) → AreExpected None fs → AreExpected fault fs
+expected_by fault [] fine = tt
+expected_by fault (f ∷ fs) fine = (λ wrong. let e = (fine.0 wrong).1 in absurd (cc e), expected_by fault fs fine.1)
+
+pub expected_append : (fault : Option StationFault) (fs gs : List Frame) → AreExpected None fs → AreExpected fault gs → AreExpected fault (fs ++ gs)
+expected_append fault [] gs fine more = more
+expected_append fault (f ∷ fs) gs fine more = (λ wrong. let e = (fine.0 wrong).1 in absurd (cc e), expected_append fault fs gs fine.1 more)
+
+pub expected_front : (fs gs : List Frame) → AreExpected None (fs ++ gs) → AreExpected None fs
+expected_front [] gs fine = tt
+expected_front (f ∷ fs) gs fine = (λ wrong. let e = (fine.0 wrong).1 in absurd (cc e), expected_front fs gs fine.1)
+
+-- one more that a device sends
+pub expected_more : (fs : List Frame) (f : Frame) → AreExpected None fs → (IsUnexpected f → ⊥) → AreExpected None (fs ++ f ∷ [])
+expected_more fs f fine sends = expected_append None fs (f ∷ []) fine (λ wrong. absurd (sends wrong), tt)
+
+-- a station keeps its first fault
+pub expected_kept : (before after : Option StationFault) (fs : List Frame) → (before ≢ None → after ≡ before) → AreExpected before fs → AreExpected after fs
+expected_kept None after fs first fine = expected_by after fs fine
+expected_kept (Some w) after fs first fine = subst (λ (v : Option StationFault). AreExpected v fs) (sym (first (λ e. absurd (cc e)))) fine
 
 -- ANSWERS
 pub answered_none : (t : Talk) (h : List AckItem) → HasAnswered t t h h None
@@ -116,6 +138,7 @@ read_none sc station t next sent heard = record {
   kept = λ n. refl;
   ended = λ e. absurd (cc);
   unexpected = λ e. absurd (cc);
+  expected = tt;
   cause = refl;
 }
 
@@ -134,6 +157,7 @@ read_waited sc station a b c n0 n1 s0 s1 h0 h1 r w = record {
   kept = r.kept;
   ended = λ e. absurd (cc);
   unexpected = λ e. absurd (cc);
+  expected = r.expected;
   cause = w.failures ∙ r.cause;
 }
 
@@ -156,6 +180,7 @@ read_heard sc station a b c n0 n1 s0 s1 h0 h1 h2 f was heard =
       kept = heard.kept;
       ended = λ e. absurd (cc);
       unexpected = λ e. absurd (heard.other e);
+      expected = expected_by f (was.frames ++ []) was.expected;
       cause = subst (λ n. SourceCounted n c.failures f) was.cause heard.cause;
     }
 
@@ -175,6 +200,7 @@ read_end sc station a b c n0 n1 s0 s1 h0 h1 was gives = record {
   kept = was.kept;
   ended = λ e. (gives.ended refl, refl, refl);
   unexpected = λ e. absurd (cc);
+  expected = was.expected;
   cause = gives.cause ∙ was.cause;
 }
 
@@ -194,6 +220,7 @@ read_failed sc station a b c n0 n1 s0 s1 h0 h1 f was gives = record {
   kept = λ n. was.kept not_memory;
   ended = λ e. absurd (cc);
   unexpected = λ e. absurd (never f e);
+  expected = expected_by (Some (as_station f)) (was.frames ++ []) was.expected;
   cause = counts f gives.cause;
 }
   where
@@ -205,16 +232,28 @@ read_failed sc station a b c n0 n1 s0 s1 h0 h1 f was gives = record {
     counts source.Failed x = subst (λ n. SourceCounted n c.failures (Some Source)) was.cause (source_rose x)
     counts source.Memory x = x ∙ was.cause
 
--- a frame was given and passed on
+-- a frame more was given and passed on
+given_on : (a b c : Talk) (frames : List Frame) (f : Frame) → b.given ≡ a.given ++ (frames ++ []) → Gives b c (Ok (Some f)) → c.given ≡ a.given ++ ((frames ++ f ∷ []) ++ [])
+given_on a b c frames f was gives = gives.given ∙ (ap (λ l. l ++ f ∷ []) (was ∙ ap (λ l. a.given ++ l) (append-nil frames)) ∙ (append_assoc a.given frames (f ∷ []) ∙ ap (λ l. a.given ++ l) (sym (append-nil (frames ++ f ∷ [])))))
+
+sent_on : (sc : SchemeValue) (station : ℕ) (n0 n1 n2 : ℕ → Option ℕ) (s0 s1 s2 : List Arrived) (frames : List Frame) (f : Frame)
+    → s1 ≡ s0 ++ arrivals sc station n0 frames → n1 ≡ next_links_all sc n0 frames → HasPassedOn sc station n1 n2 s1 s2 f true → s2 ≡ s0 ++ arrivals sc station n0 (frames ++ f ∷ [])
+sent_on sc station n0 n1 n2 s0 s1 s2 frames f sent next on =
+    on.sent refl ∙ (ap (λ l. l ++ arrived_of sc station n1 f) sent ∙ (append_assoc s0 (arrivals sc station n0 frames) (arrived_of sc station n1 f)
+    ∙ ap (λ l. s0 ++ l) (ap (λ n. arrivals sc station n0 frames ++ arrived_of sc station n f) next
+    ∙ (ap (λ l. arrivals sc station n0 frames ++ l) (sym (append-nil (arrived_of sc station (next_links_all sc n0 frames) f))) ∙ sym (arrivals_append sc station n0 frames (f ∷ []))))))
+
+next_on : (sc : SchemeValue) (station : ℕ) (n0 n1 n2 : ℕ → Option ℕ) (s1 s2 : List Arrived) (frames : List Frame) (f : Frame)
+    → n1 ≡ next_links_all sc n0 frames → HasPassedOn sc station n1 n2 s1 s2 f true → n2 ≡ next_links_all sc n0 (frames ++ f ∷ [])
+next_on sc station n0 n1 n2 s1 s2 frames f next on = on.next refl ∙ (ap (λ n. next_links sc n f) next ∙ sym (next_append sc n0 frames (f ∷ [])))
+
 pub read_passed : (sc : SchemeValue) (station : ℕ) (a b c : Talk) (n0 n1 n2 : ℕ → Option ℕ) (s0 s1 s2 : List Arrived) (h0 h1 : List AckItem) (f : Frame)
-    → HasRead sc station a b n0 n1 s0 s1 h0 h1 None false None → Gives b c (Ok (Some f)) → HasPassedOn sc station n1 n2 s1 s2 f true → HasRead sc station a c n0 n2 s0 s2 h0 h1 None false None
-read_passed sc station a b c n0 n1 n2 s0 s1 s2 h0 h1 f was gives on = record {
+    → HasRead sc station a b n0 n1 s0 s1 h0 h1 None false None → Gives b c (Ok (Some f)) → HasPassedOn sc station n1 n2 s1 s2 f true → (IsUnexpected f → ⊥) → HasRead sc station a c n0 n2 s0 s2 h0 h1 None false None
+read_passed sc station a b c n0 n1 n2 s0 s1 s2 h0 h1 f was gives on sends = record {
   frames = was.frames ++ f ∷ [];
-  given = gives.given ∙ (ap (λ l. l ++ f ∷ []) (was.given ∙ ap (λ l. a.given ++ l) (append-nil was.frames)) ∙ (append_assoc a.given was.frames (f ∷ []) ∙ ap (λ l. a.given ++ l) (sym (append-nil (was.frames ++ f ∷ [])))));
-  sent = on.sent refl ∙ (ap (λ l. l ++ arrived_of sc station n1 f) was.sent ∙ (append_assoc s0 (arrivals sc station n0 was.frames) (arrived_of sc station n1 f)
-      ∙ ap (λ l. s0 ++ l) (ap (λ n. arrivals sc station n0 was.frames ++ arrived_of sc station n f) was.next
-      ∙ (ap (λ l. arrivals sc station n0 was.frames ++ l) (sym (append-nil (arrived_of sc station (next_links_all sc n0 was.frames) f))) ∙ sym (arrivals_append sc station n0 was.frames (f ∷ []))))));
-  next = on.next refl ∙ (ap (λ n. next_links sc n f) was.next ∙ sym (next_append sc n0 was.frames (f ∷ [])));
+  given = given_on a b c was.frames f was.given gives;
+  sent = sent_on sc station n0 n1 n2 s0 s1 s2 was.frames f was.sent was.next on;
+  next = next_on sc station n0 n1 n2 s1 s2 was.frames f was.next on;
   handed = was.handed;
   lost = was.lost;
   took = was.took;
@@ -223,13 +262,14 @@ read_passed sc station a b c n0 n1 n2 s0 s1 s2 h0 h1 f was gives on = record {
   kept = was.kept;
   ended = λ e. absurd (cc);
   unexpected = λ e. absurd (cc);
+  expected = subst (AreExpected None) (sym (append-nil (was.frames ++ f ∷ []))) (expected_more was.frames f (expected_front was.frames [] was.expected) sends);
   cause = gives.cause ∙ was.cause;
 }
 
 -- a frame was given and is held
 pub read_held : (sc : SchemeValue) (station : ℕ) (a b c : Talk) (n0 n1 n2 : ℕ → Option ℕ) (s0 s1 s2 : List Arrived) (h0 h1 : List AckItem) (f : Frame)
-    → HasRead sc station a b n0 n1 s0 s1 h0 h1 None false None → Gives b c (Ok (Some f)) → HasPassedOn sc station n1 n2 s1 s2 f false → HasRead sc station a c n0 n2 s0 s2 h0 h1 (Some f) false None
-read_held sc station a b c n0 n1 n2 s0 s1 s2 h0 h1 f was gives on = record {
+    → HasRead sc station a b n0 n1 s0 s1 h0 h1 None false None → Gives b c (Ok (Some f)) → HasPassedOn sc station n1 n2 s1 s2 f false → (IsUnexpected f → ⊥) → HasRead sc station a c n0 n2 s0 s2 h0 h1 (Some f) false None
+read_held sc station a b c n0 n1 n2 s0 s1 s2 h0 h1 f was gives on sends = record {
   frames = was.frames;
   given = gives.given ∙ (ap (λ l. l ++ f ∷ []) (was.given ∙ ap (λ l. a.given ++ l) (append-nil was.frames)) ∙ append_assoc a.given was.frames (f ∷ []));
   sent = on.sent_held refl ∙ was.sent;
@@ -242,6 +282,7 @@ read_held sc station a b c n0 n1 n2 s0 s1 s2 h0 h1 f was gives on = record {
   kept = was.kept;
   ended = λ e. absurd (cc);
   unexpected = λ e. absurd (cc);
+  expected = expected_more was.frames f (expected_front was.frames [] was.expected) sends;
   cause = gives.cause ∙ was.cause;
 }
 
@@ -262,7 +303,6 @@ no_move sc next (Greeted h) u = refl
 
 pub read_unexpected : (sc : SchemeValue) (station : ℕ) (a b c : Talk) (n0 n1 n2 : ℕ → Option ℕ) (s0 s1 s2 : List Arrived) (h0 h1 : List AckItem) (f : Frame)
     → HasRead sc station a b n0 n1 s0 s1 h0 h1 None false None → Gives b c (Ok (Some f)) → IsUnexpected f → n2 ≡ n1 → s2 ≡ s1 → HasRead sc station a c n0 n2 s0 s2 h0 h1 None false (Some Unexpected)
-unfolding read_passed
 read_unexpected sc station a b c n0 n1 n2 s0 s1 s2 h0 h1 f was gives none next sent =
     let on : HasPassedOn sc station n1 n2 s1 s2 f true = record {
       sent = λ e. sent ∙ (sym (append-nil s1) ∙ ap (λ l. s1 ++ l) (sym (no_arrival sc station n1 f none)));
@@ -270,21 +310,21 @@ read_unexpected sc station a b c n0 n1 n2 s0 s1 s2 h0 h1 f was gives none next s
       sent_held = λ e. absurd (cc);
       next_held = λ e. absurd (cc);
     } in
-    let r = read_passed sc station a b c n0 n1 n2 s0 s1 s2 h0 h1 f was gives on in
     record {
-      frames = r.frames;
-      given = r.given;
-      sent = r.sent;
-      next = r.next;
-      handed = r.handed;
-      lost = r.lost;
-      took = r.took;
-      answered = r.answered;
-      few = r.few;
-      kept = λ n. r.kept not_memory;
+      frames = was.frames ++ f ∷ [];
+      given = given_on a b c was.frames f was.given gives;
+      sent = sent_on sc station n0 n1 n2 s0 s1 s2 was.frames f was.sent was.next on;
+      next = next_on sc station n0 n1 n2 s1 s2 was.frames f was.next on;
+      handed = was.handed;
+      lost = was.lost;
+      took = was.took;
+      answered = gives.answered ∙ was.answered;
+      few = was.few;
+      kept = λ n. was.kept not_memory;
       ended = λ e. absurd (cc);
       unexpected = λ e. (was.frames, f, refl, none);
-      cause = r.cause;
+      expected = subst (AreExpected (Some Unexpected)) (sym (append-nil (was.frames ++ f ∷ []))) (expected_append (Some Unexpected) was.frames (f ∷ []) (expected_front was.frames [] was.expected) (λ wrong. (refl, refl), tt));
+      cause = gives.cause ∙ was.cause;
     }
 
 -- the same of a seat that stands so

@@ -22,12 +22,12 @@ use Rattle.fare_source.specs.Talking.{Talk}
 use Rattle.fare_history.specs.AcceptedLinks.{next_links, next_links_all}
 use Rattle.fare_collect.specs.Arriving.{arrivals}
 use Rattle.fare_writer.specs.Arriving.{arrived_of, IsUnexpected}
-use Rattle.fare_collect.specs.Stations.{held_list, SourceCounted}
+use Rattle.fare_collect.specs.Stations.{held_list, AreExpected, SourceCounted}
 use Rattle.fare_collect.specs.Resting.{HasKeepingLeft, HasKeptLeft, HasNext, HasResting, HasRested}
 use Rattle.fare_writer.specs.Keeping.{HasKept}
 use Rattle.fare_writer.specs.Judging.{items_in, HasJudged}
 use Rattle.fare_collect.proofs.Written.{written_none, written_then}
-use Rattle.fare_collect.proofs.Read.{arrivals_append, next_append}
+use Rattle.fare_collect.proofs.Read.{arrivals_append, next_append, expected_by, expected_append}
 
 pub kept_none : (sc : SchemeValue) (s : Standing OutboxValue) (n : Tally) → IsSound s → HasKept sc s s [] n n None
 kept_none sc s n sound = record { each = λ t. written_none sc s t n sound }
@@ -119,9 +119,9 @@ resting_more sc talks id a b c n0 n1 n2 t0 t1 t2 k passed f result halt was next
 
 -- the source gave no frame more
 pub rested_end : {S : Type 0} (sc : SchemeValue) (talks : S → Talk) (id : ℕ) (a b : Standing OutboxValue) (n0 n1 : Tally) (t0 t1 t2 : Station S) (passed : List Frame)
-    → HasResting sc talks id a b n0 n1 t0 t1 passed None → HasNext (talks t1.source) (talks t2.source) t1.end t2.end None → t2.collector ≡ t1.collector
+    → HasResting sc talks id a b n0 n1 t0 t1 passed None → HasNext (talks t1.source) (talks t2.source) t1.end t2.end None → t2.collector ≡ t1.collector → AreExpected None passed
     → HasRested sc talks id a b n0 n1 t0 t2 None
-rested_end sc talks id a b n0 n1 t0 t1 t2 passed was next coll =
+rested_end sc talks id a b n0 n1 t0 t1 t2 passed was next coll fine =
     let all : held_list t0.end.held ++ (was.more ++ next.more) ≡ passed =
     sym (append_assoc (held_list t0.end.held) was.more next.more)
     ∙ (ap (λ l. l ++ next.more) (sym was.frames)
@@ -143,6 +143,7 @@ rested_end sc talks id a b n0 n1 t0 t1 t2 passed was next coll =
       whole = λ halt fault. ends (next.at_end was.fault refl) fault;
       at_end = λ e. stopped (next.at_end was.fault refl) e;
       unexpected = λ e. absurd (next.other was.fault e);
+      expected = subst (AreExpected t2.end.fault) (sym all) (expected_by t2.end.fault passed fine);
       cause = subst (λ n. SourceCounted n (talks t2.source).failures t2.end.fault) was.failures (next.cause was.fault);
     }
   where
@@ -156,8 +157,8 @@ rested_end sc talks id a b n0 n1 t0 t1 t2 passed was next coll =
 
 -- the writer halted
 pub rested_halt : {S : Type 0} (sc : SchemeValue) (talks : S → Talk) (id : ℕ) (a b : Standing OutboxValue) (n0 n1 : Tally) (t0 t1 : Station S) (passed : List Frame) (halt : Halt)
-    → HasResting sc talks id a b n0 n1 t0 t1 passed (Some halt) → t1.end.held ≡ None → HasRested sc talks id a b n0 n1 t0 t1 (Some halt)
-rested_halt sc talks id a b n0 n1 t0 t1 passed halt was held =
+    → HasResting sc talks id a b n0 n1 t0 t1 passed (Some halt) → t1.end.held ≡ None → AreExpected None passed → HasRested sc talks id a b n0 n1 t0 t1 (Some halt)
+rested_halt sc talks id a b n0 n1 t0 t1 passed halt was held fine =
     let all : held_list t0.end.held ++ was.more ≡ passed = sym was.frames ∙ (ap (λ (h : Option Frame). passed ++ held_list h) held ∙ append-nil passed) in
     record {
       more = was.more;
@@ -174,14 +175,15 @@ rested_halt sc talks id a b n0 n1 t0 t1 passed halt was held =
       whole = λ h. absurd (cc);
       at_end = λ e. absurd (let z : true ≡ false = sym e ∙ was.going in cc);
       unexpected = λ e. absurd (let z : ◌≡◌ {A = Option StationFault} None (Some Unexpected) = sym was.fault ∙ e in cc);
+      expected = subst (AreExpected t1.end.fault) (sym all) (expected_by t1.end.fault passed fine);
       cause = subst (λ k. SourceCounted (talks t0.source).failures (talks t1.source).failures k) (sym was.fault) was.failures;
     }
 
 -- a frame came that no device sends
 pub rested_unexpected : {S : Type 0} (sc : SchemeValue) (talks : S → Talk) (id : ℕ) (a b : Standing OutboxValue) (n0 n1 : Tally) (t0 t1 t2 : Station S) (passed : List Frame)
-    → HasResting sc talks id a b n0 n1 t0 t1 passed None → t1.end.held ≡ None → t2.source ≡ t1.source → t2.collector ≡ t1.collector → t2.end.held ≡ None → t2.end.fault ≡ Some Unexpected → t2.end.ended ≡ t1.end.ended → (front : List Frame) (f : Frame) → passed ≡ front ++ f ∷ [] → IsUnexpected f
+    → HasResting sc talks id a b n0 n1 t0 t1 passed None → t1.end.held ≡ None → t2.source ≡ t1.source → t2.collector ≡ t1.collector → t2.end.held ≡ None → t2.end.fault ≡ Some Unexpected → t2.end.ended ≡ t1.end.ended → (front : List Frame) (f : Frame) → passed ≡ front ++ f ∷ [] → IsUnexpected f → AreExpected None front
     → HasRested sc talks id a b n0 n1 t0 t2 None
-rested_unexpected sc talks id a b n0 n1 t0 t1 t2 passed was held source coll held2 fault stays front f is wrong =
+rested_unexpected sc talks id a b n0 n1 t0 t1 t2 passed was held source coll held2 fault stays front f is wrong fine =
     let all : held_list t0.end.held ++ was.more ≡ passed = sym was.frames ∙ (ap (λ (h : Option Frame). passed ++ held_list h) held ∙ append-nil passed) in
     let same : talks t2.source ≡ talks t1.source = ap talks source in
     record {
@@ -199,5 +201,6 @@ rested_unexpected sc talks id a b n0 n1 t0 t1 t2 passed was held source coll hel
       whole = λ h none. absurd (cc (sym fault ∙ none));
       at_end = λ e. absurd (let z : true ≡ false = sym e ∙ stays ∙ was.going in cc);
       unexpected = λ e. (front, f, all ∙ is, wrong);
+      expected = subst (AreExpected t2.end.fault) (sym (all ∙ is)) (expected_append t2.end.fault front (f ∷ []) fine (λ w. (refl, fault), tt));
       cause = subst (λ k. SourceCounted (talks t0.source).failures (talks t2.source).failures k) (sym fault) (ap (λ (t : Talk). t.failures) same ∙ was.failures);
     }

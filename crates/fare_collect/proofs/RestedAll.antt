@@ -16,16 +16,17 @@ use Rattle.fare_inbox_queue.specs.Inbox.{station_in, of_station}
 use Rattle.fare_writer.specs.declared.tally.Tally.{Tally}
 use Rattle.fare_collect.specs.declared.station.Station.{Station}
 use Rattle.fare_inbox_queue.specs.declared.ack_passes.HearPass.{HearPass}
+use Rattle.fare_collect.specs.declared.fault.StationFault.{StationFault}
 use Rattle.fare_collect.specs.declared.fault.StationFault.TheVariants.{Memory}
 use Rattle.fare_writer.specs.declared.halt.Halt.{Halt}
 use Rattle.fare_source.specs.Talking.{Talk}
 use Rattle.fare_history.specs.AcceptedLinks.{next_links, tap_judged, stating_judged, next_links_all}
 use Rattle.fare_collect.specs.Arriving.{arrivals}
 use Rattle.fare_writer.specs.Arriving.{arrived_if, arrived_of}
-use Rattle.fare_collect.specs.Stations.{held_list, SourceCounted}
+use Rattle.fare_collect.specs.Stations.{held_list, AreExpected, SourceCounted}
 use Rattle.fare_collect.specs.Resting.{HasRested, IsRestOf, HaveRested, AreApart}
 use Rattle.fare_collect.specs.Session.{HasGathered}
-use Rattle.fare_collect.proofs.Read.{arrivals_append, next_append}
+use Rattle.fare_collect.proofs.Read.{arrivals_append, next_append, expected_append, expected_front}
 use Rattle.fare_collect.proofs.Rested.{kept_none, kept_then}
 use Rattle.fare_collect.proofs.Lent.{same_or_apart}
 
@@ -68,7 +69,7 @@ no_arrivals sc n m next (f ∷ fs) apart = filter-append _ (arrived_of sc n next
 
 -- ONE STATION
 rest_same : {S : Type 0} (sc : SchemeValue) (talks : S → Talk) (items : List Arrived) (s : Station S) → of_station s.collector.station items ≡ [] → IsRestOf sc talks items s s
-rest_same sc talks items s none = record { passed = []; more = []; given = sym (append-nil (talks s.source).given); frames = sym (append-nil (held_list s.end.held)); part = none; next = refl; named = refl; answered = refl; faulted = λ n. refl; idle = λ n. refl; ended = λ p e. p e; cause = λ n c. c; unexpected = λ e. inl e }
+rest_same sc talks items s none = record { passed = []; more = []; given = sym (append-nil (talks s.source).given); frames = sym (append-nil (held_list s.end.held)); part = none; next = refl; named = refl; answered = refl; faulted = λ n. refl; idle = λ n. refl; ended = λ p e. p e; cause = λ n c. c; unexpected = λ e. inl e; expected = λ front fine. subst (λ (l : List Frame). AreExpected s.end.fault (l ++ held_list s.end.held)) (sym (append-nil front)) fine }
 
 rest_then : {S : Type 0} (sc : SchemeValue) (talks : S → Talk) (xs ys : List Arrived) (s t u : Station S) → IsRestOf sc talks xs s t → IsRestOf sc talks ys t u → IsRestOf sc talks (xs ++ ys) s u
 rest_then sc talks xs ys s t u first second =
@@ -101,6 +102,7 @@ rest_then sc talks xs ys s t u first second =
         ]
         | inr one ↦ inr (first.passed ++ one.0, one.1, ap (λ l. first.passed ++ l) one.2 ∙ sym (append_assoc first.passed one.0 (one.1 ∷ [])), one.3)
       ];
+      expected = λ front fine. subst (λ (l : List Frame). AreExpected u.end.fault (l ++ held_list u.end.held)) (append_assoc front first.passed second.passed) (second.expected (front ++ first.passed) (first.expected front fine));
     }
 
 rest_own : {S : Type 0} (sc : SchemeValue) (talks : S → Talk) (a b : Standing OutboxValue) (n0 n1 : Tally) (s t : Station S) (halt : Option Halt) (r : HasRested sc talks s.collector.station a b n0 n1 s t halt) → IsRestOf sc talks r.items s t
@@ -118,6 +120,10 @@ rest_own sc talks a b n0 n1 s t halt r = record {
   ended = λ p e. let z = r.at_end e in (z.0, r.held, z.1);
   cause = λ n c. subst (λ m. SourceCounted m (talks t.source).failures t.end.fault) (subst (λ f. SourceCounted n (talks s.source).failures f) r.start c) r.cause;
   unexpected = λ e. inr (r.unexpected e);
+  expected = λ front fine.
+      let held = held_list s.end.held in
+      let before : AreExpected None front = expected_front front held (subst (λ (w : Option StationFault). AreExpected w (front ++ held)) r.start fine) in
+      subst (λ (l : List Frame). AreExpected t.end.fault l) (sym (ap (λ h. (front ++ (held ++ r.more)) ++ held_list h) r.held ∙ append-nil (front ++ (held ++ r.more)))) (expected_append t.end.fault front (held ++ r.more) before r.expected);
 }
 
 -- ALL
@@ -226,6 +232,7 @@ gathered_rest sc talks all items left h old mid new was rest none =
         | inl before ↦ let one = was.unexpected before in (one.0, one.1, ap (λ l. was.frames ++ l) (rest.idle (λ z. let q = sym before ∙ z in absurd (cc q))) ∙ append-nil was.frames ∙ one.2, one.3)
         | inr one ↦ (was.frames ++ one.0, one.1, ap (λ l. was.frames ++ l) one.2 ∙ sym (append_assoc was.frames one.0 (one.1 ∷ [])), one.3)
       ];
+      expected = rest.expected was.frames was.expected;
     }
   where
     some_is : mid.end.fault ≡ Some Memory → mid.end.fault ≢ None

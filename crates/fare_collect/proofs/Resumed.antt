@@ -114,6 +114,15 @@ other_stays sc upto station id device now of apart =
     let differ : (id == station) ≡ false = grind (arith, nat_tests, apart) in
     sym (ap (λ o. if is_id o station then option_map (λ _. upto device + 1) (now device) else now device) of ∙ ap (λ t. if t then option_map (λ _. upto device + 1) (now device) else now device) differ)
 
+-- it knows the same devices, whatever it accepts of one
+known_changed : (f : ℕ → ℕ) (next : ℕ → Option ℕ) (key device : ℕ) → is_some (changed f next key device) ≡ is_some (next device)
+known_changed f next key device = by (device == key) (next device)
+  where
+    by : (b : Bool) (o : Option ℕ) → is_some (if b then option_map f o else o) ≡ is_some o
+    by true None = refl
+    by true (Some n) = refl
+    by false o = refl
+
 -- ALL STATIONS
 -- they go on for the devices before a position
 pub record AreResuming {S : Type 0} (sc : SchemeValue) (old new : Standing OutboxValue) (before after : List (Station S)) (position : ℕ) : Type 0 where
@@ -121,6 +130,7 @@ pub record AreResuming {S : Type 0} (sc : SchemeValue) (old new : Standing Outbo
   pub len : length after ≡ length before
   pub each : (k : ℕ) (d : Station S) → k < length before → ((slice_index_or after k d).source ≡ (slice_index_or before k d).source) × ((slice_index_or after k d).collector.station ≡ (slice_index_or before k d).collector.station)
   pub ends : (k : ℕ) (d : Station S) → k < length before → (slice_index_or after k d).end ≡ (slice_index_or before k d).end
+  pub devices : (k : ℕ) (d : Station S) (device : ℕ) → k < length before → is_some (next_in (slice_index_or after k d).collector device) ≡ is_some (next_in (slice_index_or before k d).collector device)
   pub begun : 0 < position → new.clean → new.live
   pub next : new.live → old.lawful → (k : ℕ) (d : Station S) (device : ℕ) → k < length before
       → next_in (slice_index_or after k d).collector device ≡ resuming_next sc old.value.upto (slice_index_or before k d).collector.station position (next_in (slice_index_or before k d).collector) device
@@ -131,6 +141,7 @@ resuming_none sc s stations sound = record {
   len = refl;
   each = λ k d lt. (refl, refl);
   ends = λ k d lt. refl;
+  devices = λ k d device lt. refl;
   begun = λ lt clean. absurd (omega (arith, lt));
   next = λ live lawful k d device lt. none_resumed sc s.value.upto (slice_index_or stations k d).collector.station (next_in (slice_index_or stations k d).collector) device;
 }
@@ -141,6 +152,7 @@ resuming_failed sc a b c first now position device f sound was read = record {
   len = was.len;
   each = was.each;
   ends = was.ends;
+  devices = was.devices;
   begun = λ ok. absurd (cc);
   next = λ ok. absurd (cc);
 }
@@ -151,6 +163,7 @@ resumed_all sc a b first now position some le was = record {
   len = was.len;
   each = was.each;
   ends = was.ends;
+  devices = was.devices;
   begun = λ ok clean. was.begun (omega (arith, some, le)) clean;
   next = λ ok live lawful k d device lt. was.next live lawful k d device lt ∙ all_resumed sc a.value.upto (slice_index_or first k d).collector.station position (next_in (slice_index_or first k d).collector) device le;
 }
@@ -163,6 +176,7 @@ resuming_past {S} sc a b c first now position device u id place sound are was re
   len = was.len;
   each = was.each;
   ends = was.ends;
+  devices = was.devices;
   begun = λ lt clean. read.stays refl clean;
   next = λ live lawful k d dev lt.
       let station = (slice_index_or first k d).collector.station in
@@ -200,6 +214,16 @@ resuming_more {S} sc a b c first now position device u id place x y sound are wa
         let two : y ≡ slice_index_or (set now place y) k d = sym (ap (λ j. slice_index_or (set now place y) j d) e ∙ get_or-set_same now place y d within) in
         sym (ap (λ (t : Station S). t.end) two) ∙ (ends ∙ (ap (λ (t : Station S). t.end) one ∙ w))
     | inr differ ↦ ap (λ (t : Station S). t.end) (get_or-set_other now place k y d differ) ∙ was.ends k d below
+  ];
+  devices = λ k d dev below. elim (same_or_apart k place) [
+    | inl e ↦
+        let one : x ≡ slice_index_or now k d = here_ ∙ (get_or_default now place x d within ∙ ap (λ j. slice_index_or now j d) (sym e)) in
+        let two : y ≡ slice_index_or (set now place y) k d = sym (ap (λ j. slice_index_or (set now place y) j d) e ∙ get_or-set_same now place y d within) in
+        ap (λ (t : Station S). is_some (next_in t.collector dev)) (sym two)
+        ∙ (ap is_some (goes dev)
+        ∙ (known_changed (λ _. u + 1) (next_in x.collector) device dev
+        ∙ (ap (λ (t : Station S). is_some (next_in t.collector dev)) one ∙ was.devices k d dev below)))
+    | inr differ ↦ ap (λ (t : Station S). is_some (next_in t.collector dev)) (get_or-set_other now place k y d differ) ∙ was.devices k d dev below
   ];
   begun = λ lt clean. read.stays refl clean;
   next = λ live lawful k d dev lt.

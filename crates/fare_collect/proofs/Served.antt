@@ -24,10 +24,10 @@ use Rattle.fare_source.specs.Talking.{Talk}
 use Rattle.fare_collect.proofs.Lent.{last_at}
 use Rattle.fare_collect.specs.Arriving.{arrivals}
 use Rattle.fare_collect.specs.Resting.{IsNoneOf}
-use Rattle.fare_collect.specs.Stations.{HasRead, HasRun, HaveRun, IsSeatedAt, AreSeated}
+use Rattle.fare_collect.specs.Stations.{HasRead, HasRunStation, HaveRun, IsSeatedAt, AreSeated}
 use Rattle.fare_writer.specs.Handling.{AreTellers}
 use Rattle.fare_collect.specs.Opening.{AreHears, AreNew, seated, AreLent, IsReturned, AreReturned, HaveSeats}
-use Rattle.fare_collect.specs.Session.{HasServed, HaveServed, AreReady, HasGathered}
+use Rattle.fare_collect.specs.Session.{HasGivenBack, HaveGivenBack, AreReady, HasGathered}
 
 same_seat : (a b : Seat) → Some a ≡ Some b → a ≡ b
 same_seat a b e = cc
@@ -46,7 +46,7 @@ lent_is_seated inbox lines k old new p h lt is pass hear = record {
 }
 
 pub served : {S : Type 0} (sc : SchemeValue) (talks : S → Talk) (inbox : Inbox) (lines : List AckLine) (k : ℕ) (s0 s1 s2 s3 : Station S) (p0 p1 : StationPass) (h0 h1 : HearPass)
-    → s1 ≡ seated s0 p0 h0 → HasRun sc talks inbox lines k s1 s2 → IsReturned s2 p1 h1 s3 → HasServed sc talks inbox lines k s0 s3 p0 p1 h0 h1
+    → s1 ≡ seated s0 p0 h0 → HasRunStation sc talks inbox lines k s1 s2 → IsReturned s2 p1 h1 s3 → HasGivenBack sc talks inbox lines k s0 s3 p0 p1 h0 h1
 served {S} sc talks inbox lines k s0 s1 s2 s3 p0 p1 h0 h1 lent run back =
     let first : run.seat_old ≡ record { pass = p0; hear = h0; held = None; ended = false; fault = None } = same_seat _ _ (sym run.is_old ∙ ap (λ t. t.seat) lent) in
     let last : run.seat_new ≡ back.seat = same_seat _ _ (sym run.is_new ∙ back.is) in
@@ -69,7 +69,7 @@ served {S} sc talks inbox lines k s0 s1 s2 s3 p0 p1 h0 h1 lent run back =
 
 -- what was sent is what was taken of the station and what is left of it
 pub gathered : {S : Type 0} (sc : SchemeValue) (talks : S → Talk) (inbox : Inbox) (lines : List AckLine) (k : ℕ) (old new : Station S) (p0 p1 : StationPass) (h0 h1 : HearPass) (all : List Arrived) (left : ℕ → List Arrived)
-    → HasServed sc talks inbox lines k old new p0 p1 h0 h1 → heard_list h0 ≡ [] → sent_list p0 ≡ [] → station_of p0 ≡ old.collector.station
+    → HasGivenBack sc talks inbox lines k old new p0 p1 h0 h1 → heard_list h0 ≡ [] → sent_list p0 ≡ [] → station_of p0 ≡ old.collector.station
     → of_station (station_of p1) all ++ left (station_of p1) ≡ sent_list p1 → HasGathered sc talks all left h1 old new
 gathered sc talks inbox lines k old new p0 p1 h0 h1 all left s unheard fresh named parts =
     let r = s.read in
@@ -89,6 +89,7 @@ gathered sc talks inbox lines k old new p0 p1 h0 h1 all left s unheard fresh nam
       ended = r.ended;
       cause = r.cause;
       unexpected = r.unexpected;
+      expected = r.expected;
     }
 
 -- items were stored of what was left
@@ -110,6 +111,7 @@ gathered_more sc talks all items left after h old new was parts =
       ended = was.ended;
       cause = was.cause;
       unexpected = was.unexpected;
+      expected = was.expected;
     }
 
 -- ALL STATIONS
@@ -138,7 +140,7 @@ pub have_seats : {S : Type 0} (sc : SchemeValue) (talks : S → Talk) (inbox : I
 have_seats sc talks inbox lines old new run len = record { each = λ k d lt. let r = run.each k d (omega (arith, lt, len)) in (r.seat_new, r.is_new) }
 
 pub served_all : {S : Type 0} (sc : SchemeValue) (talks : S → Talk) (inbox : Inbox) (lines : List AckLine) (ps0 ps1 : List StationPass) (hs0 hs1 : List HearPass) (s0 s1 s2 s3 : List (Station S))
-    → AreLent ps0 hs0 s0 s1 → HaveRun sc talks inbox lines s1 s2 → length s2 ≡ length s1 → AreReturned s2 ps1 hs1 s3 → HaveServed sc talks inbox lines s0 s3 ps0 ps1 hs0 hs1
+    → AreLent ps0 hs0 s0 s1 → HaveRun sc talks inbox lines s1 s2 → length s2 ≡ length s1 → AreReturned s2 ps1 hs1 s3 → HaveGivenBack sc talks inbox lines s0 s3 ps0 ps1 hs0 hs1
 served_all sc talks inbox lines ps0 ps1 hs0 hs1 s0 s1 s2 s3 lent run len back = record {
   len = back.len ∙ (len ∙ lent.len);
   passes_len = back.passes_len ∙ (len ∙ lent.len);
@@ -151,7 +153,7 @@ served_all sc talks inbox lines ps0 ps1 hs0 hs1 s0 s1 s2 s3 lent run len back = 
 }
 
 pub gathered_all : {S : Type 0} (sc : SchemeValue) (talks : S → Talk) (inbox : Inbox) (lines : List AckLine) (ts : List Teller) (ps0 ps1 : List StationPass) (hs0 hs1 : List HearPass) (old new : List (Station S)) (taken : List Arrived) (left : ℕ → List Arrived)
-    → AreReady inbox old ps0 → AreNew (length old) lines ts hs0 → HaveServed sc talks inbox lines old new ps0 ps1 hs0 hs1 → All (λ p. of_station (station_of p) taken ++ left (station_of p) ≡ sent_list p) ps1
+    → AreReady inbox old ps0 → AreNew (length old) lines ts hs0 → HaveGivenBack sc talks inbox lines old new ps0 ps1 hs0 hs1 → All (λ p. of_station (station_of p) taken ++ left (station_of p) ≡ sent_list p) ps1
     → (k : ℕ) (d : Station S) (h : HearPass) → k < length old → HasGathered sc talks taken left (slice_index_or hs1 k h) (slice_index_or old k d) (slice_index_or new k d)
 gathered_all sc talks inbox lines ts ps0 ps1 hs0 hs1 old new taken left ready made all parts k d h lt =
     let p = element ps0 k (let l = ready.len in omega (arith, lt, l)) in
@@ -162,7 +164,7 @@ gathered_all sc talks inbox lines ts ps0 ps1 hs0 hs1 old new taken left ready ma
 
 -- the passes that came back are the inbox's, in their order
 pub passes_back : {S : Type 0} (sc : SchemeValue) (talks : S → Talk) (inbox : Inbox) (lines : List AckLine) (ts : List Teller) (ps0 ps1 : List StationPass) (hs0 hs1 : List HearPass) (old new : List (Station S))
-    → AreReady inbox old ps0 → AreNew (length old) lines ts hs0 → 0 < length old → HaveServed sc talks inbox lines old new ps0 ps1 hs0 hs1 → All (IsStationOf inbox) ps1 × (map station_of ps1 ≡ map station_of ps0)
+    → AreReady inbox old ps0 → AreNew (length old) lines ts hs0 → 0 < length old → HaveGivenBack sc talks inbox lines old new ps0 ps1 hs0 hs1 → All (IsStationOf inbox) ps1 × (map station_of ps1 ≡ map station_of ps0)
 passes_back {S} sc talks inbox lines ts ps0 ps1 hs0 hs1 old new ready made some all =
     let p = element ps1 0 (let l = all.passes_len in omega (arith, some, l)) in
     let h = element hs0 0 (let l = made.hears_len in omega (arith, some, l)) in
@@ -179,7 +181,7 @@ passes_back {S} sc talks inbox lines ts ps0 ps1 hs0 hs1 old new ready made some 
     same_names (x ∷ xs) (y ∷ ys) d len each = λ i. each 0 (omega arith) i ∷ same_names xs ys d (omega (arith, len)) (λ k lt. each (suc k) (omega (arith, lt))) i
 
 pub hears_back : {S : Type 0} (sc : SchemeValue) (talks : S → Talk) (inbox : Inbox) (lines : List AckLine) (ts : List Teller) (ps0 ps1 : List StationPass) (hs0 hs1 : List HearPass) (old new : List (Station S))
-    → AreReady inbox old ps0 → AreNew (length old) lines ts hs0 → HaveServed sc talks inbox lines old new ps0 ps1 hs0 hs1 → AreHears lines hs1
+    → AreReady inbox old ps0 → AreNew (length old) lines ts hs0 → HaveGivenBack sc talks inbox lines old new ps0 ps1 hs0 hs1 → AreHears lines hs1
 hears_back sc talks inbox lines ts ps0 ps1 hs0 hs1 old new ready made all = record {
   len = all.hears_len ∙ sym made.lines_len;
   each = λ k l d lt.
@@ -197,7 +199,7 @@ unlisted station (p ∷ ps) d none =
     ap (λ (b : Bool). b || list_any (nat_eq station) (map station_of ps)) head ∙ unlisted station ps d (λ k lt. none (suc k) (omega (arith, lt)))
 
 pub unnamed : {S : Type 0} (sc : SchemeValue) (talks : S → Talk) (inbox : Inbox) (lines : List AckLine) (ts : List Teller) (ps0 ps1 : List StationPass) (hs0 hs1 : List HearPass) (old new : List (Station S)) (names : List ℕ) (station : ℕ)
-    → AreReady inbox old ps0 → AreNew (length old) lines ts hs0 → 0 < length old → HaveServed sc talks inbox lines old new ps0 ps1 hs0 hs1 → map station_of ps0 ≡ names → IsNoneOf station old → list_any (nat_eq station) names ≡ false
+    → AreReady inbox old ps0 → AreNew (length old) lines ts hs0 → 0 < length old → HaveGivenBack sc talks inbox lines old new ps0 ps1 hs0 hs1 → map station_of ps0 ≡ names → IsNoneOf station old → list_any (nat_eq station) names ≡ false
 unnamed {S} sc talks inbox lines ts ps0 ps1 hs0 hs1 old new names station ready made some all same none =
     let p = element ps0 0 (let l = ready.len in omega (arith, some, l)) in
     let d = element old 0 some in

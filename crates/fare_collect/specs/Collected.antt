@@ -24,11 +24,10 @@ use Rattle.fare_collect.specs.declared.fault.StationFault.{StationFault}
 use Rattle.fare_collect.specs.declared.fault.StationFault.TheVariants as station
 use Rattle.fare_collect.specs.declared.station.Station.{Station}
 use Rattle.fare_writer.specs.declared.halt.Halt.{Halt}
-use Rattle.fare_collect.specs.Stations.{frame_for, held_list}
+use Rattle.fare_collect.specs.Stations.{frame_for, held_list, AreExpected, EndUnexpected}
 use Rattle.fare_collect.specs.Resting.{IsNoneOf}
-use Rattle.fare_collect.specs.Ending.{Keeps, last_answers}
+use Rattle.fare_collect.specs.Ending.{AreSomeOf, last_answers}
 use Rattle.fare_collect.specs.Noting.{days_named}
-use Rattle.fare_writer.specs.Arriving.{IsUnexpected}
 
 -- THE STATIONS
 -- each station's collector knows the devices of its station, and no other
@@ -88,7 +87,7 @@ new_items x [] = 0
 new_items x (e ∷ es) = (if is_new x e.item then 1 else 0) + new_items (storing x e.item) es
 
 -- what the session's value says of an outbox as it was when the session began
-pub record SaysOf {S : Type 0} (sc : SchemeValue) (stations : List (Station S)) (g : Gathering) (count : ℕ) (ended : Option WriterFault) (x : OutboxValue) : Type 0 where
+pub record SaysOfGathering {S : Type 0} (sc : SchemeValue) (stations : List (Station S)) (g : Gathering) (count : ℕ) (ended : Option WriterFault) (x : OutboxValue) : Type 0 where
   pub gathering : IsGathering sc x g
   pub stored : min count 18446744073709551615 ≡ min (new_items x g.entries) 18446744073709551615
   -- nothing is of a station that isn't here
@@ -109,12 +108,18 @@ pub record HasTalked {S : Type 0} (sc : SchemeValue) (talks : S → Talk) (xo xn
   -- it kept them, but for those at which it had no memory
   pub kept : List Frame
   pub answered : (talks new.source).answered ≡ (talks old.source).answered ++ kept
-  pub keeps : IsFitting xo xn → Keeps (answers_to sc old.collector.station (all_answers g)) kept
+  pub keeps : IsFitting xo xn → AreSomeOf (answers_to sc old.collector.station (all_answers g)) kept
   pub whole : IsFitting xo xn → new.end.fault ≡ None → kept ≡ map frame_for (answers_to sc old.collector.station (all_answers g))
   pub named : new.collector.station ≡ old.collector.station
+  -- its collector knows the same devices
+  pub devices : (device : ℕ) → is_some (next_in new.collector device) ≡ is_some (next_in old.collector device)
   -- its fault has its cause: its source failed, or a frame came that no device sends
   pub cause : new.end.fault ≡ Some station.Source → Rose (talks old.source).failures (talks new.source).failures
-  pub unexpected : new.end.fault ≡ Some station.Unexpected → (front : List Frame) × (f : Frame) × (frames ≡ front ++ f ∷ []) × IsUnexpected f
+  pub unexpected : new.end.fault ≡ Some station.Unexpected → EndUnexpected frames
+  -- and each cause has its fault: of all that its source gave no frame but the last is one that no device sends, and
+  -- that one only where the station reported it; and a source that failed is no station's without a fault
+  pub expected : AreExpected new.end.fault (frames ++ held_list held)
+  pub failed : new.end.fault ≡ None → (talks new.source).failures ≡ (talks old.source).failures
   -- where it came to its end no frame is held
   pub none_held : new.end.ended ≡ true → held ≡ None
 
@@ -122,7 +127,7 @@ pub record HasTalked {S : Type 0} (sc : SchemeValue) (talks : S → Talk) (xo xn
 pub record IsCollected {S : Type 0} (sc : SchemeValue) (talks : S → Talk) (xo xn : Standing OutboxValue) (before after : List (Station S)) (stored left : ℕ) (ended : Option WriterFault) : Type 0 where
   pub g : Gathering
   -- whatever the outbox might have held when it began, also where a failure had shut it
-  pub says : IsFitting xo xn → (x : OutboxValue) → MayHold xo x → SaysOf sc before g stored ended x
+  pub says : IsFitting xo xn → (x : OutboxValue) → MayHold xo x → SaysOfGathering sc before g stored ended x
   -- whatever it may hold now is led to, by what was handled, from something that it might have held
   pub outbox : IsFitting xo xn → Leads (IsStoredBy g) xo xn
   -- while it is live it holds exactly that

@@ -23,14 +23,14 @@ use Rattle.fare_collect.specs.Stations.{frame_for}
 use Rattle.fare_session.specs.Served.{Rose}
 
 -- some of the answers, in their order
-abbrev pub Keeps : List AckItem → List Frame → Type 0
-Keeps [] fs = fs ≡ []
-Keeps (a ∷ more) fs = ((rest : List Frame) × (fs ≡ frame_for a ∷ rest) × Keeps more rest) ⊎ Keeps more fs
+abbrev pub AreSomeOf : List AckItem → List Frame → Type 0
+AreSomeOf [] fs = fs ≡ []
+AreSomeOf (a ∷ more) fs = ((rest : List Frame) × (fs ≡ frame_for a ∷ rest) × AreSomeOf more rest) ⊎ AreSomeOf more fs
 
 -- a source was handed answers: it kept them but for those at which it had no memory, and its station keeps its first fault
 pub record HasHanded (old new : Talk) (items : List AckItem) (f g : Option StationFault) : Type 0 where
   pub kept : List Frame
-  pub keeps : Keeps items kept
+  pub keeps : AreSomeOf items kept
   pub answered : new.answered ≡ old.answered ++ kept
   pub given : new.given ≡ old.given
   pub ended : old.ended → new.ended
@@ -38,6 +38,8 @@ pub record HasHanded (old new : Talk) (items : List AckItem) (f g : Option Stati
   pub whole : g ≡ None → (f ≡ None) × (kept ≡ map frame_for items)
   pub rises : old.failures ≤ new.failures
   pub cause : f ≡ None → g ≡ Some Source → Rose old.failures new.failures
+  -- a station without a fault has a source that didn't fail
+  pub failed : g ≡ None → new.failures ≡ old.failures
   pub other : f ≡ None → g ≢ Some Unexpected
 
 pub record IsHanded {S : Type 0} (talks : S → Talk) (items : List AckItem) (old new : Station S) : Type 0 where

@@ -20,7 +20,7 @@ use Rattle.fare_source.specs.Talking.{Talk}
 use Rattle.fare_history.specs.AcceptedLinks.{next_links_all}
 use Rattle.fare_collect.specs.Arriving.{arrivals}
 use Rattle.fare_writer.specs.Arriving.{IsUnexpected}
-use Rattle.fare_collect.specs.Stations.{held_list, SourceCounted}
+use Rattle.fare_collect.specs.Stations.{held_list, AreExpected, SourceCounted}
 
 -- some of what was left in the inbox, from the front of each station's part
 pub record HasKeepingLeft (sc : SchemeValue) (old new : Standing OutboxValue) (before after : InboxEnded) (tally_old tally_new : Tally) (halt : Option Halt) : Type 0 where
@@ -63,6 +63,7 @@ pub record HasRested {S : Type 0} (sc : SchemeValue) (talks : S → Talk) (id : 
   pub whole : halt ≡ None → after.end.fault ≡ None → (after.end.ended ≡ true) × (talks after.source).ended
   pub at_end : after.end.ended ≡ true → (talks after.source).ended × (after.end.fault ≡ None)
   pub unexpected : after.end.fault ≡ Some Unexpected → (front : List Frame) × (f : Frame) × (held_list before.end.held ++ more ≡ front ++ f ∷ []) × IsUnexpected f
+  pub expected : AreExpected after.end.fault (held_list before.end.held ++ more)
   pub cause : SourceCounted (talks before.source).failures (talks after.source).failures after.end.fault
 
 -- some of that
@@ -98,6 +99,7 @@ pub record IsRestOf {S : Type 0} (sc : SchemeValue) (talks : S → Talk) (items 
   pub ended : (before.end.ended ≡ true → (talks before.source).ended × (before.end.held ≡ None) × (before.end.fault ≡ None)) → after.end.ended ≡ true → (talks after.source).ended × (after.end.held ≡ None) × (after.end.fault ≡ None)
   pub cause : (n : ℕ) → SourceCounted n (talks before.source).failures before.end.fault → SourceCounted n (talks after.source).failures after.end.fault
   pub unexpected : after.end.fault ≡ Some Unexpected → (before.end.fault ≡ Some Unexpected) ⊎ ((front : List Frame) × (f : Frame) × (passed ≡ front ++ f ∷ []) × IsUnexpected f)
+  pub expected : (front : List Frame) → AreExpected before.end.fault (front ++ held_list before.end.held) → AreExpected after.end.fault ((front ++ passed) ++ held_list after.end.held)
 
 -- the sources of the stations up to a place have come to their ends, or met a fault
 pub record AreRead {S : Type 0} (stations : List (Station S)) (place : ℕ) : Type 0 where

@@ -1,5 +1,5 @@
 -- What each station's collector accepts next, once a session has begun.
-use Rattle.std.specs.Prelude.{◌≡◌, ℕ, ◌+◌, ◌<◌, false, List, [], length, slice_index_or, Option, Some, None, option_map, Result, Ok, if◌then◌else◌}
+use Rattle.std.specs.Prelude.{◌≡◌, ℕ, ◌+◌, ◌<◌, false, List, [], length, slice_index_or, Option, Some, None, is_some, option_map, Result, Ok, if◌then◌else◌}
 use Rattle.fare_scheme.specs.Values.{SchemeValue}
 use Rattle.fare_scheme.specs.Words.{station_of, position_of_station}
 use Rattle.fare_collector.specs.Collecting.{is_id, next_in}
@@ -32,6 +32,8 @@ pub record HaveResumed {S : Type 0} (sc : SchemeValue) (old new : Standing Outbo
   pub len : length after ≡ length before
   pub each : (k : ℕ) (d : Station S) → k < length before → ((slice_index_or after k d).source ≡ (slice_index_or before k d).source) × ((slice_index_or after k d).collector.station ≡ (slice_index_or before k d).collector.station)
   pub ends : (k : ℕ) (d : Station S) → k < length before → (slice_index_or after k d).end ≡ (slice_index_or before k d).end
+  -- its collector knows the same devices
+  pub devices : (k : ℕ) (d : Station S) (device : ℕ) → k < length before → is_some (next_in (slice_index_or after k d).collector device) ≡ is_some (next_in (slice_index_or before k d).collector device)
   pub begun : result ≡ Ok tt → new.clean → new.live
   pub next : result ≡ Ok tt → new.live → old.lawful → (k : ℕ) (d : Station S) (device : ℕ) → k < length before
       → next_in (slice_index_or after k d).collector device ≡ resumed_next sc old.value.upto (slice_index_or before k d).collector.station (next_in (slice_index_or before k d).collector) device

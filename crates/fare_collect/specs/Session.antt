@@ -30,23 +30,23 @@ use Rattle.fare_collect.specs.Arriving.{arrivals}
 use Rattle.fare_writer.specs.Arriving.{IsUnexpected}
 use Rattle.fare_record.specs.declared.ack_item.AckItem.{AckItem}
 use Rattle.fare_collect.specs.declared.fault.StationFault.TheVariants.{Unexpected, Memory}
-use Rattle.fare_collect.specs.Stations.{held_list, frame_for, SourceCounted, HasRead}
+use Rattle.fare_collect.specs.Stations.{held_list, frame_for, AreExpected, SourceCounted, HasRead}
 use Rattle.fare_writer.specs.Handling.{hand_of, HasWritten}
 
 -- a station was lent its passes, ran, and gave them back
-pub record HasServed {S : Type 0} (sc : SchemeValue) (talks : S → Talk) (inbox : Inbox) (lines : List AckLine) (k : ℕ) (old new : Station S) (p0 p1 : StationPass) (h0 h1 : HearPass) : Type 0 where
+pub record HasGivenBack {S : Type 0} (sc : SchemeValue) (talks : S → Talk) (inbox : Inbox) (lines : List AckLine) (k : ℕ) (old new : Station S) (p0 p1 : StationPass) (h0 h1 : HearPass) : Type 0 where
   pub pass : IsStationOf inbox p1
   pub hear : (l : AckLine) → IsHearOf (slice_index_or lines k l) h1
   pub named : station_of p1 ≡ station_of p0
   pub station : new.collector.station ≡ old.collector.station
   pub read : HasRead sc (station_of p0) (talks old.source) (talks new.source) (next_in old.collector) (next_in new.collector) (sent_list p0) (sent_list p1) (heard_list h0) (heard_list h1) new.end.held new.end.ended new.end.fault
 
-pub record HaveServed {S : Type 0} (sc : SchemeValue) (talks : S → Talk) (inbox : Inbox) (lines : List AckLine) (old new : List (Station S)) (ps0 ps1 : List StationPass) (hs0 hs1 : List HearPass) : Type 0 where
+pub record HaveGivenBack {S : Type 0} (sc : SchemeValue) (talks : S → Talk) (inbox : Inbox) (lines : List AckLine) (old new : List (Station S)) (ps0 ps1 : List StationPass) (hs0 hs1 : List HearPass) : Type 0 where
   pub len : length new ≡ length old
   pub passes_len : length ps1 ≡ length old
   pub hears_len : length hs1 ≡ length old
   pub each : (k : ℕ) (d : Station S) (p : StationPass) (h : HearPass) → k < length old
-      → HasServed sc talks inbox lines k (slice_index_or old k d) (slice_index_or new k d) (slice_index_or ps0 k p) (slice_index_or ps1 k p) (slice_index_or hs0 k h) (slice_index_or hs1 k h)
+      → HasGivenBack sc talks inbox lines k (slice_index_or old k d) (slice_index_or new k d) (slice_index_or ps0 k p) (slice_index_or ps1 k p) (slice_index_or hs0 k h) (slice_index_or hs1 k h)
 
 -- the passes that a session begins with: one for each station in its order, of which nothing was put
 pub record AreReady {S : Type 0} (inbox : Inbox) (stations : List (Station S)) (ps : List StationPass) : Type 0 where
@@ -71,6 +71,7 @@ pub record HasGathered {S : Type 0} (sc : SchemeValue) (talks : S → Talk) (all
   pub ended : new.end.ended ≡ true → (talks new.source).ended × (new.end.held ≡ None) × (new.end.fault ≡ None)
   pub cause : SourceCounted (talks old.source).failures (talks new.source).failures new.end.fault
   pub unexpected : new.end.fault ≡ Some Unexpected → (front : List Frame) × (f : Frame) × (frames ≡ front ++ f ∷ []) × IsUnexpected f
+  pub expected : AreExpected new.end.fault (frames ++ held_list new.end.held)
 
 -- the whole: what the writer had, in its order, and what is left in the inbox, the stations in some order
 pub record HaveGathered {S : Type 0} (sc : SchemeValue) (talks : S → Talk) (old new : Standing OutboxValue) (tellers_old tellers_new : List Teller) (tally_old tally_new : Tally) (before after : List (Station S)) (hears : List HearPass) (room left : ℕ) (halt : Option Halt) : Type 0 where

@@ -41,6 +41,15 @@ abbrev pub held_list : Option Frame → List Frame
 held_list None = []
 held_list (Some f) = f ∷ []
 
+-- a frame among these that no device sends is the last of them, and is what its station reported
+abbrev pub AreExpected : Option StationFault → List Frame → Type 0
+AreExpected fault [] = Unit {0}
+AreExpected fault (f ∷ fs) = (IsUnexpected f → (fs ≡ []) × (fault ≡ Some Unexpected)) × AreExpected fault fs
+
+-- the last of these frames is one that no device sends
+abbrev pub EndUnexpected : List Frame → Type 0
+EndUnexpected frames = (front : List Frame) × (f : Frame) × (frames ≡ front ++ f ∷ []) × IsUnexpected f
+
 -- a frame went to the collector and, where that accepts it, to the inbox; or the inbox took nothing, and the
 -- collector is as it was
 pub record HasPassedOn (sc : SchemeValue) (station : ℕ) (next_old next_new : ℕ → Option ℕ) (sent_old sent_new : List Arrived) (frame : Frame) (passed : Bool) : Type 0 where
@@ -76,6 +85,7 @@ pub record HasRead (sc : SchemeValue) (station : ℕ) (old new : Talk) (next_old
   pub kept : fault ≢ Some Memory → lost ≡ []
   pub ended : at_end ≡ true → new.ended × (held ≡ None) × (fault ≡ None)
   pub unexpected : fault ≡ Some Unexpected → (front : List Frame) × (f : Frame) × (frames ≡ front ++ f ∷ []) × IsUnexpected f
+  pub expected : AreExpected fault (frames ++ held_list held)
   pub cause : SourceCounted old.failures new.failures fault
 
 -- the station at a place has a seat that was made for it
@@ -93,7 +103,7 @@ pub record AreSeated {S : Type 0} (inbox : Inbox) (lines : List AckLine) (statio
   pub each : (k : ℕ) (d : Station S) → k < length stations → IsSeatedAt inbox lines k (slice_index_or stations k d)
 
 -- the station's thread has run
-pub record HasRun {S : Type 0} (sc : SchemeValue) (talks : S → Talk) (inbox : Inbox) (lines : List AckLine) (k : ℕ) (old new : Station S) : Type 0 where
+pub record HasRunStation {S : Type 0} (sc : SchemeValue) (talks : S → Talk) (inbox : Inbox) (lines : List AckLine) (k : ℕ) (old new : Station S) : Type 0 where
   pub seat_old : Seat
   pub seat_new : Seat
   pub is_old : old.seat ≡ Some seat_old
@@ -105,4 +115,4 @@ pub record HasRun {S : Type 0} (sc : SchemeValue) (talks : S → Talk) (inbox : 
   pub read : HasRead sc (station_of seat_old.pass) (talks old.source) (talks new.source) (next_in old.collector) (next_in new.collector) (sent_list seat_old.pass) (sent_list seat_new.pass) (heard_list seat_old.hear) (heard_list seat_new.hear) seat_new.held seat_new.ended seat_new.fault
 
 pub record HaveRun {S : Type 0} (sc : SchemeValue) (talks : S → Talk) (inbox : Inbox) (lines : List AckLine) (old new : List (Station S)) : Type 0 where
-  pub each : (k : ℕ) (d : Station S) → k < length old → HasRun sc talks inbox lines k (slice_index_or old k d) (slice_index_or new k d)
+  pub each : (k : ℕ) (d : Station S) → k < length old → HasRunStation sc talks inbox lines k (slice_index_or old k d) (slice_index_or new k d)

@@ -1,4 +1,4 @@
-ghost use Rattle.std.specs.Prelude.{◌≡◌, ◌++◌, ◌∷◌, [], true, false, IfSome, IfNone};
+ghost use Rattle.std.specs.Prelude.{◌≡◌, ◌++◌, ◌∷◌, [], true, false, None, IfSome, IfNone};
 ghost use Rattle.fare_inbox_queue.specs.Inbox.{station_in};
 ghost use Rattle.fare_inbox_queue.specs.InboxPasses.{station_of, sent_list, IsStationOf};
 ghost use Rattle.fare_collector.specs.Collecting.{next_in};
@@ -92,6 +92,7 @@ pub(crate) fn pass_on<G: Gate, R: Wait + Clock>(
     requires queue { IsStationOf inbox.now pass.old }
     ensures queue { IsStationOf inbox.now pass.new }
     ensures some { IfSome result (HasPassedOn scheme.now (station_of pass.old) (next_in collector.old) (next_in collector.new) (sent_list pass.old) (sent_list pass.new) frame.now) }
+    ensures expected { IsUnexpected frame.now → result ≡ None }
     ensures none { IfNone result (IsUnexpected frame.now × (next_in collector.new ≡ next_in collector.old) × (sent_list pass.new ≡ sent_list pass.old)) }
     ensures station { (station_of pass.new ≡ station_of pass.old) × (collector.new.station ≡ collector.old.station) }
 {

@@ -4,7 +4,7 @@ ghost use Rattle.fare_inbox_queue.specs.InboxPasses.{station_of, taken_list, sta
 ghost use Rattle.fare_collect.specs.Opening.{AreHears, AreNew};
 ghost use Rattle.fare_writer.specs.Handling.{AreTellers, HasWritten};
 ghost use Rattle.fare_collect.specs.Resting.{AreApart, AreRead};
-ghost use Rattle.fare_collect.specs.Session.{HaveServed, AreReady, HaveGathered};
+ghost use Rattle.fare_collect.specs.Session.{HaveGivenBack, AreReady, HaveGathered};
 
 use crate::ended::Ended;
 use crate::opening::{lend, take_back};
@@ -46,7 +46,7 @@ fn serve_stations<
     requires passes { AreReady inbox.now stations.old passes.old.items }
     requires lines { AreNew (length stations.old) lines.now tellers.old hears.old.items }
     requires queue { IsWriterOf inbox.now writer.old × (taken_list writer.old ≡ []) }
-    ensures served { HaveServed scheme.now S.talk inbox.now lines.now stations.old stations.new passes.old.items passes.new.items hears.old.items hears.new.items }
+    ensures served { HaveGivenBack scheme.now S.talk inbox.now lines.now stations.old stations.new passes.old.items passes.new.items hears.old.items hears.new.items }
     ensures queue { IsWriterOf inbox.now writer.new × (stations_of writer.new ≡ stations_of writer.old) }
     ensures tellers { AreTellers lines.now tellers.new }
     ensures hears { AreHears lines.now hears.new.items }

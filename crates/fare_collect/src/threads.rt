@@ -1,7 +1,7 @@
 //! All stations' threads, and the writer's.
 ghost use Rattle.std.specs.Prelude.{◌≡◌, ◌<◌, [], ℕ, length};
 ghost use Rattle.fare_inbox_queue.specs.InboxPasses.{taken_list, stations_of, IsWriterOf};
-ghost use Rattle.fare_collect.specs.Stations.{IsSeatedAt, AreSeated, HasRun, HaveRun};
+ghost use Rattle.fare_collect.specs.Stations.{IsSeatedAt, AreSeated, HasRunStation, HaveRun};
 ghost use Rattle.fare_writer.specs.Handling.{AreTellers, HasWritten};
 
 use crate::ended::Ended;
@@ -32,7 +32,7 @@ fn run_station<S: Source, G: Gate, R: Wait + Clock>(
     station: &mut Station<S>,
 )
     requires { IsSeatedAt inbox.now lines.now place station.old }
-    ensures { HasRun scheme.now S.talk inbox.now lines.now place station.old station.new }
+    ensures { HasRunStation scheme.now S.talk inbox.now lines.now place station.old station.new }
 {
     let Some(seat) = &mut station.seat else {
         return;
@@ -73,7 +73,7 @@ fn run_stations<S: Source + Send, G: Gate + Sync, R: Threads + Wait + Clock + Sy
         count,
         &|place: usize, station: &mut Station<S>|
             requires { IsSeatedAt inbox.now lines.now place station.old }
-            ensures { HasRun scheme.entry.now S.talk inbox.entry.now lines.entry.now place station.old station.new }
+            ensures { HasRunStation scheme.entry.now S.talk inbox.entry.now lines.entry.now place station.old station.new }
         { run_station(rt, scheme, inbox, lines, ended, gate, turns, place, station) },
     );
 }

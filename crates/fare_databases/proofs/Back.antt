@@ -10,6 +10,7 @@ use Rattle.fare_scheme.specs.Words.{id_at}
 use Rattle.fare_ledger.specs.Words as ledger_words
 use Rattle.fare_ledger.specs.declared.tables.SqlLedger.{SqlLedger}
 use Rattle.fare_history.proofs.Entries.{element_at}
+use Rattle.fare_sessions.proofs.Follow.{same_at}
 use Rattle.fare_databases.specs.Closed.{AreHandedBack}
 use Rattle.fare_databases.specs.Holding.{AreStaying, HoldsOutbox, StaysLedger, StaysOutbox}
 use Rattle.fare_databases.specs.Opened.{IsOpenedLedger}
@@ -26,15 +27,16 @@ cases_append (z ∷ xs) ys (suc k) x at = elim (cases_append xs ys k x at) [
   | inr there ↦ (let e = there.1 in inr (there.0, omega (arith, e), there.2))
 ]
 
-one_at : {X : Type 0} (xs : List X) (k l : ℕ) (x y : X) → k ≡ l → slice_get xs k ≡ Some x → slice_get xs l ≡ Some y → x ≡ y
-one_at {X} xs k l x y same at_x at_y = let both : ◌≡◌ {A = Option X} (Some x) (Some y) = sym at_x ∙ (ap (slice_get xs) same ∙ at_y) in cc
+pub nothing_at : {X : Type 0} (k : ℕ) (x : X) → slice_get {X = X} [] k ≡ Some x → ⊥
+nothing_at zero x e = absurd (cc)
+nothing_at (suc k) x e = absurd (cc)
 
 pub outbox_kept : (s : State) → StaysOutbox s s
 outbox_kept s clean trees shows v holds left leaves = (v, subst (λ t. HoldsOutbox t v) (sym (shows.left left leaves)) holds, outbox_self v)
 
 module _ {S : Type 0} (g : Ghosts S) (sc : SchemeValue) where
   pub all_kept : (ds : List (Held S)) → AreStaying (state g) sc ds ds
-  all_kept ds = record { count = refl; each = λ place owner d e at_d at_e at. subst (λ x. StaysLedger sc owner (state g d) (state g x)) (one_at ds place place d e refl at_d at_e) (ledger_kept sc owner (state g d)) }
+  all_kept ds = record { count = refl; each = λ place owner d e at_d at_e at. subst (λ x. StaysLedger sc owner (state g d) (state g x)) (same_at ds ds place e d at_e at_d refl) (ledger_kept sc owner (state g d)) }
 
   -- the ledgers that were opened go back to their databases, one could not be, and the others are as they were
   pub back_again : (law : IsLawfulStore g) (ds : List (Held S)) (xs : List (SqlLedger S g)) (owner : ℕ) (d e : Held S) (rest after : List (Held S))
@@ -62,13 +64,13 @@ module _ {S : Type 0} (g : Ghosts S) (sc : SchemeValue) where
           let lt = slice_get_within after place b at_b in
           let n = len in
           let x = element_at xs place (omega (arith, lt, n)) in
-          ledger_back_stays g law sc other (state g a) x.0 b (opened place x.0 other a x.1 at at_a) (back.each place x.0 b x.1 (ap (λ l. slice_get l place) (sym are) ∙ at_b))
+          ledger_back_stays g law sc other (state g a) x.0 b (opened place x.0 other a x.1 at at_a) (back.each place x.0 b x.1 (ap (λ l. slice_get l place) (sym are) ∙ at_b)).0
 
       behind : (place other j : ℕ) (a b : Held S) → place ≡ length after + j → slice_get ds place ≡ Some a → slice_get (e ∷ rest) j ≡ Some b → id_at sc.owners place ≡ Some other → StaysLedger sc other (state g a) (state g b)
       behind place other zero a b is at_a at_b at =
           let n = len in
           let spot : place ≡ length xs = omega (arith, is, n) in
-          let same_d : d ≡ a = one_at ds (length xs) place d a (sym spot) there at_a in
+          let same_d : d ≡ a = same_at ds ds place a d at_a (ap (slice_get ds) spot ∙ there) refl in
           let same_e : e ≡ b = cc in
           let both : ◌≡◌ {A = Option ℕ} (Some owner) (Some other) = sym here ∙ (ap (id_at sc.owners) (sym spot) ∙ at) in
           let same_o : owner ≡ other = cc in

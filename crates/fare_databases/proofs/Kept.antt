@@ -36,6 +36,7 @@ use Rattle.fare_databases.specs.Holding.{HoldsLedger, HoldsOutbox, HoldStores, L
 use Rattle.fare_databases.specs.declared.databases.Databases.{Databases}
 use Rattle.fare_databases.proofs.Held.{clean_was, element_of, ledger_left, left_was, place_of_known}
 use Rattle.fare_databases.proofs.Looks.{stores_agree}
+use Rattle.fare_databases.proofs.Owners.{by_owner, by_owner_is, place_within}
 
 module _ {S : Type 0} (g : Ghosts S) where
   abbrev pub stands_outbox : SqlOutbox S g → Standing OutboxValue
@@ -60,7 +61,7 @@ module _ {S : Type 0} (g : Ghosts S) where
         let lt = has_place hub.ledgers.items place x at in
         let n = b.count in
         let d = element_at b.backs place (omega (arith, lt, n)) in
-        (d.0, ap (λ l. slice_get l place) b.are ∙ d.1, b.each place x d.0 at d.1)
+        (d.0, ap (λ l. slice_get l place) b.are ∙ d.1, (b.each place x d.0 at d.1).0)
 
     pub clean_hub : AreClean stands_outbox stands_ledger hub
     clean_hub = record {
@@ -69,29 +70,23 @@ module _ {S : Type 0} (g : Ghosts S) where
     }
 
     module _ (any : StoresValue) (outbox : Trees) (ledgers : ℕ → Trees) (leave : Leave g databases outbox ledgers) where
-      place_within : (owner place : ℕ) → position_of_owner sc owner ≡ Some place → place < length hub.ledgers.items
-      place_within owner place e =
-          let at = element_of sc.owners place owner (((positions sc valid).owners owner place).0 e) in
-          let lt = has_place sc.owners place at.0 at.1 in
-          let n = many in
-          omega (arith, lt, n)
+      -- the ledger at an owner's place
+      ledger_at : (place owner : ℕ) → id_at sc.owners place ≡ Some owner → (x : SqlLedger S g) × (slice_get hub.ledgers.items place ≡ Some x)
+      ledger_at place owner at = element_at hub.ledgers.items place (place_within sc hub.ledgers.items many place owner at)
 
-      ledger_of : (owner : ℕ) (o : Option ℕ) → position_of_owner sc owner ≡ o → LedgerValue
-      ledger_of owner None e = any.ledgers owner
-      ledger_of owner (Some place) e = value_left (element_at hub.ledgers.items place (place_within owner place e)).0 (ledgers place)
+      abbrev left_at : (place owner : ℕ) → id_at sc.owners place ≡ Some owner → LedgerValue
+      left_at place owner at = value_left (ledger_at place owner at).0 (ledgers place)
 
       -- what the stop left, together
       left_all : StoresValue
-      left_all = record { outbox = outbox_words.value_at hub.outbox.layout outbox; ledgers = λ owner. ledger_of owner (position_of_owner sc owner) refl }
+      left_all = record { outbox = outbox_words.value_at hub.outbox.layout outbox; ledgers = by_owner sc valid any.ledgers left_at }
 
-      ledger_is : (owner place : ℕ) (x : SqlLedger S g) → slice_get hub.ledgers.items place ≡ Some x → (o : Option ℕ) (e : position_of_owner sc owner ≡ o) → o ≡ Some place → ledger_of owner o e ≡ value_left x (ledgers place)
-      unfolding ledger_of
-      ledger_is owner place x at None e is = let both : ◌≡◌ {A = Option ℕ} None (Some place) = is in absurd (cc)
-      ledger_is owner place x at (Some other) e is =
-          let here : other ≡ place = cc in
-          let y = element_at hub.ledgers.items other (place_within owner other e) in
-          let one : y.0 ≡ x = same_at hub.ledgers.items hub.ledgers.items place x y.0 at (ap (slice_get hub.ledgers.items) (sym here) ∙ y.1) refl in
-          λ i. value_left (one i) (ledgers (here i))
+      left_is : (place owner : ℕ) → id_at sc.owners place ≡ Some owner → (x : SqlLedger S g) → slice_get hub.ledgers.items place ≡ Some x → left_all.ledgers owner ≡ value_left x (ledgers place)
+      unfolding left_all
+      left_is place owner at =
+          by_owner_is sc valid any.ledgers left_at (λ place owner v. (x : SqlLedger S g) → slice_get hub.ledgers.items place ≡ Some x → v ≡ value_left x (ledgers place))
+          (λ place owner at x here. let y = ledger_at place owner at in ap (λ z. value_left z (ledgers place)) (same_at hub.ledgers.items hub.ledgers.items place x y.0 here y.1 refl))
+          place owner at
 
       may_stand : MayStandAs stands_outbox stands_ledger hub left_all
       unfolding left_all
@@ -100,7 +95,7 @@ module _ {S : Type 0} (g : Ghosts S) where
         ledgers_may = λ owner x of.
             let d = back_at of.0 x of.2 in
             let left = left_was g x.conn d.0 _ d.2 (clean.ledgers_clean of.0 d.0 d.1) (ledgers of.0) (leave.ledgers_leave of.0 d.0 d.1) in
-            inr (ledgers of.0, left, sym (ledger_is owner of.0 x of.2 (position_of_owner sc owner) refl (ap (λ s. position_of_owner s owner) (sym same) ∙ of.1)));
+            inr (ledgers of.0, left, sym (left_is of.0 owner (((positions sc valid).owners owner of.0).0 (ap (λ s. position_of_owner s owner) (sym same) ∙ of.1)) x of.2));
       }
 
       module _ (lasting : AreLasting stands_outbox stands_ledger hub) (owned : (owner : ℕ) → knows_owner sc owner ≡ true → ((left_all.ledgers owner).owner ≡ owner) × IsOfScheme sc (left_all.ledgers owner)) where
@@ -110,10 +105,10 @@ module _ {S : Type 0} (g : Ghosts S) where
           outbox_holds = inr (inl (hub.outbox.layout, lasting.outbox_is.each outbox (left_was g hub.outbox.conn databases.outbox _ back.outbox_back clean.outbox_clean outbox leave.outbox_leaves), refl));
           ledgers_hold = λ place owner at.
               let e = ((positions sc valid).owners owner place).1 at in
-              let x = element_at hub.ledgers.items place (place_within owner place e) in
+              let x = ledger_at place owner at in
               let d = back_at place x.0 x.1 in
               let left = left_was g x.0.conn d.0 _ d.2 (clean.ledgers_clean place d.0 d.1) (ledgers place) (leave.ledgers_leave place d.0 d.1) in
-              let is = ledger_is owner place x.0 x.1 (position_of_owner sc owner) refl e in
+              let is = left_is place owner at x.0 x.1 in
               let mine = owned owner (ap is_some e) in
               let made : IsOfScheme sc (value_left x.0 (ledgers place)) = subst (IsOfScheme sc) is mine.1 in
               subst (HoldsLedger sc owner (ledgers place)) (sym is)
@@ -211,26 +206,15 @@ module _ {S : Type 0} (g : Ghosts S) where
         let it = stay.ledgers_stay.each place owner d.0 f.0 d.1 f.1 at (clean.ledgers_clean place f.0 f.1) (ledgers place) (shows.ledgers_show place d.0 d.1) (h.ledgers owner) (held.ledgers_hold place owner at) (ledgers_left place) (leave.ledgers_leave place f.0 f.1) in
         (it.0, (it.1, it.2))
 
-    still_of : (owner : ℕ) (o : Option ℕ) → position_of_owner sc owner ≡ o → LedgerValue
-    still_of owner None e = h.ledgers owner
-    still_of owner (Some place) e = (still_at place owner (((positions sc valid).owners owner place).0 e)).0
-
-    still_is : (place owner : ℕ) (o : Option ℕ) (e : position_of_owner sc owner ≡ o) → o ≡ Some place → Still place owner (still_of owner o e)
-    unfolding still_of
-    still_is place owner None e is = let both : ◌≡◌ {A = Option ℕ} None (Some place) = is in absurd (cc)
-    still_is place owner (Some other) e is =
-        let here : other ≡ place = cc in
-        subst (λ p. Still p owner (still_of owner (Some other) e)) here (still_at other owner (((positions sc valid).owners owner other).0 e)).1
-
     still_outbox : (w : OutboxValue) × HoldsOutbox outbox_left w × OutboxesLook h.outbox w
     still_outbox = stay.outbox_stays clean.outbox_clean outbox shows.outbox_shows h.outbox held.outbox_holds outbox_left leave.outbox_leaves
 
     still_all : StoresValue
-    still_all = record { outbox = still_outbox.0; ledgers = λ owner. still_of owner (position_of_owner sc owner) refl }
+    still_all = record { outbox = still_outbox.0; ledgers = by_owner sc valid h.ledgers (λ place owner at. (still_at place owner at).0) }
 
     still_there : (place owner : ℕ) → id_at sc.owners place ≡ Some owner → Still place owner (still_all.ledgers owner)
-    unfolding still_all still_of
-    still_there place owner at = still_is place owner (position_of_owner sc owner) refl (((positions sc valid).owners owner place).1 at)
+    unfolding still_all
+    still_there place owner at = by_owner_is sc valid h.ledgers (λ place owner at. (still_at place owner at).0) Still (λ place owner at. (still_at place owner at).1) place owner at
 
     -- what they held is held still
     pub unopened_keeps : (lists : ℕ → List RecordValue) → Agrees sc lists h → StayAgreed sc lists outbox ledgers outbox_left ledgers_left

@@ -4,6 +4,7 @@ pub mod Held
 pub mod Kept
 pub mod Looks
 pub mod Now
+pub mod Owners
 pub mod Pushed
 pub mod Sound
 pub mod Staying

@@ -22,12 +22,6 @@ outbox_self v = record { upto = λ d. refl; rows = λ o d. refl; stated = λ o d
 pub outbox_same : (v w : OutboxValue) → v ≡ w → OutboxesLook v w
 outbox_same v w is = record { upto = λ d i. (sym is i).upto d; rows = λ o d i. (sym is i).rows o d; stated = λ o d i. (sym is i).stated o d }
 
-pub outbox_back : (v w : OutboxValue) → OutboxesLook v w → OutboxesLook w v
-outbox_back v w l = record { upto = λ d. sym (l.upto d); rows = λ o d. sym (l.rows o d); stated = λ o d. sym (l.stated o d) }
-
-pub outbox_then : (u v w : OutboxValue) → OutboxesLook u v → OutboxesLook v w → OutboxesLook u w
-outbox_then u v w l m = record { upto = λ d. m.upto d ∙ l.upto d; rows = λ o d. m.rows o d ∙ l.rows o d; stated = λ o d. m.stated o d ∙ l.stated o d }
-
 pub outbox_empty : (v w : OutboxValue) → IsEmptyOutbox v → IsEmptyOutbox w → OutboxesLook v w
 outbox_empty v w one two = record {
   upto = λ d. two.upto d ∙ sym (one.upto d);
@@ -49,9 +43,6 @@ ledger_then u v w l m = record {
   closed = λ d. m.closed d ∙ l.closed d;
   retired = λ d. m.retired d ∙ l.retired d;
 }
-
-pub ledger_back : (v w : LedgerValue) → LedgersLook v w → LedgersLook w v
-ledger_back v w l = record { start = sym l.start; taken = λ d. sym (l.taken d); stated = λ d. sym (l.stated d); closed = λ d. sym (l.closed d); retired = λ d. sym (l.retired d) }
 
 pub ledger_empty : (v w : LedgerValue) → w.start ≡ v.start → IsEmptyLedger v → IsEmptyLedger w → LedgersLook v w
 ledger_empty v w start one two = record {

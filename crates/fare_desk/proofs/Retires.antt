@@ -32,7 +32,7 @@ use Rattle.fare_sessions.proofs.Billed.{put_self}
 use Rattle.fare_sessions.proofs.Follow.{clean_back}
 use Rattle.fare_sessions.proofs.Steps.{put_back, stood_before, own_stands}
 use Rattle.fare_desk.specs.Faults.{of_retiring, of_store}
-use Rattle.fare_desk.specs.Retiring.{ComesOf, Leaves, RetiresLane, RetiresOne}
+use Rattle.fare_desk.specs.Retiring.{ComesOf, LeavesLane, RetiresLane, RetiresOne}
 use Rattle.fare_desk.specs.Showing.{OnlyAsks}
 use Rattle.fare_desk.specs.declared.fault.DeskFault.{DeskFault}
 use Rattle.fare_desk.specs.declared.fault.DeskFault.TheVariants as desk
@@ -64,7 +64,7 @@ module _ (owner device : ℕ) (k : StoresValue) (l : LedgerValue) where
       let done : k.ledgers owner ≡ with_retired device (put k.ledgers owner l owner) = is.1 ∙ ap (with_retired device) (sym here) in
       (subst (λ x. MayRetire x device) (sym here) is.0, λ i. record { outbox = k.outbox; ledgers = sym (put_back k.ledgers owner l (with_retired device (put k.ledgers owner l owner)) done) i })
 
-  was_retired : (retire_of l device ≡ Err retire.Retired) × (k.ledgers owner ≡ l) → Leaves owner device desk.Retired (with_ledger owner k l) k
+  was_retired : (retire_of l device ≡ Err retire.Retired) × (k.ledgers owner ≡ l) → LeavesLane owner device desk.Retired (with_ledger owner k l) k
   was_retired is = (subst (λ (x : LedgerValue). x.retired device ≡ true) (sym here) (retired_is (l.knows device) (l.retired device) is.0), nothing_changed is.1)
 
   may_be_retired : IsRetiredFrom device l (k.ledgers owner) → IsLeftBy (with_ledger owner k l) (Retires_lane owner device) k
@@ -72,7 +72,7 @@ module _ (owner device : ℕ) (k : StoresValue) (l : LedgerValue) where
   may_be_retired (inr is) = inr (one_retired is)
 
 -- A HUB
-pub left_as_is : (owner device : ℕ) (f : Fault) (k : StoresValue) → Leaves owner device (of_store f) k k
+pub left_as_is : (owner device : ℕ) (f : Fault) (k : StoresValue) → LeavesLane owner device (of_store f) k k
 left_as_is owner device fault.Memory k = inl refl
 left_as_is owner device fault.Store k = inl refl
 
@@ -84,9 +84,9 @@ module _ {O L : Type 0} (outbox : O → Standing OutboxValue) (ledger : L → St
   comes_asked old new R asks is = record { came = λ clean sound k may. let was = asks.same clean sound k may in (k, was, is clean sound k was) }
 
   -- and this question had no answer
-  pub asked_failed : (owner device : ℕ) (old new : Hub O L) → OnlyAsks outbox ledger old new → (f : Fault) (r : Result (Unit {0}) DeskFault) → IsErrAnd r (λ e. e ≡ of_store f) → IfErr r (λ e. ComesOf outbox ledger old new (Leaves owner device e))
+  pub asked_failed : (owner device : ℕ) (old new : Hub O L) → OnlyAsks outbox ledger old new → (f : Fault) (r : Result (Unit {0}) DeskFault) → IsErrAnd r (λ e. e ≡ of_store f) → IfErr r (λ e. ComesOf outbox ledger old new (LeavesLane owner device e))
   asked_failed owner device old new asks f (Ok u) is = tt
-  asked_failed owner device old new asks f (Err e) is = subst (λ x. ComesOf outbox ledger old new (Leaves owner device x)) (sym is) (comes_asked old new (Leaves owner device (of_store f)) asks (λ clean sound k may. left_as_is owner device f k))
+  asked_failed owner device old new asks f (Err e) is = subst (λ x. ComesOf outbox ledger old new (LeavesLane owner device x)) (sym is) (comes_asked old new (LeavesLane owner device (of_store f)) asks (λ clean sound k may. left_as_is owner device f k))
 
   pub still_there : (old new : Hub O L) (owner : ℕ) → OnlyAsks outbox ledger old new → is_some (position_of_owner old.scheme owner) ≡ true → position_of_owner new.scheme owner ≡ None → ⊥
   still_there old new owner asks known none =
@@ -133,28 +133,28 @@ module _ {O L : Type 0} (outbox : O → Standing OutboxValue) (ledger : L → St
     not_mine_leads : h.answer ≡ Err (Because retire.NotMine) → Leads (λ l m. m ≡ l) (ledger h.one.own_old) (ledger h.one.own_new)
     not_mine_leads is = subst (λ x. Leads (λ l m. m ≡ l) (ledger h.one.own_old) (ledger x)) (sym (h.unasked is)) (record { leads = λ l may. (l, may, refl) })
 
-    by_answer : (a : Result Unit (Refused RetireFault)) → h.answer ≡ a → (e : Refused RetiringFault) → Err e ≡ retire_as_hub a → ComesOf outbox ledger old new (Leaves owner device (of_retiring e))
+    by_answer : (a : Result Unit (Refused RetireFault)) → h.answer ≡ a → (e : Refused RetiringFault) → Err e ≡ retire_as_hub a → ComesOf outbox ledger old new (LeavesLane owner device (of_retiring e))
     by_answer (Ok u) is e told = absurd (cc)
     by_answer (Err (Because retire.NotMine)) is e told =
         let named : e ≡ Because (retiring.Ledger retire.NotMine) = cc in
-        subst (λ x. ComesOf outbox ledger old new (Leaves owner device (of_retiring x))) (sym named)
-        (step (λ l m. m ≡ l) (Leaves owner device desk.Store) (λ clean sound. not_mine_leads is) (λ k l same. inl (nothing_changed owner device k l same)))
+        subst (λ x. ComesOf outbox ledger old new (LeavesLane owner device (of_retiring x))) (sym named)
+        (step (λ l m. m ≡ l) (LeavesLane owner device desk.Store) (λ clean sound. not_mine_leads is) (λ k l same. inl (nothing_changed owner device k l same)))
     by_answer (Err (Because retire.Retired)) is e told =
         let named : e ≡ Because (retiring.Ledger retire.Retired) = cc in
-        subst (λ x. ComesOf outbox ledger old new (Leaves owner device (of_retiring x))) (sym named)
-        (step (λ l m. (retire_of l device ≡ Err retire.Retired) × (m ≡ l)) (Leaves owner device desk.Retired)
+        subst (λ x. ComesOf outbox ledger old new (LeavesLane owner device (of_retiring x))) (sym named)
+        (step (λ l m. (retire_of l device ≡ Err retire.Retired) × (m ≡ l)) (LeavesLane owner device desk.Retired)
         (λ clean sound. refused_leads (λ l. retire_of l device) (with_retired device) (ledger h.one.own_old) (ledger h.one.own_new) retire.Retired (asked (Err (Because retire.Retired)) is (λ e. absurd (cc))) (fit sound) sound_new (own_clean clean))
         (λ k l was. was_retired owner device k l was))
     by_answer (Err (Failed fault.Memory)) is e told =
         let named : e ≡ Failed fault.Memory = cc in
-        subst (λ x. ComesOf outbox ledger old new (Leaves owner device (of_retiring x))) (sym named)
-        (step (IsRetiredFrom device) (Leaves owner device desk.Memory) (failed_leads fault.Memory is) (λ k l may. may_be_retired owner device k l may))
+        subst (λ x. ComesOf outbox ledger old new (LeavesLane owner device (of_retiring x))) (sym named)
+        (step (IsRetiredFrom device) (LeavesLane owner device desk.Memory) (failed_leads fault.Memory is) (λ k l may. may_be_retired owner device k l may))
     by_answer (Err (Failed fault.Store)) is e told =
         let named : e ≡ Failed fault.Store = cc in
-        subst (λ x. ComesOf outbox ledger old new (Leaves owner device (of_retiring x))) (sym named)
-        (step (IsRetiredFrom device) (Leaves owner device desk.Store) (failed_leads fault.Store is) (λ k l may. may_be_retired owner device k l may))
+        subst (λ x. ComesOf outbox ledger old new (LeavesLane owner device (of_retiring x))) (sym named)
+        (step (IsRetiredFrom device) (LeavesLane owner device desk.Store) (failed_leads fault.Store is) (λ k l may. may_be_retired owner device k l may))
 
-    pub comes_refused : (e : Refused RetiringFault) → result ≡ Err e → ComesOf outbox ledger old new (Leaves owner device (of_retiring e))
+    pub comes_refused : (e : Refused RetiringFault) → result ≡ Err e → ComesOf outbox ledger old new (LeavesLane owner device (of_retiring e))
     comes_refused e is = by_answer h.answer refl e (sym is ∙ h.told)
 
   -- and then its line was written, or not
@@ -163,6 +163,6 @@ module _ {O L : Type 0} (outbox : O → Standing OutboxValue) (ledger : L → St
   lane_retired owner device old new before after text is comes (Err f) w = tt
   lane_retired owner device old new before after text is comes (Ok u) w = record { retired = comes; written = subst (Appends before after) is w }
 
-  pub line_lost : (owner device : ℕ) (old new : Hub O L) → ComesOf outbox ledger old new (RetiresOne owner device) → (r : Result (Unit {0}) DeskFault) → IfErr r (λ f. f ≡ desk.Write) → IfErr r (λ f. ComesOf outbox ledger old new (Leaves owner device f))
+  pub line_lost : (owner device : ℕ) (old new : Hub O L) → ComesOf outbox ledger old new (RetiresOne owner device) → (r : Result (Unit {0}) DeskFault) → IfErr r (λ f. f ≡ desk.Write) → IfErr r (λ f. ComesOf outbox ledger old new (LeavesLane owner device f))
   line_lost owner device old new comes (Ok u) is = tt
-  line_lost owner device old new comes (Err f) is = subst (λ x. ComesOf outbox ledger old new (Leaves owner device x)) (sym is) comes
+  line_lost owner device old new comes (Err f) is = subst (λ x. ComesOf outbox ledger old new (LeavesLane owner device x)) (sym is) comes

@@ -18,12 +18,12 @@ abbrev pub RetiresOne : ℕ → ℕ → StoresValue → StoresValue → Type 0
 RetiresOne owner device h k = MayRetire (h.ledgers owner) device × (k ≡ stores_after h (Retires_lane owner device))
 
 -- what a retire that came to this fault makes of the stores h: a refusal changes nothing, and `Retired` is one of a lane that is; one that failed may be committed; and where only its text was not written, the lane is retired
-abbrev pub Leaves : ℕ → ℕ → DeskFault → StoresValue → StoresValue → Type 0
-Leaves owner device desk.Retired h k = ((h.ledgers owner).retired device ≡ true) × (k ≡ h)
-Leaves owner device desk.Memory h k = IsLeftBy h (Retires_lane owner device) k
-Leaves owner device desk.Store h k = IsLeftBy h (Retires_lane owner device) k
-Leaves owner device desk.Write h k = RetiresOne owner device h k
-Leaves owner device _ h k = k ≡ h
+abbrev pub LeavesLane : ℕ → ℕ → DeskFault → StoresValue → StoresValue → Type 0
+LeavesLane owner device desk.Retired h k = ((h.ledgers owner).retired device ≡ true) × (k ≡ h)
+LeavesLane owner device desk.Memory h k = IsLeftBy h (Retires_lane owner device) k
+LeavesLane owner device desk.Store h k = IsLeftBy h (Retires_lane owner device) k
+LeavesLane owner device desk.Write h k = RetiresOne owner device h k
+LeavesLane owner device _ h k = k ≡ h
 
 module _ {O L : Type 0} (outbox : O → Standing OutboxValue) (ledger : L → Standing LedgerValue) where
   -- whatever may stand now came so of what might have stood before

@@ -5,7 +5,7 @@ ghost use Rattle.fare_scheme.specs.Words.{position_of_device, position_of_owner}
 ghost use Rattle.fare_sessions.specs.Stores.{HasLedgers};
 ghost use Rattle.fare_desk.specs.Closing.{GoesOn};
 ghost use Rattle.fare_desk.specs.Faults.{is_of_retire, is_refusal};
-ghost use Rattle.fare_desk.specs.Retiring.{ComesOf, Leaves, RetiresLane};
+ghost use Rattle.fare_desk.specs.Retiring.{ComesOf, LeavesLane, RetiresLane};
 
 use crate::fault::{DeskFault, of_retire};
 use crate::standing::ask_retired;
@@ -38,7 +38,7 @@ pub fn retire_lane<O: Outbox, L: Ledger, W: Write>(
     ensures unasked { (position_of_owner hub.old.scheme owner ≡ None → hub.new ≡ hub.old) × (position_of_device hub.old.scheme device ≡ None → hub.new ≡ hub.old) }
     ensures goes { GoesOn O.standing L.standing hub.old hub.new }
     ensures retired { OnOk result (RetiresLane O.standing L.standing owner device hub.old hub.new (W.contents output.old) (W.contents output.new)) }
-    ensures failed { IfErr result (λ fault. ComesOf O.standing L.standing hub.old hub.new (Leaves owner device fault)) }
+    ensures failed { IfErr result (λ fault. ComesOf O.standing L.standing hub.old hub.new (LeavesLane owner device fault)) }
     ensures named { IfErr result (λ fault. is_refusal fault ≡ is_of_retire fault) }
     ensures kept { IfErr result (λ fault. fault ≢ DeskFault.Write → Keeps (W.contents output.old) (W.contents output.new)) }
 {

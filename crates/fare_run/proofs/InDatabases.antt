@@ -1,6 +1,6 @@
 -- What serving and asking make of the databases in which a scheme's stores lie.
 use Rattle.std.proofs.Common.{◌≡◌, ℕ, List, [], Some, None, Ok, Err, refl, sym, ap, ◌∙◌, subst, inl, inr}
-use Rattle.std.specs.Prelude.{Bool, Option, OnOk, IfErr, Result, is_some, length}
+use Rattle.std.specs.Prelude.{◌≢◌, ◌↔◌, ◌<◌, ◌≤◌, Bool, Option, OnOk, IfErr, Result, is_some, length, max}
 use Rattle.std.specs.Io.KnownBytes.{Appends}
 use Rattle.std.specs.List.{AllByRecursion, flat_map}
 use Rattle.std.proofs.KnownBytes.{Appends-trans}
@@ -18,6 +18,7 @@ use Rattle.fare_collect.specs.declared.station.Station.{Station}
 use Rattle.fare_outbox.specs.declared.tables.SqlOutbox.{SqlOutbox}
 use Rattle.fare_ledger.specs.declared.tables.SqlLedger.{SqlLedger}
 use Rattle.fare_history.specs.Stores.{StoresValue}
+use Rattle.fare_side.specs.declared.bill_fault.BillFault.TheVariants.{UnknownOwner, BeforeStart}
 use Rattle.fare_agreement.specs.Agreeing.{AreNumberedLists, Agrees}
 use Rattle.fare_agreement.specs.Parts.{parts_of}
 use Rattle.fare_sessions.specs.Billing.{open_in, short_in}
@@ -27,10 +28,12 @@ use Rattle.fare_sessions.specs.declared.hub.Hub.{Hub}
 use Rattle.fare_sessions.proofs.Follow.{clean_back}
 use Rattle.fare_desk.specs.Billing as desk
 use Rattle.fare_desk.specs.Closing.{GoesOn}
+use Rattle.fare_desk.specs.Faults.{name_of}
+use Rattle.fare_desk.specs.declared.fault.DeskFault.{DeskFault}
 use Rattle.fare_serve.specs.Calls.{AreHeld, IsOfScheme}
 use Rattle.fare_serve.specs.Counting.{counts_text}
 use Rattle.fare_serve.specs.Rounds.{AreCountsOf, IsRound, calls_of}
-use Rattle.fare_serve.specs.Serving.{AreAllCovered, HaveTold, KeepsStores, shift_talk}
+use Rattle.fare_serve.specs.Serving.{AreAllCovered, HaveTold, IsReadToEnds, KeepsStores, shift_talk}
 use Rattle.fare_serve.proofs.Held.{calls_keep}
 use Rattle.fare_command.specs.declared.words.Question.{Question}
 use Rattle.fare_command.specs.declared.words.Question.TheVariants.{Close, Bill, Settle, Stand, Retire}
@@ -41,8 +44,8 @@ use Rattle.fare_databases.specs.declared.databases.Databases.{Databases}
 use Rattle.fare_databases.proofs.Kept.{agreed_old, clean_new, known, run_keeps, sound_old, stands_ledger, stands_outbox, unopened_keeps}
 use Rattle.fare_databases.proofs.Looks.{ledger_self, open_alike, parts_alike, short_alike, stores_agree}
 use Rattle.fare_databases.proofs.Now.{now_all, stands_now, unknown_now}
-use Rattle.fare_run.specs.Asking.{Answers}
-use Rattle.fare_run.specs.Databases.{AnswersIn, IsBilled, IsMadeOf, KeepDatabases, KeepsIn, LineCall, ServesIn, bill_text, settlement_text}
+use Rattle.fare_run.specs.Asking.{Answers, FailsBill, FailsOf}
+use Rattle.fare_run.specs.Databases.{AnswersIn, IsBilled, IsMadeOf, IsRefusedBill, IsUnbilled, KeepDatabases, KeepsCalls, KeepsIn, LineCall, RefusesIn, ServesIn, bill_text, settlement_text}
 use Rattle.fare_run.specs.Serving.{LeavesStores, ServesOver, listening_line}
 use Rattle.fare_run.specs.declared.serve_failure.ServeFailure.{ServeFailure}
 
@@ -55,8 +58,8 @@ module _ {S : Type 0} (g : Ghosts S) (sc : SchemeValue) (valid : IsScheme sc) (b
         (kept, so kept.is);
   }
 
-  pub serves_unopened : (written : Option (List ℕ)) (failure : ServeFailure) → length before.ledgers.items ≡ length sc.owners → StayStores g sc before after → ServesIn g sc before after written written (Err failure)
-  serves_unopened written failure count stay = record { calls = []; came = inl refl; keeps = keeps_unopened (λ lists. HaveTold sc lists []) (λ k. AreAllCovered sc k.outbox []) (λ k. tt) count stay }
+  pub serves_unopened : (most : ℕ) (untold : Bool) (written : Option (List ℕ)) (failure : ServeFailure) → length before.ledgers.items ≡ length sc.owners → StayStores g sc before after → ServesIn g sc most untold before after written written (Err failure)
+  serves_unopened most untold written failure count stay = record { calls = []; came = inl refl; keeps = keeps_unopened (λ lists. HaveTold sc lists []) (λ k. AreAllCovered sc k.outbox []) (λ k. tt) count stay }
 
   -- OPENED
   module _ (old new : Hub (SqlOutbox S g) (SqlLedger S g)) (same : old.scheme ≡ sc) (count : HasLedgers old) (holds : AreClean (stands_outbox g) (stands_ledger g) old → Holds g before old) (back : IsHandedBack g new after) where
@@ -64,7 +67,7 @@ module _ {S : Type 0} (g : Ghosts S) (sc : SchemeValue) (valid : IsScheme sc) (b
     numbered_old lists numbered = subst (λ s. AreNumberedLists s lists) (sym same) numbered
 
     -- SERVING
-    keeps_calls : (calls : List LineCall) → AreHeld shift_talk (stands_outbox g) (stands_ledger g) old new calls → KeepDatabases g sc before after (λ lists. HaveTold sc lists calls) (λ k. AreAllCovered sc k.outbox calls)
+    keeps_calls : (calls : List LineCall) → AreHeld shift_talk (stands_outbox g) (stands_ledger g) old new calls → KeepsCalls g sc before after calls
     keeps_calls calls held = record {
       keeps = λ clean lists numbered told outbox ledgers shows agreed outbox_left ledgers_left leave.
           let h = agreed.0 in
@@ -79,20 +82,25 @@ module _ {S : Type 0} (g : Ghosts S) (sc : SchemeValue) (valid : IsScheme sc) (b
         k : KeepsStores (stands_outbox g) (stands_ledger g) old new calls (λ lists. HaveTold sc lists calls)
         k = calls_keep (stands_outbox g) (stands_ledger g) old new calls (λ lists. HaveTold sc lists calls) (λ lists told. subst (λ s. HaveTold s lists calls) (sym same) told) held
 
-    pub serves_opened : (most : ℕ) (untold : Bool) (written_before written_after : Option (List ℕ)) (r : Result (Unit {0}) ServeFailure) → OnOk r (ServesOver (stands_outbox g) (stands_ledger g) old new most untold written_before written_after) → IfErr r (LeavesStores (stands_outbox g) (stands_ledger g) old new) → ServesIn g sc before after written_before written_after r
+    pub serves_opened : (most : ℕ) (untold : Bool) (written_before written_after : Option (List ℕ)) (r : Result (Unit {0}) ServeFailure) → OnOk r (ServesOver (stands_outbox g) (stands_ledger g) old new most untold written_before written_after) → IfErr r (LeavesStores (stands_outbox g) (stands_ledger g) old new) → ServesIn g sc most untold before after written_before written_after r
     serves_opened most untold written_before written_after (Ok u) over none =
-        let been = over.served.held.held in
+        let held = over.served.held in
+        let been = held.held in
         record {
           calls = flat_map calls_of been.rounds;
-          came = (
-            over.port,
-            been.rounds,
-            over.served.counts,
-            refl,
-            subst (λ s. AreCountsOf s been.rounds over.served.counts) same been.counted,
-            subst (λ s. AllByRecursion (λ r. (stations : List (Station (Shift NetValue))) × IsRound s r stations) been.rounds) same been.served.each,
-            Appends-trans written_before over.mid written_after (listening_line over.port) (counts_text over.served.counts) over.told over.served.written,
-          );
+          came = record {
+            port = over.port;
+            rounds = been.rounds;
+            counts = over.served.counts;
+            are = refl;
+            some = subst (λ n. 0 < n) (sym been.many) held.some;
+            few = subst (λ n. n ≤ max most 1) (sym been.many) held.few;
+            all = λ none. been.many ∙ held.all none;
+            each = subst (λ s. AllByRecursion (λ r. (stations : List (Station (Shift NetValue))) × IsRound s r stations) been.rounds) same been.served.each;
+            to_ends = λ whole. subst (λ s. AllByRecursion (IsReadToEnds s) been.rounds) same (been.to_ends whole);
+            counted = subst (λ s. AreCountsOf s been.rounds over.served.counts) same been.counted;
+            written = Appends-trans written_before over.mid written_after (listening_line over.port) (counts_text over.served.counts) over.told over.served.written;
+          };
           keeps = keeps_calls (flat_map calls_of been.rounds) been.served.held;
         }
     serves_opened most untold written_before written_after (Err failure) none (inl still) = record { calls = []; came = inl refl; keeps = keeps_calls [] still }
@@ -117,7 +125,7 @@ module _ {S : Type 0} (g : Ghosts S) (sc : SchemeValue) (valid : IsScheme sc) (b
             (kept.0, tt);
       }
 
-      module _ (clean : AreCleanDisks g after) (lists : ℕ → List RecordValue) (numbered : AreNumberedLists sc lists) (outbox : Trees) (ledgers : ℕ → Trees) (shows : Show g before outbox ledgers) (h : StoresValue) (held : HoldStores sc outbox ledgers h) (agrees : Agrees sc lists h) where
+      module _ (clean : AreCleanDisks g after) (outbox : Trees) (ledgers : ℕ → Trees) (shows : Show g before outbox ledgers) (h : StoresValue) (held : HoldStores sc outbox ledgers h) where
         is_known : AreLive (stands_outbox g) (stands_ledger g) old × AreSound (stands_outbox g) (stands_ledger g) old × AreLasting (stands_outbox g) (stands_ledger g) old × ((k : StoresValue) → MayStandAs (stands_outbox g) (stands_ledger g) old k → HoldStores sc outbox ledgers k × StoresLook sc h k)
         is_known = known g sc valid before after old new same count holds goes.scheme goes.follow back clean outbox ledgers shows h held
 
@@ -138,22 +146,41 @@ module _ {S : Type 0} (g : Ghosts S) (sc : SchemeValue) (valid : IsScheme sc) (b
             by None e = subst (λ l. LedgersLook (h.ledgers owner) l) (sym (unknown_now (stands_outbox g) (stands_ledger g) sc valid old same count h owner e)) (ledger_self (h.ledgers owner))
             by (Some place) e = (is_known.3 k may).1.ledgers_look owner (ap is_some e)
 
-        made_billed : {V : Type 0} (rule : SchemeValue → List RecordValue → ℕ → V) (text : V → List ℕ → List ℕ) (owner day : ℕ) (made : V) (devices : List ℕ) (written_before written_after : Option (List ℕ))
-            → desk.IsMadeOf (stands_outbox g) (stands_ledger g) rule old owner day made devices → Appends written_before written_after (text made devices) → IsMadeOf rule text sc lists h owner day written_before written_after
-        made_billed rule text owner day made devices written_before written_after m written =
-            let closed : open_in sc (k.ledgers owner) day ≡ None = ap (λ s. open_in s (k.ledgers owner) day) (sym same) ∙ m.closed k may in
-            let short : devices ≡ short_in sc (h.ledgers owner) day = m.short k may ∙ ap (λ s. short_in s (k.ledgers owner) day) same ∙ short_alike sc (h.ledgers owner) (k.ledgers owner) day (looks owner) in
-            let now : Agrees old.scheme lists k = subst (λ s. Agrees s lists k) (sym same) (stores_agree sc lists h k (is_known.3 k may).1 agrees) in
-            let is : made ≡ rule sc (parts_of sc lists (h.ledgers owner) owner) day =
-            m.numbered lists k (numbered_old lists numbered) may now ∙ ap (λ s. rule s (parts_of s lists (k.ledgers owner) owner) day) same ∙ ap (λ taps. rule sc taps day) (parts_alike sc lists (h.ledgers owner) (k.ledgers owner) owner (looks owner)) in
-            (sym (open_alike sc (h.ledgers owner) (k.ledgers owner) day (looks owner)) ∙ closed, subst (λ (z : _ × List ℕ). Appends written_before written_after (text z.0 z.1)) (λ i. (is i, short i)) written)
+        refused_bill : (owner day : ℕ) (fault : DeskFault) → FailsBill (stands_outbox g) (stands_ledger g) owner day old new fault → IsRefusedBill sc h owner day (name_of fault)
+        refused_bill owner day fault fails =
+            let is = fails.1 clean_now is_known.1 in
+            record {
+              unknown = subst (λ s. (name_of fault ≡ Some UnknownOwner) ↔ (position_of_owner s owner ≡ None)) same is.unknown;
+              early = subst (λ (s : SchemeValue). (name_of fault ≡ Some BeforeStart) ↔ ((position_of_owner s owner ≢ None) × (day < s.start))) same is.early;
+              not_closed = λ device named.
+                  let found : open_in sc (k.ledgers owner) day ≡ Some device = ap (λ s. open_in s (k.ledgers owner) day) (sym same) ∙ is.not_closed device named k may in
+                  sym (open_alike sc (h.ledgers owner) (k.ledgers owner) day (looks owner)) ∙ found;
+            }
 
-        pub is_billed : (question : Question) (written_before written_after : Option (List ℕ)) → Answers (stands_outbox g) (stands_ledger g) question old new written_before written_after → IsBilled sc lists h question written_before written_after
-        is_billed Close written_before written_after a = tt
-        is_billed (Bill owner day) written_before written_after a = made_billed bill_of (bill_text owner day) owner day a.bill a.short written_before written_after (a.made clean_now is_known.1) a.written
-        is_billed (Settle owner day) written_before written_after a = made_billed settlement_of (settlement_text owner day) owner day a.shares a.short written_before written_after (a.made clean_now is_known.1) a.written
-        is_billed Stand written_before written_after a = tt
-        is_billed (Retire owner device) written_before written_after a = tt
+        is_unbilled : (question : Question) (fault : DeskFault) → FailsOf (stands_outbox g) (stands_ledger g) question old new fault → IsUnbilled sc h question fault
+        is_unbilled Close fault fails = tt
+        is_unbilled (Bill owner day) fault fails = refused_bill owner day fault fails
+        is_unbilled (Settle owner day) fault fails = refused_bill owner day fault fails
+        is_unbilled Stand fault fails = tt
+        is_unbilled (Retire owner device) fault fails = tt
+
+        module _ (lists : ℕ → List RecordValue) (numbered : AreNumberedLists sc lists) (agrees : Agrees sc lists h) where
+          made_billed : {V : Type 0} (rule : SchemeValue → List RecordValue → ℕ → V) (text : V → List ℕ → List ℕ) (owner day : ℕ) (made : V) (devices : List ℕ) (written_before written_after : Option (List ℕ))
+              → desk.IsMadeOf (stands_outbox g) (stands_ledger g) rule old owner day made devices → Appends written_before written_after (text made devices) → IsMadeOf rule text sc lists h owner day written_before written_after
+          made_billed rule text owner day made devices written_before written_after m written =
+              let closed : open_in sc (k.ledgers owner) day ≡ None = ap (λ s. open_in s (k.ledgers owner) day) (sym same) ∙ m.closed k may in
+              let short : devices ≡ short_in sc (h.ledgers owner) day = m.short k may ∙ ap (λ s. short_in s (k.ledgers owner) day) same ∙ short_alike sc (h.ledgers owner) (k.ledgers owner) day (looks owner) in
+              let now : Agrees old.scheme lists k = subst (λ s. Agrees s lists k) (sym same) (stores_agree sc lists h k (is_known.3 k may).1 agrees) in
+              let is : made ≡ rule sc (parts_of sc lists (h.ledgers owner) owner) day =
+              m.numbered lists k (numbered_old lists numbered) may now ∙ ap (λ s. rule s (parts_of s lists (k.ledgers owner) owner) day) same ∙ ap (λ taps. rule sc taps day) (parts_alike sc lists (h.ledgers owner) (k.ledgers owner) owner (looks owner)) in
+              (sym (open_alike sc (h.ledgers owner) (k.ledgers owner) day (looks owner)) ∙ closed, subst (λ (z : _ × List ℕ). Appends written_before written_after (text z.0 z.1)) (λ i. (is i, short i)) written)
+
+          pub is_billed : (question : Question) (written_before written_after : Option (List ℕ)) → Answers (stands_outbox g) (stands_ledger g) question old new written_before written_after → IsBilled sc lists h question written_before written_after
+          is_billed Close written_before written_after a = tt
+          is_billed (Bill owner day) written_before written_after a = made_billed bill_of (bill_text owner day) owner day a.bill a.short written_before written_after (a.made clean_now is_known.1) a.written
+          is_billed (Settle owner day) written_before written_after a = made_billed settlement_of (settlement_text owner day) owner day a.shares a.short written_before written_after (a.made clean_now is_known.1) a.written
+          is_billed Stand written_before written_after a = tt
+          is_billed (Retire owner device) written_before written_after a = tt
 
       pub answers_opened : (question : Question) (written_before written_after : Option (List ℕ)) → Answers (stands_outbox g) (stands_ledger g) question old new written_before written_after → AnswersIn g sc question before after written_before written_after
       answers_opened question written_before written_after a = record {
@@ -163,5 +190,16 @@ module _ {S : Type 0} (g : Ghosts S) (sc : SchemeValue) (valid : IsScheme sc) (b
         back = back;
         answers = a;
         holds = λ clean. holds (clean_back (stands_outbox g) (stands_ledger g) old new goes.follow (clean_new g sc valid before after old new same count holds goes.scheme goes.follow back clean));
-        billed = λ clean lists numbered outbox ledgers shows h held agrees. is_billed clean lists numbered outbox ledgers shows h held agrees question written_before written_after a;
+        billed = λ clean lists numbered outbox ledgers shows h held agrees. is_billed clean outbox ledgers shows h held lists numbered agrees question written_before written_after a;
+      }
+
+      pub refuses_opened : (question : Question) (fault : DeskFault) → FailsOf (stands_outbox g) (stands_ledger g) question old new fault → RefusesIn g sc question before after fault
+      refuses_opened question fault fails = record {
+        old = old;
+        new = new;
+        scheme = same;
+        back = back;
+        fails = fails;
+        holds = λ clean. holds (clean_back (stands_outbox g) (stands_ledger g) old new goes.follow (clean_new g sc valid before after old new same count holds goes.scheme goes.follow back clean));
+        unbilled = λ clean outbox ledgers shows h held. is_unbilled clean outbox ledgers shows h held question fault fails;
       }

@@ -12,7 +12,7 @@ use Rattle.fare_run.specs.Many.{IsServedOrAsked, RunsKeep}
 
 run_stays : {S : Type 0} (g : Ghosts S) (sc : SchemeValue) (lists : ℕ → List RecordValue) (before after : Databases S) → IsServedOrAsked g sc lists before after → AreCleanDisks g after → AreNumberedLists sc lists
     → (outbox : Trees) (ledgers : ℕ → Trees) → Show g before outbox ledgers → HoldAgreed sc lists outbox ledgers → (outbox_left : Trees) (ledgers_left : ℕ → Trees) → Leave g after outbox_left ledgers_left → StayAgreed sc lists outbox ledgers outbox_left ledgers_left
-run_stays g sc lists before after (inl it) clean numbered outbox ledgers shows agreed outbox_left ledgers_left leave = (it.3.keeps.keeps clean lists numbered it.4 outbox ledgers shows agreed outbox_left ledgers_left leave).0
+run_stays g sc lists before after (inl it) clean numbered outbox ledgers shows agreed outbox_left ledgers_left leave = (it.1.keeps clean lists numbered it.2 outbox ledgers shows agreed outbox_left ledgers_left leave).0
 run_stays g sc lists before after (inr it) clean numbered outbox ledgers shows agreed outbox_left ledgers_left leave = (it.keeps clean lists numbered tt outbox ledgers shows agreed outbox_left ledgers_left leave).0
 
 pub runs_keep : {S : Type 0} (g : Ghosts S) → RunsKeep g

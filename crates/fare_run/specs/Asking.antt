@@ -15,7 +15,7 @@ use Rattle.fare_command.specs.declared.words.Question.{Question}
 use Rattle.fare_command.specs.declared.words.Question.TheVariants.{Close, Bill, Settle, Stand, Retire}
 use Rattle.fare_desk.specs.Billing.{WritesBill, WritesSettlement}
 use Rattle.fare_desk.specs.Faults.{is_of_retire, is_refusal, name_of}
-use Rattle.fare_desk.specs.Retiring.{ComesOf, Leaves, RetiresLane}
+use Rattle.fare_desk.specs.Retiring.{ComesOf, LeavesLane, RetiresLane}
 use Rattle.fare_desk.specs.Closing.{AreLinesOf, HasClosedLanes, lanes_of}
 use Rattle.fare_desk.specs.Showing.{AreLaneLines, AreUptoLines, WritesStanding}
 use Rattle.fare_desk.specs.declared.fault.DeskFault.{DeskFault}
@@ -56,7 +56,7 @@ abbrev pub FailsRetire : {O L : Type 0} → (O → Standing OutboxValue) → (L 
 FailsRetire outbox ledger owner device old new fault =
     (is_refusal fault ≡ is_of_retire fault) × ((fault ≡ desk.UnknownOwner) ↔ (position_of_owner old.scheme owner ≡ None))
     × ((fault ≡ desk.UnknownDevice) ↔ ((position_of_owner old.scheme owner ≢ None) × (position_of_device old.scheme device ≡ None)))
-    × ComesOf outbox ledger old new (Leaves owner device fault)
+    × ComesOf outbox ledger old new (LeavesLane owner device fault)
 
 -- What a fault says of the stores of a hub: to a bill, which refusal applies; to `retire` also what the fault leaves. The
 -- other refusals never come.

@@ -1,11 +1,12 @@
 -- What serving, and asking, make of the databases in which a scheme's stores lie.
-use Rattle.std.specs.Prelude.{◌≡◌, ◌⊎◌, ℕ, ◌++◌, List, [], Option, None, Result, Ok, Err}
+use Rattle.std.specs.Prelude.{◌≡◌, ◌≢◌, ◌↔◌, ◌⊎◌, ◌<◌, ◌≤◌, ℕ, ◌++◌, max, Bool, true, List, [], length, Option, Some, None, Result, Ok, Err}
 use Rattle.std.specs.Io.KnownBytes.{Appends}
 use Rattle.std.specs.List.{AllByRecursion, flat_map}
 use Rattle.sqlite_trees.specs.Tree.{Trees}
 use Rattle.sqlite_trees.specs.declared.store.Store.{Ghosts}
 use Rattle.fare_record.specs.Values.{RecordValue}
 use Rattle.fare_scheme.specs.Values.{SchemeValue}
+use Rattle.fare_scheme.specs.Words.{position_of_owner}
 use Rattle.fare_cap.specs.Bills.{BillValue, bill_of}
 use Rattle.fare_settle.specs.Settling.{settlement_of}
 use Rattle.fare_settle.specs.Values.{SettledValue}
@@ -16,6 +17,8 @@ use Rattle.fare_outbox.specs.declared.tables.SqlOutbox.{SqlOutbox}
 use Rattle.fare_outbox.specs.Words as outbox_words
 use Rattle.fare_ledger.specs.declared.tables.SqlLedger.{SqlLedger}
 use Rattle.fare_ledger.specs.Words as ledger_words
+use Rattle.fare_side.specs.declared.bill_fault.BillFault.{BillFault}
+use Rattle.fare_side.specs.declared.bill_fault.BillFault.TheVariants.{UnknownOwner, BeforeStart, NotClosed}
 use Rattle.fare_history.specs.Stores.{StoresValue}
 use Rattle.fare_agreement.specs.Agreeing.{AreNumberedLists, Agrees}
 use Rattle.fare_agreement.specs.Parts.{parts_of}
@@ -24,7 +27,7 @@ use Rattle.fare_sessions.specs.declared.hub.Hub.{Hub}
 use Rattle.fare_serve.specs.Calls.{AreEndedBy, Call, IsOfScheme}
 use Rattle.fare_serve.specs.Counting.{counts_text}
 use Rattle.fare_serve.specs.Rounds.{AreCountsOf, IsRound, Round, calls_of}
-use Rattle.fare_serve.specs.Serving.{AreAllCovered, HaveTold}
+use Rattle.fare_serve.specs.Serving.{AreAllCovered, HaveTold, IsReadToEnds, reads_to_ends}
 use Rattle.fare_serve.specs.declared.counts.Counts.{Counts}
 use Rattle.fare_serve.specs.declared.fault.ServeFault.{ServeFault}
 use Rattle.fare_command.specs.declared.words.Question.{Question}
@@ -35,8 +38,12 @@ use Rattle.fare_databases.specs.Closed.{IsHandedBack}
 use Rattle.fare_databases.specs.Held.{AreCleanDisks, Holds, Leave, Show}
 use Rattle.fare_databases.specs.Holding.{HoldAgreed, HoldStores, StayAgreed}
 use Rattle.fare_databases.specs.declared.databases.Databases.{Databases}
-use Rattle.fare_run.specs.Asking.{Answers}
+use Rattle.fare_desk.specs.Faults.{name_of}
+use Rattle.fare_desk.specs.declared.fault.DeskFault.{DeskFault}
+use Rattle.fare_run.specs.Asking.{Answers, FailsOf}
 use Rattle.fare_run.specs.Serving.{listening_line, serving_failure}
+use Rattle.fare_run.specs.declared.ask_failure.AskFailure.{AskFailure}
+use Rattle.fare_run.specs.declared.ask_failure.AskFailure.TheVariants.{Stores, Desk}
 use Rattle.fare_run.specs.declared.serve_failure.ServeFailure.{ServeFailure}
 
 -- ONE RUN
@@ -53,22 +60,40 @@ pub record KeepDatabases {S : Type 0} (g : Ghosts S) (sc : SchemeValue) (before 
 abbrev pub LineCall : Type 0
 LineCall = Call (Shift NetValue)
 
--- Served to the end, these are the calls of rounds of the scheme's stations and owners, and what was written is the port and
--- the sums of the calls' reports. Where a failure ended it they are those up to it, each of the scheme's stations or of an
--- owner; none where it came before any.
-abbrev pub CameOf : SchemeValue → List LineCall → Option (List ℕ) → Option (List ℕ) → Result (Unit {0}) ServeFailure → Type 0
-CameOf sc calls before after (Ok _) =
-    (port : ℕ) × (rounds : List (Round (Shift NetValue))) × (counts : Counts) × (calls ≡ flat_map calls_of rounds) × AreCountsOf sc rounds counts
-    × AllByRecursion (λ r. (stations : List (Station (Shift NetValue))) × IsRound sc r stations) rounds × Appends before after (listening_line port ++ counts_text counts)
-CameOf sc calls before after (Err failure) = (calls ≡ []) ⊎ ((fault : ServeFault) × (failure ≡ serving_failure fault) × AreEndedBy fault calls × AllByRecursion (IsOfScheme sc) calls)
+-- Served to the end, these are the calls of rounds of the scheme's stations and owners: at least one, at most so many, and
+-- exactly so many where no file could end them; where lines are read to their ends, each of whole shifts of them. What was
+-- written is the port and the sums of the calls' reports.
+pub record ServedRounds (sc : SchemeValue) (most : ℕ) (untold : Bool) (calls : List LineCall) (before after : Option (List ℕ)) : Type 0 where
+  pub port : ℕ
+  pub rounds : List (Round (Shift NetValue))
+  pub counts : Counts
+  pub are : calls ≡ flat_map calls_of rounds
+  pub some : 0 < length rounds
+  pub few : length rounds ≤ max most 1
+  pub all : untold ≡ true → length rounds ≡ max most 1
+  pub each : AllByRecursion (λ r. (stations : List (Station (Shift NetValue))) × IsRound sc r stations) rounds
+  pub to_ends : reads_to_ends most untold ≡ true → AllByRecursion (IsReadToEnds sc) rounds
+  pub counted : AreCountsOf sc rounds counts
+  pub written : Appends before after (listening_line port ++ counts_text counts)
 
--- What serving over databases does: these calls, and where the frames that the lines gave in them are of lists with which the
--- stores in the databases agree, they agree with them behind it, however it ended; nothing that they held is missing; and each
--- acknowledgement that a line was answered is covered by the outbox.
-pub record ServesIn {S : Type 0} (g : Ghosts S) (sc : SchemeValue) (before after : Databases S) (written_before written_after : Option (List ℕ)) (result : Result (Unit {0}) ServeFailure) : Type 0 where
+-- Where a failure ended it they are those up to it, each of the scheme's stations or of an owner; none where it came before
+-- any.
+abbrev pub CameOf : SchemeValue → ℕ → Bool → List LineCall → Option (List ℕ) → Option (List ℕ) → Result (Unit {0}) ServeFailure → Type 0
+CameOf sc most untold calls before after (Ok _) = ServedRounds sc most untold calls before after
+CameOf sc most untold calls before after (Err failure) = (calls ≡ []) ⊎ ((fault : ServeFault) × (failure ≡ serving_failure fault) × AreEndedBy fault calls × AllByRecursion (IsOfScheme sc) calls)
+
+-- What these calls keep: where the frames that the lines gave in them are of lists with which the stores in the databases
+-- agree, they agree with them behind it; nothing that they held is missing; and each acknowledgement that a line was answered
+-- is covered by the outbox.
+abbrev pub KeepsCalls : {S : Type 0} → Ghosts S → SchemeValue → Databases S → Databases S → List LineCall → Type 0
+KeepsCalls g sc before after calls = KeepDatabases g sc before after (λ lists. HaveTold sc lists calls) (λ k. AreAllCovered sc k.outbox calls)
+
+-- What serving over databases does, by the most rounds and whether no file may end them: these calls, and what they keep,
+-- however it ended.
+pub record ServesIn {S : Type 0} (g : Ghosts S) (sc : SchemeValue) (most : ℕ) (untold : Bool) (before after : Databases S) (written_before written_after : Option (List ℕ)) (result : Result (Unit {0}) ServeFailure) : Type 0 where
   pub calls : List LineCall
-  pub came : CameOf sc calls written_before written_after result
-  pub keeps : KeepDatabases g sc before after (λ lists. HaveTold sc lists calls) (λ k. AreAllCovered sc k.outbox calls)
+  pub came : CameOf sc most untold calls written_before written_after result
+  pub keeps : KeepsCalls g sc before after calls
 
 -- ASKING
 -- databases keep what they held
@@ -104,3 +129,30 @@ pub record AnswersIn {S : Type 0} (g : Ghosts S) (sc : SchemeValue) (question : 
   pub answers : Answers (outbox_words.stands g) (ledger_words.stands g) question old new written_before written_after
   pub holds : AreCleanDisks g after → Holds g before old
   pub billed : AreCleanDisks g after → (lists : ℕ → List RecordValue) → AreNumberedLists sc lists → (outbox : Trees) (ledgers : ℕ → Trees) → Show g before outbox ledgers → (h : StoresValue) → HoldStores sc outbox ledgers h → Agrees sc lists h → IsBilled sc lists h question written_before written_after
+
+-- Why an owner's day has no bill, of stores that hold this: the first of these refusals that applies.
+pub record IsRefusedBill (sc : SchemeValue) (h : StoresValue) (owner day : ℕ) (refused : Option BillFault) : Type 0 where
+  pub unknown : (refused ≡ Some UnknownOwner) ↔ (position_of_owner sc owner ≡ None)
+  pub early : (refused ≡ Some BeforeStart) ↔ ((position_of_owner sc owner ≢ None) × (day < sc.start))
+  pub not_closed : (device : ℕ) → refused ≡ Some (NotClosed device) → open_in sc (h.ledgers owner) day ≡ Some device
+
+abbrev pub IsUnbilled : SchemeValue → StoresValue → Question → DeskFault → Type 0
+IsUnbilled sc h (Bill owner day) fault = IsRefusedBill sc h owner day (name_of fault)
+IsUnbilled sc h (Settle owner day) fault = IsRefusedBill sc h owner day (name_of fault)
+IsUnbilled sc h _ fault = Unit {0}
+
+-- Why a question of the stores in databases was not answered, or an order not followed: what `FailsOf` says of a hub, all that
+-- whose stores hold is what the databases showed; so a day that is not closed is so of what these hold.
+pub record RefusesIn {S : Type 0} (g : Ghosts S) (sc : SchemeValue) (question : Question) (before after : Databases S) (fault : DeskFault) : Type 0 where
+  pub old : Hub (SqlOutbox S g) (SqlLedger S g)
+  pub new : Hub (SqlOutbox S g) (SqlLedger S g)
+  pub scheme : old.scheme ≡ sc
+  pub back : IsHandedBack g new after
+  pub fails : FailsOf (outbox_words.stands g) (ledger_words.stands g) question old new fault
+  pub holds : AreCleanDisks g after → Holds g before old
+  pub unbilled : AreCleanDisks g after → (outbox : Trees) (ledgers : ℕ → Trees) → Show g before outbox ledgers → (h : StoresValue) → HoldStores sc outbox ledgers h → IsUnbilled sc h question fault
+
+-- where the stores were opened
+abbrev pub Refuses : {S : Type 0} → Ghosts S → SchemeValue → Question → Databases S → Databases S → AskFailure → Type 0
+Refuses g sc question before after (Stores why) = Unit {0}
+Refuses g sc question before after (Desk fault) = RefusesIn g sc question before after fault

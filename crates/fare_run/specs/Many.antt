@@ -1,5 +1,5 @@
 -- Runs one after the other over the same databases, each in a process of its own, which may be ended by a stop.
-use Rattle.std.specs.Prelude.{◌⊎◌, ℕ, List, [], ◌∷◌, Option, Result}
+use Rattle.std.specs.Prelude.{◌⊎◌, ℕ, List, [], ◌∷◌}
 use Rattle.sqlite_trees.specs.Tree.{Trees}
 use Rattle.sqlite_trees.specs.declared.store.Store.{Ghosts}
 use Rattle.fare_record.specs.Values.{RecordValue}
@@ -9,13 +9,11 @@ use Rattle.fare_databases.specs.Held.{AreCleanDisks, Leave, Show}
 use Rattle.fare_databases.specs.Holding.{HoldAgreed}
 use Rattle.fare_databases.specs.declared.databases.Databases.{Databases}
 use Rattle.fare_serve.specs.Serving.{HaveTold}
-use Rattle.fare_run.specs.Databases.{KeepsIn, ServesIn}
-use Rattle.fare_run.specs.declared.serve_failure.ServeFailure.{ServeFailure}
+use Rattle.fare_run.specs.Databases.{KeepsCalls, KeepsIn, LineCall}
 
 -- Serving, in which all frames that the lines gave are of the lists, or asking.
 abbrev pub IsServedOrAsked : {S : Type 0} → Ghosts S → SchemeValue → (ℕ → List RecordValue) → Databases S → Databases S → Type 0
-IsServedOrAsked g sc lists before after =
-    ((written_before : Option (List ℕ)) × (written_after : Option (List ℕ)) × (result : Result (Unit {0}) ServeFailure) × (served : ServesIn g sc before after written_before written_after result) × HaveTold sc lists served.calls) ⊎ KeepsIn g sc before after
+IsServedOrAsked g sc lists before after = ((calls : List LineCall) × KeepsCalls g sc before after calls × HaveTold sc lists calls) ⊎ KeepsIn g sc before after
 
 -- A run over databases that show these trees, whose disks kept what was committed, and of which these were left.
 pub record IsRunOf {S : Type 0} (g : Ghosts S) (sc : SchemeValue) (lists : ℕ → List RecordValue) (outbox : Trees) (ledgers : ℕ → Trees) (outbox_left : Trees) (ledgers_left : ℕ → Trees) : Type 0 where

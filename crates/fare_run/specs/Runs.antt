@@ -74,8 +74,8 @@ job_of (work.Replay sql) = job.Replay sql
 job_of (work.Left l) = job_left l
 
 -- what is left to do is what the words ask for
-abbrev pub Leaves : List Text → Left → Type 0
-Leaves words l = AsksFor words (job_left l)
+abbrev pub LeavesJob : List Text → Left → Type 0
+LeavesJob words l = AsksFor words (job_left l)
 
 -- what is answered where the words ask for stores in files: that it is left to do, or want of memory
 abbrev pub LeavesIt : {A : Type 0} → Result (Option A) Failure → Type 0

@@ -1,6 +1,6 @@
 ghost use Rattle.std.specs.Prelude.{◌≡◌, length, OnOk, IfErr, IfSome};
 ghost use Rattle.fare_run.specs.Asking.{AskEnds, AskFails, FailsIn, IsAnswered};
-ghost use Rattle.fare_run.specs.Databases.{AnswersIn, KeepsIn};
+ghost use Rattle.fare_run.specs.Databases.{AnswersIn, KeepsIn, Refuses};
 
 use crate::ask_failure::AskFailure;
 use crate::asking::answer_over;
@@ -17,7 +17,8 @@ use std::io::{Read, Write};
 /// Opens the stores of a scheme in these databases, answers a question of them, closes their days or retires a lane, as
 /// `answer_over` says, and hands the databases back. What the stores held they hold afterwards, whatever came of it.
 ///
-/// `Stores` where the stores can't be opened, and nothing was written then; `Desk` as `answer_over` says.
+/// `Stores` where the stores can't be opened, and nothing was written then; `Desk` as `answer_over` says, of what the
+/// databases showed.
 pub fn ask_databases<S: Alter + Drop, O: Write>(
     alloc: Global,
     scheme: Scheme,
@@ -29,6 +30,7 @@ pub fn ask_databases<S: Alter + Drop, O: Write>(
     ensures done { OnOk result.1 (IsAnswered scheme question (O.contents output.old) (O.contents output.new)) }
     ensures fails { IfErr result.1 (FailsIn question (O.contents output.old) (O.contents output.new)) }
     ensures answers { OnOk result.1 (AnswersIn S.Store scheme question databases result.0 (O.contents output.old) (O.contents output.new)) }
+    ensures refuses { IfErr result.1 (Refuses S.Store scheme question databases result.0) }
     ensures keeps { KeepsIn S.Store scheme databases result.0 }
 {
     match open_hub(alloc, scheme, databases) {

@@ -1,7 +1,7 @@
 ghost use Rattle.std.specs.Prelude.{◌≡◌, ◌≢◌, None, map, OnOk, IfOk, IfErr, IfSome};
 ghost use Rattle.std.specs.Io.KnownBytes.{Appends};
 ghost use Rattle.fare_command.specs.Jobs.{FailsOn};
-ghost use Rattle.fare_run.specs.Runs.{AsksFor, AsksForFiles, IsBefore, Leaves, LeavesIt, RunEnds, RunFails, job_of};
+ghost use Rattle.fare_run.specs.Runs.{AsksFor, AsksForFiles, IsBefore, LeavesJob, LeavesIt, RunEnds, RunFails, job_of};
 
 use crate::failure::Failure;
 use crate::left::{AskOptions, Left, ServeOptions};
@@ -74,7 +74,7 @@ pub fn run<'a, I: Read, O: Write>(
     output: &mut O,
 ) -> Result<Option<Left<'a>>, Failure>
     ensures done { IfOk result (λ left. left ≡ None → RunEnds (map (λ word. word.now) words.now) (I.remaining input.old) (O.contents output.old) (O.contents output.new)) }
-    ensures left { IfOk result (λ left. IfSome left (Leaves (map (λ word. word.now) words.now))) }
+    ensures left { IfOk result (λ left. IfSome left (LeavesJob (map (λ word. word.now) words.now))) }
     ensures failure { IfErr result (RunFails (map (λ word. word.now) words.now) (I.remaining input.old) (O.contents output.old) (O.contents output.new)) }
     ensures untouched { IfErr result (λ failure. IsBefore failure → (input.new ≡ input.old) × (output.new ≡ output.old)) }
     ensures waits { IfOk result (λ left. left ≢ None → (input.new ≡ input.old) × (output.new ≡ output.old)) }

@@ -1,4 +1,4 @@
-ghost use Rattle.std.specs.Prelude.{◌≡◌, length, OnOk, IfOk, IfErr, IfSome};
+ghost use Rattle.std.specs.Prelude.{◌≡◌, is_none, length, OnOk, IfOk, IfErr, IfSome};
 ghost use Rattle.fare_run.specs.Databases.{ServesIn};
 ghost use Rattle.fare_run.specs.Serving.{FailsOver, ServeEnds, ServeFails, WritesCounts};
 ghost use Rattle.fare_run.specs.Stores.{IsOfStores};
@@ -65,7 +65,7 @@ pub fn serve_databases<
     requires owners { length databases.ledgers.items ≡ length scheme.owners }
     ensures served { OnOk result.1 (WritesCounts scheme (O.contents output.old) (O.contents output.new)) }
     ensures fails { IfErr result.1 (FailsOver (O.contents output.old) (O.contents output.new)) }
-    ensures runs { ServesIn S.Store scheme databases result.0 (O.contents output.old) (O.contents output.new) result.1 }
+    ensures runs { ServesIn S.Store scheme options.now.limits.rounds (is_none options.now.until) databases result.0 (O.contents output.old) (O.contents output.new) result.1 }
 {
     match open_hub(rt.alloc(), scheme, databases) {
         Ok(mut opened) => {

@@ -19,9 +19,9 @@ use Rattle.fare_collect.specs.declared.station.Station.{Station}
 use Rattle.fare_sessions.specs.declared.hub.Hub.{Hub}
 use Rattle.fare_sessions.specs.declared.report.SessionsReport.{SessionsReport}
 use Rattle.fare_sessions.specs.declared.session.Session.{Session}
-use Rattle.fare_sessions.specs.declared.session.Session.TheVariants.{Serve}
+use Rattle.fare_sessions.specs.declared.session.Session.TheVariants.{Collect, Serve}
 use Rattle.fare_history.proofs.Entries.{all-append}
-use Rattle.fare_serve.specs.Calls.{Call, HasCollected, HasHeld, HasServed, ended_by, first_ending}
+use Rattle.fare_serve.specs.Calls.{Call, HasHeldStations, HasHeld, HasHeldOwner, ended_by, first_ending, stations_in}
 use Rattle.fare_serve.specs.declared.fault.ServeFault.{ServeFault}
 use Rattle.fare_serve.specs.Counting.{AddsOwner, AddsStations, AreNoCounts, IsCountsOf, kept_count, owner_in}
 use Rattle.fare_serve.specs.Rounds.{AddsRound, AreCountsOf, HasServedRound, HaveServedOwners, Round, left_in, left_over, olds_of, serving_of, stored_in, taken_at, taken_in}
@@ -30,7 +30,7 @@ use Rattle.fare_serve.specs.declared.counts.Taken.{Taken}
 use Rattle.fare_serve.proofs.Chained.{held_none, held_then}
 
 -- two numbers are the same, or they differ
-same_or_apart : (k place : ℕ) → (k ≡ place) ⊎ (k ≢ place)
+pub same_or_apart : (k place : ℕ) → (k ≡ place) ⊎ (k ≢ place)
 same_or_apart zero zero = inl refl
 same_or_apart zero (suc place) = inr (λ e. omega (arith, e))
 same_or_apart (suc k) zero = inr (λ e. omega (arith, e))
@@ -70,6 +70,12 @@ zero_sum n = omega arith
 
 pub kept_small : (n : ℕ) → kept_count n ≤ 18446744073709551615
 kept_small n = omega arith
+
+-- the stations of one session are those of the list of it
+pub left_by_one : {S : Type 0} (news : List (Session S)) (d : Session S) → length news ≡ 1 → stations_in news ≡ stations_in (slice_index_or news 0 d ∷ [])
+left_by_one [] d one = absurd (omega (arith, one))
+left_by_one (Collect stations ∷ ss) d one = refl
+left_by_one (Serve owner ∷ ss) d one = refl
 
 -- NO ROUND
 abbrev pub zero_of : ℕ → Taken
@@ -125,7 +131,7 @@ before_end (y ∷ xs) x (suc k) lt = before_end xs x k (omega (arith, lt))
 
 module _ {S O L : Type 0} (talks : S → Talk) (outbox : O → Standing OutboxValue) (ledger : L → Standing LedgerValue) where
   -- however a call of an owner's session ended
-  pub served_result : (old new : Hub O L) (owner : ℕ) (news : List (Session S)) (r : Result SessionsReport ServeFault) → IfOk r (HasHeld talks outbox ledger old new (Serve owner ∷ []) news) → IfOk r (λ report. first_ending report.faults.items ≡ None) → IfOk r (HasServed talks outbox ledger old new owner)
+  pub served_result : (old new : Hub O L) (owner : ℕ) (news : List (Session S)) (r : Result SessionsReport ServeFault) → IfOk r (HasHeld talks outbox ledger old new (Serve owner ∷ []) news) → IfOk r (λ report. first_ending report.faults.items ≡ None) → IfOk r (HasHeldOwner talks outbox ledger old new owner)
   served_result old new owner news (Ok report) held unended = record { call = record { olds = Serve owner ∷ []; news = news; report = report }; olds = refl; told = refl; held = held; unended = unended }
   served_result old new owner news (Err fault) held unended = tt
 
@@ -144,7 +150,7 @@ module _ {S O L : Type 0} (talks : S → Talk) (outbox : O → Standing OutboxVa
   }
 
   pub owners_more : (old now next : Hub O L) (place owner : ℕ) (report : SessionsReport) (c0 c1 c2 : Counts)
-      → HaveServedOwners talks outbox ledger old now place c0 c1 → id_at old.scheme.owners place ≡ Some owner → HasServed talks outbox ledger now next owner report → AddsOwner c1 c2 place report
+      → HaveServedOwners talks outbox ledger old now place c0 c1 → id_at old.scheme.owners place ≡ Some owner → HasHeldOwner talks outbox ledger now next owner report → AddsOwner c1 c2 place report
       → HaveServedOwners talks outbox ledger old next (place + 1) c0 c2
   owners_more old now next place owner report c0 c1 c2 was at one adds = record {
     calls = was.calls ++ one.call ∷ [];
@@ -184,19 +190,20 @@ module _ {S O L : Type 0} (talks : S → Talk) (outbox : O → Standing OutboxVa
           ap (λ (t : Taken). t.count) (adds.others k d differ) ∙ (was.taken k d less ∙ ap (λ (o : Option (Call S)). kept_count ((slice_index_or c0.taken.items k d).count + unwrap_or (option_map taken_in o) 0)) (sym (before_end was.calls one.call k below)))
 
   -- whose ledgers and entries are still there
-  pub owner_ledgers : (now next : Hub O L) (owner : ℕ) (report : SessionsReport) → HasServed talks outbox ledger now next owner report → length now.ledgers.items ≡ length now.scheme.owners → length next.ledgers.items ≡ length next.scheme.owners
+  pub owner_ledgers : (now next : Hub O L) (owner : ℕ) (report : SessionsReport) → HasHeldOwner talks outbox ledger now next owner report → length now.ledgers.items ≡ length now.scheme.owners → length next.ledgers.items ≡ length next.scheme.owners
   owner_ledgers now next owner report one has = one.held.follow.count ∙ (has ∙ ap (λ (sc : SchemeValue). length sc.owners) (sym one.held.scheme))
 
   -- A ROUND
   abbrev round_from : Call S → List (Call S) → Round S
   round_from c os = record { stations = c; owners = os }
 
-  pub round_of : (old middle new : Hub O L) (stations : Vec (Station S) Global) (report : SessionsReport) (c0 c1 c2 : Counts)
-      → HasCollected talks outbox ledger old middle stations report → AddsStations c0 c1 report → HaveServedOwners talks outbox ledger middle new (length middle.scheme.owners) c1 c2
+  pub round_of : (old middle new : Hub O L) (stations : Vec (Station S) Global) (report : SessionsReport) (after : List (Station S)) (c0 c1 c2 : Counts)
+      → HasHeldStations talks outbox ledger old middle stations report after → AddsStations c0 c1 report → HaveServedOwners talks outbox ledger middle new (length middle.scheme.owners) c1 c2
       → AreStations old.scheme stations.items → length stations.items ≡ length old.scheme.stations → length c0.taken.items ≡ length old.scheme.owners
-      → HasServedRound talks outbox ledger old new stations.items report c0 c2
-  round_of old middle new stations report c0 c1 c2 one adds owners are all entries = record {
+      → HasServedRound talks outbox ledger old new stations.items report after c0 c2
+  round_of old middle new stations report after c0 c1 c2 one adds owners are all entries = record {
     round = round_from one.call owners.calls;
+    gave = one.gave;
     is = record {
       sessions = stations;
       collects = one.olds;

@@ -59,6 +59,12 @@ ended_by c = first_ending c.report.faults.items
 abbrev pub AreUnended : {S : Type 0} → List (Call S) → Type 0
 AreUnended calls = AllByRecursion (λ c. ended_by c ≡ None) calls
 
+-- the stations that the first of these sessions leaves: its own where it collects, and none where it serves
+abbrev pub stations_in : {S : Type 0} → List (Session S) → List (Station S)
+stations_in [] = []
+stations_in (Collect stations ∷ ss) = stations.items
+stations_in (Serve owner ∷ ss) = []
+
 -- a fault that may come outside of sessions
 abbrev pub IsOutside : ServeFault → Type 0
 IsOutside serve.Memory = Unit {0}
@@ -109,16 +115,17 @@ module _ {S O L : Type 0} (talks : S → Talk) (outbox : O → Standing OutboxVa
   abbrev pub HasHeld : Hub O L → Hub O L → List (Session S) → List (Session S) → SessionsReport → Type 0
   HasHeld old new olds news report = IsHeld old new (record { olds = olds; news = news; report = report })
 
-  -- one call of a session of these stations
-  pub record HasCollected (old new : Hub O L) (stations : Vec (Station S) Global) (report : SessionsReport) : Type 0 where
+  -- one call of a session of these stations, which it gave back as those
+  pub record HasHeldStations (old new : Hub O L) (stations : Vec (Station S) Global) (report : SessionsReport) (after : List (Station S)) : Type 0 where
     pub call : Call S
     pub olds : call.olds ≡ Collect stations ∷ []
+    pub gave : stations_in call.news ≡ after
     pub told : call.report ≡ report
     pub held : IsHeld old new call
     pub unended : ended_by call ≡ None
 
   -- one call of a session of an owner
-  pub record HasServed (old new : Hub O L) (owner : ℕ) (report : SessionsReport) : Type 0 where
+  pub record HasHeldOwner (old new : Hub O L) (owner : ℕ) (report : SessionsReport) : Type 0 where
     pub call : Call S
     pub olds : call.olds ≡ Serve owner ∷ []
     pub told : call.report ≡ report

@@ -1,5 +1,7 @@
 pub mod Counting
 pub mod Lines
+pub mod Seats
+pub mod Lending
 pub mod Calls
 pub mod Rounds
 pub mod Serving

@@ -16,7 +16,7 @@ use Rattle.fare_sessions.specs.declared.session.Session.{Session}
 use Rattle.fare_sessions.specs.declared.session.Session.TheVariants.{Collect, Serve}
 use Rattle.fare_sessions.specs.Promises.{GaveOf}
 use Rattle.fare_sessions.specs.declared.report.SessionsReport.{SessionsReport}
-use Rattle.fare_serve.specs.Calls.{Call, AreHeld, AreUnended}
+use Rattle.fare_serve.specs.Calls.{Call, AreHeld, AreUnended, stations_in}
 use Rattle.fare_serve.specs.Counting.{IsCountsOf, kept_count, owner_in}
 use Rattle.fare_serve.specs.declared.counts.Counts.{Counts}
 use Rattle.fare_serve.specs.declared.counts.Taken.{Taken}
@@ -88,9 +88,10 @@ module _ {S O L : Type 0} (talks : S → Talk) (outbox : O → Standing OutboxVa
   abbrev pub HaveGiven : SchemeValue → (ℕ → List RecordValue) → List (Round S) → Type 0
   HaveGiven sc lists rounds = AllByRecursion (λ r. GaveOf talks sc lists r.stations.olds r.stations.news) rounds
 
-  -- one round more of these stations, with this report of their session, and what was counted of it
-  pub record HasServedRound (old new : Hub O L) (before : List (Station S)) (report : SessionsReport) (counts_old counts_new : Counts) : Type 0 where
+  -- one round more of these stations, which its session gave back as those, with this report of it, and what was counted of it
+  pub record HasServedRound (old new : Hub O L) (before : List (Station S)) (report : SessionsReport) (after : List (Station S)) (counts_old counts_new : Counts) : Type 0 where
     pub round : Round S
+    pub gave : stations_in round.stations.news ≡ after
     pub is : IsRound old.scheme round before
     pub told : round.stations.report ≡ report
     pub held : AreHeld talks outbox ledger old new (calls_of round)

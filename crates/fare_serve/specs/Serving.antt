@@ -48,7 +48,8 @@ AreWhole shifts = AllByRecursion (λ s. s.whole ≡ true) shifts
 pub record HasHeldRound {O L : Type 0} (outbox : O → Standing OutboxValue) (ledger : L → Standing LedgerValue) (old new : Hub O L) (whole : Bool) (counts_old counts_new : Counts) : Type 0 where
   pub before : List (Station (Shift NetValue))
   pub report : SessionsReport
-  pub served : HasServedRound shift_talk outbox ledger old new before report counts_old counts_new
+  pub after : List (Station (Shift NetValue))
+  pub served : HasServedRound shift_talk outbox ledger old new before report after counts_old counts_new
   pub to_ends : whole ≡ true → AreWhole (map source_of before)
 
 -- lines are read to their ends where there is one round, which no file ends

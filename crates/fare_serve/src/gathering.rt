@@ -1,4 +1,5 @@
 ghost use Rattle.std.specs.Prelude.{◌≡◌, ◌≤◌, IfOk, length, vec_len};
+ghost use Rattle.fare_serve.specs.Seats.{AreFree, AreSeats, AreSeatsAfter};
 
 use crate::guest::{Guest, MOST_GUESTS, welcome};
 use crate::limits::Limits;
@@ -31,6 +32,7 @@ impl Lines {
     pub(crate) fn new(alloc: Global, scheme: &Scheme, reads: u64) -> Result<Lines, AllocError>
         ensures each { IfOk result (λ lines. vec_len lines.seats ≡ length scheme.now.stations) }
         ensures few { IfOk result (λ lines. vec_len lines.seats ≤ 16) }
+        ensures free { IfOk result (λ lines. AreFree lines.seats.items) }
     {
         Ok(Lines {
             seats: free_seats(alloc, scheme)?,
@@ -49,7 +51,9 @@ impl Lines {
         limits: Limits,
         rule: Rule,
     )
-        ensures { vec_len self.new.seats ≡ vec_len self.old.seats }
+        ensures len { vec_len self.new.seats ≡ vec_len self.old.seats }
+        ensures after { AreSeatsAfter scheme.now rule self.old.seats.items self.new.seats.items }
+        ensures greeted { AreSeats scheme.now self.old.seats.items → AreSeats scheme.now self.new.seats.items }
     {
         welcome(alloc, listener, limits, self.reads, &mut self.guests);
         seat_guests(rt, scheme, rule, &mut self.guests, &mut self.seats);
@@ -66,7 +70,7 @@ impl Lines {
     // Tells of each station that has no line.
     fn tell_absent<R: Eprint>(&self, rt: &R, scheme: &Scheme) {
         for place in 0..self.seats.len() {
-            if !self.seats[place].taken {
+            if self.seats[place].is_free() {
                 if let Some(station) = scheme.station_at(place) {
                     tell_absent(rt, station);
                 }

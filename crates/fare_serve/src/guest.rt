@@ -1,4 +1,6 @@
 ghost use Rattle.std.specs.Prelude.{◌≡◌};
+ghost use Rattle.fare_net.specs.Sources.{Advances};
+ghost use Rattle.fare_serve.specs.Lines.{IsUnheard};
 
 use crate::limits::Limits;
 use crate::line::{Line, LineSource};
@@ -6,6 +8,7 @@ use fare_net::NetSource;
 use fare_source::Source;
 use std::alloc::Global;
 use std::io;
+use std::marker::Model;
 use std::net::{TcpListener, TcpStream};
 use std::time::Duration;
 
@@ -15,21 +18,41 @@ pub(crate) const MOST_GUESTS: usize = 16;
 /// How often each of them is read for it.
 const MOST_READS: u32 = 100;
 
-/// A connection that has not greeted yet.
+/// A connection that has not greeted yet: no frame was taken off it, and it was answered nothing.
 #[derive(Drop)]
 pub(crate) struct Guest {
     source: LineSource,
     reads: u32,
 }
 
+impl Model for Guest {
+    ghost use Rattle.fare_net.specs.NetValue.{NetValue};
+    ghost use Rattle.fare_serve.specs.Lines.{IsUnheard};
+
+    ghost Value = { NetValue };
+
+    ghost view = { λ g. g.source };
+
+    ghost invariant = { λ g. IsUnheard g.source };
+}
+
 impl Guest {
-    // One that has not been read.
-    pub(crate) fn new(source: LineSource) -> Guest {
-        Guest { source, reads: 0 }
+    // A connection that has not been read, whose reads and writes don't wait for long, and which is read at most so
+    // often.
+    fn open(alloc: Global, stream: TcpStream, limits: Limits, reads: u64) -> io::Result<Guest> {
+        stream.set_nodelay(true)?;
+        stream.set_nonblocking(false)?;
+        stream.set_read_timeout(Some(Duration::from_millis(u64::from(limits.read_millis))))?;
+        stream.set_write_timeout(Some(Duration::from_millis(u64::from(limits.write_millis))))?;
+        let writer = Line::Open(stream.try_clone()?);
+        let source = NetSource::new(alloc, Line::Open(stream), writer, reads)?;
+        Ok(Guest { source, reads: 0 })
     }
 
     // Reads it once; whether its greeting, or that there is none, is known now.
-    pub(crate) fn is_heard(&mut self) -> bool {
+    pub(crate) fn is_heard(&mut self) -> bool
+        ensures { Advances self.old self.new }
+    {
         self.reads = self.reads.saturating_add(1);
         self.source.is_ready()
     }
@@ -40,21 +63,12 @@ impl Guest {
     }
 
     pub(crate) fn into_source(self) -> LineSource
-        ensures { result ≡ self.source }
+        ensures is { result ≡ self }
+        ensures unheard { IsUnheard result }
     {
         let Guest { source, reads: _ } = self;
         source
     }
-}
-
-// A connection as a source, whose reads and writes don't wait for long, and which is read at most so often.
-fn open(alloc: Global, stream: TcpStream, limits: Limits, reads: u64) -> io::Result<LineSource> {
-    stream.set_nodelay(true)?;
-    stream.set_nonblocking(false)?;
-    stream.set_read_timeout(Some(Duration::from_millis(u64::from(limits.read_millis))))?;
-    stream.set_write_timeout(Some(Duration::from_millis(u64::from(limits.write_millis))))?;
-    let writer = Line::Open(stream.try_clone()?);
-    Ok(NetSource::new(alloc, Line::Open(stream), writer, reads)?)
 }
 
 // Takes the connections that wait, as far as there is room. One that can't be taken is let go.
@@ -72,8 +86,8 @@ pub(crate) fn welcome(
         let Ok((stream, _)) = listener.accept() else {
             return;
         };
-        if let Ok(source) = open(alloc, stream, limits, reads) {
-            let _ = guests.push(Guest::new(source));
+        if let Ok(guest) = Guest::open(alloc, stream, limits, reads) {
+            let _ = guests.push(guest);
         }
     }
 }

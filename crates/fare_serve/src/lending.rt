@@ -1,4 +1,6 @@
 ghost use Rattle.std.specs.Prelude.{◌≡◌, IfOk, length, true, vec_len};
+ghost use Rattle.fare_serve.specs.Lending.{AreBack, AreLent, HasLent, IsBack, IsFresh, fault_in};
+ghost use Rattle.fare_serve.specs.Lines.{absent_line};
 ghost use Rattle.fare_serve.specs.Serving.{AreWhole};
 
 use crate::line::{Line, LineSource};
@@ -11,26 +13,35 @@ use fare_scheme::Scheme;
 use fare_session::SessionFault;
 use fare_source::Shift;
 use std::alloc::{AllocError, Global};
+use std::mem;
 
 /// How many frames of one line a round takes at most; the others wait for the next round.
 const MOST_FRAMES: u64 = 65_536;
 
 // A source that is at its end, and whose answers go nowhere.
-fn absent(alloc: Global) -> Result<LineSource, AllocError> {
+fn absent(alloc: Global) -> Result<LineSource, AllocError>
+    ensures { IfOk result (λ source. source ≡ absent_line) }
+{
     NetSource::new(alloc, Line::Absent, Line::Absent, 1)
 }
 
-// The line of a seat, or one that is at its end; the seat stays taken where it was.
-fn lend(alloc: Global, seat: &mut Seat) -> Result<LineSource, AllocError> {
-    match seat.line.take() {
-        Some(source) => Ok(source),
-        None => absent(alloc),
+// The line of a seat, or one that is at its end; the seat is free afterwards only where it was.
+fn lend(alloc: Global, seat: &mut Seat) -> Result<LineSource, AllocError>
+    ensures { IfOk result (HasLent seat.old seat.new) }
+{
+    if seat.is_free() {
+        return absent(alloc);
+    }
+    match mem::replace(seat, Seat::Lent) {
+        Seat::Held(source) => Ok(source),
+        Seat::Free | Seat::Lent => absent(alloc),
     }
 }
 
 // A shift of a line: the whole, or as much as a round takes.
 fn shift_of(source: LineSource, whole: bool, patience: u32) -> Shift<LineSource>
-    ensures { whole ≡ true → result.whole ≡ true }
+    ensures source { result.source ≡ source }
+    ensures fresh { IsFresh whole result }
 {
     if whole {
         Shift::whole(source)
@@ -48,6 +59,7 @@ pub(crate) fn lend_all(
 ) -> Result<Vec<Shift<LineSource>>, AllocError>
     ensures each { IfOk result (λ shifts. vec_len shifts ≡ length seats.old) }
     ensures whole { IfOk result (λ shifts. whole ≡ true → AreWhole shifts.items) }
+    ensures lent { IfOk result (λ shifts. AreLent whole seats.old seats.new shifts.items) }
 {
     let mut shifts = Vec::with_capacity(alloc, seats.len())?;
     for place in 0..seats.len() {
@@ -58,7 +70,9 @@ pub(crate) fn lend_all(
 }
 
 // The fault of a station's line among these, if it met one.
-fn fault_of(station: StationId, faults: &[(usize, SessionFault)]) -> Option<SessionFault> {
+fn fault_of(station: StationId, faults: &[(usize, SessionFault)]) -> Option<SessionFault>
+    ensures { result ≡ fault_in station faults.now }
+{
     for fault in faults {
         match fault.1 {
             SessionFault::Source(other) | SessionFault::Unexpected(other) => {
@@ -79,23 +93,25 @@ fn take_back<R: Eprint>(
     station: Station<Shift<LineSource>>,
     faults: &[(usize, SessionFault)],
     seat: &mut Seat,
-) {
+)
+    ensures { IsBack faults.now station seat.old seat.new }
+{
     let (collector, shift) = station.into_parts();
     let id = collector.station();
     let source = shift.into_source();
-    if !seat.taken {
+    if !seat.is_lent() {
         return;
     }
     if let Some(fault) = fault_of(id, faults) {
         tell_broken(rt, id, &fault);
-        seat.taken = false;
+        *seat = Seat::Free;
     } else if source.is_over() {
         if !whole {
             tell_ended(rt, id);
         }
-        seat.taken = false;
+        *seat = Seat::Free;
     } else {
-        seat.line = Some(source);
+        *seat = Seat::Held(source);
     }
 }
 
@@ -106,7 +122,9 @@ pub(crate) fn take_all_back<R: Eprint>(
     stations: Vec<Station<Shift<LineSource>>>,
     faults: &[(usize, SessionFault)],
     seats: &mut [Seat],
-) {
+)
+    ensures { AreBack faults.now stations.items seats.old seats.new }
+{
     let mut stations = stations;
     while let Some(station) = stations.pop() {
         let place = stations.len();

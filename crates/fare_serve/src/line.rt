@@ -1,22 +1,23 @@
-ghost use Rattle.fare_serve.specs.Lines.{left_on};
+ghost use Rattle.fare_serve.specs.Lines.{held_by, left_on};
 
 use fare_net::NetSource;
 use std::io;
 use std::io::{Read, Write};
 use std::net::TcpStream;
 
-/// One side of a station's line: a connection, or none, which is at its end and takes what is sent nowhere.
+/// One side of a station's line: a stream, of which it reads and to which it writes no other bytes than are asked of it;
+/// or none, which is at its end and takes what is sent nowhere.
 #[derive(Drop)]
-pub enum Line {
-    Open(TcpStream),
+pub enum Line<T> {
+    Open(T),
     Absent,
 }
 
 /// A station's line as a source.
-pub type LineSource = NetSource<Line, Line>;
+pub type LineSource = NetSource<Line<TcpStream>, Line<TcpStream>>;
 
-impl Read for Line {
-    ghost remaining = { left_on };
+impl<T: Read> Read for Line<T> {
+    ghost remaining = { left_on T.remaining };
 
     fn read(&mut self, buf: &mut [u8]) -> io::Result<usize> {
         match self {
@@ -26,7 +27,9 @@ impl Read for Line {
     }
 }
 
-impl Write for Line {
+impl<T: Write> Write for Line<T> {
+    ghost contents = { held_by T.contents };
+
     fn write(&mut self, buf: &[u8]) -> io::Result<usize> {
         match self {
             Line::Open(stream) => stream.write(buf),

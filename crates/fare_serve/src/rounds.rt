@@ -77,7 +77,7 @@ pub fn serve_round<
     requires all { length stations.items ≡ length hub.old.scheme.stations }
     requires devices { HaveDevices hub.old.scheme stations.items }
     requires owners { length counts.old.taken.items ≡ length hub.old.scheme.owners }
-    ensures served { IfOk result (λ done. HasServedRound S.talk O.standing L.standing hub.old hub.new stations.items done.0 counts.old counts.new) }
+    ensures served { IfOk result (λ done. HasServedRound S.talk O.standing L.standing hub.old hub.new stations.items done.0 done.1.items counts.old counts.new) }
     ensures failed { IfErr result (HasFailed S.talk O.standing L.standing hub.old hub.new) }
     ensures fault { IfErr result (λ fault. fault ≢ ServeFault.Write) }
 {

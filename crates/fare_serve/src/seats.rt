@@ -1,4 +1,5 @@
-ghost use Rattle.std.specs.Prelude.{◌≡◌, ◌≤◌, IfOk, length, vec_len};
+ghost use Rattle.std.specs.Prelude.{◌≡◌, ◌≤◌, ◌↔◌, IfOk, IsTrue, length, vec_len};
+ghost use Rattle.fare_serve.specs.Seats.{AreFree, AreSeats, AreSeatsAfter, HasSat, TellsOver};
 
 use crate::guest::{Guest, MOST_GUESTS};
 use crate::line::LineSource;
@@ -12,11 +13,29 @@ use std::alloc::{AllocError, Global};
 
 /// A station's seat.
 #[derive(Drop)]
-pub(crate) struct Seat {
-    /// Its line, unless a session has that.
-    pub(crate) line: Option<LineSource>,
-    /// Whether it has a line, here or in a session.
-    pub(crate) taken: bool,
+pub(crate) enum Seat {
+    /// It has no line: none came, or the last one ended or broke.
+    Free,
+    /// A session has its line.
+    Lent,
+    /// Its line.
+    Held(LineSource),
+}
+
+impl Seat {
+    // Whether it has no line, here or in a session.
+    pub(crate) fn is_free(&self) -> bool
+        ensures { IsTrue result ↔ (self.now ≡ Seat.Free) }
+    {
+        matches!(self, Seat::Free)
+    }
+
+    // Whether a session has its line.
+    pub(crate) fn is_lent(&self) -> bool
+        ensures { IsTrue result ↔ (self.now ≡ Seat.Lent) }
+    {
+        matches!(self, Seat::Lent)
+    }
 }
 
 /// Which of two lines of a station has the seat.
@@ -29,50 +48,58 @@ pub(crate) enum Rule {
 }
 
 // Whether a line that came before has nothing more to give.
-fn is_over(seat: &mut Seat) -> bool {
-    match &mut seat.line {
-        Some(source) => {
+fn is_over(seat: &mut Seat) -> bool
+    ensures { TellsOver result seat.old seat.new }
+{
+    match seat {
+        Seat::Held(source) => {
             source.is_ready();
             source.is_over()
         }
-        None => true,
+        Seat::Free | Seat::Lent => true,
     }
 }
 
-// Gives a seat that has a line to one that came after it, as the rule says.
-fn replace<R: Eprint>(rt: &R, station: StationId, source: LineSource, rule: Rule, seat: &mut Seat) {
-    if rule == Rule::Last {
-        tell_newer(rt, station);
-        seat.line = Some(source);
-    } else if is_over(seat) {
-        tell_replaced(rt, station);
-        seat.line = Some(source);
-    } else {
+// Before the first round: the first line of a station that is not over keeps its seat.
+fn keep_first<R: Eprint>(rt: &R, station: StationId, source: LineSource, seat: &mut Seat)
+    ensures { HasSat Rule.First seat.old seat.new source }
+{
+    if !is_over(seat) {
         tell_second(rt, station);
-    }
-}
-
-// Gives a station's seat to a line that greeted.
-fn take_seat<R: Eprint>(
-    rt: &R,
-    station: StationId,
-    source: LineSource,
-    rule: Rule,
-    seat: &mut Seat,
-) {
-    if seat.taken {
-        replace(rt, station, source, rule, seat);
         return;
     }
-    if rule == Rule::Last {
-        tell_came(rt, station);
+    if !seat.is_free() {
+        tell_replaced(rt, station);
     }
-    seat.line = Some(source);
-    seat.taken = true;
+    *seat = Seat::Held(source);
+}
+
+// Between rounds: the line that came last has the seat.
+fn keep_last<R: Eprint>(rt: &R, station: StationId, source: LineSource, seat: &mut Seat)
+    ensures { HasSat Rule.Last seat.old seat.new source }
+{
+    if seat.is_free() {
+        tell_came(rt, station);
+    } else {
+        tell_newer(rt, station);
+    }
+    *seat = Seat::Held(source);
+}
+
+// Gives a station's seat to a line that greeted, or leaves it to the one that has it, as the rule says.
+fn take_seat<R: Eprint>(rt: &R, station: StationId, source: LineSource, rule: Rule, seat: &mut Seat)
+    ensures { HasSat rule seat.old seat.new source }
+{
+    match rule {
+        Rule::First => keep_first(rt, station, source, seat),
+        Rule::Last => keep_last(rt, station, source, seat),
+    }
 }
 
 // Seats a guest that was heard, or lets it go.
-fn seat_guest<R: Eprint>(rt: &R, scheme: &Scheme, guest: Guest, rule: Rule, seats: &mut [Seat]) {
+fn seat_guest<R: Eprint>(rt: &R, scheme: &Scheme, guest: Guest, rule: Rule, seats: &mut [Seat])
+    ensures { AreSeatsAfter scheme.now rule seats.old seats.new }
+{
     let mut source = guest.into_source();
     match source.hello(scheme) {
         Err(fault) => tell_refused(rt, fault),
@@ -93,7 +120,10 @@ pub(crate) fn seat_guests<R: Eprint>(
     rule: Rule,
     guests: &mut Vec<Guest>,
     seats: &mut [Seat],
-) {
+)
+    ensures after { AreSeatsAfter scheme.now rule seats.old seats.new }
+    ensures greeted { AreSeats scheme.now seats.old → AreSeats scheme.now seats.new }
+{
     let mut place = 0;
     for _ in 0..MOST_GUESTS {
         if place >= guests.len() {
@@ -112,25 +142,23 @@ pub(crate) fn seat_guests<R: Eprint>(
 
 // Whether each station has a line.
 pub(crate) fn are_taken(seats: &[Seat]) -> bool {
-    seats.iter().all(|seat| seat.taken)
+    seats.iter().all(|seat| !seat.is_free())
 }
 
 // Whether a station has one.
 pub(crate) fn is_one_taken(seats: &[Seat]) -> bool {
-    seats.iter().any(|seat| seat.taken)
+    seats.iter().any(|seat| !seat.is_free())
 }
 
-// A seat for each station, none of which is taken.
+// A seat for each station, of which none has a line.
 pub(crate) fn free_seats(alloc: Global, scheme: &Scheme) -> Result<Vec<Seat>, AllocError>
     ensures each { IfOk result (λ seats. vec_len seats ≡ length scheme.now.stations) }
     ensures few { IfOk result (λ seats. vec_len seats ≤ 16) }
+    ensures free { IfOk result (λ seats. AreFree seats.items) }
 {
     let mut seats = Vec::with_capacity(alloc, scheme.station_count())?;
     for _ in 0..scheme.station_count() {
-        seats.push(Seat {
-            line: None,
-            taken: false,
-        })?;
+        seats.push(Seat::Free)?;
     }
     Ok(seats)
 }

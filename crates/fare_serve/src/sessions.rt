@@ -6,7 +6,7 @@ ghost use Rattle.fare_sessions.specs.Running.{AreRunnable};
 ghost use Rattle.fare_sessions.specs.Stores.{HasLedgers};
 ghost use Rattle.fare_sessions.specs.declared.session.Session.{Session};
 ghost use Rattle.fare_sessions.specs.declared.session.Session.TheVariants.{Serve};
-ghost use Rattle.fare_serve.specs.Calls.{HasCollected, HasEnded, HasFailed, HasHeld, HasServed, ending_of, first_ending};
+ghost use Rattle.fare_serve.specs.Calls.{HasHeldStations, HasEnded, HasFailed, HasHeld, HasHeldOwner, ending_of, first_ending, stations_in};
 
 use crate::fault::ServeFault;
 use fare_collect::Station;
@@ -17,6 +17,7 @@ use fare_source::Source;
 use fare_store::{Ledger, Outbox};
 use fare_supervisor::Supervisor;
 use std::alloc::Global;
+use std::slice;
 use std::sync::Wait;
 use std::thread::Threads;
 use std::time::Clock;
@@ -78,7 +79,9 @@ fn hold<
 }
 
 // The stations of a session of theirs.
-fn stations_in<S: Drop>(alloc: Global, session: Session<S>) -> Vec<Station<S>> {
+fn stations_in<S: Drop>(alloc: Global, session: Session<S>) -> Vec<Station<S>>
+    ensures { result.items ≡ stations_in (session ∷ []) }
+{
     match session {
         Session::Collect(stations) => stations,
         Session::Serve(_) => Vec::new(alloc),
@@ -105,13 +108,12 @@ pub(crate) fn collect_once<
     requires order { AreStations hub.old.scheme stations.items }
     requires all { length stations.items ≡ length hub.old.scheme.stations }
     requires devices { HaveDevices hub.old.scheme stations.items }
-    ensures held { IfOk result (λ done. HasCollected S.talk O.standing L.standing hub.old hub.new stations done.0) }
+    ensures held { IfOk result (λ done. HasHeldStations S.talk O.standing L.standing hub.old hub.new stations done.0 done.1.items) }
     ensures failed { IfErr result (HasFailed S.talk O.standing L.standing hub.old hub.new) }
     ensures fault { IfErr result (λ fault. fault ≢ ServeFault.Write) }
 {
-    let mut sessions = [Session::Collect(stations)];
-    let report = hold(rt, alloc, gate, turns, hub, &mut sessions)?;
-    let [session] = sessions;
+    let mut session = Session::Collect(stations);
+    let report = hold(rt, alloc, gate, turns, hub, slice::from_mut(&mut session))?;
     Ok((report, stations_in(alloc, session)))
 }
 
@@ -133,7 +135,7 @@ pub(crate) fn serve_once<
 ) -> Result<SessionsReport, ServeFault>
     requires ledgers { HasLedgers hub.old }
     requires known { position_of_owner hub.old.scheme owner ≡ Some place }
-    ensures held { IfOk result (HasServed S.talk O.standing L.standing hub.old hub.new owner) }
+    ensures held { IfOk result (HasHeldOwner S.talk O.standing L.standing hub.old hub.new owner) }
     ensures ended { IfErr result (λ fault. (news : List (Session S)) × HasEnded S.talk O.standing L.standing hub.old hub.new (Serve owner ∷ []) news fault) }
     ensures fault { IfErr result (λ fault. fault ≢ ServeFault.Write) }
 {

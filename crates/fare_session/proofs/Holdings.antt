@@ -18,7 +18,7 @@ use Rattle.fare_session.specs.declared.fault.SessionFault.TheVariants.{Refused}
 use Rattle.fare_session.specs.declared.report.OwnerReport.{OwnerReport}
 use Rattle.fare_session.specs.Stores.{Keeps}
 use Rattle.fare_session.specs.Taking.{IsRefusedHand, IsImage}
-use Rattle.fare_session.specs.Served.{AreFit, IsTakenBy, IsPrunedBy, HasCause, SaysOf, IsServed}
+use Rattle.fare_session.specs.Served.{AreFit, IsTakenBy, IsPrunedBy, HasCause, SaysOfService, IsServed}
 use Rattle.fare_session.specs.Run.{IsReady, IsCutOf, IsUnbegun, IsRun}
 use Rattle.fare_session.proofs.StoreCalls.{follows_call}
 
@@ -54,10 +54,10 @@ module _ (sc : SchemeValue) (owner : ℕ) (xo xn : Standing OutboxValue) (lo ln 
 
   -- what is said of the opening values
   abbrev Said : OutboxValue → LedgerValue → Type 0
-  Said x l = SaysOf sc owner r.v report x l
+  Said x l = SaysOfService sc owner r.v report x l
 
   says_unbegun : IsUnbegun xo xn r.v report → (x : OutboxValue) (l : LedgerValue) → Said x l
-  says_unbegun un x l = subst (λ v. SaysOf sc owner v report x l) (sym un.nothing) (record {
+  says_unbegun un x l = subst (λ v. SaysOfService sc owner v report x l) (sym un.nothing) (record {
     service = record { items = tt; known = tt; working = tt; room = omega arith; registered = tt };
     unrefused = tt;
     taken = un.taken;

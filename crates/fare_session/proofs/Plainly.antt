@@ -15,7 +15,7 @@ use Rattle.fare_history.specs.Holding.{MayHold}
 use Rattle.fare_history.proofs.Committed.{committed_is}
 use Rattle.fare_history.proofs.ServedPlainly.{serves_plainly, finished_is_whole, statements_stay}
 use Rattle.fare_session.specs.declared.report.OwnerReport.{OwnerReport}
-use Rattle.fare_session.specs.Served.{AreFit, IsTakenBy, IsPrunedBy, SaysOf, IsServed, WasServed}
+use Rattle.fare_session.specs.Served.{AreFit, IsTakenBy, IsPrunedBy, SaysOfService, IsServed, WasServed}
 use Rattle.fare_session.proofs.Services.{all-append, unrefused-append}
 
 -- the session that pruned one lane more
@@ -42,7 +42,7 @@ module _ (sc : SchemeValue) (owner : ℕ) (xo xn : Standing OutboxValue) (lo ln 
   abbrev v : Service
   v = s.v
 
-  says : SaysOf sc owner s.v report x l
+  says : SaysOfService sc owner s.v report x l
   says = s.says fit x l mx ml
 
   -- by a service that is this one, or this one and a little more

@@ -52,7 +52,7 @@ abbrev pub HasCause : SchemeValue → ℕ → Service → OutboxValue → Ledger
 HasCause sc owner v x l = HasGap sc owner x (given_all l v.taken) ⊎ ((i : Item) × (v.hand ≡ Some i) × ShowsWhy owner x (given_all l v.taken) i)
 
 -- what the report and the service say of an outbox and a ledger as they were when the session began
-pub record SaysOf (sc : SchemeValue) (owner : ℕ) (v : Service) (report : OwnerReport) (x : OutboxValue) (l : LedgerValue) : Type 0 where
+pub record SaysOfService (sc : SchemeValue) (owner : ℕ) (v : Service) (report : OwnerReport) (x : OutboxValue) (l : LedgerValue) : Type 0 where
   pub service : IsService sc owner x l v
   pub unrefused : AreUnrefused l v.taken
   pub taken : report.taken ≡ min (added_by l v.taken) 18446744073709551615
@@ -62,7 +62,7 @@ pub record SaysOf (sc : SchemeValue) (owner : ℕ) (v : Service) (report : Owner
 pub record IsServed (sc : SchemeValue) (owner : ℕ) (xo xn : Standing OutboxValue) (lo ln : Standing LedgerValue) (report : OwnerReport) : Type 0 where
   pub v : Service
   -- whatever the stores might have held when it began, also where a failure had shut one of them
-  pub says : AreFit sc owner xo xn lo ln → (x : OutboxValue) (l : LedgerValue) → MayHold xo x → MayHold lo l → SaysOf sc owner v report x l
+  pub says : AreFit sc owner xo xn lo ln → (x : OutboxValue) (l : LedgerValue) → MayHold xo x → MayHold lo l → SaysOfService sc owner v report x l
   -- whatever the ledger may hold now is led to, by what was taken, from something that it might have held
   pub ledger : AreFit sc owner xo xn lo ln → Leads (IsTakenBy v) lo ln
   -- whatever the two may hold now, the outbox is pruned up to the ledger's counts and no further

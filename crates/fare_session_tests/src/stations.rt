@@ -3,7 +3,7 @@ use crate::given::{ack, day_ack, sixteen};
 use crate::scripts::{Script, narrow, scripts_of, source_of, sources_of, tapped};
 use fare_collect::{StationsFault, collect, stations_of};
 use fare_frame::Frame;
-use fare_part_tests::statement;
+use fare_part_tests::{FIRST, Numbers, record, statement};
 use fare_record::{DeviceId, Hello, LAST_NUMBER, StationId};
 use fare_scheme::{DemoSize, Scheme};
 use fare_session::{Gate, Point, SessionFault};
@@ -403,5 +403,49 @@ fn there_are_no_more_sources_than_stations(rt: HostRuntime) {
         &rt,
         &stations_of(alloc, &scheme, sources).err(),
         &Some(StationsFault::Range),
+    );
+}
+
+// An outbox that has no room for one tap more: 1,000,000 of device 1.
+fn full(alloc: Global) -> Option<PlainOutbox> {
+    let mut outbox = PlainOutbox::new(alloc);
+    for link in 1..=1_000_000 {
+        let row = record(Numbers {
+            link,
+            lane: link,
+            ..FIRST
+        })?;
+        outbox.store(&row).ok()?;
+    }
+    Some(outbox)
+}
+
+// What it refuses is Refused, and no want of memory, by which a hub would end; the tap stays in the writer's hand, and each
+// device is answered what was stored of its taps.
+#[test]
+fn a_full_outbox_refuses_a_session(rt: HostRuntime) {
+    let alloc = rt.alloc();
+    let mut outbox = full(alloc).expect(&rt, "an outbox");
+    let scheme = narrow(alloc).expect(&rt, "a scheme");
+    let mut sources = scripts(alloc, &[]).expect(&rt, "sources");
+    let tap = tapped(2, 1).expect(&rt, "a tap");
+    if let Some(source) = sources.get_mut(1) {
+        source.frames.push(tap).expect(&rt, "room");
+    }
+    let gate = Hold::new(false);
+    let (seen, _) = gathered(&rt, alloc, &scheme, sources, &mut outbox, &gate, 1_000_000).expect(
+        &rt,
+        "a session",
+    );
+    let want = Seen {
+        stored: 0,
+        left: 1,
+        fault: Some(SessionFault::Refused),
+    };
+    same(&rt, &seen, &want);
+    same(
+        &rt,
+        &outbox.upto(DeviceId::new(2).expect(&rt, "a device")),
+        &Ok(0),
     );
 }

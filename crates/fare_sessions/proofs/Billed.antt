@@ -1,6 +1,6 @@
 -- What is asked of one ledger, and what a bill and a settlement are of.
 use Rattle.std.proofs.Common.{◌≡◌, ℕ, ◌<◌, ◌≤◌, List, [], ◌∷◌, ◌++◌, Some, None, Bool, true, false, refl, sym, ap, ◌∙◌, subst, arith, inl, inr}
-use Rattle.std.specs.Prelude.{◌==◌, ◌&&◌, nat_le, max, Option, Result, Ok, Err, MatchResult, IfOk, if◌then◌else◌, filter, map}
+use Rattle.std.specs.Prelude.{◌==◌, ◌&&◌, nat_le, max, Option, Result, Ok, Err, MatchResult, IfOk, IsErrAnd, if◌then◌else◌, filter, map}
 use Rattle.std.specs.List.{flat_map}
 use Rattle.std.specs.Ordering.{nat_cmp, is_lt}
 use Rattle.std.proofs.lemmas.Bool.{and_from}
@@ -61,6 +61,14 @@ holds_value s sound live lawful v (inr leaves) = sound.settled live lawful v lea
 
 pub from_not_less : (a b : ℕ) → is_lt (nat_cmp a b) ≡ false → b ≤ a
 from_not_less a b e = grind (arith, nat_tests)
+
+pub not_before_start : (a b : ℕ) → b ≤ a → is_lt (nat_cmp a b) ≡ true → ⊥
+not_before_start a b le e = absurd (grind (arith, nat_tests))
+
+-- a fault that is handed on is the same
+pub fault_kept : {A R : Type 0} (B : Type 0) (r : Result A (Refused R)) (f : Refused R) → IsErrAnd r (λ q. q ≡ f) → fault_in r ≡ fault_in {A = B} (Err f)
+fault_kept B (Ok v) f is = absurd is
+fault_kept {A} B (Err q) f is = ap (λ z. fault_in {A = A} (Err z)) is
 
 -- WHAT A SETTLEMENT IS OF
 filter_flat : {X : Type 0} (p : RecordValue → Bool) (f : X → List RecordValue) (xs : List X) → filter p (flat_map f xs) ≡ flat_map (λ x. filter p (f x)) xs

@@ -11,3 +11,4 @@ pub mod Retired
 pub mod Going
 pub mod Lasting
 pub mod Again
+pub mod Runnable

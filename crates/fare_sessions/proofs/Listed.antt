@@ -18,7 +18,7 @@ use Rattle.fare_history.specs.Gathering.{of_station}
 use Rattle.fare_history.specs.Plainly.{IsCovered}
 use Rattle.fare_history.specs.Serving.{device_of}
 use Rattle.fare_history.proofs.Entries.{all-append, is_own_id}
-use Rattle.fare_collect.specs.Ending.{Keeps}
+use Rattle.fare_collect.specs.Ending.{AreSomeOf}
 use Rattle.fare_collect.specs.Stations.{frame_for}
 use Rattle.fare_agreement.specs.Agreeing.{IsOf}
 use Rattle.fare_sessions.specs.Promises.{IsFrameOf, IsFrameCovered}
@@ -79,7 +79,7 @@ frame_covered : (sc : SchemeValue) (x : OutboxValue) (a : AckItem) → IsCovered
 frame_covered sc x (ack.Upto a) is = is
 frame_covered sc x (ack.Day a) is = is
 
-pub kept_covered : (sc : SchemeValue) (x : OutboxValue) (answers : List AckItem) (kept : List Frame) → Keeps answers kept → AllByRecursion (IsCovered sc x) answers → AllByRecursion (IsFrameCovered sc x) kept
+pub kept_covered : (sc : SchemeValue) (x : OutboxValue) (answers : List AckItem) (kept : List Frame) → AreSomeOf answers kept → AllByRecursion (IsCovered sc x) answers → AllByRecursion (IsFrameCovered sc x) kept
 kept_covered sc x [] kept keeps all = subst (AllByRecursion (IsFrameCovered sc x)) (sym keeps) tt
 kept_covered sc x (a ∷ answers) kept (inl is) all = subst (AllByRecursion (IsFrameCovered sc x)) (sym is.1) (frame_covered sc x a all.0, kept_covered sc x answers is.0 is.2 all.1)
 kept_covered sc x (a ∷ answers) kept (inr is) all = kept_covered sc x answers kept is all.1

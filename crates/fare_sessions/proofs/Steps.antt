@@ -18,8 +18,7 @@ use Rattle.fare_history.specs.Stores as history
 use Rattle.fare_history.specs.Stores.{StoresValue, stores_after}
 use Rattle.fare_store.proofs.Entries.{is_one, put_here}
 use Rattle.fare_session.specs.declared.fault.SessionFault.{SessionFault}
-use Rattle.fare_session.specs.Served.{AreFit, IsServed, IsTakenBy, IsPrunedBy}
-use Rattle.fare_session.specs.Served as served
+use Rattle.fare_session.specs.Served.{AreFit, IsServed, IsTakenBy, IsPrunedBy, SaysOfService}
 use Rattle.fare_collect.specs.declared.station.Station.{Station}
 use Rattle.fare_collect.specs.Collected.{IsCollected, IsFitting, IsStoredBy, HasTalked, writer_faults, faults_at, station_faults}
 use Rattle.fare_agreement.specs.Stopping.{IsLeftBy, pruned_too}
@@ -157,6 +156,9 @@ module _ {S O L : Type 0} (talks : S → Talk) (outbox : O → Standing OutboxVa
         kept = t.kept;
         answered = t.answered;
         keeps = t.keeps fits;
+        failed = (t.cause, t.failed);
+        unexpected = t.unexpected;
+        expected = t.expected;
         whole = λ none.
             let no = no_writer ended (station_faults after) (sym faults ∙ none) in
             let fine = no_station after no.1 place d (let n = ic.len in omega (arith, lt, n)) in
@@ -222,8 +224,8 @@ module _ {S O L : Type 0} (talks : S → Talk) (outbox : O → Standing OutboxVa
       stood : MayStandAs outbox ledger old m
       stood = stood_before outbox ledger old new owner h.one k may x.0 x.1 l.0 l.1
 
-      says : served.SaysOf old.scheme owner v h.report x.0 (put k.ledgers owner l.0 owner)
-      says = subst (served.SaysOf old.scheme owner v h.report x.0) (sym here) (h.served.says fits x.0 l.0 x.1 l.1)
+      says : SaysOfService old.scheme owner v h.report x.0 (put k.ledgers owner l.0 owner)
+      says = subst (SaysOfService old.scheme owner v h.report x.0) (sym here) (h.served.says fits x.0 l.0 x.1 l.1)
 
       same_stores : (items : List Item) (ds : List ℕ) → k.ledgers owner ≡ given_all l.0 items → k.outbox ≡ pruned_to_all x.0 owner (k.ledgers owner) ds
           → k ≡ record { outbox = pruned_to_all x.0 owner (given_all (put k.ledgers owner l.0 owner) items) ds; ledgers = put (put k.ledgers owner l.0) owner (given_all (put k.ledgers owner l.0 owner) items) }

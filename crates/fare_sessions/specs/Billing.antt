@@ -8,7 +8,8 @@ use Rattle.fare_cap.specs.Fares.{week_start}
 use Rattle.fare_owner.specs.declared.closing.CloseFault.{CloseFault}
 use Rattle.fare_store.specs.declared.fault.Refused.{Refused}
 use Rattle.fare_store.specs.declared.fault.Refused.TheVariants.{Because, Failed}
-use Rattle.fare_store.specs.Standing.{Standing, Writes}
+use Rattle.fare_store.specs.declared.fault.Fault.{Fault}
+use Rattle.fare_store.specs.Standing.{Standing, Counted, Writes}
 use Rattle.fare_store.specs.OutboxWords.{OutboxValue}
 use Rattle.fare_store.specs.LedgerWords.{LedgerValue, AreTapsBetween, close_of, with_close}
 use Rattle.fare_side.specs.declared.bill_fault.BillFault.{BillFault}
@@ -78,6 +79,11 @@ pub record HasClosed {O L : Type 0} (ledger : L → Standing LedgerValue) (old n
   pub answer : Result Unit (Refused CloseFault)
   pub writes : Writes (ledger one.own_old) (ledger one.own_new) (close_of (ledger one.own_old).value device day) (with_close device (ledger one.own_old).value) answer
   pub told : result ≡ as_hub answer
+
+-- the owner's ledger was asked: Store is answered where its count of failures rose, and nowhere else
+pub record HasAsked {O L : Type 0} (ledger : L → Standing LedgerValue) (old new : Hub O L) (owner : ℕ) (faulted : Option Fault) : Type 0 where
+  pub one : ReplacesLedger old new owner
+  pub cause : Counted (ledger one.own_old).failures (ledger one.own_new).failures faulted
 
 module _ {O L : Type 0} (outbox : O → Standing OutboxValue) (ledger : L → Standing LedgerValue) where
   -- one ledger was read, at most: what may stand now might have stood before

@@ -12,13 +12,13 @@ use Rattle.fare_history.specs.Stores.{StoresValue}
 use Rattle.fare_session.specs.declared.fault.SessionFault.{SessionFault}
 use Rattle.fare_session.specs.declared.fault.SessionFault.TheVariants.{Memory}
 use Rattle.fare_session.specs.declared.report.OwnerReport.{OwnerReport}
-use Rattle.fare_session.specs.Served as served
+use Rattle.fare_session.specs.Served.{Rose, SaysOfService}
 use Rattle.fare_collect.specs.declared.station.Station.{Station}
-use Rattle.fare_collect.specs.Collected as collected
-use Rattle.fare_collect.specs.Collected.{source_of, first_links, writer_faults, station_faults}
-use Rattle.fare_collect.specs.Ending.{Keeps}
+use Rattle.fare_collect.specs.Collected.{SaysOfGathering, source_of, first_links, writer_faults, station_faults}
+use Rattle.fare_collect.specs.Ending.{AreSomeOf}
 use Rattle.fare_collect.specs.Session.{id_of}
-use Rattle.fare_collect.specs.Stations.{frame_for, held_list}
+use Rattle.fare_collect.specs.Stations.{AreExpected, EndUnexpected, frame_for, held_list}
+use Rattle.fare_collect.specs.declared.fault.StationFault.TheVariants as station
 use Rattle.fare_agreement.specs.Stopping.{IsLeftBy}
 use Rattle.fare_sessions.specs.declared.session.Session.{Session}
 use Rattle.fare_sessions.specs.declared.session.Session.TheVariants.{Collect, Serve}
@@ -34,14 +34,18 @@ module _ {S : Type 0} (sc : SchemeValue) (talks : S → Talk) where
     pub accepted : of_station sc (id_of old) (accepted_by g) ≡ arrivals sc (first_links sc h.outbox (id_of old)) frames
     pub kept : List Frame
     pub answered : (talks (source_of new)).answered ≡ (talks (source_of old)).answered ++ kept
-    pub keeps : Keeps (answers_to sc (id_of old) (all_answers g)) kept
+    pub keeps : AreSomeOf (answers_to sc (id_of old) (all_answers g)) kept
+    -- its fault is its source's, or that a frame came which no device sends: that one came last, and is reported
+    pub failed : (new.end.fault ≡ Some station.Source → Rose (talks (source_of old)).failures (talks (source_of new)).failures) × (new.end.fault ≡ None → (talks (source_of new)).failures ≡ (talks (source_of old)).failures)
+    pub unexpected : new.end.fault ≡ Some station.Unexpected → EndUnexpected frames
+    pub expected : AreExpected new.end.fault (frames ++ held_list held)
     pub whole : faults ≡ [] → (held ≡ None) × (talks (source_of new)).ended × (kept ≡ map frame_for (answers_to sc (id_of old) (all_answers g)))
 
   pub record CollectedBetween (h k : StoresValue) (before after : List (Station S)) (c : Counts) (qs : List history.Session) : Type 0 where
     pub g : Gathering
     pub session : qs ≡ history.Collects g ∷ []
     -- what it says of these stores, by what ended the writer
-    pub came : (ended : _) × collected.SaysOf sc before g c.stored ended h.outbox × (c.faults ≡ writer_faults ended ++ station_faults after)
+    pub came : (ended : _) × SaysOfGathering sc before g c.stored ended h.outbox × (c.faults ≡ writer_faults ended ++ station_faults after)
     pub left : IsLeftBy h (history.Collects g) k
     pub taken : c.taken ≡ 0
     pub stations : (place : ℕ) (d : Station S) → place < length before → HasTalkedBetween h g c.faults (slice_index_or before place d) (slice_index_or after place d)
@@ -60,7 +64,7 @@ module _ {S : Type 0} (sc : SchemeValue) (talks : S → Talk) where
     pub v : Service
     pub session : qs ≡ history.Serves_owner owner v ∷ []
     pub report : OwnerReport
-    pub says : served.SaysOf sc owner v report h.outbox (h.ledgers owner)
+    pub says : SaysOfService sc owner v report h.outbox (h.ledgers owner)
     pub left : IsLeftBy h (history.Serves_owner owner v) k
     pub stored : c.stored ≡ 0
     pub taken : c.taken ≡ report.taken

@@ -1,15 +1,17 @@
 //! What an owner is charged for a day, and what each operator gets of it, by the hub's ledgers.
-ghost use Rattle.std.specs.Prelude.{◌≡◌, ℕ, None, true, List, IfOk};
+ghost use Rattle.std.specs.Prelude.{◌≡◌, ◌≢◌, ◌≤◌, ℕ, None, true, List, IfOk};
 ghost use Rattle.fare_cap.specs.Bills.{bill_of};
 ghost use Rattle.fare_cap.specs.Fares.{week_start};
 ghost use Rattle.fare_record.specs.Values.{RecordValue};
+ghost use Rattle.fare_scheme.specs.Words.{position_of_owner};
 ghost use Rattle.fare_settle.specs.Settling.{settlement_of};
+ghost use Rattle.fare_store.specs.Standing.{fault_in};
 ghost use Rattle.fare_store.specs.LedgerWords.{AreTapsBetween};
 ghost use Rattle.fare_world.specs.Knowing.{knows_owner};
 ghost use Rattle.fare_history.specs.Stores.{StoresValue};
 ghost use Rattle.fare_agreement.specs.Agreeing.{AreNumberedLists, Agrees};
 ghost use Rattle.fare_agreement.specs.Parts.{parts_of};
-ghost use Rattle.fare_sessions.specs.Billing.{refusal_of, open_in, short_in, HasBasis, OnlyReads, IsBillRefusal};
+ghost use Rattle.fare_sessions.specs.Billing.{refusal_of, open_in, short_in, HasAsked, HasBasis, OnlyReads, IsBillRefusal};
 ghost use Rattle.fare_sessions.specs.Stores.{HasLedgers, AreClean, AreSound, MayStandAs};
 
 use crate::hub::Hub;
@@ -37,6 +39,7 @@ impl<O: Outbox, L: Ledger> Hub<O, L> {
     ) -> Result<(Bill, Vec<DeviceId>), Refused<BillFault>>
         requires ledgers { HasLedgers self.old }
         ensures reads { OnlyReads O.standing L.standing self.old self.new }
+        ensures cause { position_of_owner self.old.scheme owner ≢ None → self.old.scheme.start ≤ day → HasAsked L.standing self.old self.new owner (fault_in result) }
         ensures refused { AreClean O.standing L.standing self.new → AreSound O.standing L.standing self.old → IsBillRefusal O.standing L.standing self.old owner day (refusal_of result) }
         ensures closed { AreClean O.standing L.standing self.new → AreSound O.standing L.standing self.old → IfOk result (λ _. (h : StoresValue) → MayStandAs O.standing L.standing self.old h → open_in self.old.scheme (h.ledgers owner) day ≡ None) }
         ensures short { AreClean O.standing L.standing self.new → AreSound O.standing L.standing self.old → IfOk result (λ told. (h : StoresValue) → MayStandAs O.standing L.standing self.old h → told.1.items ≡ short_in self.old.scheme (h.ledgers owner) day) }
@@ -62,6 +65,7 @@ impl<O: Outbox, L: Ledger> Hub<O, L> {
     ) -> Result<(Settlement, Vec<DeviceId>), Refused<BillFault>>
         requires ledgers { HasLedgers self.old }
         ensures reads { OnlyReads O.standing L.standing self.old self.new }
+        ensures cause { position_of_owner self.old.scheme owner ≢ None → self.old.scheme.start ≤ day → HasAsked L.standing self.old self.new owner (fault_in result) }
         ensures refused { AreClean O.standing L.standing self.new → AreSound O.standing L.standing self.old → IsBillRefusal O.standing L.standing self.old owner day (refusal_of result) }
         ensures closed { AreClean O.standing L.standing self.new → AreSound O.standing L.standing self.old → IfOk result (λ _. (h : StoresValue) → MayStandAs O.standing L.standing self.old h → open_in self.old.scheme (h.ledgers owner) day ≡ None) }
         ensures short { AreClean O.standing L.standing self.new → AreSound O.standing L.standing self.old → IfOk result (λ told. (h : StoresValue) → MayStandAs O.standing L.standing self.old h → told.1.items ≡ short_in self.old.scheme (h.ledgers owner) day) }
@@ -85,6 +89,7 @@ impl<O: Outbox, L: Ledger> Hub<O, L> {
     ) -> Result<WeekTaps, Refused<BillFault>>
         requires ledgers { HasLedgers self.old }
         ensures reads { OnlyReads O.standing L.standing self.old self.new }
+        ensures cause { position_of_owner self.old.scheme owner ≢ None → self.old.scheme.start ≤ day → HasAsked L.standing self.old self.new owner (fault_in result) }
         ensures refused { AreClean O.standing L.standing self.new → AreSound O.standing L.standing self.old → IsBillRefusal O.standing L.standing self.old owner day (refusal_of result) }
         ensures known { IfOk result (λ _. knows_owner self.old.scheme owner ≡ true) }
         ensures basis { AreClean O.standing L.standing self.new → AreSound O.standing L.standing self.old → IfOk result (λ week. (h : StoresValue) → MayStandAs O.standing L.standing self.old h → HasBasis self.old.scheme (h.ledgers owner) day week.taps.items week.short.items) }

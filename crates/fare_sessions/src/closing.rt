@@ -3,10 +3,10 @@ ghost use Rattle.std.specs.Prelude.{◌≡◌, ◌≢◌, ◌↔◌, ◌<◌, �
 ghost use Rattle.fare_record.specs.Values.{RecordValue};
 ghost use Rattle.fare_scheme.specs.Words.{position_of_owner};
 ghost use Rattle.fare_store.specs.declared.fault.Refused.TheVariants.{Because};
-ghost use Rattle.fare_store.specs.Standing.{Reads};
+ghost use Rattle.fare_store.specs.Standing.{Reads, fault_of};
 ghost use Rattle.fare_history.specs.Stores.{StoresValue};
 ghost use Rattle.fare_agreement.specs.Agreeing.{AreNumberedLists};
-ghost use Rattle.fare_sessions.specs.Billing.{HasClosed, IsToClose, OnlyReads, day_behind};
+ghost use Rattle.fare_sessions.specs.Billing.{HasAsked, HasClosed, IsToClose, OnlyReads, day_behind};
 ghost use Rattle.fare_sessions.specs.Stores.{HasLedgers, AreClean, AreSound, StoresFollow, MayStandAs, IsAgreed, HasGrown};
 
 use crate::hub::Hub;
@@ -67,6 +67,7 @@ impl<O: Outbox, L: Ledger> Hub<O, L> {
         requires ledgers { HasLedgers self.old }
         ensures reads { OnlyReads O.standing L.standing self.old self.new }
         ensures unknown { position_of_owner self.old.scheme owner ≡ None → IfOk result (λ day. day ≡ None) }
+        ensures cause { position_of_owner self.old.scheme owner ≢ None → HasAsked L.standing self.old self.new owner (fault_of result) }
         ensures answer { AreClean O.standing L.standing self.new → AreSound O.standing L.standing self.old → position_of_owner self.old.scheme owner ≢ None → IfOk result (λ day. (h : StoresValue) → MayStandAs O.standing L.standing self.old h → ((h.ledgers owner).start ≡ self.old.scheme.start) × IsToClose (h.ledgers owner) device day) }
     {
         let Some(at) = self.scheme.owner_position(owner) else {

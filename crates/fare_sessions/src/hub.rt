@@ -45,7 +45,7 @@ impl<O: Outbox + Send, L: Ledger + Send> Hub<O, L> {
     /// Runs the sessions, one after the other, until the last one or until the supervisor gives up. Each starts from
     /// what the stores hold, with stations that go on behind the greatest links and an owner that goes on behind its
     /// ledger. Each fault of a session is given to the supervisor in order; any answer but `GiveUp` lets the list go
-    /// on.
+    /// on. The sessions can then run again.
     ///
     /// The stations of a session, at most 16, are the first of the scheme's in its order; an owner is registered; and
     /// the ledgers are one for each owner. `AllocError` where the list of faults gets no room, before anything is
@@ -62,6 +62,7 @@ impl<O: Outbox + Send, L: Ledger + Send> Hub<O, L> {
         requires ledgers { HasLedgers self.old }
         requires can { AreRunnable self.old.scheme sessions.old }
         ensures scheme { self.new.scheme ≡ self.old.scheme }
+        ensures again { AreRunnable self.new.scheme sessions.new }
         ensures follow { StoresFollow O.standing L.standing self.old self.new }
         ensures sound { AreClean O.standing L.standing self.new → AreSound O.standing L.standing self.old → AreSound O.standing L.standing self.new }
         ensures lasting { AreClean O.standing L.standing self.new → AreSound O.standing L.standing self.old → AreLasting O.standing L.standing self.old → AreLasting O.standing L.standing self.new }

@@ -13,7 +13,7 @@ use Rattle.fare_record.specs.declared.ack_item.AckItem.{AckItem}
 use Rattle.fare_writer.specs.declared.fault.WriterFault.{WriterFault}
 use Rattle.fare_writer.specs.declared.fault.WriterFault.TheVariants.{Refused, Memory, Store}
 use Rattle.fare_writer.specs.Entries.{is_new, storing, done_by, device_of, Entry, storing_all, AreEntries, IsAnswerTo}
-use Rattle.fare_writer.specs.Writing.{store_fault, Put, Puts, Leaves, Wrote}
+use Rattle.fare_writer.specs.Writing.{store_fault, Put, Puts, LeavesOutbox, Wrote}
 
 abbrev pub entry : Arrived → List AckItem → Entry
 entry a answers = record { item = a; answers = answers }
@@ -28,7 +28,7 @@ entries_append sc x [] fs first second = second
 entries_append sc x (e ∷ es) fs first second = (first.0, entries_append sc (storing x e.item) es fs first.1 second)
 
 -- CALLS
-leaves_on : (o m : OutboxValue) (es fs : List Entry) (hand : Option Arrived) (v : OutboxValue) → m ≡ storing_all o es → Leaves m fs hand v → Leaves o (es ++ fs) hand v
+leaves_on : (o m : OutboxValue) (es fs : List Entry) (hand : Option Arrived) (v : OutboxValue) → m ≡ storing_all o es → LeavesOutbox m fs hand v → LeavesOutbox o (es ++ fs) hand v
 leaves_on o m es fs None v is l = l ∙ (ap (λ x. storing_all x fs) is ∙ sym (storing_append o es fs))
 leaves_on o m es fs (Some a) v is (inl l) = inl (l ∙ (ap (λ x. storing_all x fs) is ∙ sym (storing_append o es fs)))
 leaves_on o m es fs (Some a) v is (inr l) = let same = ap (λ x. storing_all x fs) is ∙ sym (storing_append o es fs) in inr (subst (λ x. is_new x a ≡ true) same l.0, l.1 ∙ ap (done_by a) same)

@@ -41,9 +41,9 @@ abbrev pub Asks : {A : Type 0} → Standing OutboxValue → Standing OutboxValue
 Asks old new answer result = Called old new (store.fault_of result) ((new.value ≡ old.value) × IfOk result answer) (λ v. ⊥)
 
 -- what a stop may leave: all items, or also the one in the hand
-abbrev pub Leaves : OutboxValue → List Entry → Option Arrived → OutboxValue → Type 0
-Leaves x es None v = v ≡ storing_all x es
-Leaves x es (Some a) v = (v ≡ storing_all x es) ⊎ ((is_new (storing_all x es) a ≡ true) × (v ≡ done_by a (storing_all x es)))
+abbrev pub LeavesOutbox : OutboxValue → List Entry → Option Arrived → OutboxValue → Type 0
+LeavesOutbox x es None v = v ≡ storing_all x es
+LeavesOutbox x es (Some a) v = (v ≡ storing_all x es) ⊎ ((is_new (storing_all x es) a ≡ true) × (v ≡ done_by a (storing_all x es)))
 
 -- Calls one after the other: these items were stored, or had been before; at a fault there is perhaps one in the
 -- hand. Nothing is said of what an outbox holds that has not kept what was committed, or that a failure has shut.
@@ -51,7 +51,7 @@ pub record Wrote (sc : SchemeValue) (old new : Standing OutboxValue) (entries : 
   pub value : new.live → old.lawful → new.lawful × (new.value ≡ storing_all old.value entries)
   -- as far as what was committed is kept, whether or not a failure has shut the outbox at the end
   pub known : new.clean → old.live → old.lawful → AreEntries sc old.value entries
-  pub stop : new.clean → old.live → old.lawful → (v : OutboxValue) → new.may_leave v → Leaves old.value entries hand v
+  pub stop : new.clean → old.live → old.lawful → (v : OutboxValue) → new.may_leave v → LeavesOutbox old.value entries hand v
   -- where the outbox was shut before, a stop leaves what it could have left then
   pub shut : new.clean → (old.live → old.lawful) → (v : OutboxValue) → new.may_leave v → old.may_leave v ⊎ old.live
   pub lasts : new.clean → (old.live → old.lawful) → old.lasting → new.lasting

@@ -46,7 +46,7 @@ loop-preserved g c =
       (c.pass_on.ensures.queue, c.answer_all.ensures.queue),
       inv.1,
       (c.pass_on.ensures.station.0 ∙ inv.2.0, c.pass_on.ensures.station.1 ∙ inv.2.1),
-      read_passed sc station a m2 d n0 n1 n2 s0 s1 s2 h0 h2 frame ready gives on,
+      read_passed sc station a m2 d n0 n1 n2 s0 s1 s2 h0 h2 frame ready gives on (λ wrong. absurd (let is = c.in-Some-true.ensures.expected wrong in cc is)),
     )
 
 pub loop-preserved-then-not-is_ready : goal.loop-preserved-then-not-is_ready
@@ -150,7 +150,7 @@ returns-clause-read g c =
           subst (λ (y : ℕ × Bool). HasPassedOn sc y.0 n1 n2 s1 s2 frame y.1) (λ i. (inv.2.0 i, w.in-Some-false.field-0-test i)) w.in-Some-false.ensures.some in
           subst Q (λ i. (sym w.seat-is i, (sym w.collector-is i, sym w.source-is i)))
           (read_at sc station a d n0 n2 s0 s2 h0 h2 (Some frame) (Some frame) false c.loop.seat.ended None c.loop.seat.fault refl (sym inv.1.1) (sym inv.1.2)
-          (read_held sc station a m2 d n0 n1 n2 s0 s1 s2 h0 h2 frame ready gives on))
+          (read_held sc station a m2 d n0 n1 n2 s0 s1 s2 h0 h2 frame ready gives on (λ wrong. absurd (let is = w.in-Some-false.ensures.expected wrong in cc is))))
       | in-Some+in_default+else-has_writer_ended+else-not-is_ready+in-Ok-Some+in-None-pass_on w ↦
           let m = g.S.Source.talk w.answer_all.new.source in
           let h2 = heard_list w.answer_all.new.hear in

@@ -8,6 +8,7 @@ returns g c =
     record {
       back = record {
         outbox_back = record { crash = it.crash; idle = it.idle; still_live = it.live };
+        outbox_shown = it.kept;
         ledgers_back = subst (λ before. AreHandedBack g.S.Store c.args.opened.hub.ledgers.items before c.hand_back.new.databases.items) c.requires.empty c.hand_back.ensures.back;
       };
     }

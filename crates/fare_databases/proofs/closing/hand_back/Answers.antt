@@ -3,16 +3,11 @@ use Rattle.std.specs.Prelude.{Option, slice_get}
 use Rattle.std.specs.Vec.Iter.{into_iter_len}
 use Rattle.std.proofs.lemmas.List.{length_push}
 use Rattle.fare_world.proofs.Places.{slice_get-push_cases}
-use Rattle.fare_databases.specs.Closed.{IsBack}
+use Rattle.fare_sessions.proofs.Follow.{same_at}
+use Rattle.fare_databases.specs.Closed.{IsBack, ShowsLedger}
 use Rattle.fare_ledger.specs.Words.{stands}
+use Rattle.fare_databases.proofs.Back.{nothing_at}
 use Rattle.fare_databases.proofs.closing.hand_back.Goals as goal
-
-nothing_at : {X : Type 0} (k : ℕ) (x : X) → slice_get {X = X} [] k ≡ Some x → ⊥
-nothing_at zero x e = absurd (cc)
-nothing_at (suc k) x e = absurd (cc)
-
-same_some : {X : Type 0} (o : Option X) (x y : X) → o ≡ Some x → o ≡ Some y → x ≡ y
-same_some {X} o x y one two = let both : ◌≡◌ {A = Option X} (Some x) (Some y) = sym one ∙ two in cc
 
 pub loop-ledger-init : goal.loop-ledger-init
 loop-ledger-init g c =
@@ -46,8 +41,8 @@ loop-ledger-preserved g c =
         λ place x b at_x at_b. elim (slice_get-push_cases backs d place b at_b) [
           | inl was ↦ each place x b at_x was
           | inr new ↦ (
-              let one : ledger ≡ x = same_some (slice_get ledgers place) ledger x (ap (slice_get ledgers) new.0 ∙ here) at_x in
-              subst (λ (z : _ × _). IsBack g.S.Store (stands g.S.Store z.0).live z.0.conn z.1) (λ j. (one j, new.1 j)) back)
+              let one : ledger ≡ x = same_at ledgers ledgers place x ledger at_x (ap (slice_get ledgers) new.0 ∙ here) refl in
+              subst (λ (z : _ × _). IsBack g.S.Store (stands g.S.Store z.0).live z.0.conn z.1 × ShowsLedger g.S.Store z.0 z.1) (λ j. (one j, new.1 j)) (back, c.into_connection.ensures.kept))
         ],
         λ k.
             let next : length backs + suc k ≡ length (backs ++ d ∷ []) + k = omega (arith, more) in

@@ -9,13 +9,9 @@ use Rattle.fare_databases.specs.Closed.{AreHandedBack}
 use Rattle.fare_databases.specs.Holding.{AreStaying}
 use Rattle.fare_databases.specs.Opened.{IsOpenedLedger}
 use Rattle.fare_collect.proofs.Last.{at_known}
-use Rattle.fare_databases.proofs.Back.{back_again}
+use Rattle.fare_databases.proofs.Back.{back_again, nothing_at}
 use Rattle.fare_databases.proofs.Pushed.{each_more}
 use Rattle.fare_databases.proofs.opening.ledgers_in.Goals as goal
-
-nothing_at : {X : Type 0} (k : ℕ) (x : X) → slice_get {X = X} [] k ≡ Some x → ⊥
-nothing_at zero x e = absurd (cc)
-nothing_at (suc k) x e = absurd (cc)
 
 pub loop-database-init : goal.loop-database-init
 loop-database-init g c =

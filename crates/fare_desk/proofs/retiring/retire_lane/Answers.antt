@@ -4,7 +4,7 @@ use Rattle.fare_event.specs.declared.reply.Reply.TheVariants as reply
 use Rattle.fare_lines.specs.Replies.{reply_text}
 use Rattle.fare_scheme.specs.Words.{position_of_owner}
 use Rattle.fare_store.specs.declared.fault.Fault.TheVariants as fault
-use Rattle.fare_desk.specs.Retiring.{ComesOf, Leaves}
+use Rattle.fare_desk.specs.Retiring.{ComesOf, LeavesLane}
 use Rattle.fare_desk.specs.declared.fault.DeskFault.TheVariants as desk
 use Rattle.fare_desk.proofs.Going.{goes_asks, goes_join}
 use Rattle.fare_desk.proofs.Retires.{asked_failed, comes_asked, comes_done, comes_refused, lane_retired, line_lost, still_there}
@@ -20,7 +20,7 @@ pub returns-then-retired-clause-goes : goal.returns-then-retired-clause-goes
 returns-then-retired-clause-goes g c = goes_asks g.O.Outbox.standing g.L.Ledger.standing c.args.hub.now c.ask_retired.new.hub c.ask_retired.ensures.asks
 
 pub returns-then-retired-clause-failed : goal.returns-then-retired-clause-failed
-returns-then-retired-clause-failed g c = comes_asked g.O.Outbox.standing g.L.Ledger.standing c.args.hub.now c.ask_retired.new.hub (Leaves c.args.owner c.args.device desk.Retired) c.ask_retired.ensures.asks (λ clean sound k may. (c.in_ok-retired.ensures.tells clean sound k may ∙ c.if-retired.true, refl))
+returns-then-retired-clause-failed g c = comes_asked g.O.Outbox.standing g.L.Ledger.standing c.args.hub.now c.ask_retired.new.hub (LeavesLane c.args.owner c.args.device desk.Retired) c.ask_retired.ensures.asks (λ clean sound k may. (c.in_ok-retired.ensures.tells clean sound k may ∙ c.if-retired.true, refl))
 
 pub returns-in_err-print_reply-clause-goes : goal.returns-in_err-print_reply-clause-goes
 returns-in_err-print_reply-clause-goes g c = goes_asks g.O.Outbox.standing g.L.Ledger.standing c.args.hub.now c.ask_retired.new.hub c.ask_retired.ensures.asks
@@ -56,5 +56,5 @@ pub returns-clause-failed : goal.returns-clause-failed
 returns-clause-failed g c =
     let known : is_some (position_of_owner c.args.hub.now.scheme c.args.owner) ≡ true = ap is_some (sym c.owner_position.ensures.value) ∙ c.if-is_none.ensures in
     let h = c.retire.ensures.retires (still_there g.O.Outbox.standing g.L.Ledger.standing c.args.hub.now c.ask_retired.new.hub c.args.owner c.ask_retired.ensures.asks known) in
-    subst (λ x. ComesOf g.O.Outbox.standing g.L.Ledger.standing c.args.hub.now c.retire.new.self (Leaves c.args.owner c.args.device x)) (sym c.of_retire.ensures)
+    subst (λ x. ComesOf g.O.Outbox.standing g.L.Ledger.standing c.args.hub.now c.retire.new.self (LeavesLane c.args.owner c.args.device x)) (sym c.of_retire.ensures)
     (comes_refused g.O.Outbox.standing g.L.Ledger.standing c.args.hub.now c.ask_retired.new.hub c.retire.new.self c.args.owner c.args.device c.retire.result c.ask_retired.ensures.asks c.retire.ensures.follow h (g.met.L.Ledger.sound h.one.own_old) (g.met.L.Ledger.sound h.one.own_new) c.in-Err.refused c.in-Err.is)

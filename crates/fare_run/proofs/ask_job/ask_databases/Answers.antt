@@ -1,5 +1,5 @@
 use Rattle.fare_run.proofs.Asked.{answered, keeps_unless}
-use Rattle.fare_run.proofs.InDatabases.{answers_opened, keeps_asked, keeps_unopened}
+use Rattle.fare_run.proofs.InDatabases.{answers_opened, keeps_asked, keeps_unopened, refuses_opened}
 use Rattle.fare_run.proofs.ask_job.ask_databases.Goals as goal
 
 pub returns-in-Ok-answered-clause-done : goal.returns-in-Ok-answered-clause-done
@@ -17,6 +17,11 @@ returns-in-Ok-answered-clause-keeps g c =
 
 pub returns-in-Err-answered-clause-fails : goal.returns-in-Err-answered-clause-fails
 returns-in-Err-answered-clause-fails g c question = keeps_unless c.in-Err-answered.fault (g.O.Write.contents c.args.output.now) (g.O.Write.contents c.answer_over-answered.new.output) (c.in-Err-answered.ensures.kept question)
+
+pub returns-in-Err-answered-clause-refuses : goal.returns-in-Err-answered-clause-refuses
+returns-in-Err-answered-clause-refuses g c =
+    refuses_opened g.S.Store c.args.scheme c.in-Ok.ensures.valid c.args.databases c.close_hub-databases.result c.in-Ok.opened.hub c.answer_over-answered.new.hub c.in-Ok.ensures.scheme c.in-Ok.ensures.count c.in-Ok.ensures.holds c.close_hub-databases.ensures.back c.in-Err-answered.ensures.goes
+    c.args.question c.in-Err-answered.fault c.in-Err-answered.ensures.fails
 
 pub returns-in-Err-answered-clause-keeps : goal.returns-in-Err-answered-clause-keeps
 returns-in-Err-answered-clause-keeps g c =

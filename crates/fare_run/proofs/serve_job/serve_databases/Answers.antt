@@ -26,4 +26,4 @@ pub returns-in-Err-clause-fails : goal.returns-in-Err-clause-fails
 returns-in-Err-clause-fails g c = over_stores (g.O.Write.contents c.args.output.now) c.of_opening.result c.of_opening.ensures
 
 pub returns-in-Err-clause-runs : goal.returns-in-Err-clause-runs
-returns-in-Err-clause-runs g c = serves_unopened g.S.Store c.args.scheme c.in-Err.ensures.valid c.args.databases c.in-Err.databases (g.O.Write.contents c.args.output.now) c.of_opening.result c.requires.owners c.in-Err.ensures.stay
+returns-in-Err-clause-runs g c = serves_unopened g.S.Store c.args.scheme c.in-Err.ensures.valid c.args.databases c.in-Err.databases c.args.options.now.limits.rounds (is_none c.args.options.now.until) (g.O.Write.contents c.args.output.now) c.of_opening.result c.requires.owners c.in-Err.ensures.stay

@@ -1,5 +1,6 @@
 use Rattle.std.proofs.Common.{◌≡◌, ◌≤◌, true, length, vec_len, vec_capacity}
 use Rattle.fare_serve.specs.Serving.{AreWhole}
+use Rattle.fare_serve.proofs.Lent.{AreLending}
 use Rattle.fare_serve.proofs.lending.lend_all.Given as goal
 
 abbrev pub invariant-loop-place : goal.invariant-loop-place
@@ -8,4 +9,5 @@ invariant-loop-place l = record {
   room : length l.fn.seats ≤ vec_capacity l.shifts;
   seats : length l.seats ≡ length l.fn.seats;
   whole : l.whole ≡ true → AreWhole l.shifts.items;
+  lent : AreLending l.whole l.fn.seats l.seats l.shifts.items l.place;
 }

@@ -20,7 +20,7 @@ serve_owners-requires-clause-owners g c κs within =
 
 pub returns-clause-served : goal.returns-clause-served
 returns-clause-served g c =
-    round_of g.S.Source.talk g.O.Outbox.standing g.L.Ledger.standing c.args.hub.now c.collect_once.new.hub c.serve_owners.new.hub c.args.stations c.in_ok-report.report c.args.counts.now c.add_stations.new.self c.serve_owners.new.counts
+    round_of g.S.Source.talk g.O.Outbox.standing g.L.Ledger.standing c.args.hub.now c.collect_once.new.hub c.serve_owners.new.hub c.args.stations c.in_ok-report.report c.in_ok-report.stations.items c.args.counts.now c.add_stations.new.self c.serve_owners.new.counts
     c.in_ok-report.ensures.held c.add_stations.ensures c.in_ok-serve_owners.ensures.served c.requires.order c.requires.all c.requires.owners
 
 pub returns-in_err-serve_owners-clause-failed : goal.returns-in_err-serve_owners-clause-failed

@@ -31,6 +31,7 @@ pub returns-clause-held : goal.returns-clause-held
 returns-clause-held g c = record {
   before = c.in-Ok.stations.items;
   report = c.in_ok-report.report;
+  after = c.in_ok-report.stations.items;
   served = c.in_ok-report.ensures.served;
   to_ends = λ whole. subst AreWhole (sym c.in-Ok.ensures.sources) (c.in_ok-shifts.ensures.whole whole);
 }

@@ -3,12 +3,18 @@ use Rattle.fare_sessions.specs.Running.{HaveAllRun}
 use Rattle.fare_sessions.proofs.Follow.{run_scheme, run_follow, run_sound}
 use Rattle.fare_sessions.proofs.Lasting.{run_lasting, run_owned}
 use Rattle.fare_sessions.proofs.Reported.{gave_up_exactly, faults_in_order, rest_untouched, none_left, stored_is, taken_is, agrees, grows, covered, came}
+use Rattle.fare_sessions.proofs.Runnable.{all_again}
 use Rattle.fare_sessions.proofs.hub.Hub.sessions.Goals as goal
 
 pub returns-clause-scheme : goal.returns-clause-scheme
 returns-clause-scheme g c =
     let a = subst (HaveAllRun g.S.Source.talk g.O.Outbox.standing g.L.Ledger.standing c.args.supervisor c.args.self.now c.run_all.new.self c.args.sessions.now c.run_all.new.sessions) (sym c.into_report.ensures) (c.run_all.ensures c.args.supervisor c.new-course.ensures.shows) in
     run_scheme g.S.Source.talk g.O.Outbox.standing g.L.Ledger.standing c.args.self.now c.args.sessions.now c.run_all.new.sessions a.count c.run_all.new.self a.tally a.ran
+
+pub returns-clause-again : goal.returns-clause-again
+returns-clause-again g c =
+    let a = subst (HaveAllRun g.S.Source.talk g.O.Outbox.standing g.L.Ledger.standing c.args.supervisor c.args.self.now c.run_all.new.self c.args.sessions.now c.run_all.new.sessions) (sym c.into_report.ensures) (c.run_all.ensures c.args.supervisor c.new-course.ensures.shows) in
+    all_again g.S.Source.talk g.O.Outbox.standing g.L.Ledger.standing c.args.supervisor c.args.self.now c.run_all.new.self c.args.sessions.now c.run_all.new.sessions c.into_report.result a c.requires.can
 
 pub returns-clause-follow : goal.returns-clause-follow
 returns-clause-follow g c =
