@@ -13,9 +13,9 @@ use Rattle.fare_store.specs.declared.fault.Fault.{Fault}
 use Rattle.fare_store.specs.declared.fault.Fault.TheVariants as fault
 use Rattle.fare_store.specs.Standing.{Standing}
 use Rattle.fare_store.specs.LedgerWords.{LedgerValue}
-use Rattle.fare_session.specs.Stores.{Keeps, Stays}
+use Rattle.fare_session.specs.Stores.{HasStood, Stays}
 use Rattle.fare_session.specs.Asking.{standing_of, IsStanding, IsToldAt, AreTold, IsAsked}
-use Rattle.fare_session.proofs.StoreCalls.{stays_then, keeps_first, keeps_then, keeps_value}
+use Rattle.fare_session.proofs.StoreCalls.{stays_then, stood_first, stood_then, stood_value}
 
 -- a place of a list with one more at its end
 pub push_cases : {X : Type 0} (xs : List X) (x y : X) (k : ℕ) → slice_get (xs ++ x ∷ []) k ≡ Some y → (slice_get xs k ≡ Some y) ⊎ ((k ≡ length xs) × (x ≡ y))
@@ -41,15 +41,15 @@ told_none sc a standings bases first none = record {
 }
 
 -- one device more
-pub told_more : (sc : SchemeValue) (a b c : Standing LedgerValue) (standings : List (ℕ × Option ℕ)) (bases : List (ℕ × ℕ)) (device place : ℕ) (p : ℕ × Option ℕ) → Stays a b None → Stays b c None → length standings ≡ place → position_of_device sc device ≡ Some place → (Keeps b c → p ≡ standing_of b.value device) → AreTold sc a b standings bases
+pub told_more : (sc : SchemeValue) (a b c : Standing LedgerValue) (standings : List (ℕ × Option ℕ)) (bases : List (ℕ × ℕ)) (device place : ℕ) (p : ℕ × Option ℕ) → Stays a b None → Stays b c None → length standings ≡ place → position_of_device sc device ≡ Some place → (HasStood b c → p ≡ standing_of b.value device) → AreTold sc a b standings bases
     → AreTold sc a c (standings ++ p ∷ []) (bases ++ (device, p.0) ∷ [])
 told_more sc a b c standings bases device place p first second count at told now = record {
   same = let s = now.same in omega (arith, s, length-append bases ((device, p.0) ∷ []), length-append standings (p ∷ []));
   each = each;
 }
   where
-    earlier : Keeps a c → Keeps a b
-    earlier k = keeps_first a b c None b.value (λ w. w ≡ b.value) second k
+    earlier : HasStood a c → HasStood a b
+    earlier k = stood_first a b c None b.value (λ w. w ≡ b.value) second k
 
     each : (k : ℕ) (q : ℕ × Option ℕ) → slice_get (standings ++ p ∷ []) k ≡ Some q → IsToldAt sc a c (bases ++ (device, p.0) ∷ []) k q
     each k q e = elim (push_cases standings p q k e) [
@@ -60,7 +60,7 @@ told_more sc a b c standings bases device place p first second count at told now
         device = device;
         at = at ∙ ap {B = Option ℕ} Some (sym (last.0 ∙ count));
         base = ap (slice_get (bases ++ (device, p.0) ∷ [])) (last.0 ∙ sym now.same) ∙ push_last bases (device, p.0) ∙ ap (λ (z : ℕ × Option ℕ). Some (device, z.0)) last.1;
-        told = λ keeps. sym last.1 ∙ told (keeps_then a b c None b.value a.value (λ w. w ≡ b.value) (λ w. w ≡ a.value) first second keeps) ∙ ap (λ (l : LedgerValue). standing_of l device) (keeps_value a b a.value (λ w. w ≡ a.value) first (earlier keeps));
+        told = λ keeps. sym last.1 ∙ told (stood_then a b c None b.value a.value (λ w. w ≡ b.value) (λ w. w ≡ a.value) first second keeps) ∙ ap (λ (l : LedgerValue). standing_of l device) (stood_value a b a.value (λ w. w ≡ a.value) first (earlier keeps));
       }
     ]
 

@@ -23,9 +23,9 @@ use Rattle.fare_store.specs.OutboxWords.{OutboxValue, IsLeastRow, IsLeastStateme
 use Rattle.fare_session.specs.declared.fault.SessionFault.{SessionFault}
 use Rattle.fare_session.specs.declared.fault.SessionFault.TheVariants.{Refused}
 use Rattle.fare_history.specs.Serving.{Cursors, device_of, moved_by, moved_by_all, IsNextItem, IsComingStatement}
-use Rattle.fare_session.specs.Stores.{stored_fault, Keeps}
+use Rattle.fare_session.specs.Stores.{stored_fault, HasStood}
 use Rattle.fare_session.specs.Forwarding.{is_due, lane_after, IsBased, HasCursors, IsAsFar, AreBases, Skips, AreApart, ForwardedIf, IsNextDue, Finds, fault_due}
-use Rattle.fare_session.proofs.StoreCalls.{stays_none, stays_then, keeps_first, keeps_then, keeps_value}
+use Rattle.fare_session.proofs.StoreCalls.{stays_none, stays_then, stood_first, stood_then, stood_value}
 use Rattle.fare_session.proofs.Services.{moved_by_all-append, next_items-append, all-append}
 
 -- LANES
@@ -200,25 +200,25 @@ forwarded_none meets bases a f sound has = record {
   forwards = λ c far based. record { next = λ k. tt; at = λ e. far; refused = λ e. absurd (cc) };
 }
 
-module _ (meets : Cursors → Type 0) (bases : List (ℕ × ℕ)) (a b c : Standing OutboxValue) (f g h : Forwarder) (items : List Item) (device reached : ℕ) (based : IsBased bases device) (far_by : (d : Cursors) → IsAsFar bases f d → meets d → Keeps a c → (moved_by_all d items).lane device ≡ reached) (fw : ForwardedIf meets bases a b f g items None) where
+module _ (meets : Cursors → Type 0) (bases : List (ℕ × ℕ)) (a b c : Standing OutboxValue) (f g h : Forwarder) (items : List Item) (device reached : ℕ) (based : IsBased bases device) (far_by : (d : Cursors) → IsAsFar bases f d → meets d → HasStood a c → (moved_by_all d items).lane device ≡ reached) (fw : ForwardedIf meets bases a b f g items None) where
   -- a clean outbox that was answered for was live
   answered : {result : Result (Option Item) SessionFault} → stored_fault (fault_due result) ≡ None → IsNextDue b c g h device reached result → c.clean → a.live
   answered {result} e nd clean = fw.stays.calls.live (nd.stays.calls.live (nd.answered e clean))
 
   module _ (result : Result (Option Item) SessionFault) (nd : IsNextDue b c g h device reached result) where
-    first : Keeps a c → Keeps a b
-    first k = keeps_first a b c (stored_fault (fault_due result)) b.value (λ w. w ≡ b.value) nd.stays k
+    first : HasStood a c → HasStood a b
+    first k = stood_first a b c (stored_fault (fault_due result)) b.value (λ w. w ≡ b.value) nd.stays k
 
-    behind : Keeps a c → Keeps b c
-    behind k = keeps_then a b c (stored_fault (fault_due result)) b.value a.value (λ w. w ≡ b.value) (λ w. w ≡ a.value) fw.stays nd.stays k
+    behind : HasStood a c → HasStood b c
+    behind k = stood_then a b c (stored_fault (fault_due result)) b.value a.value (λ w. w ≡ b.value) (λ w. w ≡ a.value) fw.stays nd.stays k
 
-    same : Keeps a c → b.value ≡ a.value
-    same k = keeps_value a b a.value (λ w. w ≡ a.value) fw.stays (first k)
+    same : HasStood a c → b.value ≡ a.value
+    same k = stood_value a b a.value (λ w. w ≡ a.value) fw.stays (first k)
 
     has_cursors : HasCursors bases h
     has_cursors d is = nd.cursors d (fw.cursors d is)
 
-    pub follows : (d : Cursors) → IsAsFar bases f d → meets d → (item : Option Item) → Keeps a c → IsNextOf b.value g.owner device (cursor_of g device) item → IsNext a.value f.owner device (record { lane = (moved_by_all d items).lane device; day = (moved_by_all d items).day device; before = None }) item
+    pub follows : (d : Cursors) → IsAsFar bases f d → meets d → (item : Option Item) → HasStood a c → IsNextOf b.value g.owner device (cursor_of g device) item → IsNext a.value f.owner device (record { lane = (moved_by_all d items).lane device; day = (moved_by_all d items).day device; before = None }) item
     follows d far bs item k next =
         subst (λ (z : OutboxValue × ℕ). IsNext z.0 z.1 device (record { lane = (moved_by_all d items).lane device; day = (moved_by_all d items).day device; before = None }) item) (λ j. (same k j, fw.owner j))
         (found_next bases b.value g (moved_by_all d items) device item ((fw.forwards d far bs).at refl) based next)
@@ -292,7 +292,7 @@ module _ (meets : Cursors → Type 0) (bases : List (ℕ × ℕ)) (a b c : Stand
       next = λ k. (fw.forwards d far bs).next (first (Err e) nd k);
       at = λ none. absurd (cc);
       refused = λ is k.
-          let found = subst (λ z. Finds (Keeps b c) b.value g h device reached (Err z)) (same_Some e Refused is) nd.found (behind (Err e) nd k) in
+          let found = subst (λ z. Finds (HasStood b c) b.value g h device reached (Err z)) (same_Some e Refused is) nd.found (behind (Err e) nd k) in
           skips_due bases a.value f.owner (moved_by_all d items) device reached found.0 based (far_by d far bs k) found.2 (follows (Err e) nd d far bs (Some found.0) k found.1);
     };
   }

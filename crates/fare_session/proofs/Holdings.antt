@@ -16,7 +16,7 @@ use Rattle.fare_history.proofs.ServedPlainly.{refused_shows_why}
 use Rattle.fare_history.specs.Holding.{MayHold, Leads}
 use Rattle.fare_session.specs.declared.fault.SessionFault.TheVariants.{Refused}
 use Rattle.fare_session.specs.declared.report.OwnerReport.{OwnerReport}
-use Rattle.fare_session.specs.Stores.{Keeps}
+use Rattle.fare_session.specs.Stores.{HasStood}
 use Rattle.fare_session.specs.Taking.{IsRefusedHand, IsImage}
 use Rattle.fare_session.specs.Served.{AreFit, IsTakenBy, IsPrunedBy, HasCause, SaysOfService, IsServed}
 use Rattle.fare_session.specs.Run.{IsReady, IsCutOf, IsUnbegun, IsRun}
@@ -43,10 +43,10 @@ any_here (x ∷ ds) (suc k) d e = there_or (x == d) (list_any (λ y. y == d) ds)
 
 -- WHERE THREADS BEGAN
 module _ (sc : SchemeValue) (owner : ℕ) (xo xn : Standing OutboxValue) (lo ln : Standing LedgerValue) (report : OwnerReport) (sx : IsSound xo) (sl : IsSound lo) (r : IsRun sc owner xo xn lo ln report) (fit : AreFit sc owner xo xn lo ln) where
-  keeps_outbox : xo.live → Keeps xo xn
+  keeps_outbox : xo.live → HasStood xo xn
   keeps_outbox live = record { live = live; lawful = fit.rows live; clean = fit.outbox }
 
-  keeps_ledger : lo.live → Keeps lo ln
+  keeps_ledger : lo.live → HasStood lo ln
   keeps_ledger live = record { live = live; lawful = fit.lists live; clean = fit.ledger }
 
   ready : xo.live → lo.live → IsReady sc owner xo xn lo ln

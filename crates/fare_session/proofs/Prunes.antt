@@ -8,10 +8,10 @@ use Rattle.fare_store.specs.Standing.{Standing, IsSound, Counted, Removes, Count
 use Rattle.fare_store.specs.OutboxWords.{OutboxValue, pruned, rows_upto}
 use Rattle.fare_store.specs.LedgerWords.{LedgerValue}
 use Rattle.fare_history.specs.Serving.{pruned_to, pruned_to_all}
-use Rattle.fare_session.specs.Stores.{Called, Keeps, Stays}
+use Rattle.fare_session.specs.Stores.{Called, HasStood, Stays}
 use Rattle.fare_session.specs.Forwarding.{IsBased}
 use Rattle.fare_session.specs.Resting.{IsCut, IsPruned}
-use Rattle.fare_session.proofs.StoreCalls.{called, follows_none, follows_call, follows_then, leaves_done, leaves_kept, leaves_then, leaves_say, stays_none, stays_then, keeps_first, keeps_then, keeps_value}
+use Rattle.fare_session.proofs.StoreCalls.{called, follows_none, follows_call, follows_then, leaves_done, leaves_kept, leaves_then, leaves_say, stays_none, stays_then, stood_first, stood_then, stood_value}
 
 pub pruned_to_all-append : (x : OutboxValue) (owner : ℕ) (l : LedgerValue) (ds es : List ℕ) → pruned_to_all x owner l (ds ++ es) ≡ pruned_to_all (pruned_to_all x owner l ds) owner l es
 pruned_to_all-append x owner l [] es = refl
@@ -45,20 +45,20 @@ module _ (owner : ℕ) (bases : List (ℕ × ℕ)) (xo xm xn : Standing OutboxVa
   pub pruned_unread : (f : Option Fault) → Stays lm ln f → IsPruned owner bases xo xm lo ln ds None f
   pruned_unread f read = record {
     stays = stays_then lo lm ln f now.stays read;
-    leaves = λ keeps. now.leaves (keeps_first lo lm ln f lm.value (λ w. w ≡ lm.value) read keeps);
+    leaves = λ keeps. now.leaves (stood_first lo lm ln f lm.value (λ w. w ≡ lm.value) read keeps);
     counted = now.counted;
     begun = now.begun;
     follows = now.follows;
   }
 
-  module _ (d count : ℕ) (read : Stays lm ln None) (told : Keeps lm ln → count ≡ length (lm.value.taken d)) where
-    before : Keeps lo ln → Keeps lo lm
-    before keeps = keeps_first lo lm ln None lm.value (λ w. w ≡ lm.value) read keeps
+  module _ (d count : ℕ) (read : Stays lm ln None) (told : HasStood lm ln → count ≡ length (lm.value.taken d)) where
+    before : HasStood lo ln → HasStood lo lm
+    before keeps = stood_first lo lm ln None lm.value (λ w. w ≡ lm.value) read keeps
 
-    is_count : Keeps lo ln → count ≡ length (lo.value.taken d)
-    is_count keeps = told (keeps_then lo lm ln None lm.value lo.value (λ w. w ≡ lm.value) (λ w. w ≡ lo.value) now.stays read keeps) ∙ ap (λ (l : LedgerValue). length (l.taken d)) (keeps_value lo lm lo.value (λ w. w ≡ lo.value) now.stays (before keeps))
+    is_count : HasStood lo ln → count ≡ length (lo.value.taken d)
+    is_count keeps = told (stood_then lo lm ln None lm.value lo.value (λ w. w ≡ lm.value) (λ w. w ≡ lo.value) now.stays read keeps) ∙ ap (λ (l : LedgerValue). length (l.taken d)) (stood_value lo lm lo.value (λ w. w ≡ lo.value) now.stays (before keeps))
 
-    done_is : Keeps lo ln → xm.value ≡ pruned_to_all xo.value owner lo.value ds → pruned owner d count xm.value ≡ pruned_to_all xo.value owner lo.value (ds ++ d ∷ [])
+    done_is : HasStood lo ln → xm.value ≡ pruned_to_all xo.value owner lo.value ds → pruned owner d count xm.value ≡ pruned_to_all xo.value owner lo.value (ds ++ d ∷ [])
     done_is keeps e = (λ i. pruned owner d (is_count keeps i) (e i)) ∙ sym (pruned_to_all-append xo.value owner lo.value ds (d ∷ []))
 
     pub pruned_more : (n : ℕ) → IsSound xn → Removes xm xn (pruned owner d count xm.value) (rows_upto count (xm.value.rows owner d)) (Ok n) → IsPruned owner bases xo xn lo ln (ds ++ d ∷ []) None None

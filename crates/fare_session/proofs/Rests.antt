@@ -15,18 +15,18 @@ use Rattle.fare_store.specs.LedgerWords.{LedgerValue}
 use Rattle.fare_session.specs.declared.fault.SessionFault.{SessionFault}
 use Rattle.fare_session.specs.declared.fault.SessionFault.TheVariants.{Refused}
 use Rattle.fare_history.specs.Serving.{Cursors, device_of, moved_by, moved_by_all, AreNextItems, given, given_all}
-use Rattle.fare_session.specs.Stores.{stored_fault, IsOwners, Keeps, Stays}
+use Rattle.fare_session.specs.Stores.{stored_fault, IsOwners, HasStood, Stays}
 use Rattle.fare_session.specs.Forwarding.{lane_after, IsBased, IsAsFar, HasCursors, ForwardedIf, IsNextDue, fault_due}
 use Rattle.fare_session.specs.Taking.{IsTaken, IsImage}
 use Rattle.fare_session.specs.Resting.{Behind, IsIdle, IdleAt, IsRest}
-use Rattle.fare_session.proofs.StoreCalls.{keeps_first, keeps_then, keeps_value}
+use Rattle.fare_session.proofs.StoreCalls.{stood_first, stood_then, stood_value}
 use Rattle.fare_session.proofs.Services.{moved_by_all-append}
 use Rattle.fare_session.proofs.Forwards.{far_more, follows, due_device, forwarded_none, forwarded_if, forwarded_idle, forwarded_failed, forwarded_more}
 use Rattle.fare_session.proofs.Takes.{taken_none, taken_then, taken_read, taken_failed, more_failed}
 
 -- what a lane has reached, where both stores keep what they hold
 abbrev pub ReachedAt : List (ℕ × ℕ) → Standing OutboxValue → Standing OutboxValue → Standing LedgerValue → Standing LedgerValue → Forwarder → List Item → ℕ → ℕ → Type 0
-ReachedAt bases xo xn lo ln f items device reached = (c : Cursors) → IsAsFar bases f c → Behind bases lo ln c → Keeps xo xn → (moved_by_all c items).lane device ≡ reached
+ReachedAt bases xo xn lo ln f items device reached = (c : Cursors) → IsAsFar bases f c → Behind bases lo ln c → HasStood xo xn → (moved_by_all c items).lane device ≡ reached
 
 -- A LANE AND A LEDGER GO TOGETHER
 pub length_taken : (l : LedgerValue) (r : RecordValue) (c : Cursors) (device : ℕ) (b : Bool) → (device == r.device) ≡ b → r.lane ≡ c.lane r.device + 1 → c.lane device ≡ length (l.taken device) → (if b then r.lane else c.lane device) ≡ length (if b then l.taken r.device ++ r ∷ [] else l.taken device)
@@ -79,7 +79,7 @@ rest_none bases x l f n sx sl has = record { forwarded = forwarded_none (Behind 
 -- the ledger is asked
 module _ (bases : List (ℕ × ℕ)) (xo xn : Standing OutboxValue) (lo lm ln : Standing LedgerValue) (f g : Forwarder) (n m place : ℕ) (done : List Item) (now : InRest bases xo xn lo lm f g n m place done) where
   before_read : {F : Option Fault} → Stays lm ln F → (c : Cursors) → Behind bases lo ln c → Behind bases lo lm c
-  before_read {F} read c b = (keeps_first lo lm ln F lm.value (λ w. w ≡ lm.value) read b.0, b.1)
+  before_read {F} read c b = (stood_first lo lm ln F lm.value (λ w. w ≡ lm.value) read b.0, b.1)
 
   pub rest_read : Stays lm ln None → InRest bases xo xn lo ln f g n m place done
   rest_read read = record {
@@ -88,11 +88,11 @@ module _ (bases : List (ℕ × ℕ)) (xo xn : Standing OutboxValue) (lo lm ln : 
     idle = λ k p lt at c far b keeps. now.idle k p lt at c far (before_read read c b) keeps;
   }
 
-  pub rest_reached : (device count : ℕ) → IsBased bases device → Stays lm ln None → (Keeps lm ln → count ≡ length (lm.value.taken device)) → ReachedAt bases xo xn lo ln f done device count
+  pub rest_reached : (device count : ℕ) → IsBased bases device → Stays lm ln None → (HasStood lm ln → count ≡ length (lm.value.taken device)) → ReachedAt bases xo xn lo ln f done device count
   rest_reached device count based read told c far b keeps =
       lanes_kept f.owner xo.value lo.value c done device ((now.forwarded.forwards c far (before_read read c b)).next keeps) (b.1 device based)
-      ∙ ap (λ (l : LedgerValue). length (l.taken device)) (sym (keeps_value lo lm (given_all lo.value done) (IsImage lo.value done None) now.taken.leaves (before_read read c b).0))
-      ∙ sym (told (keeps_then lo lm ln None lm.value (given_all lo.value done) (λ w. w ≡ lm.value) (IsImage lo.value done None) now.taken.leaves read b.0))
+      ∙ ap (λ (l : LedgerValue). length (l.taken device)) (sym (stood_value lo lm (given_all lo.value done) (IsImage lo.value done None) now.taken.leaves (before_read read c b).0))
+      ∙ sym (told (stood_then lo lm ln None lm.value (given_all lo.value done) (λ w. w ≡ lm.value) (IsImage lo.value done None) now.taken.leaves read b.0))
 
   pub rest_unread : (e : SessionFault) (held : ℕ) → held ≡ 0 → e ≢ Refused → IsOwners (Some e) → Stays lm ln (stored_fault (Some e)) → IsRest bases xo xn lo ln f g (Some e) n m held
   rest_unread e held none not owners read = record {
@@ -110,11 +110,11 @@ module _ (bases : List (ℕ × ℕ)) (xo xn : Standing OutboxValue) (lo lm ln : 
 
 -- the outbox is asked for what comes next of a device
 module _ (bases : List (ℕ × ℕ)) (xo xm xn : Standing OutboxValue) (lo lm ln : Standing LedgerValue) (f g h : Forwarder) (n m k place : ℕ) (done : List Item) (device reached : ℕ) (based : IsBased bases device) (now : InRest bases xo xm lo lm f g n m place done) (at : ReachedAt bases xo xm lo lm f done device reached) where
-  far_by : {result : Result (Option Item) SessionFault} → IsNextDue xm xn g h device reached result → (d : Cursors) → IsAsFar bases f d → Behind bases lo lm d → Keeps xo xn → (moved_by_all d done).lane device ≡ reached
-  far_by {result} nd d far b keeps = at d far b (keeps_first xo xm xn (stored_fault (fault_due result)) xm.value (λ w. w ≡ xm.value) nd.stays keeps)
+  far_by : {result : Result (Option Item) SessionFault} → IsNextDue xm xn g h device reached result → (d : Cursors) → IsAsFar bases f d → Behind bases lo lm d → HasStood xo xn → (moved_by_all d done).lane device ≡ reached
+  far_by {result} nd d far b keeps = at d far b (stood_first xo xm xn (stored_fault (fault_due result)) xm.value (λ w. w ≡ xm.value) nd.stays keeps)
 
-  earlier : {result : Result (Option Item) SessionFault} → IsNextDue xm xn g h device reached result → Keeps xo xn → Keeps xo xm
-  earlier {result} nd keeps = keeps_first xo xm xn (stored_fault (fault_due result)) xm.value (λ w. w ≡ xm.value) nd.stays keeps
+  earlier : {result : Result (Option Item) SessionFault} → IsNextDue xm xn g h device reached result → HasStood xo xn → HasStood xo xm
+  earlier {result} nd keeps = stood_first xo xm xn (stored_fault (fault_due result)) xm.value (λ w. w ≡ xm.value) nd.stays keeps
 
   -- it has nothing more
   pub rest_idle : IsNextDue xm xn g h device reached (Ok None) → ((p : ℕ × ℕ) → slice_get bases place ≡ Some p → p.0 ≡ device) → InRest bases xo xn lo lm f h n m (place + 1) done
@@ -130,9 +130,9 @@ module _ (bases : List (ℕ × ℕ)) (xo xm xn : Standing OutboxValue) (lo lm ln
       last : (j : ℕ) → j < place + 1 → (j ≡ place) ⊎ (j < place)
       last j lt = grind (arith, nat_tests)
 
-      this : (c : Cursors) → IsAsFar bases f c → Behind bases lo lm c → Keeps xo xn → IsIdle f.owner xo.value (moved_by_all c done) device
+      this : (c : Cursors) → IsAsFar bases f c → Behind bases lo lm c → HasStood xo xn → IsIdle f.owner xo.value (moved_by_all c done) device
       this c far b keeps =
-          let next = follows (Behind bases lo lm) bases xo xm xn f g h done device reached based (far_by nd) now.forwarded (Ok None) nd c far b None keeps (nd.found.0 (keeps_then xo xm xn None xm.value xo.value (λ w. w ≡ xm.value) (λ w. w ≡ xo.value) now.forwarded.stays nd.stays keeps)) in
+          let next = follows (Behind bases lo lm) bases xo xm xn f g h done device reached based (far_by nd) now.forwarded (Ok None) nd c far b None keeps (nd.found.0 (stood_then xo xm xn None xm.value xo.value (λ w. w ≡ xm.value) (λ w. w ≡ xo.value) now.forwarded.stays nd.stays keeps)) in
           record { rows = next.0; statements = next.1 }
 
   -- it fails, or the lane has a gap
@@ -159,7 +159,7 @@ module _ (bases : List (ℕ × ℕ)) (xo xm xn : Standing OutboxValue) (lo lm ln
     more = forwarded_more (Behind bases lo lm) bases xo xm xn f g h done device reached based (far_by nd) now.forwarded i nd
 
     back : {F : Option SessionFault} {items : List Item} {hand : Option Item} → IsTaken lm ln items hand F m k → (c : Cursors) → Behind bases lo ln c → Behind bases lo lm c
-    back {F} {items} {hand} took c b = (keeps_first lo lm ln (stored_fault F) (given_all lm.value items) (IsImage lm.value items hand) took.leaves b.0, b.1)
+    back {F} {items} {hand} took c b = (stood_first lo lm ln (stored_fault F) (given_all lm.value items) (IsImage lm.value items hand) took.leaves b.0, b.1)
 
     pub rest_more : IsTaken lm ln (i ∷ []) None None m k → ((j : ℕ) (p : ℕ × ℕ) → j < place → slice_get bases j ≡ Some p → p.0 ≢ device) → InRest bases xo xn lo ln f h n k place (done ++ i ∷ [])
     rest_more took apart = record {

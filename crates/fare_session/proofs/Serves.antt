@@ -24,7 +24,7 @@ use Rattle.fare_session.specs.declared.fault.SessionFault.TheVariants.{Refused, 
 use Rattle.fare_session.specs.declared.report.OwnerReport.{OwnerReport}
 use Rattle.fare_history.specs.Serving.{Cursors, behind_ledger, moved_by_all, device_of, AreNextItems, AreUnrefused, given_all, in_hand, Service, put_by, pruned_to_all, IsOfDevice, IsWorking, lane_room}
 use Rattle.fare_session.specs.Taking.{added_by}
-use Rattle.fare_session.specs.Stores.{session_fault, IsOwners, Keeps, Leaves, Stays}
+use Rattle.fare_session.specs.Stores.{session_fault, IsOwners, HasStood, Leaves, Stays}
 use Rattle.fare_session.specs.Forwarding.{IsBased, IsAsFar, AreBases, AreApart, HasCursors, Skips}
 use Rattle.fare_session.specs.Taking.{IsImage, IsRefusedHand}
 use Rattle.fare_session.specs.Resting.{MeetsLedger, IsIdle}
@@ -32,7 +32,7 @@ use Rattle.fare_session.specs.Asking.{standing_of, AreTold, IsAsked, AreWorking,
 use Rattle.fare_session.specs.Session.{IsCutWith, IsSession}
 use Rattle.fare_session.specs.Served.{HasGap, report_of}
 use Rattle.fare_session.specs.Run.{IsReady, IsCutOf, IsRun}
-use Rattle.fare_session.proofs.StoreCalls.{follows_none, leaves_say, leaves_then, keeps_first, keeps_then, keeps_value}
+use Rattle.fare_session.proofs.StoreCalls.{follows_none, leaves_say, leaves_then, stood_first, stood_then, stood_value}
 use Rattle.fare_session.proofs.Forwards.{base_at, based_at}
 use Rattle.fare_session.proofs.Prunes.{key_here}
 use Rattle.fare_session.proofs.Services.{next_items-front}
@@ -60,7 +60,7 @@ pub record PlaceOf (sc : SchemeValue) (lo lm : Standing LedgerValue) (standings 
   pub held : slice_get standings place ≡ Some standing
   pub at : position_of_device sc d ≡ Some place
   pub base : slice_get bases place ≡ Some (d, standing.0)
-  pub told : Keeps lo lm → standing ≡ standing_of lo.value d
+  pub told : HasStood lo lm → standing ≡ standing_of lo.value d
 
 closed_day : (l : LedgerValue) (start d : ℕ) → l.start ≡ start → first_day start (closed_through l d) ≡ start + l.closed d
 closed_day l start d is = by (l.closed d == 0) refl
@@ -133,10 +133,10 @@ module _ (sc : SchemeValue) (lo lm : Standing LedgerValue) (standings : List (�
     among : (d : ℕ) → IsBased working d → IsBased bases d
     among d based = let found = based_place working d based in let at = w.among found.0 (d, found.1) found.2 in based_at bases at.0 (d, found.1) apart at.1
 
-    pub works : Keeps lo lm → (d : ℕ) → IsBased working d → IsWorking lo.value d
+    pub works : HasStood lo lm → (d : ℕ) → IsBased working d → IsWorking lo.value d
     works keeps d based = let found = based_place working d based in w.works keeps found.0 (d, found.1) found.2
 
-    pub bases_told : IsOfScheme sc lo.value → Keeps lo lm → AreBases working (behind_ledger sc lo.value)
+    pub bases_told : IsOfScheme sc lo.value → HasStood lo lm → AreBases working (behind_ledger sc lo.value)
     bases_told made keeps = record {
       base = λ d based.
           let z = place_of_based d (among d based) in
@@ -152,7 +152,7 @@ module _ (sc : SchemeValue) (lo lm : Standing LedgerValue) (standings : List (�
     pub has_cursors : (working : List (ℕ × ℕ)) → AreWorking lo lm bases working → HasCursors working f
     has_cursors working w d based = ap is_some (started_at d (place_of_based d (among working w d based)))
 
-    pub far_told : (working : List (ℕ × ℕ)) → AreWorking lo lm bases working → IsOfScheme sc lo.value → Keeps lo lm → IsAsFar working f (behind_ledger sc lo.value)
+    pub far_told : (working : List (ℕ × ℕ)) → AreWorking lo lm bases working → IsOfScheme sc lo.value → HasStood lo lm → IsAsFar working f (behind_ledger sc lo.value)
     far_told working w made keeps = record {
       at = λ d based.
           let z = place_of_based d (among working w d based) in
@@ -196,19 +196,19 @@ served_none sc owner x lo ln f e rests stays cause not owners = record {
 module _ (sc : SchemeValue) (owner room : ℕ) (xo xn : Standing OutboxValue) (lo lm ln : Standing LedgerValue) (standings : List (ℕ × Option ℕ)) (bases working : List (ℕ × ℕ)) (f : Forwarder) (report : OwnerReport)
     (w : AreWorking lo lm bases working) (told : AreTold sc lo lm standings bases) (count : length standings ≡ length sc.devices) (apart : AreApart bases) (start : (d : ℕ) → cursor_of f d ≡ started sc standings d) (mine : f.owner ≡ owner) (few : room ≡ lane_room sc owner) (stays : Stays lo lm None) (live : lm.clean → lo.live) (some : 1 ≤ length sc.devices)
     (s : IsSession working bases room xo xn lm ln f report) where
-  k_first : Keeps lo ln → Keeps lo lm
-  k_first kl = keeps_first lo lm ln s.fl (given_all lm.value s.v.taken) (IsImage lm.value s.v.taken s.v.hand) s.ledger kl
+  k_first : HasStood lo ln → HasStood lo lm
+  k_first kl = stood_first lo lm ln s.fl (given_all lm.value s.v.taken) (IsImage lm.value s.v.taken s.v.hand) s.ledger kl
 
-  k_then : Keeps lo ln → Keeps lm ln
-  k_then kl = keeps_then lo lm ln s.fl (given_all lm.value s.v.taken) lo.value (IsImage lm.value s.v.taken s.v.hand) (λ w. w ≡ lo.value) stays s.ledger kl
+  k_then : HasStood lo ln → HasStood lm ln
+  k_then kl = stood_then lo lm ln s.fl (given_all lm.value s.v.taken) lo.value (IsImage lm.value s.v.taken s.v.hand) (λ w. w ≡ lo.value) stays s.ledger kl
 
-  same : Keeps lo ln → lm.value ≡ lo.value
-  same kl = keeps_value lo lm lo.value (λ w. w ≡ lo.value) stays (k_first kl)
+  same : HasStood lo ln → lm.value ≡ lo.value
+  same kl = stood_value lo lm lo.value (λ w. w ≡ lo.value) stays (k_first kl)
 
   abbrev c : Cursors
   c = behind_ledger sc lo.value
 
-  meets : Keeps lo ln → MeetsLedger working lm.value c
+  meets : HasStood lo ln → MeetsLedger working lm.value c
   meets kl d based = ap (λ (l : LedgerValue). length (l.taken d)) (sym (same kl))
 
   is_far : IsReady sc owner xo xn lo ln → IsAsFar working f c
@@ -315,8 +315,8 @@ sifted_store lo ln lanes working f sifted is = sifted.cause (ap {B = Result (Uni
 
 -- the ledger told where it stands, and then which lanes it has retired
 module _ (sc : SchemeValue) (lo lm lz : Standing LedgerValue) (first : Stays lo lm None) (after : Stays lm lz None) where
-  first_kept : Keeps lo lz → Keeps lo lm
-  first_kept keeps = keeps_first lo lm lz None lm.value (λ w. w ≡ lm.value) after keeps
+  first_kept : HasStood lo lz → HasStood lo lm
+  first_kept keeps = stood_first lo lm lz None lm.value (λ w. w ≡ lm.value) after keeps
 
   pub told_then : (standings : List (ℕ × Option ℕ)) (bases : List (ℕ × ℕ)) → AreTold sc lo lm standings bases → AreTold sc lo lz standings bases
   told_then standings bases told = record {
@@ -332,8 +332,8 @@ module _ (sc : SchemeValue) (lo lm lz : Standing LedgerValue) (first : Stays lo 
     all = λ keeps j p at goes_on. w.all (later keeps) j p at (subst (λ (l : LedgerValue). IsWorking l p.0) (sym (same keeps)) goes_on);
   }
     where
-      same : Keeps lo lz → lm.value ≡ lo.value
-      same keeps = keeps_value lo lm lo.value (λ w. w ≡ lo.value) first (first_kept keeps)
+      same : HasStood lo lz → lm.value ≡ lo.value
+      same keeps = stood_value lo lm lo.value (λ w. w ≡ lo.value) first (first_kept keeps)
 
-      later : Keeps lo lz → Keeps lm lz
-      later keeps = keeps_then lo lm lz None lm.value lo.value (λ w. w ≡ lm.value) (λ w. w ≡ lo.value) first after keeps
+      later : HasStood lo lz → HasStood lm lz
+      later keeps = stood_then lo lm lz None lm.value lo.value (λ w. w ≡ lm.value) (λ w. w ≡ lo.value) first after keeps

@@ -14,13 +14,13 @@ use Rattle.fare_session.specs.declared.fault.SessionFault.{SessionFault}
 use Rattle.fare_session.specs.declared.fault.SessionFault.TheVariants.{Refused}
 use Rattle.fare_history.specs.Serving.{Cursors, device_of, moved_by_all, AreNextItems, given_all, in_hand, Service, pruned_to_all}
 use Rattle.fare_session.specs.Taking.{added_by}
-use Rattle.fare_session.specs.Stores.{stored_fault, IsOwners, Follows, Keeps, Leaves, Stays}
+use Rattle.fare_session.specs.Stores.{stored_fault, IsOwners, Follows, HasStood, Leaves, Stays}
 use Rattle.fare_session.specs.Forwarding.{IsBased, IsAsFar, AreBases, Skips, Forwarded}
 use Rattle.fare_session.specs.Taking.{Tallied, IsTaken, IsTaking, IsLeftTaken, IsImage, InHand}
 use Rattle.fare_session.specs.Resting.{MeetsLedger, Behind, IsIdle, IsCut, IsRest, IsPruning}
 use Rattle.fare_session.specs.Session.{IsThreaded, IsCutWith, IsSession}
 use Rattle.fare_session.specs.Served.{report_of}
-use Rattle.fare_session.proofs.StoreCalls.{follows_call, follows_then, leaves_say, leaves_then, stays_then, keeps_first, keeps_then, keeps_value}
+use Rattle.fare_session.proofs.StoreCalls.{follows_call, follows_then, leaves_say, leaves_then, stays_then, stood_first, stood_then, stood_value}
 use Rattle.fare_session.proofs.Services.{moved_by_all-append, next_items-append, all-append}
 use Rattle.fare_session.proofs.Takes.{taken_then}
 use Rattle.fare_session.proofs.Rests.{lanes_kept}
@@ -167,20 +167,20 @@ module _ (bases : List (ℕ × ℕ)) (room : ℕ) (xo xm xn : Standing OutboxVal
   both_taken : IsTaken lo ln (th.done ++ r.done) r.hand r.fl 0 k
   both_taken = taken_then lo lm ln th.done r.done r.hand r.fl 0 m k threads_taken r.taken
 
-  kx_first : Keeps xo xn → Keeps xo xm
-  kx_first kx = keeps_first xo xm xn (stored_fault r.fx) xm.value (λ w. w ≡ xm.value) r.forwarded.stays kx
+  kx_first : HasStood xo xn → HasStood xo xm
+  kx_first kx = stood_first xo xm xn (stored_fault r.fx) xm.value (λ w. w ≡ xm.value) r.forwarded.stays kx
 
-  kx_then : Keeps xo xn → Keeps xm xn
-  kx_then kx = keeps_then xo xm xn (stored_fault r.fx) xm.value xo.value (λ w. w ≡ xm.value) (λ w. w ≡ xo.value) th.forwarded.stays r.forwarded.stays kx
+  kx_then : HasStood xo xn → HasStood xm xn
+  kx_then kx = stood_then xo xm xn (stored_fault r.fx) xm.value xo.value (λ w. w ≡ xm.value) (λ w. w ≡ xo.value) th.forwarded.stays r.forwarded.stays kx
 
-  kx_same : Keeps xo xn → xm.value ≡ xo.value
-  kx_same kx = keeps_value xo xm xo.value (λ w. w ≡ xo.value) th.forwarded.stays (kx_first kx)
+  kx_same : HasStood xo xn → xm.value ≡ xo.value
+  kx_same kx = stood_value xo xm xo.value (λ w. w ≡ xo.value) th.forwarded.stays (kx_first kx)
 
-  kl_first : Keeps lo ln → Keeps lo lm
-  kl_first kl = keeps_first lo lm ln (stored_fault r.fl) (given_all lm.value r.done) (IsImage lm.value r.done r.hand) r.taken.leaves kl
+  kl_first : HasStood lo ln → HasStood lo lm
+  kl_first kl = stood_first lo lm ln (stored_fault r.fl) (given_all lm.value r.done) (IsImage lm.value r.done r.hand) r.taken.leaves kl
 
-  kl_then : Keeps lo ln → Keeps lm ln
-  kl_then kl = keeps_then lo lm ln (stored_fault r.fl) (given_all lm.value r.done) (given_all lo.value th.done) (IsImage lm.value r.done r.hand) (IsImage lo.value th.done None) threads_taken.leaves r.taken.leaves kl
+  kl_then : HasStood lo ln → HasStood lm ln
+  kl_then kl = stood_then lo lm ln (stored_fault r.fl) (given_all lm.value r.done) (given_all lo.value th.done) (IsImage lm.value r.done r.hand) (IsImage lo.value th.done None) threads_taken.leaves r.taken.leaves kl
 
   both_stay : Stays xo xn (stored_fault r.fx)
   both_stay = stays_then xo xm xn (stored_fault r.fx) th.forwarded.stays r.forwarded.stays
@@ -202,7 +202,7 @@ module _ (bases : List (ℕ × ℕ)) (room : ℕ) (xo xm xn : Standing OutboxVal
   both_owners : IsOwners fault
   both_owners = elim r.one [ inl one ↦ subst IsOwners (sym one.1) r.taken.owners | inr one ↦ subst IsOwners (sym one.1) r.forwarded.owners ]
 
-  module _ (c : Cursors) (far : IsAsFar bases f c) (meets : MeetsLedger bases lo.value c) (bs : AreBases bases c) (kx : Keeps xo xn) (kl : Keeps lo ln) where
+  module _ (c : Cursors) (far : IsAsFar bases f c) (meets : MeetsLedger bases lo.value c) (bs : AreBases bases c) (kx : HasStood xo xn) (kl : HasStood lo ln) where
     sent_next : AreNextItems f.owner xo.value c th.sent
     sent_next = (th.forwarded.forwards c far bs).next (kx_first kx)
 
@@ -213,7 +213,7 @@ module _ (bases : List (ℕ × ℕ)) (room : ℕ) (xo xm xn : Standing OutboxVal
     behind_there = (
       kl_then kl,
       λ d based. lanes_kept f.owner xo.value lo.value c th.sent d sent_next (meets d based)
-          ∙ ap (λ (z : LedgerValue). length (z.taken d)) (ap (given_all lo.value) sent_done ∙ sym (keeps_value lo lm (given_all lo.value th.done) (IsImage lo.value th.done None) threads_taken.leaves (kl_first kl))),
+          ∙ ap (λ (z : LedgerValue). length (z.taken d)) (ap (given_all lo.value) sent_done ∙ sym (stood_value lo lm (given_all lo.value th.done) (IsImage lo.value th.done None) threads_taken.leaves (kl_first kl))),
     )
 
     rest_next : AreNextItems f.owner xo.value (moved_by_all c th.sent) (r.done ++ in_hand r.hand)
@@ -334,14 +334,14 @@ session_done bases lanes room xo xm xn xz lo lm ln lz f g h fault m k left held 
     stays : Stays xo xn None
     stays = subst (λ z. Stays xo xn (stored_fault z)) no_fault.0 (both_stay bases room xo xm xn lo lm ln f g h None m k left held th r)
 
-    kl_before : Keeps lo lz → Keeps lo ln
-    kl_before kl = keeps_first lo ln lz (stored_fault p.fl) ln.value (λ w. w ≡ ln.value) p.pruned.stays kl
+    kl_before : HasStood lo lz → HasStood lo ln
+    kl_before kl = stood_first lo ln lz (stored_fault p.fl) ln.value (λ w. w ≡ ln.value) p.pruned.stays kl
 
-    kl_behind : Keeps lo lz → Keeps ln lz
-    kl_behind kl = keeps_then lo ln lz (stored_fault p.fl) ln.value (given_all lo.value done) (λ w. w ≡ ln.value) (IsImage lo.value done None) taken.leaves p.pruned.stays kl
+    kl_behind : HasStood lo lz → HasStood ln lz
+    kl_behind kl = stood_then lo ln lz (stored_fault p.fl) ln.value (given_all lo.value done) (λ w. w ≡ ln.value) (IsImage lo.value done None) taken.leaves p.pruned.stays kl
 
-    kl_same : Keeps lo lz → ln.value ≡ given_all lo.value done
-    kl_same kl = keeps_value lo ln (given_all lo.value done) (IsImage lo.value done None) taken.leaves (kl_before kl)
+    kl_same : HasStood lo lz → ln.value ≡ given_all lo.value done
+    kl_same kl = stood_value lo ln (given_all lo.value done) (IsImage lo.value done None) taken.leaves (kl_before kl)
 
-    kx_then_first : Keeps xo xz → Keeps lo lz → Keeps xo xn
-    kx_then_first kx kl = keeps_first xo xn xz (stored_fault p.fx) (pruned_to_all xn.value f.owner ln.value p.ds) (IsCut xn.value f.owner ln.value lanes p.ds) (p.pruned.leaves (kl_behind kl)) kx
+    kx_then_first : HasStood xo xz → HasStood lo lz → HasStood xo xn
+    kx_then_first kx kl = stood_first xo xn xz (stored_fault p.fx) (pruned_to_all xn.value f.owner ln.value p.ds) (IsCut xn.value f.owner ln.value lanes p.ds) (p.pruned.leaves (kl_behind kl)) kx

@@ -11,10 +11,10 @@ use Rattle.fare_store.specs.declared.fault.Fault.TheVariants as fault
 use Rattle.fare_store.specs.Standing.{Standing, IsSound}
 use Rattle.fare_store.specs.LedgerWords.{LedgerValue}
 use Rattle.fare_history.specs.Serving.{IsWorking}
-use Rattle.fare_session.specs.Stores.{Keeps, Stays}
+use Rattle.fare_session.specs.Stores.{HasStood, Stays}
 use Rattle.fare_session.specs.Forwarding.{AreApart}
 use Rattle.fare_session.specs.Asking.{AreWorking, AreSifted}
-use Rattle.fare_session.proofs.StoreCalls.{stays_none, stays_then, keeps_first, keeps_then, keeps_value}
+use Rattle.fare_session.proofs.StoreCalls.{stays_none, stays_then, stood_first, stood_then, stood_value}
 use Rattle.fare_session.proofs.Forwards.{apart_at}
 use Rattle.fare_session.proofs.Asks.{push_cases, push_before, push_last, key_of, unlike}
 
@@ -23,8 +23,8 @@ pub record InSift (lo ln : Standing LedgerValue) (lanes working : List (ℕ × �
   pub stays : Stays lo ln None
   pub among : (k : ℕ) (p : ℕ × ℕ) → slice_get working k ≡ Some p → (j : ℕ) × (j < place) × (slice_get lanes j ≡ Some p)
   pub apart : (i k : ℕ) (p q : ℕ × ℕ) → i < k → slice_get working i ≡ Some p → slice_get working k ≡ Some q → p.0 ≡ q.0 → ⊥
-  pub works : Keeps lo ln → (k : ℕ) (p : ℕ × ℕ) → slice_get working k ≡ Some p → IsWorking lo.value p.0
-  pub all : Keeps lo ln → (j : ℕ) (p : ℕ × ℕ) → j < place → slice_get lanes j ≡ Some p → IsWorking lo.value p.0 → (k : ℕ) × (slice_get working k ≡ Some p)
+  pub works : HasStood lo ln → (k : ℕ) (p : ℕ × ℕ) → slice_get working k ≡ Some p → IsWorking lo.value p.0
+  pub all : HasStood lo ln → (j : ℕ) (p : ℕ × ℕ) → j < place → slice_get lanes j ≡ Some p → IsWorking lo.value p.0 → (k : ℕ) × (slice_get working k ≡ Some p)
 
 nowhere : (working : List (ℕ × ℕ)) (k : ℕ) (p : ℕ × ℕ) → working ≡ [] → slice_get working k ≡ Some p → ⊥
 nowhere working k p none at = let e : ◌≡◌ {A = Option (ℕ × ℕ)} None (Some p) = sym (ap (λ (l : List (ℕ × ℕ)). slice_get l k) none) ∙ at in cc
@@ -39,17 +39,17 @@ sift_none l lanes working sound none = record {
 }
 
 -- one lane more, of which the ledger answered
-module _ (lo lm ln : Standing LedgerValue) (lanes working : List (ℕ × ℕ)) (place : ℕ) (lane : ℕ × ℕ) (retired : Bool) (here : slice_get lanes place ≡ Some lane) (apart : AreApart lanes) (now : InSift lo lm lanes working place) (read : Stays lm ln None) (told : Keeps lm ln → retired ≡ lm.value.retired lane.0) where
+module _ (lo lm ln : Standing LedgerValue) (lanes working : List (ℕ × ℕ)) (place : ℕ) (lane : ℕ × ℕ) (retired : Bool) (here : slice_get lanes place ≡ Some lane) (apart : AreApart lanes) (now : InSift lo lm lanes working place) (read : Stays lm ln None) (told : HasStood lm ln → retired ≡ lm.value.retired lane.0) where
   both : Stays lo ln None
   both = stays_then lo lm ln None now.stays read
 
-  earlier : Keeps lo ln → Keeps lo lm
-  earlier keeps = keeps_first lo lm ln None lm.value (λ w. w ≡ lm.value) read keeps
+  earlier : HasStood lo ln → HasStood lo lm
+  earlier keeps = stood_first lo lm ln None lm.value (λ w. w ≡ lm.value) read keeps
 
-  told_first : Keeps lo ln → retired ≡ lo.value.retired lane.0
+  told_first : HasStood lo ln → retired ≡ lo.value.retired lane.0
   told_first keeps =
-      told (keeps_then lo lm ln None lm.value lo.value (λ w. w ≡ lm.value) (λ w. w ≡ lo.value) now.stays read keeps)
-      ∙ ap (λ (l : LedgerValue). l.retired lane.0) (keeps_value lo lm lo.value (λ w. w ≡ lo.value) now.stays (earlier keeps))
+      told (stood_then lo lm ln None lm.value lo.value (λ w. w ≡ lm.value) (λ w. w ≡ lo.value) now.stays read keeps)
+      ∙ ap (λ (l : LedgerValue). l.retired lane.0) (stood_value lo lm lo.value (λ w. w ≡ lo.value) now.stays (earlier keeps))
 
   before_or_here : (j : ℕ) → j < place + 1 → (j < place) ⊎ (j ≡ place)
   before_or_here j lt = grind (arith, nat_tests)

@@ -3,7 +3,7 @@ use Rattle.std.proofs.Common.{◌≡◌, None, refl, ◌∙◌, subst, inl, inr}
 use Rattle.std.specs.Prelude.{◌⊎◌, Option}
 use Rattle.fare_store.specs.declared.fault.Fault.{Fault}
 use Rattle.fare_store.specs.Standing.{Standing, Calls, Counted, IsSound}
-use Rattle.fare_session.specs.Stores.{Called, Follows, Keeps, Leaves, Stays}
+use Rattle.fare_session.specs.Stores.{Called, Follows, HasStood, Leaves, Stays}
 
 -- one call is such calls
 pub called : {V : Type 0} (a b : Standing V) (f : Option Fault) (did : Type 0) (commits : V → Type 0) → Calls a b f did commits → Called a b f did commits
@@ -70,17 +70,17 @@ stays_none a sound = record {
 }
 
 -- it kept what it held up to there, where it keeps it from there on
-pub keeps_first : {V : Type 0} (a b c : Standing V) (f : Option Fault) (v : V) (P : V → Type 0) → Leaves b c f v P → Keeps a c → Keeps a b
-keeps_first a b c f v P l k = record { live = k.live; lawful = k.lawful; clean = l.calls.clean k.clean }
+pub stood_first : {V : Type 0} (a b c : Standing V) (f : Option Fault) (v : V) (P : V → Type 0) → Leaves b c f v P → HasStood a c → HasStood a b
+stood_first a b c f v P l k = record { live = k.live; lawful = k.lawful; clean = l.calls.clean k.clean }
 
-pub keeps_then : {V : Type 0} (a b c : Standing V) (f : Option Fault) (v u : V) (P Q : V → Type 0) → Leaves a b None u Q → Leaves b c f v P → Keeps a c → Keeps b c
-keeps_then a b c f v u P Q first second k =
+pub stood_then : {V : Type 0} (a b c : Standing V) (f : Option Fault) (v u : V) (P Q : V → Type 0) → Leaves a b None u Q → Leaves b c f v P → HasStood a c → HasStood b c
+stood_then a b c f v u P Q first second k =
     let live = first.calls.stays refl k.live (second.calls.clean k.clean) in
     record { live = live; lawful = (first.calls.value live k.lawful).0; clean = k.clean }
 
 -- what it then holds
-pub keeps_value : {V : Type 0} (a b : Standing V) (u : V) (Q : V → Type 0) → Leaves a b None u Q → Keeps a b → b.value ≡ u
-keeps_value a b u Q first k = (first.calls.value (first.calls.stays refl k.live k.clean) k.lawful).1
+pub stood_value : {V : Type 0} (a b : Standing V) (u : V) (Q : V → Type 0) → Leaves a b None u Q → HasStood a b → b.value ≡ u
+stood_value a b u Q first k = (first.calls.value (first.calls.stays refl k.live k.clean) k.lawful).1
 
 -- calls that all succeeded, and then others
 pub leaves_then : {V : Type 0} (a b c : Standing V) (f : Option Fault) (u v w : V) (P Q R : V → Type 0) → Leaves a b None u P → Leaves b c f v Q → (b.value ≡ u → v ≡ w) → (b.value ≡ u → (x : V) → Q x → R x) → Leaves a c f w R
@@ -108,8 +108,8 @@ leaves_then a b c f u v w P Q R first second same image = record {
   left = whole;
 }
   where
-    whole : Keeps a c → (x : _) → c.may_leave x → R x
-    whole k x leaves = image (keeps_value a b u P first (keeps_first a b c f v Q second k)) x (second.left (keeps_then a b c f v u Q P first second k) x leaves)
+    whole : HasStood a c → (x : _) → c.may_leave x → R x
+    whole k x leaves = image (stood_value a b u P first (stood_first a b c f v Q second k)) x (second.left (stood_then a b c f v u Q P first second k) x leaves)
 
 -- it was read twice
 pub stays_then : {V : Type 0} (a b c : Standing V) (f : Option Fault) → Stays a b None → Stays b c f → Stays a c f

@@ -19,9 +19,9 @@ use Rattle.fare_session.specs.declared.fault.SessionFault.{SessionFault}
 use Rattle.fare_session.specs.declared.fault.SessionFault.TheVariants.{Refused, Memory, Store}
 use Rattle.fare_history.specs.Serving.{given, given_all, AreUnrefused, in_hand, IsDated}
 use Rattle.fare_session.specs.Taking.{is_added, added_by}
-use Rattle.fare_session.specs.Stores.{session_fault, stored_fault, IsOwners, Called, Keeps, Stays}
+use Rattle.fare_session.specs.Stores.{session_fault, stored_fault, IsOwners, Called, HasStood, Stays}
 use Rattle.fare_session.specs.Taking.{Tallied, IsRefusedHand, IsImage, IsTaken, IsTaking, IsLeftTaken, IsKept, WasKept}
-use Rattle.fare_session.proofs.StoreCalls.{leaves_done, leaves_kept, leaves_say, leaves_then, keeps_first, keeps_then, keeps_value}
+use Rattle.fare_session.proofs.StoreCalls.{leaves_done, leaves_kept, leaves_say, leaves_then, stood_first, stood_then, stood_value}
 use Rattle.fare_session.proofs.Services.{unrefused-append, given_all-append, added_by-append, all-append}
 
 -- one call, in other words
@@ -159,14 +159,14 @@ taken_then a b c xs ys h f n m k first second = record {
     same : b.value ≡ given_all a.value xs → given_all b.value ys ≡ given_all a.value (xs ++ ys)
     same e = ap (λ l. given_all l ys) e ∙ sym (given_all-append a.value xs ys)
 
-    before : Keeps a c → Keeps a b
-    before keeps = keeps_first a b c (stored_fault f) (given_all b.value ys) (IsImage b.value ys h) second.leaves keeps
+    before : HasStood a c → HasStood a b
+    before keeps = stood_first a b c (stored_fault f) (given_all b.value ys) (IsImage b.value ys h) second.leaves keeps
 
-    behind : Keeps a c → Keeps b c
-    behind keeps = keeps_then a b c (stored_fault f) (given_all b.value ys) (given_all a.value xs) (IsImage b.value ys h) (IsImage a.value xs None) first.leaves second.leaves keeps
+    behind : HasStood a c → HasStood b c
+    behind keeps = stood_then a b c (stored_fault f) (given_all b.value ys) (given_all a.value xs) (IsImage b.value ys h) (IsImage a.value xs None) first.leaves second.leaves keeps
 
-    holds : Keeps a c → b.value ≡ given_all a.value xs
-    holds keeps = keeps_value a b (given_all a.value xs) (IsImage a.value xs None) first.leaves (before keeps)
+    holds : HasStood a c → b.value ≡ given_all a.value xs
+    holds keeps = stood_value a b (given_all a.value xs) (IsImage a.value xs None) first.leaves (before keeps)
 
 -- AN ITEM IS A TAP OR A STATEMENT
 pub tap_is : (i : Item) (r : RecordValue) → tap_of i ≡ Some r → Tap r ≡ i
@@ -207,10 +207,10 @@ left_whole a b xs left rest n m all is none = record { done = xs; hand = None; a
 pub taken_read : (a b c : Standing LedgerValue) (xs : List Item) (n m : ℕ) → IsTaken a b xs None None n m → Stays b c None → IsTaken a c xs None None n m
 taken_read a b c xs n m first read = record {
   leaves = leaves_then a b c None (given_all a.value xs) b.value (given_all a.value xs) (IsImage a.value xs None) (λ w. w ≡ b.value) (IsImage a.value xs None) first.leaves read (λ e. e) (λ e w is. inl (is ∙ e));
-  tally = λ k. first.tally (keeps_first a b c None b.value (λ w. w ≡ b.value) read k);
+  tally = λ k. first.tally (stood_first a b c None b.value (λ w. w ≡ b.value) read k);
   owners = tt;
   empty = λ e. refl;
-  unrefused = λ k. first.unrefused (keeps_first a b c None b.value (λ w. w ≡ b.value) read k);
+  unrefused = λ k. first.unrefused (stood_first a b c None b.value (λ w. w ≡ b.value) read k);
   dated = first.dated;
   refused = λ e. absurd (cc);
 }
@@ -219,10 +219,10 @@ taken_read a b c xs n m first read = record {
 pub taken_failed : (a b c : Standing LedgerValue) (xs : List Item) (f : SessionFault) (n m : ℕ) → f ≢ Refused → IsOwners (Some f) → IsTaken a b xs None None n m → Stays b c (stored_fault (Some f)) → IsTaken a c xs None (Some f) n m
 taken_failed a b c xs f n m not owners first read = record {
   leaves = leaves_then a b c (stored_fault (Some f)) (given_all a.value xs) b.value (given_all a.value xs) (IsImage a.value xs None) (λ w. w ≡ b.value) (IsImage a.value xs None) first.leaves read (λ e. e) (λ e w is. inl (is ∙ e));
-  tally = λ k. first.tally (keeps_first a b c (stored_fault (Some f)) b.value (λ w. w ≡ b.value) read k);
+  tally = λ k. first.tally (stood_first a b c (stored_fault (Some f)) b.value (λ w. w ≡ b.value) read k);
   owners = owners;
   empty = λ e. absurd (cc);
-  unrefused = λ k. first.unrefused (keeps_first a b c (stored_fault (Some f)) b.value (λ w. w ≡ b.value) read k);
+  unrefused = λ k. first.unrefused (stood_first a b c (stored_fault (Some f)) b.value (λ w. w ≡ b.value) read k);
   dated = first.dated;
   refused = λ e. absurd (not (same_Some f Refused e));
 }

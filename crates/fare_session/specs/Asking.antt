@@ -7,7 +7,7 @@ use Rattle.fare_store.specs.declared.fault.Fault.TheVariants.{Store}
 use Rattle.fare_store.specs.Standing.{Standing, fault_of}
 use Rattle.fare_store.specs.LedgerWords.{LedgerValue, closed_through}
 use Rattle.fare_history.specs.Serving.{IsWorking}
-use Rattle.fare_session.specs.Stores.{Keeps, Stays}
+use Rattle.fare_session.specs.Stores.{HasStood, Stays}
 use Rattle.fare_session.specs.Forwarding.{AreApart}
 
 -- how many taps of a device it has, and its last closed day
@@ -20,14 +20,14 @@ pub record IsStanding (old new : Standing LedgerValue) (device : ℕ) (result : 
   pub is : faulted ≡ fault_of result
   -- a clean ledger that answered is live
   pub live : OnOk result (new.clean → new.live)
-  pub told : IfOk result (λ p. Keeps old new → p ≡ standing_of old.value device)
+  pub told : IfOk result (λ p. HasStood old new → p ≡ standing_of old.value device)
 
 -- the entry at a place is of the device there
 pub record IsToldAt (sc : SchemeValue) (old new : Standing LedgerValue) (bases : List (ℕ × ℕ)) (k : ℕ) (p : ℕ × Option ℕ) : Type 0 where
   pub device : ℕ
   pub at : position_of_device sc device ≡ Some k
   pub base : slice_get bases k ≡ Some (device, p.0)
-  pub told : Keeps old new → p ≡ standing_of old.value device
+  pub told : HasStood old new → p ≡ standing_of old.value device
 
 pub record AreTold (sc : SchemeValue) (old new : Standing LedgerValue) (standings : List (ℕ × Option ℕ)) (bases : List (ℕ × ℕ)) : Type 0 where
   pub same : length bases ≡ length standings
@@ -48,8 +48,8 @@ pub record IsAsked (sc : SchemeValue) (old new : Standing LedgerValue) (standing
 pub record AreWorking (old new : Standing LedgerValue) (lanes working : List (ℕ × ℕ)) : Type 0 where
   pub among : (k : ℕ) (p : ℕ × ℕ) → slice_get working k ≡ Some p → (j : ℕ) × (slice_get lanes j ≡ Some p)
   pub apart : AreApart working
-  pub works : Keeps old new → (k : ℕ) (p : ℕ × ℕ) → slice_get working k ≡ Some p → IsWorking old.value p.0
-  pub all : Keeps old new → (j : ℕ) (p : ℕ × ℕ) → slice_get lanes j ≡ Some p → IsWorking old.value p.0 → (k : ℕ) × (slice_get working k ≡ Some p)
+  pub works : HasStood old new → (k : ℕ) (p : ℕ × ℕ) → slice_get working k ≡ Some p → IsWorking old.value p.0
+  pub all : HasStood old new → (j : ℕ) (p : ℕ × ℕ) → slice_get lanes j ≡ Some p → IsWorking old.value p.0 → (k : ℕ) × (slice_get working k ≡ Some p)
 
 pub record AreSifted (old new : Standing LedgerValue) (lanes working : List (ℕ × ℕ)) (result : Result Unit Fault) : Type 0 where
   pub faulted : Option Fault

@@ -14,7 +14,7 @@ use Rattle.fare_store.specs.OutboxWords.{OutboxValue, IsLeastRow}
 use Rattle.fare_session.specs.declared.fault.SessionFault.{SessionFault}
 use Rattle.fare_session.specs.declared.fault.SessionFault.TheVariants.{Source, Unexpected, Refused, Memory, Store}
 use Rattle.fare_history.specs.Serving.{Cursors, device_of, moved_by_all, AreNextItems}
-use Rattle.fare_session.specs.Stores.{stored_fault, IsOwners, Keeps, Stays}
+use Rattle.fare_session.specs.Stores.{stored_fault, IsOwners, HasStood, Stays}
 
 -- an item of the device, and the next of its lane where it is a tap
 abbrev pub is_due : Item → ℕ → ℕ → Bool
@@ -84,13 +84,13 @@ pub record IsNextDue (old new : Standing OutboxValue) (f g : Forwarder) (device 
   pub owners : IsOwners (fault_due result)
   pub owner : g.owner ≡ f.owner
   pub cursors : (other : ℕ) → HasCursor f other → HasCursor g other
-  pub found : Finds (Keeps old new) old.value f g device reached result
+  pub found : Finds (HasStood old new) old.value f g device reached result
 
 -- what a forwarder that had come as far as c has handed on
 pub record IsForwarded (bases : List (ℕ × ℕ)) (owner : ℕ) (old new : Standing OutboxValue) (c : Cursors) (items : List Item) (f : Forwarder) (fault : Option SessionFault) : Type 0 where
-  pub next : Keeps old new → AreNextItems owner old.value c items
+  pub next : HasStood old new → AreNextItems owner old.value c items
   pub at : fault ≡ None → IsAsFar bases f (moved_by_all c items)
-  pub refused : fault ≡ Some Refused → Keeps old new → Skips bases owner old.value (moved_by_all c items)
+  pub refused : fault ≡ Some Refused → HasStood old new → Skips bases owner old.value (moved_by_all c items)
 
 -- the same, wherever it was, where the cursors meet a condition; the outbox is only read
 pub record ForwardedIf (meets : Cursors → Type 0) (bases : List (ℕ × ℕ)) (old new : Standing OutboxValue) (f g : Forwarder) (items : List Item) (fault : Option SessionFault) : Type 0 where

@@ -11,7 +11,7 @@ use Rattle.fare_store.specs.LedgerWords.{LedgerValue}
 use Rattle.fare_session.specs.declared.fault.SessionFault.{SessionFault}
 use Rattle.fare_session.specs.declared.fault.SessionFault.TheVariants.{Refused}
 use Rattle.fare_history.specs.Serving.{Cursors, moved_by_all, in_hand, pruned_to_all}
-use Rattle.fare_session.specs.Stores.{stored_fault, IsOwners, Follows, Keeps, Leaves, Stays}
+use Rattle.fare_session.specs.Stores.{stored_fault, IsOwners, Follows, HasStood, Leaves, Stays}
 use Rattle.fare_session.specs.Forwarding.{IsBased, IsAsFar, ForwardedIf}
 use Rattle.fare_session.specs.Taking.{IsTaken}
 
@@ -21,7 +21,7 @@ MeetsLedger bases l c = (device : ℕ) → IsBased bases device → c.lane devic
 
 -- the ledger has kept what it held, and the lanes begin behind it
 abbrev pub Behind : List (ℕ × ℕ) → Standing LedgerValue → Standing LedgerValue → Cursors → Type 0
-Behind bases old new c = Keeps old new × MeetsLedger bases old.value c
+Behind bases old new c = HasStood old new × MeetsLedger bases old.value c
 
 -- nothing of a device comes next any more
 pub record IsIdle (owner : ℕ) (x : OutboxValue) (c : Cursors) (device : ℕ) : Type 0 where
@@ -29,7 +29,7 @@ pub record IsIdle (owner : ℕ) (x : OutboxValue) (c : Cursors) (device : ℕ) :
   pub statements : (day : ℕ) → c.day device ≤ day → IsDay day → x.stated owner device day ≡ None
 
 abbrev pub IdleAt : List (ℕ × ℕ) → Standing OutboxValue → Standing OutboxValue → Standing LedgerValue → Standing LedgerValue → Forwarder → List Item → ℕ → Type 0
-IdleAt bases xo xn lo ln f items device = (c : Cursors) → IsAsFar bases f c → Behind bases lo ln c → Keeps xo xn → IsIdle f.owner xo.value (moved_by_all c items) device
+IdleAt bases xo xn lo ln f items device = (c : Cursors) → IsAsFar bases f c → Behind bases lo ln c → HasStood xo xn → IsIdle f.owner xo.value (moved_by_all c items) device
 
 -- at most one of the two stores failed
 abbrev pub IsOne : Option SessionFault → Option SessionFault → Option SessionFault → Type 0
@@ -55,7 +55,7 @@ IsCut x owner l bases ds w = (w ≡ pruned_to_all x owner l ds) ⊎ ((d : ℕ) �
 -- the lanes of these devices were pruned to the ledger's counts
 pub record IsPruned (owner : ℕ) (bases : List (ℕ × ℕ)) (xo xn : Standing OutboxValue) (lo ln : Standing LedgerValue) (ds : List ℕ) (fx fl : Option Fault) : Type 0 where
   pub stays : Stays lo ln fl
-  pub leaves : Keeps lo ln → Leaves xo xn fx (pruned_to_all xo.value owner lo.value ds) (IsCut xo.value owner lo.value bases ds)
+  pub leaves : HasStood lo ln → Leaves xo xn fx (pruned_to_all xo.value owner lo.value ds) (IsCut xo.value owner lo.value bases ds)
   pub counted : Counted xo.failures xn.failures fx
   -- a clean outbox of which a lane was pruned was live
   pub begun : 0 < length ds → xn.clean → xo.live

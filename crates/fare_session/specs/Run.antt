@@ -11,15 +11,15 @@ use Rattle.fare_session.specs.declared.fault.SessionFault.TheVariants.{Refused, 
 use Rattle.fare_session.specs.declared.report.OwnerReport.{OwnerReport}
 use Rattle.fare_history.specs.Serving.{behind_ledger, moved_by_all, AreUnrefused, given_all, in_hand, Service, put_by, pruned_to_all, lane_room, IsOfDevice, IsWorking, IsDated, IsService}
 use Rattle.fare_history.specs.Holding.{MayHold}
-use Rattle.fare_session.specs.Stores.{IsOwners, Follows, Keeps, Leaves}
+use Rattle.fare_session.specs.Stores.{IsOwners, Follows, HasStood, Leaves}
 use Rattle.fare_session.specs.Taking.{added_by, IsImage, IsRefusedHand}
 use Rattle.fare_session.specs.Resting.{IsIdle}
 use Rattle.fare_session.specs.Served.{Rose, HasGap}
 
 -- both stores were live and lawful and have kept what was committed, and the ledger is the owner's, of this scheme
 pub record IsReady (sc : SchemeValue) (owner : ℕ) (xo xn : Standing OutboxValue) (lo ln : Standing LedgerValue) : Type 0 where
-  pub outbox : Keeps xo xn
-  pub ledger : Keeps lo ln
+  pub outbox : HasStood xo xn
+  pub ledger : HasStood lo ln
   pub mine : lo.value.owner ≡ owner
   pub made : IsOfScheme sc lo.value
 
@@ -51,7 +51,7 @@ pub record IsRun (sc : SchemeValue) (owner : ℕ) (xo xn : Standing OutboxValue)
   pub room : length v.queue ≤ lane_room sc owner
   pub registered : AllByRecursion (IsOfDevice sc) v.pruned
   pub ledger : Leaves lo ln fl (given_all lo.value v.taken) (IsImage lo.value v.taken v.hand)
-  pub outbox : Keeps lo ln → Leaves xo xn fx (pruned_to_all xo.value owner (given_all lo.value v.taken) v.pruned) (IsCutOf sc xo.value owner (given_all lo.value v.taken) v.hand v.pruned)
+  pub outbox : HasStood lo ln → Leaves xo xn fx (pruned_to_all xo.value owner (given_all lo.value v.taken) v.pruned) (IsCutOf sc xo.value owner (given_all lo.value v.taken) v.hand v.pruned)
   -- a clean ledger was live, where a thread began
   pub opened : IsUnbegun xo xn v report ⊎ (ln.clean → lo.live)
   -- and a clean outbox was live, where it answered
@@ -62,8 +62,8 @@ pub record IsRun (sc : SchemeValue) (owner : ℕ) (xo xn : Standing OutboxValue)
   pub owners : IsOwners report.fault
   pub follows : Follows xo xn
   pub stays : report.fault ≡ None → (fx ≡ None) × (fl ≡ None)
-  pub taken : Keeps lo ln → report.taken ≡ min (added_by lo.value v.taken) 18446744073709551615
-  pub unrefused : Keeps lo ln → AreUnrefused lo.value v.taken
+  pub taken : HasStood lo ln → report.taken ≡ min (added_by lo.value v.taken) 18446744073709551615
+  pub unrefused : HasStood lo ln → AreUnrefused lo.value v.taken
   pub dated : AllByRecursion IsDated v.taken
   pub left : report.left ≡ length (in_hand v.hand ++ v.queue)
   pub cause : report.fault ≡ Some Store → Rose xo.failures xn.failures ⊎ Rose lo.failures ln.failures

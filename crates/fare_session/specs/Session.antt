@@ -14,7 +14,7 @@ use Rattle.fare_session.specs.declared.fault.SessionFault.TheVariants.{Refused, 
 use Rattle.fare_session.specs.declared.report.OwnerReport.{OwnerReport}
 use Rattle.fare_history.specs.Serving.{Cursors, device_of, moved_by_all, AreNextItems, AreUnrefused, given_all, in_hand, Service, put_by, pruned_to_all, IsDated}
 use Rattle.fare_session.specs.Taking.{added_by}
-use Rattle.fare_session.specs.Stores.{IsOwners, Follows, Keeps, Leaves}
+use Rattle.fare_session.specs.Stores.{IsOwners, Follows, HasStood, Leaves}
 use Rattle.fare_session.specs.Forwarding.{IsBased, IsAsFar, AreBases, Skips, Forwarded}
 use Rattle.fare_session.specs.Taking.{IsTaken, IsImage, InHand, IsRefusedHand}
 use Rattle.fare_session.specs.Resting.{MeetsLedger, IsIdle}
@@ -42,7 +42,7 @@ pub record IsWhole (bases lanes : List (ℕ × ℕ)) (xo xn : Standing OutboxVal
   pub hand : v.hand ≡ None
   pub queue : v.queue ≡ []
   pub pruned : v.pruned ≡ keys_of lanes
-  pub idle : (c : Cursors) → IsAsFar bases f c → MeetsLedger bases lo.value c → AreBases bases c → Keeps xo xn → Keeps lo ln → (k : ℕ) (p : ℕ × ℕ) → slice_get bases k ≡ Some p → IsIdle f.owner xo.value (moved_by_all c v.taken) p.0
+  pub idle : (c : Cursors) → IsAsFar bases f c → MeetsLedger bases lo.value c → AreBases bases c → HasStood xo xn → HasStood lo ln → (k : ℕ) (p : ℕ × ℕ) → slice_get bases k ≡ Some p → IsIdle f.owner xo.value (moved_by_all c v.taken) p.0
 
 -- these lanes are pruned, or, with nothing in the hand, one more
 abbrev pub IsCutWith : Option Item → OutboxValue → ℕ → LedgerValue → List (ℕ × ℕ) → List ℕ → OutboxValue → Type 0
@@ -52,12 +52,12 @@ pub record IsSession (bases lanes : List (ℕ × ℕ)) (room : ℕ) (xo xn : Sta
   pub v : Service
   pub fx : Option Fault
   pub fl : Option Fault
-  pub next : (c : Cursors) → IsAsFar bases f c → MeetsLedger bases lo.value c → AreBases bases c → Keeps xo xn → Keeps lo ln → AreNextItems f.owner xo.value c (put_by v)
+  pub next : (c : Cursors) → IsAsFar bases f c → MeetsLedger bases lo.value c → AreBases bases c → HasStood xo xn → HasStood lo ln → AreNextItems f.owner xo.value c (put_by v)
   pub known : AllByRecursion (λ i. IsBased bases (device_of i)) (put_by v)
   pub few : length v.queue ≤ room
   pub registered : (rest : List ℕ) × (keys_of lanes ≡ v.pruned ++ rest)
   pub ledger : Leaves lo ln fl (given_all lo.value v.taken) (IsImage lo.value v.taken v.hand)
-  pub outbox : Keeps lo ln → Leaves xo xn fx (pruned_to_all xo.value f.owner (given_all lo.value v.taken) v.pruned) (IsCutWith v.hand xo.value f.owner (given_all lo.value v.taken) lanes v.pruned)
+  pub outbox : HasStood lo ln → Leaves xo xn fx (pruned_to_all xo.value f.owner (given_all lo.value v.taken) v.pruned) (IsCutWith v.hand xo.value f.owner (given_all lo.value v.taken) lanes v.pruned)
   pub counted : Counted xo.failures xn.failures fx
   -- a clean outbox was live where it answered
   pub begun : 0 < length (put_by v) → xn.clean → xo.live
@@ -67,10 +67,10 @@ pub record IsSession (bases lanes : List (ℕ × ℕ)) (room : ℕ) (xo xn : Sta
   pub owners : IsOwners report.fault
   pub follows : Follows xo xn
   pub stays : report.fault ≡ None → (fx ≡ None) × (fl ≡ None)
-  pub taken : Keeps lo ln → report.taken ≡ min (added_by lo.value v.taken) 18446744073709551615
-  pub unrefused : Keeps lo ln → AreUnrefused lo.value v.taken
+  pub taken : HasStood lo ln → report.taken ≡ min (added_by lo.value v.taken) 18446744073709551615
+  pub unrefused : HasStood lo ln → AreUnrefused lo.value v.taken
   pub dated : AllByRecursion IsDated v.taken
   pub left : report.left ≡ length (in_hand v.hand ++ v.queue)
   pub cause : report.fault ≡ Some Store → (fx ≡ Some fault.Store) ⊎ (fl ≡ Some fault.Store)
-  pub refused : report.fault ≡ Some Refused → (c : Cursors) → IsAsFar bases f c → MeetsLedger bases lo.value c → AreBases bases c → Keeps xo xn → Keeps lo ln → IsRefusal bases f.owner xo.value lo.value c v
+  pub refused : report.fault ≡ Some Refused → (c : Cursors) → IsAsFar bases f c → MeetsLedger bases lo.value c → AreBases bases c → HasStood xo xn → HasStood lo ln → IsRefusal bases f.owner xo.value lo.value c v
   pub whole : report.fault ≡ None → IsWhole bases lanes xo xn lo ln f v

@@ -29,7 +29,7 @@ IsOwners (Some Memory) = Unit {0}
 IsOwners (Some Store) = Unit {0}
 
 -- the store was live and lawful, and it has kept what was committed
-pub record Keeps {V : Type 0} (old new : Standing V) : Type 0 where
+pub record HasStood {V : Type 0} (old new : Standing V) : Type 0 where
   pub live : old.live
   pub lawful : old.lawful
   pub clean : new.clean
@@ -56,7 +56,7 @@ pub record Called {V : Type 0} (old new : Standing V) (faulted : Option Fault) (
 -- What the store holds after such calls while it is live, and what a stop may leave.
 pub record Leaves {V : Type 0} (old new : Standing V) (faulted : Option Fault) (value : V) (images : V → Type 0) : Type 0 where
   pub calls : Called old new faulted (new.value ≡ value) images
-  pub left : Keeps old new → (v : V) → new.may_leave v → images v
+  pub left : HasStood old new → (v : V) → new.may_leave v → images v
 
 -- a store that was only read
 abbrev pub Stays : {V : Type 0} → Standing V → Standing V → Option Fault → Type 0

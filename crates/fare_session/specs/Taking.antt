@@ -9,7 +9,7 @@ use Rattle.fare_session.specs.declared.fault.SessionFault.{SessionFault}
 use Rattle.fare_session.specs.declared.fault.SessionFault.TheVariants.{Refused}
 use Rattle.fare_history.specs.Serving.{given, given_all, IsUnrefused, AreUnrefused, in_hand, IsDated}
 use Rattle.fare_history.specs.Plainly.{IsRefused}
-use Rattle.fare_session.specs.Stores.{stored_fault, IsOwners, Called, Keeps, Leaves}
+use Rattle.fare_session.specs.Stores.{stored_fault, IsOwners, Called, HasStood, Leaves}
 
 -- HOW MANY ARE TAKEN
 -- an item that the ledger does not hold yet
@@ -43,12 +43,12 @@ InHand (Some fault) hand = (i : Item) × (hand ≡ Some i)
 -- the ledger took these items, in order, and failed or refused at the one in the hand
 pub record IsTaken (old new : Standing LedgerValue) (items : List Item) (hand : Option Item) (fault : Option SessionFault) (before after : ℕ) : Type 0 where
   pub leaves : Leaves old new (stored_fault fault) (given_all old.value items) (IsImage old.value items hand)
-  pub tally : Keeps old new → Tallied before after (added_by old.value items)
+  pub tally : HasStood old new → Tallied before after (added_by old.value items)
   pub owners : IsOwners fault
   pub empty : fault ≡ None → hand ≡ None
-  pub unrefused : Keeps old new → AreUnrefused old.value items
+  pub unrefused : HasStood old new → AreUnrefused old.value items
   pub dated : AllByRecursion IsDated items
-  pub refused : fault ≡ Some Refused → Keeps old new → IsRefusedHand (given_all old.value items) hand
+  pub refused : fault ≡ Some Refused → HasStood old new → IsRefusedHand (given_all old.value items) hand
 
 -- of one item
 abbrev pub done_by : Item → Option SessionFault → List Item
