@@ -4,7 +4,7 @@ use Rattle.std.proofs.lemmas.List.{append-nil, get_or_default, get_or-set_same, 
 use Rattle.fare_collect.specs.declared.station.Station.{Station}
 use Rattle.fare_collect.specs.Resuming.{anew, HaveBegun}
 use Rattle.fare_collect.specs.Collected.{faults_at, station_faults}
-use Rattle.fare_collect.proofs.Lent.{same_or_apart}
+use Rattle.fare_collect.proofs.Posted.{same_or_apart}
 
 -- those before a place have begun anew
 pub record AreBeginning {S : Type 0} (place : ℕ) (before after : List (Station S)) : Type 0 where

@@ -13,7 +13,7 @@ use Rattle.fare_inbox_queue.specs.declared.ack_passes.HearPass.{HearPass}
 use Rattle.fare_collect.specs.declared.station.Station.{Station}
 use Rattle.fare_writer.specs.declared.teller.Teller.{Teller}
 use Rattle.fare_collect.specs.Ending.{AreSomeOf, HasHanded, IsHandedLeft, AreBeingHanded}
-use Rattle.fare_collect.proofs.Lent.{same_or_apart, last_at}
+use Rattle.fare_collect.proofs.Posted.{same_or_apart, last_at}
 
 pub handed_none : (t : Talk) (f : Option StationFault) → HasHanded t t [] f f
 handed_none t f = record { kept = []; keeps = refl; answered = sym (append-nil t.answered); given = refl; ended = λ e. e; first = λ n. refl; whole = λ e. (e, refl); rises = omega arith; cause = λ e z. absurd (let q : ◌≡◌ {A = Option StationFault} None (Some Source) = sym e ∙ z in cc); failed = λ e. refl; other = λ e z. absurd (let q : ◌≡◌ {A = Option StationFault} None (Some Unexpected) = sym e ∙ z in cc) }

@@ -26,7 +26,7 @@ use Rattle.fare_collect.specs.Ending.{IsHanded, last_ack, acks_of, last_acks, Ar
 use Rattle.fare_collect.proofs.Written.{wrote_none}
 use Rattle.fare_writer.proofs.Wrote.{wrote_then, wrote_read}
 use Rattle.fare_collect.proofs.Handed.{handed_none, handed_then}
-use Rattle.fare_collect.proofs.Lent.{same_or_apart}
+use Rattle.fare_collect.proofs.Posted.{same_or_apart}
 use Rattle.fare_collect.proofs.Places.{apart_by_place, same_by_place}
 
 abbrev pub Reads_upto : Standing OutboxValue → Standing OutboxValue → ℕ → Result ℕ Fault → Type 0

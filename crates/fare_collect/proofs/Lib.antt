@@ -1,7 +1,7 @@
 pub mod Written
 pub mod Read
 pub mod Rested
-pub mod Lent
+pub mod Posted
 pub mod Served
 pub mod RestedAll
 pub mod Opened

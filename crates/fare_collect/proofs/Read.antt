@@ -327,7 +327,7 @@ read_unexpected sc station a b c n0 n1 n2 s0 s1 s2 h0 h1 f was gives none next s
       cause = gives.cause ∙ was.cause;
     }
 
--- the same of a seat that stands so
+-- the same of a post that stands so
 pub read_at : (sc : SchemeValue) (station : ℕ) (a b : Talk) (n0 n1 : ℕ → Option ℕ) (s0 s1 : List Arrived) (h0 h1 : List AckItem) (held held' : Option Frame) (at_end at_end' : Bool) (f f' : Option StationFault)
     → held ≡ held' → at_end ≡ at_end' → f ≡ f' → HasRead sc station a b n0 n1 s0 s1 h0 h1 held at_end f → HasRead sc station a b n0 n1 s0 s1 h0 h1 held' at_end' f'
 read_at sc station a b n0 n1 s0 s1 h0 h1 held held' at_end at_end' f f' p q r read =

@@ -28,7 +28,7 @@ use Rattle.fare_collect.specs.Resting.{HasRested, IsRestOf, HaveRested, AreApart
 use Rattle.fare_collect.specs.Session.{HasGathered}
 use Rattle.fare_collect.proofs.Read.{arrivals_append, next_append, expected_append, expected_front}
 use Rattle.fare_collect.proofs.Rested.{kept_none, kept_then}
-use Rattle.fare_collect.proofs.Lent.{same_or_apart}
+use Rattle.fare_collect.proofs.Posted.{same_or_apart}
 
 -- WHAT A STATION ACCEPTS NAMES IT
 same_number : (n : ℕ) → (n == n) ≡ true

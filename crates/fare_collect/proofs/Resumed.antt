@@ -20,7 +20,7 @@ use Rattle.fare_writer.specs.Writing.{Wrote}
 use Rattle.fare_collect.specs.Resuming.{AreStations, resumed_next, HaveResumed}
 use Rattle.fare_collect.proofs.Written.{wrote_none}
 use Rattle.fare_collect.proofs.Last.{Reads_upto, read_ok, read_err}
-use Rattle.fare_collect.proofs.Lent.{same_or_apart}
+use Rattle.fare_collect.proofs.Posted.{same_or_apart}
 use Rattle.fare_collect.proofs.Places.{apart_by_place, same_by_place}
 
 -- ONE STATION

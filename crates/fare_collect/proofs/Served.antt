@@ -17,27 +17,27 @@ use Rattle.fare_inbox_queue.specs.Inbox.{of_station}
 use Rattle.fare_inbox_queue.specs.InboxPasses.{station_of, sent_list, IsStationOf}
 use Rattle.fare_inbox_queue.specs.LinePasses.{heard_list, IsAckOf, IsHearOf}
 use Rattle.fare_collect.specs.declared.station.Station.{Station}
-use Rattle.fare_collect.specs.declared.station.Seat.{Seat}
+use Rattle.fare_collect.specs.declared.station.Post.{Post}
 use Rattle.fare_writer.specs.declared.teller.Teller.{Teller}
 use Rattle.fare_collect.specs.declared.station.End.{End}
 use Rattle.fare_source.specs.Talking.{Talk}
-use Rattle.fare_collect.proofs.Lent.{last_at}
+use Rattle.fare_collect.proofs.Posted.{last_at}
 use Rattle.fare_collect.specs.Arriving.{arrivals}
 use Rattle.fare_collect.specs.Resting.{IsNoneOf}
-use Rattle.fare_collect.specs.Stations.{HasRead, HasRunStation, HaveRun, IsSeatedAt, AreSeated}
+use Rattle.fare_collect.specs.Stations.{HasRead, HasRunStation, HaveRun, IsPostedAt, ArePosted}
 use Rattle.fare_writer.specs.Handling.{AreTellers}
-use Rattle.fare_collect.specs.Opening.{AreHears, AreNew, seated, AreLent, IsReturned, AreReturned, HaveSeats}
+use Rattle.fare_collect.specs.Opening.{AreHears, AreNew, posted, WerePosted, IsRelieved, AreRelieved, HavePosts}
 use Rattle.fare_collect.specs.Session.{HasGivenBack, HaveGivenBack, AreReady, HasGathered}
 
-same_seat : (a b : Seat) → Some a ≡ Some b → a ≡ b
-same_seat a b e = cc
+same_post : (a b : Post) → Some a ≡ Some b → a ≡ b
+same_post a b e = cc
 
-pub lent_is_seated : {S : Type 0} (inbox : Inbox) (lines : List AckLine) (k : ℕ) (old new : Station S) (p : StationPass) (h : HearPass) → k < length lines → new ≡ seated old p h → IsStationOf inbox p → ((l : AckLine) → IsHearOf (slice_index_or lines k l) h)
-    → IsSeatedAt inbox lines k new
-lent_is_seated inbox lines k old new p h lt is pass hear = record {
+pub is_posted_at : {S : Type 0} (inbox : Inbox) (lines : List AckLine) (k : ℕ) (old new : Station S) (p : StationPass) (h : HearPass) → k < length lines → new ≡ posted old p h → IsStationOf inbox p → ((l : AckLine) → IsHearOf (slice_index_or lines k l) h)
+    → IsPostedAt inbox lines k new
+is_posted_at inbox lines k old new p h lt is pass hear = record {
   place = lt;
-  seat = record { pass = p; hear = h; held = None; ended = false; fault = None };
-  is = ap (λ t. t.seat) is;
+  post = record { pass = p; hear = h; held = None; ended = false; fault = None };
+  is = ap (λ t. t.post) is;
   pass = pass;
   hear = hear;
   held = refl;
@@ -46,23 +46,23 @@ lent_is_seated inbox lines k old new p h lt is pass hear = record {
 }
 
 pub served : {S : Type 0} (sc : SchemeValue) (talks : S → Talk) (inbox : Inbox) (lines : List AckLine) (k : ℕ) (s0 s1 s2 s3 : Station S) (p0 p1 : StationPass) (h0 h1 : HearPass)
-    → s1 ≡ seated s0 p0 h0 → HasRunStation sc talks inbox lines k s1 s2 → IsReturned s2 p1 h1 s3 → HasGivenBack sc talks inbox lines k s0 s3 p0 p1 h0 h1
-served {S} sc talks inbox lines k s0 s1 s2 s3 p0 p1 h0 h1 lent run back =
-    let first : run.seat_old ≡ record { pass = p0; hear = h0; held = None; ended = false; fault = None } = same_seat _ _ (sym run.is_old ∙ ap (λ t. t.seat) lent) in
-    let last : run.seat_new ≡ back.seat = same_seat _ _ (sym run.is_new ∙ back.is) in
-    let pass : run.seat_new.pass ≡ p1 = ap (λ s. s.pass) last ∙ sym back.pass in
-    let hear : run.seat_new.hear ≡ h1 = ap (λ s. s.hear) last ∙ sym back.hear in
-    let end : record { held = run.seat_new.held; ended = run.seat_new.ended; fault = run.seat_new.fault } ≡ s3.end = ap (λ (s : Seat). record { held = s.held; ended = s.ended; fault = s.fault }) last ∙ sym (ap (λ t. t.end) back.station) in
+    → s1 ≡ posted s0 p0 h0 → HasRunStation sc talks inbox lines k s1 s2 → IsRelieved s2 p1 h1 s3 → HasGivenBack sc talks inbox lines k s0 s3 p0 p1 h0 h1
+served {S} sc talks inbox lines k s0 s1 s2 s3 p0 p1 h0 h1 posting run back =
+    let first : run.post_old ≡ record { pass = p0; hear = h0; held = None; ended = false; fault = None } = same_post _ _ (sym run.is_old ∙ ap (λ t. t.post) posting) in
+    let last : run.post_new ≡ back.post = same_post _ _ (sym run.is_new ∙ back.is) in
+    let pass : run.post_new.pass ≡ p1 = ap (λ s. s.pass) last ∙ sym back.pass in
+    let hear : run.post_new.hear ≡ h1 = ap (λ s. s.hear) last ∙ sym back.hear in
+    let end : record { held = run.post_new.held; ended = run.post_new.ended; fault = run.post_new.fault } ≡ s3.end = ap (λ (s : Post). record { held = s.held; ended = s.ended; fault = s.fault }) last ∙ sym (ap (λ t. t.end) back.station) in
     let coll : s2.collector ≡ s3.collector = sym (ap (λ t. t.collector) back.station) in
     let source : s2.source ≡ s3.source = sym (ap (λ t. t.source) back.station) in
-    let coll0 : s1.collector ≡ s0.collector = ap (λ t. t.collector) lent in
-    let source0 : s1.source ≡ s0.source = ap (λ t. t.source) lent in
-    let P : (Seat × (S × Collector)) × ((S × Collector) × (StationPass × (HearPass × End))) → Type 0 = λ y.
+    let coll0 : s1.collector ≡ s0.collector = ap (λ t. t.collector) posting in
+    let source0 : s1.source ≡ s0.source = ap (λ t. t.source) posting in
+    let P : (Post × (S × Collector)) × ((S × Collector) × (StationPass × (HearPass × End))) → Type 0 = λ y.
     HasRead sc (station_of y.0.0.pass) (talks y.0.1.0) (talks y.1.0.0) (next_in y.0.1.1) (next_in y.1.0.1) (sent_list y.0.0.pass) (sent_list y.1.1.0) (heard_list y.0.0.hear) (heard_list y.1.1.1.0) y.1.1.1.1.held y.1.1.1.1.ended y.1.1.1.1.fault in
     record {
       pass = subst (IsStationOf inbox) pass run.pass;
       hear = λ l. subst (λ (h : HearPass). IsHearOf (slice_index_or lines k l) h) hear (run.hear l);
-      named = sym (ap station_of pass) ∙ (run.named ∙ ap (λ (s : Seat). station_of s.pass) first);
+      named = sym (ap station_of pass) ∙ (run.named ∙ ap (λ (s : Post). station_of s.pass) first);
       station = sym (ap (λ c. c.station) coll) ∙ (run.station ∙ ap (λ c. c.station) coll0);
       read = subst P (λ i. ((first i, (source0 i, coll0 i)), ((source i, coll i), (pass i, (hear i, end i))))) run.read;
     }
@@ -120,14 +120,14 @@ abbrev pub element : {A : Type 0} (xs : List A) (k : ℕ) → k < length xs → 
 element [] k lt = absurd (omega (arith, lt))
 element (x ∷ xs) k lt = x
 
-pub lent_all : {S : Type 0} (inbox : Inbox) (lines : List AckLine) (ts : List Teller) (ps : List StationPass) (hs : List HearPass) (old new : List (Station S))
-    → AreReady inbox old ps → AreNew (length old) lines ts hs → AreLent ps hs old new → AreSeated inbox lines new
-lent_all inbox lines ts ps hs old new ready made lent = record {
+pub posted_all : {S : Type 0} (inbox : Inbox) (lines : List AckLine) (ts : List Teller) (ps : List StationPass) (hs : List HearPass) (old new : List (Station S))
+    → AreReady inbox old ps → AreNew (length old) lines ts hs → WerePosted ps hs old new → ArePosted inbox lines new
+posted_all inbox lines ts ps hs old new ready made posting = record {
   each = λ k d lt.
-      let at : k < length old = let l = lent.len in omega (arith, lt, l) in
+      let at : k < length old = let l = posting.len in omega (arith, lt, l) in
       let p = element ps k (let l = ready.len in omega (arith, at, l)) in
       let h = element hs k (let l = made.hears_len in omega (arith, at, l)) in
-      lent_is_seated inbox lines k (slice_index_or old k d) (slice_index_or new k d) (slice_index_or ps k p) (slice_index_or hs k h) (let l = made.lines_len in omega (arith, at, l)) (lent.each k d p h at) (ready.each k d p at).0 (λ l. made.hear k l h at);
+      is_posted_at inbox lines k (slice_index_or old k d) (slice_index_or new k d) (slice_index_or ps k p) (slice_index_or hs k h) (let l = made.lines_len in omega (arith, at, l)) (posting.each k d p h at) (ready.each k d p at).0 (λ l. made.hear k l h at);
 }
 
 pub tellers_ready : (n : ℕ) (lines : List AckLine) (ts : List Teller) (hs : List HearPass) → AreNew n lines ts hs → AreTellers lines ts
@@ -136,20 +136,20 @@ tellers_ready n lines ts hs made = record {
   each = λ k l d lt. made.acks k l d (let e = made.tellers_len in omega (arith, lt, e));
 }
 
-pub have_seats : {S : Type 0} (sc : SchemeValue) (talks : S → Talk) (inbox : Inbox) (lines : List AckLine) (old new : List (Station S)) → HaveRun sc talks inbox lines old new → length new ≡ length old → HaveSeats new
-have_seats sc talks inbox lines old new run len = record { each = λ k d lt. let r = run.each k d (omega (arith, lt, len)) in (r.seat_new, r.is_new) }
+pub have_posts : {S : Type 0} (sc : SchemeValue) (talks : S → Talk) (inbox : Inbox) (lines : List AckLine) (old new : List (Station S)) → HaveRun sc talks inbox lines old new → length new ≡ length old → HavePosts new
+have_posts sc talks inbox lines old new run len = record { each = λ k d lt. let r = run.each k d (omega (arith, lt, len)) in (r.post_new, r.is_new) }
 
 pub served_all : {S : Type 0} (sc : SchemeValue) (talks : S → Talk) (inbox : Inbox) (lines : List AckLine) (ps0 ps1 : List StationPass) (hs0 hs1 : List HearPass) (s0 s1 s2 s3 : List (Station S))
-    → AreLent ps0 hs0 s0 s1 → HaveRun sc talks inbox lines s1 s2 → length s2 ≡ length s1 → AreReturned s2 ps1 hs1 s3 → HaveGivenBack sc talks inbox lines s0 s3 ps0 ps1 hs0 hs1
-served_all sc talks inbox lines ps0 ps1 hs0 hs1 s0 s1 s2 s3 lent run len back = record {
-  len = back.len ∙ (len ∙ lent.len);
-  passes_len = back.passes_len ∙ (len ∙ lent.len);
-  hears_len = back.hears_len ∙ (len ∙ lent.len);
+    → WerePosted ps0 hs0 s0 s1 → HaveRun sc talks inbox lines s1 s2 → length s2 ≡ length s1 → AreRelieved s2 ps1 hs1 s3 → HaveGivenBack sc talks inbox lines s0 s3 ps0 ps1 hs0 hs1
+served_all sc talks inbox lines ps0 ps1 hs0 hs1 s0 s1 s2 s3 posting run len back = record {
+  len = back.len ∙ (len ∙ posting.len);
+  passes_len = back.passes_len ∙ (len ∙ posting.len);
+  hears_len = back.hears_len ∙ (len ∙ posting.len);
   each = λ k d p h lt.
-      let one : k < length s1 = let l = lent.len in omega (arith, lt, l) in
+      let one : k < length s1 = let l = posting.len in omega (arith, lt, l) in
       let two : k < length s2 = omega (arith, one, len) in
       served sc talks inbox lines k (slice_index_or s0 k d) (slice_index_or s1 k d) (slice_index_or s2 k d) (slice_index_or s3 k d) (slice_index_or ps0 k p) (slice_index_or ps1 k p) (slice_index_or hs0 k h) (slice_index_or hs1 k h)
-      (lent.each k d p h lt) (run.each k d one) (back.each k d p h two);
+      (posting.each k d p h lt) (run.each k d one) (back.each k d p h two);
 }
 
 pub gathered_all : {S : Type 0} (sc : SchemeValue) (talks : S → Talk) (inbox : Inbox) (lines : List AckLine) (ts : List Teller) (ps0 ps1 : List StationPass) (hs0 hs1 : List HearPass) (old new : List (Station S)) (taken : List Arrived) (left : ℕ → List Arrived)

@@ -33,7 +33,7 @@ use Rattle.fare_collect.specs.declared.fault.StationFault.TheVariants.{Unexpecte
 use Rattle.fare_collect.specs.Stations.{held_list, frame_for, AreExpected, SourceCounted, HasRead}
 use Rattle.fare_writer.specs.Handling.{hand_of, HasWritten}
 
--- a station was lent its passes, ran, and gave them back
+-- a station had its passes, ran, and gave them back
 pub record HasGivenBack {S : Type 0} (sc : SchemeValue) (talks : S → Talk) (inbox : Inbox) (lines : List AckLine) (k : ℕ) (old new : Station S) (p0 p1 : StationPass) (h0 h1 : HearPass) : Type 0 where
   pub pass : IsStationOf inbox p1
   pub hear : (l : AckLine) → IsHearOf (slice_index_or lines k l) h1

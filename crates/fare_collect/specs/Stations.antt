@@ -16,7 +16,7 @@ use Rattle.fare_source.specs.declared.fault.SourceFault.TheVariants as source
 use Rattle.fare_collect.specs.declared.fault.StationFault.{StationFault}
 use Rattle.fare_collect.specs.declared.fault.StationFault.TheVariants.{Source, Unexpected, Memory}
 use Rattle.fare_collect.specs.declared.station.Station.{Station}
-use Rattle.fare_collect.specs.declared.station.Seat.{Seat}
+use Rattle.fare_collect.specs.declared.station.Post.{Post}
 use Rattle.fare_source.specs.Talking.{Talk}
 use Rattle.fare_history.specs.AcceptedLinks.{next_links, next_links_all}
 use Rattle.fare_collect.specs.Arriving.{arrivals}
@@ -88,31 +88,31 @@ pub record HasRead (sc : SchemeValue) (station : ℕ) (old new : Talk) (next_old
   pub expected : AreExpected fault (frames ++ held_list held)
   pub cause : SourceCounted old.failures new.failures fault
 
--- the station at a place has a seat that was made for it
-pub record IsSeatedAt {S : Type 0} (inbox : Inbox) (lines : List AckLine) (k : ℕ) (t : Station S) : Type 0 where
+-- the station at a place has a post that was made for it
+pub record IsPostedAt {S : Type 0} (inbox : Inbox) (lines : List AckLine) (k : ℕ) (t : Station S) : Type 0 where
   pub place : k < length lines
-  pub seat : Seat
-  pub is : t.seat ≡ Some seat
-  pub pass : IsStationOf inbox seat.pass
-  pub hear : (l : AckLine) → IsHearOf (slice_index_or lines k l) seat.hear
-  pub held : seat.held ≡ None
-  pub ended : seat.ended ≡ false
-  pub fault : seat.fault ≡ None
+  pub post : Post
+  pub is : t.post ≡ Some post
+  pub pass : IsStationOf inbox post.pass
+  pub hear : (l : AckLine) → IsHearOf (slice_index_or lines k l) post.hear
+  pub held : post.held ≡ None
+  pub ended : post.ended ≡ false
+  pub fault : post.fault ≡ None
 
-pub record AreSeated {S : Type 0} (inbox : Inbox) (lines : List AckLine) (stations : List (Station S)) : Type 0 where
-  pub each : (k : ℕ) (d : Station S) → k < length stations → IsSeatedAt inbox lines k (slice_index_or stations k d)
+pub record ArePosted {S : Type 0} (inbox : Inbox) (lines : List AckLine) (stations : List (Station S)) : Type 0 where
+  pub each : (k : ℕ) (d : Station S) → k < length stations → IsPostedAt inbox lines k (slice_index_or stations k d)
 
 -- the station's thread has run
 pub record HasRunStation {S : Type 0} (sc : SchemeValue) (talks : S → Talk) (inbox : Inbox) (lines : List AckLine) (k : ℕ) (old new : Station S) : Type 0 where
-  pub seat_old : Seat
-  pub seat_new : Seat
-  pub is_old : old.seat ≡ Some seat_old
-  pub is_new : new.seat ≡ Some seat_new
-  pub pass : IsStationOf inbox seat_new.pass
-  pub hear : (l : AckLine) → IsHearOf (slice_index_or lines k l) seat_new.hear
-  pub named : station_of seat_new.pass ≡ station_of seat_old.pass
+  pub post_old : Post
+  pub post_new : Post
+  pub is_old : old.post ≡ Some post_old
+  pub is_new : new.post ≡ Some post_new
+  pub pass : IsStationOf inbox post_new.pass
+  pub hear : (l : AckLine) → IsHearOf (slice_index_or lines k l) post_new.hear
+  pub named : station_of post_new.pass ≡ station_of post_old.pass
   pub station : new.collector.station ≡ old.collector.station
-  pub read : HasRead sc (station_of seat_old.pass) (talks old.source) (talks new.source) (next_in old.collector) (next_in new.collector) (sent_list seat_old.pass) (sent_list seat_new.pass) (heard_list seat_old.hear) (heard_list seat_new.hear) seat_new.held seat_new.ended seat_new.fault
+  pub read : HasRead sc (station_of post_old.pass) (talks old.source) (talks new.source) (next_in old.collector) (next_in new.collector) (sent_list post_old.pass) (sent_list post_new.pass) (heard_list post_old.hear) (heard_list post_new.hear) post_new.held post_new.ended post_new.fault
 
 pub record HaveRun {S : Type 0} (sc : SchemeValue) (talks : S → Talk) (inbox : Inbox) (lines : List AckLine) (old new : List (Station S)) : Type 0 where
   pub each : (k : ℕ) (d : Station S) → k < length old → HasRunStation sc talks inbox lines k (slice_index_or old k d) (slice_index_or new k d)

@@ -1,10 +1,10 @@
 ghost use Rattle.std.specs.Prelude.{◌≡◌, ◌<◌, ◌≤◌, [], ℕ, true, false, All, length, map, Some, None, vec_len, vec_capacity, slice_index_or, IfOk, OnOk};
 ghost use Rattle.fare_inbox_queue.specs.InboxPasses.{station_of, sent_list, IsStationOf};
 ghost use Rattle.fare_inbox_queue.specs.LinePasses.{put_list, heard_list, IsAckOf, IsHearOf};
-ghost use Rattle.fare_collect.specs.declared.station.Seat.{Seat};
-ghost use Rattle.fare_collect.specs.Opening.{AreNew, AreLent, IsReturned, AreReturned, HaveSeats};
+ghost use Rattle.fare_collect.specs.declared.station.Post.{Post};
+ghost use Rattle.fare_collect.specs.Opening.{AreNew, WerePosted, IsRelieved, AreRelieved, HavePosts};
 
-use crate::station::{End, Seat, Station};
+use crate::station::{End, Post, Station};
 use fare_inbox_queue::{AckLine, HearPass, StationPass};
 use fare_writer::Teller;
 use std::alloc::{AllocError, Global};
@@ -64,14 +64,14 @@ pub(crate) fn open_lines(alloc: Global, capacity: u32, count: usize) -> Result<L
     })
 }
 
-// Lends each station its seat. The two lists stay with the room that they have.
-pub(crate) fn lend<S>(
+// Gives each station its post. The two lists stay with the room that they have.
+pub(crate) fn post_all<S>(
     stations: &mut [Station<S>],
     passes: &mut Vec<StationPass>,
     hears: &mut Vec<HearPass>,
 )
     requires len { (length passes.old.items ≡ length stations.old) × (length hears.old.items ≡ length stations.old) }
-    ensures lent { AreLent passes.old.items hears.old.items stations.old stations.new }
+    ensures posted { WerePosted passes.old.items hears.old.items stations.old stations.new }
     ensures room { (passes.new.items ≡ []) × (hears.new.items ≡ []) × (length stations.old ≤ vec_capacity passes.new) × (length stations.old ≤ vec_capacity hears.new) }
 {
     while let Some(pass) = passes.pop() {
@@ -79,7 +79,7 @@ pub(crate) fn lend<S>(
             unreachable!()
         };
         let index = passes.len();
-        stations[index].seat = Some(Seat {
+        stations[index].post = Some(Post {
             pass,
             hear,
             held: None,
@@ -89,32 +89,32 @@ pub(crate) fn lend<S>(
     }
 }
 
-// Takes a station's seat back.
-fn give_back<S>(station: &mut Station<S>) -> (StationPass, HearPass)
-    requires { (s : Seat) × (station.old.seat ≡ Some s) }
-    ensures { IsReturned station.old result.0 result.1 station.new }
+// Relieves a station of its post.
+fn relieve<S>(station: &mut Station<S>) -> (StationPass, HearPass)
+    requires { (s : Post) × (station.old.post ≡ Some s) }
+    ensures { IsRelieved station.old result.0 result.1 station.new }
 {
-    let Some(seat) = station.seat.take() else {
+    let Some(post) = station.post.take() else {
         unreachable!()
     };
-    let (pass, hear, end) = seat.into_parts();
+    let (pass, hear, end) = post.into_parts();
     station.end = end;
     (pass, hear)
 }
 
-// Takes the seats back.
-pub(crate) fn take_back<S>(
+// Relieves the stations of their posts.
+pub(crate) fn relieve_all<S>(
     stations: &mut [Station<S>],
     passes: &mut Vec<StationPass>,
     hears: &mut Vec<HearPass>,
 )
-    requires seats { HaveSeats stations.old }
+    requires posts { HavePosts stations.old }
     requires empty { (passes.old.items ≡ []) × (hears.old.items ≡ []) }
     requires room { (length stations.old ≤ vec_capacity passes.old) × (length stations.old ≤ vec_capacity hears.old) }
-    ensures { AreReturned stations.old passes.new.items hears.new.items stations.new }
+    ensures { AreRelieved stations.old passes.new.items hears.new.items stations.new }
 {
     for index in 0..stations.len() {
-        let (pass, hear) = give_back(&mut stations[index]);
+        let (pass, hear) = relieve(&mut stations[index]);
         passes.push_reserved(pass);
         hears.push_reserved(hear);
     }

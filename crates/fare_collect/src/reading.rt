@@ -7,7 +7,7 @@ ghost use Rattle.fare_collect.specs.Stations.{HasAnswered, HasRead, frame_for, a
 use crate::ended::Ended;
 use crate::fault::StationFault;
 use crate::putting::pass_on;
-use crate::station::Seat;
+use crate::station::Post;
 use fare_collector::Collector;
 use fare_frame::Frame;
 use fare_inbox_queue::{AckLine, HearPass, Inbox};
@@ -68,20 +68,20 @@ pub(crate) fn read_all<S: Source, G: Gate, R: Wait + Clock>(
     ended: &Ended,
     gate: &G,
     turns: u64,
-    seat: &mut Seat,
+    post: &mut Post,
     collector: &mut Collector,
     source: &mut S,
 )
-    requires queue { IsStationOf inbox.now seat.old.pass × IsHearOf line.now seat.old.hear }
-    requires fresh { (seat.old.held ≡ None) × (seat.old.ended ≡ false) × (seat.old.fault ≡ None) }
-    ensures queue { IsStationOf inbox.now seat.new.pass × IsHearOf line.now seat.new.hear }
-    ensures station { (station_of seat.new.pass ≡ station_of seat.old.pass) × (collector.new.station ≡ collector.old.station) }
-    ensures read { HasRead scheme.now (station_of seat.old.pass) (S.talk source.old) (S.talk source.new) (next_in collector.old) (next_in collector.new) (sent_list seat.old.pass) (sent_list seat.new.pass) (heard_list seat.old.hear) (heard_list seat.new.hear) seat.new.held seat.new.ended seat.new.fault }
+    requires queue { IsStationOf inbox.now post.old.pass × IsHearOf line.now post.old.hear }
+    requires fresh { (post.old.held ≡ None) × (post.old.ended ≡ false) × (post.old.fault ≡ None) }
+    ensures queue { IsStationOf inbox.now post.new.pass × IsHearOf line.now post.new.hear }
+    ensures station { (station_of post.new.pass ≡ station_of post.old.pass) × (collector.new.station ≡ collector.old.station) }
+    ensures read { HasRead scheme.now (station_of post.old.pass) (S.talk source.old) (S.talk source.new) (next_in collector.old) (next_in collector.new) (sent_list post.old.pass) (sent_list post.new.pass) (heard_list post.old.hear) (heard_list post.new.hear) post.new.held post.new.ended post.new.fault }
 {
     let mut turns = Turns::new(turns);
     for _ in rt.forever() {
-        if let Some(fault) = answer_all(rt, line, &mut seat.hear, source) {
-            seat.fault = Some(fault);
+        if let Some(fault) = answer_all(rt, line, &mut post.hear, source) {
+            post.fault = Some(fault);
             break;
         }
         if ended.has_writer_ended() {
@@ -96,11 +96,11 @@ pub(crate) fn read_all<S: Source, G: Gate, R: Wait + Clock>(
         }
         match source.next() {
             Err(fault) => {
-                seat.fault = Some(fault_of(fault));
+                post.fault = Some(fault_of(fault));
                 break;
             }
             Ok(None) => {
-                seat.ended = true;
+                post.ended = true;
                 break;
             }
             Ok(Some(frame)) => {
@@ -112,16 +112,16 @@ pub(crate) fn read_all<S: Source, G: Gate, R: Wait + Clock>(
                     gate,
                     &frame,
                     &mut turns,
-                    &mut seat.pass,
+                    &mut post.pass,
                     collector,
                 ) {
                     Some(true) => {}
                     Some(false) => {
-                        seat.held = Some(frame);
+                        post.held = Some(frame);
                         break;
                     }
                     None => {
-                        seat.fault = Some(StationFault::Unexpected);
+                        post.fault = Some(StationFault::Unexpected);
                         break;
                     }
                 }

@@ -1,4 +1,4 @@
-//! The stations are lent their passes, all threads run, and what is left in the inbox is stored.
+//! The stations take their posts with their passes, all threads run, and what is left in the inbox is stored.
 ghost use Rattle.std.specs.Prelude.{◌≡◌, ◌<◌, ◌≤◌, [], ℕ, length, map, None};
 ghost use Rattle.fare_inbox_queue.specs.InboxPasses.{station_of, taken_list, stations_of, left_of, capacity_of, IsWriterOf, IsInboxEnded};
 ghost use Rattle.fare_collect.specs.Opening.{AreHears, AreNew};
@@ -7,7 +7,7 @@ ghost use Rattle.fare_collect.specs.Resting.{AreApart, AreRead};
 ghost use Rattle.fare_collect.specs.Session.{HaveGivenBack, AreReady, HaveGathered};
 
 use crate::ended::Ended;
-use crate::opening::{lend, take_back};
+use crate::opening::{post_all, relieve_all};
 use crate::resting::{keep_left, rest_all};
 use crate::station::Station;
 use crate::threads::run_threads;
@@ -21,7 +21,7 @@ use std::sync::Wait;
 use std::thread::Threads;
 use std::time::Clock;
 
-// Lends the passes, runs all threads, and takes the passes back.
+// Posts the stations with their passes, runs all threads, and relieves them of the passes.
 fn serve_stations<
     S: Source + Send,
     O: Outbox + Send,
@@ -52,12 +52,12 @@ fn serve_stations<
     ensures hears { AreHears lines.now hears.new.items }
     ensures written { HasWritten scheme.now (O.standing outbox.old) (O.standing outbox.new) (taken_list writer.new) tellers.old tellers.new tally.old tally.new result }
 {
-    lend(stations, passes, hears);
+    post_all(stations, passes, hears);
     let ended = Ended::new();
     let halt = run_threads(
         rt, scheme, inbox, lines, &ended, gate, turns, tally, outbox, writer, tellers, stations,
     );
-    take_back(stations, passes, hears);
+    relieve_all(stations, passes, hears);
     halt
 }
 

@@ -9,7 +9,7 @@ use fare_inbox_queue::{HearPass, StationPass};
 pub struct Station<S> {
     pub(crate) collector: Collector,
     pub(crate) source: S,
-    pub(crate) seat: Option<Seat>,
+    pub(crate) post: Option<Post>,
     pub(crate) end: End,
 }
 
@@ -41,12 +41,12 @@ impl<S: Drop> Drop for Station<S> {
         let Station {
             collector,
             source,
-            seat,
+            post,
             end: _,
         } = self;
         drop(collector);
         drop(source);
-        drop(seat);
+        drop(post);
     }
 }
 
@@ -58,10 +58,10 @@ impl<S: Drop> Station<S> {
         let Station {
             collector,
             source,
-            seat,
+            post,
             end: _,
         } = self;
-        drop(seat);
+        drop(post);
         (collector, source)
     }
 }
@@ -69,19 +69,19 @@ impl<S: Drop> Station<S> {
 impl<S> Station<S> {
     /// A station with its collector and its source.
     pub fn new(collector: Collector, source: S) -> Station<S>
-        ensures { (result.collector ≡ collector) × (result.source ≡ source) × (result.seat ≡ None) }
+        ensures { (result.collector ≡ collector) × (result.source ≡ source) × (result.post ≡ None) }
     {
         Station {
             collector,
             source,
-            seat: None,
+            post: None,
             end: End::new(),
         }
     }
 }
 
-// What a session lends a station's thread.
-pub(crate) struct Seat {
+// What a station's thread has in a session: its passes, and how it stands.
+pub(crate) struct Post {
     pub(crate) pass: StationPass,
     pub(crate) hear: HearPass,
     // a frame that was given and that the inbox didn't take
@@ -91,9 +91,9 @@ pub(crate) struct Seat {
     pub(crate) fault: Option<StationFault>,
 }
 
-impl Drop for Seat {
+impl Drop for Post {
     fn drop(self) {
-        let Seat {
+        let Post {
             pass,
             hear,
             held: _,
@@ -105,11 +105,11 @@ impl Drop for Seat {
     }
 }
 
-impl Seat {
+impl Post {
     pub(crate) fn into_parts(self) -> (StationPass, HearPass, End)
         ensures { result ≡ (self.pass, self.hear, record { held = self.held; ended = self.ended; fault = self.fault }) }
     {
-        let Seat {
+        let Post {
             pass,
             hear,
             held,

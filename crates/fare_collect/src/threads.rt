@@ -1,7 +1,7 @@
 //! All stations' threads, and the writer's.
 ghost use Rattle.std.specs.Prelude.{◌≡◌, ◌<◌, [], ℕ, length};
 ghost use Rattle.fare_inbox_queue.specs.InboxPasses.{taken_list, stations_of, IsWriterOf};
-ghost use Rattle.fare_collect.specs.Stations.{IsSeatedAt, AreSeated, HasRunStation, HaveRun};
+ghost use Rattle.fare_collect.specs.Stations.{IsPostedAt, ArePosted, HasRunStation, HaveRun};
 ghost use Rattle.fare_writer.specs.Handling.{AreTellers, HasWritten};
 
 use crate::ended::Ended;
@@ -31,10 +31,10 @@ fn run_station<S: Source, G: Gate, R: Wait + Clock>(
     place: usize,
     station: &mut Station<S>,
 )
-    requires { IsSeatedAt inbox.now lines.now place station.old }
+    requires { IsPostedAt inbox.now lines.now place station.old }
     ensures { HasRunStation scheme.now S.talk inbox.now lines.now place station.old station.new }
 {
-    let Some(seat) = &mut station.seat else {
+    let Some(post) = &mut station.post else {
         return;
     };
     read_all(
@@ -45,7 +45,7 @@ fn run_station<S: Source, G: Gate, R: Wait + Clock>(
         ended,
         gate,
         turns,
-        seat,
+        post,
         &mut station.collector,
         &mut station.source,
     );
@@ -63,7 +63,7 @@ fn run_stations<S: Source + Send, G: Gate + Sync, R: Threads + Wait + Clock + Sy
     stations: &mut [Station<S>],
 )
     requires some { 0 < length stations.old }
-    requires ready { AreSeated inbox.now lines.now stations.old }
+    requires ready { ArePosted inbox.now lines.now stations.old }
     ensures { HaveRun scheme.now S.talk inbox.now lines.now stations.old stations.new }
 {
     let count = stations.len();
@@ -72,7 +72,7 @@ fn run_stations<S: Source + Send, G: Gate + Sync, R: Threads + Wait + Clock + Sy
         stations,
         count,
         &|place: usize, station: &mut Station<S>|
-            requires { IsSeatedAt inbox.now lines.now place station.old }
+            requires { IsPostedAt inbox.now lines.now place station.old }
             ensures { HasRunStation scheme.entry.now S.talk inbox.entry.now lines.entry.now place station.old station.new }
         { run_station(rt, scheme, inbox, lines, ended, gate, turns, place, station) },
     );
@@ -99,7 +99,7 @@ pub(crate) fn run_threads<
     stations: &mut [Station<S>],
 ) -> Option<Halt>
     requires some { 0 < length stations.old }
-    requires ready { AreSeated inbox.now lines.now stations.old }
+    requires ready { ArePosted inbox.now lines.now stations.old }
     requires queue { IsWriterOf inbox.now writer.old × (taken_list writer.old ≡ []) }
     requires tellers { AreTellers lines.now tellers.old }
     ensures ran { HaveRun scheme.now S.talk inbox.now lines.now stations.old stations.new }
@@ -110,7 +110,7 @@ pub(crate) fn run_threads<
     let (_, halt) = join_mut(
         rt,
         &mut ||
-            requires { (0 < length stations.now) × AreSeated inbox.now lines.now stations.now }
+            requires { (0 < length stations.now) × ArePosted inbox.now lines.now stations.now }
             ensures { HaveRun scheme.entry.now S.talk inbox.entry.now lines.entry.now stations.entry.now stations.exit.now }
         { run_stations(rt, scheme, inbox, lines, ended, gate, turns, stations) },
         &mut || -> Option<Halt>

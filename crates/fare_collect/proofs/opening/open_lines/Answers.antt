@@ -5,7 +5,7 @@ use Rattle.fare_inbox_queue.specs.declared.ack_passes.HearPass.{HearPass}
 use Rattle.fare_inbox_queue.specs.LinePasses.{put_list, IsAckOf}
 use Rattle.fare_writer.specs.declared.teller.Teller.{Teller}
 use Rattle.fare_collect.specs.Opening.{AreNew}
-use Rattle.fare_collect.proofs.Lent.{new_more}
+use Rattle.fare_collect.proofs.Posted.{new_more}
 use Rattle.fare_collect.proofs.opening.open_lines.Goals as goal
 
 pub loop-index-preserved : goal.loop-index-preserved

@@ -1,12 +1,12 @@
 use Rattle.std.proofs.Common.{rules, subst, sym, ℕ, ◌<◌, length, slice_index_or}
 use Rattle.fare_collect.specs.declared.station.Station.{Station}
-use Rattle.fare_collect.specs.Stations.{IsSeatedAt, HasRunStation}
+use Rattle.fare_collect.specs.Stations.{IsPostedAt, HasRunStation}
 use Rattle.fare_collect.proofs.threads.run_stations.Goals as goal
 use Rattle.fare_collect.proofs.threads.run_stations.Goals.{After-for_each_mut}
 
 pub for_each_mut-requires-clause-accepts : goal.for_each_mut-requires-clause-accepts
 for_each_mut-requires-clause-accepts g c κs within = λ i p lt e.
-    subst (λ (t : Station g.row.S.Denot). IsSeatedAt c.args.inbox.now c.args.lines.now i t) (sym e) (c.requires.ready.each i p.now lt)
+    subst (λ (t : Station g.row.S.Denot). IsPostedAt c.args.inbox.now c.args.lines.now i t) (sym e) (c.requires.ready.each i p.now lt)
 
 each : (g : _) (c : After-for_each_mut g) (k : ℕ) (d : Station g.row.S.Denot) → k < length c.args.stations.now
     → HasRunStation c.args.scheme.now g.S.Source.talk c.args.inbox.now c.args.lines.now k (slice_index_or c.args.stations.now k d) (slice_index_or c.for_each_mut.new.s k d)

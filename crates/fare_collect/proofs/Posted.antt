@@ -1,4 +1,4 @@
--- Seats, one more.
+-- Posts, one more.
 use Rattle.std.proofs.Common.{◌≡◌, ◌≢◌, ℕ, zero, suc, ◌+◌, ◌<◌, ◌≤◌, List, [], ◌∷◌, ◌++◌, length, set, slice_index_or, refl, sym, ap, ◌∙◌, subst, inl, inr, arith, length-append}
 use Rattle.std.specs.Prelude.{◌⊎◌}
 use Rattle.std.proofs.lemmas.List.{get_or_default, get_or-set_same, get_or-set_other, get_or_append_left, length-set}
@@ -9,7 +9,7 @@ use Rattle.fare_inbox_queue.specs.declared.inbox_passes.StationPass.{StationPass
 use Rattle.fare_inbox_queue.specs.LinePasses.{put_list, heard_list, IsAckOf, IsHearOf}
 use Rattle.fare_collect.specs.declared.station.Station.{Station}
 use Rattle.fare_writer.specs.declared.teller.Teller.{Teller}
-use Rattle.fare_collect.specs.Opening.{AreNew, seated, AreLending, IsReturned, AreReturning}
+use Rattle.fare_collect.specs.Opening.{AreNew, posted, ArePosting, IsRelieved, AreRelieving}
 
 pub same_or_apart : (k p : ℕ) → (k ≡ p) ⊎ (k ≢ p)
 same_or_apart zero zero = inl refl
@@ -21,11 +21,11 @@ same_or_apart (suc k) (suc p) = elim (same_or_apart k p) [ inl e ↦ inl (ap suc
 pub last_at : {A : Type 0} (xs : List A) (x : A) (k : ℕ) (d : A) → k ≡ length xs → slice_index_or (xs ++ x ∷ []) k d ≡ x
 last_at xs x k d e = ap (λ j. slice_index_or (xs ++ x ∷ []) j d) e ∙ get_or-append_seam xs x [] d
 
--- LENDING
-pub lending_more : {S : Type 0} (ps pl pl' : List StationPass) (hs hl hl' : List HearPass) (old new : List (Station S)) (p : StationPass) (h : HearPass) (n : ℕ) (x : Station S)
-    → AreLending ps pl hs hl old new → pl ≡ pl' ++ p ∷ [] → hl ≡ hl' ++ h ∷ [] → n ≡ length pl' → x ≡ slice_index_or new n x
-    → AreLending ps pl' hs hl' old (set new n (seated x p h))
-lending_more {S} ps pl pl' hs hl hl' old new p h n x was passes hears at here =
+-- POSTING
+pub posting_more : {S : Type 0} (ps pl pl' : List StationPass) (hs hl hl' : List HearPass) (old new : List (Station S)) (p : StationPass) (h : HearPass) (n : ℕ) (x : Station S)
+    → ArePosting ps pl hs hl old new → pl ≡ pl' ++ p ∷ [] → hl ≡ hl' ++ h ∷ [] → n ≡ length pl' → x ≡ slice_index_or new n x
+    → ArePosting ps pl' hs hl' old (set new n (posted x p h))
+posting_more {S} ps pl pl' hs hl hl' old new p h n x was passes hears at here =
     let pn : length pl ≡ length pl' + 1 = ap length passes ∙ length-append pl' (p ∷ []) in
     let hn : length hl ≡ length hl' + 1 = ap length hears ∙ length-append hl' (h ∷ []) in
     let even : length hl' ≡ length pl' = let e = was.even in omega (arith, pn, hn, e) in
@@ -38,15 +38,15 @@ lending_more {S} ps pl pl' hs hl hl' old new p h n x was passes hears at here =
       even = even;
       same = λ k d lt. sym (ap (λ l. slice_index_or l k d) passes ∙ get_or_append_left pl' (p ∷ []) d k lt) ∙ was.same k d (omega (arith, lt, pn));
       hears_same = λ k d lt. sym (ap (λ l. slice_index_or l k d) hears ∙ get_or_append_left hl' (h ∷ []) d k (omega (arith, lt, even))) ∙ was.hears_same k d (omega (arith, lt, pn));
-      len = length-set new n (seated x p h) ∙ was.len;
-      todo = λ k d lt. get_or-set_other new n k (seated x p h) d (λ e. less k lt e) ∙ was.todo k d (omega (arith, lt, pn));
+      len = length-set new n (posted x p h) ∙ was.len;
+      todo = λ k d lt. get_or-set_other new n k (posted x p h) d (λ e. less k lt e) ∙ was.todo k d (omega (arith, lt, pn));
       done = λ k d dp dh le lt. elim (same_or_apart k n) [
         | inl e ↦
             let station : x ≡ slice_index_or old k d = here ∙ (get_or_default new n x d within ∙ (was.todo n d below ∙ ap (λ j. slice_index_or old j d) (sym e))) in
             let pass : p ≡ slice_index_or ps k dp = sym (ap (λ l. slice_index_or l k dp) passes ∙ last_at pl' p k dp (e ∙ at)) ∙ was.same k dp (omega (arith, e, below)) in
             let hear : h ≡ slice_index_or hs k dh = sym (ap (λ l. slice_index_or l k dh) hears ∙ last_at hl' h k dh (e ∙ (at ∙ sym even))) ∙ was.hears_same k dh (omega (arith, e, below)) in
-            ap (λ j. slice_index_or (set new n (seated x p h)) j d) e ∙ (get_or-set_same new n (seated x p h) d within ∙ λ i. seated (station i) (pass i) (hear i))
-        | inr apart ↦ get_or-set_other new n k (seated x p h) d apart ∙ was.done k d dp dh (more k le apart) lt
+            ap (λ j. slice_index_or (set new n (posted x p h)) j d) e ∙ (get_or-set_same new n (posted x p h) d within ∙ λ i. posted (station i) (pass i) (hear i))
+        | inr apart ↦ get_or-set_other new n k (posted x p h) d apart ∙ was.done k d dp dh (more k le apart) lt
       ];
     }
   where
@@ -56,13 +56,13 @@ lending_more {S} ps pl pl' hs hl hl' old new p h n x was passes hears at here =
     more : (k : ℕ) → length pl' ≤ k → k ≢ n → length pl ≤ k
     more k le apart = let pn : length pl ≡ length pl' + 1 = ap length passes ∙ length-append pl' (p ∷ []) in omega (arith, le, apart, at, pn)
 
--- TAKING BACK
-pub returning_none : {S : Type 0} (old : List (Station S)) → AreReturning 0 old [] [] old
-returning_none old = record { len = refl; passes_len = refl; hears_len = refl; todo = λ k d le. refl; done = λ k d p h lt. absurd (omega (arith, lt)) }
+-- RELIEVING
+pub relieving_none : {S : Type 0} (old : List (Station S)) → AreRelieving 0 old [] [] old
+relieving_none old = record { len = refl; passes_len = refl; hears_len = refl; todo = λ k d le. refl; done = λ k d p h lt. absurd (omega (arith, lt)) }
 
-pub returning_more : {S : Type 0} (n : ℕ) (old new : List (Station S)) (ps : List StationPass) (hs : List HearPass) (p : StationPass) (h : HearPass) (x y : Station S)
-    → AreReturning n old ps hs new → n < length old → x ≡ slice_index_or new n x → IsReturned x p h y → AreReturning (n + 1) old (ps ++ p ∷ []) (hs ++ h ∷ []) (set new n y)
-returning_more {S} n old new ps hs p h x y was lt here back =
+pub relieving_more : {S : Type 0} (n : ℕ) (old new : List (Station S)) (ps : List StationPass) (hs : List HearPass) (p : StationPass) (h : HearPass) (x y : Station S)
+    → AreRelieving n old ps hs new → n < length old → x ≡ slice_index_or new n x → IsRelieved x p h y → AreRelieving (n + 1) old (ps ++ p ∷ []) (hs ++ h ∷ []) (set new n y)
+relieving_more {S} n old new ps hs p h x y was lt here back =
     let within : n < length new = let l = was.len in omega (arith, lt, l) in
     record {
       len = length-set new n y ∙ was.len;
@@ -75,14 +75,14 @@ returning_more {S} n old new ps hs p h x y was lt here back =
             let two : p ≡ slice_index_or (ps ++ p ∷ []) k dp = sym (last_at ps p k dp (e ∙ sym was.passes_len)) in
             let three : h ≡ slice_index_or (hs ++ h ∷ []) k dh = sym (last_at hs h k dh (e ∙ sym was.hears_len)) in
             let four : y ≡ slice_index_or (set new n y) k d = sym (ap (λ j. slice_index_or (set new n y) j d) e ∙ get_or-set_same new n y d within) in
-            let P : Station S × (StationPass × (HearPass × Station S)) → Type 0 = λ q. IsReturned q.0 q.1.0 q.1.1.0 q.1.1.1 in
+            let P : Station S × (StationPass × (HearPass × Station S)) → Type 0 = λ q. IsRelieved q.0 q.1.0 q.1.1.0 q.1.1.1 in
             subst P (λ i. (one i, (two i, (three i, four i)))) back
         | inr apart ↦
             let before : k < n = omega (arith, below, apart) in
             let two : slice_index_or ps k dp ≡ slice_index_or (ps ++ p ∷ []) k dp = sym (get_or_append_left ps (p ∷ []) dp k (let l = was.passes_len in omega (arith, before, l))) in
             let three : slice_index_or hs k dh ≡ slice_index_or (hs ++ h ∷ []) k dh = sym (get_or_append_left hs (h ∷ []) dh k (let l = was.hears_len in omega (arith, before, l))) in
             let four : slice_index_or new k d ≡ slice_index_or (set new n y) k d = sym (get_or-set_other new n k y d apart) in
-            let P : StationPass × (HearPass × Station S) → Type 0 = λ q. IsReturned (slice_index_or old k d) q.0 q.1.0 q.1.1 in
+            let P : StationPass × (HearPass × Station S) → Type 0 = λ q. IsRelieved (slice_index_or old k d) q.0 q.1.0 q.1.1 in
             subst P (λ i. (two i, (three i, four i))) (was.done k d dp dh before)
       ];
     }
