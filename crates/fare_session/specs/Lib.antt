@@ -5,4 +5,3 @@ pub mod Resting
 pub mod Asking
 pub mod Session
 pub mod Served
-pub mod Run

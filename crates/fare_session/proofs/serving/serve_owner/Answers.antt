@@ -13,10 +13,10 @@ use Rattle.fare_session.specs.Served.{IsServed, report_of}
 use Rattle.fare_session.specs.declared.fault.SessionFault.TheVariants.{Memory}
 use Rattle.fare_session.specs.Session.{IsSession}
 use Rattle.fare_session.proofs.Takes.{failed_owners, not_refused}
-use Rattle.fare_session.proofs.StoreCalls.{stays_none, stays_then}
-use Rattle.fare_session.proofs.Holdings.{served_by}
+use Rattle.fare_session.proofs.StoreCalls.{stays_then}
+use Rattle.fare_session.proofs.Holdings.{served_none, served_memory, served_from}
 use Rattle.fare_session.proofs.Asks.{bases_apart}
-use Rattle.fare_session.proofs.Serves.{has_cursors, served_none, served_memory, served_from, store_failed, asked_store, sifted_store, told_then, working_since}
+use Rattle.fare_session.proofs.Serves.{has_cursors, store_failed, asked_store, sifted_store, told_then, working_since}
 use Rattle.fare_session.proofs.serving.serve_owner.Goals as goal
 
 pub returns-in-Err : goal.returns-in-Err
@@ -29,9 +29,8 @@ returns-in-Err g c =
     let s = c.failed.result in
     let asked : IsAsked sc lo ln c.ask.new.asked.standings.items c.ask.new.asked.bases.items (Err f) = c.in-Err.ensures in
     subst (λ (z : OwnerReport). IsServed sc c.args.owner x x lo ln z) (sym c.not_begun.ensures)
-    (served_by sc c.args.owner x x lo ln (report_of 0 0 (Some s)) c.have_laws.ensures.outbox c.have_laws.ensures.ledger
-    (served_none sc c.args.owner x lo ln asked.faulted s (stays_none x c.have_laws.ensures.outbox) asked.stays
-    (λ e. asked_store sc lo ln c.ask.new.asked.standings.items c.ask.new.asked.bases.items f asked (store_failed f s c.failed.ensures e)) (λ e. not_refused f s c.failed.ensures e) (failed_owners f s c.failed.ensures)))
+    (served_none sc c.args.owner x lo ln asked.faulted s asked.stays
+    (λ e. asked_store sc lo ln c.ask.new.asked.standings.items c.ask.new.asked.bases.items f asked (store_failed f s c.failed.ensures e)) (λ e. not_refused f s c.failed.ensures e) (failed_owners f s c.failed.ensures))
 
 pub sift-requires-clause-apart : goal.sift-requires-clause-apart
 sift-requires-clause-apart g c =
@@ -59,9 +58,8 @@ returns-in-Err-sift g c =
     let s = c.failed-in-Err-sift.result in
     let sifted : AreSifted lm lz bases working (Err f) = subst (λ (b : List (ℕ × ℕ)). AreSifted lm lz b working (Err f)) c.deref.ensures.value c.in-Err-sift.ensures in
     subst (λ (z : OwnerReport). IsServed sc c.args.owner x x lo lz z) (sym c.not_begun-in-Err-sift.ensures)
-    (served_by sc c.args.owner x x lo lz (report_of 0 0 (Some s)) c.have_laws.ensures.outbox c.have_laws.ensures.ledger
-    (served_none sc c.args.owner x lo lz sifted.faulted s (stays_none x c.have_laws.ensures.outbox) (stays_then lo lm lz sifted.faulted told sifted.stays)
-    (λ e. sifted_store lm lz bases working f sifted (store_failed f s c.failed-in-Err-sift.ensures e)) (λ e. not_refused f s c.failed-in-Err-sift.ensures e) (failed_owners f s c.failed-in-Err-sift.ensures)))
+    (served_none sc c.args.owner x lo lz sifted.faulted s (stays_then lo lm lz sifted.faulted told sifted.stays)
+    (λ e. sifted_store lm lz bases working f sifted (store_failed f s c.failed-in-Err-sift.ensures e)) (λ e. not_refused f s c.failed-in-Err-sift.ensures e) (failed_owners f s c.failed-in-Err-sift.ensures))
 
 pub returns-in_default-start : goal.returns-in_default-start
 returns-in_default-start g c =
@@ -78,7 +76,7 @@ returns-in_default-start g c =
     let sifted : AreSifted lm lz bases working (Ok c.in_default-sift.field-0) = subst (λ (b : List (ℕ × ℕ)). AreSifted lm lz b working (Ok c.in_default-sift.field-0)) c.deref.ensures.value c.in_default-sift.ensures in
     let both : Stays lo lz None = stays_then lo lm lz None told (subst (λ (z : Option Fault). Stays lm lz z) sifted.none sifted.stays) in
     subst (λ (z : OwnerReport). IsServed sc c.args.owner x x lo lz z) (sym c.not_begun-in_default-start.ensures)
-    (served_by sc c.args.owner x x lo lz (report_of 0 0 (Some Memory)) c.have_laws.ensures.outbox c.have_laws.ensures.ledger (served_memory sc c.args.owner x lo lz (stays_none x c.have_laws.ensures.outbox) both))
+    (served_memory sc c.args.owner x lo lz both)
 
 pub returns-in-Err-Memory : goal.returns-in-Err-Memory
 returns-in-Err-Memory g c =
@@ -95,7 +93,7 @@ returns-in-Err-Memory g c =
     let sifted : AreSifted lm lz bases working (Ok c.in_default-sift.field-0) = subst (λ (b : List (ℕ × ℕ)). AreSifted lm lz b working (Ok c.in_default-sift.field-0)) c.deref.ensures.value c.in_default-sift.ensures in
     let both : Stays lo lz None = stays_then lo lm lz None told (subst (λ (z : Option Fault). Stays lm lz z) sifted.none sifted.stays) in
     subst (λ (z : OwnerReport). IsServed sc c.args.owner x x lo lz z) (sym c.not_begun-in-Err-Memory.ensures)
-    (served_by sc c.args.owner x x lo lz (report_of 0 0 (Some Memory)) c.have_laws.ensures.outbox c.have_laws.ensures.ledger (served_memory sc c.args.owner x lo lz (stays_none x c.have_laws.ensures.outbox) both))
+    (served_memory sc c.args.owner x lo lz both)
 
 pub unreachable-requires-in-Err-Range : goal.unreachable-requires-in-Err-Range
 unreachable-requires-in-Err-Range g c =
@@ -159,6 +157,5 @@ returns g c =
     let room = capacity_of c.in-Ok-new.made.0 in
     let few : room ≡ lane_room sc c.args.owner = c.in-Ok-new.ensures.room.0 ∙ ap (λ (o : Option ℕ). unwrap_or o 0) c.in-Some.ensures.value in
     let session : IsSession working bases room x xn lz ln f c.serve_lanes.result = subst (λ (z : List (ℕ × ℕ) × List (ℕ × ℕ)). IsSession z.0 z.1 room x xn lz ln f c.serve_lanes.result) (λ i. (fourth i, fifth i)) c.serve_lanes.ensures in
-    served_by sc c.args.owner x xn lo ln c.serve_lanes.result c.have_laws.ensures.outbox c.have_laws.ensures.ledger
-    (served_from sc c.args.owner room x xn lo lz ln standings bases working f c.serve_lanes.result (working_since sc lo lm lz told after bases working sifted.told) (told_then sc lo lm lz told after standings bases asked.told) asked.count (bases_apart sc lo lm standings bases asked.told)
-    (λ d. c.in-Ok.ensures.cursors d ∙ ap (λ (s : List (ℕ × Option ℕ)). started sc s d) second) c.in-Ok.ensures.owner few both (λ clean. asked.live (after.calls.clean clean)) asked.some session)
+    served_from sc c.args.owner room x xn lo lz ln standings bases working f c.serve_lanes.result (working_since sc lo lm lz told after bases working sifted.told) (told_then sc lo lm lz told after standings bases asked.told) asked.count (bases_apart sc lo lm standings bases asked.told)
+    (λ d. c.in-Ok.ensures.cursors d ∙ ap (λ (s : List (ℕ × Option ℕ)). started sc s d) second) c.in-Ok.ensures.owner few both (λ clean. asked.live (after.calls.clean clean)) asked.some session c.have_laws.ensures.outbox c.have_laws.ensures.ledger
