@@ -7,6 +7,7 @@ ghost use Rattle.fare_session.specs.Forwarding.{is_due, lane_after, IsNextDue, A
 use crate::ending::Ending;
 use crate::fault::{SessionFault, failed};
 use crate::gate::{Gate, Point};
+use crate::pace::Pace;
 use crate::turns::Turns;
 use fare_lane_queue::{ForwardPass, LaneQueue};
 use fare_record::{DeviceId, Item};
@@ -18,10 +19,9 @@ use std::time::Clock;
 // Puts the item, and tries again while the queue is full, turns are left and the owner has not ended. Answers whether
 // it was put.
 fn put_item<G: Gate, R: Wait + Clock>(
-    rt: &R,
+    pace: &Pace<G, R>,
     line: &LaneQueue,
     ending: &Ending,
-    gate: &G,
     item: &Item,
     turns: &mut Turns,
     pass: &mut ForwardPass,
@@ -32,13 +32,13 @@ fn put_item<G: Gate, R: Wait + Clock>(
     ensures put { result ≡ true → sent_list pass.new ≡ sent_list pass.old ++ item.now ∷ [] }
     ensures not_put { result ≡ false → sent_list pass.new ≡ sent_list pass.old }
 {
-    for _ in rt.forever() {
-        if line.put(rt, pass, *item).is_ok() {
-            gate.pass(Point::ForwardPut);
+    for _ in pace.rt.forever() {
+        if line.put(pace.rt, pass, *item).is_ok() {
+            pace.gate.pass(Point::ForwardPut);
             turns.found();
             return true;
         }
-        turns.spend(rt, gate);
+        turns.spend(pace.rt, pace.gate);
         if turns.are_used_up() || ending.has_owner_ended() {
             return false;
         }
@@ -95,12 +95,10 @@ pub(crate) fn next_due<O: Outbox>(
 
 // Puts what comes next of each device, first its taps and then its statements.
 fn forward_devices<O: Outbox, G: Gate, R: Wait + Clock>(
-    rt: &R,
+    pace: &Pace<G, R>,
     line: &LaneQueue,
     ending: &Ending,
-    gate: &G,
     bases: &[(DeviceId, u64)],
-    turns: u64,
     forwarder: &mut Forwarder,
     outbox: &mut O,
     pass: &mut ForwardPass,
@@ -112,17 +110,17 @@ fn forward_devices<O: Outbox, G: Gate, R: Wait + Clock>(
     ensures queue { IsForwardOf line.now pass.new }
     ensures forwarded { Forwarded bases.now (O.standing outbox.old) (O.standing outbox.new) forwarder.old forwarder.new (sent_list pass.new) result }
 {
-    let mut turns = Turns::new(turns);
+    let mut turns = Turns::new(pace.turns);
     for place in 0..bases.len() {
         let (device, base) = bases[place];
         let mut reached = base;
-        for _ in rt.forever() {
+        for _ in pace.rt.forever() {
             let item = match next_due(forwarder, outbox, device, reached) {
                 Ok(Some(item)) => item,
                 Ok(None) => break,
                 Err(fault) => return Some(fault),
             };
-            if !put_item(rt, line, ending, gate, &item, &mut turns, pass) {
+            if !put_item(pace, line, ending, &item, &mut turns, pass) {
                 forwarder.put_back(device);
                 return None;
             }
@@ -135,12 +133,10 @@ fn forward_devices<O: Outbox, G: Gate, R: Wait + Clock>(
 /// The forwarder's thread. It ends at a fault, where nothing comes next any more, where its turns are used up, and
 /// once the owner has ended.
 pub(crate) fn forward_all<O: Outbox, G: Gate, R: Wait + Clock>(
-    rt: &R,
+    pace: &Pace<G, R>,
     line: &LaneQueue,
     ending: &Ending,
-    gate: &G,
     bases: &[(DeviceId, u64)],
-    turns: u64,
     forwarder: &mut Forwarder,
     outbox: &mut O,
     pass: &mut ForwardPass,
@@ -152,9 +148,7 @@ pub(crate) fn forward_all<O: Outbox, G: Gate, R: Wait + Clock>(
     ensures queue { IsForwardOf line.now pass.new }
     ensures forwarded { Forwarded bases.now (O.standing outbox.old) (O.standing outbox.new) forwarder.old forwarder.new (sent_list pass.new) result }
 {
-    let fault = forward_devices(
-        rt, line, ending, gate, bases, turns, forwarder, outbox, pass,
-    );
+    let fault = forward_devices(pace, line, ending, bases, forwarder, outbox, pass);
     ending.forwarder_ends();
     fault
 }

@@ -11,6 +11,7 @@ mod fault;
 mod forwarding;
 mod gate;
 mod laws;
+mod pace;
 mod pruning;
 mod report;
 mod rest;

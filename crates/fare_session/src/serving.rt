@@ -13,6 +13,7 @@ use crate::ending::Ending;
 use crate::fault::{SessionFault, failed};
 use crate::forwarding::forward_all;
 use crate::gate::Gate;
+use crate::pace::Pace;
 use crate::pruning::prune_all;
 use crate::report::OwnerReport;
 use crate::rest::take_rest;
@@ -28,6 +29,13 @@ use std::sync::Wait;
 use std::thread::{Threads, join_mut};
 use std::time::Clock;
 
+// The lane queue of a session, with the passes of its two threads.
+struct Passage {
+    queue: LaneQueue,
+    forward: ForwardPass,
+    mine: OwnerPass,
+}
+
 // The two threads.
 fn run_threads<
     O: Outbox + Send,
@@ -35,88 +43,75 @@ fn run_threads<
     G: Gate + Sync,
     R: Threads + Wait + Clock + Sync,
 >(
-    rt: &R,
-    line: &LaneQueue,
-    ending: &Ending,
-    gate: &G,
+    pace: &Pace<G, R>,
     bases: &[(DeviceId, u64)],
-    turns: u64,
     forwarder: &mut Forwarder,
     outbox: &mut O,
     ledger: &mut L,
     taken: &mut u64,
-    forward: &mut ForwardPass,
-    owner: &mut OwnerPass,
+    passage: &mut Passage,
 ) -> (Option<SessionFault>, Option<SessionFault>)
-    requires forward { IsForwardOf line.now forward.old × (sent_list forward.old ≡ []) × (forward_bases forward.old ≡ bases.now) }
-    requires owner { IsOwnerOf line.now owner.old × (taken_list owner.old ≡ []) }
+    requires forward { IsForwardOf passage.old.queue passage.old.forward × (sent_list passage.old.forward ≡ []) × (forward_bases passage.old.forward ≡ bases.now) }
+    requires owner { IsOwnerOf passage.old.queue passage.old.mine × (taken_list passage.old.mine ≡ []) }
     requires apart { AreApart bases.now }
     requires cursors { HasCursors bases.now forwarder.old }
-    ensures queue { IsForwardOf line.now forward.new × IsOwnerOf line.now owner.new }
-    ensures forwarded { Forwarded bases.now (O.standing outbox.old) (O.standing outbox.new) forwarder.old forwarder.new (sent_list forward.new) result.0 }
-    ensures taken { IsTaking (L.standing ledger.old) (L.standing ledger.new) (taken_list owner.new) result.1 taken.old taken.new }
+    ensures same { passage.new.queue ≡ passage.old.queue }
+    ensures queue { IsForwardOf passage.old.queue passage.new.forward × IsOwnerOf passage.old.queue passage.new.mine }
+    ensures forwarded { Forwarded bases.now (O.standing outbox.old) (O.standing outbox.new) forwarder.old forwarder.new (sent_list passage.new.forward) result.0 }
+    ensures taken { IsTaking (L.standing ledger.old) (L.standing ledger.new) (taken_list passage.new.mine) result.1 taken.old taken.new }
 {
+    let ending = Ending::new();
+    let ending = &ending;
+    let Passage {
+        queue,
+        forward,
+        mine,
+    } = passage;
+    let line = &*queue;
     join_mut(
-        rt,
+        pace.rt,
         &mut || -> Option<SessionFault>
             requires { IsForwardOf line.now forward.now × (sent_list forward.now ≡ []) × (forward_bases forward.now ≡ bases.now) × AreApart bases.now × HasCursors bases.now forwarder.now }
             ensures queue { IsForwardOf line.entry.now forward.exit.now }
             ensures forwarded { Forwarded bases.entry.now (O.standing outbox.entry.now) (O.standing outbox.exit.now) forwarder.entry.now forwarder.exit.now (sent_list forward.exit.now) result }
-        {
-            forward_all(
-                rt, line, ending, gate, bases, turns, forwarder, outbox, forward,
-            )
-        },
+        { forward_all(pace, line, ending, bases, forwarder, outbox, forward) },
         &mut || -> Option<SessionFault>
-            requires { IsOwnerOf line.now owner.now × (taken_list owner.now ≡ []) }
-            ensures queue { IsOwnerOf line.entry.now owner.exit.now }
-            ensures taken { IsTaking (L.standing ledger.entry.now) (L.standing ledger.exit.now) (taken_list owner.exit.now) result taken.entry.now taken.exit.now }
-        { take_all(rt, line, ending, gate, turns, ledger, taken, owner) },
+            requires { IsOwnerOf line.now mine.now × (taken_list mine.now ≡ []) }
+            ensures queue { IsOwnerOf line.entry.now mine.exit.now }
+            ensures taken { IsTaking (L.standing ledger.entry.now) (L.standing ledger.exit.now) (taken_list mine.exit.now) result taken.entry.now taken.exit.now }
+        { take_all(pace, line, ending, ledger, taken, mine) },
     )
 }
 
 // The threads over a new queue, and then what is left in it. Answers the forwarder's fault, the owner's, and how
 // many items are in the owner's hand and in the queue.
 fn run_lanes<O: Outbox + Send, L: Ledger + Send, G: Gate + Sync, R: Threads + Wait + Clock + Sync>(
-    rt: &R,
-    gate: &G,
+    pace: &Pace<G, R>,
     bases: &[(DeviceId, u64)],
-    turns: u64,
     forwarder: &mut Forwarder,
     outbox: &mut O,
     ledger: &mut L,
     taken: &mut u64,
-    queue: LaneQueue,
-    mut forward: ForwardPass,
-    mut mine: OwnerPass,
+    mut passage: Passage,
 ) -> (Option<SessionFault>, Option<SessionFault>, u64)
-    requires forward { IsForwardOf queue forward × (sent_list forward ≡ []) × (forward_bases forward ≡ bases.now) }
-    requires owner { IsOwnerOf queue mine × (taken_list mine ≡ []) }
+    requires forward { IsForwardOf passage.queue passage.forward × (sent_list passage.forward ≡ []) × (forward_bases passage.forward ≡ bases.now) }
+    requires owner { IsOwnerOf passage.queue passage.mine × (taken_list passage.mine ≡ []) }
     requires apart { AreApart bases.now }
     requires cursors { HasCursors bases.now forwarder.old }
-    requires room { capacity_of queue ≤ 1024 }
-    ensures { IsThreaded bases.now (capacity_of queue) (O.standing outbox.old) (O.standing outbox.new) (L.standing ledger.old) (L.standing ledger.new) forwarder.old forwarder.new result.0 result.1 taken.old taken.new result.2 }
+    requires room { capacity_of passage.queue ≤ 1024 }
+    ensures { IsThreaded bases.now (capacity_of passage.queue) (O.standing outbox.old) (O.standing outbox.new) (L.standing ledger.old) (L.standing ledger.new) forwarder.old forwarder.new result.0 result.1 taken.old taken.new result.2 }
 {
-    let ending = Ending::new();
-    let (put, took) = run_threads(
-        rt,
-        &queue,
-        &ending,
-        gate,
-        bases,
-        turns,
-        forwarder,
-        outbox,
-        ledger,
-        taken,
-        &mut forward,
-        &mut mine,
-    );
-    let mut ended = queue.finish(rt, forward, mine);
+    let (put, took) = run_threads(pace, bases, forwarder, outbox, ledger, taken, &mut passage);
+    let Passage {
+        queue,
+        forward,
+        mine,
+    } = passage;
+    let mut ended = queue.finish(pace.rt, forward, mine);
     if let Some(fault) = took {
         return (put, Some(fault), ended.left + 1);
     }
-    match take_left(rt, &mut ended, ledger, taken) {
+    match take_left(pace.rt, &mut ended, ledger, taken) {
         Some(fault) => (put, Some(fault), ended.left + 1),
         None => (put, None, 0),
     }
@@ -129,32 +124,26 @@ fn serve_lanes<
     G: Gate + Sync,
     R: Threads + Wait + Clock + Sync,
 >(
-    rt: &R,
+    pace: &Pace<G, R>,
     owner: OwnerId,
-    gate: &G,
     bases: &[(DeviceId, u64)],
     lanes: &[(DeviceId, u64)],
-    turns: u64,
     forwarder: &mut Forwarder,
     outbox: &mut O,
     ledger: &mut L,
-    queue: LaneQueue,
-    forward: ForwardPass,
-    mine: OwnerPass,
+    passage: Passage,
 ) -> OwnerReport
-    requires forward { IsForwardOf queue forward × (sent_list forward ≡ []) × (forward_bases forward ≡ bases.now) }
-    requires owner { IsOwnerOf queue mine × (taken_list mine ≡ []) }
+    requires forward { IsForwardOf passage.queue passage.forward × (sent_list passage.forward ≡ []) × (forward_bases passage.forward ≡ bases.now) }
+    requires owner { IsOwnerOf passage.queue passage.mine × (taken_list passage.mine ≡ []) }
     requires apart { AreApart bases.now }
     requires cursors { HasCursors bases.now forwarder.old }
-    requires room { capacity_of queue ≤ 1024 }
+    requires room { capacity_of passage.queue ≤ 1024 }
     requires mine { forwarder.old.owner ≡ owner }
     requires all { AreApart lanes.now }
-    ensures { IsSession bases.now lanes.now (capacity_of queue) (O.standing outbox.old) (O.standing outbox.new) (L.standing ledger.old) (L.standing ledger.new) forwarder.old result }
+    ensures { IsSession bases.now lanes.now (capacity_of passage.queue) (O.standing outbox.old) (O.standing outbox.new) (L.standing ledger.old) (L.standing ledger.new) forwarder.old result }
 {
     let mut taken = 0;
-    let (put, fault, left) = run_lanes(
-        rt, gate, bases, turns, forwarder, outbox, ledger, &mut taken, queue, forward, mine,
-    );
+    let (put, fault, left) = run_lanes(pace, bases, forwarder, outbox, ledger, &mut taken, passage);
     if let Some(fault) = fault {
         return OwnerReport {
             taken,
@@ -170,7 +159,9 @@ fn serve_lanes<
         };
     }
     let mut hand = 0;
-    if let Some(fault) = take_rest(rt, bases, forwarder, outbox, ledger, &mut taken, &mut hand) {
+    if let Some(fault) = take_rest(
+        pace.rt, bases, forwarder, outbox, ledger, &mut taken, &mut hand,
+    ) {
         return OwnerReport {
             taken,
             left: hand,
@@ -246,18 +237,19 @@ pub fn serve_owner<
         Err(LaneQueueFault::Memory) => return not_begun(SessionFault::Memory),
         Err(LaneQueueFault::Range) => unreachable!(),
     };
+    let pace = Pace { rt, gate, turns };
     serve_lanes(
-        rt,
+        &pace,
         owner,
-        gate,
         &working,
         &asked.bases,
-        turns,
         &mut forwarder,
         outbox,
         ledger,
-        queue,
-        forward,
-        mine,
+        Passage {
+            queue,
+            forward,
+            mine,
+        },
     )
 }

@@ -9,6 +9,7 @@ ghost use Rattle.fare_session.specs.Taking.{IsKept, IsTaken, IsTaking, IsLeftTak
 use crate::ending::Ending;
 use crate::fault::{SessionFault, failed};
 use crate::gate::{Gate, Point};
+use crate::pace::Pace;
 use crate::turns::Turns;
 use fare_lane_queue::{Ended, LaneQueue, OwnerPass};
 use fare_owner::StatementFault;
@@ -78,11 +79,9 @@ pub(crate) fn keep_item<L: Ledger>(
 /// The owner's thread. It ends at a fault, where its turns are used up, and where the queue is empty once the
 /// forwarder has ended.
 pub(crate) fn take_all<L: Ledger, G: Gate, R: Wait + Clock>(
-    rt: &R,
+    pace: &Pace<G, R>,
     line: &LaneQueue,
     ending: &Ending,
-    gate: &G,
-    turns: u64,
     ledger: &mut L,
     taken: &mut u64,
     pass: &mut OwnerPass,
@@ -91,12 +90,12 @@ pub(crate) fn take_all<L: Ledger, G: Gate, R: Wait + Clock>(
     ensures queue { IsOwnerOf line.now pass.new }
     ensures taken { IsTaking (L.standing ledger.old) (L.standing ledger.new) (taken_list pass.new) result taken.old taken.new }
 {
-    let mut turns = Turns::new(turns);
-    for _ in rt.forever() {
+    let mut turns = Turns::new(pace.turns);
+    for _ in pace.rt.forever() {
         let ended = ending.has_forwarder_ended();
-        match line.take(rt, pass) {
+        match line.take(pace.rt, pass) {
             Some(item) => {
-                gate.pass(Point::OwnerTook);
+                pace.gate.pass(Point::OwnerTook);
                 turns.found();
                 if let Some(fault) = keep_item(ledger, &item, taken) {
                     ending.owner_ends();
@@ -104,7 +103,7 @@ pub(crate) fn take_all<L: Ledger, G: Gate, R: Wait + Clock>(
                 }
             }
             None => {
-                turns.spend(rt, gate);
+                turns.spend(pace.rt, pace.gate);
                 if ended || turns.are_used_up() {
                     break;
                 }

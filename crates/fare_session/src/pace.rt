@@ -1,0 +1,9 @@
+// What goes with every call in the threads of a session.
+#[derive(Drop)]
+pub(crate) struct Pace<'a, G, R> {
+    pub(crate) rt: &'a R,
+    // what the threads pass
+    pub(crate) gate: &'a G,
+    // how often each may find nothing to do
+    pub(crate) turns: u64,
+}
