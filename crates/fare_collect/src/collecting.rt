@@ -9,8 +9,9 @@ ghost use Rattle.fare_collect.specs.Session.{id_of, IsOpen, HasSession};
 use crate::answering::answer_last;
 use crate::ending::hand_all;
 use crate::fault::StationFault;
+use crate::floor::Floor;
 use crate::opening::{Lines, open_lines};
-use crate::serving::gather;
+use crate::serving::{Intake, gather};
 use crate::station::{End, Station};
 use fare_inbox_queue::{Inbox, StationPass, WriterPass};
 use fare_record::StationId;
@@ -172,17 +173,23 @@ fn run<S: Source + Send, O: Outbox + Send, G: Gate + Sync, R: Threads + Wait + C
 {
     let (inbox, passes, writer, lines) = queues.into_parts();
     let (lines, mut tellers, mut hears) = lines.into_parts();
-    let (halt, ended) = gather(
+    let floor = Floor {
         rt,
         scheme,
-        inbox,
-        &lines,
         gate,
         turns,
+    };
+    let intake = Intake {
+        inbox,
+        passes,
+        writer,
+    };
+    let (halt, ended) = gather(
+        &floor,
+        intake,
+        &lines,
         tally,
         outbox,
-        writer,
-        passes,
         &mut hears,
         &mut tellers,
         stations,

@@ -8,6 +8,7 @@ mod collecting;
 mod ended;
 mod ending;
 mod fault;
+mod floor;
 mod making;
 mod opening;
 mod putting;

@@ -7,21 +7,20 @@ ghost use Rattle.fare_writer.specs.Arriving.{IsUnexpected};
 ghost use Rattle.fare_frame.specs.declared.frame.Frame.TheVariants.{Tapped};
 
 use crate::ended::Ended;
+use crate::floor::Floor;
 use fare_collector::{Collector, unaccept_undoes_accept};
 use fare_frame::Frame;
 use fare_inbox_queue::{Arrived, Inbox, StationPass};
 use fare_record::Record;
-use fare_scheme::Scheme;
 use fare_session::{Gate, Point, Turns};
 use std::sync::Wait;
 use std::time::Clock;
 
 // Puts an item, trying again while the inbox is full, turns are left and the writer has not ended.
 pub(crate) fn put<G: Gate, R: Wait + Clock>(
-    rt: &R,
+    floor: &Floor<G, R>,
     inbox: &Inbox,
     ended: &Ended,
-    gate: &G,
     item: &Arrived,
     turns: &mut Turns,
     pass: &mut StationPass,
@@ -32,13 +31,13 @@ pub(crate) fn put<G: Gate, R: Wait + Clock>(
     ensures put { result ≡ true → sent_list pass.new ≡ sent_list pass.old ++ item.now ∷ [] }
     ensures not_put { result ≡ false → sent_list pass.new ≡ sent_list pass.old }
 {
-    for _ in rt.forever() {
-        if inbox.put(rt, pass, *item).is_ok() {
-            gate.pass(Point::StationPut);
+    for _ in floor.rt.forever() {
+        if inbox.put(floor.rt, pass, *item).is_ok() {
+            floor.gate.pass(Point::StationPut);
             turns.found();
             return true;
         }
-        turns.spend(rt, gate);
+        turns.spend(floor.rt, floor.gate);
         if turns.are_used_up() || ended.has_writer_ended() {
             return false;
         }
@@ -49,11 +48,9 @@ pub(crate) fn put<G: Gate, R: Wait + Clock>(
 // Takes a tap to its collector and, where that accepts it, to the inbox. False where the inbox didn't take it, and
 // then the collector is as it was.
 fn put_tap<G: Gate, R: Wait + Clock>(
-    rt: &R,
-    scheme: &Scheme,
+    floor: &Floor<G, R>,
     inbox: &Inbox,
     ended: &Ended,
-    gate: &G,
     tapped: Record,
     turns: &mut Turns,
     pass: &mut StationPass,
@@ -61,14 +58,14 @@ fn put_tap<G: Gate, R: Wait + Clock>(
 ) -> bool
     requires queue { IsStationOf inbox.now pass.old }
     ensures queue { IsStationOf inbox.now pass.new }
-    ensures passed { HasPassedOn scheme.now (station_of pass.old) (next_in collector.old) (next_in collector.new) (sent_list pass.old) (sent_list pass.new) (Tapped tapped) result }
+    ensures passed { HasPassedOn floor.now.scheme.now (station_of pass.old) (next_in collector.old) (next_in collector.new) (sent_list pass.old) (sent_list pass.new) (Tapped tapped) result }
     ensures station { (station_of pass.new ≡ station_of pass.old) × (collector.new.station ≡ collector.old.station) }
 {
-    if collector.accept(scheme, &tapped).is_err() {
+    if collector.accept(floor.scheme, &tapped).is_err() {
         return true;
     }
     let item = Arrived::Tap(pass.station(), tapped);
-    if put(rt, inbox, ended, gate, &item, turns, pass) {
+    if put(floor, inbox, ended, &item, turns, pass) {
         return true;
     }
     unaccept_undoes_accept();
@@ -79,11 +76,9 @@ fn put_tap<G: Gate, R: Wait + Clock>(
 // Takes a frame to the collector and, where that accepts it, to the inbox. `None` where no device sends such a
 // frame; `Some(false)` where the inbox didn't take it, and then the collector is as it was.
 pub(crate) fn pass_on<G: Gate, R: Wait + Clock>(
-    rt: &R,
-    scheme: &Scheme,
+    floor: &Floor<G, R>,
     inbox: &Inbox,
     ended: &Ended,
-    gate: &G,
     frame: &Frame,
     turns: &mut Turns,
     pass: &mut StationPass,
@@ -91,20 +86,21 @@ pub(crate) fn pass_on<G: Gate, R: Wait + Clock>(
 ) -> Option<bool>
     requires queue { IsStationOf inbox.now pass.old }
     ensures queue { IsStationOf inbox.now pass.new }
-    ensures some { IfSome result (HasPassedOn scheme.now (station_of pass.old) (next_in collector.old) (next_in collector.new) (sent_list pass.old) (sent_list pass.new) frame.now) }
+    ensures some { IfSome result (HasPassedOn floor.now.scheme.now (station_of pass.old) (next_in collector.old) (next_in collector.new) (sent_list pass.old) (sent_list pass.new) frame.now) }
     ensures expected { IsUnexpected frame.now → result ≡ None }
     ensures none { IfNone result (IsUnexpected frame.now × (next_in collector.new ≡ next_in collector.old) × (sent_list pass.new ≡ sent_list pass.old)) }
     ensures station { (station_of pass.new ≡ station_of pass.old) × (collector.new.station ≡ collector.old.station) }
 {
     if let Some(tapped) = frame.tapped() {
-        return Some(put_tap(
-            rt, scheme, inbox, ended, gate, tapped, turns, pass, collector,
-        ));
+        return Some(put_tap(floor, inbox, ended, tapped, turns, pass, collector));
     }
     let statement = frame.stated()?;
-    if collector.accept_statement(scheme, &statement).is_err() {
+    if collector
+        .accept_statement(floor.scheme, &statement)
+        .is_err()
+    {
         return Some(true);
     }
     let item = Arrived::Stated(pass.station(), statement);
-    Some(put(rt, inbox, ended, gate, &item, turns, pass))
+    Some(put(floor, inbox, ended, &item, turns, pass))
 }

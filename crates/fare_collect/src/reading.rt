@@ -6,13 +6,13 @@ ghost use Rattle.fare_collect.specs.Stations.{HasAnswered, HasRead, frame_for, a
 
 use crate::ended::Ended;
 use crate::fault::StationFault;
+use crate::floor::Floor;
 use crate::putting::pass_on;
 use crate::station::Post;
 use fare_collector::Collector;
 use fare_frame::Frame;
 use fare_inbox_queue::{AckLine, HearPass, Inbox};
 use fare_record::AckItem;
-use fare_scheme::Scheme;
 use fare_session::{Gate, Turns};
 use fare_source::{Source, SourceFault};
 use std::sync::Wait;
@@ -61,13 +61,10 @@ fn answer_all<S: Source, R: Wait + Clock>(
 // The station's thread: takes the frames of its source to its collector and into the inbox, and hands the source
 // what its line has between them.
 pub(crate) fn read_all<S: Source, G: Gate, R: Wait + Clock>(
-    rt: &R,
-    scheme: &Scheme,
+    floor: &Floor<G, R>,
     inbox: &Inbox,
     line: &AckLine,
     ended: &Ended,
-    gate: &G,
-    turns: u64,
     post: &mut Post,
     collector: &mut Collector,
     source: &mut S,
@@ -76,11 +73,11 @@ pub(crate) fn read_all<S: Source, G: Gate, R: Wait + Clock>(
     requires fresh { (post.old.held ≡ None) × (post.old.ended ≡ false) × (post.old.fault ≡ None) }
     ensures queue { IsStationOf inbox.now post.new.pass × IsHearOf line.now post.new.hear }
     ensures station { (station_of post.new.pass ≡ station_of post.old.pass) × (collector.new.station ≡ collector.old.station) }
-    ensures read { HasRead scheme.now (station_of post.old.pass) (S.talk source.old) (S.talk source.new) (next_in collector.old) (next_in collector.new) (sent_list post.old.pass) (sent_list post.new.pass) (heard_list post.old.hear) (heard_list post.new.hear) post.new.held post.new.ended post.new.fault }
+    ensures read { HasRead floor.now.scheme.now (station_of post.old.pass) (S.talk source.old) (S.talk source.new) (next_in collector.old) (next_in collector.new) (sent_list post.old.pass) (sent_list post.new.pass) (heard_list post.old.hear) (heard_list post.new.hear) post.new.held post.new.ended post.new.fault }
 {
-    let mut turns = Turns::new(turns);
-    for _ in rt.forever() {
-        if let Some(fault) = answer_all(rt, line, &mut post.hear, source) {
+    let mut turns = Turns::new(floor.turns);
+    for _ in floor.rt.forever() {
+        if let Some(fault) = answer_all(floor.rt, line, &mut post.hear, source) {
             post.fault = Some(fault);
             break;
         }
@@ -88,7 +85,7 @@ pub(crate) fn read_all<S: Source, G: Gate, R: Wait + Clock>(
             break;
         }
         if !source.is_ready() {
-            turns.spend(rt, gate);
+            turns.spend(floor.rt, floor.gate);
             if turns.are_used_up() {
                 break;
             }
@@ -105,11 +102,9 @@ pub(crate) fn read_all<S: Source, G: Gate, R: Wait + Clock>(
             }
             Ok(Some(frame)) => {
                 match pass_on(
-                    rt,
-                    scheme,
+                    floor,
                     inbox,
                     ended,
-                    gate,
                     &frame,
                     &mut turns,
                     &mut post.pass,

@@ -5,11 +5,11 @@ ghost use Rattle.fare_collect.specs.Stations.{IsPostedAt, ArePosted, HasRunStati
 ghost use Rattle.fare_writer.specs.Handling.{AreTellers, HasWritten};
 
 use crate::ended::Ended;
+use crate::floor::Floor;
 use crate::reading::read_all;
 use crate::station::Station;
 use crate::writing::write_all;
 use fare_inbox_queue::{AckLine, Inbox, WriterPass};
-use fare_scheme::Scheme;
 use fare_session::Gate;
 use fare_source::Source;
 use fare_store::Outbox;
@@ -21,30 +21,24 @@ use std::time::Clock;
 
 // A station's thread.
 fn run_station<S: Source, G: Gate, R: Wait + Clock>(
-    rt: &R,
-    scheme: &Scheme,
+    floor: &Floor<G, R>,
     inbox: &Inbox,
     lines: &[AckLine],
     ended: &Ended,
-    gate: &G,
-    turns: u64,
     place: usize,
     station: &mut Station<S>,
 )
     requires { IsPostedAt inbox.now lines.now place station.old }
-    ensures { HasRunStation scheme.now S.talk inbox.now lines.now place station.old station.new }
+    ensures { HasRunStation floor.now.scheme.now S.talk inbox.now lines.now place station.old station.new }
 {
     let Some(post) = &mut station.post else {
         return;
     };
     read_all(
-        rt,
-        scheme,
+        floor,
         inbox,
         &lines[place],
         ended,
-        gate,
-        turns,
         post,
         &mut station.collector,
         &mut station.source,
@@ -53,28 +47,25 @@ fn run_station<S: Source, G: Gate, R: Wait + Clock>(
 
 // Each station in a thread of its own.
 fn run_stations<S: Source + Send, G: Gate + Sync, R: Threads + Wait + Clock + Sync>(
-    rt: &R,
-    scheme: &Scheme,
+    floor: &Floor<G, R>,
     inbox: &Inbox,
     lines: &[AckLine],
     ended: &Ended,
-    gate: &G,
-    turns: u64,
     stations: &mut [Station<S>],
 )
     requires some { 0 < length stations.old }
     requires ready { ArePosted inbox.now lines.now stations.old }
-    ensures { HaveRun scheme.now S.talk inbox.now lines.now stations.old stations.new }
+    ensures { HaveRun floor.now.scheme.now S.talk inbox.now lines.now stations.old stations.new }
 {
     let count = stations.len();
     thread::for_each_mut(
-        rt,
+        floor.rt,
         stations,
         count,
         &|place: usize, station: &mut Station<S>|
             requires { IsPostedAt inbox.now lines.now place station.old }
-            ensures { HasRunStation scheme.entry.now S.talk inbox.entry.now lines.entry.now place station.old station.new }
-        { run_station(rt, scheme, inbox, lines, ended, gate, turns, place, station) },
+            ensures { HasRunStation floor.entry.now.scheme.now S.talk inbox.entry.now lines.entry.now place station.old station.new }
+        { run_station(floor, inbox, lines, ended, place, station) },
     );
 }
 
@@ -85,13 +76,9 @@ pub(crate) fn run_threads<
     G: Gate + Sync,
     R: Threads + Wait + Clock + Sync,
 >(
-    rt: &R,
-    scheme: &Scheme,
+    floor: &Floor<G, R>,
     inbox: &Inbox,
     lines: &[AckLine],
-    ended: &Ended,
-    gate: &G,
-    turns: u64,
     tally: &mut Tally,
     outbox: &mut O,
     writer: &mut WriterPass,
@@ -102,27 +89,25 @@ pub(crate) fn run_threads<
     requires ready { ArePosted inbox.now lines.now stations.old }
     requires queue { IsWriterOf inbox.now writer.old × (taken_list writer.old ≡ []) }
     requires tellers { AreTellers lines.now tellers.old }
-    ensures ran { HaveRun scheme.now S.talk inbox.now lines.now stations.old stations.new }
+    ensures ran { HaveRun floor.now.scheme.now S.talk inbox.now lines.now stations.old stations.new }
     ensures queue { IsWriterOf inbox.now writer.new × (stations_of writer.new ≡ stations_of writer.old) }
     ensures tellers { AreTellers lines.now tellers.new }
-    ensures written { HasWritten scheme.now (O.standing outbox.old) (O.standing outbox.new) (taken_list writer.new) tellers.old tellers.new tally.old tally.new result }
+    ensures written { HasWritten floor.now.scheme.now (O.standing outbox.old) (O.standing outbox.new) (taken_list writer.new) tellers.old tellers.new tally.old tally.new result }
 {
+    let ended = Ended::new();
+    let ended = &ended;
     let (_, halt) = join_mut(
-        rt,
+        floor.rt,
         &mut ||
             requires { (0 < length stations.now) × ArePosted inbox.now lines.now stations.now }
-            ensures { HaveRun scheme.entry.now S.talk inbox.entry.now lines.entry.now stations.entry.now stations.exit.now }
-        { run_stations(rt, scheme, inbox, lines, ended, gate, turns, stations) },
+            ensures { HaveRun floor.entry.now.scheme.now S.talk inbox.entry.now lines.entry.now stations.entry.now stations.exit.now }
+        { run_stations(floor, inbox, lines, ended, stations) },
         &mut || -> Option<Halt>
             requires { IsWriterOf inbox.now writer.now × (taken_list writer.now ≡ []) × AreTellers lines.now tellers.now }
             ensures queue { IsWriterOf inbox.entry.now writer.exit.now × (stations_of writer.exit.now ≡ stations_of writer.entry.now) }
             ensures tellers { AreTellers lines.entry.now tellers.exit.now }
-            ensures written { HasWritten scheme.entry.now (O.standing outbox.entry.now) (O.standing outbox.exit.now) (taken_list writer.exit.now) tellers.entry.now tellers.exit.now tally.entry.now tally.exit.now result }
-        {
-            write_all(
-                rt, scheme, inbox, lines, ended, gate, turns, tally, outbox, writer, tellers,
-            )
-        },
+            ensures written { HasWritten floor.entry.now.scheme.now (O.standing outbox.entry.now) (O.standing outbox.exit.now) (taken_list writer.exit.now) tellers.entry.now tellers.exit.now tally.entry.now tally.exit.now result }
+        { write_all(floor, inbox, lines, ended, tally, outbox, writer, tellers) },
     );
     halt
 }

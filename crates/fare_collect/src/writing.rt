@@ -3,8 +3,8 @@ ghost use Rattle.fare_inbox_queue.specs.InboxPasses.{taken_list, stations_of, Is
 ghost use Rattle.fare_writer.specs.Handling.{AreTellers, HasWritten};
 
 use crate::ended::Ended;
+use crate::floor::Floor;
 use fare_inbox_queue::{AckLine, Inbox, WriterPass};
-use fare_scheme::Scheme;
 use fare_session::{Gate, Turns};
 use fare_store::Outbox;
 use fare_writer::{Halt, Tally, Teller, handle};
@@ -13,13 +13,10 @@ use std::time::Clock;
 
 // The writer's thread: stores what the inbox has, and tells each station what it may acknowledge.
 pub(crate) fn write_all<O: Outbox, G: Gate, R: Wait + Clock>(
-    rt: &R,
-    scheme: &Scheme,
+    floor: &Floor<G, R>,
     inbox: &Inbox,
     lines: &[AckLine],
     ended: &Ended,
-    gate: &G,
-    turns: u64,
     tally: &mut Tally,
     outbox: &mut O,
     writer: &mut WriterPass,
@@ -29,21 +26,30 @@ pub(crate) fn write_all<O: Outbox, G: Gate, R: Wait + Clock>(
     requires ready { AreTellers lines.now tellers.old }
     ensures queue { IsWriterOf inbox.now writer.new × (stations_of writer.new ≡ stations_of writer.old) }
     ensures ready { AreTellers lines.now tellers.new }
-    ensures written { HasWritten scheme.now (O.standing outbox.old) (O.standing outbox.new) (taken_list writer.new) tellers.old tellers.new tally.old tally.new result }
+    ensures written { HasWritten floor.now.scheme.now (O.standing outbox.old) (O.standing outbox.new) (taken_list writer.new) tellers.old tellers.new tally.old tally.new result }
 {
-    let mut turns = Turns::new(turns);
-    for _ in rt.forever() {
+    let mut turns = Turns::new(floor.turns);
+    for _ in floor.rt.forever() {
         let all_ended = ended.stations() >= lines.len() as u64;
-        match inbox.take(rt, writer) {
+        match inbox.take(floor.rt, writer) {
             Some(item) => {
                 turns.found();
-                if let Some(halt) = handle(rt, scheme, lines, gate, item, tally, outbox, tellers) {
+                if let Some(halt) = handle(
+                    floor.rt,
+                    floor.scheme,
+                    lines,
+                    floor.gate,
+                    item,
+                    tally,
+                    outbox,
+                    tellers,
+                ) {
                     ended.writer_ends();
                     return Some(halt);
                 }
             }
             None => {
-                turns.spend(rt, gate);
+                turns.spend(floor.rt, floor.gate);
                 if all_ended || turns.are_used_up() {
                     break;
                 }

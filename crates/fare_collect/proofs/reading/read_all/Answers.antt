@@ -20,7 +20,7 @@ loop-init g c = (c.requires.queue, c.requires.fresh, (refl, refl), read_none _ _
 pub loop-preserved : goal.loop-preserved
 loop-preserved g c =
     let inv = c.loop.invariant in
-    let sc = c.args.scheme.now in
+    let sc = c.args.floor.now.scheme.now in
     let station = station_of c.args.post.now.pass in
     let a = g.S.Source.talk c.args.source.now in
     let b = g.S.Source.talk c.loop.source in
@@ -52,7 +52,7 @@ loop-preserved g c =
 pub loop-preserved-then-not-is_ready : goal.loop-preserved-then-not-is_ready
 loop-preserved-then-not-is_ready g c =
     let inv = c.loop.invariant in
-    let sc = c.args.scheme.now in
+    let sc = c.args.floor.now.scheme.now in
     let station = station_of c.args.post.now.pass in
     let a = g.S.Source.talk c.args.source.now in
     let b = g.S.Source.talk c.loop.source in
@@ -71,7 +71,7 @@ loop-preserved-then-not-is_ready g c =
 pub returns-clause-read : goal.returns-clause-read
 returns-clause-read g c =
     let inv = c.loop.invariant in
-    let sc = c.args.scheme.now in
+    let sc = c.args.floor.now.scheme.now in
     let station = station_of c.args.post.now.pass in
     let a = g.S.Source.talk c.args.source.now in
     let b = g.S.Source.talk c.loop.source in

@@ -9,11 +9,11 @@ for_each_mut-requires-clause-accepts g c κs within = λ i p lt e.
     subst (λ (t : Station g.row.S.Denot). IsPostedAt c.args.inbox.now c.args.lines.now i t) (sym e) (c.requires.ready.each i p.now lt)
 
 each : (g : _) (c : After-for_each_mut g) (k : ℕ) (d : Station g.row.S.Denot) → k < length c.args.stations.now
-    → HasRunStation c.args.scheme.now g.S.Source.talk c.args.inbox.now c.args.lines.now k (slice_index_or c.args.stations.now k d) (slice_index_or c.for_each_mut.new.s k d)
+    → HasRunStation c.args.floor.now.scheme.now g.S.Source.talk c.args.inbox.now c.args.lines.now k (slice_index_or c.args.stations.now k d) (slice_index_or c.for_each_mut.new.s k d)
 each g c k d lt =
     let e = (c.for_each_mut.ensures k d lt).1 in
-    let m : HasRunStation c.args.scheme.now g.S.Source.talk c.args.inbox.now c.args.lines.now k e.argument.now e.after_call.now = (let k = e.call in search rules) in
-    let P : Station g.row.S.Denot × Station g.row.S.Denot → Type 0 = λ y. HasRunStation c.args.scheme.now g.S.Source.talk c.args.inbox.now c.args.lines.now k y.0 y.1 in
+    let m : HasRunStation c.args.floor.now.scheme.now g.S.Source.talk c.args.inbox.now c.args.lines.now k e.argument.now e.after_call.now = (let k = e.call in search rules) in
+    let P : Station g.row.S.Denot × Station g.row.S.Denot → Type 0 = λ y. HasRunStation c.args.floor.now.scheme.now g.S.Source.talk c.args.inbox.now c.args.lines.now k y.0 y.1 in
     subst P (λ i. (e.argument_is i, e.left i)) m
 
 pub returns : goal.returns

@@ -12,7 +12,7 @@ loop-init g c = (
   c.requires.queue.0,
   refl,
   c.requires.ready,
-  subst (λ (l : List Arrived). HasWritten c.args.scheme.now (g.O.Outbox.standing c.args.outbox.now) (g.O.Outbox.standing c.args.outbox.now) l c.args.tellers.now c.args.tellers.now c.args.tally.now c.args.tally.now None) (sym c.requires.queue.1)
+  subst (λ (l : List Arrived). HasWritten c.args.floor.now.scheme.now (g.O.Outbox.standing c.args.outbox.now) (g.O.Outbox.standing c.args.outbox.now) l c.args.tellers.now c.args.tellers.now c.args.tally.now c.args.tally.now None) (sym c.requires.queue.1)
       (written_none _ _ _ _ (g.met.O.Outbox.sound c.args.outbox.now)),
 )
 
@@ -24,9 +24,9 @@ returns-in-Some-handle-clause-written g c =
     let a = g.O.Outbox.standing c.args.outbox.now in
     let b = g.O.Outbox.standing c.loop.outbox in
     let d = g.O.Outbox.standing c.handle.new.outbox in
-    subst (λ (l : List Arrived). HasWritten c.args.scheme.now a d l c.args.tellers.now c.handle.new.tellers c.args.tally.now c.handle.new.tally (Some c.in-Some-handle.halt)) (sym took)
-    (written_then c.args.scheme.now a b d (taken_list c.loop.writer) (item ∷ []) c.args.tellers.now c.loop.tellers c.handle.new.tellers c.args.tally.now c.loop.tally c.handle.new.tally (Some c.in-Some-handle.halt) inv.3
-    (subst (λ (h : Option Halt). HasWritten c.args.scheme.now b d (item ∷ []) c.loop.tellers c.handle.new.tellers c.loop.tally c.handle.new.tally h) c.in-Some-handle.is c.handle.ensures.written))
+    subst (λ (l : List Arrived). HasWritten c.args.floor.now.scheme.now a d l c.args.tellers.now c.handle.new.tellers c.args.tally.now c.handle.new.tally (Some c.in-Some-handle.halt)) (sym took)
+    (written_then c.args.floor.now.scheme.now a b d (taken_list c.loop.writer) (item ∷ []) c.args.tellers.now c.loop.tellers c.handle.new.tellers c.args.tally.now c.loop.tally c.handle.new.tally (Some c.in-Some-handle.halt) inv.3
+    (subst (λ (h : Option Halt). HasWritten c.args.floor.now.scheme.now b d (item ∷ []) c.loop.tellers c.handle.new.tellers c.loop.tally c.handle.new.tally h) c.in-Some-handle.is c.handle.ensures.written))
 
 pub loop-preserved-in_default : goal.loop-preserved-in_default
 loop-preserved-in_default g c =
@@ -39,7 +39,7 @@ loop-preserved-in_default g c =
       c.take.ensures.queue,
       c.take.ensures.stations ∙ inv.1,
       c.handle.ensures.ready,
-      subst (λ (l : List Arrived). HasWritten c.args.scheme.now a d l c.args.tellers.now c.handle.new.tellers c.args.tally.now c.handle.new.tally None) (sym took)
-          (written_then c.args.scheme.now a b d (taken_list c.loop.writer) (item ∷ []) c.args.tellers.now c.loop.tellers c.handle.new.tellers c.args.tally.now c.loop.tally c.handle.new.tally None inv.3
-          (subst (λ (h : Option Halt). HasWritten c.args.scheme.now b d (item ∷ []) c.loop.tellers c.handle.new.tellers c.loop.tally c.handle.new.tally h) c.in_default.is c.handle.ensures.written)),
+      subst (λ (l : List Arrived). HasWritten c.args.floor.now.scheme.now a d l c.args.tellers.now c.handle.new.tellers c.args.tally.now c.handle.new.tally None) (sym took)
+          (written_then c.args.floor.now.scheme.now a b d (taken_list c.loop.writer) (item ∷ []) c.args.tellers.now c.loop.tellers c.handle.new.tellers c.args.tally.now c.loop.tally c.handle.new.tally None inv.3
+          (subst (λ (h : Option Halt). HasWritten c.args.floor.now.scheme.now b d (item ∷ []) c.loop.tellers c.handle.new.tellers c.loop.tally c.handle.new.tally h) c.in_default.is c.handle.ensures.written)),
     )

@@ -8,4 +8,4 @@ invariant-loop g l =
     IsWriterOf l.inbox l.writer
     × (stations_of l.writer ≡ stations_of l.fn.writer)
     × AreTellers l.lines l.tellers
-    × HasWritten l.scheme (g.O.Outbox.standing l.fn.outbox) (g.O.Outbox.standing l.outbox) (taken_list l.writer) l.fn.tellers l.tellers l.fn.tally l.tally None
+    × HasWritten l.floor.scheme.now (g.O.Outbox.standing l.fn.outbox) (g.O.Outbox.standing l.outbox) (taken_list l.writer) l.fn.tellers l.tellers l.fn.tally l.tally None
