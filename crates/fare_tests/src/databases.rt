@@ -8,7 +8,7 @@ use fare_record::{Day, DeviceId, OwnerId};
 use fare_run::{AskFailure, ServeFailure, ask_databases, read_scheme};
 use fare_scheme::Scheme;
 use fare_store::{Fault, Outbox};
-use sqlite::{Connection, MemStore};
+use sqlite::{Alter, Connection, MemStore};
 use std::alloc::Global;
 
 // A scheme of two owners and one device.
@@ -77,7 +77,16 @@ fn asked(
     databases: Databases<MemStore>,
     question: Question,
 ) -> Option<(Result<(), AskFailure>, Vec<u8>, Databases<MemStore>)> {
-    let scheme = scheme(alloc)?;
+    asked_of(alloc, scheme(alloc)?, databases, question)
+}
+
+// The same of the databases of a scheme, of any kind.
+pub(crate) fn asked_of<S: Alter + Drop>(
+    alloc: Global,
+    scheme: Scheme,
+    databases: Databases<S>,
+    question: Question,
+) -> Option<(Result<(), AskFailure>, Vec<u8>, Databases<S>)> {
     if databases.ledgers.len() != scheme.owner_count() {
         return None;
     }

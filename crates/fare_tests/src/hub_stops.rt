@@ -1,4 +1,5 @@
 //! Lists of sessions over stores in files that stop, and over the same stores once they are opened again.
+use crate::bills_after_stops::billed;
 use fare_frame::Frame;
 use fare_ledger::SqlLedger;
 use fare_outbox::SqlOutbox;
@@ -114,7 +115,10 @@ fn go_on<O: Outbox + Send + Drop, L: Ledger + Send + Drop, R: Threads + Wait + C
 }
 
 // The database after the machine stopped and came back.
-fn reopened<S: Alter + Reopen + Drop>(alloc: Global, conn: Connection<S>) -> Option<Connection<S>> {
+pub(crate) fn reopened<S: Alter + Reopen + Drop>(
+    alloc: Global,
+    conn: Connection<S>,
+) -> Option<Connection<S>> {
     let mut store = conn.into_store();
     store.crash_and_reopen().ok()?;
     Connection::over(alloc, store).ok()
@@ -216,7 +220,7 @@ fn is_kept(course: &Course) -> bool {
 
 /// How far a walk over the calls of a file is, of which each has failed in its turn with all after it.
 #[derive(Clone, Copy)]
-enum Step {
+pub(crate) enum Step {
     /// The file failed before its database was open.
     Before,
     /// They stopped, or a store did as it was opened.
@@ -247,15 +251,28 @@ fn database<D: Crash + Drop>(alloc: Global, files: Files<D>) -> Option<Connectio
     Connection::open_files(alloc, files, Options::new(1)).ok()
 }
 
-// Where a walk is whose sessions are over databases in these files, if all was kept.
+/// What runs over the files of a walk.
+#[derive(Clone, Copy)]
+pub(crate) enum Over {
+    /// Two sessions.
+    Sessions,
+    /// The hub serves, closes a day and writes its bill.
+    Bills,
+}
+
+// Where a walk is whose runs are over databases in these files, if all was kept.
 fn walked<D: Crash + Drop + Send, R: Threads + Wait + Clock + Sync>(
     rt: &R,
     alloc: Global,
+    over: Over,
     outbox: Files<D>,
     ledger: Files<D>,
 ) -> Option<Step> {
     let (outbox, ledger) = (database(alloc, outbox), database(alloc, ledger));
-    step_of(stopped(rt, alloc, outbox, ledger)?)
+    match over {
+        Over::Sessions => step_of(stopped(rt, alloc, outbox, ledger)?),
+        Over::Bills => billed(rt, alloc, outbox, ledger),
+    }
 }
 
 // A file in memory that fails after so many calls.
@@ -270,9 +287,14 @@ fn lasting(place: usize, calls: u64) -> Option<[u64; 4]> {
     Some(lasting)
 }
 
-// How many calls of one of the files made the sessions stop, of which each failed in its turn with all after it, up to
+// How many calls of one of the files made what runs stop, of which each failed in its turn with all after it, up to
 // one that is not made. The files are the outbox's data and its journal, and the ledger's.
-fn walk<R: Threads + Wait + Clock + Sync>(rt: &R, alloc: Global, place: usize) -> Option<u64> {
+pub(crate) fn walk<R: Threads + Wait + Clock + Sync>(
+    rt: &R,
+    alloc: Global,
+    over: Over,
+    place: usize,
+) -> Option<u64> {
     let mut stops = 0_u64;
     for call in 0..100_000 {
         let [data, journal, other_data, other_journal] = lasting(place, call)?;
@@ -284,7 +306,7 @@ fn walk<R: Threads + Wait + Clock + Sync>(rt: &R, alloc: Global, place: usize) -
             log: file(alloc, other_journal),
             db: file(alloc, other_data),
         };
-        match walked(rt, alloc, outbox, ledger)? {
+        match walked(rt, alloc, over, outbox, ledger)? {
             Step::Before => {}
             Step::Stopped => stops = stops.saturating_add(1),
             Step::Behind => return Some(stops),
@@ -297,7 +319,10 @@ fn walk<R: Threads + Wait + Clock + Sync>(rt: &R, alloc: Global, place: usize) -
 #[test]
 fn a_stop_at_any_call_leaves_what_was_answered(rt: HostRuntime) {
     for (place, least) in [(0, 0), (1, 8), (2, 0), (3, 8)] {
-        let stops = walk(&rt, rt.alloc(), place).expect(&rt, "all that was answered");
+        let stops = walk(&rt, rt.alloc(), Over::Sessions, place).expect(
+            &rt,
+            "all that was answered",
+        );
         assert!(rt; stops >= least, "{stops} stops of file {place}");
     }
 }

@@ -7,6 +7,8 @@
 #![tactic(auto)]
 
 #[cfg(test)]
+mod bills_after_stops;
+#[cfg(test)]
 mod checking;
 #[cfg(test)]
 mod command_line;
