@@ -7,6 +7,10 @@
 //! job failed, and 2 with a text on standard error where the words were refused.
 #![tactic(auto)]
 
+ghost use Rattle.std.specs.Prelude.{◌≡◌, IfErr, OnOk};
+ghost use Rattle.std.specs.Process.{exit_status};
+ghost use Rattle.fare_run.specs.Failures.{status_of};
+
 use fare_run::{Failure, Left, ask, run, serve, tell};
 use std::alloc::Global;
 use std::net::{Net, TcpListener, TcpStream};
@@ -52,12 +56,21 @@ fn start<
     }
 }
 
-fn main(rt: HostRuntime) -> ExitCode {
-    match start(&rt, &rt) {
+/// How the program ends: with status 0 where it did what it was started for, else with a line on standard error and the
+/// status that the failure has.
+fn end(rt: &HostRuntime, ended: Result<(), Failure>) -> ExitCode
+    ensures done { OnOk ended (exit_status result ≡ 0) }
+    ensures failed { IfErr ended (λ failure. exit_status result ≡ status_of failure) }
+{
+    match ended {
         Ok(()) => ExitCode::SUCCESS,
         Err(failure) => {
-            tell(&rt, &failure);
+            tell(rt, &failure);
             ExitCode::from(failure.status())
         }
     }
+}
+
+fn main(rt: HostRuntime) -> ExitCode {
+    end(&rt, start(&rt, &rt))
 }
