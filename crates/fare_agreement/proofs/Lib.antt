@@ -11,6 +11,4 @@ pub mod Sums
 pub mod Fresh
 pub mod WeekTaken
 pub mod DevicesAgree
-pub mod Hubs
-pub mod Somethings
 pub mod WorkedSteps

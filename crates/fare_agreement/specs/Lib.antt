@@ -4,5 +4,5 @@ pub mod Stopping
 pub mod Told
 pub mod Totals
 pub mod Parts
-pub mod Together
+pub mod Attempted
 pub mod WorkedStop

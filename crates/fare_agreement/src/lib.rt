@@ -1,14 +1,11 @@
 //! When the rows of a hub's stores agree with the lists of taps that its devices numbered, and that sessions and
-//! stops keep it. The laws say so of values, and of whatever stores may hold after calls of which some may have
-//! failed: nothing that was answered is lost, no store refuses an item of the lists but for want of room, and
-//! the bill of what a ledger holds is the bill of what the devices numbered.
+//! stops keep it. The laws say so of values: nothing that was answered is lost, no store refuses an item of the lists but
+//! for want of room, and the bill of what a ledger holds is the bill of what the devices numbered.
 #![tactic(auto)]
 
-mod holding;
 mod laws;
 mod worked;
 
-pub use holding::{a_hub_agrees, a_session_becomes, clean_stores_may_hold_something};
 pub use laws::{
     a_stop_keeps_agreement, bills_are_of_the_lists, empty_stores_agree,
     no_item_of_the_lists_is_refused, no_tap_is_lost, sessions_add_what_was_new,

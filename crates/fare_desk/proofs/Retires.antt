@@ -22,7 +22,7 @@ use Rattle.fare_history.specs.Stores.{StoresValue, MayRetire, Retires_lane}
 use Rattle.fare_history.proofs.Holds.{done_leads, refused_leads, write_leads}
 use Rattle.fare_store.proofs.Entries.{put_here}
 use Rattle.fare_agreement.specs.Stopping.{IsLeftBy}
-use Rattle.fare_agreement.specs.Together.{IsRetiredFrom}
+use Rattle.fare_agreement.specs.Attempted.{IsRetiredFrom}
 use Rattle.fare_sessions.specs.declared.hub.Hub.{Hub}
 use Rattle.fare_sessions.specs.declared.retiring.RetiringFault.{RetiringFault}
 use Rattle.fare_sessions.specs.declared.retiring.RetiringFault.TheVariants as retiring

@@ -31,9 +31,11 @@ use Rattle.fare_desk.specs.Closing.{GoesOn}
 use Rattle.fare_desk.specs.Faults.{name_of}
 use Rattle.fare_desk.specs.declared.fault.DeskFault.{DeskFault}
 use Rattle.fare_serve.specs.Calls.{AreHeld, IsOfScheme}
+use Rattle.fare_serve.specs.Coming.{AreLinesCovered, ComeOfLines}
 use Rattle.fare_serve.specs.Counting.{counts_text}
 use Rattle.fare_serve.specs.Rounds.{AreCountsOf, IsRound, calls_of}
 use Rattle.fare_serve.specs.Serving.{AreAllCovered, HaveTold, IsReadToEnds, KeepsStores, shift_talk}
+use Rattle.fare_serve.proofs.Coming.{come_none}
 use Rattle.fare_serve.proofs.Held.{calls_keep}
 use Rattle.fare_command.specs.declared.words.Question.{Question}
 use Rattle.fare_command.specs.declared.words.Question.TheVariants.{Close, Bill, Settle, Stand, Retire}
@@ -59,7 +61,12 @@ module _ {S : Type 0} (g : Ghosts S) (sc : SchemeValue) (valid : IsScheme sc) (b
   }
 
   pub serves_unopened : (most : ℕ) (untold : Bool) (written : Option (List ℕ)) (failure : ServeFailure) → length before.ledgers.items ≡ length sc.owners → StayStores g sc before after → ServesIn g sc most untold before after written written (Err failure)
-  serves_unopened most untold written failure count stay = record { calls = []; came = inl refl; keeps = keeps_unopened (λ lists. HaveTold sc lists []) (λ k. AreAllCovered sc k.outbox []) (λ k. tt) count stay }
+  serves_unopened most untold written failure count stay = record {
+    calls = [];
+    came = inl refl;
+    lines = come_none sc;
+    keeps = keeps_unopened (λ lists. HaveTold sc lists []) (λ k. AreAllCovered sc k.outbox [] × AreLinesCovered sc k.outbox []) (λ k. (tt, tt)) count stay;
+  }
 
   -- OPENED
   module _ (old new : Hub (SqlOutbox S g) (SqlLedger S g)) (same : old.scheme ≡ sc) (count : HasLedgers old) (holds : AreClean (stands_outbox g) (stands_ledger g) old → Holds g before old) (back : IsHandedBack g new after) where
@@ -67,8 +74,8 @@ module _ {S : Type 0} (g : Ghosts S) (sc : SchemeValue) (valid : IsScheme sc) (b
     numbered_old lists numbered = subst (λ s. AreNumberedLists s lists) (sym same) numbered
 
     -- SERVING
-    keeps_calls : (calls : List LineCall) → AreHeld shift_talk (stands_outbox g) (stands_ledger g) old new calls → KeepsCalls g sc before after calls
-    keeps_calls calls held = record {
+    keeps_calls : (calls : List LineCall) → AreHeld shift_talk (stands_outbox g) (stands_ledger g) old new calls → ComeOfLines old.scheme calls → KeepsCalls g sc before after calls
+    keeps_calls calls held come = record {
       keeps = λ clean lists numbered told outbox ledgers shows agreed outbox_left ledgers_left leave.
           let h = agreed.0 in
           let clean_now = clean_new g sc valid before after old new same count holds k.scheme k.follow back clean in
@@ -76,11 +83,13 @@ module _ {S : Type 0} (g : Ghosts S) (sc : SchemeValue) (valid : IsScheme sc) (b
           let is = agreed_old g sc valid before after old new same count holds k.scheme k.follow back clean outbox ledgers shows h agreed.1 lists agreed.2 in
           let both = k.agrees clean_now sound lists (numbered_old lists numbered) told is in
           let kept = run_keeps g sc valid before after old new same count holds k.scheme k.follow back clean outbox ledgers shows h agreed.1 lists both.0 both.1 outbox_left ledgers_left leave in
-          (kept.0, subst (λ s. AreAllCovered s kept.0.is.outbox calls) same (k.covered clean_now sound lists (numbered_old lists numbered) told is kept.0.is kept.1));
+          let covered = subst (λ s. AreAllCovered s kept.0.is.outbox calls) same (k.covered clean_now sound lists (numbered_old lists numbered) told is kept.0.is kept.1) in
+          let answered = subst (λ s. AreLinesCovered s kept.0.is.outbox calls) same (k.answered clean_now sound lists (numbered_old lists numbered) told is kept.0.is kept.1) in
+          (kept.0, (covered, answered));
     }
       where
         k : KeepsStores (stands_outbox g) (stands_ledger g) old new calls (λ lists. HaveTold sc lists calls)
-        k = calls_keep (stands_outbox g) (stands_ledger g) old new calls (λ lists. HaveTold sc lists calls) (λ lists told. subst (λ s. HaveTold s lists calls) (sym same) told) held
+        k = calls_keep (stands_outbox g) (stands_ledger g) old new calls (λ lists. HaveTold sc lists calls) (λ lists told. subst (λ s. HaveTold s lists calls) (sym same) told) held come
 
     pub serves_opened : (most : ℕ) (untold : Bool) (written_before written_after : Option (List ℕ)) (r : Result (Unit {0}) ServeFailure) → OnOk r (ServesOver (stands_outbox g) (stands_ledger g) old new most untold written_before written_after) → IfErr r (LeavesStores (stands_outbox g) (stands_ledger g) old new) → ServesIn g sc most untold before after written_before written_after r
     serves_opened most untold written_before written_after (Ok u) over none =
@@ -101,15 +110,17 @@ module _ {S : Type 0} (g : Ghosts S) (sc : SchemeValue) (valid : IsScheme sc) (b
             counted = subst (λ s. AreCountsOf s been.rounds over.served.counts) same been.counted;
             written = Appends-trans written_before over.mid written_after (listening_line over.port) (counts_text over.served.counts) over.told over.served.written;
           };
-          keeps = keeps_calls (flat_map calls_of been.rounds) been.served.held;
+          lines = subst (λ s. ComeOfLines s (flat_map calls_of been.rounds)) same been.come;
+          keeps = keeps_calls (flat_map calls_of been.rounds) been.served.held been.come;
         }
-    serves_opened most untold written_before written_after (Err failure) none (inl still) = record { calls = []; came = inl refl; keeps = keeps_calls [] still }
+    serves_opened most untold written_before written_after (Err failure) none (inl still) = record { calls = []; came = inl refl; lines = come_none sc; keeps = keeps_calls [] still (come_none old.scheme) }
     serves_opened most untold written_before written_after (Err failure) none (inr it) =
         let failed = it.2.failed in
         record {
           calls = failed.calls;
           came = inr (it.0, it.1, failed.ended, subst (λ s. AllByRecursion (IsOfScheme s) failed.calls) same failed.each);
-          keeps = keeps_calls failed.calls failed.held;
+          lines = subst (λ s. ComeOfLines s failed.calls) same it.2.come;
+          keeps = keeps_calls failed.calls failed.held it.2.come;
         }
 
     -- ASKING

@@ -25,6 +25,7 @@ use Rattle.fare_agreement.specs.Parts.{parts_of}
 use Rattle.fare_sessions.specs.Billing.{open_in, short_in}
 use Rattle.fare_sessions.specs.declared.hub.Hub.{Hub}
 use Rattle.fare_serve.specs.Calls.{AreEndedBy, Call, IsOfScheme}
+use Rattle.fare_serve.specs.Coming.{AreLinesCovered, ComeOfLines}
 use Rattle.fare_serve.specs.Counting.{counts_text}
 use Rattle.fare_serve.specs.Rounds.{AreCountsOf, IsRound, Round, calls_of}
 use Rattle.fare_serve.specs.Serving.{AreAllCovered, HaveTold, IsReadToEnds, reads_to_ends}
@@ -84,15 +85,16 @@ CameOf sc most untold calls before after (Err failure) = (calls ≡ []) ⊎ ((fa
 
 -- What these calls keep: where the frames that the lines gave in them are of lists with which the stores in the databases
 -- agree, they agree with them behind it; nothing that they held is missing; and each acknowledgement that a line was answered
--- is covered by the outbox.
+-- in one of them is covered by the outbox, and so are all that it was answered from its greeting on.
 abbrev pub KeepsCalls : {S : Type 0} → Ghosts S → SchemeValue → Databases S → Databases S → List LineCall → Type 0
-KeepsCalls g sc before after calls = KeepDatabases g sc before after (λ lists. HaveTold sc lists calls) (λ k. AreAllCovered sc k.outbox calls)
+KeepsCalls g sc before after calls = KeepDatabases g sc before after (λ lists. HaveTold sc lists calls) (λ k. AreAllCovered sc k.outbox calls × AreLinesCovered sc k.outbox calls)
 
--- What serving over databases does, by the most rounds and whether no file may end them: these calls, and what they keep,
--- however it ended.
+-- What serving over databases does, by the most rounds and whether no file may end them: these calls, where their lines came
+-- from, and what they keep, however it ended.
 pub record ServesIn {S : Type 0} (g : Ghosts S) (sc : SchemeValue) (most : ℕ) (untold : Bool) (before after : Databases S) (written_before written_after : Option (List ℕ)) (result : Result (Unit {0}) ServeFailure) : Type 0 where
   pub calls : List LineCall
   pub came : CameOf sc most untold calls written_before written_after result
+  pub lines : ComeOfLines sc calls
   pub keeps : KeepsCalls g sc before after calls
 
 -- ASKING

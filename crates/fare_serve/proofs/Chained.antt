@@ -27,7 +27,7 @@ use Rattle.fare_sessions.specs.declared.hub.Hub.{Hub}
 use Rattle.fare_sessions.specs.declared.session.Session.{Session}
 use Rattle.fare_sessions.specs.declared.session.Session.TheVariants.{Collect}
 use Rattle.fare_sessions.specs.Stores.{HasLedgers, AreClean, AreSound, StoresFollow, IsAgreed, HasGrown, MayStandAs}
-use Rattle.fare_sessions.specs.Promises.{AreCovered, GaveOf, IsFrameCovered}
+use Rattle.fare_sessions.specs.Promises.{AreCovered, GaveOf, IsFrameCovered, Trusted}
 use Rattle.fare_sessions.proofs.Follow.{clean_back, follow_join, follow_self}
 use Rattle.fare_sessions.specs.Reopening.{AreLasting, AreOwned}
 use Rattle.fare_serve.specs.Calls.{Call, AreHeld, AreUnended, ended_by}
@@ -91,6 +91,9 @@ module _ {S O L : Type 0} (talks : S → Talk) (outbox : O → Standing OutboxVa
   abbrev Gave : SchemeValue → (ℕ → List RecordValue) → List (Call S) → Type 0
   Gave sc lists xs = AllByRecursion (λ x. GaveOf talks sc lists x.olds x.news) xs
 
+  trusted : (a m : Hub O L) (x : Call S) (lists : ℕ → List RecordValue) → AreClean outbox ledger m → AreSound outbox ledger a → AreNumberedLists a.scheme lists → GaveOf talks a.scheme lists x.olds x.news → IsAgreed outbox ledger lists a → Trusted talks outbox ledger a m x.olds x.news lists
+  trusted a m x lists clean sound numbered gave agreed = record { clean = clean; sound = sound; numbered = numbered; gave = gave; agreed = agreed }
+
   pub held_keeps : (a b : Hub O L) (xs : List (Call S)) → AreHeld talks outbox ledger a b xs → AreClean outbox ledger b → AreSound outbox ledger a
       → (lists : ℕ → List RecordValue) → AreNumberedLists a.scheme lists → Gave a.scheme lists xs → IsAgreed outbox ledger lists a → Keeps lists a b
   held_keeps a b [] h clean sound lists numbered gave agreed = (subst (IsAgreed outbox ledger lists) (sym h) agreed, subst (HasGrown outbox ledger a) (sym h) (grown_self a))
@@ -98,8 +101,9 @@ module _ {S O L : Type 0} (talks : S → Talk) (outbox : O → Standing OutboxVa
       let m = h.0 in
       let clean_m = clean_back outbox ledger m b (held_follow m b xs h.2) clean in
       let same = h.1.scheme in
-      let rest = held_keeps m b xs h.2 clean (h.1.sound clean_m sound) lists (subst (λ sc. AreNumberedLists sc lists) (sym same) numbered) (subst (λ sc. Gave sc lists xs) (sym same) gave.1) (h.1.agrees clean_m sound lists numbered gave.0 agreed) in
-      (rest.0, grown_then a m b same (h.1.grows clean_m sound lists numbered gave.0 agreed) rest.1)
+      let asked = trusted a m x lists clean_m sound numbered gave.0 agreed in
+      let rest = held_keeps m b xs h.2 clean (h.1.sound clean_m sound) lists (subst (λ sc. AreNumberedLists sc lists) (sym same) numbered) (subst (λ sc. Gave sc lists xs) (sym same) gave.1) (h.1.agrees lists asked) in
+      (rest.0, grown_then a m b same (h.1.grows lists asked) rest.1)
 
   -- what is covered stays so
   covered_more : (sc : SchemeValue) (x y : OutboxValue) → OutboxGrew x y → (c : Call S) → AreCovered talks sc x c.olds c.news → AreCovered talks sc y c.olds c.news
@@ -120,9 +124,10 @@ module _ {S O L : Type 0} (talks : S → Talk) (outbox : O → Standing OutboxVa
       let sound_m = h.1.sound clean_m sound in
       let numbered_m = subst (λ sc. AreNumberedLists sc lists) (sym same) numbered in
       let gave_m = subst (λ sc. Gave sc lists xs) (sym same) gave.1 in
-      let agreed_m = h.1.agrees clean_m sound lists numbered gave.0 agreed in
+      let asked = trusted a m x lists clean_m sound numbered gave.0 agreed in
+      let agreed_m = h.1.agrees lists asked in
       let stood = (held_keeps m b xs h.2 clean sound_m lists numbered_m gave_m agreed_m).1.grown k may in (
-        covered_more a.scheme stood.0.outbox k.outbox stood.2 x (h.1.covered clean_m sound lists numbered gave.0 agreed stood.0 stood.1),
+        covered_more a.scheme stood.0.outbox k.outbox stood.2 x (h.1.covered lists asked stood.0 stood.1),
         subst (λ sc. AllByRecursion (λ y. AreCovered talks sc k.outbox y.olds y.news) xs) same (held_covers m b xs h.2 clean sound_m lists numbered_m gave_m agreed_m k may),
       )
 

@@ -1,7 +1,10 @@
 -- Calls up to a fault.
-use Rattle.std.proofs.Common.{◌≡◌, ◌⊎◌, ℕ, zero, suc, List, [], ◌∷◌, ◌++◌, length, map, take, slice_get, Some, None, refl, sym, ap, ◌∙◌, subst, inl, inr}
+use Rattle.std.proofs.Common.{◌≡◌, ℕ, zero, suc, List, [], ◌∷◌, ◌++◌, length, map, take, slice_get, Some, refl, sym, ap, ◌∙◌, subst, inl, inr}
 use Rattle.std.specs.List.{AllByRecursion, flat_map}
 use Rattle.std.specs.Map.{keys_of}
+use Rattle.std.specs.Prelude.{Vec}
+use Rattle.std.specs.Global.{Global}
+use Rattle.std.proofs.lemmas.List.{append-nil}
 use Rattle.std.proofs.lemmas.Option.{slice_get-map}
 use Rattle.fare_scheme.specs.Values.{SchemeValue}
 use Rattle.fare_scheme.specs.Words.{id_at}
@@ -14,8 +17,10 @@ use Rattle.fare_collect.specs.declared.station.Station.{Station}
 use Rattle.fare_history.proofs.Entries.{all-append}
 use Rattle.fare_sessions.specs.declared.hub.Hub.{Hub}
 use Rattle.fare_sessions.specs.declared.session.Session.{Session}
-use Rattle.fare_serve.specs.Calls.{AreEndedBy, AreHeld, AreUnended, Call, HasEnded, HasFailed, IsOfScheme, IsOutside, ended_by}
-use Rattle.fare_serve.specs.Rounds.{IsRound, Round, calls_of, olds_of, serving_of}
+use Rattle.fare_sessions.specs.declared.session.Session.TheVariants.{Collect, Serve}
+use Rattle.fare_sessions.specs.declared.report.SessionsReport.{SessionsReport}
+use Rattle.fare_serve.specs.Calls.{AreEndedBy, AreHeld, AreUnended, Call, HasEnded, HasFailed, HasHeldStations, IsOfScheme, IsOutside, IsServing}
+use Rattle.fare_serve.specs.Rounds.{HasFailedRound, HaveFailedOwners, IsRound, Round, calls_of, olds_of, serving_of}
 use Rattle.fare_serve.specs.declared.fault.ServeFault.{ServeFault}
 use Rattle.fare_serve.proofs.Chained.{held_scheme, held_then}
 
@@ -68,22 +73,73 @@ module _ {S O L : Type 0} (talks : S → Talk) (outbox : O → Standing OutboxVa
   pub failed_outside : (hub : Hub O L) (fault : ServeFault) → IsOutside fault → HasFailed talks outbox ledger hub hub fault
   failed_outside hub fault outside = record { calls = []; held = refl; ended = outside; each = tt }
 
-  -- in one call, or before it
-  pub failed_one : (old new : Hub O L) (olds news : List (Session S)) (fault : ServeFault) → HasEnded talks outbox ledger old new olds news fault → ((c : Call S) → c.olds ≡ olds → IsOfScheme old.scheme c) → HasFailed talks outbox ledger old new fault
-  failed_one old new olds news fault (inl none) is =
-      subst (λ (h : Hub O L). HasFailed talks outbox ledger old h fault) (sym none.0) (failed_outside old fault (subst IsOutside (sym none.1) tt))
-  failed_one old new olds news fault (inr ended) is = record {
-    calls = record { olds = olds; news = news; report = ended.0 } ∷ [];
-    held = (new, ended.1, refl);
-    ended = inl (ended.2, refl);
-    each = (is (record { olds = olds; news = news; report = ended.0 }) refl, tt);
+  -- behind calls that none ended, outside of sessions
+  pub failed_behind : (old new : Hub O L) (xs : List (Call S)) (fault : ServeFault) → AreHeld talks outbox ledger old new xs → AreUnended xs → AllByRecursion (IsOfScheme old.scheme) xs → IsOutside fault
+      → (f : HasFailed talks outbox ledger old new fault) × (f.calls ≡ xs)
+  failed_behind old new xs fault held unended each outside = (
+    record { calls = xs; held = held; ended = subst (AreEndedBy fault) (append-nil xs) (ended_then xs [] fault unended outside); each = each },
+    refl,
+  )
+
+  -- behind calls that none ended, in others
+  pub failed_after : (a b c : Hub O L) (xs : List (Call S)) (fault : ServeFault) → AreHeld talks outbox ledger a b xs → AreUnended xs → AllByRecursion (IsOfScheme a.scheme) xs → (next : HasFailed talks outbox ledger b c fault)
+      → (f : HasFailed talks outbox ledger a c fault) × (f.calls ≡ xs ++ next.calls)
+  failed_after a b c xs fault held unended each next = (
+    record {
+      calls = xs ++ next.calls;
+      held = held_then talks outbox ledger a b c xs next.calls held next.held;
+      ended = ended_then xs next.calls fault unended next.ended;
+      each = all-append (IsOfScheme a.scheme) xs next.calls each (subst (λ sc. AllByRecursion (IsOfScheme sc) next.calls) (held_scheme talks outbox ledger a b xs held) next.each);
+    },
+    refl,
+  )
+
+  -- in the session of an owner, or before it
+  owner_failed : (old new : Hub O L) (owner place : ℕ) (news : List (Session S)) (fault : ServeFault) → HasEnded talks outbox ledger old new (Serve owner ∷ []) news fault → id_at old.scheme.owners place ≡ Some owner
+      → (f : HasFailed talks outbox ledger old new fault) × AllByRecursion IsServing f.calls
+  owner_failed old new owner place news fault (inl none) at = (record { calls = []; held = none.0; ended = subst IsOutside (sym none.1) tt; each = tt }, tt)
+  owner_failed old new owner place news fault (inr ended) at = (
+    record {
+      calls = record { olds = Serve owner ∷ []; news = news; report = ended.0 } ∷ [];
+      held = (new, ended.1, refl);
+      ended = inl (ended.2, refl);
+      each = (inr (owner, place, refl, at), tt);
+    },
+    ((owner, refl), tt),
+  )
+
+  -- behind those of other owners
+  pub owners_failed : (a b c : Hub O L) (xs : List (Call S)) (owner place : ℕ) (news : List (Session S)) (fault : ServeFault) → AreHeld talks outbox ledger a b xs → AreUnended xs → AllByRecursion (IsOfScheme a.scheme) xs → AllByRecursion IsServing xs
+      → HasEnded talks outbox ledger b c (Serve owner ∷ []) news fault → id_at b.scheme.owners place ≡ Some owner → HaveFailedOwners talks outbox ledger a c fault
+  owners_failed a b c xs owner place news fault held unended each serving ended at =
+      let one = owner_failed b c owner place news fault ended at in
+      let all = failed_after a b c xs fault held unended each one.0 in
+      record { failed = all.0; serving = subst (AllByRecursion IsServing) (sym all.1) (all-append IsServing xs one.0.calls serving one.1) }
+
+  -- A ROUND
+  -- in the stations' session, or before it
+  pub stations_failed : (old new : Hub O L) (stations : Vec (Station S) Global) (olds news : List (Session S)) (fault : ServeFault) → HasEnded talks outbox ledger old new olds news fault → olds ≡ Collect stations ∷ []
+      → AreStations old.scheme stations.items → length stations.items ≡ length old.scheme.stations → HasFailedRound talks outbox ledger old new stations.items fault
+  stations_failed old new stations olds news fault (inl none) is are all = record { failed = record { calls = []; held = none.0; ended = subst IsOutside (sym none.1) tt; each = tt }; begun = tt }
+  stations_failed old new stations olds news fault (inr ended) is are all = record {
+    failed = record {
+      calls = record { olds = olds; news = news; report = ended.0 } ∷ [];
+      held = (new, ended.1, refl);
+      ended = inl (ended.2, refl);
+      each = (inl (stations, is, are, all), tt);
+    };
+    begun = ((stations, is, refl), tt);
   }
 
-  -- behind calls that none ended
-  pub failed_after : (a b c : Hub O L) (xs : List (Call S)) (fault : ServeFault) → AreHeld talks outbox ledger a b xs → AreUnended xs → AllByRecursion (IsOfScheme a.scheme) xs → HasFailed talks outbox ledger b c fault → HasFailed talks outbox ledger a c fault
-  failed_after a b c xs fault held unended each next = record {
-    calls = xs ++ next.calls;
-    held = held_then talks outbox ledger a b c xs next.calls held next.held;
-    ended = ended_then xs next.calls fault unended next.ended;
-    each = all-append (IsOfScheme a.scheme) xs next.calls each (subst (λ sc. AllByRecursion (IsOfScheme sc) next.calls) (held_scheme talks outbox ledger a b xs held) next.each);
+  -- behind it
+  pub round_failed : (old middle new : Hub O L) (stations : Vec (Station S) Global) (report : SessionsReport) (after : List (Station S)) (fault : ServeFault) → HasHeldStations talks outbox ledger old middle stations report after
+      → AreStations old.scheme stations.items → length stations.items ≡ length old.scheme.stations → (next : HasFailed talks outbox ledger middle new fault) → AllByRecursion IsServing next.calls → HasFailedRound talks outbox ledger old new stations.items fault
+  round_failed old middle new stations report after fault one are all next serving = record {
+    failed = record {
+      calls = one.call ∷ next.calls;
+      held = (middle, one.held, next.held);
+      ended = inr (one.unended, next.ended);
+      each = (inl (stations, one.olds, are, all), subst (λ sc. AllByRecursion (IsOfScheme sc) next.calls) one.held.scheme next.each);
+    };
+    begun = ((stations, one.olds, refl), serving);
   }

@@ -1,6 +1,7 @@
 -- Rounds over lines, one more.
 use Rattle.std.proofs.Common.{◌≡◌, ℕ, ◌+◌, List, [], ◌∷◌, ◌++◌, length, Bool, refl, sym, ap, ◌∙◌, subst}
 use Rattle.std.specs.List.{flat_map}
+use Rattle.std.specs.Map.{keys_of}
 use Rattle.std.proofs.lemmas.List.{length-append}
 use Rattle.fare_scheme.specs.Values.{SchemeValue}
 use Rattle.fare_store.specs.Standing.{Standing}
@@ -14,41 +15,86 @@ use Rattle.fare_serve.specs.Rounds.{AreServed, HaveGiven, IsRound, Round, calls_
 use Rattle.fare_record.specs.Values.{RecordValue}
 use Rattle.fare_source.specs.declared.shift.Shift.{Shift}
 use Rattle.fare_net.specs.NetValue.{NetValue}
-use Rattle.fare_serve.specs.Calls.{AreHeld, Call, HasFailed}
-use Rattle.fare_serve.specs.Serving.{HasFailedLines, HasHeldRound, HaveBeenHeld, HaveTold, IsReadToEnds, KeepsStores, shift_talk}
+use Rattle.fare_serve.specs.Calls.{AreHeld, Call, IsOutside}
+use Rattle.fare_serve.specs.Coming.{ComeOfLines}
+use Rattle.fare_serve.specs.Seats.{AreFree, AreGathered, AreSeats}
+use Rattle.fare_serve.specs.Serving.{HasFailedHeld, HasFailedLines, HasHeldRound, HaveBeenHeld, HaveFailed, HaveTold, IsReadToEnds, KeepsStores, shift_talk}
 use Rattle.fare_serve.specs.declared.fault.ServeFault.{ServeFault}
 use Rattle.fare_serve.specs.declared.counts.Counts.{Counts}
+use Rattle.fare_serve.specs.declared.seats.Seat.{Seat}
 use Rattle.fare_serve.proofs.Chained.{gave_all, held_covers, held_follow, held_keeps, held_lasts, held_scheme, held_sound, ledgers_on, rounds_more, rounds_none}
-use Rattle.fare_serve.proofs.Failed.{failed_after, rounds_of_scheme}
+use Rattle.fare_serve.proofs.Coming.{AreSeated, are_serving, come_none, come_of_rounds, come_to_fault, lines_covered, seated_more}
+use Rattle.fare_serve.proofs.Failed.{failed_after, failed_behind, rounds_of_scheme}
+use Rattle.fare_serve.proofs.Seated.{seats_of_free}
 use Rattle.fare_serve.proofs.Counted.{counts_more, counts_none, entries_of}
 
 module _ {O L : Type 0} (outbox : O → Standing OutboxValue) (ledger : L → Standing LedgerValue) where
-  pub been_none : (hub : Hub O L) (whole : Bool) (c : Counts) → AreNoCounts hub.scheme c → HaveBeenHeld outbox ledger hub hub whole 0 c
-  been_none hub whole c none = record {
-    rounds = [];
-    many = refl;
-    served = rounds_none shift_talk outbox ledger hub;
-    counted = counts_none hub.scheme c none;
-    to_ends = λ e. tt;
+  -- Rounds that were held, one after the other, and the seats behind them.
+  pub record HaveBeenSeated (old new : Hub O L) (whole : Bool) (count : ℕ) (counts : Counts) (seats : List Seat) : Type 0 where
+    pub held : HaveBeenHeld outbox ledger old new whole count counts
+    pub first : List Seat
+    pub free : AreFree first
+    pub seated : AreSeated old.scheme first held.rounds seats
+
+  pub been_none : (hub : Hub O L) (whole : Bool) (c : Counts) (seats : List Seat) → AreNoCounts hub.scheme c → AreFree seats → HaveBeenSeated hub hub whole 0 c seats
+  been_none hub whole c seats none free = record {
+    held = record {
+      rounds = [];
+      many = refl;
+      served = rounds_none shift_talk outbox ledger hub;
+      counted = counts_none hub.scheme c none;
+      to_ends = λ e. tt;
+      come = come_none hub.scheme;
+    };
+    first = seats;
+    free = free;
+    seated = refl;
   }
 
-  pub been_more : (old middle new : Hub O L) (whole : Bool) (count : ℕ) (c d : Counts) → HaveBeenHeld outbox ledger old middle whole count c → HasHeldRound outbox ledger middle new whole c d → HaveBeenHeld outbox ledger old new whole (count + 1) d
-  been_more old middle new whole count c d was one = record {
-    rounds = was.rounds ++ one.served.round ∷ [];
-    many = length-append was.rounds (one.served.round ∷ []) ∙ ap (λ n. n + 1) was.many;
-    served = rounds_more shift_talk outbox ledger old middle new was.rounds one.served.round one.before was.served one.served.is one.served.held one.served.unended;
-    counted = counts_more old.scheme was.rounds one.served.round c d was.counted one.served.counted;
-    to_ends = λ e. all-append (IsReadToEnds old.scheme) was.rounds (one.served.round ∷ []) (was.to_ends e) ((one.before, subst (λ sc. IsRound sc one.served.round one.before) same one.served.is, one.to_ends e), tt);
+  -- before the first round no line has a seat that has not newly greeted
+  pub seats_first : (old new : Hub O L) (whole : Bool) (count : ℕ) (c : Counts) (seats : List Seat) → HaveBeenSeated old new whole count c seats → count ≡ 0 → (sc : SchemeValue) → AreSeats sc seats
+  seats_first old new whole count c seats was zero_is sc = by was.held.rounds was.seated (was.held.many ∙ zero_is)
+    where
+      by : (rs : List (Round (Shift NetValue))) → AreSeated old.scheme was.first rs seats → length rs ≡ 0 → AreSeats sc seats
+      by [] seated none = seats_of_free sc seats (subst AreFree (sym seated) was.free)
+      by (r ∷ rs) seated none = absurd (cc)
+
+  pub been_more : (old middle new : Hub O L) (whole : Bool) (count : ℕ) (c d : Counts) (seats gathered next : List Seat) → HaveBeenSeated old middle whole count c seats → AreGathered middle.scheme seats gathered
+      → HasHeldRound outbox ledger middle new whole c d gathered next → HaveBeenSeated old new whole (count + 1) d next
+  been_more old middle new whole count c d seats gathered next been came one = record {
+    held = record {
+      rounds = was.rounds ++ one.served.round ∷ [];
+      many = length-append was.rounds (one.served.round ∷ []) ∙ ap (λ n. n + 1) was.many;
+      served = rounds_more shift_talk outbox ledger old middle new was.rounds one.served.round one.before was.served one.served.is one.served.held one.served.unended;
+      counted = counts_more old.scheme was.rounds one.served.round c d was.counted one.served.counted;
+      to_ends = λ e. all-append (IsReadToEnds old.scheme) was.rounds (one.served.round ∷ []) (was.to_ends e) ((one.before, subst (λ sc. IsRound sc one.served.round one.before) same one.served.is, one.to_ends e), tt);
+      come = come_of_rounds old.scheme been.first (was.rounds ++ one.served.round ∷ []) next been.free seated;
+    };
+    first = been.first;
+    free = been.free;
+    seated = seated;
   }
     where
+      was : HaveBeenHeld outbox ledger old middle whole count c
+      was = been.held
+
       same : middle.scheme ≡ old.scheme
       same = held_scheme shift_talk outbox ledger old middle (flat_map calls_of was.rounds) was.served.held
 
-  pub round_scheme : (old new : Hub O L) (whole : Bool) (c d : Counts) → HasHeldRound outbox ledger old new whole c d → new.scheme ≡ old.scheme
-  round_scheme old new whole c d one = held_scheme shift_talk outbox ledger old new (calls_of one.served.round) one.served.held
+      seated : AreSeated old.scheme been.first (was.rounds ++ one.served.round ∷ []) next
+      seated = seated_more old.scheme been.first was.rounds seats one.served.round next been.seated (record {
+        gathered = gathered;
+        came = subst (λ sc. AreGathered sc seats gathered) same came;
+        over = one.over;
+        back = one.back;
+        serves = are_serving (keys_of middle.scheme.owners) one.served.round.owners one.served.is.serves;
+      })
 
-  pub round_ledgers : (old new : Hub O L) (whole : Bool) (c d : Counts) → HasHeldRound outbox ledger old new whole c d → HasLedgers old → HasLedgers new
-  round_ledgers old new whole c d one has = ledgers_on shift_talk outbox ledger old new (calls_of one.served.round) one.served.held has
+  pub round_scheme : (old new : Hub O L) (whole : Bool) (c d : Counts) (s t : List Seat) → HasHeldRound outbox ledger old new whole c d s t → new.scheme ≡ old.scheme
+  round_scheme old new whole c d s t one = held_scheme shift_talk outbox ledger old new (calls_of one.served.round) one.served.held
+
+  pub round_ledgers : (old new : Hub O L) (whole : Bool) (c d : Counts) (s t : List Seat) → HasHeldRound outbox ledger old new whole c d s t → HasLedgers old → HasLedgers new
+  round_ledgers old new whole c d s t one has = ledgers_on shift_talk outbox ledger old new (calls_of one.served.round) one.served.held has
 
   pub been_scheme : (old new : Hub O L) (whole : Bool) (count : ℕ) (c : Counts) → HaveBeenHeld outbox ledger old new whole count c → new.scheme ≡ old.scheme
   been_scheme old new whole count c was = held_scheme shift_talk outbox ledger old new (flat_map calls_of was.rounds) was.served.held
@@ -58,28 +104,48 @@ module _ {O L : Type 0} (outbox : O → Standing OutboxValue) (ledger : L → St
   been_entries old new whole count c was = entries_of old.scheme c was.counted.owners ∙ ap (λ (sc : SchemeValue). length sc.owners) (sym (been_scheme old new whole count c was))
 
   -- WHAT THE CALLS KEEP OF THE STORES
-  pub calls_keep : (old new : Hub O L) (calls : List (Call (Shift NetValue))) (AreGiven : (ℕ → List RecordValue) → Type 0) → ((lists : ℕ → List RecordValue) → AreGiven lists → HaveTold old.scheme lists calls) → AreHeld shift_talk outbox ledger old new calls → KeepsStores outbox ledger old new calls AreGiven
-  calls_keep old new calls AreGiven told held = record {
+  pub calls_keep : (old new : Hub O L) (calls : List (Call (Shift NetValue))) (AreGiven : (ℕ → List RecordValue) → Type 0) → ((lists : ℕ → List RecordValue) → AreGiven lists → HaveTold old.scheme lists calls) → AreHeld shift_talk outbox ledger old new calls → ComeOfLines old.scheme calls
+      → KeepsStores outbox ledger old new calls AreGiven
+  calls_keep old new calls AreGiven told held come = record {
     scheme = held_scheme shift_talk outbox ledger old new calls held;
     follow = held_follow shift_talk outbox ledger old new calls held;
     sound = held_sound shift_talk outbox ledger old new calls held;
     agrees = λ clean sound lists numbered given agreed. held_keeps shift_talk outbox ledger old new calls held clean sound lists numbered (told lists given) agreed;
     covered = λ clean sound lists numbered given agreed k may. held_covers shift_talk outbox ledger old new calls held clean sound lists numbered (told lists given) agreed k may;
+    answered = λ clean sound lists numbered given agreed k may. lines_covered old.scheme k.outbox calls come (held_covers shift_talk outbox ledger old new calls held clean sound lists numbered (told lists given) agreed k may);
     lasts = held_lasts shift_talk outbox ledger old new calls held;
   }
 
-  pub rounds_keep : (old new : Hub O L) (rounds : List (Round (Shift NetValue))) → AreServed shift_talk outbox ledger old new rounds → KeepsStores outbox ledger old new (flat_map calls_of rounds) (λ lists. HaveGiven shift_talk outbox ledger old.scheme lists rounds)
-  rounds_keep old new rounds served =
-      calls_keep old new (flat_map calls_of rounds) _ (λ lists given. gave_all shift_talk outbox ledger old.scheme lists rounds served.each given) served.held
+  pub rounds_keep : (old new : Hub O L) (rounds : List (Round (Shift NetValue))) → AreServed shift_talk outbox ledger old new rounds → ComeOfLines old.scheme (flat_map calls_of rounds) → KeepsStores outbox ledger old new (flat_map calls_of rounds) (λ lists. HaveGiven shift_talk outbox ledger old.scheme lists rounds)
+  rounds_keep old new rounds served come =
+      calls_keep old new (flat_map calls_of rounds) _ (λ lists given. gave_all shift_talk outbox ledger old.scheme lists rounds served.each given) served.held come
 
   -- A FAULT
-  pub lines_failed : (old new : Hub O L) (fault : ServeFault) → HasFailed shift_talk outbox ledger old new fault → HasFailedLines outbox ledger old new fault
-  lines_failed old new fault failed = record {
-    failed = failed;
-    keeps = calls_keep old new failed.calls _ (λ lists given. given) failed.held;
+  pub lines_failed : (old new : Hub O L) (fault : ServeFault) → HaveFailed outbox ledger old new fault → HasFailedLines outbox ledger old new fault
+  lines_failed old new fault h = record {
+    failed = h.failed;
+    come = h.come;
+    keeps = calls_keep old new h.failed.calls _ (λ lists given. given) h.failed.held h.come;
   }
 
-  -- one that came behind rounds
-  pub rounds_failed : (old middle new : Hub O L) (rounds : List (Round (Shift NetValue))) (fault : ServeFault) → AreServed shift_talk outbox ledger old middle rounds → HasFailed shift_talk outbox ledger middle new fault → HasFailed shift_talk outbox ledger old new fault
-  rounds_failed old middle new rounds fault served failed =
-      failed_after shift_talk outbox ledger old middle new (flat_map calls_of rounds) fault served.held served.unended (rounds_of_scheme old.scheme rounds served.each) failed
+  -- before any session
+  pub none_failed : (hub : Hub O L) (fault : ServeFault) → IsOutside fault → HaveFailed outbox ledger hub hub fault
+  none_failed hub fault outside = record { failed = record { calls = []; held = refl; ended = outside; each = tt }; come = come_none hub.scheme }
+
+  -- behind rounds, in one that had begun
+  pub rounds_failed : (old middle new : Hub O L) (whole : Bool) (count : ℕ) (c : Counts) (seats gathered : List Seat) (fault : ServeFault) → HaveBeenSeated old middle whole count c seats → AreGathered middle.scheme seats gathered
+      → HasFailedHeld outbox ledger middle new gathered fault → HaveFailed outbox ledger old new fault
+  rounds_failed old middle new whole count c seats gathered fault been came next =
+      let was = been.held in
+      let same = held_scheme shift_talk outbox ledger old middle (flat_map calls_of was.rounds) was.served.held in
+      let all = failed_after shift_talk outbox ledger old middle new (flat_map calls_of was.rounds) fault was.served.held was.served.unended (rounds_of_scheme old.scheme was.rounds was.served.each) next.failed in
+      record {
+        failed = all.0;
+        come = subst (ComeOfLines old.scheme) (sym all.1) (come_to_fault old.scheme been.first was.rounds seats gathered next.failed.calls been.free been.seated (subst (λ sc. AreGathered sc seats gathered) same came) next.begun);
+      }
+
+  -- behind rounds, outside of sessions
+  pub rounds_failed_behind : (old new : Hub O L) (whole : Bool) (count : ℕ) (c : Counts) (fault : ServeFault) → HaveBeenHeld outbox ledger old new whole count c → IsOutside fault → HaveFailed outbox ledger old new fault
+  rounds_failed_behind old new whole count c fault was outside =
+      let all = failed_behind shift_talk outbox ledger old new (flat_map calls_of was.rounds) fault was.served.held was.served.unended (rounds_of_scheme old.scheme was.rounds was.served.each) outside in
+      record { failed = all.0; come = subst (ComeOfLines old.scheme) (sym all.1) was.come }

@@ -1,6 +1,7 @@
 pub mod Chained
 pub mod Counted
-pub mod Held
-pub mod Failed
 pub mod Seated
 pub mod Lent
+pub mod Failed
+pub mod Coming
+pub mod Held

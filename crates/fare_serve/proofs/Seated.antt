@@ -1,7 +1,8 @@
 -- Seats that lines take.
-use Rattle.std.proofs.Common.{◌≡◌, ◌≢◌, ◌⊎◌, ℕ, zero, suc, ◌<◌, List, [], ◌∷◌, ◌++◌, length, slice_index_or, Some, refl, sym, ap, ◌∙◌, subst, inl, inr, arith, true, false, append_assoc, get_or-set_same, get_or-set_other}
+use Rattle.std.proofs.Common.{◌≡◌, ◌≢◌, ◌⊎◌, ℕ, zero, suc, ◌<◌, List, [], ◌∷◌, ◌++◌, length, take, drop, slice_index_or, refl, sym, ap, ◌∙◌, subst, inl, inr, arith, false, append_assoc, get_or-set_same, get_or-set_other}
 use Rattle.std.proofs.lemmas.List.{get_or_default}
 use Rattle.std.proofs.Math.ListN.{set}
+use Rattle.std.proofs.Math.Seq.{take-append_seam}
 use Rattle.fare_frame.specs.declared.frame.Frame.{Frame}
 use Rattle.fare_frame.specs.declared.frame.Frame.TheVariants.{Greeted}
 use Rattle.fare_frame.specs.Reading.{Spells}
@@ -11,7 +12,7 @@ use Rattle.fare_net.specs.NetValue.{NetValue}
 use Rattle.fare_net.specs.Sources.{Advances, Greets, HasGreeted, IsFront}
 use Rattle.fare_net.proofs.Sources.{advances_then}
 use Rattle.fare_serve.specs.Lines.{HasGreetedAs, IsNewLine, IsUnheard}
-use Rattle.fare_serve.specs.Seats.{AreFree, AreSeats, AreSeatsAfter, HasSat, IsSeatAfter}
+use Rattle.fare_serve.specs.Seats.{AreFree, AreGathered, AreSeats, AreSeatsAfter, HasTakenSeat, IsGathered, IsSeatAfter}
 use Rattle.fare_serve.specs.declared.seats.Rule.{Rule}
 use Rattle.fare_serve.specs.declared.seats.Rule.TheVariants.{First, Last}
 use Rattle.fare_serve.specs.declared.seats.Seat.{Seat}
@@ -59,7 +60,7 @@ greeted_as sc station guest line unheard said greets greeted = record {
 }
 
 -- ONE SEAT
-pub sat : (sc : SchemeValue) (rule : Rule) (place : ℕ) (old new : Seat) (source : NetValue) → IsNewLine sc place source → HasSat rule old new source → IsSeatAfter sc rule place old new
+pub sat : (sc : SchemeValue) (rule : Rule) (place : ℕ) (old new : Seat) (source : NetValue) → IsNewLine sc place source → HasTakenSeat rule old new source → IsSeatAfter sc rule place old new
 sat sc First place (Held first) new source came (now, on, inl over) = inr (source, over.0, inl came)
 sat sc First place (Held first) new source came (now, on, inr kept) = inr (now, kept.0, inr (first, refl, refl, on))
 sat sc First place Free new source came has = inr (source, has, inl came)
@@ -96,6 +97,10 @@ length-seats [] place new = refl
 length-seats (s ∷ ss) zero new = refl
 length-seats (s ∷ ss) (suc place) new = ap suc (length-seats ss place new)
 
+-- as many seats as there were, written over all
+pub written_over : (new olds : List Seat) (len : ℕ) → len ≡ length new → take len (new ++ drop (length new) olds) ≡ new
+written_over new olds len same = ap (λ n. take n (new ++ drop (length new) olds)) same ∙ take-append_seam new (drop (length new) olds)
+
 -- the line at a place came to its seat
 pub after_set : (sc : SchemeValue) (rule : Rule) (seats : List Seat) (place : ℕ) (was new : Seat) → place < length seats → IsSeatAfter sc rule place (slice_index_or seats place was) new → AreSeatsAfter sc rule seats (set seats place new)
 after_set sc rule seats place was new lt moved = record { len = length-seats seats place new; each = λ k d within. by k d (same_or_apart k place) }
@@ -125,15 +130,22 @@ none_held line seat p q = cc
 pub seats_of_free : (sc : SchemeValue) (seats : List Seat) → AreFree seats → AreSeats sc seats
 seats_of_free sc seats free = record { each = λ k d line lt has. absurd (none_held line (slice_index_or seats k d) (free.each k d lt) has) }
 
--- where lines newly greeted, they did, and those that take the others' seats have too
-new_after : (sc : SchemeValue) (rule : Rule) (place : ℕ) (old new : Seat) (line : NetValue) → ((first : NetValue) → old ≡ Held first → IsNewLine sc place first) → new ≡ Held line → IsSeatAfter sc rule place old new → IsNewLine sc place line
-new_after sc rule place old new line were has (inl same) = were line (sym same ∙ has)
-new_after sc rule place old new line were has (inr (m, is, inl came)) = subst (IsNewLine sc place) (held_one m line new is has) came
-new_after sc rule place old new line were has (inr (m, is, inr (first, by, was, on))) = subst (IsNewLine sc place) (held_one m line new is has) (new_still sc place first m on (were first was))
+-- GATHERING
+-- a line that was read on, of a seat that was gathered
+on_gathered : (sc : SchemeValue) (place : ℕ) (a b c : Seat) (line first : NetValue) → c ≡ Held line → b ≡ Held first → Advances first line → ((l : NetValue) → a ≡ Held l → IsNewLine sc place l) → IsGathered sc place a b → IsGathered sc place a c
+on_gathered sc place a b c line first is was on were (inl same) = inr (line, is, new_still sc place first line on (were first (sym same ∙ was)))
+on_gathered sc place a b c line first is was on were (inr (m, has, came)) = inr (line, is, new_still sc place m line (subst (λ (x : NetValue). Advances x line) (held_one first m b was has) on) came)
 
-pub seats_after : (sc : SchemeValue) (rule : Rule) (olds news : List Seat) → AreSeatsAfter sc rule olds news → AreSeats sc olds → AreSeats sc news
-seats_after sc rule olds news after were = record {
-  each = λ k d line lt has.
-      let within = subst (λ n. k < n) after.len lt in
-      new_after sc rule k (slice_index_or olds k d) (slice_index_or news k d) line (λ first was. were.each k d first within was) has (after.each k d within);
+gathered_one : (sc : SchemeValue) (rule : Rule) (place : ℕ) (a b c : Seat) → (rule ≡ First → (l : NetValue) → a ≡ Held l → IsNewLine sc place l) → IsGathered sc place a b → IsSeatAfter sc rule place b c → IsGathered sc place a c
+gathered_one sc rule place a b c were p (inl same) = subst (IsGathered sc place a) (sym same) p
+gathered_one sc rule place a b c were p (inr (line, is, inl came)) = inr (line, is, came)
+gathered_one sc rule place a b c were p (inr (line, is, inr (first, by, was, on))) = on_gathered sc place a b c line first is was on (were by) p
+
+pub gathered_none : (sc : SchemeValue) (seats : List Seat) → AreGathered sc seats seats
+gathered_none sc seats = record { len = refl; each = λ k d lt. inl refl }
+
+pub gathered_then : (sc : SchemeValue) (rule : Rule) (a b c : List Seat) → (rule ≡ First → AreSeats sc a) → AreGathered sc a b → AreSeatsAfter sc rule b c → AreGathered sc a c
+gathered_then sc rule a b c were p q = record {
+  len = q.len ∙ p.len;
+  each = λ k d lt. gathered_one sc rule k (slice_index_or a k d) (slice_index_or b k d) (slice_index_or c k d) (λ by l has. (were by).each k d l lt has) (p.each k d lt) (q.each k d (subst (λ n. k < n) (sym p.len) lt));
 }

@@ -14,15 +14,15 @@ use Rattle.fare_source.specs.Talking.{Talk}
 use Rattle.fare_collect.specs.Resuming.{AreStations}
 use Rattle.fare_collect.specs.declared.station.Station.{Station}
 use Rattle.fare_history.specs.Stores.{StoresValue}
-use Rattle.fare_agreement.specs.Agreeing.{AreNumberedLists}
 use Rattle.fare_agreement.specs.Totals.{had_by}
 use Rattle.fare_sessions.specs.declared.hub.Hub.{Hub}
 use Rattle.fare_sessions.specs.declared.report.SessionsReport.{SessionsReport}
 use Rattle.fare_sessions.specs.declared.session.Session.{Session}
 use Rattle.fare_sessions.specs.declared.session.Session.TheVariants.{Collect, Serve}
+use Rattle.fare_sessions.specs.Running.{AreStill}
 use Rattle.fare_sessions.specs.Stores.{AreClean, AreLive, AreSound, StoresFollow, MayStandAs, IsAgreed, HasGrown, held_by_all}
 use Rattle.fare_sessions.specs.Reopening.{AreLasting, AreOwned}
-use Rattle.fare_sessions.specs.Promises.{GaveOf, AreCovered, ran, AreInOrder, AreUntouched, IsAdded, CameOf}
+use Rattle.fare_sessions.specs.Promises.{AreCovered, Trusted, ran, AreInOrder, AreUntouched, IsAdded, CameOf}
 use Rattle.fare_serve.specs.declared.fault.ServeFault.{ServeFault}
 use Rattle.fare_serve.specs.declared.fault.ServeFault.TheVariants as serve
 
@@ -83,20 +83,26 @@ IsOfScheme {S} sc c =
     ((stations : Vec (Station S) Global) × (c.olds ≡ Collect stations ∷ []) × AreStations sc stations.items × (length stations.items ≡ length sc.stations))
     ⊎ ((owner : ℕ) × (place : ℕ) × (c.olds ≡ Serve owner ∷ []) × (id_at sc.owners place ≡ Some owner))
 
+-- a session of an owner
+abbrev pub IsServing : {S : Type 0} → Call S → Type 0
+IsServing c = (owner : ℕ) × (c.olds ≡ Serve owner ∷ [])
+
 module _ {S O L : Type 0} (talks : S → Talk) (outbox : O → Standing OutboxValue) (ledger : L → Standing LedgerValue) where
   -- What a hub promises of a call, as its sessions do.
   pub record IsHeld (old new : Hub O L) (c : Call S) : Type 0 where
     pub scheme : new.scheme ≡ old.scheme
+    -- each session is the one that it was, of as many stations or of the same owner
+    pub still : AreStill c.olds c.news
     pub follow : StoresFollow outbox ledger old new
     pub sound : AreClean outbox ledger new → AreSound outbox ledger old → AreSound outbox ledger new
     -- whatever a stop would leave fits together, where it did, and each ledger is its owner's
     pub lasting : AreClean outbox ledger new → AreSound outbox ledger old → AreLasting outbox ledger old → AreLasting outbox ledger new
     pub owned : AreClean outbox ledger new → AreSound outbox ledger old → AreOwned outbox ledger old → AreOwned outbox ledger new
     -- where the stores agreed with lists of taps of which the sources' frames are, they do afterwards, and nothing fell
-    pub agrees : AreClean outbox ledger new → AreSound outbox ledger old → (lists : ℕ → List RecordValue) → AreNumberedLists old.scheme lists → GaveOf talks old.scheme lists c.olds c.news → IsAgreed outbox ledger lists old → IsAgreed outbox ledger lists new
-    pub grows : AreClean outbox ledger new → AreSound outbox ledger old → (lists : ℕ → List RecordValue) → AreNumberedLists old.scheme lists → GaveOf talks old.scheme lists c.olds c.news → IsAgreed outbox ledger lists old → HasGrown outbox ledger old new
+    pub agrees : (lists : ℕ → List RecordValue) → Trusted talks outbox ledger old new c.olds c.news lists → IsAgreed outbox ledger lists new
+    pub grows : (lists : ℕ → List RecordValue) → Trusted talks outbox ledger old new c.olds c.news lists → HasGrown outbox ledger old new
     -- and each acknowledgement that a source was answered is covered by the outbox
-    pub covered : AreClean outbox ledger new → AreSound outbox ledger old → (lists : ℕ → List RecordValue) → AreNumberedLists old.scheme lists → GaveOf talks old.scheme lists c.olds c.news → IsAgreed outbox ledger lists old → (k : StoresValue) → MayStandAs outbox ledger new k → AreCovered talks old.scheme k.outbox c.olds c.news
+    pub covered : (lists : ℕ → List RecordValue) → Trusted talks outbox ledger old new c.olds c.news lists → (k : StoresValue) → MayStandAs outbox ledger new k → AreCovered talks old.scheme k.outbox c.olds c.news
     -- what each session did, and that the report counts it
     pub boundaries : AreClean outbox ledger new → AreSound outbox ledger old → (k : StoresValue) → MayStandAs outbox ledger new k → CameOf talks outbox ledger old c.olds c.news c.report k
     pub stored : AreLive outbox ledger new → AreSound outbox ledger old → IsAdded (had_by old.scheme (outbox old.outbox).value) (had_by old.scheme (outbox new.outbox).value) c.report.stored

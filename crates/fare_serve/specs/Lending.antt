@@ -1,5 +1,5 @@
 -- Lines that a round borrows of their seats, and that go back into them.
-use Rattle.std.specs.Prelude.{◌≡◌, ◌<◌, ◌≤◌, ◌⊎◌, ◌==◌, ℕ, Bool, true, false, List, [], ◌∷◌, length, slice_index_or, Option, Some, None, if◌then◌else◌}
+use Rattle.std.specs.Prelude.{◌≡◌, ◌<◌, ◌≤◌, ◌⊎◌, ◌==◌, ℕ, Bool, false, List, [], ◌∷◌, length, slice_index_or, Option, Some, None, if◌then◌else◌}
 use Rattle.fare_session.specs.declared.fault.SessionFault.{SessionFault}
 use Rattle.fare_session.specs.declared.fault.SessionFault.TheVariants as session
 use Rattle.fare_source.specs.declared.shift.Shift.{Shift}
@@ -30,17 +30,17 @@ pub record AreLent (whole : Bool) (olds news : List Seat) (shifts : List (Shift 
 
 -- A ROUND HAS ENDED
 -- a fault of a station's line
-abbrev pub is_of : ℕ → SessionFault → Bool
-is_of station (session.Source other) = other == station
-is_of station (session.Unexpected other) = other == station
-is_of station session.Refused = false
-is_of station session.Memory = false
-is_of station session.Store = false
+abbrev pub is_of_line : ℕ → SessionFault → Bool
+is_of_line station (session.Source other) = other == station
+is_of_line station (session.Unexpected other) = other == station
+is_of_line station session.Refused = false
+is_of_line station session.Memory = false
+is_of_line station session.Store = false
 
 -- the first of these faults that is of the station's line
 abbrev pub fault_in : ℕ → List (ℕ × SessionFault) → Option SessionFault
 fault_in station [] = None
-fault_in station (f ∷ fs) = if is_of station f.1 then Some f.1 else fault_in station fs
+fault_in station (f ∷ fs) = if is_of_line station f.1 then Some f.1 else fault_in station fs
 
 -- a line goes back into its seat, unless it broke or is over
 abbrev pub GoesBack : Option SessionFault → NetValue → Seat → Type 0

@@ -16,10 +16,11 @@ use Rattle.fare_sessions.specs.declared.session.Session.{Session}
 use Rattle.fare_sessions.specs.declared.session.Session.TheVariants.{Collect, Serve}
 use Rattle.fare_sessions.specs.Promises.{GaveOf}
 use Rattle.fare_sessions.specs.declared.report.SessionsReport.{SessionsReport}
-use Rattle.fare_serve.specs.Calls.{Call, AreHeld, AreUnended, stations_in}
+use Rattle.fare_serve.specs.Calls.{Call, AreHeld, AreUnended, HasFailed, IsServing, stations_in}
 use Rattle.fare_serve.specs.Counting.{IsCountsOf, kept_count, owner_in}
 use Rattle.fare_serve.specs.declared.counts.Counts.{Counts}
 use Rattle.fare_serve.specs.declared.counts.Taken.{Taken}
+use Rattle.fare_serve.specs.declared.fault.ServeFault.{ServeFault}
 
 -- the call of the stations' session, and those of the owners'
 pub record Round (S : Type 0) : Type 0 where
@@ -43,6 +44,11 @@ pub record IsRound {S : Type 0} (sc : SchemeValue) (r : Round S) (before : List 
   pub stations : AreStations sc before
   pub all : length before ≡ length sc.stations
   pub serves : map olds_of r.owners ≡ map serving_of (keys_of sc.owners)
+
+-- the front of a round of these stations: nothing of it, or their session, and sessions of owners behind it
+abbrev pub IsBegunRound : {S : Type 0} → List (Station S) → List (Call S) → Type 0
+IsBegunRound before [] = Unit {0}
+IsBegunRound {S} before (c ∷ cs) = ((sessions : Vec (Station S) Global) × (c.olds ≡ Collect sessions ∷ []) × (sessions.items ≡ before)) × AllByRecursion IsServing cs
 
 -- COUNTS
 abbrev pub stored_in : {S : Type 0} → Round S → ℕ
@@ -97,6 +103,17 @@ module _ {S O L : Type 0} (talks : S → Talk) (outbox : O → Standing OutboxVa
     pub held : AreHeld talks outbox ledger old new (calls_of round)
     pub unended : AreUnended (calls_of round)
     pub counted : AddsRound counts_old counts_new round
+
+  -- What a round of these stations had come to, up to a fault that ended it: their session, if it began, and sessions of
+  -- owners behind it.
+  pub record HasFailedRound (old new : Hub O L) (before : List (Station S)) (fault : ServeFault) : Type 0 where
+    pub failed : HasFailed talks outbox ledger old new fault
+    pub begun : IsBegunRound before failed.calls
+
+  -- What sessions of owners had come to, up to a fault that ended them.
+  pub record HaveFailedOwners (old new : Hub O L) (fault : ServeFault) : Type 0 where
+    pub failed : HasFailed talks outbox ledger old new fault
+    pub serving : AllByRecursion IsServing failed.calls
 
   -- one session more of each of the first so many owners, and what was counted of them
   pub record HaveServedOwners (old new : Hub O L) (place : ℕ) (counts_old counts_new : Counts) : Type 0 where

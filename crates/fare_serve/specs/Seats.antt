@@ -21,11 +21,11 @@ abbrev pub KeepsFirst : NetValue → Seat → NetValue → Type 0
 KeepsFirst first new source = (now : NetValue) × Advances first now × (((new ≡ Held source) × IsDone now) ⊎ ((new ≡ Held now) × (¬ IsDone now)))
 
 -- a line came for a seat: which one has it, by the rule
-abbrev pub HasSat : Rule → Seat → Seat → NetValue → Type 0
-HasSat First (Held first) new source = KeepsFirst first new source
-HasSat First Free new source = new ≡ Held source
-HasSat First Lent new source = new ≡ Held source
-HasSat Last old new source = new ≡ Held source
+abbrev pub HasTakenSeat : Rule → Seat → Seat → NetValue → Type 0
+HasTakenSeat First (Held first) new source = KeepsFirst first new source
+HasTakenSeat First Free new source = new ≡ Held source
+HasTakenSeat First Lent new source = new ≡ Held source
+HasTakenSeat Last old new source = new ≡ Held source
 
 -- Of the seat at a place: it is as it was; or a line has it that has newly greeted as a device of that place's station; or,
 -- before the first round, its line was read on at most.
@@ -45,3 +45,14 @@ pub record AreFree (seats : List Seat) : Type 0 where
 -- each line that has a seat has newly greeted as a device of the station whose seat it is, and was answered nothing
 pub record AreSeats (sc : SchemeValue) (seats : List Seat) : Type 0 where
   pub each : (k : ℕ) (d : Seat) (line : NetValue) → k < length seats → slice_index_or seats k d ≡ Held line → IsNewLine sc k line
+
+-- GATHERING
+-- A seat as lines are gathered for a round: it is as it was, or a line has it that has newly greeted as a device of the station
+-- whose seat it is.
+abbrev pub IsGathered : SchemeValue → ℕ → Seat → Seat → Type 0
+IsGathered sc place old new = (new ≡ old) ⊎ ((line : NetValue) × (new ≡ Held line) × IsNewLine sc place line)
+
+-- so each seat, by its place
+pub record AreGathered (sc : SchemeValue) (olds news : List Seat) : Type 0 where
+  pub len : length news ≡ length olds
+  pub each : (k : ℕ) (d : Seat) → k < length olds → IsGathered sc k (slice_index_or olds k d) (slice_index_or news k d)

@@ -22,10 +22,13 @@ use Rattle.fare_sessions.specs.Stores.{AreClean, AreSound, IsAgreed, HasGrown, M
 use Rattle.fare_sessions.specs.Reopening.{AreLasting, AreOwned}
 use Rattle.fare_serve.specs.Counting.{counts_text}
 use Rattle.fare_scheme.specs.Values.{SchemeValue}
-use Rattle.fare_serve.specs.Calls.{AreHeld, Call, HasFailed}
+use Rattle.fare_serve.specs.Calls.{Call, HasFailed, stations_in}
+use Rattle.fare_serve.specs.Coming.{AreLinesCovered, ComeOfLines, HasBegun, IsOverLines}
+use Rattle.fare_serve.specs.Lending.{AreBack}
 use Rattle.fare_serve.specs.Rounds.{Round, IsRound, AreCountsOf, AreServed, HasServedRound, HaveGiven, calls_of}
 use Rattle.fare_serve.specs.declared.fault.ServeFault.{ServeFault}
 use Rattle.fare_serve.specs.declared.counts.Counts.{Counts}
+use Rattle.fare_serve.specs.declared.seats.Seat.{Seat}
 
 -- what a shift of a line tells: it has come to its end where the shift is over, and a whole one only at the line's end
 abbrev pub shift_talk : Shift NetValue → Talk
@@ -43,14 +46,21 @@ AreAllCovered sc x calls = AllByRecursion (λ c. AreCovered shift_talk sc x c.ol
 abbrev pub AreWhole : List (Shift NetValue) → Type 0
 AreWhole shifts = AllByRecursion (λ s. s.whole ≡ true) shifts
 
--- One round over the scheme's lines, and what was counted of it; where lines are read to their ends, the shifts of all are
--- whole ones.
-pub record HasHeldRound {O L : Type 0} (outbox : O → Standing OutboxValue) (ledger : L → Standing LedgerValue) (old new : Hub O L) (whole : Bool) (counts_old counts_new : Counts) : Type 0 where
+-- One round over the lines of these seats, and what was counted of it; where lines are read to their ends, the shifts of all are
+-- whole ones. Behind it each line is back in its seat, unless it broke or is over.
+pub record HasHeldRound {O L : Type 0} (outbox : O → Standing OutboxValue) (ledger : L → Standing LedgerValue) (old new : Hub O L) (whole : Bool) (counts_old counts_new : Counts) (seats_old seats_new : List Seat) : Type 0 where
   pub before : List (Station (Shift NetValue))
   pub report : SessionsReport
   pub after : List (Station (Shift NetValue))
   pub served : HasServedRound shift_talk outbox ledger old new before report after counts_old counts_new
   pub to_ends : whole ≡ true → AreWhole (map source_of before)
+  pub over : IsOverLines seats_old served.round.stations
+  pub back : AreBack served.round.stations.report.faults.items (stations_in served.round.stations.news) over.lent seats_new
+
+-- What a round over the lines of these seats had come to, up to a fault that ended it.
+pub record HasFailedHeld {O L : Type 0} (outbox : O → Standing OutboxValue) (ledger : L → Standing LedgerValue) (old new : Hub O L) (seats : List Seat) (fault : ServeFault) : Type 0 where
+  pub failed : HasFailed shift_talk outbox ledger old new fault
+  pub begun : HasBegun seats failed.calls
 
 -- lines are read to their ends where there is one round, which no file ends
 abbrev pub reads_to_ends : ℕ → Bool → Bool
@@ -67,6 +77,12 @@ pub record HaveBeenHeld {O L : Type 0} (outbox : O → Standing OutboxValue) (le
   pub served : AreServed shift_talk outbox ledger old new rounds
   pub counted : AreCountsOf old.scheme rounds counts
   pub to_ends : whole ≡ true → AllByRecursion (IsReadToEnds old.scheme) rounds
+  pub come : ComeOfLines old.scheme (flat_map calls_of rounds)
+
+-- Sessions up to a fault that ended them, and where their lines came from.
+pub record HaveFailed {O L : Type 0} (outbox : O → Standing OutboxValue) (ledger : L → Standing LedgerValue) (old new : Hub O L) (fault : ServeFault) : Type 0 where
+  pub failed : HasFailed shift_talk outbox ledger old new fault
+  pub come : ComeOfLines old.scheme failed.calls
 
 -- At least one, at most so many, and exactly so many where no file could end them.
 pub record HasHeldRounds {O L : Type 0} (outbox : O → Standing OutboxValue) (ledger : L → Standing LedgerValue) (old new : Hub O L) (most : ℕ) (untold : Bool) (counts : Counts) : Type 0 where
@@ -78,14 +94,16 @@ pub record HasHeldRounds {O L : Type 0} (outbox : O → Standing OutboxValue) (l
 
 -- What calls of sessions over lines, one after the other, keep of the stores: the scheme is the same, the stores go on from
 -- those before, and what each holds fits together, where it did; and where they agreed with lists of taps of which the
--- lines' frames are, they do afterwards, nothing fell, and each acknowledgement that a line was answered is covered by the
--- outbox; and whatever a stop would leave of them fits together, where it did.
+-- lines' frames are, they do afterwards, nothing fell, and each acknowledgement that a line was answered in a call is covered
+-- by the outbox, and so are all that it was answered from its greeting on; and whatever a stop would leave of them fits
+-- together, where it did.
 pub record KeepsStores {O L : Type 0} (outbox : O → Standing OutboxValue) (ledger : L → Standing LedgerValue) (old new : Hub O L) (calls : List (Call (Shift NetValue))) (AreGiven : (ℕ → List RecordValue) → Type 0) : Type 0 where
   pub scheme : new.scheme ≡ old.scheme
   pub follow : StoresFollow outbox ledger old new
   pub sound : AreClean outbox ledger new → AreSound outbox ledger old → AreSound outbox ledger new
   pub agrees : AreClean outbox ledger new → AreSound outbox ledger old → (lists : ℕ → List RecordValue) → AreNumberedLists old.scheme lists → AreGiven lists → IsAgreed outbox ledger lists old → IsAgreed outbox ledger lists new × HasGrown outbox ledger old new
   pub covered : AreClean outbox ledger new → AreSound outbox ledger old → (lists : ℕ → List RecordValue) → AreNumberedLists old.scheme lists → AreGiven lists → IsAgreed outbox ledger lists old → (k : StoresValue) → MayStandAs outbox ledger new k → AreAllCovered old.scheme k.outbox calls
+  pub answered : AreClean outbox ledger new → AreSound outbox ledger old → (lists : ℕ → List RecordValue) → AreNumberedLists old.scheme lists → AreGiven lists → IsAgreed outbox ledger lists old → (k : StoresValue) → MayStandAs outbox ledger new k → AreLinesCovered old.scheme k.outbox calls
   pub lasts : AreClean outbox ledger new → AreSound outbox ledger old → AreLasting outbox ledger old → AreOwned outbox ledger old → AreLasting outbox ledger new × AreOwned outbox ledger new
 
 -- What was written is the counts of the sessions' reports in rounds over lines, and what these keep of the stores.
@@ -95,7 +113,9 @@ pub record HasServedLines {O L : Type 0} (outbox : O → Standing OutboxValue) (
   pub written : Appends written_old written_new (counts_text counts)
   pub keeps : KeepsStores outbox ledger old new (flat_map calls_of held.held.rounds) (λ lists. HaveGiven shift_talk outbox ledger old.scheme lists held.held.rounds)
 
--- Where a fault ended the rounds: the calls up to it, the fault that it was, and what they keep of the stores.
+-- Where a fault ended the rounds: the calls up to it, the fault that it was, where their lines came from, and what they keep of
+-- the stores.
 pub record HasFailedLines {O L : Type 0} (outbox : O → Standing OutboxValue) (ledger : L → Standing LedgerValue) (old new : Hub O L) (fault : ServeFault) : Type 0 where
   pub failed : HasFailed shift_talk outbox ledger old new fault
+  pub come : ComeOfLines old.scheme failed.calls
   pub keeps : KeepsStores outbox ledger old new failed.calls (λ lists. HaveTold old.scheme lists failed.calls)

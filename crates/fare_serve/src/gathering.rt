@@ -1,5 +1,5 @@
 ghost use Rattle.std.specs.Prelude.{◌≡◌, ◌≤◌, IfOk, length, vec_len};
-ghost use Rattle.fare_serve.specs.Seats.{AreFree, AreSeats, AreSeatsAfter};
+ghost use Rattle.fare_serve.specs.Seats.{AreFree, AreGathered, AreSeats, AreSeatsAfter};
 
 use crate::guest::{Guest, MOST_GUESTS, welcome};
 use crate::limits::Limits;
@@ -53,7 +53,6 @@ impl Lines {
     )
         ensures len { vec_len self.new.seats ≡ vec_len self.old.seats }
         ensures after { AreSeatsAfter scheme.now rule self.old.seats.items self.new.seats.items }
-        ensures greeted { AreSeats scheme.now self.old.seats.items → AreSeats scheme.now self.new.seats.items }
     {
         welcome(alloc, listener, limits, self.reads, &mut self.guests);
         seat_guests(rt, scheme, rule, &mut self.guests, &mut self.seats);
@@ -89,7 +88,8 @@ impl Lines {
         limits: Limits,
         rule: Rule,
     )
-        ensures { vec_len self.new.seats ≡ vec_len self.old.seats }
+        ensures len { vec_len self.new.seats ≡ vec_len self.old.seats }
+        ensures gathered { (rule ≡ Rule.First → AreSeats scheme.now self.old.seats.items) → AreGathered scheme.now self.old.seats.items self.new.seats.items }
     {
         let attempts = match rule {
             Rule::First => limits.turns,

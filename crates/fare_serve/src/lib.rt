@@ -1,10 +1,11 @@
 //! The hub serves its stations over sockets, in rounds: it takes the lines that came, collects what they send into the
-//! outbox, hands each owner what is theirs, and at the end writes what came of all rounds. It promises that accepting
-//! never waits for one guest, that a station for which no validator came, or whose line was lost, keeps no other from
-//! being served, and that nothing is written before all of it is done: what is written are then the sums of the sessions'
-//! reports, and where a report tells of want of memory or of a store that failed, nothing is. Each session is one of
-//! `Hub::sessions`, so that where the rows agreed with the lists of taps that the devices numbered, they do after any
-//! number of rounds.
+//! outbox, hands each owner what is theirs, and at the end writes what came of all rounds. It promises that each line
+//! which a session of the stations is held over has greeted as a device of its station, and goes on from one round to the
+//! next as it was left; and that nothing is written before all of it is done: what is written are then the sums of the
+//! sessions' reports, and where a report tells of want of memory or of a store that failed, nothing is. However it ended,
+//! where the stores agreed with the lists of taps that the devices numbered, they do, and they cover all that each line was
+//! answered from its greeting on. That accepting never waits for one guest, and that a station for which no validator came,
+//! or whose line was lost, keeps no other from being served, is tested.
 #![tactic(auto)]
 
 mod counts;

@@ -2,8 +2,7 @@ ghost use Rattle.std.specs.Prelude.{◌≡◌, ◌≢◌, ◌≤◌, length, IfE
 ghost use Rattle.fare_collect.specs.Collected.{HaveDevices};
 ghost use Rattle.fare_collect.specs.Resuming.{AreStations};
 ghost use Rattle.fare_sessions.specs.Stores.{HasLedgers};
-ghost use Rattle.fare_serve.specs.Calls.{HasFailed};
-ghost use Rattle.fare_serve.specs.Rounds.{HasServedRound, HaveServedOwners};
+ghost use Rattle.fare_serve.specs.Rounds.{HasFailedRound, HasServedRound, HaveFailedOwners, HaveServedOwners};
 
 use crate::counts::Counts;
 use crate::fault::ServeFault;
@@ -36,7 +35,7 @@ fn serve_owners<
     requires ledgers { HasLedgers hub.old }
     requires owners { length counts.old.taken.items ≡ length hub.old.scheme.owners }
     ensures served { OnOk result (HaveServedOwners S.talk O.standing L.standing hub.old hub.new (length hub.old.scheme.owners) counts.old counts.new) }
-    ensures failed { IfErr result (HasFailed S.talk O.standing L.standing hub.old hub.new) }
+    ensures failed { IfErr result (HaveFailedOwners S.talk O.standing L.standing hub.old hub.new) }
     ensures fault { IfErr result (λ fault. fault ≢ ServeFault.Write) }
 {
     for place in 0..hub.scheme.owner_count() {
@@ -78,7 +77,7 @@ pub fn serve_round<
     requires devices { HaveDevices hub.old.scheme stations.items }
     requires owners { length counts.old.taken.items ≡ length hub.old.scheme.owners }
     ensures served { IfOk result (λ done. HasServedRound S.talk O.standing L.standing hub.old hub.new stations.items done.0 done.1.items counts.old counts.new) }
-    ensures failed { IfErr result (HasFailed S.talk O.standing L.standing hub.old hub.new) }
+    ensures failed { IfErr result (HasFailedRound S.talk O.standing L.standing hub.old hub.new stations.items) }
     ensures fault { IfErr result (λ fault. fault ≢ ServeFault.Write) }
 {
     let (report, stations) = collect_once(rt, alloc, gate, turns, hub, stations)?;

@@ -1,5 +1,5 @@
 ghost use Rattle.std.specs.Prelude.{◌≡◌, ◌≤◌, ◌↔◌, IfOk, IsTrue, length, vec_len};
-ghost use Rattle.fare_serve.specs.Seats.{AreFree, AreSeats, AreSeatsAfter, HasSat, TellsOver};
+ghost use Rattle.fare_serve.specs.Seats.{AreFree, AreSeatsAfter, HasTakenSeat, TellsOver};
 
 use crate::guest::{Guest, MOST_GUESTS};
 use crate::line::LineSource;
@@ -62,7 +62,7 @@ fn is_over(seat: &mut Seat) -> bool
 
 // Before the first round: the first line of a station that is not over keeps its seat.
 fn keep_first<R: Eprint>(rt: &R, station: StationId, source: LineSource, seat: &mut Seat)
-    ensures { HasSat Rule.First seat.old seat.new source }
+    ensures { HasTakenSeat Rule.First seat.old seat.new source }
 {
     if !is_over(seat) {
         tell_second(rt, station);
@@ -76,7 +76,7 @@ fn keep_first<R: Eprint>(rt: &R, station: StationId, source: LineSource, seat: &
 
 // Between rounds: the line that came last has the seat.
 fn keep_last<R: Eprint>(rt: &R, station: StationId, source: LineSource, seat: &mut Seat)
-    ensures { HasSat Rule.Last seat.old seat.new source }
+    ensures { HasTakenSeat Rule.Last seat.old seat.new source }
 {
     if seat.is_free() {
         tell_came(rt, station);
@@ -88,7 +88,7 @@ fn keep_last<R: Eprint>(rt: &R, station: StationId, source: LineSource, seat: &m
 
 // Gives a station's seat to a line that greeted, or leaves it to the one that has it, as the rule says.
 fn take_seat<R: Eprint>(rt: &R, station: StationId, source: LineSource, rule: Rule, seat: &mut Seat)
-    ensures { HasSat rule seat.old seat.new source }
+    ensures { HasTakenSeat rule seat.old seat.new source }
 {
     match rule {
         Rule::First => keep_first(rt, station, source, seat),
@@ -121,8 +121,7 @@ pub(crate) fn seat_guests<R: Eprint>(
     guests: &mut Vec<Guest>,
     seats: &mut [Seat],
 )
-    ensures after { AreSeatsAfter scheme.now rule seats.old seats.new }
-    ensures greeted { AreSeats scheme.now seats.old → AreSeats scheme.now seats.new }
+    ensures { AreSeatsAfter scheme.now rule seats.old seats.new }
 {
     let mut place = 0;
     for _ in 0..MOST_GUESTS {

@@ -2,8 +2,7 @@ ghost use Rattle.std.specs.Prelude.{◌≡◌, ◌≢◌, ◌≤◌, false, leng
 ghost use Rattle.std.specs.Io.KnownBytes.{Keeps};
 ghost use Rattle.fare_sessions.specs.Stores.{HasLedgers};
 ghost use Rattle.fare_serve.specs.Counting.{AreNoCounts};
-ghost use Rattle.fare_serve.specs.Calls.{HasFailed};
-ghost use Rattle.fare_serve.specs.Serving.{HasFailedLines, HasHeldRound, HasHeldRounds, HasServedLines, reads_to_ends, shift_talk};
+ghost use Rattle.fare_serve.specs.Serving.{HasFailedHeld, HasFailedLines, HasHeldRound, HasHeldRounds, HasServedLines, HaveFailed, reads_to_ends};
 
 use crate::counts::{Counts, write_counts};
 use crate::fault::ServeFault;
@@ -62,7 +61,9 @@ fn reads_of(limits: Limits, whole: bool) -> u64 {
 }
 
 // Which of two lines of a station has the seat in a round.
-fn rule_of(round: u32) -> Rule {
+fn rule_of(round: u32) -> Rule
+    ensures { result ≡ Rule.First → round ≡ 0 }
+{
     if round == 0 { Rule::First } else { Rule::Last }
 }
 
@@ -80,8 +81,8 @@ fn hold_round<O: Outbox + Send, L: Ledger + Send, R: Threads + Wait + Clock + Ep
     requires seats { vec_len lines.old.seats ≡ length hub.old.scheme.stations }
     requires few { vec_len lines.old.seats ≤ 16 }
     requires owners { length counts.old.taken.items ≡ length hub.old.scheme.owners }
-    ensures held { OnOk result (HasHeldRound O.standing L.standing hub.old hub.new whole counts.old counts.new) }
-    ensures failed { IfErr result (HasFailed shift_talk O.standing L.standing hub.old hub.new) }
+    ensures held { OnOk result (HasHeldRound O.standing L.standing hub.old hub.new whole counts.old counts.new lines.old.seats.items lines.new.seats.items) }
+    ensures failed { IfErr result (HasFailedHeld O.standing L.standing hub.old hub.new lines.old.seats.items) }
     ensures seats { vec_len lines.new.seats ≡ vec_len lines.old.seats }
     ensures fault { IfErr result (λ fault. fault ≢ ServeFault.Write) }
 {
@@ -110,7 +111,7 @@ fn hold_rounds<O: Outbox + Send, L: Ledger + Send, R: Threads + Wait + Clock + E
     requires ledgers { HasLedgers hub.old }
     requires none { AreNoCounts hub.old.scheme counts.old }
     ensures held { OnOk result (HasHeldRounds O.standing L.standing hub.old hub.new limits.rounds (is_none until.entry) counts.new) }
-    ensures failed { IfErr result (HasFailed shift_talk O.standing L.standing hub.old hub.new) }
+    ensures failed { IfErr result (HaveFailed O.standing L.standing hub.old hub.new) }
     ensures fault { IfErr result (λ fault. fault ≢ ServeFault.Write) }
 {
     let alloc = rt.alloc();

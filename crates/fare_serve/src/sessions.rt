@@ -6,7 +6,8 @@ ghost use Rattle.fare_sessions.specs.Running.{AreRunnable};
 ghost use Rattle.fare_sessions.specs.Stores.{HasLedgers};
 ghost use Rattle.fare_sessions.specs.declared.session.Session.{Session};
 ghost use Rattle.fare_sessions.specs.declared.session.Session.TheVariants.{Serve};
-ghost use Rattle.fare_serve.specs.Calls.{HasHeldStations, HasEnded, HasFailed, HasHeld, HasHeldOwner, ending_of, first_ending, stations_in};
+ghost use Rattle.fare_serve.specs.Calls.{HasHeldStations, HasEnded, HasHeld, HasHeldOwner, ending_of, first_ending, stations_in};
+ghost use Rattle.fare_serve.specs.Rounds.{HasFailedRound};
 
 use crate::fault::ServeFault;
 use fare_collect::Station;
@@ -109,7 +110,7 @@ pub(crate) fn collect_once<
     requires all { length stations.items ≡ length hub.old.scheme.stations }
     requires devices { HaveDevices hub.old.scheme stations.items }
     ensures held { IfOk result (λ done. HasHeldStations S.talk O.standing L.standing hub.old hub.new stations done.0 done.1.items) }
-    ensures failed { IfErr result (HasFailed S.talk O.standing L.standing hub.old hub.new) }
+    ensures failed { IfErr result (HasFailedRound S.talk O.standing L.standing hub.old hub.new stations.items) }
     ensures fault { IfErr result (λ fault. fault ≢ ServeFault.Write) }
 {
     let mut session = Session::Collect(stations);

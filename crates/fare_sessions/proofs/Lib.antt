@@ -12,3 +12,5 @@ pub mod Going
 pub mod Lasting
 pub mod Again
 pub mod Runnable
+pub mod Still
+pub mod Somethings

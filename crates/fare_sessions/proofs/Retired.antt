@@ -18,7 +18,7 @@ use Rattle.fare_history.proofs.Holds.{write_leads}
 use Rattle.fare_session.specs.Stores.{Follows}
 use Rattle.fare_agreement.specs.Agreeing.{AreNumberedLists, Agrees}
 use Rattle.fare_agreement.specs.Stopping.{IsLeftBy}
-use Rattle.fare_agreement.specs.Together.{IsRetiredFrom}
+use Rattle.fare_agreement.specs.Attempted.{IsRetiredFrom}
 use Rattle.fare_agreement.proofs.Sessions.{IsSafe, stop_safe}
 use Rattle.fare_sessions.specs.declared.hub.Hub.{Hub}
 use Rattle.fare_sessions.specs.Retiring.{HasRetired}

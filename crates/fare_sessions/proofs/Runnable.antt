@@ -25,13 +25,13 @@ all_from : {X : Type 0} (P : X → Type 0) (xs : List X) → ((place : ℕ) (x :
 all_from P [] each = tt
 all_from P (x ∷ xs) each = (each 0 x refl, all_from P xs (λ place y at. each (suc place) y at))
 
-last_or_before : (place n : ℕ) → place < suc n → (place ≡ n) ⊎ (place < n)
+pub last_or_before : (place n : ℕ) → place < suc n → (place ≡ n) ⊎ (place < n)
 last_or_before zero zero lt = inl refl
 last_or_before zero (suc n) lt = inr (omega arith)
 last_or_before (suc place) zero lt = absurd (omega (arith, lt))
 last_or_before (suc place) (suc n) lt = elim (last_or_before place n (omega (arith, lt))) [ inl same ↦ inl (ap suc same) | inr below ↦ inr (omega (arith, below)) ]
 
-below_or_from : (place n : ℕ) → (place < n) ⊎ (n ≤ place)
+pub below_or_from : (place n : ℕ) → (place < n) ⊎ (n ≤ place)
 below_or_from place zero = inr (omega arith)
 below_or_from zero (suc n) = inl (omega arith)
 below_or_from (suc place) (suc n) = elim (below_or_from place n) [ inl below ↦ inl (omega (arith, below)) | inr from ↦ inr (omega (arith, from)) ]

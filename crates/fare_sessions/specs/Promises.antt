@@ -24,7 +24,7 @@ use Rattle.fare_sessions.specs.declared.session.Session.{Session}
 use Rattle.fare_sessions.specs.declared.session.Session.TheVariants.{Collect}
 use Rattle.fare_sessions.specs.declared.report.SessionsReport.{SessionsReport}
 use Rattle.fare_sessions.specs.Course.{Tally, last_place}
-use Rattle.fare_sessions.specs.Stores.{MayStandAs}
+use Rattle.fare_sessions.specs.Stores.{AreClean, AreSound, IsAgreed, MayStandAs}
 use Rattle.fare_sessions.specs.Boundaries.{HaveLed}
 
 -- FRAMES
@@ -73,8 +73,19 @@ pub record AreUntouched {S : Type 0} (from : ℕ) (olds news : List (Session S))
 abbrev pub IsAdded : ℕ → ℕ → ℕ → Type 0
 IsAdded old new counted = (more : ℕ) × (new ≡ old + more) × (counted ≡ min more 18446744073709551615)
 
--- THE BOUNDARIES
 module _ {S O L : Type 0} (talks : S → Talk) (outbox : O → Standing OutboxValue) (ledger : L → Standing LedgerValue) where
+  -- WHAT IS ASKED
+  -- What each promise about lists of taps asks of a call: the stores have kept what was committed, and what they held before
+  -- fitted together; the lists are numbered in the scheme's way, the frames that the sources gave are of them, and what the
+  -- stores held before agreed with them.
+  pub record Trusted (old new : Hub O L) (olds news : List (Session S)) (lists : ℕ → List RecordValue) : Type 0 where
+    pub clean : AreClean outbox ledger new
+    pub sound : AreSound outbox ledger old
+    pub numbered : AreNumberedLists old.scheme lists
+    pub gave : GaveOf talks old.scheme lists olds news
+    pub agreed : IsAgreed outbox ledger lists old
+
+  -- THE BOUNDARIES
   -- Stores k came of the sessions that ran, from stores that might have stood before, by way of stores at each boundary; what the sessions were answered, each acknowledgement and each take, is in them, where the first of these stores agree with lists of which the sources' frames are.
   pub record CameOf (old : Hub O L) (olds news : List (Session S)) (report : SessionsReport) (k : StoresValue) : Type 0 where
     pub h : StoresValue

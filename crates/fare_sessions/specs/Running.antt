@@ -30,6 +30,18 @@ IsRunnable sc (Serve owner) = (place : ℕ) × (position_of_owner sc owner ≡ S
 abbrev pub AreRunnable : {S : Type 0} → SchemeValue → List (Session S) → Type 0
 AreRunnable sc sessions = AllByRecursion (IsRunnable sc) sessions
 
+-- it is the session that it was: of as many stations, or of the same owner
+abbrev pub IsStill : {S : Type 0} → Session S → Session S → Type 0
+IsStill (Collect before) (Collect after) = length after.items ≡ length before.items
+IsStill (Collect before) (Serve owner) = ⊥
+IsStill (Serve owner) (Serve other) = other ≡ owner
+IsStill (Serve owner) (Collect after) = ⊥
+
+-- so each of a list, by its place
+pub record AreStill {S : Type 0} (olds news : List (Session S)) : Type 0 where
+  pub len : length news ≡ length olds
+  pub each : (place : ℕ) (before after : Session S) → slice_get olds place ≡ Some before → slice_get news place ≡ Some after → IsStill before after
+
 -- ONE SESSION
 module _ {S O L : Type 0} (talks : S → Talk) (outbox : O → Standing OutboxValue) where
   -- the stations collected, or there was no memory for their list of faults and nothing was read

@@ -1,15 +1,14 @@
 //! The hub.
 ghost use Rattle.std.specs.Prelude.{◌≡◌, ◌+◌, ◌*◌, ◌<◌, ◌≤◌, ◌↔◌, ℕ, [], List, length, IfOk, IsErr, IsTrue, vec_len, vec_capacity};
 ghost use Rattle.fare_record.specs.Values.{RecordValue};
-ghost use Rattle.fare_agreement.specs.Agreeing.{AreNumberedLists};
 ghost use Rattle.fare_agreement.specs.Totals.{had_by};
 ghost use Rattle.fare_history.specs.Stores.{StoresValue};
 ghost use Rattle.fare_store.specs.Standing.{IsSound};
 ghost use Rattle.fare_sessions.specs.Course.{Shows, no_tally};
 ghost use Rattle.fare_sessions.specs.Stores.{HasLedgers, AreClean, AreLive, AreSound, StoresFollow, MayStandAs, IsAgreed, HasGrown, held_by_all};
 ghost use Rattle.fare_sessions.specs.Reopening.{AreLasting, AreOwned};
-ghost use Rattle.fare_sessions.specs.Running.{AreRunnable, HaveAllRun};
-ghost use Rattle.fare_sessions.specs.Promises.{GaveOf, AreCovered, ran, AreInOrder, AreUntouched, IsAdded, CameOf};
+ghost use Rattle.fare_sessions.specs.Running.{AreRunnable, AreStill, HaveAllRun};
+ghost use Rattle.fare_sessions.specs.Promises.{AreCovered, Trusted, ran, AreInOrder, AreUntouched, IsAdded, CameOf};
 
 use crate::course::Course;
 use crate::report::SessionsReport;
@@ -63,13 +62,14 @@ impl<O: Outbox + Send, L: Ledger + Send> Hub<O, L> {
         requires can { AreRunnable self.old.scheme sessions.old }
         ensures scheme { self.new.scheme ≡ self.old.scheme }
         ensures again { AreRunnable self.new.scheme sessions.new }
+        ensures still { AreStill sessions.old sessions.new }
         ensures follow { StoresFollow O.standing L.standing self.old self.new }
         ensures sound { AreClean O.standing L.standing self.new → AreSound O.standing L.standing self.old → AreSound O.standing L.standing self.new }
         ensures lasting { AreClean O.standing L.standing self.new → AreSound O.standing L.standing self.old → AreLasting O.standing L.standing self.old → AreLasting O.standing L.standing self.new }
         ensures owned { AreClean O.standing L.standing self.new → AreSound O.standing L.standing self.old → AreOwned O.standing L.standing self.old → AreOwned O.standing L.standing self.new }
-        ensures agrees { AreClean O.standing L.standing self.new → AreSound O.standing L.standing self.old → (lists : ℕ → List RecordValue) → AreNumberedLists self.old.scheme lists → GaveOf S.talk self.old.scheme lists sessions.old sessions.new → IsAgreed O.standing L.standing lists self.old → IsAgreed O.standing L.standing lists self.new }
-        ensures grows { AreClean O.standing L.standing self.new → AreSound O.standing L.standing self.old → (lists : ℕ → List RecordValue) → AreNumberedLists self.old.scheme lists → GaveOf S.talk self.old.scheme lists sessions.old sessions.new → IsAgreed O.standing L.standing lists self.old → HasGrown O.standing L.standing self.old self.new }
-        ensures covered { AreClean O.standing L.standing self.new → AreSound O.standing L.standing self.old → (lists : ℕ → List RecordValue) → AreNumberedLists self.old.scheme lists → GaveOf S.talk self.old.scheme lists sessions.old sessions.new → IsAgreed O.standing L.standing lists self.old → (k : StoresValue) → MayStandAs O.standing L.standing self.new k → AreCovered S.talk self.old.scheme k.outbox sessions.old sessions.new }
+        ensures agrees { (lists : ℕ → List RecordValue) → Trusted S.talk O.standing L.standing self.old self.new sessions.old sessions.new lists → IsAgreed O.standing L.standing lists self.new }
+        ensures grows { (lists : ℕ → List RecordValue) → Trusted S.talk O.standing L.standing self.old self.new sessions.old sessions.new lists → HasGrown O.standing L.standing self.old self.new }
+        ensures covered { (lists : ℕ → List RecordValue) → Trusted S.talk O.standing L.standing self.old self.new sessions.old sessions.new lists → (k : StoresValue) → MayStandAs O.standing L.standing self.new k → AreCovered S.talk self.old.scheme k.outbox sessions.old sessions.new }
         ensures boundaries { AreClean O.standing L.standing self.new → AreSound O.standing L.standing self.old → IfOk result (λ report. (k : StoresValue) → MayStandAs O.standing L.standing self.new k → CameOf S.talk O.standing L.standing self.old sessions.old sessions.new report k) }
         ensures stored { AreLive O.standing L.standing self.new → AreSound O.standing L.standing self.old → IfOk result (λ report. IsAdded (had_by self.old.scheme (O.standing self.old.outbox).value) (had_by self.old.scheme (O.standing self.new.outbox).value) report.stored) }
         ensures taken { AreLive O.standing L.standing self.new → AreSound O.standing L.standing self.old → IfOk result (λ report. IsAdded (held_by_all L.standing self.old.scheme self.old.ledgers.items) (held_by_all L.standing self.old.scheme self.new.ledgers.items) report.taken) }

@@ -18,7 +18,7 @@ mod session;
 
 pub use closing::{ClosingFault, day_after};
 pub use hub::Hub;
-pub use reopening::stores_stand_again;
+pub use reopening::{clean_stores_may_hold_something, stores_stand_again};
 pub use report::SessionsReport;
 pub use retiring::RetiringFault;
 pub use session::Session;

@@ -1,4 +1,4 @@
-use Rattle.std.proofs.Common.{◌≡◌, ◌∙◌, length, arith}
+use Rattle.std.proofs.Common.{◌≡◌, length, arith}
 use Rattle.std.proofs.lemmas.Grind.{common_steps}
 use Rattle.fare_serve.proofs.Lent.{taking_more, taking_past}
 use Rattle.fare_serve.proofs.lending.take_all_back.Goals as goal

@@ -1,12 +1,11 @@
-use Rattle.std.proofs.Common.{◌≡◌, ◌∙◌, [], ◌∷◌, Some, ap, sym, subst, refl, length, take, arith, inr, rules}
+use Rattle.std.proofs.Common.{◌≡◌, ◌∙◌, Some, ap, sym, subst, refl, length, take, arith, rules}
 use Rattle.std.specs.Map.{keys_of}
 use Rattle.fare_scheme.specs.Values.{SchemeValue}
 use Rattle.fare_scheme.specs.Words.{id_at}
-use Rattle.fare_sessions.specs.declared.session.Session.TheVariants.{Serve}
-use Rattle.fare_serve.specs.Calls.{HasFailed}
-use Rattle.fare_serve.specs.Rounds.{HaveServedOwners}
+use Rattle.fare_serve.specs.Rounds.{HaveFailedOwners, HaveServedOwners}
 use Rattle.fare_serve.proofs.Counted.{entries_kept, id_within, owner_ledgers, owners_more, owners_none}
-use Rattle.fare_serve.proofs.Failed.{failed_after, failed_one, first_owners, owners_of_scheme}
+use Rattle.fare_serve.proofs.Coming.{are_serving}
+use Rattle.fare_serve.proofs.Failed.{first_owners, owners_failed, owners_of_scheme}
 use Rattle.fare_serve.proofs.rounds.serve_owners.Goals as goal
 
 pub loop-place-init : goal.loop-place-init
@@ -47,12 +46,12 @@ returns-clause-served g c =
 
 pub returns-in_err-report-clause-failed : goal.returns-in_err-report-clause-failed
 returns-in_err-report-clause-failed g c =
-    let inv = c.loop-place.invariant in
+    let served = c.loop-place.invariant.served in
     let fault = c.in_err-report.field-0.0 in
-    let owner = c.in-Some.owner in
     let sc = c.args.hub.now.scheme in
-    let one = failed_one g.S.Source.talk g.O.Outbox.standing g.L.Ledger.standing c.loop-place.hub c.serve_once.new.hub (Serve owner ∷ []) c.in_err-report.ensures.ended.0 fault c.in_err-report.ensures.ended.1 (λ call is. inr (owner, c.loop-place.place, is, sym c.in-Some.ensures.value)) in
-    let each = owners_of_scheme sc (take c.loop-place.place (keys_of sc.owners)) inv.served.calls inv.served.serves (first_owners sc c.loop-place.place) in
-    let failed : HasFailed g.S.Source.talk g.O.Outbox.standing g.L.Ledger.standing c.args.hub.now c.serve_once.new.hub fault =
-    failed_after g.S.Source.talk g.O.Outbox.standing g.L.Ledger.standing c.args.hub.now c.loop-place.hub c.serve_once.new.hub inv.served.calls fault inv.served.held inv.served.unended each one in
+    let ids = take c.loop-place.place (keys_of sc.owners) in
+    let each = owners_of_scheme sc ids served.calls served.serves (first_owners sc c.loop-place.place) in
+    let failed : HaveFailedOwners g.S.Source.talk g.O.Outbox.standing g.L.Ledger.standing c.args.hub.now c.serve_once.new.hub fault =
+    owners_failed g.S.Source.talk g.O.Outbox.standing g.L.Ledger.standing c.args.hub.now c.loop-place.hub c.serve_once.new.hub served.calls c.in-Some.owner c.loop-place.place c.in_err-report.ensures.ended.0 fault served.held served.unended each (are_serving ids served.calls served.serves)
+    c.in_err-report.ensures.ended.1 (sym c.in-Some.ensures.value) in
     search (rules, failed)

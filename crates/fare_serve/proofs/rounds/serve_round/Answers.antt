@@ -1,11 +1,11 @@
-use Rattle.std.proofs.Common.{◌∙◌, [], ◌∷◌, ap, inl, sym, length, refl, rules}
+use Rattle.std.proofs.Common.{◌∙◌, ap, sym, length, rules}
 use Rattle.std.specs.Prelude.{Vec}
 use Rattle.std.specs.Global.{Global}
 use Rattle.fare_scheme.specs.Values.{SchemeValue}
 use Rattle.fare_serve.specs.declared.counts.Taken.{Taken}
-use Rattle.fare_serve.specs.Calls.{HasFailed}
+use Rattle.fare_serve.specs.Rounds.{HasFailedRound}
 use Rattle.fare_serve.proofs.Counted.{round_of}
-use Rattle.fare_serve.proofs.Failed.{failed_after}
+use Rattle.fare_serve.proofs.Failed.{round_failed}
 use Rattle.fare_serve.proofs.rounds.serve_round.Goals as goal
 
 pub serve_owners-requires-clause-ledgers : goal.serve_owners-requires-clause-ledgers
@@ -25,8 +25,9 @@ returns-clause-served g c =
 
 pub returns-in_err-serve_owners-clause-failed : goal.returns-in_err-serve_owners-clause-failed
 returns-in_err-serve_owners-clause-failed g c =
-    let one = c.in_ok-report.ensures.held in
     let fault = c.in_err-serve_owners.field-0.0 in
-    let failed : HasFailed g.S.Source.talk g.O.Outbox.standing g.L.Ledger.standing c.args.hub.now c.serve_owners.new.hub fault =
-    failed_after g.S.Source.talk g.O.Outbox.standing g.L.Ledger.standing c.args.hub.now c.collect_once.new.hub c.serve_owners.new.hub (one.call ∷ []) fault (c.collect_once.new.hub, one.held, refl) (one.unended, tt) (inl (c.args.stations, one.olds, c.requires.order, c.requires.all), tt) c.in_err-serve_owners.ensures.failed in
+    let next = c.in_err-serve_owners.ensures.failed in
+    let failed : HasFailedRound g.S.Source.talk g.O.Outbox.standing g.L.Ledger.standing c.args.hub.now c.serve_owners.new.hub c.args.stations.items fault =
+    round_failed g.S.Source.talk g.O.Outbox.standing g.L.Ledger.standing c.args.hub.now c.collect_once.new.hub c.serve_owners.new.hub c.args.stations c.in_ok-report.report c.in_ok-report.stations.items fault
+    c.in_ok-report.ensures.held c.requires.order c.requires.all next.failed next.serving in
     search (rules, failed)

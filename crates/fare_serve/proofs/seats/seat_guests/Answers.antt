@@ -1,12 +1,9 @@
 use Rattle.std.proofs.Common.{List, subst, sym}
 use Rattle.fare_serve.specs.Seats.{AreSeatsAfter}
 use Rattle.fare_serve.specs.declared.seats.Seat.{Seat}
-use Rattle.fare_serve.proofs.Seated.{after_then, seats_after}
+use Rattle.fare_serve.proofs.Seated.{after_then}
 use Rattle.fare_serve.proofs.seats.seat_guests.Goals as goal
 use Rattle.fare_serve.proofs.seats.seat_guests.Goals.{then-is_heard, else-is_heard+then-is_overdue, else-is_heard+else-is_overdue}
-
-pub returns-then-place-len-clause-greeted : goal.returns-then-place-len-clause-greeted
-returns-then-place-len-clause-greeted g c = seats_after c.args.scheme.now c.args.rule c.args.seats.now c.loop.seats c.loop.invariant
 
 pub loop-preserved : goal.loop-preserved
 loop-preserved g c =
@@ -18,6 +15,3 @@ loop-preserved g c =
       | else-is_heard+then-is_overdue w ↦ subst (λ (l : List Seat). AreSeatsAfter sc rule olds l) (sym w.seats-is) c.loop.invariant
       | else-is_heard+else-is_overdue w ↦ subst (λ (l : List Seat). AreSeatsAfter sc rule olds l) (sym w.seats-is) c.loop.invariant
     ]
-
-pub returns-clause-greeted : goal.returns-clause-greeted
-returns-clause-greeted g c = seats_after c.args.scheme.now c.args.rule c.args.seats.now c.loop.seats c.loop.invariant

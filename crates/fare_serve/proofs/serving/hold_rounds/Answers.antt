@@ -1,16 +1,16 @@
 use Rattle.std.proofs.Common.{◌≡◌, ◌∙◌, ◌+◌, true, false, ap, sym, refl, subst, length, arith, rules}
 use Rattle.std.specs.Prelude.{is_none}
 use Rattle.fare_scheme.specs.Values.{SchemeValue}
-use Rattle.fare_serve.specs.Calls.{HasFailed}
-use Rattle.fare_serve.specs.Serving.{HaveBeenHeld, shift_talk}
+use Rattle.fare_serve.specs.Seats.{AreSeats}
+use Rattle.fare_serve.specs.Serving.{HaveBeenHeld, HaveFailed}
+use Rattle.fare_serve.specs.declared.seats.Rule.TheVariants.{First}
 use Rattle.fare_serve.specs.declared.fault.ServeFault.TheVariants.{Memory}
-use Rattle.fare_serve.proofs.Failed.{failed_outside}
-use Rattle.fare_serve.proofs.Held.{been_entries, been_more, been_none, round_ledgers, round_scheme, rounds_failed}
+use Rattle.fare_serve.proofs.Held.{HaveBeenSeated, been_entries, been_more, been_none, none_failed, round_ledgers, round_scheme, rounds_failed, seats_first}
 use Rattle.fare_serve.proofs.serving.hold_rounds.Goals as goal
 
 pub loop-round-init : goal.loop-round-init
 loop-round-init g c = record {
-  held = been_none g.O.Outbox.standing g.L.Ledger.standing c.args.hub.now c.reads_to_ends-whole.result c.args.counts.now c.requires.none;
+  seated = been_none g.O.Outbox.standing g.L.Ledger.standing c.args.hub.now c.reads_to_ends-whole.result c.args.counts.now c.in_ok-lines.lines.seats.items c.requires.none c.in_ok-lines.ensures.free;
   ledgers = c.requires.ledgers;
   seats = c.in_ok-lines.ensures.each;
   few = c.in_ok-lines.ensures.few;
@@ -20,32 +20,41 @@ pub loop-round-preserved : goal.loop-round-preserved
 loop-round-preserved g c =
     let inv = c.loop-round.invariant in
     let one = c.in_ok-hold_round.ensures.held in
-    let same = round_scheme g.O.Outbox.standing g.L.Ledger.standing c.loop-round.hub c.hold_round.new.hub c.reads_to_ends-whole.result c.loop-round.counts c.hold_round.new.counts one in
+    let seats = c.loop-round.lines.seats.items in
+    let gathered = c.gather.new.self.seats.items in
+    let next = c.hold_round.new.lines.seats.items in
+    let first : c.rule_of-rule.result ≡ First → AreSeats c.loop-round.hub.scheme seats = λ by. seats_first g.O.Outbox.standing g.L.Ledger.standing c.args.hub.now c.loop-round.hub c.reads_to_ends-whole.result c.loop-round.round c.loop-round.counts seats inv.seated (c.rule_of-rule.ensures by) c.loop-round.hub.scheme in
+    let same = round_scheme g.O.Outbox.standing g.L.Ledger.standing c.loop-round.hub c.hold_round.new.hub c.reads_to_ends-whole.result c.loop-round.counts c.hold_round.new.counts gathered next one in
     record {
-      held = been_more g.O.Outbox.standing g.L.Ledger.standing c.args.hub.now c.loop-round.hub c.hold_round.new.hub c.reads_to_ends-whole.result c.loop-round.round c.loop-round.counts c.hold_round.new.counts inv.held one;
-      ledgers = round_ledgers g.O.Outbox.standing g.L.Ledger.standing c.loop-round.hub c.hold_round.new.hub c.reads_to_ends-whole.result c.loop-round.counts c.hold_round.new.counts one inv.ledgers;
-      seats = c.in_ok-hold_round.ensures.seats ∙ (c.gather.ensures ∙ (inv.seats ∙ ap (λ (sc : SchemeValue). length sc.stations) (sym same)));
-      few = (let a = c.in_ok-hold_round.ensures.seats in let b = c.gather.ensures in let f = inv.few in omega (arith, a, b, f));
+      seated = been_more g.O.Outbox.standing g.L.Ledger.standing c.args.hub.now c.loop-round.hub c.hold_round.new.hub c.reads_to_ends-whole.result c.loop-round.round c.loop-round.counts c.hold_round.new.counts seats gathered next inv.seated (c.gather.ensures.gathered first) one;
+      ledgers = round_ledgers g.O.Outbox.standing g.L.Ledger.standing c.loop-round.hub c.hold_round.new.hub c.reads_to_ends-whole.result c.loop-round.counts c.hold_round.new.counts gathered next one inv.ledgers;
+      seats = c.in_ok-hold_round.ensures.seats ∙ (c.gather.ensures.len ∙ (inv.seats ∙ ap (λ (sc : SchemeValue). length sc.stations) (sym same)));
+      few = (let a = c.in_ok-hold_round.ensures.seats in let b = c.gather.ensures.len in let f = inv.few in omega (arith, a, b, f));
     }
 
 pub hold_round-requires-clause-seats : goal.hold_round-requires-clause-seats
-hold_round-requires-clause-seats g c κs within = c.gather.ensures ∙ c.loop-round.invariant.seats
+hold_round-requires-clause-seats g c κs within = c.gather.ensures.len ∙ c.loop-round.invariant.seats
 
 pub hold_round-requires-clause-owners : goal.hold_round-requires-clause-owners
-hold_round-requires-clause-owners g c κs within = been_entries g.O.Outbox.standing g.L.Ledger.standing c.args.hub.now c.loop-round.hub c.reads_to_ends-whole.result c.loop-round.round c.loop-round.counts c.loop-round.invariant.held
+hold_round-requires-clause-owners g c κs within = been_entries g.O.Outbox.standing g.L.Ledger.standing c.args.hub.now c.loop-round.hub c.reads_to_ends-whole.result c.loop-round.round c.loop-round.counts c.loop-round.invariant.seated.held
 
 pub returns-then-is_told-clause-held : goal.returns-then-is_told-clause-held
 returns-then-is_told-clause-held g c =
     let lt = c.loop-round-test.true in
     let most = c.max-round-end.ensures in
     let told : is_none c.args.until ≡ false = c.if-is_told.ensures refl in
-    let held = been_more g.O.Outbox.standing g.L.Ledger.standing c.args.hub.now c.loop-round.hub c.hold_round.new.hub c.reads_to_ends-whole.result c.loop-round.round c.loop-round.counts c.hold_round.new.counts c.loop-round.invariant.held c.in_ok-hold_round.ensures.held in
+    let inv = c.loop-round.invariant in
+    let seats = c.loop-round.lines.seats.items in
+    let first : c.rule_of-rule.result ≡ First → AreSeats c.loop-round.hub.scheme seats = λ by. seats_first g.O.Outbox.standing g.L.Ledger.standing c.args.hub.now c.loop-round.hub c.reads_to_ends-whole.result c.loop-round.round c.loop-round.counts seats inv.seated (c.rule_of-rule.ensures by) c.loop-round.hub.scheme in
+    let seated : HaveBeenSeated g.O.Outbox.standing g.L.Ledger.standing c.args.hub.now c.hold_round.new.hub c.reads_to_ends-whole.result (c.loop-round.round + 1) c.hold_round.new.counts c.hold_round.new.lines.seats.items =
+    been_more g.O.Outbox.standing g.L.Ledger.standing c.args.hub.now c.loop-round.hub c.hold_round.new.hub c.reads_to_ends-whole.result c.loop-round.round c.loop-round.counts c.hold_round.new.counts seats c.gather.new.self.seats.items c.hold_round.new.lines.seats.items inv.seated
+    (c.gather.ensures.gathered first) c.in_ok-hold_round.ensures.held in
     record {
       count = c.loop-round.round + 1;
       some = omega arith;
       few = omega (arith, lt, most);
       all = λ untold. (let both : true ≡ false = sym untold ∙ told in absurd (cc));
-      held = subst (λ b. HaveBeenHeld g.O.Outbox.standing g.L.Ledger.standing c.args.hub.now c.hold_round.new.hub b (c.loop-round.round + 1) c.hold_round.new.counts) c.reads_to_ends-whole.ensures held;
+      held = subst (λ b. HaveBeenHeld g.O.Outbox.standing g.L.Ledger.standing c.args.hub.now c.hold_round.new.hub b (c.loop-round.round + 1) c.hold_round.new.counts) c.reads_to_ends-whole.ensures seated.held;
     }
 
 pub returns-clause-held : goal.returns-clause-held
@@ -58,18 +67,21 @@ returns-clause-held g c =
       some = omega (arith, past, most);
       few = omega (arith, within, most);
       all = λ untold. omega (arith, past, within, most);
-      held = subst (λ b. HaveBeenHeld g.O.Outbox.standing g.L.Ledger.standing c.args.hub.now c.loop-round.hub b c.loop-round.round c.loop-round.counts) c.reads_to_ends-whole.ensures c.loop-round.invariant.held;
+      held = subst (λ b. HaveBeenHeld g.O.Outbox.standing g.L.Ledger.standing c.args.hub.now c.loop-round.hub b c.loop-round.round c.loop-round.counts) c.reads_to_ends-whole.ensures c.loop-round.invariant.seated.held;
     }
 
 pub returns-in_err-lines-clause-failed : goal.returns-in_err-lines-clause-failed
 returns-in_err-lines-clause-failed g c =
-    let failed : HasFailed shift_talk g.O.Outbox.standing g.L.Ledger.standing c.args.hub.now c.args.hub.now Memory = failed_outside shift_talk g.O.Outbox.standing g.L.Ledger.standing c.args.hub.now Memory tt in
+    let failed : HaveFailed g.O.Outbox.standing g.L.Ledger.standing c.args.hub.now c.args.hub.now Memory = none_failed g.O.Outbox.standing g.L.Ledger.standing c.args.hub.now Memory tt in
     search (rules, failed)
 
 pub returns-in_err-hold_round-clause-failed : goal.returns-in_err-hold_round-clause-failed
 returns-in_err-hold_round-clause-failed g c =
-    let held = c.loop-round.invariant.held in
+    let inv = c.loop-round.invariant in
+    let seats = c.loop-round.lines.seats.items in
     let fault = c.in_err-hold_round.field-0.0 in
-    let failed : HasFailed shift_talk g.O.Outbox.standing g.L.Ledger.standing c.args.hub.now c.hold_round.new.hub fault =
-    rounds_failed g.O.Outbox.standing g.L.Ledger.standing c.args.hub.now c.loop-round.hub c.hold_round.new.hub held.rounds fault held.served c.in_err-hold_round.ensures.failed in
+    let first : c.rule_of-rule.result ≡ First → AreSeats c.loop-round.hub.scheme seats = λ by. seats_first g.O.Outbox.standing g.L.Ledger.standing c.args.hub.now c.loop-round.hub c.reads_to_ends-whole.result c.loop-round.round c.loop-round.counts seats inv.seated (c.rule_of-rule.ensures by) c.loop-round.hub.scheme in
+    let failed : HaveFailed g.O.Outbox.standing g.L.Ledger.standing c.args.hub.now c.hold_round.new.hub fault =
+    rounds_failed g.O.Outbox.standing g.L.Ledger.standing c.args.hub.now c.loop-round.hub c.hold_round.new.hub c.reads_to_ends-whole.result c.loop-round.round c.loop-round.counts seats c.gather.new.self.seats.items fault inv.seated
+    (c.gather.ensures.gathered first) c.in_err-hold_round.ensures.failed in
     search (rules, failed)

@@ -1,8 +1,7 @@
 use Rattle.std.proofs.Common.{rules}
-use Rattle.fare_serve.specs.Serving.{HasFailedLines, shift_talk}
+use Rattle.fare_serve.specs.Serving.{HasFailedLines}
 use Rattle.fare_serve.specs.declared.fault.ServeFault.TheVariants.{Memory}
-use Rattle.fare_serve.proofs.Failed.{failed_outside}
-use Rattle.fare_serve.proofs.Held.{lines_failed, rounds_failed, rounds_keep}
+use Rattle.fare_serve.proofs.Held.{lines_failed, none_failed, rounds_failed_behind, rounds_keep}
 use Rattle.fare_serve.proofs.serving.serve_rounds.Goals as goal
 
 pub returns-clause-served : goal.returns-clause-served
@@ -12,12 +11,12 @@ returns-clause-served g c =
       counts = c.hold_rounds.new.counts;
       held = held;
       written = c.in_ok-write_counts.ensures.written;
-      keeps = rounds_keep g.O.Outbox.standing g.L.Ledger.standing c.args.hub.now c.hold_rounds.new.hub held.held.rounds held.held.served;
+      keeps = rounds_keep g.O.Outbox.standing g.L.Ledger.standing c.args.hub.now c.hold_rounds.new.hub held.held.rounds held.held.served held.held.come;
     }
 
 pub returns-in_err-counts-clause-failed : goal.returns-in_err-counts-clause-failed
 returns-in_err-counts-clause-failed g c =
-    let failed : HasFailedLines g.O.Outbox.standing g.L.Ledger.standing c.args.hub.now c.args.hub.now Memory = lines_failed g.O.Outbox.standing g.L.Ledger.standing c.args.hub.now c.args.hub.now Memory (failed_outside shift_talk g.O.Outbox.standing g.L.Ledger.standing c.args.hub.now Memory tt) in
+    let failed : HasFailedLines g.O.Outbox.standing g.L.Ledger.standing c.args.hub.now c.args.hub.now Memory = lines_failed g.O.Outbox.standing g.L.Ledger.standing c.args.hub.now c.args.hub.now Memory (none_failed g.O.Outbox.standing g.L.Ledger.standing c.args.hub.now Memory tt) in
     search (rules, failed)
 
 pub returns-in_err-hold_rounds-clause-failed : goal.returns-in_err-hold_rounds-clause-failed
@@ -28,9 +27,9 @@ returns-in_err-hold_rounds-clause-failed g c =
 
 pub returns-in_err-write_counts-clause-failed : goal.returns-in_err-write_counts-clause-failed
 returns-in_err-write_counts-clause-failed g c =
-    let held = c.in_ok-hold_rounds.ensures.held.held in
+    let rounds = c.in_ok-hold_rounds.ensures.held in
     let fault = c.in_err-write_counts.field-0.0 in
     let failed : HasFailedLines g.O.Outbox.standing g.L.Ledger.standing c.args.hub.now c.hold_rounds.new.hub fault =
     lines_failed g.O.Outbox.standing g.L.Ledger.standing c.args.hub.now c.hold_rounds.new.hub fault
-    (rounds_failed g.O.Outbox.standing g.L.Ledger.standing c.args.hub.now c.hold_rounds.new.hub c.hold_rounds.new.hub held.rounds fault held.served (failed_outside shift_talk g.O.Outbox.standing g.L.Ledger.standing c.hold_rounds.new.hub fault c.in_err-write_counts.ensures.outside)) in
+    (rounds_failed_behind g.O.Outbox.standing g.L.Ledger.standing c.args.hub.now c.hold_rounds.new.hub _ rounds.count c.hold_rounds.new.counts fault rounds.held c.in_err-write_counts.ensures.outside) in
     search (rules, failed)

@@ -1,10 +1,8 @@
-use Rattle.std.proofs.Common.{◌≡◌, ◌∙◌, [], ◌∷◌, ap, inl, length, refl, subst, sym, rules}
-use Rattle.fare_sessions.specs.declared.session.Session.{Session}
+use Rattle.std.proofs.Common.{◌∙◌, refl, subst, sym, rules}
 use Rattle.fare_sessions.specs.Running.{AreRunnable}
-use Rattle.fare_sessions.specs.declared.session.Session.TheVariants.{Collect}
-use Rattle.fare_serve.specs.Calls.{HasFailed}
+use Rattle.fare_serve.specs.Rounds.{HasFailedRound}
 use Rattle.fare_serve.proofs.Counted.{left_by_one}
-use Rattle.fare_serve.proofs.Failed.{failed_one}
+use Rattle.fare_serve.proofs.Failed.{stations_failed}
 use Rattle.fare_serve.proofs.sessions.collect_once.Goals as goal
 
 pub hold-requires-clause-can : goal.hold-requires-clause-can
@@ -14,8 +12,8 @@ hold-requires-clause-can g c κs within =
 pub returns-in_err-report-clause-failed : goal.returns-in_err-report-clause-failed
 returns-in_err-report-clause-failed g c =
     let fault = c.in_err-report.field-0.0 in
-    let failed : HasFailed g.S.Source.talk g.O.Outbox.standing g.L.Ledger.standing c.args.hub.now c.hold.new.hub fault =
-    failed_one g.S.Source.talk g.O.Outbox.standing g.L.Ledger.standing c.args.hub.now c.hold.new.hub c.from_mut.result.now c.hold.new.sessions fault c.in_err-report.ensures.ended (λ call is. inl (c.args.stations, is ∙ c.from_mut.ensures.value, c.requires.order, c.requires.all)) in
+    let failed : HasFailedRound g.S.Source.talk g.O.Outbox.standing g.L.Ledger.standing c.args.hub.now c.hold.new.hub c.args.stations.items fault =
+    stations_failed g.S.Source.talk g.O.Outbox.standing g.L.Ledger.standing c.args.hub.now c.hold.new.hub c.args.stations c.from_mut.result.now c.hold.new.sessions fault c.in_err-report.ensures.ended c.from_mut.ensures.value c.requires.order c.requires.all in
     search (rules, failed)
 
 pub returns-clause-held : goal.returns-clause-held

@@ -7,6 +7,7 @@ returns-in-None-clause-held g c =
     let promises = c.in_ok-report.ensures in
     record {
       scheme = promises.scheme;
+      still = promises.still;
       follow = promises.follow;
       sound = promises.sound;
       lasting = promises.lasting;
@@ -30,6 +31,7 @@ returns-in-Some-clause-ended g c =
       c.in_ok-report.report,
       record {
         scheme = promises.scheme;
+        still = promises.still;
         follow = promises.follow;
         sound = promises.sound;
         lasting = promises.lasting;

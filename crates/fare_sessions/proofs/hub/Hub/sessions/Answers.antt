@@ -4,6 +4,7 @@ use Rattle.fare_sessions.proofs.Follow.{run_scheme, run_follow, run_sound}
 use Rattle.fare_sessions.proofs.Lasting.{run_lasting, run_owned}
 use Rattle.fare_sessions.proofs.Reported.{gave_up_exactly, faults_in_order, rest_untouched, none_left, stored_is, taken_is, agrees, grows, covered, came}
 use Rattle.fare_sessions.proofs.Runnable.{all_again}
+use Rattle.fare_sessions.proofs.Still.{all_still}
 use Rattle.fare_sessions.proofs.hub.Hub.sessions.Goals as goal
 
 pub returns-clause-scheme : goal.returns-clause-scheme
@@ -15,6 +16,11 @@ pub returns-clause-again : goal.returns-clause-again
 returns-clause-again g c =
     let a = subst (HaveAllRun g.S.Source.talk g.O.Outbox.standing g.L.Ledger.standing c.args.supervisor c.args.self.now c.run_all.new.self c.args.sessions.now c.run_all.new.sessions) (sym c.into_report.ensures) (c.run_all.ensures c.args.supervisor c.new-course.ensures.shows) in
     all_again g.S.Source.talk g.O.Outbox.standing g.L.Ledger.standing c.args.supervisor c.args.self.now c.run_all.new.self c.args.sessions.now c.run_all.new.sessions c.into_report.result a c.requires.can
+
+pub returns-clause-still : goal.returns-clause-still
+returns-clause-still g c =
+    let a = subst (HaveAllRun g.S.Source.talk g.O.Outbox.standing g.L.Ledger.standing c.args.supervisor c.args.self.now c.run_all.new.self c.args.sessions.now c.run_all.new.sessions) (sym c.into_report.ensures) (c.run_all.ensures c.args.supervisor c.new-course.ensures.shows) in
+    all_still g.S.Source.talk g.O.Outbox.standing g.L.Ledger.standing c.args.supervisor c.args.self.now c.run_all.new.self c.args.sessions.now c.run_all.new.sessions c.into_report.result a
 
 pub returns-clause-follow : goal.returns-clause-follow
 returns-clause-follow g c =
@@ -39,17 +45,17 @@ returns-clause-owned g c =
 pub returns-clause-agrees : goal.returns-clause-agrees
 returns-clause-agrees g c =
     let a = subst (HaveAllRun g.S.Source.talk g.O.Outbox.standing g.L.Ledger.standing c.args.supervisor c.args.self.now c.run_all.new.self c.args.sessions.now c.run_all.new.sessions) (sym c.into_report.ensures) (c.run_all.ensures c.args.supervisor c.new-course.ensures.shows) in
-    λ clean sound. agrees g.S.Source.talk g.O.Outbox.standing g.L.Ledger.standing c.args.supervisor c.args.self.now c.run_all.new.self c.args.sessions.now c.run_all.new.sessions c.into_report.result a c.requires.can clean sound
+    λ lists asked. agrees g.S.Source.talk g.O.Outbox.standing g.L.Ledger.standing c.args.supervisor c.args.self.now c.run_all.new.self c.args.sessions.now c.run_all.new.sessions c.into_report.result a c.requires.can asked.clean asked.sound lists asked.numbered asked.gave asked.agreed
 
 pub returns-clause-grows : goal.returns-clause-grows
 returns-clause-grows g c =
     let a = subst (HaveAllRun g.S.Source.talk g.O.Outbox.standing g.L.Ledger.standing c.args.supervisor c.args.self.now c.run_all.new.self c.args.sessions.now c.run_all.new.sessions) (sym c.into_report.ensures) (c.run_all.ensures c.args.supervisor c.new-course.ensures.shows) in
-    λ clean sound. grows g.S.Source.talk g.O.Outbox.standing g.L.Ledger.standing c.args.supervisor c.args.self.now c.run_all.new.self c.args.sessions.now c.run_all.new.sessions c.into_report.result a c.requires.can clean sound
+    λ lists asked. grows g.S.Source.talk g.O.Outbox.standing g.L.Ledger.standing c.args.supervisor c.args.self.now c.run_all.new.self c.args.sessions.now c.run_all.new.sessions c.into_report.result a c.requires.can asked.clean asked.sound lists asked.numbered asked.gave asked.agreed
 
 pub returns-clause-covered : goal.returns-clause-covered
 returns-clause-covered g c =
     let a = subst (HaveAllRun g.S.Source.talk g.O.Outbox.standing g.L.Ledger.standing c.args.supervisor c.args.self.now c.run_all.new.self c.args.sessions.now c.run_all.new.sessions) (sym c.into_report.ensures) (c.run_all.ensures c.args.supervisor c.new-course.ensures.shows) in
-    λ clean sound. covered g.S.Source.talk g.O.Outbox.standing g.L.Ledger.standing c.args.supervisor c.args.self.now c.run_all.new.self c.args.sessions.now c.run_all.new.sessions c.into_report.result a c.requires.can clean sound
+    λ lists asked. covered g.S.Source.talk g.O.Outbox.standing g.L.Ledger.standing c.args.supervisor c.args.self.now c.run_all.new.self c.args.sessions.now c.run_all.new.sessions c.into_report.result a c.requires.can asked.clean asked.sound lists asked.numbered asked.gave asked.agreed
 
 pub returns-clause-boundaries : goal.returns-clause-boundaries
 returns-clause-boundaries g c =
