@@ -1,9 +1,12 @@
 -- What the calls of an intake make of it.
-use Rattle.std.specs.Prelude.{◌≡◌, ◌≢◌, ℕ, Bool, true, false, List, [], ◌∷◌, ◌++◌, Option, Some, None}
+use Rattle.std.specs.Prelude.{◌≡◌, ◌≢◌, ◌≤◌, ℕ, Bool, true, false, List, [], ◌∷◌, ◌++◌, take, Option, Some, None, Result, Ok, Err}
 use Rattle.fare_frame.specs.Grammar.{IsRest}
 use Rattle.fare_frame.specs.Reading.{Spells, HasNoFrame}
 use Rattle.fare_frame.specs.declared.frame.Frame.{Frame}
 use Rattle.fare_net.specs.IntakeValue.{IntakeValue}
+use Rattle.fare_net.specs.declared.fault.NetFault.{NetFault}
+use Rattle.fare_net.specs.declared.turn.Turn.{Turn}
+use Rattle.fare_net.specs.declared.turn.Turn.TheVariants as turn
 use Rattle.fare_net.specs.declared.intake.Stage.{Stage}
 use Rattle.fare_net.specs.declared.intake.Stage.TheVariants.{Live, Ended, Failed}
 
@@ -45,6 +48,19 @@ stopped_at false = Failed
 -- it is at its end, or has failed
 abbrev pub stopped : IntakeValue → Bool → IntakeValue
 stopped v ended = record { read = v.read; taken = v.taken; pending = v.pending; stage = stopped_at ended }
+
+-- a read brings at most 4,096 bytes
+abbrev pub HasFew : Turn → Type 0
+HasFew (turn.Read count) = count ≤ 4096
+HasFew turn.Ended = Unit {0}
+HasFew turn.Waited = Unit {0}
+
+-- What a read told was taken in: a piece came; the stream is at its end; nothing changed where it is waited for; or it has failed.
+abbrev pub HasTakenIn : IntakeValue → IntakeValue → Result Turn NetFault → List ℕ → Type 0
+HasTakenIn old new (Ok (turn.Read count)) buffer = HasTaken old new (take count buffer)
+HasTakenIn old new (Ok turn.Ended) buffer = new ≡ stopped old true
+HasTakenIn old new (Ok turn.Waited) buffer = new ≡ old
+HasTakenIn old new (Err fault) buffer = new ≡ stopped old false
 
 -- the first frame that waits was taken off; None where none waits
 abbrev pub Takes : IntakeValue → IntakeValue → Option Frame → Type 0

@@ -1,5 +1,9 @@
 -- What one read of a station takes from its stream, and what its decoder makes of it.
-use Rattle.std.specs.Prelude.{◌≡◌, ℕ, ◌<◌, ◌≤◌, true, false, List, [], ◌++◌, length, take, Option}
+use Rattle.std.specs.Prelude.{◌≡◌, ℕ, zero, suc, ◌<◌, ◌≤◌, Bool, true, false, List, [], ◌++◌, length, take, Option, Result, Ok, Err, if◌then◌else◌}
+use Rattle.std.specs.IoError.{error_kind}
+use Rattle.std.specs.declared.io.Error.{Error}
+use Rattle.std.specs.declared.io.ErrorKind.{ErrorKind}
+use Rattle.std.specs.declared.io.ErrorKind.TheVariants as kind
 use Rattle.std.specs.Io.KnownBytes.{Consumes, IsAtEnd, Keeps}
 use Rattle.fare_frame.specs.Grammar.{IsRest}
 use Rattle.fare_frame.specs.Reading.{ReaderValue, failed_reader, Reads, Stops, Overfills}
@@ -10,6 +14,20 @@ use Rattle.fare_net.specs.declared.fault.NetFault.{NetFault}
 use Rattle.fare_net.specs.declared.fault.NetFault.TheVariants as net
 use Rattle.fare_net.specs.declared.turn.Turn.{Turn}
 use Rattle.fare_net.specs.declared.turn.Turn.TheVariants as turn
+
+-- WHAT A READ TELLS
+-- a read may be tried again that was interrupted, or whose time ran out before a byte came
+abbrev pub is_wait : ErrorKind → Bool
+is_wait kind.Interrupted = true
+is_wait kind.WouldBlock = true
+is_wait kind.TimedOut = true
+is_wait _ = false
+
+-- so many bytes, or the end where there were none; of a read that failed a wait, or that the reader failed
+abbrev pub told_by : Result ℕ Error → Result Turn NetFault
+told_by (Ok zero) = Ok turn.Ended
+told_by (Ok (suc n)) = Ok (turn.Read (suc n))
+told_by (Err e) = if is_wait (error_kind e) then Ok turn.Waited else Err net.Read
 
 -- what a read took from the reader's known bytes into the buffer
 abbrev pub Took : Option (List ℕ) → Option (List ℕ) → List ℕ → Turn → Type 0

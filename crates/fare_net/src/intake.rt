@@ -1,8 +1,8 @@
 ghost use Rattle.std.specs.Prelude.{◌≡◌, ◌≤◌, take, length, IfOk, IsTrue, ◌↔◌};
-ghost use Rattle.fare_net.specs.Intakes.{fresh_intake, HasTaken, IsOver, IsWaiting, Holds, Takes, stopped};
+ghost use Rattle.fare_net.specs.Intakes.{fresh_intake, HasFew, HasTaken, HasTakenIn, IsOver, IsWaiting, Holds, Takes, stopped};
 
-use crate::MOST_BYTES;
 use crate::turn::feed_piece;
+use crate::{MOST_BYTES, NetFault, Turn};
 use fare_frame::{Frame, Reader};
 use http_server::Log;
 use std::alloc::{AllocError, Global};
@@ -102,6 +102,20 @@ impl Intake {
         match feed_piece(&mut self.decoder, &buffer[..count], &mut self.frames) {
             Ok(()) => {}
             Err(_) => self.stage = Stage::Failed,
+        }
+    }
+
+    // Takes in what a read told, with the bytes that it brought into the buffer.
+    pub(crate) fn take_in(&mut self, told: Result<Turn, NetFault>, buffer: &[u8; MOST_BYTES])
+        requires waiting { IsWaiting self.old }
+        requires few { IfOk told HasFew }
+        ensures { HasTakenIn self.old self.new told buffer.now }
+    {
+        match told {
+            Ok(Turn::Read(count)) => self.feed(buffer, count),
+            Ok(Turn::Ended) => self.stop(true),
+            Ok(Turn::Waited) => {}
+            Err(_) => self.stop(false),
         }
     }
 

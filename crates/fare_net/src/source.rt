@@ -9,7 +9,7 @@ ghost use Rattle.fare_net.specs.Sources.{Advances, Counts, Greets, HasGreeted, H
 use crate::answer::{send, spell};
 use crate::intake::{Intake, Stage};
 use crate::turn::read_once;
-use crate::{HelloFault, MOST_BYTES, Turn};
+use crate::{HelloFault, MOST_BYTES};
 use fare_frame::{Frame, LONGEST_FRAME};
 use fare_record::StationId;
 use fare_scheme::Scheme;
@@ -143,12 +143,8 @@ impl<R: Read + Drop, W: Write + Drop> NetSource<R, W> {
         }
         self.turns -= 1;
         let mut buffer = [0; MOST_BYTES];
-        match read_once(&mut self.reader, &mut buffer) {
-            Ok(Turn::Read(count)) => self.intake.feed(&buffer, count),
-            Ok(Turn::Ended) => self.intake.stop(true),
-            Ok(Turn::Waited) => {}
-            Err(_) => self.intake.stop(false),
-        }
+        let told = read_once(&mut self.reader, &mut buffer);
+        self.intake.take_in(told, &buffer);
     }
 
     // Reads until a frame is there, or the stream is at its end or has failed.

@@ -1,9 +1,10 @@
 ghost use Rattle.std.specs.Prelude.{◌≡◌, ◌≤◌, OnOk, IfErr, IfOk, vec_capacity};
 ghost use Rattle.std.specs.Io.KnownBytes.{Keeps};
-ghost use Rattle.fare_net.specs.Turns.{Took, Fed, FeedFails, Turned, TurnFails};
+ghost use Rattle.fare_net.specs.Turns.{Took, Fed, FeedFails, Turned, TurnFails, told_by};
 
 use crate::NetFault;
 use fare_frame::{Frame, ReadFault, Reader};
+use std::io;
 use std::io::{ErrorKind, Read};
 
 /// The most bytes of one read.
@@ -20,15 +21,11 @@ pub enum Turn {
     Waited,
 }
 
-// One read.
-pub(crate) fn read_once<R: Read>(
-    reader: &mut R,
-    buffer: &mut [u8; MOST_BYTES],
-) -> Result<Turn, NetFault>
-    ensures ok { IfOk result (Took (R.remaining reader.old) (R.remaining reader.new) buffer.new) }
-    ensures fails { IfErr result (λ fault. (fault ≡ NetFault.Read) × Keeps (R.remaining reader.old) (R.remaining reader.new)) }
+// What a read tells.
+fn told(read: io::Result<usize>) -> Result<Turn, NetFault>
+    ensures { result ≡ told_by read }
 {
-    match reader.read(buffer) {
+    match read {
         Ok(0) => Ok(Turn::Ended),
         Ok(count) => Ok(Turn::Read(count)),
         Err(error) => match error.kind() {
@@ -38,6 +35,17 @@ pub(crate) fn read_once<R: Read>(
             _ => Err(NetFault::Read),
         },
     }
+}
+
+// One read.
+pub(crate) fn read_once<R: Read>(
+    reader: &mut R,
+    buffer: &mut [u8; MOST_BYTES],
+) -> Result<Turn, NetFault>
+    ensures ok { IfOk result (Took (R.remaining reader.old) (R.remaining reader.new) buffer.new) }
+    ensures fails { IfErr result (λ fault. (fault ≡ NetFault.Read) × Keeps (R.remaining reader.old) (R.remaining reader.new)) }
+{
+    told(reader.read(buffer))
 }
 
 // Hands a piece of the stream to the decoder. Where there is no memory for its frames the piece is lost, so the

@@ -85,8 +85,8 @@ module _ {S O L : Type 0} (talks : S → Talk) (outbox : O → Standing OutboxVa
   }
 
   -- AGREEMENT
-  abbrev Keeps : (ℕ → List RecordValue) → Hub O L → Hub O L → Type 0
-  Keeps lists a b = IsAgreed outbox ledger lists b × HasGrown outbox ledger a b
+  abbrev KeepsLists : (ℕ → List RecordValue) → Hub O L → Hub O L → Type 0
+  KeepsLists lists a b = IsAgreed outbox ledger lists b × HasGrown outbox ledger a b
 
   abbrev Gave : SchemeValue → (ℕ → List RecordValue) → List (Call S) → Type 0
   Gave sc lists xs = AllByRecursion (λ x. GaveOf talks sc lists x.olds x.news) xs
@@ -95,7 +95,7 @@ module _ {S O L : Type 0} (talks : S → Talk) (outbox : O → Standing OutboxVa
   trusted a m x lists clean sound numbered gave agreed = record { clean = clean; sound = sound; numbered = numbered; gave = gave; agreed = agreed }
 
   pub held_keeps : (a b : Hub O L) (xs : List (Call S)) → AreHeld talks outbox ledger a b xs → AreClean outbox ledger b → AreSound outbox ledger a
-      → (lists : ℕ → List RecordValue) → AreNumberedLists a.scheme lists → Gave a.scheme lists xs → IsAgreed outbox ledger lists a → Keeps lists a b
+      → (lists : ℕ → List RecordValue) → AreNumberedLists a.scheme lists → Gave a.scheme lists xs → IsAgreed outbox ledger lists a → KeepsLists lists a b
   held_keeps a b [] h clean sound lists numbered gave agreed = (subst (IsAgreed outbox ledger lists) (sym h) agreed, subst (HasGrown outbox ledger a) (sym h) (grown_self a))
   held_keeps a b (x ∷ xs) h clean sound lists numbered gave agreed =
       let m = h.0 in

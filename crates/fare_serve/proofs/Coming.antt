@@ -24,7 +24,7 @@ use Rattle.fare_serve.specs.Calls.{AreHeld, Call, IsHeld, IsOutside, IsServing, 
 use Rattle.fare_serve.specs.Coming.{AreAnswersCovered, AreLinesCovered, ComeOfLines, HasBegun, IsOverLines, LinesCome}
 use Rattle.fare_serve.specs.Lending.{AreBack, AreLent, GoesBack, HasLent, IsBack, fault_in}
 use Rattle.fare_serve.specs.Rounds.{HasFailedRound, IsBegunRound, Round, calls_of, olds_of, serving_of}
-use Rattle.fare_serve.specs.Seats.{AreFree, AreGathered, IsGathered}
+use Rattle.fare_serve.specs.Seats.{AreFree, AreSeatsGathered, IsSeatGathered}
 use Rattle.fare_serve.specs.Serving.{AreAllCovered, HasFailedHeld, shift_talk}
 use Rattle.fare_serve.specs.declared.fault.ServeFault.{ServeFault}
 use Rattle.fare_serve.specs.declared.seats.Seat.{Seat}
@@ -87,7 +87,7 @@ back_over seats lent next c faults after over told gave back =
 -- the seats before a round's stations' session and behind it
 pub record HasSeated (sc : SchemeValue) (olds : List Seat) (r : Round (Shift NetValue)) (news : List Seat) : Type 0 where
   pub gathered : List Seat
-  pub came : AreGathered sc olds gathered
+  pub came : AreSeatsGathered sc olds gathered
   pub over : IsOverLines gathered r.stations
   pub back : AreBack r.stations.report.faults.items (stations_in r.stations.news) over.lent news
   pub serves : AllByRecursion IsServing r.owners
@@ -116,7 +116,7 @@ come_behind sc first (r ∷ rs) middle rest was come =
 pub come_of_rounds : (sc : SchemeValue) (first : List Seat) (rs : List (Round (Shift NetValue))) (last : List Seat) → AreFree first → AreSeated sc first rs last → ComeOfLines sc (flat_map calls_of rs)
 come_of_rounds sc first rs last free was = (first, free, subst (LinesCome sc first) (append-nil (flat_map calls_of rs)) (come_behind sc first rs last [] was tt))
 
-pub come_to_fault : (sc : SchemeValue) (first : List Seat) (rs : List (Round (Shift NetValue))) (last gathered : List Seat) (calls : List (Call (Shift NetValue))) → AreFree first → AreSeated sc first rs last → AreGathered sc last gathered → HasBegun gathered calls → ComeOfLines sc (flat_map calls_of rs ++ calls)
+pub come_to_fault : (sc : SchemeValue) (first : List Seat) (rs : List (Round (Shift NetValue))) (last gathered : List Seat) (calls : List (Call (Shift NetValue))) → AreFree first → AreSeated sc first rs last → AreSeatsGathered sc last gathered → HasBegun gathered calls → ComeOfLines sc (flat_map calls_of rs ++ calls)
 come_to_fault sc first rs last gathered calls free was came begun = (first, free, come_behind sc first rs last calls was (by calls begun))
   where
     by : (cs : List (Call (Shift NetValue))) → HasBegun gathered cs → LinesCome sc last cs
@@ -157,12 +157,12 @@ module _ (sc : SchemeValue) (x : OutboxValue) where
   free_covered seats free = record { each = λ k d line lt has. absurd (none_held line (slice_index_or seats k d) (free.each k d lt) has) }
 
   -- one that newly greeted was answered nothing
-  gathered_at : (place : ℕ) (old new : Seat) (line : NetValue) → ((l : NetValue) → old ≡ Held l → IsLineCovered l) → new ≡ Held line → IsGathered sc place old new → IsLineCovered line
+  gathered_at : (place : ℕ) (old new : Seat) (line : NetValue) → ((l : NetValue) → old ≡ Held l → IsLineCovered l) → new ≡ Held line → IsSeatGathered sc place old new → IsLineCovered line
   gathered_at place old new line were has (inl same) = were line (sym same ∙ has)
   gathered_at place old new line were has (inr (m, is, came)) =
       subst IsLineCovered (held_one m line new is has) (subst (AllByRecursion (IsFrameCovered sc x)) (sym came.2.answered) tt)
 
-  gathered_covered : (olds news : List Seat) → AreGathered sc olds news → AreSeatsCovered olds → AreSeatsCovered news
+  gathered_covered : (olds news : List Seat) → AreSeatsGathered sc olds news → AreSeatsCovered olds → AreSeatsCovered news
   gathered_covered olds news came were = record {
     each = λ k d line lt has.
         let within = subst (λ n. k < n) came.len lt in

@@ -17,7 +17,7 @@ use Rattle.fare_source.specs.declared.shift.Shift.{Shift}
 use Rattle.fare_net.specs.NetValue.{NetValue}
 use Rattle.fare_serve.specs.Calls.{AreHeld, Call, IsOutside}
 use Rattle.fare_serve.specs.Coming.{ComeOfLines}
-use Rattle.fare_serve.specs.Seats.{AreFree, AreGathered, AreSeats}
+use Rattle.fare_serve.specs.Seats.{AreFree, AreSeatsGathered, AreSeats}
 use Rattle.fare_serve.specs.Serving.{HasFailedHeld, HasFailedLines, HasHeldRound, HaveBeenHeld, HaveFailed, HaveTold, IsReadToEnds, KeepsStores, shift_talk}
 use Rattle.fare_serve.specs.declared.fault.ServeFault.{ServeFault}
 use Rattle.fare_serve.specs.declared.counts.Counts.{Counts}
@@ -59,7 +59,7 @@ module _ {O L : Type 0} (outbox : O → Standing OutboxValue) (ledger : L → St
       by [] seated none = seats_of_free sc seats (subst AreFree (sym seated) was.free)
       by (r ∷ rs) seated none = absurd (cc)
 
-  pub been_more : (old middle new : Hub O L) (whole : Bool) (count : ℕ) (c d : Counts) (seats gathered next : List Seat) → HaveBeenSeated old middle whole count c seats → AreGathered middle.scheme seats gathered
+  pub been_more : (old middle new : Hub O L) (whole : Bool) (count : ℕ) (c d : Counts) (seats gathered next : List Seat) → HaveBeenSeated old middle whole count c seats → AreSeatsGathered middle.scheme seats gathered
       → HasHeldRound outbox ledger middle new whole c d gathered next → HaveBeenSeated old new whole (count + 1) d next
   been_more old middle new whole count c d seats gathered next been came one = record {
     held = record {
@@ -84,7 +84,7 @@ module _ {O L : Type 0} (outbox : O → Standing OutboxValue) (ledger : L → St
       seated : AreSeated old.scheme been.first (was.rounds ++ one.served.round ∷ []) next
       seated = seated_more old.scheme been.first was.rounds seats one.served.round next been.seated (record {
         gathered = gathered;
-        came = subst (λ sc. AreGathered sc seats gathered) same came;
+        came = subst (λ sc. AreSeatsGathered sc seats gathered) same came;
         over = one.over;
         back = one.back;
         serves = are_serving (keys_of middle.scheme.owners) one.served.round.owners one.served.is.serves;
@@ -133,7 +133,7 @@ module _ {O L : Type 0} (outbox : O → Standing OutboxValue) (ledger : L → St
   none_failed hub fault outside = record { failed = record { calls = []; held = refl; ended = outside; each = tt }; come = come_none hub.scheme }
 
   -- behind rounds, in one that had begun
-  pub rounds_failed : (old middle new : Hub O L) (whole : Bool) (count : ℕ) (c : Counts) (seats gathered : List Seat) (fault : ServeFault) → HaveBeenSeated old middle whole count c seats → AreGathered middle.scheme seats gathered
+  pub rounds_failed : (old middle new : Hub O L) (whole : Bool) (count : ℕ) (c : Counts) (seats gathered : List Seat) (fault : ServeFault) → HaveBeenSeated old middle whole count c seats → AreSeatsGathered middle.scheme seats gathered
       → HasFailedHeld outbox ledger middle new gathered fault → HaveFailed outbox ledger old new fault
   rounds_failed old middle new whole count c seats gathered fault been came next =
       let was = been.held in
@@ -141,7 +141,7 @@ module _ {O L : Type 0} (outbox : O → Standing OutboxValue) (ledger : L → St
       let all = failed_after shift_talk outbox ledger old middle new (flat_map calls_of was.rounds) fault was.served.held was.served.unended (rounds_of_scheme old.scheme was.rounds was.served.each) next.failed in
       record {
         failed = all.0;
-        come = subst (ComeOfLines old.scheme) (sym all.1) (come_to_fault old.scheme been.first was.rounds seats gathered next.failed.calls been.free been.seated (subst (λ sc. AreGathered sc seats gathered) same came) next.begun);
+        come = subst (ComeOfLines old.scheme) (sym all.1) (come_to_fault old.scheme been.first was.rounds seats gathered next.failed.calls been.free been.seated (subst (λ sc. AreSeatsGathered sc seats gathered) same came) next.begun);
       }
 
   -- behind rounds, outside of sessions

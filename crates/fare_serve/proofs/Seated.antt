@@ -12,7 +12,7 @@ use Rattle.fare_net.specs.NetValue.{NetValue}
 use Rattle.fare_net.specs.Sources.{Advances, Greets, HasGreeted, IsFront}
 use Rattle.fare_net.proofs.Sources.{advances_then}
 use Rattle.fare_serve.specs.Lines.{HasGreetedAs, IsNewLine, IsUnheard}
-use Rattle.fare_serve.specs.Seats.{AreFree, AreGathered, AreSeats, AreSeatsAfter, HasTakenSeat, IsGathered, IsSeatAfter}
+use Rattle.fare_serve.specs.Seats.{AreFree, AreSeatsGathered, AreSeats, AreSeatsAfter, HasTakenSeat, IsSeatGathered, IsSeatAfter}
 use Rattle.fare_serve.specs.declared.seats.Rule.{Rule}
 use Rattle.fare_serve.specs.declared.seats.Rule.TheVariants.{First, Last}
 use Rattle.fare_serve.specs.declared.seats.Seat.{Seat}
@@ -132,19 +132,19 @@ seats_of_free sc seats free = record { each = λ k d line lt has. absurd (none_h
 
 -- GATHERING
 -- a line that was read on, of a seat that was gathered
-on_gathered : (sc : SchemeValue) (place : ℕ) (a b c : Seat) (line first : NetValue) → c ≡ Held line → b ≡ Held first → Advances first line → ((l : NetValue) → a ≡ Held l → IsNewLine sc place l) → IsGathered sc place a b → IsGathered sc place a c
+on_gathered : (sc : SchemeValue) (place : ℕ) (a b c : Seat) (line first : NetValue) → c ≡ Held line → b ≡ Held first → Advances first line → ((l : NetValue) → a ≡ Held l → IsNewLine sc place l) → IsSeatGathered sc place a b → IsSeatGathered sc place a c
 on_gathered sc place a b c line first is was on were (inl same) = inr (line, is, new_still sc place first line on (were first (sym same ∙ was)))
 on_gathered sc place a b c line first is was on were (inr (m, has, came)) = inr (line, is, new_still sc place m line (subst (λ (x : NetValue). Advances x line) (held_one first m b was has) on) came)
 
-gathered_one : (sc : SchemeValue) (rule : Rule) (place : ℕ) (a b c : Seat) → (rule ≡ First → (l : NetValue) → a ≡ Held l → IsNewLine sc place l) → IsGathered sc place a b → IsSeatAfter sc rule place b c → IsGathered sc place a c
-gathered_one sc rule place a b c were p (inl same) = subst (IsGathered sc place a) (sym same) p
+gathered_one : (sc : SchemeValue) (rule : Rule) (place : ℕ) (a b c : Seat) → (rule ≡ First → (l : NetValue) → a ≡ Held l → IsNewLine sc place l) → IsSeatGathered sc place a b → IsSeatAfter sc rule place b c → IsSeatGathered sc place a c
+gathered_one sc rule place a b c were p (inl same) = subst (IsSeatGathered sc place a) (sym same) p
 gathered_one sc rule place a b c were p (inr (line, is, inl came)) = inr (line, is, came)
 gathered_one sc rule place a b c were p (inr (line, is, inr (first, by, was, on))) = on_gathered sc place a b c line first is was on (were by) p
 
-pub gathered_none : (sc : SchemeValue) (seats : List Seat) → AreGathered sc seats seats
+pub gathered_none : (sc : SchemeValue) (seats : List Seat) → AreSeatsGathered sc seats seats
 gathered_none sc seats = record { len = refl; each = λ k d lt. inl refl }
 
-pub gathered_then : (sc : SchemeValue) (rule : Rule) (a b c : List Seat) → (rule ≡ First → AreSeats sc a) → AreGathered sc a b → AreSeatsAfter sc rule b c → AreGathered sc a c
+pub gathered_then : (sc : SchemeValue) (rule : Rule) (a b c : List Seat) → (rule ≡ First → AreSeats sc a) → AreSeatsGathered sc a b → AreSeatsAfter sc rule b c → AreSeatsGathered sc a c
 gathered_then sc rule a b c were p q = record {
   len = q.len ∙ p.len;
   each = λ k d lt. gathered_one sc rule k (slice_index_or a k d) (slice_index_or b k d) (slice_index_or c k d) (λ by l has. (were by).each k d l lt has) (p.each k d lt) (q.each k d (subst (λ n. k < n) (sym p.len) lt));

@@ -12,7 +12,7 @@ use Rattle.fare_sessions.specs.Promises.{IsFrameCovered}
 use Rattle.fare_sessions.specs.declared.session.Session.TheVariants.{Collect}
 use Rattle.fare_serve.specs.Calls.{Call, IsServing, stations_in}
 use Rattle.fare_serve.specs.Lending.{AreBack, AreLent}
-use Rattle.fare_serve.specs.Seats.{AreFree, AreGathered}
+use Rattle.fare_serve.specs.Seats.{AreFree, AreSeatsGathered}
 use Rattle.fare_serve.specs.declared.seats.Seat.{Seat}
 
 -- A call of the stations' session over the lines of these seats: each station, by its place, has a shift of its seat's line, or
@@ -37,7 +37,7 @@ abbrev pub LinesCome : SchemeValue → List Seat → List (Call (Shift NetValue)
 LinesCome sc seats [] = Unit {0}
 LinesCome sc seats (c ∷ cs) =
     (IsServing c × LinesCome sc seats cs)
-    ⊎ ((gathered : List Seat) × AreGathered sc seats gathered × (over : IsOverLines gathered c) × (((next : List Seat) × AreBack c.report.faults.items (stations_in c.news) over.lent next × LinesCome sc next cs) ⊎ AllByRecursion IsServing cs))
+    ⊎ ((gathered : List Seat) × AreSeatsGathered sc seats gathered × (over : IsOverLines gathered c) × (((next : List Seat) × AreBack c.report.faults.items (stations_in c.news) over.lent next × LinesCome sc next cs) ⊎ AllByRecursion IsServing cs))
 
 -- the first of them from seats of which none has a line yet
 abbrev pub ComeOfLines : SchemeValue → List (Call (Shift NetValue)) → Type 0

@@ -49,10 +49,10 @@ pub record AreSeats (sc : SchemeValue) (seats : List Seat) : Type 0 where
 -- GATHERING
 -- A seat as lines are gathered for a round: it is as it was, or a line has it that has newly greeted as a device of the station
 -- whose seat it is.
-abbrev pub IsGathered : SchemeValue → ℕ → Seat → Seat → Type 0
-IsGathered sc place old new = (new ≡ old) ⊎ ((line : NetValue) × (new ≡ Held line) × IsNewLine sc place line)
+abbrev pub IsSeatGathered : SchemeValue → ℕ → Seat → Seat → Type 0
+IsSeatGathered sc place old new = (new ≡ old) ⊎ ((line : NetValue) × (new ≡ Held line) × IsNewLine sc place line)
 
 -- so each seat, by its place
-pub record AreGathered (sc : SchemeValue) (olds news : List Seat) : Type 0 where
+pub record AreSeatsGathered (sc : SchemeValue) (olds news : List Seat) : Type 0 where
   pub len : length news ≡ length olds
-  pub each : (k : ℕ) (d : Seat) → k < length olds → IsGathered sc k (slice_index_or olds k d) (slice_index_or news k d)
+  pub each : (k : ℕ) (d : Seat) → k < length olds → IsSeatGathered sc k (slice_index_or olds k d) (slice_index_or news k d)

@@ -1,5 +1,5 @@
 ghost use Rattle.std.specs.Prelude.{◌≡◌, ◌≤◌, IfOk, length, vec_len};
-ghost use Rattle.fare_serve.specs.Seats.{AreFree, AreGathered, AreSeats, AreSeatsAfter};
+ghost use Rattle.fare_serve.specs.Seats.{AreFree, AreSeatsGathered, AreSeats, AreSeatsAfter};
 
 use crate::guest::{Guest, MOST_GUESTS, welcome};
 use crate::limits::Limits;
@@ -89,7 +89,7 @@ impl Lines {
         rule: Rule,
     )
         ensures len { vec_len self.new.seats ≡ vec_len self.old.seats }
-        ensures gathered { (rule ≡ Rule.First → AreSeats scheme.now self.old.seats.items) → AreGathered scheme.now self.old.seats.items self.new.seats.items }
+        ensures gathered { (rule ≡ Rule.First → AreSeats scheme.now self.old.seats.items) → AreSeatsGathered scheme.now self.old.seats.items self.new.seats.items }
     {
         let attempts = match rule {
             Rule::First => limits.turns,

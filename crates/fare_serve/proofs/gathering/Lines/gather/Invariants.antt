@@ -1,10 +1,10 @@
 use Rattle.std.proofs.Common.{◌≡◌, vec_len}
-use Rattle.fare_serve.specs.Seats.{AreGathered, AreSeats}
+use Rattle.fare_serve.specs.Seats.{AreSeatsGathered, AreSeats}
 use Rattle.fare_serve.specs.declared.seats.Rule.TheVariants.{First}
 use Rattle.fare_serve.proofs.gathering.Lines.gather.Given as goal
 
 abbrev pub invariant-loop : goal.invariant-loop
 invariant-loop g l = record {
   len : vec_len l.self.seats ≡ vec_len l.fn.self.seats;
-  gathered : (l.rule ≡ First → AreSeats l.scheme l.fn.self.seats.items) → AreGathered l.scheme l.fn.self.seats.items l.self.seats.items;
+  gathered : (l.rule ≡ First → AreSeats l.scheme l.fn.self.seats.items) → AreSeatsGathered l.scheme l.fn.self.seats.items l.self.seats.items;
 }
