@@ -80,6 +80,15 @@ next_tap true count closed lane false is = elim (cases_Bool (nat_le lane count))
   ]
 ]
 
+working : (mine : Bool) (count : ℕ) (closed : Bool) (lane : ℕ) (retired : Bool) → ◌≡◌ {A = Result Unit TapFault} (tap_judged mine count closed lane retired) (Ok tt) → retired ≡ false
+working false count closed lane retired is = absurd (let e : ◌≡◌ {A = Result Unit TapFault} (Err tap.NotMine) (Ok tt) = is in cc)
+working true count closed lane true is = absurd (let e : ◌≡◌ {A = Result Unit TapFault} (Err tap.Retired) (Ok tt) = is in cc)
+working true count closed lane false is = refl
+
+-- its lane isn't retired
+pub not_retired : (v : LedgerValue) (r : RecordValue) (closed : ℕ) → JudgesTap v r (Ok closed) → v.retired r.device ≡ false
+not_retired v r closed judged = working (is_mine v r.owner r.device) (length (v.taken r.device)) (is_closed v r.device r.tap.day) r.lane (v.retired r.device) judged.0
+
 owned : (v : LedgerValue) (owner device : ℕ) → is_mine v owner device ≡ true → owner ≡ v.owner
 owned v owner device is = elim (cases_Bool (owner == v.owner)) [
   | inl same ↦ grind (arith, nat_tests)

@@ -19,3 +19,4 @@ pub mod Opened
 pub mod AnyOrder
 pub mod AllOrders
 pub mod AnyRise
+pub mod Batches

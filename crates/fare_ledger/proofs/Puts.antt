@@ -24,6 +24,7 @@ use Rattle.fare_ledger.specs.Layouts.{schema_in, tree_in, ours}
 use Rattle.fare_ledger.specs.Statements.{Retired, Routed}
 use Rattle.fare_ledger.specs.Tables.{routed_table, stated_table, retired_table}
 use Rattle.fare_ledger.specs.Held.{TapRow, StatedRow, PutsTap, PutsLane, PutsStated, PutsRetired, Becomes, AreReadable, IsLane, IsTap, IsStated, IsRetired, retired_row, lane_row, lane_of, tap_cells, tap_of, stated_cells, stated_of, held_of, with_lane, with_tap, with_stated, with_numbers, with_retired_lane}
+use Rattle.fare_ledger.specs.Batches.{with_tap_if}
 use Rattle.fare_ledger.proofs.Texts.{put_tap_text, put_tap_command, put_tap_meant, put_stated_text, put_stated_command, put_stated_meant, put_retired_text, put_retired_command, put_retired_meant}
 use Rattle.fare_opening.proofs.Standing.{at_found}
 use Rattle.fare_ledger.proofs.Placed.{no_works, routed_placed, stated_placed, retired_placed, each, apart}
@@ -162,6 +163,24 @@ both w old mid new t c ok first second =
         retired = λ x. is_some (held (retired i) x);
         meta = (second.meta ∙ first.meta) i;
         unused = (second.unused ∙ first.unused) i;
+      };
+    }
+
+-- the tap alone
+pub tap_alone : (w : Layout) (old new : Database) (t : TapRow) (c : ℕ) → AreReadable (ours w old.trees) → PutsTap w old new t → Becomes w new (with_tap_if false t c (held_of (ours w old.trees)))
+tap_alone w old new t c ok puts =
+    let taps = appended IsTap tap_ids (ours w old.trees 7) (ours w new.trees 7) (tap_cells t) ok.taps (λ n. refl) puts.taps in
+    record {
+      schema = puts.schema;
+      database = puts.database;
+      readable = record { lanes = subst (AreRows IsLane) (sym puts.lanes) ok.lanes; taps = taps.0; statements = subst (AreRows IsStated) (sym puts.statements) ok.statements; retired = subst (AreRows IsRetired) (sym puts.retired) ok.retired };
+      value = λ i. record {
+        lanes = λ x. lane_of (held (puts.lanes i) x);
+        taps = (ap (map tap_of) taps.1 ∙ map-append tap_of (ours w old.trees 7) _) i;
+        statements = map stated_of (puts.statements i);
+        retired = λ x. is_some (held (puts.retired i) x);
+        meta = puts.meta i;
+        unused = puts.unused i;
       };
     }
 

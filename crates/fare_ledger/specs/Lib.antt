@@ -9,3 +9,4 @@ pub mod Words
 pub mod Older
 pub mod Shown
 pub mod Orders
+pub mod Batches

@@ -7,6 +7,7 @@ ghost use Rattle.fare_ledger.specs.Layouts.{schema_in};
 ghost use Rattle.fare_ledger.specs.Words.{IsLawful, value_at, stands};
 
 use crate::SqlLedger;
+use crate::batching::run_of;
 use crate::finding::are_nothing;
 use fare_owner::{CloseFault, RetireFault, StatementFault, TapFault};
 use fare_record::{Day, DeviceId, OwnerId, Record, Statement};
@@ -68,6 +69,30 @@ impl<S: Alter> Ledger for SqlLedger<S> {
                 Ok(()) => Ok(()),
                 Err(fault) => Err(Refused::Failed(fault)),
             },
+        }
+    }
+
+    fn take_all(&mut self, rows: &[Record]) -> Result<usize, Fault> {
+        if rows.is_empty() {
+            self.begin()?;
+            return Ok(0);
+        }
+        let start = self.start;
+        let first = &rows[0];
+        if !self.is_mine(first.owner(), first.device()) {
+            self.begin()?;
+            return Ok(0);
+        }
+        match self.judge_take(first) {
+            Err(fault) => Err(fault),
+            Ok(Err(_)) => Ok(0),
+            Ok(Ok(closed)) => {
+                let count = run_of(first, &rows[1..], start, closed) + 1;
+                match self.put_taps(&rows[..count], closed) {
+                    Ok(()) => Ok(count),
+                    Err(fault) => Err(fault),
+                }
+            }
         }
     }
 

@@ -6,6 +6,7 @@
 //! then.
 #![tactic(auto)]
 
+mod batching;
 mod calls;
 mod design;
 mod devices;

@@ -1,9 +1,9 @@
 ghost use Rattle.std.specs.Prelude.{◌≡◌, ◌≤◌, None};
 ghost use Rattle.sqlite.specs.Held.{state};
-ghost use Rattle.fare_store.specs.Standing.{Calls, fault_of};
+ghost use Rattle.fare_store.specs.Standing.{Calls, Makes, fault_of};
 ghost use Rattle.fare_store.specs.LedgerWords.{took, with_statement, with_close, with_retired};
 ghost use Rattle.fare_tables.specs.Asking.{IsUp};
-ghost use Rattle.fare_tables.specs.Tabled.{given, Makes};
+ghost use Rattle.fare_tables.specs.Tabled.{given};
 ghost use Rattle.fare_ledger.specs.Held.{IsWithin};
 ghost use Rattle.fare_ledger.specs.Words.{stands, MayTake, MayClose};
 

@@ -1,10 +1,11 @@
-ghost use Rattle.std.specs.Prelude.{◌≡◌, ◌<◌, ◌^◌, false, IsTrue, OnOk, OnErr};
+ghost use Rattle.std.specs.Prelude.{◌≡◌, ◌<◌, ◌^◌, false, IsTrue, OnOk, OnErr, length};
 ghost use Rattle.sqlite.specs.State.{HasCleanDisk, Survives};
 ghost use Rattle.sqlite.specs.Held.{state};
 ghost use Rattle.sqlite.specs.Values.{bound};
 ghost use Rattle.fare_tables.specs.Asking.{IsLive, SameRows, Inside};
 ghost use Rattle.fare_tables.specs.Cells.{AreRows};
 ghost use Rattle.fare_ledger.specs.Layouts.{schema_in, ours};
+ghost use Rattle.fare_ledger.specs.Batches.{goes_on, with_tap_if, with_taps};
 ghost use Rattle.fare_ledger.specs.Held.{held_of, AreReadable, IsReady, IsLane, Becomes, MayBecome, PutsTap, PutsLane, tap_cells, stated_cells, row_of, row_stated, with_tap, with_stated, with_numbers, with_retired_lane};
 
 use crate::Layout;
@@ -111,6 +112,85 @@ pub(crate) fn write_tap<S: Alter>(
 {
     let mut tx = conn.transaction();
     put_row(&mut tx, layout, row, closed)?;
+    match tx.commit() {
+        Ok(()) => Ok(()),
+        Err(error) => Err(fault_of(error)),
+    }
+}
+
+// The tap, and its device's numbers where the next tap is not of the device too.
+fn put_next<S: Alter>(
+    tx: &mut Transaction<'_, S>,
+    layout: &Layout,
+    row: &Record,
+    closed: u64,
+    last: bool,
+) -> Result<(), Fault>
+    requires { closed < 2 ^ 63 }
+    ensures same_reference { tx.new.conn.ghost_name ≡ tx.old.conn.ghost_name }
+    ensures puts { HasCleanDisk (state S.Store tx.new.conn.now) → IsTrue (state S.Store tx.old.conn.now).in_transaction → (state S.Store tx.old.conn.now).now.schema ≡ schema_in layout.now → AreReadable (ours layout.now (state S.Store tx.old.conn.now).now.trees)
+        → OnOk result (Becomes layout.now (state S.Store tx.new.conn.now).now (with_tap_if last (row_of row.now) closed (held_of (ours layout.now (state S.Store tx.old.conn.now).now.trees))) × IsTrue (state S.Store tx.new.conn.now).in_transaction) }
+    ensures inside { HasCleanDisk (state S.Store tx.new.conn.now) → Inside (state S.Store tx.old.conn.now) (state S.Store tx.new.conn.now) }
+    ensures survives { Survives (state S.Store tx.old.conn.now) (state S.Store tx.new.conn.now) (λ _. ⊥) }
+{
+    if !last {
+        return put_tap(tx, layout, row);
+    }
+    put_row(tx, layout, row, closed)
+}
+
+// Whether the first of these taps is of a device.
+fn goes_on(rows: &[Record], device: DeviceId) -> bool
+    ensures { result ≡ goes_on device rows.now }
+{
+    match rows.first() {
+        Some(row) => row.device() == device,
+        None => false,
+    }
+}
+
+// The taps, and their device's numbers with the last of those that stand one behind the other.
+fn put_rows<S: Alter>(
+    tx: &mut Transaction<'_, S>,
+    layout: &Layout,
+    rows: &[Record],
+    closed: u64,
+) -> Result<(), Fault>
+    requires some { 0 < length rows.now }
+    requires low { closed < 2 ^ 63 }
+    ensures same_reference { tx.new.conn.ghost_name ≡ tx.old.conn.ghost_name }
+    ensures puts { HasCleanDisk (state S.Store tx.new.conn.now) → IsTrue (state S.Store tx.old.conn.now).in_transaction → (state S.Store tx.old.conn.now).now.schema ≡ schema_in layout.now → AreReadable (ours layout.now (state S.Store tx.old.conn.now).now.trees)
+        → OnOk result (Becomes layout.now (state S.Store tx.new.conn.now).now (with_taps closed rows.now (held_of (ours layout.now (state S.Store tx.old.conn.now).now.trees))) × IsTrue (state S.Store tx.new.conn.now).in_transaction) }
+    ensures inside { HasCleanDisk (state S.Store tx.new.conn.now) → Inside (state S.Store tx.old.conn.now) (state S.Store tx.new.conn.now) }
+    ensures survives { Survives (state S.Store tx.old.conn.now) (state S.Store tx.new.conn.now) (λ _. ⊥) }
+{
+    for place in 0..rows.len() {
+        let row = &rows[place];
+        let last = !goes_on(&rows[place + 1..], row.device());
+        put_next(tx, layout, row, closed, last)?;
+    }
+    Ok(())
+}
+
+// The taps and their device's numbers, in one transaction.
+pub(crate) fn write_taps<S: Alter>(
+    conn: &mut Connection<S>,
+    layout: &Layout,
+    rows: &[Record],
+    closed: u64,
+) -> Result<(), Fault>
+    requires some { 0 < length rows.now }
+    requires low { closed < 2 ^ 63 }
+    requires idle { conn.old.in_transaction ≡ false }
+    ensures value { IsLive (state S.Store conn.new) → IsReady layout.now (state S.Store conn.old) → OnOk result (Becomes layout.now (state S.Store conn.new).now (with_taps closed rows.now (held_of (ours layout.now (state S.Store conn.old).now.trees))) × ((state S.Store conn.new).now ≡ (state S.Store conn.new).committed)) }
+    ensures same { IsLive (state S.Store conn.new) → IsReady layout.now (state S.Store conn.old) → OnErr result (SameRows (state S.Store conn.old) (state S.Store conn.new)) }
+    ensures crash { Survives (state S.Store conn.old) (state S.Store conn.new) (λ trees. IsReady layout.now (state S.Store conn.old) → MayBecome layout.now (with_taps closed rows.now (held_of (ours layout.now (state S.Store conn.old).now.trees))) trees) }
+    ensures live { IsLive (state S.Store conn.new) → IsLive (state S.Store conn.old) }
+    ensures stays { HasCleanDisk (state S.Store conn.new) → OnOk result (IsTrue (state S.Store conn.new).is_open) }
+    ensures idle { conn.new.in_transaction ≡ false }
+{
+    let mut tx = conn.transaction();
+    put_rows(&mut tx, layout, rows, closed)?;
     match tx.commit() {
         Ok(()) => Ok(()),
         Err(error) => Err(fault_of(error)),

@@ -10,9 +10,11 @@ pub mod Keyed
 pub mod Lanes
 pub mod Pruned
 pub mod Stored
+pub mod PrunedLanes
 pub mod Seen
 pub mod Judged
 pub mod Rising
+pub mod Batches
 pub mod Opened
 pub mod AnyOrder
 pub mod AnyRise

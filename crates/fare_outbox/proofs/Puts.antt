@@ -24,6 +24,7 @@ use Rattle.fare_outbox.specs.Layouts.{schema_in, tree_in, ours}
 use Rattle.fare_outbox.specs.Statements.{Routed}
 use Rattle.fare_outbox.specs.Tables.{routed_table, stated_table}
 use Rattle.fare_outbox.specs.Held.{PutsTap, PutsLink, PutsStated, Becomes, AreReadable, IsDevice, IsTap, IsStated, device_row, upto_of, tap_cells, tap_of, stated_cells, stated_of, held_of, with_tap, with_statement}
+use Rattle.fare_outbox.specs.Batches.{with_tap_if}
 use Rattle.fare_outbox.proofs.Texts.{put_tap_text, put_tap_command, put_tap_meant, put_statement_text, put_statement_command, put_statement_meant}
 use Rattle.fare_opening.proofs.Standing.{at_found}
 use Rattle.fare_outbox.proofs.Placed.{no_works, routed_placed, stated_placed, each, apart}
@@ -130,6 +131,23 @@ both w old mid new t ok first second =
         statements = ap (map stated_of) statements i;
         meta = (second.meta ∙ first.meta) i;
         unused = (second.unused ∙ first.unused) i;
+      };
+    }
+
+-- the row alone
+pub tap_alone : (w : Layout) (old new : Database) (t : RecordValue) → AreReadable (ours w old.trees) → PutsTap w old new t → Becomes w new (with_tap_if false t (held_of (ours w old.trees)))
+tap_alone w old new t ok puts =
+    let taps = appended IsTap tap_ids (ours w old.trees 7) (ours w new.trees 7) (tap_cells t) ok.taps (λ n. refl) puts.taps in
+    record {
+      schema = puts.schema;
+      database = puts.database;
+      readable = record { devices = subst (AreRows IsDevice) (sym puts.devices) ok.devices; taps = taps.0; statements = subst (AreRows IsStated) (sym puts.statements) ok.statements };
+      value = λ i. record {
+        upto = λ x. upto_of (held (puts.devices i) x);
+        taps = (ap (map tap_of) taps.1 ∙ map-append tap_of (ours w old.trees 7) _) i;
+        statements = map stated_of (puts.statements i);
+        meta = puts.meta i;
+        unused = puts.unused i;
       };
     }
 

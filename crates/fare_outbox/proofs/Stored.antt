@@ -24,7 +24,7 @@ left_held w h trees it = ap (λ t. held_of (ours w t)) it.2 ∙ it.1.value
 pub becomes_left : (w : Layout) (h : Held) (trees : Trees) → MayBecome w h trees → FitTogether h → IsLeft (schema_in w) (IsLawful w) trees
 becomes_left w h trees it fit = left_of (schema_in w) (IsLawful w) it.0 trees it.1.schema it.1.database (record { readable = it.1.readable; together = subst FitTogether (sym it.1.value) fit }) it.2
 
-becomes_well : (w : Layout) (new : State) (rows statements : ℕ) (h : Held) → Becomes w new.now h × (new.now ≡ new.committed) → FitTogether h → rows ≡ length h.taps → statements ≡ length h.statements → IsFit (schema_in w) (IsWell w rows statements) new
+pub becomes_well : (w : Layout) (new : State) (rows statements : ℕ) (h : Held) → Becomes w new.now h × (new.now ≡ new.committed) → FitTogether h → rows ≡ length h.taps → statements ≡ length h.statements → IsFit (schema_in w) (IsWell w rows statements) new
 becomes_well w new rows statements h wrote fit rows_are statements_are = record {
   rest = record { settled = wrote.1; schema_is = wrote.0.schema };
   fits = record {

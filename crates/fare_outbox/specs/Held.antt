@@ -1,5 +1,5 @@
 -- What the tables of the outbox hold, as lists in the order of storing.
-use Rattle.std.specs.Prelude.{◌≡◌, ℕ, ◌≤◌, nat_lt, nat_le, ◌==◌, ◌&&◌, not, ◌⊎◌, pos, Bool, if◌then◌else◌, List, [], ◌∷◌, ◌++◌, map, filter, Option, Some, None}
+use Rattle.std.specs.Prelude.{◌≡◌, ℕ, ◌≤◌, nat_lt, nat_le, min, ◌==◌, ◌&&◌, not, ◌⊎◌, pos, Bool, if◌then◌else◌, List, [], ◌∷◌, ◌++◌, map, filter, Option, Some, None}
 use Rattle.std.specs.List.{AllByRecursion}
 use Rattle.sqlite.specs.declared.types.Value.TheVariants.{Null, Int}
 use Rattle.sqlite_value.specs.Order.{Row, column}
@@ -110,6 +110,11 @@ is_cut owner device lane t = (t.owner == owner) && (t.device == device) && nat_l
 
 abbrev pub without_lane : ℕ → ℕ → ℕ → Held → Held
 without_lane owner device lane h = record { upto = h.upto; taps = filter (λ t. not (is_cut owner device lane t)) h.taps; statements = h.statements; meta = h.meta; unused = h.unused }
+
+-- several lanes of an owner, each a device and a lane number, which SQLite's greatest integer bounds
+abbrev pub without_lanes : ℕ → List (ℕ × ℕ) → Held → Held
+without_lanes owner [] h = h
+without_lanes owner (lane ∷ more) h = without_lanes owner more (without_lane owner lane.0 (min lane.1 9223372036854775807) h)
 
 -- the database holds this, in rows that can be read
 pub record Becomes (o : Layout) (db : Database) (h : Held) : Type 0 where

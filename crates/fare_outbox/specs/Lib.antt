@@ -8,3 +8,4 @@ pub mod First
 pub mod Opening
 pub mod Shown
 pub mod Orders
+pub mod Batches

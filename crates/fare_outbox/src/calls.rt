@@ -38,6 +38,17 @@ impl<S: Alter> Outbox for SqlOutbox<S> {
         }
     }
 
+    fn store_all(&mut self, rows: &[Record]) -> Result<usize, Fault> {
+        let count = self.judge_all(rows)?;
+        if count == 0 {
+            return Ok(0);
+        }
+        match self.put_all(&rows[..count]) {
+            Ok(()) => Ok(count),
+            Err(fault) => Err(fault),
+        }
+    }
+
     fn store_statement(&mut self, statement: &Statement) -> Result<(), Refused<StatedFault>> {
         match self.judge_statement(statement) {
             Err(fault) => Err(Refused::Failed(fault)),
@@ -72,5 +83,13 @@ impl<S: Alter> Outbox for SqlOutbox<S> {
     fn prune(&mut self, owner: OwnerId, device: DeviceId, upto: u64) -> Result<u64, Fault> {
         self.begin()?;
         self.cut(owner, device, upto)
+    }
+
+    fn prune_all(&mut self, owner: OwnerId, lanes: &[(DeviceId, u64)]) -> Result<(), Fault> {
+        self.begin()?;
+        if lanes.is_empty() {
+            return Ok(());
+        }
+        self.cut_all(owner, lanes)
     }
 }

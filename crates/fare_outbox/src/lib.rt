@@ -4,11 +4,13 @@
 //! whose taps have no route, is raised when it is opened.
 #![tactic(auto)]
 
+mod batching;
 mod calls;
 mod design;
 pub mod laws;
 mod layout;
 mod opening;
+mod pruning;
 mod reading;
 mod statements;
 mod storing;

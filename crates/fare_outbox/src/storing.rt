@@ -1,10 +1,10 @@
-ghost use Rattle.std.specs.Prelude.{◌≡◌, None, ℕ, ◌<◌, ◌≤◌, ◌↔◌, ◌^◌, ◌⊎◌, IsTrue, IfOk, OnOk, is_some};
+ghost use Rattle.std.specs.Prelude.{◌≡◌, None, ℕ, ◌<◌, ◌≤◌, ◌↔◌, ◌^◌, ◌⊎◌, IsTrue, IfOk, OnOk, is_some, min};
 ghost use Rattle.sqlite.specs.Held.{state};
 ghost use Rattle.fare_record.specs.Limits.{IsCount};
-ghost use Rattle.fare_store.specs.Standing.{Calls, Reads, Removes, fault_of};
+ghost use Rattle.fare_store.specs.Standing.{Calls, Makes, Reads, Removes, fault_of};
 ghost use Rattle.fare_store.specs.OutboxWords.{store_judged, stored, stated_judged, stored_statement, IsNextRow, IsNextStatement, pruned, rows_upto};
 ghost use Rattle.fare_tables.specs.Asking.{IsUp};
-ghost use Rattle.fare_tables.specs.Tabled.{given, Makes};
+ghost use Rattle.fare_tables.specs.Tabled.{given};
 ghost use Rattle.fare_outbox.specs.Words.{stands, MayStore};
 
 use crate::SqlOutbox;
@@ -16,10 +16,11 @@ use fare_tables::{note, touch};
 use sqlite::Alter;
 
 // As many taps, and as many statements, may be held.
-const MOST_ROWS: u64 = 1_000_000;
+pub(crate) const MOST_ROWS: u64 = 1_000_000;
 
 // The greatest integer of SQLite, which no lane number passes.
-fn within(number: u64) -> u64
+pub(crate) fn within(number: u64) -> u64
+    ensures value { result ≡ min number 9223372036854775807 }
     ensures low { result ≤ number }
     ensures which { (result ≡ number) ⊎ (result ≡ 9223372036854775807) }
     ensures fits { result < 2 ^ 63 }

@@ -5,6 +5,7 @@ ghost use Rattle.sqlite.specs.Values.{bound};
 ghost use Rattle.fare_tables.specs.Asking.{IsLive, SameRows, Inside};
 ghost use Rattle.fare_tables.specs.Cells.{AreRows};
 ghost use Rattle.fare_outbox.specs.Layouts.{schema_in, ours};
+ghost use Rattle.fare_outbox.specs.Batches.{names, with_tap_if, with_taps};
 ghost use Rattle.fare_outbox.specs.Held.{held_of, AreReadable, IsReady, IsDevice, Becomes, MayBecome, PutsTap, PutsLink, PutsStated, tap_cells, stated_cells, with_tap, with_statement, without_lane, is_cut};
 
 use crate::Layout;
@@ -108,6 +109,81 @@ pub(crate) fn write_row<S: Alter>(
     }
 }
 
+// The row, and the greatest link of its device where no other row of the device is to come behind it.
+fn put_next<S: Alter>(
+    tx: &mut Transaction<'_, S>,
+    layout: &Layout,
+    row: &Record,
+    last: bool,
+) -> Result<(), Fault>
+    ensures same_reference { tx.new.conn.ghost_name ≡ tx.old.conn.ghost_name }
+    ensures puts { HasCleanDisk (state S.Store tx.new.conn.now) → IsTrue (state S.Store tx.old.conn.now).in_transaction → (state S.Store tx.old.conn.now).now.schema ≡ schema_in layout.now → AreReadable (ours layout.now (state S.Store tx.old.conn.now).now.trees)
+        → OnOk result (Becomes layout.now (state S.Store tx.new.conn.now).now (with_tap_if last row.now (held_of (ours layout.now (state S.Store tx.old.conn.now).now.trees))) × IsTrue (state S.Store tx.new.conn.now).in_transaction) }
+    ensures inside { HasCleanDisk (state S.Store tx.new.conn.now) → Inside (state S.Store tx.old.conn.now) (state S.Store tx.new.conn.now) }
+    ensures survives { Survives (state S.Store tx.old.conn.now) (state S.Store tx.new.conn.now) (λ _. ⊥) }
+{
+    if !last {
+        return put_tap(tx, layout, row);
+    }
+    put_row(tx, layout, row)
+}
+
+// Whether one of these rows is of a device.
+fn names(rows: &[Record], device: DeviceId) -> bool
+    ensures { result ≡ names device rows.now }
+{
+    for place in 0..rows.len() {
+        if rows[place].device() == device {
+            return true;
+        }
+    }
+    false
+}
+
+// The rows, and the greatest link of each of their devices once, with its last row.
+fn put_rows<S: Alter>(
+    tx: &mut Transaction<'_, S>,
+    layout: &Layout,
+    rows: &[Record],
+) -> Result<(), Fault>
+    requires { 0 < length rows.now }
+    ensures same_reference { tx.new.conn.ghost_name ≡ tx.old.conn.ghost_name }
+    ensures puts { HasCleanDisk (state S.Store tx.new.conn.now) → IsTrue (state S.Store tx.old.conn.now).in_transaction → (state S.Store tx.old.conn.now).now.schema ≡ schema_in layout.now → AreReadable (ours layout.now (state S.Store tx.old.conn.now).now.trees)
+        → OnOk result (Becomes layout.now (state S.Store tx.new.conn.now).now (with_taps rows.now (held_of (ours layout.now (state S.Store tx.old.conn.now).now.trees))) × IsTrue (state S.Store tx.new.conn.now).in_transaction) }
+    ensures inside { HasCleanDisk (state S.Store tx.new.conn.now) → Inside (state S.Store tx.old.conn.now) (state S.Store tx.new.conn.now) }
+    ensures survives { Survives (state S.Store tx.old.conn.now) (state S.Store tx.new.conn.now) (λ _. ⊥) }
+{
+    for place in 0..rows.len() {
+        let row = &rows[place];
+        let last = !names(&rows[place + 1..], row.device());
+        put_next(tx, layout, row, last)?;
+    }
+    Ok(())
+}
+
+// The rows and the greatest links of their devices, in one transaction.
+pub(crate) fn write_rows<S: Alter>(
+    conn: &mut Connection<S>,
+    layout: &Layout,
+    rows: &[Record],
+) -> Result<(), Fault>
+    requires some { 0 < length rows.now }
+    requires idle { conn.old.in_transaction ≡ false }
+    ensures value { IsLive (state S.Store conn.new) → IsReady layout.now (state S.Store conn.old) → OnOk result (Becomes layout.now (state S.Store conn.new).now (with_taps rows.now (held_of (ours layout.now (state S.Store conn.old).now.trees))) × ((state S.Store conn.new).now ≡ (state S.Store conn.new).committed)) }
+    ensures same { IsLive (state S.Store conn.new) → IsReady layout.now (state S.Store conn.old) → OnErr result (SameRows (state S.Store conn.old) (state S.Store conn.new)) }
+    ensures crash { Survives (state S.Store conn.old) (state S.Store conn.new) (λ trees. IsReady layout.now (state S.Store conn.old) → MayBecome layout.now (with_taps rows.now (held_of (ours layout.now (state S.Store conn.old).now.trees))) trees) }
+    ensures live { IsLive (state S.Store conn.new) → IsLive (state S.Store conn.old) }
+    ensures stays { HasCleanDisk (state S.Store conn.new) → OnOk result (IsTrue (state S.Store conn.new).is_open) }
+    ensures idle { conn.new.in_transaction ≡ false }
+{
+    let mut tx = conn.transaction();
+    put_rows(&mut tx, layout, rows)?;
+    match tx.commit() {
+        Ok(()) => Ok(()),
+        Err(error) => Err(fault_of(error)),
+    }
+}
+
 fn cells_stated(statement: &Statement) -> [ValueRef<'static>; 4]
     ensures { bound result ≡ stated_cells statement.now }
 {
@@ -160,7 +236,7 @@ pub(crate) fn write_statement<S: Alter>(
 }
 
 // Removes the rows of a lane up to a lane number.
-fn cut_rows<S: Alter>(
+pub(crate) fn cut_rows<S: Alter>(
     tx: &mut Transaction<'_, S>,
     layout: &Layout,
     owner: OwnerId,

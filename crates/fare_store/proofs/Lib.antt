@@ -1,3 +1,4 @@
+pub mod Batches
 pub mod FailingLemmas
 pub mod PlainLemmas
 pub mod Tables

@@ -10,7 +10,7 @@ use Rattle.fare_store.specs.Tables.{put, put2}
 use Rattle.fare_store.specs.Falling.{falling}
 use Rattle.fare_store.specs.Keys.{same_lane}
 use Rattle.fare_store.specs.PlacedRows.{row_in, rows_in}
-use Rattle.fare_store.specs.OutboxWords.{behind, rows_upto}
+use Rattle.fare_store.specs.OutboxWords.{OutboxValue, behind, rows_upto, pruned, pruned_all}
 use Rattle.fare_store.proofs.Lanes.{Rows, Lanes, lane_put, put_same, row_put}
 
 abbrev Lane : Type 0
@@ -142,3 +142,7 @@ nothing_behind a b upto rows none x y z = ap (λ f. f z) (sym (put_same rows a b
 pub lane_behind : (a b upto : ℕ) (was is : tree.BTreeMap ℕ RecordValue) (old new : Lanes) → old (a, b) ≡ Some was → ((l : ℕ) → tree.get falling is l ≡ behind upto (tree.get falling was) l) → ((q : ℕ × ℕ) → new q ≡ cond (same_lane (a, b) q) (Some is) (old q))
     → (x y z : ℕ) → rows_in new x y z ≡ put2 (rows_in old) a b (behind upto (rows_in old a b)) x y z
 lane_behind a b upto was is old new there left writes = lane_put a b is (behind upto (rows_in old a b)) old new (λ l. left l ∙ ap (λ o. behind upto (row_in o) l) (sym there)) writes
+
+pub pruned_all-push : (owner : ℕ) (lanes : List (ℕ × ℕ)) (lane : ℕ × ℕ) (v : OutboxValue) → pruned_all owner (lanes ++ lane ∷ []) v ≡ pruned owner lane.0 lane.1 (pruned_all owner lanes v)
+pruned_all-push owner [] lane v = refl
+pruned_all-push owner (first ∷ lanes) lane v = pruned_all-push owner lanes lane (pruned owner first.0 first.1 v)

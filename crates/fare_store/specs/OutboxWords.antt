@@ -1,5 +1,5 @@
 -- What an outbox holds, and what its calls make of it.
-use Rattle.std.specs.Prelude.{◌≡◌, ℕ, zero, suc, ◌+◌, ◌-◌, ◌<◌, ◌≤◌, nat_le, nat_lt, ◌==◌, Option, None, Some, is_some, Result, Ok, Err, if◌then◌else◌}
+use Rattle.std.specs.Prelude.{◌≡◌, ℕ, zero, suc, ◌+◌, ◌-◌, ◌<◌, ◌≤◌, nat_le, nat_lt, ◌==◌, List, [], ◌∷◌, Option, None, Some, is_some, Result, Ok, Err, if◌then◌else◌}
 use Rattle.fare_record.specs.Values.{RecordValue, StatementValue}
 use Rattle.fare_store.specs.declared.fault.StoreFault.{StoreFault}
 use Rattle.fare_store.specs.declared.fault.StoreFault.TheVariants as store
@@ -99,3 +99,8 @@ pruned owner device upto v = record v {
   rows = put2 v.rows owner device (behind upto (v.rows owner device));
   row_count = v.row_count - rows_upto upto (v.rows owner device);
 }
+
+-- several lanes of an owner, each a device and a lane number, one after the other
+abbrev pub pruned_all : ℕ → List (ℕ × ℕ) → OutboxValue → OutboxValue
+pruned_all owner [] v = v
+pruned_all owner (lane ∷ more) v = pruned_all owner more (pruned owner lane.0 lane.1 v)

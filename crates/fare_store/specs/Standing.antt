@@ -90,6 +90,15 @@ Counts old new done count (Err f) = new ≡ old
 abbrev pub Removes : {V : Type 0} → Standing V → Standing V → V → ℕ → Result ℕ Fault → Type 0
 Removes old new done count result = Calls old new (fault_of result) (Counts old.value new.value done count result) (λ v. v ≡ done)
 
+-- done, or failed, and then nothing changes
+abbrev pub Makes : {V A E : Type 0} → V → V → V → Result A E → Type 0
+Makes old new done (Ok answer) = new ≡ done
+Makes old new done (Err e) = new ≡ old
+
+-- a write that nothing refuses
+abbrev pub Changes : {V A : Type 0} → Standing V → Standing V → V → Result A Fault → Type 0
+Changes old new done result = Calls old new (fault_of result) (Makes old.value new.value done result) (λ v. v ≡ done)
+
 -- a store in memory: nothing spoils it, and a stop leaves what it holds
 abbrev pub plain : {V : Type 0} → V → Standing V
 plain v = record { value = v; clean = Unit {0}; live = Unit {0}; lawful = Unit {0}; failures = 0; may_leave = λ w. w ≡ v; lasting = Unit {0} }

@@ -62,6 +62,13 @@ impl<O: Outbox> Outbox for FailingOutbox<O> {
         self.outbox.store(row)
     }
 
+    fn store_all(&mut self, rows: &[Record]) -> Result<usize, Fault> {
+        if fails_now(&mut self.left) {
+            return Err(Fault::Store);
+        }
+        self.outbox.store_all(rows)
+    }
+
     fn store_statement(&mut self, statement: &Statement) -> Result<(), Refused<StatedFault>> {
         if fails_now(&mut self.left) {
             return Err(Refused::Failed(Fault::Store));
@@ -98,5 +105,12 @@ impl<O: Outbox> Outbox for FailingOutbox<O> {
             return Err(Fault::Store);
         }
         self.outbox.prune(owner, device, upto)
+    }
+
+    fn prune_all(&mut self, owner: OwnerId, lanes: &[(DeviceId, u64)]) -> Result<(), Fault> {
+        if fails_now(&mut self.left) {
+            return Err(Fault::Store);
+        }
+        self.outbox.prune_all(owner, lanes)
     }
 }

@@ -93,6 +93,13 @@ impl Ledger for FailingLedger {
         self.ledger.take(row)
     }
 
+    fn take_all(&mut self, rows: &[Record]) -> Result<usize, Fault> {
+        if fails_now(&mut self.left) {
+            return Err(Fault::Store);
+        }
+        self.ledger.take_all(rows)
+    }
+
     fn state(&mut self, statement: &Statement) -> Result<(), Refused<StatementFault>> {
         if !self.ledger.is_mine(statement.owner(), statement.device()) {
             return self.ledger.state(statement);

@@ -1,10 +1,11 @@
-ghost use Rattle.std.specs.Prelude.{◌≡◌, ℕ, ◌↔◌, IsTrue, IsFalse, Err, length};
+ghost use Rattle.std.specs.Prelude.{◌≡◌, ◌≤◌, ℕ, ◌↔◌, IsTrue, IsFalse, IfOk, Err, length};
 ghost use Rattle.fare_owner.specs.declared.tap.TapFault.TheVariants as tap_fault;
 ghost use Rattle.fare_owner.specs.declared.statement.StatementFault.TheVariants as statement_fault;
 ghost use Rattle.fare_owner.specs.declared.retiring.RetireFault.TheVariants as retire_fault;
 ghost use Rattle.fare_store.specs.declared.fault.Refused.TheVariants.{Because};
 ghost use Rattle.fare_record.specs.Lanes.{day_count};
 ghost use Rattle.fare_store.specs.Standing.{Standing, IsSound, Reads, Writes};
+ghost use Rattle.fare_store.specs.Batches.{WritesFirst};
 ghost use Rattle.fare_store.specs.LedgerWords.{LedgerValue, IsEmptyLedger, closed_through, is_mine, take_judged, took, state_judged, with_statement, close_of, with_close, retire_of, with_retired, AreTapsBetween};
 
 use crate::{Fault, Refused};
@@ -54,6 +55,14 @@ pub trait Ledger {
         ensures not_mine { (result ≡ Err (Because tap_fault.NotMine)) ↔ IsFalse (is_mine (standing self.old).value row.now.owner row.now.device) }
         ensures unasked { result ≡ Err (Because tap_fault.NotMine) → self.new ≡ self.old }
         ensures does { IsTrue (is_mine (standing self.old).value row.now.owner row.now.device) → Writes (standing self.old) (standing self.new) (take_judged (standing self.old).value row.now) (took row.now (standing self.old).value) result };
+
+    /// Takes the first of these taps, in their order and all at once, and answers how many.
+    ///
+    /// None of them would be refused by `take`, each behind the ones before it. None is taken only where the first
+    /// one would be refused, or where there is none.
+    fn take_all(&mut self, rows: &[Record]) -> Result<usize, Fault>
+        ensures does { WritesFirst take_judged took (standing self.old) (standing self.new) rows.now result }
+        ensures few { IfOk result (λ n. n ≤ length rows.now) };
 
     /// Takes a statement.
     ///

@@ -1,7 +1,8 @@
-ghost use Rattle.std.specs.Prelude.{◌≡◌, ℕ, ◌↔◌, IfOk, IsTrue};
+ghost use Rattle.std.specs.Prelude.{◌≡◌, ◌≤◌, ℕ, ◌↔◌, IfOk, IsTrue, length};
 ghost use Rattle.fare_record.specs.Limits.{IsCount};
-ghost use Rattle.fare_store.specs.Standing.{Standing, IsSound, Reads, Writes, Removes};
-ghost use Rattle.fare_store.specs.OutboxWords.{OutboxValue, IsEmptyOutbox, store_judged, stored, stated_judged, stored_statement, IsNextRow, IsNextStatement, pruned, rows_upto};
+ghost use Rattle.fare_store.specs.Standing.{Standing, IsSound, Reads, Writes, Removes, Changes};
+ghost use Rattle.fare_store.specs.Batches.{WritesFirst};
+ghost use Rattle.fare_store.specs.OutboxWords.{OutboxValue, IsEmptyOutbox, store_judged, stored, stated_judged, stored_statement, IsNextRow, IsNextStatement, pruned, rows_upto, pruned_all};
 
 use crate::{Fault, Refused, StatedFault, StoreFault};
 use fare_record::{Day, DeviceId, OwnerId, Record, Statement};
@@ -26,6 +27,14 @@ pub trait Outbox {
     /// Refused by the first case of `StoreFault` that applies.
     fn store(&mut self, row: &Record) -> Result<(), Refused<StoreFault>>
         ensures { Writes (standing self.old) (standing self.new) (store_judged (standing self.old).value row.now) (stored row.now (standing self.old).value) result };
+
+    /// Stores the first of these taps, in their order and all at once, and answers how many.
+    ///
+    /// None of them would be refused by `store`, each behind the ones before it. None is stored only where the first
+    /// one would be refused, or where there is none.
+    fn store_all(&mut self, rows: &[Record]) -> Result<usize, Fault>
+        ensures does { WritesFirst store_judged stored (standing self.old) (standing self.new) rows.now result }
+        ensures few { IfOk result (λ n. n ≤ length rows.now) };
 
     /// Stores a device's statement of a day for an owner.
     ///
@@ -54,6 +63,10 @@ pub trait Outbox {
     /// Removes the rows of an owner's lane of a device up to a lane number, and answers how many.
     fn prune(&mut self, owner: OwnerId, device: DeviceId, upto: u64) -> Result<u64, Fault>
         ensures { Removes (standing self.old) (standing self.new) (pruned owner device upto (standing self.old).value) (rows_upto upto ((standing self.old).value.rows owner device)) result };
+
+    /// Removes the rows of an owner's lanes, each of a device up to a lane number, all at once.
+    fn prune_all(&mut self, owner: OwnerId, lanes: &[(DeviceId, u64)]) -> Result<(), Fault>
+        ensures { Changes (standing self.old) (standing self.new) (pruned_all owner lanes.now (standing self.old).value) result };
 
     /// While it is live it is clean, and a stop leaves what it holds, which fits together where it is lawful; while it
     /// is clean, a stop leaves something.

@@ -6,7 +6,7 @@ use Rattle.sqlite.specs.Schema.{Schema}
 use Rattle.sqlite.specs.Effect.{Database, IsDatabase}
 use Rattle.sqlite.specs.State.{State, Survives, HasCleanDisk}
 use Rattle.fare_store.specs.declared.fault.Fault.{Fault}
-use Rattle.fare_store.specs.Standing.{Standing, Calls, Counted, Counts, Reads, Removes, fault_of}
+use Rattle.fare_store.specs.Standing.{Standing, Calls, Counted, Counts, Makes, Reads, Removes, Changes, fault_of}
 pub use Rattle.fare_store.proofs.Readings.{read_then, read_failed, says}
 use Rattle.fare_tables.specs.Asking.{IsLive, IsUp, SameRows, IsAtRest}
 use Rattle.fare_tables.specs.Tabled.{IsFit, IsLawfulIn, IsLeft, tabled, given}
@@ -192,3 +192,19 @@ remove_on {V} a b c done count r first second =
 pub remove_failed : {V : Type 0} (a b : Standing V) (P : Type 0) (done : V) (count : ℕ) (r : Result ℕ Fault) (f : Fault) → IsErrAnd r (λ q. q ≡ f) → Calls a b (Some f) ((b.value ≡ a.value) × P) (λ v. ⊥) → Removes a b done count r
 remove_failed a b P done count (Ok x) f is c = absurd is
 remove_failed {V} a b P done count (Err q) f is c = subst (λ (z : Fault). Calls a b (Some z) (b.value ≡ a.value) (λ (v : V). v ≡ done)) (sym is) (says a b (Some f) _ _ (λ v. ⊥) (λ v. v ≡ done) (λ lawful p. p.0) (λ v none. absurd none) c)
+
+-- the first of a call, and then a write that nothing refuses
+pub change_on : {V : Type 0} (a b c : Standing V) (done : V → V) (r : Result Unit Fault)
+    → Calls a b None ((b.value ≡ a.value) × Unit {0}) (λ v. ⊥) → Changes b c (done b.value) r → Changes a c (done a.value) r
+change_on {V} a b c done r first second =
+    says a c (fault_of r) _ _ (λ v. v ≡ done a.value) (λ v. v ≡ done a.value) (λ lawful p. subst (λ (v : V). Makes v c.value (done v) r) p.0 p.2) (λ v is. is)
+    (write_then a b c (Unit {0}) (Makes b.value c.value (done b.value) r) (fault_of r) (λ v. v ≡ done b.value) (λ v. v ≡ done a.value) (λ p v is. is ∙ ap done p.0) first (given_any b c _ _ (fault_of r) _ second))
+
+-- one that failed before it began
+pub change_failed : {V : Type 0} (a b : Standing V) (P : Type 0) (done : V) (r : Result Unit Fault) (f : Fault) → IsErrAnd r (λ q. q ≡ f) → Calls a b (Some f) ((b.value ≡ a.value) × P) (λ v. ⊥) → Changes a b done r
+change_failed a b P done (Ok x) f is c = absurd is
+change_failed {V} a b P done (Err q) f is c = subst (λ (z : Fault). Calls a b (Some z) (b.value ≡ a.value) (λ (v : V). v ≡ done)) (sym is) (says a b (Some f) _ _ (λ v. ⊥) (λ v. v ≡ done) (λ lawful p. p.0) (λ v none. absurd none) c)
+
+-- one of which nothing was left to do
+pub change_none : {V : Type 0} (a b : Standing V) (P : Type 0) → Calls a b None ((b.value ≡ a.value) × P) (λ v. ⊥) → Changes a b a.value (Ok (tt {0}))
+change_none {V} a b P c = says a b None _ _ (λ v. ⊥) (λ (v : V). v ≡ a.value) (λ lawful p. p.0) (λ v none. absurd none) c

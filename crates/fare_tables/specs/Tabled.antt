@@ -54,8 +54,3 @@ left_now schema Fits Alone s alone lawful trees is =
 -- a store of which something more is known while it is lawful
 abbrev pub given : {V : Type 0} → Type 0 → Standing V → Standing V
 given fact s = record s { lawful = s.lawful × fact }
-
--- done, or failed, and then nothing changes
-abbrev pub Makes : {V A E : Type 0} → V → V → V → Result A E → Type 0
-Makes old new done (Ok answer) = new ≡ done
-Makes old new done (Err e) = new ≡ old

@@ -57,6 +57,13 @@ impl Ledger for PlainLedger {
         }
     }
 
+    fn take_all(&mut self, rows: &[Record]) -> Result<usize, Fault> {
+        match self.take_each(rows) {
+            Ok(count) => Ok(count),
+            Err(_) => Err(Fault::Memory),
+        }
+    }
+
     fn state(&mut self, statement: &Statement) -> Result<(), Refused<StatementFault>> {
         let mine = self.is_mine(statement.owner(), statement.device());
         let held = self.stated_of(statement.device(), statement.day());

@@ -1,12 +1,14 @@
-ghost use Rattle.std.specs.Prelude.{◌≡◌, ◌<◌, ◌+◌, ℕ, nat_eq, ◌∷◌, ◌++◌, [], OnOk, OnErr, IsTrue, IfOk, IfSome, IsSome, is_some, length, slice_get};
+ghost use Rattle.std.specs.Prelude.{◌≡◌, ◌<◌, ◌≤◌, ◌+◌, ℕ, nat_eq, ◌∷◌, ◌++◌, [], OnOk, OnErr, IsTrue, IfOk, IfSome, IsSome, is_some, length, slice_get};
 ghost use Rattle.std.specs.HashMap.{get};
 ghost use Rattle.std.specs.Vec.{vec_len, vec_capacity};
 ghost use Rattle.fare_store.specs.Tables.{put};
-ghost use Rattle.fare_store.specs.LedgerWords.{took, AreTapsBetween};
+ghost use Rattle.fare_store.specs.Batches.{DoesFirst};
+ghost use Rattle.fare_store.specs.LedgerWords.{take_judged, took, AreTapsBetween};
 ghost use Rattle.fare_store.specs.TapPlaces.{items_of, marks_of, rows_at};
 ghost use Rattle.fare_store.specs.PlainLedgerWords.{plain_ledger};
 
 use super::{Mark, PlainLedger};
+use fare_owner::{TapFault, judge_tap};
 use fare_record::{Day, DeviceId, Record};
 use std::alloc::{AllocError, Global};
 use std::collections::HashMap;
@@ -30,6 +32,41 @@ impl PlainLedger {
             unreachable!()
         };
         Ok(())
+    }
+
+    // Why a tap isn't taken, if it isn't.
+    fn judge(&self, row: &Record) -> Result<(), TapFault>
+        ensures judged { result ≡ take_judged (plain_ledger self.now) row.now }
+        ensures known { OnOk result (IsTrue ((plain_ledger self.now).knows row.now.device)) }
+        ensures next { OnOk result (row.now.lane ≡ length ((plain_ledger self.now).taken row.now.device) + 1) }
+    {
+        let (device, day) = (row.device(), row.tap().day());
+        let (mine, held) = self.lane_of(row.owner(), device);
+        let closed = self.is_closed(device, day);
+        let retired = self.is_retired(device);
+        judge_tap(mine, held, closed, row.lane(), retired)
+    }
+
+    // Takes the first of these taps, and answers how many. Want of memory ends them, and is answered where there are
+    // none; then nothing changes.
+    pub(super) fn take_each(&mut self, rows: &[Record]) -> Result<usize, AllocError>
+        ensures ok { IfOk result (DoesFirst take_judged took (plain_ledger self.old) (plain_ledger self.new) rows.now) }
+        ensures err { OnErr result (plain_ledger self.new ≡ plain_ledger self.old) }
+        ensures few { IfOk result (λ n. n ≤ length rows.now) }
+    {
+        for place in 0..rows.len() {
+            let row = &rows[place];
+            if self.judge(row).is_err() {
+                return Ok(place);
+            }
+            if let Err(error) = self.write_tap(row) {
+                if place == 0 {
+                    return Err(error);
+                }
+                return Ok(place);
+            }
+        }
+        Ok(rows.len())
     }
 
     // The taps of the days from one to another, in their order.

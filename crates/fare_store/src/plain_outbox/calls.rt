@@ -29,6 +29,13 @@ impl Outbox for PlainOutbox {
         }
     }
 
+    fn store_all(&mut self, rows: &[Record]) -> Result<usize, Fault> {
+        match self.push_all(rows) {
+            Ok(count) => Ok(count),
+            Err(_) => Err(Fault::Memory),
+        }
+    }
+
     fn store_statement(&mut self, statement: &Statement) -> Result<(), Refused<StatedFault>> {
         match self.judge_statement(statement) {
             Err(why) => Err(Refused::Because(why)),
@@ -59,5 +66,10 @@ impl Outbox for PlainOutbox {
 
     fn prune(&mut self, owner: OwnerId, device: DeviceId, upto: u64) -> Result<u64, Fault> {
         Ok(self.drop_upto(owner, device, upto))
+    }
+
+    fn prune_all(&mut self, owner: OwnerId, lanes: &[(DeviceId, u64)]) -> Result<(), Fault> {
+        self.drop_all(owner, lanes);
+        Ok(())
     }
 }

@@ -1,6 +1,7 @@
-ghost use Rattle.std.specs.Prelude.{◌≡◌, ◌<◌, ◌↔◌, None, OnOk, OnErr, IsTrue, is_some};
+ghost use Rattle.std.specs.Prelude.{◌≡◌, ◌<◌, ◌↔◌, None, OnOk, OnErr, IfOk, IsTrue, is_some};
 ghost use Rattle.fare_record.specs.Limits.{IsCount};
-ghost use Rattle.fare_store.specs.OutboxWords.{IsEmptyOutbox, store_judged, stored, stated_judged, stored_statement, IsNextRow, IsNextStatement, pruned, rows_upto};
+ghost use Rattle.fare_store.specs.Batches.{DoesFirst};
+ghost use Rattle.fare_store.specs.OutboxWords.{IsEmptyOutbox, store_judged, stored, stated_judged, stored_statement, IsNextRow, IsNextStatement, pruned, rows_upto, pruned_all};
 ghost use Rattle.fare_store.specs.PlainOutboxWords.{plain_outbox};
 
 use super::PlainOutbox;
@@ -95,6 +96,27 @@ impl PlainOutbox {
         Ok(())
     }
 
+    // Holds the first of these rows, and answers how many. Want of memory ends them, and is answered where there are
+    // none; then nothing changes.
+    pub(super) fn push_all(&mut self, rows: &[Record]) -> Result<usize, AllocError>
+        ensures ok { IfOk result (DoesFirst store_judged stored (plain_outbox self.old) (plain_outbox self.new) rows.now) }
+        ensures err { OnErr result (plain_outbox self.new ≡ plain_outbox self.old) }
+    {
+        for place in 0..rows.len() {
+            let row = &rows[place];
+            if self.judge(row).is_err() {
+                return Ok(place);
+            }
+            if let Err(error) = self.push(row) {
+                if place == 0 {
+                    return Err(error);
+                }
+                return Ok(place);
+            }
+        }
+        Ok(rows.len())
+    }
+
     // Why a statement isn't stored, if it isn't.
     pub(super) fn judge_statement(&self, statement: &Statement) -> Result<(), StatedFault>
         ensures { result ≡ stated_judged (plain_outbox self.now) statement.now }
@@ -152,5 +174,14 @@ impl PlainOutbox {
         let removed = prune_lane(&mut self.lanes, (owner, device), upto);
         self.row_count = self.row_count.saturating_sub(removed);
         removed as u64
+    }
+    // The same for several lanes of an owner.
+    pub(super) fn drop_all(&mut self, owner: OwnerId, lanes: &[(DeviceId, u64)])
+        ensures { plain_outbox self.new ≡ pruned_all owner lanes.now (plain_outbox self.old) }
+    {
+        for place in 0..lanes.len() {
+            let lane = lanes[place];
+            self.drop_upto(owner, lane.0, lane.1);
+        }
     }
 }

@@ -1,0 +1,6 @@
+use Rattle.std.proofs.Common.{◌≡◌, drop}
+use Rattle.fare_outbox.specs.Batches.{any_before}
+use Rattle.fare_outbox.proofs.batching.any_before.Given as goal
+
+abbrev pub invariant-loop-place : goal.invariant-loop-place
+invariant-loop-place l = any_before l.other (drop l.place l.rows) ≡ any_before l.other l.rows
