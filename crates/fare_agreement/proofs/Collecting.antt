@@ -1,5 +1,5 @@
 -- What the writer stores keeps agreement.
-use Rattle.std.proofs.Common.{◌≡◌, ℕ, ◌+◌, ◌-◌, ◌≤◌, List, [], ◌∷◌, ◌++◌, take, Some, None, Bool, true, false, refl, sym, ap, ◌∙◌, subst, arith, inl, inr}
+use Rattle.std.proofs.Common.{◌≡◌, ℕ, ◌+◌, ◌-◌, ◌≤◌, List, [], ◌∷◌, ◌++◌, take, zero, suc, Some, None, Bool, true, false, refl, sym, ap, ◌∙◌, subst, arith, inl, inr}
 use Rattle.std.specs.Prelude.{slice_get, Option, ◌==◌, if◌then◌else◌, is_some}
 use Rattle.std.specs.List.{AllByRecursion}
 use Rattle.fare_record.specs.Values.{RecordValue, StatementValue}
@@ -14,8 +14,8 @@ use Rattle.fare_store.specs.OutboxWords.{OutboxValue, stored, stored_statement}
 use Rattle.fare_store.specs.LedgerWords.{LedgerValue, is_closed}
 use Rattle.fare_world.specs.Knowing.{knows_owner}
 use Rattle.fare_world.specs.Shown.{IsAt}
-use Rattle.fare_history.specs.Serving.{in_hand}
-use Rattle.fare_history.specs.Gathering.{links_of, CountsFrom, is_new, done_by, storing, IsHandled, IsAnswerFrom, Entry, items_of, answers_of, storing_all, AreStored, stored_hand}
+use Rattle.fare_history.specs.Serving.{in_hand, tried_in}
+use Rattle.fare_history.specs.Gathering.{links_of, CountsFrom, is_new, done_by, storing, IsHandled, IsAnswerFrom, Entry, items_of, answers_of, storing_all, AreStored, AreNew, unanswered, HasFirst}
 use Rattle.fare_history.specs.Plainly.{IsCovered}
 use Rattle.fare_history.specs.Stores.{StoresValue}
 use Rattle.fare_store.proofs.Entries.{if_all, put_all, put_here, put3_here, is_one, is_self, other_way}
@@ -170,10 +170,18 @@ module _ (sc : SchemeValue) (lists : ℕ → List RecordValue) (all : AreNumbere
   item_stored x (item.Stated v) is counted (inr again) =
       ap (λ (y : OutboxValue). y.stated v.owner v.device v.day) (stored_old x (item.Stated v) (repeated_is_old x (item.Stated v) again)) ∙ statement_again x v again
 
-  -- what is in the hand, stored or not
-  pub hand_keeps : (x : OutboxValue) (hand : Option Item) (is : List Item) → AllByRecursion (IsOf lists) (in_hand hand ++ is) → GoOn x (in_hand hand ++ is) → Agrees sc lists (record { outbox = x; ledgers = ls }) → Keeps x (storing_all x (stored_hand hand))
-  hand_keeps x None is of counted agrees = record { agrees = agrees; grew = outbox_self x }
-  hand_keeps x (Some i) is of counted agrees = item_keeps x i is of.0 counted agrees
+  -- the first of what is in the hand and behind it
+  first_keep : (x : OutboxValue) (is : List Item) (n : ℕ) → AllByRecursion (IsOf lists) is → GoOn x is → Agrees sc lists (with_outbox x) → AreNew x (take n is) → Keeps x (storing_all x (unanswered (take n is)))
+  first_keep x is zero of counted agrees new = record { agrees = agrees; grew = outbox_self x }
+  first_keep x [] (suc n) of counted agrees new = record { agrees = agrees; grew = outbox_self x }
+  first_keep x (i ∷ is) (suc n) of counted agrees new =
+      let one = item_keeps x i is of.0 counted agrees in
+      let more = first_keep (storing x i) is n of.1 (links_next x i is counted (inl new.0)) one.agrees new.1 in
+      record { agrees = more.agrees; grew = outbox_trans x (storing x i) (storing_all (storing x i) (unanswered (take n is))) one.grew more.grew }
+
+  pub tried_keep : (x y : OutboxValue) (hand : Option Item) (is : List Item) → AllByRecursion (IsOf lists) (in_hand hand ++ is) → GoOn x (in_hand hand ++ is) → Agrees sc lists (record { outbox = x; ledgers = ls }) → HasFirst x (tried_in hand is) y → Keeps x y
+  tried_keep x y None is of counted agrees first = subst (Keeps x) (sym first.value) (first_keep x [] first.count tt (λ d. tt) agrees first.new)
+  tried_keep x y (Some i) is of counted agrees first = subst (Keeps x) (sym first.value) (first_keep x (i ∷ is) first.count of counted agrees first.new)
 
   -- ALL ITEMS
   pub record Gathers (x : OutboxValue) (es : List Entry) : Type 0 where

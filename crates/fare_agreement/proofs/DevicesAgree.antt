@@ -17,7 +17,6 @@ use Rattle.fare_world.specs.Shown.{IsAt, IsArrivedOf, row_at, count_of}
 use Rattle.fare_world.specs.System.{Arrived, Tap_of, Statement_of, System, numbered_for, arrived_of}
 use Rattle.fare_side.specs.OpenDays.{is_closed}
 use Rattle.fare_world.proofs.KeptParts.{took_numbered}
-use Rattle.fare_world.proofs.Lanes.{Runs-le}
 use Rattle.fare_history.specs.Serving.{in_hand}
 use Rattle.fare_history.specs.Gathering.{items_of}
 use Rattle.fare_history.specs.Stores.{StoresValue, stores_after, stores_after_all}

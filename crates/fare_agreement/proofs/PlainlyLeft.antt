@@ -1,22 +1,22 @@
 -- What a stop in a session leaves, in plain sentences.
-use Rattle.std.proofs.Common.{◌≡◌, ℕ, List, [], ◌∷◌, ◌++◌, None, true, false, sym, ap, ◌∙◌, subst, inl, inr}
-use Rattle.std.specs.Prelude.{◌==◌, ◌||◌, ◌⊎◌, if◌then◌else◌}
+use Rattle.std.proofs.Common.{◌≡◌, ℕ, List, [], ◌++◌, Option, None, Some, zero, suc, take, true, false, refl, sym, ap, ◌∙◌, subst}
+use Rattle.std.specs.Prelude.{◌==◌, ◌||◌, if◌then◌else◌}
 use Rattle.std.specs.List.{list_any}
-use Rattle.std.proofs.lemmas.List.{append-nil}
 use Rattle.std.proofs.lemmas.List.Folds.{list_any-append}
+use Rattle.fare_record.specs.declared.item.Item.{Item}
 use Rattle.fare_scheme.specs.Values.{SchemeValue}
 use Rattle.fare_store.specs.Tables.{put}
 use Rattle.fare_store.specs.OutboxWords.{OutboxValue}
 use Rattle.fare_store.specs.LedgerWords.{LedgerValue}
-use Rattle.fare_history.specs.Serving.{given_all, pruned_to_all, in_hand, Service, IsService}
-use Rattle.fare_history.specs.Gathering.{Gathering, storing_all, stored_hand, IsGathering}
+use Rattle.fare_history.specs.Serving.{given_all, pruned_to_all, tried_in, taken_behind, Service, IsService}
+use Rattle.fare_history.specs.Gathering.{Gathering, storing_all, unanswered, HasFirst, IsGathering}
 use Rattle.fare_history.specs.Plainly.{ServesPlainly, IsFinished, IsWholeService, GathersPlainly}
-use Rattle.fare_history.specs.Stores.{StoresValue, Collects, Serves_owner, stores_after}
-use Rattle.fare_history.proofs.Committed.{committed_is}
+use Rattle.fare_history.specs.Stores.{StoresValue, Collects, Serves_owner}
+use Rattle.fare_history.proofs.Committed.{first_taken_is}
 use Rattle.fare_store.proofs.Entries.{put_here}
 use Rattle.fare_history.proofs.GatheredPlainly.{gathers_plainly}
 use Rattle.fare_history.proofs.ServedPlainly.{serves_plainly, finished_is_whole, all_pruned, upto_stays, stated_stays, stated_count_stays, each_pruned}
-use Rattle.fare_agreement.specs.Stopping.{IsMaybeCommitted, pruned_too, IsLeftBy}
+use Rattle.fare_agreement.specs.Stopping.{IsMaybeCommitted, IsLeftBy}
 
 -- A SERVICE, AND THE DEVICES OF ITS LANES
 -- a session that a stop ended, which took what it took, or also what was in its hand, and pruned these devices' lanes
@@ -29,32 +29,29 @@ pub record IsServedTo (h k : StoresValue) (owner : ℕ) (v : Service) : Type 0 w
   pub ledgers : k.ledgers ≡ put h.ledgers owner (given_all (h.ledgers owner) w.taken)
 
 same_lanes : (v w : Service) → IsMaybeCommitted v w → w.pruned ≡ v.pruned
-same_lanes v w (inl same) = ap (λ (u : Service). u.pruned) same
-same_lanes v w (inr same) = ap (λ (u : Service). u.pruned) same
+same_lanes v w some = ap (λ (u : Service). u.pruned) some.1 ∙ by v.hand some.0
+  where
+    by : (hand : Option Item) (n : ℕ) → (taken_behind n hand v).pruned ≡ v.pruned
+    by None n = refl
+    by (Some i) zero = refl
+    by (Some i) (suc n) = refl
 
 served_to : (h k : StoresValue) (o : ℕ) (v : Service) → IsLeftBy h (Serves_owner o v) k → IsServedTo h k o v
-served_to h k o v left = by left.2
-  where
-    w : Service
-    w = left.0
-
-    among : (d : ℕ) → list_any (λ j. j == d) v.pruned ≡ true → list_any (λ j. j == d) w.pruned ≡ true
-    among d is = ap (list_any (λ j. j == d)) (same_lanes v w left.1) ∙ is
-
-    by : (k ≡ stores_after h (Serves_owner o w)) ⊎ ((device : ℕ) × (k ≡ stores_after h (Serves_owner o (pruned_too w device)))) → IsServedTo h k o v
-    by (inl e) = record { w = w; items = left.1; devices = w.pruned; each = among; outbox = ap (λ (m : StoresValue). m.outbox) e; ledgers = ap (λ (m : StoresValue). m.ledgers) e }
-    by (inr e) = record {
+served_to h k o v left =
+    let w = left.0 in
+    let more = left.2.0 in
+    let e = left.2.1 in
+    record {
       w = w;
       items = left.1;
-      devices = w.pruned ++ e.0 ∷ [];
-      each = λ d is. list_any-append (λ j. j == d) w.pruned (e.0 ∷ []) ∙ ap (λ b. b || list_any (λ j. j == d) (e.0 ∷ [])) (among d is);
-      outbox = ap (λ (m : StoresValue). m.outbox) e.1;
-      ledgers = ap (λ (m : StoresValue). m.ledgers) e.1;
+      devices = w.pruned ++ more;
+      each = λ d is. list_any-append (λ j. j == d) w.pruned more ∙ ap (λ b. b || list_any (λ j. j == d) more) (ap (list_any (λ j. j == d)) (same_lanes v w left.1) ∙ is);
+      outbox = ap (λ (m : StoresValue). m.outbox) e;
+      ledgers = ap (λ (m : StoresValue). m.ledgers) e;
     }
 
 maybe_service : (sc : SchemeValue) (o : ℕ) (x : OutboxValue) (l : LedgerValue) (v w : Service) → IsService sc o x l v → IsMaybeCommitted v w → IsService sc o x l w
-maybe_service sc o x l v w is (inl same) = subst (IsService sc o x l) (sym same) is
-maybe_service sc o x l v w is (inr same) = subst (IsService sc o x l) (sym same) (committed_is sc o x l v is)
+maybe_service sc o x l v w is some = subst (IsService sc o x l) (sym some.1) (first_taken_is sc o x l v some.0 is)
 
 -- the plain sentences, whatever the devices are
 plain_with : (sc : SchemeValue) (o : ℕ) (x : OutboxValue) (l : LedgerValue) (w : Service) (ds : List ℕ) → IsService sc o x l w → ServesPlainly o x (pruned_to_all x o (given_all l w.taken) ds) l (given_all l w.taken)
@@ -87,8 +84,7 @@ served_left sc h k o v is left =
 
 -- nothing was in the hand
 same_taken : (v w : Service) → v.hand ≡ None → IsMaybeCommitted v w → w.taken ≡ v.taken
-same_taken v w none (inl same) = ap (λ (u : Service). u.taken) same
-same_taken v w none (inr same) = ap (λ (u : Service). u.taken) same ∙ ap (λ o. v.taken ++ in_hand o) none ∙ append-nil v.taken
+same_taken v w none some = ap (λ (u : Service). u.taken) (some.1 ∙ ap (λ hand. taken_behind some.0 hand v) none)
 
 pub whole_left : (sc : SchemeValue) (h k : StoresValue) (o : ℕ) (v : Service) → IsService sc o h.outbox (h.ledgers o) v → IsFinished sc o h.outbox (h.ledgers o) v → IsLeftBy h (Serves_owner o v) k → IsWholeService sc o h.outbox k.outbox (h.ledgers o) (k.ledgers o)
 whole_left sc h k o v is finished left =
@@ -118,12 +114,13 @@ others_left h k o p v other left =
 
 -- THE STATIONS AND THE WRITER
 pub gathered_left : (sc : SchemeValue) (h k : StoresValue) (g : Gathering) → IsGathering sc h.outbox g → g.hand ≡ None → IsLeftBy h (Collects g) k → GathersPlainly sc h.outbox k.outbox g × (k.ledgers ≡ h.ledgers)
-gathered_left sc h k g is none left = (subst (λ y. GathersPlainly sc h.outbox y g) (sym (outbox left)) (gathers_plainly sc h.outbox g is), ledgers left)
+gathered_left sc h k g is none left = (subst (λ y. GathersPlainly sc h.outbox y g) (sym outbox) (gathers_plainly sc h.outbox g is), left.1)
   where
-    outbox : IsLeftBy h (Collects g) k → k.outbox ≡ storing_all h.outbox g.entries
-    outbox (inl e) = ap (λ (m : StoresValue). m.outbox) e
-    outbox (inr e) = ap (λ (m : StoresValue). m.outbox) e ∙ ap (λ o. storing_all h.outbox (g.entries ++ stored_hand o)) none ∙ ap (storing_all h.outbox) (append-nil g.entries)
+    take_none : (n : ℕ) → take {A = Item} n [] ≡ []
+    take_none zero = refl
+    take_none (suc n) = refl
 
-    ledgers : IsLeftBy h (Collects g) k → k.ledgers ≡ h.ledgers
-    ledgers (inl e) = ap (λ (m : StoresValue). m.ledgers) e
-    ledgers (inr e) = ap (λ (m : StoresValue). m.ledgers) e
+    outbox : k.outbox ≡ storing_all h.outbox g.entries
+    outbox =
+        let first = subst (λ o. HasFirst (storing_all h.outbox g.entries) (tried_in o g.inbox) k.outbox) none left.0 in
+        first.value ∙ ap (λ l. storing_all (storing_all h.outbox g.entries) (unanswered l)) (take_none first.count)

@@ -1,20 +1,19 @@
 -- Sessions, whole or stopped, keep agreement.
-use Rattle.std.proofs.Common.{◌≡◌, ℕ, ◌+◌, List, [], ◌∷◌, ◌++◌, true, refl, sym, ap, ◌∙◌, subst, arith, append_assoc, inl, inr}
-use Rattle.std.specs.Prelude.{Option, ◌==◌, ◌⊎◌}
+use Rattle.std.proofs.Common.{◌≡◌, ℕ, ◌+◌, List, [], ◌∷◌, ◌++◌, take, drop, zero, suc, None, Some, true, refl, sym, ap, ◌∙◌, subst, arith, append_assoc, inl, inr}
+use Rattle.std.specs.Prelude.{Option, ◌==◌}
 use Rattle.std.specs.List.{AllByRecursion}
-use Rattle.std.proofs.lemmas.List.{append-nil}
+use Rattle.std.proofs.lemmas.List.{append-nil, take-append-drop}
 use Rattle.fare_record.specs.Values.{RecordValue}
 use Rattle.fare_record.specs.Lanes.{day_count}
 use Rattle.fare_record.specs.declared.item.Item.{Item}
 use Rattle.fare_scheme.specs.Values.{SchemeValue}
 use Rattle.fare_store.specs.Tables.{put}
-use Rattle.fare_store.specs.OutboxWords.{OutboxValue}
 use Rattle.fare_store.specs.LedgerWords.{LedgerValue, is_closed, with_close, with_retired}
 use Rattle.fare_world.specs.Knowing.{knows_owner}
 use Rattle.fare_side.specs.OpenDays as open_days
 use Rattle.fare_world.proofs.Lanes.{closed_later, closed_within}
-use Rattle.fare_history.specs.Serving.{behind_ledger, AreNextItems, given_all, pruned_to_all, in_hand, Service, IsService}
-use Rattle.fare_history.specs.Gathering.{Entry, Gathering, items_of, accepted_by, answers_of, all_answers, storing, storing_all, stored_hand, hand_stored, IsAnswerFrom, IsGathering}
+use Rattle.fare_history.specs.Serving.{behind_ledger, AreNextItems, given_all, pruned_to_all, in_hand, taken_behind, Service, IsService}
+use Rattle.fare_history.specs.Gathering.{Gathering, items_of, accepted_by, answers_of, all_answers, storing_all, IsAnswerFrom, IsGathering}
 use Rattle.fare_history.specs.Plainly.{IsCovered}
 use Rattle.fare_history.specs.Stores.{StoresValue, Session, Collects, Serves_owner, Closes_day, Retires_lane, MayClose, stores_after, stores_after_all}
 use Rattle.fare_store.proofs.Entries.{put_all, put_here, is_one}
@@ -23,8 +22,8 @@ use Rattle.fare_history.proofs.Growing.{items_first}
 use Rattle.fare_history.proofs.ServedPlainly.{upto_stays, stated_stays}
 use Rattle.fare_agreement.specs.Agreeing.{AreNumberedLists, IsOf, lane_agrees, Agrees}
 use Rattle.fare_agreement.specs.Growing.{OutboxGrew, LedgerGrew, StoresGrew}
-use Rattle.fare_agreement.specs.Stopping.{IsSessionOf, AreSessionsOf, IsBegunOf, IsMaybeCommitted, pruned_too, IsLeftBy, AreLeft, IsStored, IsTaken, AreKept, AreAnswered}
-use Rattle.fare_agreement.proofs.Collecting.{outbox_self, outbox_trans, covered_still, stored_still, answer_covered, Gathers, entries_gather, links_left, hand_keeps}
+use Rattle.fare_agreement.specs.Stopping.{IsSessionOf, AreSessionsOf, IsBegunOf, IsMaybeCommitted, IsLeftBy, AreLeft, IsStored, IsTaken, AreKept, AreAnswered}
+use Rattle.fare_agreement.proofs.Collecting.{outbox_self, outbox_trans, covered_still, stored_still, answer_covered, Gathers, entries_gather, links_left, tried_keep}
 use Rattle.fare_agreement.proofs.LaneSteps.{close_right}
 use Rattle.fare_agreement.proofs.Takes.{ledger_self, ledger_trans, taken_still, TakesAll, items_taken, all_pruned, closes, close_grows, retire_agrees, retire_grows}
 
@@ -49,11 +48,6 @@ kept_still sc h k grew (Closes_day o d day) is = closed_still (h.ledgers o) (k.l
         ap (λ n. open_days.is_closed n (m.closed d) day) grew.start ∙ late
 kept_still sc h k grew (Retires_lane o d) is = (grew.ledgers o).retired d is
 
--- THE ITEM IN THE HAND
-storing_append : (x : OutboxValue) (es fs : List Entry) → storing_all x (es ++ fs) ≡ storing_all (storing_all x es) fs
-storing_append x [] fs = refl
-storing_append x (e ∷ es) fs = storing_append (storing x e.item) es fs
-
 module _ (sc : SchemeValue) (lists : ℕ → List RecordValue) (all : AreNumberedLists sc lists) where
   -- what a session, or what is left of it, makes of the stores
   pub record Keeps (h k : StoresValue) : Type 0 where
@@ -68,11 +62,13 @@ module _ (sc : SchemeValue) (lists : ℕ → List RecordValue) (all : AreNumbere
     collects_keep : Keeps h (stores_after h (Collects g))
     collects_keep = record { agrees = collected.agrees; grew = record { outbox = collected.grew; ledgers = λ o. ledger_self (h.ledgers o) } }
 
-    -- also the item in the hand was stored
-    stored_keep : Keeps (stores_after h (Collects g)) (stores_after h (Collects (hand_stored g)))
-    stored_keep = subst (λ y. Keeps (stores_after h (Collects g)) (record h { outbox = y })) (sym (storing_append h.outbox g.entries (stored_hand g.hand)))
-        (let hand = hand_keeps sc lists all h.ledgers (storing_all h.outbox g.entries) g.hand g.inbox (all-right (IsOf lists) (items_of g.entries) (in_hand g.hand ++ g.inbox) of) (links_left sc h.outbox g.entries (in_hand g.hand ++ g.inbox) told.counted told.stored) collected.agrees in
-        record { agrees = hand.agrees; grew = record { outbox = hand.grew; ledgers = λ o. ledger_self (h.ledgers o) } })
+    -- also the first of what is in the hand and behind it was stored
+    tried_stored : (k : StoresValue) → IsLeftBy h (Collects g) k → Keeps (stores_after h (Collects g)) k
+    tried_stored k left =
+        let y = storing_all h.outbox g.entries in
+        let more = tried_keep sc lists all h.ledgers y k.outbox g.hand g.inbox (all-right (IsOf lists) (items_of g.entries) (in_hand g.hand ++ g.inbox) of) (links_left sc h.outbox g.entries (in_hand g.hand ++ g.inbox) told.counted told.stored) collected.agrees left.0 in
+        subst (λ (m : StoresValue). Keeps (stores_after h (Collects g)) m) (λ i. record { outbox = k.outbox; ledgers = sym left.1 i })
+        (record { agrees = more.agrees; grew = record { outbox = more.grew; ledgers = λ o. ledger_self (h.ledgers o) } })
 
     -- what was answered is in the outbox
     collects_kept : AreKept sc (stores_after h (Collects g)) (Collects g)
@@ -209,19 +205,23 @@ module _ (sc : SchemeValue) (lists : ℕ → List RecordValue) (all : AreNumbere
       (served_safe h o v [] devices known is (subst (AreNextItems o h.outbox (behind_ledger sc (h.ledgers o))) (sym (append-nil v.taken)) (items_first o h.outbox (behind_ledger sc (h.ledgers o)) v.taken (in_hand v.hand ++ v.queue) of.items)))
 
   pub stop_safe : (h k : StoresValue) (q : Session) → Agrees sc lists h → IsBegunOf sc lists h q → IsLeftBy h q k → IsSafe h k q
-  stop_safe h k (Collects g) is of (inl e) = subst (λ m. IsSafe h m (Collects g)) (sym e) (whole_safe h (Collects g) is of)
-  stop_safe h k (Collects g) is of (inr e) = subst (λ m. IsSafe h m (Collects g)) (sym e) (more_safe h (stores_after h (Collects g)) (stores_after h (Collects (hand_stored g))) (Collects g) (whole_safe h (Collects g) is of) (stored_keep h g is of.0 of.1))
-  stop_safe h k (Serves_owner o v) is of left = subst (λ m. IsSafe h m (Serves_owner o v)) (sym (pruned_some left.0 left.2).1) (taken_some left.0 left.1 (pruned_some left.0 left.2).0)
+  stop_safe h k (Collects g) is of left = more_safe h (stores_after h (Collects g)) k (Collects g) (whole_safe h (Collects g) is of) (tried_stored h g is of.0 of.1 k left)
+  stop_safe h k (Serves_owner o v) is of left = subst (λ m. IsSafe h m (Serves_owner o v)) (sym left.2.1) (taken_some left.0 left.1 (left.0.pruned ++ left.2.0))
     where
-      -- the same items, and some devices
-      pruned_some : (w : Service) → (k ≡ stores_after h (Serves_owner o w)) ⊎ ((device : ℕ) × (k ≡ stores_after h (Serves_owner o (pruned_too w device)))) → (ds : List ℕ) × (k ≡ stores_after h (Serves_owner o (record w { pruned = ds })))
-      pruned_some w (inl e) = (w.pruned, e)
-      pruned_some w (inr e) = (w.pruned ++ e.0 ∷ [], e.1)
+      all_taken : List Item → Type 0
+      all_taken = AreNextItems o h.outbox (behind_ledger sc (h.ledgers o))
+
+      -- the first of what is in the hand and behind it was taken
+      first_some : (hand : Option Item) (n : ℕ) → v.hand ≡ hand → (ds : List ℕ) → IsSafe h (stores_after h (Serves_owner o (record (taken_behind n hand v) { pruned = ds }))) (Serves_owner o v)
+      first_some None n e ds = pruned_safe h o v ds of.0 is of.1
+      first_some (Some i) zero e ds = pruned_safe h o v ds of.0 is of.1
+      first_some (Some i) (suc n) e ds =
+          let first = i ∷ take n v.queue in
+          let put : v.taken ++ (in_hand v.hand ++ v.queue) ≡ (v.taken ++ first) ++ drop n v.queue = ap (λ a. v.taken ++ (in_hand a ++ v.queue)) e ∙ sym (append_assoc v.taken first (drop n v.queue) ∙ ap (λ q. v.taken ++ (i ∷ q)) (take-append-drop n v.queue)) in
+          served_safe h o v first ds of.0 is (items_first o h.outbox (behind_ledger sc (h.ledgers o)) (v.taken ++ first) (drop n v.queue) (subst all_taken put of.1.items))
 
       taken_some : (w : Service) → IsMaybeCommitted v w → (ds : List ℕ) → IsSafe h (stores_after h (Serves_owner o (record w { pruned = ds }))) (Serves_owner o v)
-      taken_some w (inl same) ds = subst (λ (u : Service). IsSafe h (stores_after h (Serves_owner o (record u { pruned = ds }))) (Serves_owner o v)) (sym same) (pruned_safe h o v ds of.0 is of.1)
-      taken_some w (inr same) ds = subst (λ (u : Service). IsSafe h (stores_after h (Serves_owner o (record u { pruned = ds }))) (Serves_owner o v)) (sym same)
-          (served_safe h o v (in_hand v.hand) ds of.0 is (items_first o h.outbox (behind_ledger sc (h.ledgers o)) (v.taken ++ in_hand v.hand) v.queue (subst (AreNextItems o h.outbox (behind_ledger sc (h.ledgers o))) (sym (append_assoc v.taken (in_hand v.hand) v.queue)) of.1.items)))
+      taken_some w some ds = subst (λ (u : Service). IsSafe h (stores_after h (Serves_owner o (record u { pruned = ds }))) (Serves_owner o v)) (sym some.1) (first_some v.hand some.0 refl ds)
   stop_safe h k (Closes_day o d day) is of (inl e) = subst (λ m. IsSafe h m (Closes_day o d day)) (sym e) (record { agrees = is; grew = stores_self h; kept = tt })
   stop_safe h k (Closes_day o d day) is of (inr e) = subst (λ m. IsSafe h m (Closes_day o d day)) (sym e.1) (whole_safe h (Closes_day o d day) is (of, e.0))
   stop_safe h k (Retires_lane o d) is of (inl e) = subst (λ m. IsSafe h m (Retires_lane o d)) (sym e) (record { agrees = is; grew = stores_self h; kept = tt })

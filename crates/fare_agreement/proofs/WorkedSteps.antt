@@ -1,5 +1,5 @@
 -- The worked stop: its lists are numbered, and its stores agree with them.
-use Rattle.std.proofs.Common.{◌≡◌, ℕ, zero, suc, [], ◌∷◌, Some, None, Bool, true, false, refl, sym, ap, ◌∙◌, subst, arith, inl}
+use Rattle.std.proofs.Common.{◌≡◌, ℕ, zero, suc, [], ◌∷◌, Some, None, Bool, true, false, refl, sym, ap, ◌∙◌, subst, arith}
 use Rattle.std.specs.Prelude.{slice_get, ◌==◌, is_some, if◌then◌else◌}
 use Rattle.fare_record.specs.Values.{RecordValue}
 use Rattle.fare_scheme.specs.Values.{SchemeValue}
@@ -32,7 +32,7 @@ taps_numbered device place r e = by (device == 7) refl e
     by false other at = absurd (cc)
 
 takes_left : IsLeftBy both_stored (Serves_owner 4 takes_both) (stores_after both_stored (Serves_owner 4 takes_both))
-takes_left = (takes_both, inl refl, inl refl)
+takes_left = (takes_both, (0, refl), ([], refl))
 
 module _ (sc : SchemeValue) where
   pub lists_numbered : IsOfDevice sc 7 → AreNumberedLists sc two_taps
@@ -82,7 +82,7 @@ module _ (sc : SchemeValue) where
     (
       stores_after (stores_after both_stored (Serves_owner 4 takes_both)) (Serves_owner 4 prunes_alone),
       (own, record { items = tt; known = tt; working = tt; room = omega arith; registered = (known, tt) }),
-      (prunes_alone, inl refl, inl refl),
+      (prunes_alone, (0, refl), ([], refl)),
       refl,
     ),
   )

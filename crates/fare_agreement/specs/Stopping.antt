@@ -9,8 +9,8 @@ use Rattle.fare_store.specs.OutboxWords.{OutboxValue}
 use Rattle.fare_store.specs.Tables.{put, put3}
 use Rattle.fare_store.specs.LedgerWords.{LedgerValue, is_closed}
 use Rattle.fare_world.specs.Knowing.{knows_owner}
-use Rattle.fare_history.specs.Serving.{Service, IsService, committed}
-use Rattle.fare_history.specs.Gathering.{items_of, accepted_by, all_answers, hand_stored, IsGathering}
+use Rattle.fare_history.specs.Serving.{Service, IsService, first_taken}
+use Rattle.fare_history.specs.Gathering.{items_of, accepted_by, all_answers, storing_all, tried_by, HasFirst, IsGathering}
 use Rattle.fare_history.specs.Plainly.{IsCovered}
 use Rattle.fare_history.specs.Stores.{StoresValue, MayClose, MayRetire, Session, Collects, Serves_owner, Closes_day, Retires_lane, stores_after}
 use Rattle.fare_agreement.specs.Agreeing.{IsOf}
@@ -41,18 +41,18 @@ IsBegunOf sc lists h (Serves_owner owner v) = IsSessionOf sc lists h (Serves_own
 IsBegunOf sc lists h (Closes_day owner device day) = knows_owner sc owner ≡ true
 IsBegunOf sc lists h (Retires_lane owner device) = knows_owner sc owner ≡ true
 
--- the owner's session, or the one that took also what this one has in its hand
+-- the owner's session, or one that took also what this one has in its hand, and the first of what is behind it
 abbrev pub IsMaybeCommitted : Service → Service → Type 0
-IsMaybeCommitted v w = (w ≡ v) ⊎ (w ≡ committed v)
+IsMaybeCommitted v w = (n : ℕ) × (w ≡ first_taken n v)
 
--- the owner's session that pruned one lane more
-abbrev pub pruned_too : Service → ℕ → Service
-pruned_too v device = record v { pruned = v.pruned ++ device ∷ [] }
+-- the owner's session that pruned these lanes too
+abbrev pub pruned_too : Service → List ℕ → Service
+pruned_too v devices = record v { pruned = v.pruned ++ devices }
 
--- A stop is a store call that fails together with all calls after it. It leaves what the session had made of the stores until then, or also what that call commits: the store or the take of the item in the hand, the prune of one lane more, the close, or the retire. An owner whose take failed may go on to prune.
+-- A stop is a store call that fails together with all calls after it. It leaves what the session had made of the stores until then, or also what that call commits: the store of the item in the hand, or of that and the first of those behind it, the take of the same of an owner, the prune of some lanes more, the close, or the retire. An owner whose take failed may go on to prune.
 abbrev pub IsLeftBy : StoresValue → Session → StoresValue → Type 0
-IsLeftBy h (Collects g) k = (k ≡ stores_after h (Collects g)) ⊎ (k ≡ stores_after h (Collects (hand_stored g)))
-IsLeftBy h (Serves_owner owner v) k = (w : Service) × IsMaybeCommitted v w × ((k ≡ stores_after h (Serves_owner owner w)) ⊎ ((device : ℕ) × (k ≡ stores_after h (Serves_owner owner (pruned_too w device)))))
+IsLeftBy h (Collects g) k = HasFirst (storing_all h.outbox g.entries) (tried_by g) k.outbox × (k.ledgers ≡ h.ledgers)
+IsLeftBy h (Serves_owner owner v) k = (w : Service) × IsMaybeCommitted v w × ((devices : List ℕ) × (k ≡ stores_after h (Serves_owner owner (pruned_too w devices))))
 IsLeftBy h (Closes_day owner device day) k = (k ≡ h) ⊎ (MayClose (h.ledgers owner) device day × (k ≡ stores_after h (Closes_day owner device day)))
 IsLeftBy h (Retires_lane owner device) k = (k ≡ h) ⊎ (MayRetire (h.ledgers owner) device × (k ≡ stores_after h (Retires_lane owner device)))
 

@@ -1,5 +1,5 @@
 -- What a session of the stations and the writer does: each station puts the frames that it accepts into the inbox, and the writer takes them from there, stores them in the outbox and acknowledges what the outbox has had.
-use Rattle.std.specs.Prelude.{◌≡◌, ◌⊎◌, ℕ, ◌+◌, ◌≤◌, ◌==◌, true, List, [], ◌∷◌, ◌++◌, length, filter, Option, None, Some, is_some, is_ok, Bool, if◌then◌else◌, Err}
+use Rattle.std.specs.Prelude.{◌≡◌, ◌⊎◌, ℕ, ◌+◌, ◌≤◌, ◌==◌, true, List, [], ◌∷◌, ◌++◌, length, filter, take, drop, zero, suc, Option, None, Some, is_some, is_ok, Bool, if◌then◌else◌, Err}
 use Rattle.std.specs.List.{AllByRecursion, list_all}
 use Rattle.fare_record.specs.declared.ack_item.AckItem.{AckItem}
 use Rattle.fare_record.specs.declared.ack_item.AckItem.TheVariants as ack_item
@@ -11,7 +11,7 @@ use Rattle.fare_collector.specs.Collecting.{is_id}
 use Rattle.fare_store.specs.declared.fault.StoreFault.TheVariants as store
 use Rattle.fare_store.specs.declared.fault.StatedFault.TheVariants as stated
 use Rattle.fare_store.specs.OutboxWords.{OutboxValue, stored, stored_statement, store_judged, stated_judged}
-use Rattle.fare_history.specs.Serving.{device_of, in_hand}
+use Rattle.fare_history.specs.Serving.{device_of, in_hand, tried_in}
 
 -- LINKS
 -- the links with that of the item before them, where it is a tap of the device
@@ -128,6 +128,36 @@ stored_hand (Some i) = record { item = i; answers = [] } ∷ []
 -- the session that stored the item in this one's hand, too
 abbrev pub hand_stored : Gathering → Gathering
 hand_stored g = record g { entries = g.entries ++ stored_hand g.hand; hand = None }
+
+-- A FIRST PART OF WHAT IS LEFT
+-- what a call of the outbox that failed may have had before it
+abbrev pub tried_by : Gathering → List Item
+tried_by g = tried_in g.hand g.inbox
+
+-- the outbox stores each of these, behind the ones before it
+abbrev pub AreNew : OutboxValue → List Item → Type 0
+AreNew x [] = Unit {0}
+AreNew x (i ∷ is) = (is_new x i ≡ true) × AreNew (storing x i) is
+
+-- the entries of items that were stored and not acknowledged
+abbrev pub unanswered : List Item → List Entry
+unanswered [] = []
+unanswered (i ∷ is) = record { item = i; answers = [] } ∷ unanswered is
+
+-- the outbox y is x with the first of these items, each of which it stores, behind the ones before it
+pub record HasFirst (x : OutboxValue) (is : List Item) (y : OutboxValue) : Type 0 where
+  pub count : ℕ
+  pub new : AreNew x (take count is)
+  pub value : y ≡ storing_all x (unanswered (take count is))
+
+-- the session that stored also the first n of what this one tried
+abbrev pub stored_behind : ℕ → Option Item → Gathering → Gathering
+stored_behind n None g = g
+stored_behind zero (Some i) g = g
+stored_behind (suc n) (Some i) g = record { entries = g.entries ++ unanswered (i ∷ take n g.inbox); hand = None; inbox = drop n g.inbox; last = g.last }
+
+abbrev pub first_stored : ℕ → Gathering → Gathering
+first_stored n g = stored_behind n g.hand g
 
 -- NO REFUSAL
 -- The outbox has a place for the item: the tap has its device's next link, and no row of its lane stands at its lane number or behind it; or no other count is held for the statement.

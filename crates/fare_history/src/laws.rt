@@ -1,5 +1,5 @@
 //! Laws of sessions: how the value that tells of one grows, and what it means for the stores.
-ghost use Rattle.std.specs.Prelude.{◌≡◌, ◌==◌, filter, map, ◌+◌, ℕ, List, [], ◌∷◌, ◌++◌, length, true, Some, None, IfSome, Err, is_some};
+ghost use Rattle.std.specs.Prelude.{◌≡◌, ◌==◌, filter, map, take, ◌+◌, ℕ, List, [], ◌∷◌, ◌++◌, length, true, Some, None, IfSome, Err, is_some};
 ghost use Rattle.std.specs.List.{AllByRecursion};
 ghost use Rattle.fare_record.specs.Values.{StatementValue};
 ghost use Rattle.fare_record.specs.declared.item.Item.{Item};
@@ -9,8 +9,8 @@ ghost use Rattle.fare_scheme.specs.Words.{station_of};
 ghost use Rattle.fare_owner.specs.declared.statement.StatementFault.TheVariants.{Repeated};
 ghost use Rattle.fare_store.specs.OutboxWords.{OutboxValue};
 ghost use Rattle.fare_store.specs.LedgerWords.{LedgerValue, IsOfScheme, state_judged};
-ghost use Rattle.fare_history.specs.Serving.{Cursors, device_of, AreNextItems, AreUnrefused, IsNextItem, moved_by_all, given, given_all, pruned_to_all, committed, Service, IsService};
-ghost use Rattle.fare_history.specs.Gathering.{Entry, AreStored, storing, storing_all, IsHandled, IsAnswerFrom, links_of, CountsFrom, of_station, Gathering, items_of, accepted_by, hand_stored, IsGathering};
+ghost use Rattle.fare_history.specs.Serving.{Cursors, device_of, AreNextItems, AreUnrefused, IsNextItem, moved_by_all, given, given_all, pruned_to_all, committed, first_taken, Service, IsService};
+ghost use Rattle.fare_history.specs.Gathering.{Entry, AreStored, storing, storing_all, IsHandled, IsAnswerFrom, links_of, CountsFrom, of_station, Gathering, items_of, accepted_by, hand_stored, tried_by, AreNew, first_stored, IsGathering};
 ghost use Rattle.fare_history.specs.Plainly.{ServesPlainly, IsFinished, IsWholeService, IsRefused, ShowsWhy, GathersPlainly, IsRefusedByOutbox, ShowsWhyNot};
 
 /// Where the links of each device count up in each station's part of a list, they count up in the whole list, in
@@ -26,12 +26,16 @@ pub fn each_order_of_stations_counts()
 {}
 
 /// Where a take failed and yet committed, the stores hold what they would after a session that took the item in its
-/// hand, which is a session too (`committed`); and so it is where a store failed and yet committed, as long as
-/// nothing was acknowledged after it (`stored`). A statement that the ledger refuses as repeated is one that it
+/// hand, which is a session too (`committed`), also where it took several at once: that item and the first of the
+/// queue (`taken`); and so it is where a store failed and yet committed, as long as
+/// nothing was acknowledged after it (`stored`), also where it committed several at once: the item in the hand
+/// and the first of the inbox (`first`). A statement that the ledger refuses as repeated is one that it
 /// holds: to take it would change nothing (`repeated`).
 pub fn a_committed_hand_is_a_session()
     ensures committed { (sc : SchemeValue) (owner : ℕ) (x : OutboxValue) (l : LedgerValue) (v : Service) → IsService sc owner x l v → IsService sc owner x l (committed v) }
+    ensures taken { (sc : SchemeValue) (owner : ℕ) (x : OutboxValue) (l : LedgerValue) (v : Service) (n : ℕ) → IsService sc owner x l v → IsService sc owner x l (first_taken n v) }
     ensures stored { (sc : SchemeValue) (x : OutboxValue) (g : Gathering) → IsGathering sc x g → g.last ≡ [] → IfSome g.hand (IsHandled (storing_all x g.entries)) → IsGathering sc x (hand_stored g) }
+    ensures first { (sc : SchemeValue) (x : OutboxValue) (g : Gathering) (n : ℕ) → IsGathering sc x g → g.last ≡ [] → AreNew (storing_all x g.entries) (take n (tried_by g)) → IsGathering sc x (first_stored n g) }
     ensures repeated { (l : LedgerValue) (v : StatementValue) → state_judged l v ≡ Err Repeated → given l (item.Stated v) ≡ l }
 {}
 

@@ -1,4 +1,4 @@
-use Rattle.std.proofs.Common.{refl, inl}
+use Rattle.std.proofs.Common.{refl, []}
 use Rattle.fare_agreement.specs.WorkedStop.{takes_both}
 use Rattle.fare_agreement.proofs.WorkedSteps.{lists_numbered, opening_agrees, takes_begun, taken_agrees, goes_on, too_soon}
 use Rattle.fare_agreement.proofs.worked.a_stop_between_take_and_prune.Goals as goal
@@ -13,7 +13,7 @@ pub returns-clause-begun : goal.returns-clause-begun
 returns-clause-begun c = takes_begun
 
 pub returns-clause-left : goal.returns-clause-left
-returns-clause-left c = (takes_both, inl refl, inl refl)
+returns-clause-left c = (takes_both, (0, refl), ([], refl))
 
 pub returns-clause-taken : goal.returns-clause-taken
 returns-clause-taken c = refl
