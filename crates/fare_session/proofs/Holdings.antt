@@ -17,7 +17,7 @@ use Rattle.fare_store.specs.LedgerWords.{LedgerValue, IsOfScheme}
 use Rattle.fare_session.specs.declared.fault.SessionFault.{SessionFault}
 use Rattle.fare_session.specs.declared.fault.SessionFault.TheVariants.{Refused, Memory, Store}
 use Rattle.fare_session.specs.declared.report.OwnerReport.{OwnerReport}
-use Rattle.fare_history.specs.Serving.{Cursors, behind_ledger, moved_by_all, device_of, AreNextItems, AreUnrefused, given_all, in_hand, Service, put_by, pruned_to_all, IsOfDevice, IsWorking, lane_room, IsService}
+use Rattle.fare_history.specs.Serving.{Cursors, behind_ledger, moved_by_all, device_of, AreNextItems, AreUnrefused, given_all, in_hand, tried_in, Service, put_by, pruned_to_all, IsOfDevice, IsWorking, lane_room, IsService}
 use Rattle.fare_session.specs.Taking.{added_by, IsImage, IsRefusedHand}
 use Rattle.fare_session.specs.Stores.{IsOwners, HasStood, Leaves, Stays}
 use Rattle.fare_session.specs.Forwarding.{IsBased, IsAsFar, AreBases, AreApart, Skips}
@@ -29,13 +29,13 @@ use Rattle.fare_session.proofs.StoreCalls.{follows_none, leaves_say, leaves_then
 use Rattle.fare_session.proofs.Forwards.{based_at}
 use Rattle.fare_session.proofs.Prunes.{key_here}
 use Rattle.fare_session.proofs.Services.{next_items-front}
+use Rattle.fare_session.proofs.Takes.{image_none, image_sole}
 use Rattle.fare_session.proofs.Rests.{lanes_kept}
-use Rattle.std.proofs.lemmas.List.{append-nil}
 use Rattle.fare_record.specs.declared.item.Item.{Item}
 use Rattle.fare_history.specs.Plainly.{IsFinished, ShowsWhy}
 use Rattle.fare_history.proofs.ServedPlainly.{refused_shows_why}
 use Rattle.fare_history.specs.Holding.{MayHold}
-use Rattle.fare_session.proofs.Serves.{device_of_based, among, works, bases_told, far_told, place_known, all_say, all_front, all_keys}
+use Rattle.fare_session.proofs.Serves.{device_of_based, among, works, bases_told, far_told, place_known, all_say, all_keys}
 
 -- a live store holds what it holds, and a stop leaves that
 held_is : {V : Type 0} (s : Standing V) (v : V) → IsSound s → s.live → (s.live → s.lawful) → MayHold s v → v ≡ s.value
@@ -91,10 +91,10 @@ served_none sc owner x lo ln f e stays cause not owners = record {
     from : AreFit sc owner x x lo ln → (m : LedgerValue) → MayHold ln m → (l : LedgerValue) × MayHold lo l × IsTakenBy nothing l m
     from fit m (inl is) =
         let live = stays.calls.live is.0 in
-        (lo.value, inl (live, refl), inl (is.1 ∙ (stays.calls.value is.0 (fit.lists live)).1))
+        (lo.value, inl (live, refl), image_none lo.value [] [] m (is.1 ∙ (stays.calls.value is.0 (fit.lists live)).1))
     from fit m (inr left) = elim (stays.calls.stop fit.ledger fit.lists m left) [
-      | inl before ↦ (m, inr before, inl refl)
-      | inr done ↦ (lo.value, inl (done.0, refl), inl done.1)
+      | inl before ↦ (m, inr before, image_none m [] [] m refl)
+      | inr done ↦ (lo.value, inl (done.0, refl), image_none lo.value [] [] m done.1)
     ]
 
 pub served_memory : (sc : SchemeValue) (owner : ℕ) (x : Standing OutboxValue) (lo ln : Standing LedgerValue) → Stays lo ln None → IsServed sc owner x x lo ln (report_of 0 0 (Some Memory))
@@ -112,10 +112,10 @@ module _ (sc : SchemeValue) (owner room : ℕ) (xo xn : Standing OutboxValue) (l
     (w : AreWorking lo lm bases working) (told : AreTold sc lo lm standings bases) (count : length standings ≡ length sc.devices) (apart : AreApart bases) (start : (d : ℕ) → cursor_of f d ≡ started sc standings d) (mine : f.owner ≡ owner) (few : room ≡ lane_room sc owner) (stays : Stays lo lm None) (live : lm.clean → lo.live) (some : 1 ≤ length sc.devices)
     (s : IsSession working bases room xo xn lm ln f report) where
   k_first : HasStood lo ln → HasStood lo lm
-  k_first kl = stood_first lo lm ln s.fl (given_all lm.value s.v.taken) (IsImage lm.value s.v.taken s.v.hand) s.ledger kl
+  k_first kl = stood_first lo lm ln s.fl (given_all lm.value s.v.taken) (IsImage lm.value s.v.taken (tried_in s.v.hand s.v.queue)) s.ledger kl
 
   k_then : HasStood lo ln → HasStood lm ln
-  k_then kl = stood_then lo lm ln s.fl (given_all lm.value s.v.taken) lo.value (IsImage lm.value s.v.taken s.v.hand) (λ w. w ≡ lo.value) stays s.ledger kl
+  k_then kl = stood_then lo lm ln s.fl (given_all lm.value s.v.taken) lo.value (IsImage lm.value s.v.taken (tried_in s.v.hand s.v.queue)) (λ w. w ≡ lo.value) stays s.ledger kl
 
   same : HasStood lo ln → lm.value ≡ lo.value
   same kl = stood_value lo lm lo.value (λ w. w ≡ lo.value) stays (k_first kl)
@@ -158,7 +158,10 @@ module _ (sc : SchemeValue) (owner room : ℕ) (xo xn : Standing OutboxValue) (l
   room_is = subst (λ (n : ℕ). length s.v.queue ≤ n) few s.few
 
   registered_is : AllByRecursion (IsOfDevice sc) s.v.pruned
-  registered_is = all_front (IsOfDevice sc) s.v.pruned s.registered.0 (subst (AllByRecursion (IsOfDevice sc)) s.registered.1 (all_keys (IsOfDevice sc) bases (λ k p at. device_of_based sc lo lm standings bases told count apart p.0 (based_at bases k p apart at))))
+  registered_is = elim s.registered [
+    | inl all ↦ subst (AllByRecursion (IsOfDevice sc)) (sym all) (all_keys (IsOfDevice sc) bases (λ k p at. device_of_based sc lo lm standings bases told count apart p.0 (based_at bases k p apart at)))
+    | inr none ↦ subst (AllByRecursion (IsOfDevice sc)) (sym none) tt
+  ]
 
   -- IN THE WORDS OF THE SCHEME, OF THE LEDGER AS IT STOOD WHEN THE SESSION BEGAN
   service_is : IsReady sc owner xo xn lo ln → IsService sc owner xo.value lo.value s.v
@@ -170,13 +173,13 @@ module _ (sc : SchemeValue) (owner room : ℕ) (xo xn : Standing OutboxValue) (l
     registered = registered_is;
   }
 
-  ledger_is : Leaves lo ln s.fl (given_all lo.value s.v.taken) (IsImage lo.value s.v.taken s.v.hand)
-  ledger_is = leaves_then lo lm ln s.fl lo.value (given_all lm.value s.v.taken) (given_all lo.value s.v.taken) (λ w. w ≡ lo.value) (IsImage lm.value s.v.taken s.v.hand) (IsImage lo.value s.v.taken s.v.hand) stays s.ledger
-      (λ e. ap (λ l. given_all l s.v.taken) e) (λ e w is. subst (λ l. IsImage l s.v.taken s.v.hand w) e is)
+  ledger_is : Leaves lo ln s.fl (given_all lo.value s.v.taken) (IsImage lo.value s.v.taken (tried_in s.v.hand s.v.queue))
+  ledger_is = leaves_then lo lm ln s.fl lo.value (given_all lm.value s.v.taken) (given_all lo.value s.v.taken) (λ w. w ≡ lo.value) (IsImage lm.value s.v.taken (tried_in s.v.hand s.v.queue)) (IsImage lo.value s.v.taken (tried_in s.v.hand s.v.queue)) stays s.ledger
+      (λ e. ap (λ l. given_all l s.v.taken) e) (λ e w is. subst (λ l. IsImage l s.v.taken (tried_in s.v.hand s.v.queue) w) e is)
 
   outbox_is : HasStood lo ln → Leaves xo xn s.fx (pruned_to_all xo.value owner (given_all lo.value s.v.taken) s.v.pruned) (IsPrunedBy sc owner (given_all lo.value s.v.taken) s.v xo.value)
   outbox_is kl = leaves_say xo xn s.fx (pruned_to_all xo.value owner (given_all lo.value s.v.taken) s.v.pruned) (IsCutWith s.v.hand xo.value owner (given_all lo.value s.v.taken) bases s.v.pruned) (IsPrunedBy sc owner (given_all lo.value s.v.taken) s.v xo.value)
-      (λ w cut. elim cut [ inl is ↦ inl is | inr one ↦ inr (one.0, (one.1.0, device_of_based sc lo lm standings bases told count apart one.1.0 one.1.1, one.1.2)) ])
+      (λ w cut. elim cut [ inl is ↦ inl is | inr some ↦ inr (some.0, (some.1.0, all_say (IsBased bases) (IsOfDevice sc) some.1.0 (λ d based. device_of_based sc lo lm standings bases told count apart d based) some.1.1, some.1.2)) ])
       (subst (λ (z : ℕ × LedgerValue). Leaves xo xn s.fx (pruned_to_all xo.value z.0 (given_all z.1 s.v.taken) s.v.pruned) (IsCutWith s.v.hand xo.value z.0 (given_all z.1 s.v.taken) bases s.v.pruned)) (λ j. (mine j, same kl j)) (s.outbox (k_then kl)))
 
   -- a clean ledger was live
@@ -279,16 +282,13 @@ module _ (sc : SchemeValue) (owner room : ℕ) (xo xn : Standing OutboxValue) (l
 
     -- THE LEDGER
     ledger_at : (m : LedgerValue) → MayHold ln m → IsTakenBy s.v lo.value m
-    ledger_at m (inl is) = inl (is.1 ∙ (ledger_is.calls.value is.0 (fit.lists opened)).1)
+    ledger_at m (inl is) = image_none lo.value s.v.taken (tried_in s.v.hand s.v.queue) m (is.1 ∙ (ledger_is.calls.value is.0 (fit.lists opened)).1)
     ledger_at m (inr left) = ledger_is.left stood_ledger m left
 
     -- THE OUTBOX
     -- with nothing in the hand the ledger has what was taken and nothing else
     sole : (m : LedgerValue) → MayHold ln m → s.v.hand ≡ None → m ≡ given_all lo.value s.v.taken
-    sole m may none = elim (ledger_at m may) [
-      | inl is ↦ is
-      | inr is ↦ is.1 ∙ ap (λ h. given_all lo.value (s.v.taken ++ in_hand h)) none ∙ ap (given_all lo.value) (append-nil s.v.taken)
-    ]
+    sole m may none = image_sole lo.value s.v.taken s.v.queue s.v.hand m none (ledger_at m may)
 
     -- where an item is in the hand no lane is pruned, by whatever ledger
     cut_by : (m : LedgerValue) → MayHold ln m → (x y : OutboxValue) → IsPrunedBy sc owner (given_all lo.value s.v.taken) s.v x y → IsPrunedBy sc owner m s.v x y
@@ -300,7 +300,7 @@ module _ (sc : SchemeValue) (owner room : ℕ) (xo xn : Standing OutboxValue) (l
             let ds = s.unpruned i is in
             elim cut [
               | inl same ↦ inl (same ∙ ap (pruned_to_all x owner (given_all lo.value s.v.taken)) ds ∙ sym (ap (pruned_to_all x owner m) ds))
-              | inr one ↦ absurd (let none : ◌≡◌ {A = Option Item} None (Some i) = sym one.0 ∙ is in cc)
+              | inr some ↦ absurd (let none : ◌≡◌ {A = Option Item} None (Some i) = sym some.0 ∙ is in cc)
             ]
 
     outbox_at : (m : LedgerValue) → MayHold ln m → (y : OutboxValue) → MayHold xn y → (x : OutboxValue) × MayHold xo x × IsPrunedBy sc owner m s.v x y
@@ -344,5 +344,5 @@ module _ (sc : SchemeValue) (owner room : ℕ) (xo xn : Standing OutboxValue) (l
     cause = cause_is;
     stays = λ is fit. both_stay sx sl fit is;
     outbox_follows = s.follows;
-    ledger_follows = follows_call lo ln s.fl (ln.value ≡ given_all lo.value s.v.taken) (IsImage lo.value s.v.taken s.v.hand) ledger_is.calls;
+    ledger_follows = follows_call lo ln s.fl (ln.value ≡ given_all lo.value s.v.taken) (IsImage lo.value s.v.taken (tried_in s.v.hand s.v.queue)) ledger_is.calls;
   }

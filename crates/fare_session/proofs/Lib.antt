@@ -1,6 +1,7 @@
 pub mod StoreCalls
 pub mod Services
 pub mod Takes
+pub mod Batches
 pub mod Owns
 pub mod Forwards
 pub mod Rests

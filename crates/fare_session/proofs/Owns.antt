@@ -15,7 +15,6 @@ use Rattle.fare_store.specs.declared.fault.Refused.TheVariants as refused
 use Rattle.fare_store.specs.Standing.{Standing, Does, Writes}
 use Rattle.fare_store.specs.LedgerWords.{LedgerValue, is_mine, is_closed, take_judged, took, state_judged, with_statement}
 use Rattle.fare_history.specs.Serving.{AreUnrefused}
-use Rattle.fare_history.specs.Plainly.{IsRefused}
 use Rattle.fare_history.proofs.Committed.{given_repeated}
 use Rattle.fare_session.specs.declared.fault.SessionFault.{SessionFault}
 use Rattle.fare_session.specs.declared.fault.SessionFault.TheVariants as session

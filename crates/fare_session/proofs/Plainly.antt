@@ -1,7 +1,7 @@
 -- What a session's contract means, in plain sentences, for whatever the stores may hold now.
-use Rattle.std.proofs.Common.{◌≡◌, ℕ, None, List, [], ◌∷◌, ◌++◌, refl, sym, ap, ◌∙◌, subst, inl, inr}
-use Rattle.std.specs.Prelude.{◌==◌, ◌||◌, Bool, true, false}
-use Rattle.std.specs.List.{list_any}
+use Rattle.std.proofs.Common.{◌≡◌, ℕ, zero, suc, Some, None, List, ◌++◌, take, refl, sym, ap, ◌∙◌, subst, inl, inr}
+use Rattle.std.specs.Prelude.{◌==◌, ◌||◌, Bool, true, false, Option}
+use Rattle.std.specs.List.{AllByRecursion, list_any}
 use Rattle.std.proofs.lemmas.List.{append-nil}
 use Rattle.std.proofs.lemmas.List.Folds.{list_any-append}
 use Rattle.fare_record.specs.declared.item.Item.{Item}
@@ -9,33 +9,45 @@ use Rattle.fare_scheme.specs.Values.{SchemeValue}
 use Rattle.fare_store.specs.Standing.{Standing}
 use Rattle.fare_store.specs.OutboxWords.{OutboxValue}
 use Rattle.fare_store.specs.LedgerWords.{LedgerValue}
-use Rattle.fare_history.specs.Serving.{Service, AreUnrefused, committed, given_all, in_hand, pruned_to_all, IsOfDevice, IsService}
+use Rattle.fare_history.specs.Serving.{Service, AreUnrefused, first_taken, taken_behind, tried_in, given_all, pruned_to_all, IsOfDevice, IsService}
 use Rattle.fare_history.specs.Plainly.{IsFinished, ServesPlainly, IsWholeService}
 use Rattle.fare_history.specs.Holding.{MayHold}
-use Rattle.fare_history.proofs.Committed.{committed_is}
+use Rattle.fare_history.proofs.Committed.{first_taken_is}
 use Rattle.fare_history.proofs.ServedPlainly.{serves_plainly, finished_is_whole, statements_stay}
 use Rattle.fare_session.specs.declared.report.OwnerReport.{OwnerReport}
 use Rattle.fare_session.specs.Served.{AreFit, IsTakenBy, IsPrunedBy, SaysOfService, IsServed, WasServed}
+use Rattle.fare_session.proofs.Takes.{take_none}
 use Rattle.fare_session.proofs.Services.{all-append, unrefused-append}
 
--- the session that pruned one lane more
-abbrev pruned_too : Service → ℕ → Service
-pruned_too v device = record v { pruned = v.pruned ++ device ∷ [] }
+-- what the session that took a first part more has taken, and what it has pruned
+pub taken_of : (n : ℕ) (hand : Option Item) (v : Service) → (taken_behind n hand v).taken ≡ v.taken ++ take n (tried_in hand v.queue)
+taken_of n None v = sym (ap (λ l. v.taken ++ l) (take_none n) ∙ append-nil v.taken)
+taken_of zero (Some i) v = sym (append-nil v.taken)
+taken_of (suc n) (Some i) v = refl
 
-pruned_too_is : (sc : SchemeValue) (owner : ℕ) (x : OutboxValue) (l : LedgerValue) (v : Service) (device : ℕ) → IsOfDevice sc device → IsService sc owner x l v → IsService sc owner x l (pruned_too v device)
-pruned_too_is sc owner x l v device known s = record { items = s.items; known = s.known; working = s.working; room = s.room; registered = all-append (IsOfDevice sc) v.pruned (device ∷ []) s.registered (known, tt) }
+pub pruned_of : (n : ℕ) (hand : Option Item) (v : Service) → (taken_behind n hand v).pruned ≡ v.pruned
+pruned_of n None v = refl
+pruned_of zero (Some i) v = refl
+pruned_of (suc n) (Some i) v = refl
+
+-- the session that pruned these lanes more
+abbrev pruned_too : Service → List ℕ → Service
+pruned_too v more = record v { pruned = v.pruned ++ more }
+
+pruned_too_is : (sc : SchemeValue) (owner : ℕ) (x : OutboxValue) (l : LedgerValue) (v : Service) (more : List ℕ) → AllByRecursion (IsOfDevice sc) more → IsService sc owner x l v → IsService sc owner x l (pruned_too v more)
+pruned_too_is sc owner x l v more known s = record { items = s.items; known = s.known; working = s.working; room = s.room; registered = all-append (IsOfDevice sc) v.pruned more s.registered known }
 
 kept_any : (a b : Bool) → a ≡ true → (a || b) ≡ true
 kept_any true b e = refl
 kept_any false b e = absurd (cc)
 
-finished_too : (sc : SchemeValue) (owner : ℕ) (x : OutboxValue) (l : LedgerValue) (v : Service) (device : ℕ) → IsFinished sc owner x l v → IsFinished sc owner x l (pruned_too v device)
-finished_too sc owner x l v device f = record {
+finished_too : (sc : SchemeValue) (owner : ℕ) (x : OutboxValue) (l : LedgerValue) (v : Service) (more : List ℕ) → IsFinished sc owner x l v → IsFinished sc owner x l (pruned_too v more)
+finished_too sc owner x l v more f = record {
   hand = f.hand;
   queue = f.queue;
   rows = f.rows;
   days = f.days;
-  pruned = λ d known. list_any-append (λ z. z == d) v.pruned (device ∷ []) ∙ kept_any (list_any (λ z. z == d) v.pruned) (list_any (λ z. z == d) (device ∷ [])) (f.pruned d known);
+  pruned = λ d known. list_any-append (λ z. z == d) v.pruned more ∙ kept_any (list_any (λ z. z == d) v.pruned) (list_any (λ z. z == d) more) (f.pruned d known);
 }
 
 module _ (sc : SchemeValue) (owner : ℕ) (xo xn : Standing OutboxValue) (lo ln : Standing LedgerValue) (report : OwnerReport) (s : IsServed sc owner xo xn lo ln report) (fit : AreFit sc owner xo xn lo ln) (x y : OutboxValue) (l m : LedgerValue) (mx : MayHold xo x) (ml : MayHold lo l) where
@@ -60,18 +72,32 @@ module _ (sc : SchemeValue) (owner : ℕ) (xo xn : Standing OutboxValue) (lo ln 
       same : y ≡ pruned_to_all x owner (given_all l w.taken) w.pruned
       same = cut ∙ ap (λ z. pruned_to_all x owner z w.pruned) took
 
-  pub was_served : IsTakenBy s.v l m → IsPrunedBy sc owner m s.v x y → WasServed sc owner xo lo report y m
-  was_served (inl took) (inl cut) = by_service s.v says.service says.whole says.unrefused took cut
-  was_served (inl took) (inr one) = by_service (pruned_too s.v one.1.0) (pruned_too_is sc owner x l s.v one.1.0 one.1.1 says.service) (λ none. finished_too sc owner x l s.v one.1.0 (says.whole none)) says.unrefused took one.1.2
-  was_served (inr took) (inr one) = by_service (pruned_too s.v one.1.0) (pruned_too_is sc owner x l s.v one.1.0 one.1.1 says.service) (λ none. finished_too sc owner x l s.v one.1.0 (says.whole none)) says.unrefused
-      (took.1 ∙ ap (λ h. given_all l (s.v.taken ++ in_hand h)) one.0 ∙ ap (given_all l) (append-nil s.v.taken)) one.1.2
-  was_served (inr took) (inl cut) = by_service (committed s.v) (committed_is sc owner x l s.v says.service) (λ none. finished none) (unrefused-append l s.v.taken (in_hand s.v.hand) says.unrefused took.0) took.1 cut
-    where
-      no_more : report.fault ≡ None → s.v.taken ≡ s.v.taken ++ in_hand s.v.hand
-      no_more none = sym (ap (λ h. s.v.taken ++ in_hand h) (says.whole none).hand ∙ append-nil s.v.taken)
+  -- the session that took also what the ledger has more
+  abbrev more : IsTakenBy s.v l m → Service
+  more took = first_taken took.count v
 
-      finished : report.fault ≡ None → IsFinished sc owner x l (committed s.v)
-      finished none = subst (λ (t : List Item). IsFinished sc owner x l (record s.v { taken = t; hand = None })) (no_more none) (subst (λ h. IsFinished sc owner x l (record s.v { hand = h })) (says.whole none).hand (says.whole none))
+  more_taken : (took : IsTakenBy s.v l m) → (more took).taken ≡ v.taken ++ take took.count (tried_in v.hand v.queue)
+  more_taken took = taken_of took.count v.hand v
+
+  -- which holds the items that it holds, where all was taken
+  more_finished : (took : IsTakenBy s.v l m) → report.fault ≡ None → IsFinished sc owner x l (more took)
+  more_finished took none = subst (λ h. IsFinished sc owner x l (taken_behind took.count h v)) (sym (says.whole none).hand) (says.whole none)
+
+  pub was_served : IsTakenBy s.v l m → IsPrunedBy sc owner m s.v x y → WasServed sc owner xo lo report y m
+  was_served took cut = elim cut [
+    | inl is ↦ by_service (more took) service (more_finished took) unrefused holds (is ∙ ap (pruned_to_all x owner m) (sym (pruned_of took.count v.hand v)))
+    | inr some ↦ by_service (pruned_too (more took) some.1.0) (pruned_too_is sc owner x l (more took) some.1.0 some.1.1 service) (λ none. finished_too sc owner x l (more took) some.1.0 (more_finished took none)) unrefused holds
+        (some.1.2 ∙ ap (λ ds. pruned_to_all x owner m (ds ++ some.1.0)) (sym (pruned_of took.count v.hand v)))
+  ]
+    where
+      service : IsService sc owner x l (more took)
+      service = first_taken_is sc owner x l v took.count says.service
+
+      unrefused : AreUnrefused l (more took).taken
+      unrefused = subst (AreUnrefused l) (sym (more_taken took)) (unrefused-append l v.taken (take took.count (tried_in v.hand v.queue)) says.unrefused took.unrefused)
+
+      holds : m ≡ given_all l (more took).taken
+      holds = took.value ∙ ap (given_all l) (sym (more_taken took))
 
 pub said_plainly : (sc : SchemeValue) (owner : ℕ) (xo xn : Standing OutboxValue) (lo ln : Standing LedgerValue) (report : OwnerReport) → IsServed sc owner xo xn lo ln report → AreFit sc owner xo xn lo ln → (y : OutboxValue) (m : LedgerValue) → MayHold xn y → MayHold ln m → WasServed sc owner xo lo report y m
 said_plainly sc owner xo xn lo ln report s fit y m my mm =

@@ -14,7 +14,7 @@ use Rattle.fare_store.specs.OutboxWords.{OutboxValue}
 use Rattle.fare_store.specs.LedgerWords.{LedgerValue}
 use Rattle.fare_session.specs.declared.fault.SessionFault.{SessionFault}
 use Rattle.fare_session.specs.declared.fault.SessionFault.TheVariants.{Refused}
-use Rattle.fare_history.specs.Serving.{Cursors, device_of, moved_by, moved_by_all, AreNextItems, given, given_all}
+use Rattle.fare_history.specs.Serving.{Cursors, device_of, moved_by, moved_by_all, AreNextItems, given, given_all, tried_in}
 use Rattle.fare_session.specs.Stores.{stored_fault, IsOwners, HasStood, Stays}
 use Rattle.fare_session.specs.Forwarding.{lane_after, IsBased, IsAsFar, HasCursors, ForwardedIf, IsNextDue, fault_due}
 use Rattle.fare_session.specs.Taking.{IsTaken, IsImage}
@@ -70,7 +70,7 @@ idle_other owner x c items i device apart idle = record {
 -- THE LOOPS
 pub record InRest (bases : List (ℕ × ℕ)) (xo xn : Standing OutboxValue) (lo ln : Standing LedgerValue) (f g : Forwarder) (n m place : ℕ) (done : List Item) : Type 0 where
   pub forwarded : ForwardedIf (Behind bases lo ln) bases xo xn f g done None
-  pub taken : IsTaken lo ln done None None n m
+  pub taken : IsTaken lo ln done None [] None n m
   pub idle : (k : ℕ) (p : ℕ × ℕ) → k < place → slice_get bases k ≡ Some p → IdleAt bases xo xn lo ln f done p.0
 
 pub rest_none : (bases : List (ℕ × ℕ)) (x : Standing OutboxValue) (l : Standing LedgerValue) (f : Forwarder) (n : ℕ) → IsSound x → IsSound l → HasCursors bases f → InRest bases x x l l f f n n 0 []
@@ -91,8 +91,8 @@ module _ (bases : List (ℕ × ℕ)) (xo xn : Standing OutboxValue) (lo lm ln : 
   pub rest_reached : (device count : ℕ) → IsBased bases device → Stays lm ln None → (HasStood lm ln → count ≡ length (lm.value.taken device)) → ReachedAt bases xo xn lo ln f done device count
   rest_reached device count based read told c far b keeps =
       lanes_kept f.owner xo.value lo.value c done device ((now.forwarded.forwards c far (before_read read c b)).next keeps) (b.1 device based)
-      ∙ ap (λ (l : LedgerValue). length (l.taken device)) (sym (stood_value lo lm (given_all lo.value done) (IsImage lo.value done None) now.taken.leaves (before_read read c b).0))
-      ∙ sym (told (stood_then lo lm ln None lm.value (given_all lo.value done) (λ w. w ≡ lm.value) (IsImage lo.value done None) now.taken.leaves read b.0))
+      ∙ ap (λ (l : LedgerValue). length (l.taken device)) (sym (stood_value lo lm (given_all lo.value done) (IsImage lo.value done []) now.taken.leaves (before_read read c b).0))
+      ∙ sym (told (stood_then lo lm ln None lm.value (given_all lo.value done) (λ w. w ≡ lm.value) (IsImage lo.value done []) now.taken.leaves read b.0))
 
   pub rest_unread : (e : SessionFault) (held : ℕ) → held ≡ 0 → e ≢ Refused → IsOwners (Some e) → Stays lm ln (stored_fault (Some e)) → IsRest bases xo xn lo ln f g (Some e) n m held
   rest_unread e held none not owners read = record {
@@ -158,20 +158,20 @@ module _ (bases : List (ℕ × ℕ)) (xo xm xn : Standing OutboxValue) (lo lm ln
     more : ForwardedIf (Behind bases lo lm) bases xo xn f h (done ++ i ∷ []) None
     more = forwarded_more (Behind bases lo lm) bases xo xm xn f g h done device reached based (far_by nd) now.forwarded i nd
 
-    back : {F : Option SessionFault} {items : List Item} {hand : Option Item} → IsTaken lm ln items hand F m k → (c : Cursors) → Behind bases lo ln c → Behind bases lo lm c
-    back {F} {items} {hand} took c b = (stood_first lo lm ln (stored_fault F) (given_all lm.value items) (IsImage lm.value items hand) took.leaves b.0, b.1)
+    back : {F : Option SessionFault} {items : List Item} {hand : Option Item} → IsTaken lm ln items hand [] F m k → (c : Cursors) → Behind bases lo ln c → Behind bases lo lm c
+    back {F} {items} {hand} took c b = (stood_first lo lm ln (stored_fault F) (given_all lm.value items) (IsImage lm.value items (tried_in hand [])) took.leaves b.0, b.1)
 
-    pub rest_more : IsTaken lm ln (i ∷ []) None None m k → ((j : ℕ) (p : ℕ × ℕ) → j < place → slice_get bases j ≡ Some p → p.0 ≢ device) → InRest bases xo xn lo ln f h n k place (done ++ i ∷ [])
+    pub rest_more : IsTaken lm ln (i ∷ []) None [] None m k → ((j : ℕ) (p : ℕ × ℕ) → j < place → slice_get bases j ≡ Some p → p.0 ≢ device) → InRest bases xo xn lo ln f h n k place (done ++ i ∷ [])
     rest_more took apart = record {
       forwarded = forwarded_if (Behind bases lo lm) (Behind bases lo ln) bases xo xn f h (done ++ i ∷ []) None (back took) more;
-      taken = taken_then lo lm ln done (i ∷ []) None None n m k now.taken took;
+      taken = taken_then lo lm ln done (i ∷ []) None [] None n m k now.taken took;
       idle = λ j p lt there c far b keeps. idle_other f.owner xo.value c done i p.0 (λ e. apart j p lt there (sym e ∙ due_device i device reached nd.found.1)) (now.idle j p lt there c far (back took c b) (earlier nd keeps));
     }
 
-    pub reached_more : IsTaken lm ln (i ∷ []) None None m k → ReachedAt bases xo xn lo ln f (done ++ i ∷ []) device (lane_after i reached)
+    pub reached_more : IsTaken lm ln (i ∷ []) None [] None m k → ReachedAt bases xo xn lo ln f (done ++ i ∷ []) device (lane_after i reached)
     reached_more took c far b keeps = far_more done i c device reached nd.found.1 (at c far (back took c b) (earlier nd keeps))
 
-    pub rest_refused : (e : SessionFault) → IsTaken lm ln [] (Some i) (Some e) m k → IsRest bases xo xn lo ln f h (Some e) n k 1
+    pub rest_refused : (e : SessionFault) → IsTaken lm ln [] (Some i) [] (Some e) m k → IsRest bases xo xn lo ln f h (Some e) n k 1
     rest_refused e took = record {
       done = done;
       hand = Some i;

@@ -1,5 +1,5 @@
 -- What the ledger told of each device, and the lanes that go on.
-use Rattle.std.proofs.Common.{◌≡◌, ℕ, suc, ◌+◌, ◌-◌, ◌<◌, Some, None, Bool, true, false, List, [], ◌∷◌, ◌++◌, length, refl, sym, ap, ◌∙◌, subst, arith}
+use Rattle.std.proofs.Common.{◌≡◌, ℕ, suc, ◌+◌, ◌-◌, ◌<◌, Some, None, Bool, true, false, List, [], ◌∷◌, length, refl, sym, ap, ◌∙◌, subst, arith}
 use Rattle.std.specs.Prelude.{◌==◌, if◌then◌else◌, cond, nat_eq, slice_get, get_or, Option, is_some, option_map, option_and_then, Result, Err}
 use Rattle.std.specs.List.{AllByRecursion}
 use Rattle.std.specs.Map.{lookup, keys_of}
@@ -60,10 +60,6 @@ closed_day l start d is = by (l.closed d == 0) refl
 pub all_keys : (P : ℕ → Type 0) (bases : List (ℕ × ℕ)) → ((k : ℕ) (p : ℕ × ℕ) → slice_get bases k ≡ Some p → P p.0) → AllByRecursion P (keys_of bases)
 all_keys P [] each = tt
 all_keys P (b ∷ bs) each = (each 0 b refl, all_keys P bs (λ k p at. each (suc k) p at))
-
-pub all_front : (P : ℕ → Type 0) (xs ys : List ℕ) → AllByRecursion P (xs ++ ys) → AllByRecursion P xs
-all_front P [] ys all = tt
-all_front P (x ∷ xs) ys all = (all.0, all_front P xs ys all.1)
 
 pub all_say : {X : Type 0} (P Q : X → Type 0) (xs : List X) → ((x : X) → P x → Q x) → AllByRecursion P xs → AllByRecursion Q xs
 all_say P Q [] say all = tt

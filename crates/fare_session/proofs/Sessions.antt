@@ -2,7 +2,6 @@
 use Rattle.std.proofs.Common.{◌≡◌, ℕ, ◌+◌, ◌<◌, ◌≤◌, Some, None, List, [], ◌∷◌, ◌++◌, length, refl, sym, ap, ◌∙◌, subst, inl, inr, arith, length-append, append_assoc}
 use Rattle.std.specs.Prelude.{min, slice_get, Option}
 use Rattle.std.specs.List.{AllByRecursion}
-use Rattle.std.specs.Map.{keys_of}
 use Rattle.std.proofs.lemmas.List.{append-nil}
 use Rattle.fare_record.specs.declared.item.Item.{Item}
 use Rattle.fare_route.specs.declared.forwarder.Forwarder.{Forwarder}
@@ -12,60 +11,60 @@ use Rattle.fare_store.specs.OutboxWords.{OutboxValue}
 use Rattle.fare_store.specs.LedgerWords.{LedgerValue}
 use Rattle.fare_session.specs.declared.fault.SessionFault.{SessionFault}
 use Rattle.fare_session.specs.declared.fault.SessionFault.TheVariants.{Refused}
-use Rattle.fare_history.specs.Serving.{Cursors, device_of, moved_by_all, AreNextItems, given_all, in_hand, Service, pruned_to_all}
+use Rattle.fare_history.specs.Serving.{Cursors, device_of, moved_by_all, AreNextItems, given_all, in_hand, tried_in, Service, pruned_to_all}
 use Rattle.fare_session.specs.Taking.{added_by}
 use Rattle.fare_session.specs.Stores.{stored_fault, IsOwners, Follows, HasStood, Leaves, Stays}
 use Rattle.fare_session.specs.Forwarding.{IsBased, IsAsFar, AreBases, Skips, Forwarded}
-use Rattle.fare_session.specs.Taking.{Tallied, IsTaken, IsTaking, IsLeftTaken, IsImage, InHand}
+use Rattle.fare_session.specs.declared.batching.Halt.{Halt}
+use Rattle.fare_session.specs.Taking.{Tallied, IsTaken, fault_of_halt, behind_of, IsTaking, IsLeftTaken, IsImage, InHand}
 use Rattle.fare_session.specs.Resting.{MeetsLedger, Behind, IsIdle, IsCut, IsRest, IsPruning}
 use Rattle.fare_session.specs.Session.{IsThreaded, IsCutWith, IsSession}
 use Rattle.fare_session.specs.Served.{report_of}
 use Rattle.fare_session.proofs.StoreCalls.{follows_call, follows_then, leaves_say, leaves_then, stays_then, stood_first, stood_then, stood_value}
 use Rattle.fare_session.proofs.Services.{moved_by_all-append, next_items-append, all-append}
-use Rattle.fare_session.proofs.Takes.{taken_then}
+use Rattle.fare_session.proofs.Takes.{taken_then, taken_behind, nothing_in, image_none}
 use Rattle.fare_session.proofs.Rests.{lanes_kept}
 
 -- THE THREADS
--- the owner's thread failed
-pub threads_failed : (bases : List (ℕ × ℕ)) (room : ℕ) (xo xn : Standing OutboxValue) (lo ln : Standing LedgerValue) (f g : Forwarder) (put : Option SessionFault) (e : SessionFault) (n m left : ℕ) (sent items queue : List Item)
-    → Forwarded bases xo xn f g sent put → IsTaking lo ln items (Some e) n m → items ++ queue ≡ sent → length queue ≤ room → left ≡ length queue + 1 → IsThreaded bases room xo xn lo ln f g put (Some e) n m left
-threads_failed bases room xo xn lo ln f g put e n m left sent items queue fw tk all few count = record {
-  sent = sent;
-  done = tk.done;
-  hand = tk.hand;
-  queue = queue;
-  forwarded = fw;
-  taken = tk.taken;
-  has = tk.has;
-  all = sym all ∙ ap (λ l. l ++ queue) tk.all ∙ append_assoc tk.done (in_hand tk.hand) queue;
-  few = few;
-  count = count ∙ one_more tk.hand tk.has;
-  none = λ no. absurd (cc);
-}
-  where
-    one_more : (hand : Option Item) → InHand (Some e) hand → length queue + 1 ≡ length (in_hand hand ++ queue)
-    one_more None has = absurd (let is : ◌≡◌ {A = Option Item} None (Some has.0) = has.1 in cc)
-    one_more (Some i) has = omega arith
+no_halt : (halt : Option Halt) → fault_of_halt halt ≡ None → halt ≡ None
+no_halt None e = refl
+no_halt (Some halt) e = absurd (cc)
 
--- the owner's thread took all that it was given, and then the call what was left
-pub threads_left : (bases : List (ℕ × ℕ)) (room : ℕ) (xo xn : Standing OutboxValue) (lo lm ln : Standing LedgerValue) (f g : Forwarder) (put fault : Option SessionFault) (n m k left : ℕ) (sent items queue rest : List Item)
-    → Forwarded bases xo xn f g sent put → IsTaking lo lm items None n m → items ++ queue ≡ sent → length queue ≤ room → IsLeftTaken lm ln queue rest fault m k → ((hand : Option Item) → InHand fault hand → left ≡ length (in_hand hand ++ rest)) → IsThreaded bases room xo xn lo ln f g put fault n k left
-threads_left bases room xo xn lo lm ln f g put fault n m k left sent items queue rest fw tk all few lt count = record {
-  sent = sent;
-  done = items ++ lt.done;
-  hand = lt.hand;
-  queue = rest;
-  forwarded = fw;
-  taken = taken_then lo lm ln items lt.done lt.hand fault n m k first lt.taken;
-  has = lt.has;
-  all = sym all ∙ ap (λ l. items ++ l) lt.all ∙ sym (append_assoc items lt.done (in_hand lt.hand ++ rest));
-  few = let n = ap length lt.all in omega (arith, few, n, length-append lt.done (in_hand lt.hand ++ rest), length-append (in_hand lt.hand) rest);
-  count = count lt.hand lt.has;
-  none = lt.none;
-}
-  where
-    first : IsTaken lo lm items None None n m
-    first = subst (λ (z : List Item × Option Item). IsTaken lo lm z.0 z.1 None n m) (λ j. ((sym (tk.all ∙ ap (λ h. tk.done ++ in_hand h) tk.has ∙ append-nil tk.done)) j, tk.has j)) tk.taken
+-- the owner took what it was given, or halted at an item
+module _ (bases : List (ℕ × ℕ)) (room : ℕ) (xo xn : Standing OutboxValue) (lo ln : Standing LedgerValue) (f g : Forwarder) (put : Option SessionFault) (halt : Option Halt) (n m : ℕ) (sent items rest : List Item) (forwarded : Forwarded bases xo xn f g sent put) (taking : IsTaking lo ln items halt n m) (all : items ++ rest ≡ sent) where
+  pub threads_done : (left : ℕ) → behind_of halt + length rest ≤ room → ((hand : Option Item) → InHand (fault_of_halt halt) hand → left ≡ length (in_hand hand ++ (taking.behind ++ rest))) → (halt ≡ None → rest ≡ []) → IsThreaded bases room xo xn lo ln f g put (fault_of_halt halt) n m left
+  threads_done left low count none = record {
+    sent = sent;
+    done = taking.done;
+    hand = taking.hand;
+    queue = taking.behind ++ rest;
+    forwarded = forwarded;
+    taken = taken_behind lo ln taking.done taking.hand taking.behind rest (fault_of_halt halt) n m taking.taken;
+    has = taking.has;
+    all = sym all ∙ ap (λ l. l ++ rest) taking.all ∙ append_assoc taking.done (in_hand taking.hand ++ taking.behind) rest ∙ ap (λ l. taking.done ++ l) (append_assoc (in_hand taking.hand) taking.behind rest);
+    few = let l = length-append taking.behind rest in let c = taking.count in omega (arith, l, c, low);
+    count = count taking.hand taking.has;
+    none = λ e. whole (no_halt halt e);
+  }
+    where
+      whole : halt ≡ None → taking.behind ++ rest ≡ []
+      whole e = λ j. nothing_in taking.behind (taking.count ∙ ap behind_of e) j ++ none e j
+
+-- how many are in the hand, behind it and in the queue
+pub halt_count : (halt : Halt) (n : ℕ) (behind rest : List Item) → n ≡ length rest → length behind ≡ halt.behind → (hand : Option Item) → InHand (Some halt.fault) hand → n + halt.behind + 1 ≡ length (in_hand hand ++ (behind ++ rest))
+halt_count halt n behind rest is count None has = absurd (let none : ◌≡◌ {A = Option Item} None (Some has.0) = has.1 in cc)
+halt_count halt n behind rest is count (Some i) has = let l = length-append behind rest in omega (arith, is, count, l)
+
+pub none_count : (behind rest : List Item) → length behind ≡ 0 → rest ≡ [] → (hand : Option Item) → InHand None hand → 0 ≡ length (in_hand hand ++ (behind ++ rest))
+none_count behind rest count none hand has = sym (λ j. length (in_hand (has j) ++ (nothing_in behind count j ++ none j)))
+
+-- of what was left there are no more than there were
+pub left_low : (lo ln : Standing LedgerValue) (left rest : List Item) (halt : Option Halt) (n m : ℕ) → IsLeftTaken lo ln left rest halt n m → behind_of halt + length rest ≤ length left
+left_low lo ln left rest halt n m t =
+    let all = ap length t.all in
+    let items = ap length t.taking.all in
+    let count = t.taking.count in
+    omega (arith, all, items, count, length-append t.items rest, length-append t.taking.done (in_hand t.taking.hand ++ t.taking.behind), length-append (in_hand t.taking.hand) t.taking.behind)
 
 -- A SESSION
 stays_follow : (a b : Standing OutboxValue) (f : Option Fault) → Stays a b f → Follows a b
@@ -90,7 +89,7 @@ session_stopped bases lanes room xo xn lo ln f g put e n left th = record {
   next = λ c far meets bs kx kl. subst (AreNextItems f.owner xo.value c) th.all ((th.forwarded.forwards c far bs).next kx);
   known = subst (AllByRecursion (λ i. IsBased bases (device_of i))) th.all th.forwarded.known;
   few = th.few;
-  registered = (keys_of lanes, refl);
+  registered = inr refl;
   ledger = th.taken.leaves;
   outbox = λ kl. leaves_say xo xn (stored_fault put) xo.value (λ w. w ≡ xo.value) (IsCutWith th.hand xo.value f.owner (given_all lo.value th.done) lanes []) (λ w is. inl is) th.forwarded.stays;
   counted = th.forwarded.stays.calls.cause;
@@ -122,8 +121,8 @@ session_put bases lanes room xo xn lo ln f g e n left th = record {
   next = λ c far meets bs kx kl. subst (AreNextItems f.owner xo.value c) all ((th.forwarded.forwards c far bs).next kx);
   known = subst (AllByRecursion (λ i. IsBased bases (device_of i))) all th.forwarded.known;
   few = omega arith;
-  registered = (keys_of lanes, refl);
-  ledger = subst (λ h. Leaves lo ln None (given_all lo.value th.done) (IsImage lo.value th.done h)) (th.taken.empty refl) th.taken.leaves;
+  registered = inr refl;
+  ledger = subst (λ h. Leaves lo ln None (given_all lo.value th.done) (IsImage lo.value th.done (tried_in h th.queue))) (th.taken.empty refl) th.taken.leaves;
   outbox = λ kl. leaves_say xo xn (stored_fault (Some e)) xo.value (λ w. w ≡ xo.value) (IsCutWith None xo.value f.owner (given_all lo.value th.done) lanes []) (λ w is. inl is) th.forwarded.stays;
   counted = th.forwarded.stays.calls.cause;
   begun = λ lt. th.forwarded.begun (subst (λ (l : List Item). 0 < length l) (sym all) lt);
@@ -148,24 +147,16 @@ session_put bases lanes room xo xn lo ln f g e n left th = record {
     same : th.sent ≡ th.done
     same = all ∙ append-nil th.done
 
--- how many are in the hand and in the queue
-pub hand_count : (e : SessionFault) (n : ℕ) (rest : List Item) → n ≡ length rest → (hand : Option Item) → InHand (Some e) hand → n + 1 ≡ length (in_hand hand ++ rest)
-hand_count e n rest is None has = absurd (let none : ◌≡◌ {A = Option Item} None (Some has.0) = has.1 in cc)
-hand_count e n rest is (Some i) has = omega (arith, is)
-
-pub none_count : (rest : List Item) → rest ≡ [] → (hand : Option Item) → InHand None hand → 0 ≡ length (in_hand hand ++ rest)
-none_count rest none hand has = sym (λ j. length (in_hand (has j) ++ none j))
-
 -- THE REST
 module _ (bases : List (ℕ × ℕ)) (room : ℕ) (xo xm xn : Standing OutboxValue) (lo lm ln : Standing LedgerValue) (f g h : Forwarder) (fault : Option SessionFault) (m k left held : ℕ) (th : IsThreaded bases room xo xm lo lm f g None None 0 m left) (r : IsRest bases xm xn lm ln g h fault m k held) where
   sent_done : th.sent ≡ th.done
   sent_done = th.all ∙ (λ j. th.done ++ (in_hand (th.taken.empty refl j) ++ th.none refl j)) ∙ append-nil th.done
 
-  threads_taken : IsTaken lo lm th.done None None 0 m
-  threads_taken = subst (λ z. IsTaken lo lm th.done z None 0 m) (th.taken.empty refl) th.taken
+  threads_taken : IsTaken lo lm th.done None [] None 0 m
+  threads_taken = subst (λ (z : Option Item × List Item). IsTaken lo lm th.done z.0 z.1 None 0 m) (λ j. (th.taken.empty refl j, th.none refl j)) th.taken
 
-  both_taken : IsTaken lo ln (th.done ++ r.done) r.hand r.fl 0 k
-  both_taken = taken_then lo lm ln th.done r.done r.hand r.fl 0 m k threads_taken r.taken
+  both_taken : IsTaken lo ln (th.done ++ r.done) r.hand [] r.fl 0 k
+  both_taken = taken_then lo lm ln th.done r.done r.hand [] r.fl 0 m k threads_taken r.taken
 
   kx_first : HasStood xo xn → HasStood xo xm
   kx_first kx = stood_first xo xm xn (stored_fault r.fx) xm.value (λ w. w ≡ xm.value) r.forwarded.stays kx
@@ -177,10 +168,10 @@ module _ (bases : List (ℕ × ℕ)) (room : ℕ) (xo xm xn : Standing OutboxVal
   kx_same kx = stood_value xo xm xo.value (λ w. w ≡ xo.value) th.forwarded.stays (kx_first kx)
 
   kl_first : HasStood lo ln → HasStood lo lm
-  kl_first kl = stood_first lo lm ln (stored_fault r.fl) (given_all lm.value r.done) (IsImage lm.value r.done r.hand) r.taken.leaves kl
+  kl_first kl = stood_first lo lm ln (stored_fault r.fl) (given_all lm.value r.done) (IsImage lm.value r.done (tried_in r.hand [])) r.taken.leaves kl
 
   kl_then : HasStood lo ln → HasStood lm ln
-  kl_then kl = stood_then lo lm ln (stored_fault r.fl) (given_all lm.value r.done) (given_all lo.value th.done) (IsImage lm.value r.done r.hand) (IsImage lo.value th.done None) threads_taken.leaves r.taken.leaves kl
+  kl_then kl = stood_then lo lm ln (stored_fault r.fl) (given_all lm.value r.done) (given_all lo.value th.done) (IsImage lm.value r.done (tried_in r.hand [])) (IsImage lo.value th.done []) threads_taken.leaves r.taken.leaves kl
 
   both_stay : Stays xo xn (stored_fault r.fx)
   both_stay = stays_then xo xm xn (stored_fault r.fx) th.forwarded.stays r.forwarded.stays
@@ -213,7 +204,7 @@ module _ (bases : List (ℕ × ℕ)) (room : ℕ) (xo xm xn : Standing OutboxVal
     behind_there = (
       kl_then kl,
       λ d based. lanes_kept f.owner xo.value lo.value c th.sent d sent_next (meets d based)
-          ∙ ap (λ (z : LedgerValue). length (z.taken d)) (ap (given_all lo.value) sent_done ∙ sym (stood_value lo lm (given_all lo.value th.done) (IsImage lo.value th.done None) threads_taken.leaves (kl_first kl))),
+          ∙ ap (λ (z : LedgerValue). length (z.taken d)) (ap (given_all lo.value) sent_done ∙ sym (stood_value lo lm (given_all lo.value th.done) (IsImage lo.value th.done []) threads_taken.leaves (kl_first kl))),
     )
 
     rest_next : AreNextItems f.owner xo.value (moved_by_all c th.sent) (r.done ++ in_hand r.hand)
@@ -253,7 +244,7 @@ session_rest bases lanes room xo xm xn lo lm ln f g h e m k left held th r = rec
   next = λ c far meets bs kx kl. both_next bases room xo xm xn lo lm ln f g h (Some e) m k left held th r c far meets bs kx kl;
   known = both_known bases room xo xm xn lo lm ln f g h (Some e) m k left held th r;
   few = omega arith;
-  registered = (keys_of lanes, refl);
+  registered = inr refl;
   ledger = taken.leaves;
   outbox = λ kl. leaves_say xo xn (stored_fault r.fx) xo.value (λ w. w ≡ xo.value) (IsCutWith r.hand xo.value f.owner (given_all lo.value (th.done ++ r.done)) lanes []) (λ w is. inl is) stays;
   counted = stays.calls.cause;
@@ -276,7 +267,7 @@ session_rest bases lanes room xo xm xn lo lm ln f g h e m k left held th r = rec
   whole = λ is. absurd (cc);
 }
   where
-    taken : IsTaken lo ln (th.done ++ r.done) r.hand r.fl 0 k
+    taken : IsTaken lo ln (th.done ++ r.done) r.hand [] r.fl 0 k
     taken = both_taken bases room xo xm xn lo lm ln f g h (Some e) m k left held th r
 
     stays : Stays xo xn (stored_fault r.fx)
@@ -291,12 +282,12 @@ session_done bases lanes room xo xm xn xz lo lm ln lz f g h fault m k left held 
   next = λ c far meets bs kx kl. subst (λ z. AreNextItems f.owner xo.value c (done ++ (in_hand z ++ []))) no_hand (both_next bases room xo xm xn lo lm ln f g h None m k left held th r c far meets bs (kx_then_first kx kl) (kl_before kl));
   known = subst (λ z. AllByRecursion (λ i. IsBased bases (device_of i)) (done ++ (in_hand z ++ []))) no_hand (both_known bases room xo xm xn lo lm ln f g h None m k left held th r);
   few = omega arith;
-  registered = (p.rest, p.all);
-  ledger = leaves_then lo ln lz (stored_fault p.fl) (given_all lo.value done) ln.value (given_all lo.value done) (IsImage lo.value done None) (λ w. w ≡ ln.value) (IsImage lo.value done None) taken.leaves p.pruned.stays (λ e. e) (λ e w is. inl (is ∙ e));
+  registered = p.all;
+  ledger = leaves_then lo ln lz (stored_fault p.fl) (given_all lo.value done) ln.value (given_all lo.value done) (IsImage lo.value done []) (λ w. w ≡ ln.value) (IsImage lo.value done []) taken.leaves p.pruned.stays (λ e. e) (λ e w is. image_none lo.value done [] w (is ∙ e));
   outbox = λ kl. leaves_then xo xn xz (stored_fault p.fx) xo.value (pruned_to_all xn.value f.owner ln.value p.ds) (pruned_to_all xo.value f.owner (given_all lo.value done) p.ds) (λ w. w ≡ xo.value) (IsCut xn.value f.owner ln.value lanes p.ds) (IsCutWith None xo.value f.owner (given_all lo.value done) lanes p.ds)
       stays (p.pruned.leaves (kl_behind kl))
       (λ e. (λ j. pruned_to_all (e j) f.owner (kl_same kl j) p.ds))
-      (λ e w is. subst (λ (z : OutboxValue × LedgerValue). IsCutWith None z.0 f.owner z.1 lanes p.ds w) (λ j. (e j, kl_same kl j)) (elim is [ inl all ↦ inl all | inr one ↦ inr (refl, one) ]));
+      (λ e w is. subst (λ (z : OutboxValue × LedgerValue). IsCutWith None z.0 f.owner z.1 lanes p.ds w) (λ j. (e j, kl_same kl j)) (elim is [ inl all ↦ inl all | inr some ↦ inr (refl, some) ]));
   counted = subst (λ n. Counted n xz.failures (stored_fault p.fx)) stays.calls.cause p.pruned.counted;
   begun = λ lt clean. both_begun bases room xo xm xn lo lm ln f g h None m k left held th r (subst (λ z. 0 < length (done ++ (in_hand z ++ []))) (sym no_hand) lt) (p.pruned.follows.clean clean);
   cut = λ lt clean. stays.calls.live (p.pruned.begun lt clean);
@@ -314,7 +305,7 @@ session_done bases lanes room xo xm xn xz lo lm ln lz f g h fault m k left held 
   whole = λ none. record {
     hand = refl;
     queue = refl;
-    pruned = sym (p.all ∙ ap (λ l. p.ds ++ l) (p.whole none) ∙ append-nil p.ds);
+    pruned = p.whole none;
     idle = λ c far meets bs kx kl i q at. both_idle bases room xo xm xn lo lm ln f g h None m k left held th r c far meets bs (kx_then_first kx kl) (kl_before kl) refl i q at;
   };
 }
@@ -328,8 +319,8 @@ session_done bases lanes room xo xm xn xz lo lm ln lz f g h fault m k left held 
     no_hand : r.hand ≡ None
     no_hand = r.taken.empty no_fault.1
 
-    taken : IsTaken lo ln done None None 0 k
-    taken = subst (λ (z : Option Item × Option SessionFault). IsTaken lo ln done z.0 z.1 0 k) (λ j. (no_hand j, no_fault.1 j)) (both_taken bases room xo xm xn lo lm ln f g h None m k left held th r)
+    taken : IsTaken lo ln done None [] None 0 k
+    taken = subst (λ (z : Option Item × Option SessionFault). IsTaken lo ln done z.0 [] z.1 0 k) (λ j. (no_hand j, no_fault.1 j)) (both_taken bases room xo xm xn lo lm ln f g h None m k left held th r)
 
     stays : Stays xo xn None
     stays = subst (λ z. Stays xo xn (stored_fault z)) no_fault.0 (both_stay bases room xo xm xn lo lm ln f g h None m k left held th r)
@@ -338,10 +329,10 @@ session_done bases lanes room xo xm xn xz lo lm ln lz f g h fault m k left held 
     kl_before kl = stood_first lo ln lz (stored_fault p.fl) ln.value (λ w. w ≡ ln.value) p.pruned.stays kl
 
     kl_behind : HasStood lo lz → HasStood ln lz
-    kl_behind kl = stood_then lo ln lz (stored_fault p.fl) ln.value (given_all lo.value done) (λ w. w ≡ ln.value) (IsImage lo.value done None) taken.leaves p.pruned.stays kl
+    kl_behind kl = stood_then lo ln lz (stored_fault p.fl) ln.value (given_all lo.value done) (λ w. w ≡ ln.value) (IsImage lo.value done []) taken.leaves p.pruned.stays kl
 
     kl_same : HasStood lo lz → ln.value ≡ given_all lo.value done
-    kl_same kl = stood_value lo ln (given_all lo.value done) (IsImage lo.value done None) taken.leaves (kl_before kl)
+    kl_same kl = stood_value lo ln (given_all lo.value done) (IsImage lo.value done []) taken.leaves (kl_before kl)
 
     kx_then_first : HasStood xo xz → HasStood lo lz → HasStood xo xn
     kx_then_first kx kl = stood_first xo xn xz (stored_fault p.fx) (pruned_to_all xn.value f.owner ln.value p.ds) (IsCut xn.value f.owner ln.value lanes p.ds) (p.pruned.leaves (kl_behind kl)) kx

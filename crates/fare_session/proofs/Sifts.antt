@@ -1,5 +1,5 @@
 -- The lanes that a ledger hasn't retired, asked for one by one.
-use Rattle.std.proofs.Common.{◌≡◌, ℕ, ◌+◌, ◌<◌, ◌≤◌, Some, None, Bool, true, false, List, [], ◌∷◌, ◌++◌, length, refl, sym, ap, ◌∙◌, subst, inl, inr, arith, length-append}
+use Rattle.std.proofs.Common.{◌≡◌, ℕ, ◌+◌, ◌<◌, ◌≤◌, Some, None, Bool, true, false, List, [], ◌∷◌, ◌++◌, length, refl, sym, ap, ◌∙◌, inl, inr, arith, length-append}
 use Rattle.std.specs.Prelude.{◌⊎◌, slice_get, get_or, nat_eq, Option, Result, Ok, Err}
 use Rattle.std.specs.Map.{keys_of}
 use Rattle.std.proofs.lemmas.Map.Keys.{IsDistinct-from_apart}
@@ -13,7 +13,7 @@ use Rattle.fare_store.specs.LedgerWords.{LedgerValue}
 use Rattle.fare_history.specs.Serving.{IsWorking}
 use Rattle.fare_session.specs.Stores.{HasStood, Stays}
 use Rattle.fare_session.specs.Forwarding.{AreApart}
-use Rattle.fare_session.specs.Asking.{AreWorking, AreSifted}
+use Rattle.fare_session.specs.Asking.{AreSifted}
 use Rattle.fare_session.proofs.StoreCalls.{stays_none, stays_then, stood_first, stood_then, stood_value}
 use Rattle.fare_session.proofs.Forwards.{apart_at}
 use Rattle.fare_session.proofs.Asks.{push_cases, push_before, push_last, key_of, unlike}

@@ -9,15 +9,29 @@ use Rattle.fare_session.specs.Stores.{Called, Follows, HasStood, Leaves, Stays}
 pub called : {V : Type 0} (a b : Standing V) (f : Option Fault) (did : Type 0) (commits : V → Type 0) → Calls a b f did commits → Called a b f did commits
 called a b f did commits c = record { value = c.value; stop = c.stop; lasts = c.lasts; clean = c.clean; live = c.live; stays = λ e live clean. c.stays e clean; cause = c.cause }
 
--- a call that was done, and is what it commits
-pub leaves_done : {V : Type 0} (a b : Standing V) (did : Type 0) (v : V) → IsSound b → Called a b None did (λ w. w ≡ v) → (did → b.value ≡ v) → Leaves a b None v (λ w. w ≡ v)
-leaves_done a b did v sound c is = record {
-  calls = record { value = λ live lawful. let x = c.value live lawful in (x.0, is x.1); stop = c.stop; lasts = c.lasts; clean = c.clean; live = c.live; stays = c.stays; cause = c.cause };
-  left = λ k w leaves.
-      let live = c.stays refl k.live k.clean in
-      let x = c.value live k.lawful in
-      sound.settled live x.0 w leaves ∙ is x.1;
+-- a call that was done: a stop leaves what it did, whatever of it a failure might have left
+pub leaves_done : {V : Type 0} (a b : Standing V) (did : Type 0) (v : V) (commits : V → Type 0) → IsSound b → Called a b None did commits → (did → b.value ≡ v) → Leaves a b None v (λ w. w ≡ v)
+leaves_done a b did v commits sound c is = record {
+  calls = record {
+    value = λ live lawful. let x = c.value live lawful in (x.0, is x.1);
+    stop = λ clean lawful w leaves. elim (c.stop clean lawful w leaves) [
+      | inl before ↦ inl before
+      | inr done ↦ inr (done.0, whole (record { live = done.0; lawful = lawful done.0; clean = clean }) w leaves)
+    ];
+    lasts = c.lasts;
+    clean = c.clean;
+    live = c.live;
+    stays = c.stays;
+    cause = c.cause;
+  };
+  left = whole;
 }
+  where
+    whole : HasStood a b → (w : _) → b.may_leave w → w ≡ v
+    whole k w leaves =
+        let live = c.stays refl k.live k.clean in
+        let x = c.value live k.lawful in
+        sound.settled live x.0 w leaves ∙ is x.1
 
 -- a call that changed nothing, and yet may have committed
 pub leaves_kept : {V : Type 0} (a b : Standing V) (f : Option Fault) (did : Type 0) (commits : V → Type 0) → IsSound a → Called a b f did commits → (did → b.value ≡ a.value) → Leaves a b f a.value (λ w. (w ≡ a.value) ⊎ commits w)

@@ -1,6 +1,7 @@
 pub mod Stores
 pub mod Forwarding
 pub mod Taking
+pub mod Batching
 pub mod Resting
 pub mod Asking
 pub mod Session

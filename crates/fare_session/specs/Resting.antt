@@ -1,11 +1,12 @@
 -- What the call itself takes once the threads have returned, and what it prunes.
-use Rattle.std.specs.Prelude.{◌≡◌, ◌⊎◌, ℕ, ◌<◌, ◌≤◌, List, [], ◌∷◌, ◌++◌, length, slice_get, Option, None, Some}
+use Rattle.std.specs.Prelude.{◌≡◌, ◌⊎◌, ℕ, ◌<◌, ◌≤◌, List, [], ◌∷◌, ◌++◌, length, slice_get, Option, None, Some, Result, OnOk}
+use Rattle.std.specs.List.{AllByRecursion}
 use Rattle.std.specs.Map.{keys_of}
 use Rattle.fare_record.specs.Limits.{IsDay}
 use Rattle.fare_record.specs.declared.item.Item.{Item}
 use Rattle.fare_route.specs.declared.forwarder.Forwarder.{Forwarder}
 use Rattle.fare_store.specs.declared.fault.Fault.{Fault}
-use Rattle.fare_store.specs.Standing.{Standing, Counted}
+use Rattle.fare_store.specs.Standing.{Standing, Counted, fault_of}
 use Rattle.fare_store.specs.OutboxWords.{OutboxValue}
 use Rattle.fare_store.specs.LedgerWords.{LedgerValue}
 use Rattle.fare_session.specs.declared.fault.SessionFault.{SessionFault}
@@ -42,15 +43,25 @@ pub record IsRest (bases : List (ℕ × ℕ)) (xo xn : Standing OutboxValue) (lo
   pub fx : Option SessionFault
   pub fl : Option SessionFault
   pub forwarded : ForwardedIf (Behind bases lo ln) bases xo xn f g (done ++ in_hand hand) fx
-  pub taken : IsTaken lo ln done hand fl before after
+  pub taken : IsTaken lo ln done hand [] fl before after
   pub count : held ≡ length (in_hand hand)
   pub one : IsOne fx fl fault
   pub skipped : fault ≡ Some Refused → xn.clean → xo.live
   pub idle : fault ≡ None → (k : ℕ) (p : ℕ × ℕ) → slice_get bases k ≡ Some p → IdleAt bases xo xn lo ln f done p.0
 
--- these lanes are pruned, or one more
+-- each of these devices with how many of its taps the ledger has
+abbrev pub counted_in : LedgerValue → List ℕ → List (ℕ × ℕ)
+counted_in l [] = []
+counted_in l (d ∷ ds) = (d, length (l.taken d)) ∷ counted_in l ds
+
+-- the ledger told how many taps it has of each lane's device
+pub record AreCounted (old new : Standing LedgerValue) (before after : List (ℕ × ℕ)) (result : Result Unit Fault) : Type 0 where
+  pub stays : Stays old new (fault_of result)
+  pub told : OnOk result (HasStood old new → after ≡ counted_in old.value (keys_of before))
+
+-- these lanes are pruned, or also these more
 abbrev pub IsCut : OutboxValue → ℕ → LedgerValue → List (ℕ × ℕ) → List ℕ → OutboxValue → Type 0
-IsCut x owner l bases ds w = (w ≡ pruned_to_all x owner l ds) ⊎ ((d : ℕ) × IsBased bases d × (w ≡ pruned_to_all x owner l (ds ++ d ∷ [])))
+IsCut x owner l bases ds w = (w ≡ pruned_to_all x owner l ds) ⊎ ((more : List ℕ) × AllByRecursion (IsBased bases) more × (w ≡ pruned_to_all x owner l (ds ++ more)))
 
 -- the lanes of these devices were pruned to the ledger's counts
 pub record IsPruned (owner : ℕ) (bases : List (ℕ × ℕ)) (xo xn : Standing OutboxValue) (lo ln : Standing LedgerValue) (ds : List ℕ) (fx fl : Option Fault) : Type 0 where
@@ -61,14 +72,14 @@ pub record IsPruned (owner : ℕ) (bases : List (ℕ × ℕ)) (xo xn : Standing 
   pub begun : 0 < length ds → xn.clean → xo.live
   pub follows : Follows xo xn
 
+-- all lanes were pruned, or none was
 pub record IsPruning (owner : ℕ) (bases : List (ℕ × ℕ)) (xo xn : Standing OutboxValue) (lo ln : Standing LedgerValue) (fault : Option SessionFault) : Type 0 where
   pub ds : List ℕ
-  pub rest : List ℕ
   pub fx : Option SessionFault
   pub fl : Option SessionFault
-  pub all : keys_of bases ≡ ds ++ rest
+  pub all : (ds ≡ keys_of bases) ⊎ (ds ≡ [])
   pub pruned : IsPruned owner bases xo xn lo ln ds (stored_fault fx) (stored_fault fl)
   pub owners : IsOwners fault
   pub one : IsOne fx fl fault
-  pub whole : fault ≡ None → rest ≡ []
+  pub whole : fault ≡ None → ds ≡ keys_of bases
   pub unrefused : fault ≡ Some Refused → ⊥

@@ -1,19 +1,19 @@
 -- What a session of an owner did, whatever its stores might have held when it began.
-use Rattle.std.specs.Prelude.{◌≡◌, ◌⊎◌, ℕ, ◌<◌, ◌≤◌, ◌+◌, min, [], ◌∷◌, ◌++◌, length, Option, None, Some}
+use Rattle.std.specs.Prelude.{◌≡◌, ◌⊎◌, ℕ, ◌<◌, ◌≤◌, ◌+◌, min, List, [], ◌++◌, length, Option, None, Some}
 use Rattle.std.specs.List.{AllByRecursion}
 use Rattle.fare_scheme.specs.Values.{SchemeValue}
 use Rattle.fare_store.specs.Standing.{Standing}
 use Rattle.fare_store.specs.OutboxWords.{OutboxValue}
 use Rattle.fare_store.specs.LedgerWords.{LedgerValue, IsOfScheme}
 use Rattle.fare_record.specs.declared.item.Item.{Item}
-use Rattle.fare_history.specs.Serving.{AreUnrefused, given_all, in_hand, Service, pruned_to_all, IsOfDevice, IsDated, IsService}
+use Rattle.fare_history.specs.Serving.{AreUnrefused, given_all, in_hand, tried_in, Service, pruned_to_all, IsOfDevice, IsDated, IsService}
 use Rattle.fare_history.specs.Plainly.{IsFinished, ServesPlainly, IsWholeService, ShowsWhy}
 use Rattle.fare_history.specs.Holding.{MayHold, Leads}
 use Rattle.fare_session.specs.declared.fault.SessionFault.{SessionFault}
 use Rattle.fare_session.specs.declared.fault.SessionFault.TheVariants.{Refused, Store}
 use Rattle.fare_session.specs.declared.report.OwnerReport.{OwnerReport}
 use Rattle.fare_session.specs.Stores.{IsOwners, Follows}
-use Rattle.fare_session.specs.Taking.{added_by}
+use Rattle.fare_session.specs.Taking.{added_by, IsImage}
 
 -- THE STORES
 -- Both stores have kept what was committed. If they were live when the session began, what they held fit together, and
@@ -25,13 +25,13 @@ pub record AreFit (sc : SchemeValue) (owner : ℕ) (xo xn : Standing OutboxValue
   pub lists : lo.live → lo.lawful
   pub mine : lo.live → (lo.value.owner ≡ owner) × IsOfScheme sc lo.value
 
--- the ledger has what was taken, or also the item in the hand, whose take failed and which it doesn't refuse
+-- the ledger has what was taken, and behind it a first part of what was tried when a take failed: the item in the hand and those behind it in the queue, none of which it refuses. Where the hand is empty there is none.
 abbrev pub IsTakenBy : Service → LedgerValue → LedgerValue → Type 0
-IsTakenBy v l m = (m ≡ given_all l v.taken) ⊎ (AreUnrefused (given_all l v.taken) (in_hand v.hand) × (m ≡ given_all l (v.taken ++ in_hand v.hand)))
+IsTakenBy v l m = IsImage l v.taken (tried_in v.hand v.queue) m
 
--- the lanes are pruned up to the counts of a ledger, or also one more, whose pruning failed
+-- the lanes are pruned up to the counts of a ledger, or also these more, whose pruning failed
 abbrev pub IsPrunedBy : SchemeValue → ℕ → LedgerValue → Service → OutboxValue → OutboxValue → Type 0
-IsPrunedBy sc owner m v x y = (y ≡ pruned_to_all x owner m v.pruned) ⊎ ((v.hand ≡ None) × ((device : ℕ) × IsOfDevice sc device × (y ≡ pruned_to_all x owner m (v.pruned ++ device ∷ []))))
+IsPrunedBy sc owner m v x y = (y ≡ pruned_to_all x owner m v.pruned) ⊎ ((v.hand ≡ None) × ((more : List ℕ) × AllByRecursion (IsOfDevice sc) more × (y ≡ pruned_to_all x owner m (v.pruned ++ more))))
 
 -- a count of failures rose, or it was the greatest
 abbrev pub Rose : ℕ → ℕ → Type 0
@@ -60,6 +60,7 @@ pub record SaysOfService (sc : SchemeValue) (owner : ℕ) (v : Service) (report 
   pub whole : report.fault ≡ None → IsFinished sc owner x l v
 
 pub record IsServed (sc : SchemeValue) (owner : ℕ) (xo xn : Standing OutboxValue) (lo ln : Standing LedgerValue) (report : OwnerReport) : Type 0 where
+  -- where the owner stopped in a batch, the item that it stopped at is in its hand, and those behind it come first in its queue
   pub v : Service
   -- whatever the stores might have held when it began, also where a failure had shut one of them
   pub says : AreFit sc owner xo xn lo ln → (x : OutboxValue) (l : LedgerValue) → MayHold xo x → MayHold lo l → SaysOfService sc owner v report x l

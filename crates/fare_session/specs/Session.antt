@@ -1,5 +1,5 @@
 -- What a whole session did, over the bases of its working lanes, and of all that it prunes.
-use Rattle.std.specs.Prelude.{◌≡◌, ◌⊎◌, ℕ, ◌<◌, ◌≤◌, min, List, [], ◌∷◌, ◌++◌, length, slice_get, Option, None, Some}
+use Rattle.std.specs.Prelude.{◌≡◌, ◌⊎◌, ℕ, ◌<◌, ◌≤◌, min, List, [], ◌++◌, length, slice_get, Option, None, Some}
 use Rattle.std.specs.List.{AllByRecursion}
 use Rattle.std.specs.Map.{keys_of}
 use Rattle.fare_record.specs.declared.item.Item.{Item}
@@ -12,7 +12,7 @@ use Rattle.fare_store.specs.LedgerWords.{LedgerValue}
 use Rattle.fare_session.specs.declared.fault.SessionFault.{SessionFault}
 use Rattle.fare_session.specs.declared.fault.SessionFault.TheVariants.{Refused, Store}
 use Rattle.fare_session.specs.declared.report.OwnerReport.{OwnerReport}
-use Rattle.fare_history.specs.Serving.{Cursors, device_of, moved_by_all, AreNextItems, AreUnrefused, given_all, in_hand, Service, put_by, pruned_to_all, IsDated}
+use Rattle.fare_history.specs.Serving.{Cursors, device_of, moved_by_all, AreNextItems, AreUnrefused, given_all, in_hand, tried_in, Service, put_by, pruned_to_all, IsDated}
 use Rattle.fare_session.specs.Taking.{added_by}
 use Rattle.fare_session.specs.Stores.{IsOwners, Follows, HasStood, Leaves}
 use Rattle.fare_session.specs.Forwarding.{IsBased, IsAsFar, AreBases, Skips, Forwarded}
@@ -26,7 +26,7 @@ pub record IsThreaded (bases : List (ℕ × ℕ)) (room : ℕ) (xo xn : Standing
   pub hand : Option Item
   pub queue : List Item
   pub forwarded : Forwarded bases xo xn f g sent put
-  pub taken : IsTaken lo ln done hand fault before after
+  pub taken : IsTaken lo ln done hand queue fault before after
   pub has : InHand fault hand
   pub all : sent ≡ done ++ (in_hand hand ++ queue)
   pub few : length queue ≤ room
@@ -44,9 +44,9 @@ pub record IsWhole (bases lanes : List (ℕ × ℕ)) (xo xn : Standing OutboxVal
   pub pruned : v.pruned ≡ keys_of lanes
   pub idle : (c : Cursors) → IsAsFar bases f c → MeetsLedger bases lo.value c → AreBases bases c → HasStood xo xn → HasStood lo ln → (k : ℕ) (p : ℕ × ℕ) → slice_get bases k ≡ Some p → IsIdle f.owner xo.value (moved_by_all c v.taken) p.0
 
--- these lanes are pruned, or, with nothing in the hand, one more
+-- these lanes are pruned, or, with nothing in the hand, also these more
 abbrev pub IsCutWith : Option Item → OutboxValue → ℕ → LedgerValue → List (ℕ × ℕ) → List ℕ → OutboxValue → Type 0
-IsCutWith hand x owner l lanes ds w = (w ≡ pruned_to_all x owner l ds) ⊎ ((hand ≡ None) × ((d : ℕ) × IsBased lanes d × (w ≡ pruned_to_all x owner l (ds ++ d ∷ []))))
+IsCutWith hand x owner l lanes ds w = (w ≡ pruned_to_all x owner l ds) ⊎ ((hand ≡ None) × ((more : List ℕ) × AllByRecursion (IsBased lanes) more × (w ≡ pruned_to_all x owner l (ds ++ more))))
 
 pub record IsSession (bases lanes : List (ℕ × ℕ)) (room : ℕ) (xo xn : Standing OutboxValue) (lo ln : Standing LedgerValue) (f : Forwarder) (report : OwnerReport) : Type 0 where
   pub v : Service
@@ -55,8 +55,8 @@ pub record IsSession (bases lanes : List (ℕ × ℕ)) (room : ℕ) (xo xn : Sta
   pub next : (c : Cursors) → IsAsFar bases f c → MeetsLedger bases lo.value c → AreBases bases c → HasStood xo xn → HasStood lo ln → AreNextItems f.owner xo.value c (put_by v)
   pub known : AllByRecursion (λ i. IsBased bases (device_of i)) (put_by v)
   pub few : length v.queue ≤ room
-  pub registered : (rest : List ℕ) × (keys_of lanes ≡ v.pruned ++ rest)
-  pub ledger : Leaves lo ln fl (given_all lo.value v.taken) (IsImage lo.value v.taken v.hand)
+  pub registered : (v.pruned ≡ keys_of lanes) ⊎ (v.pruned ≡ [])
+  pub ledger : Leaves lo ln fl (given_all lo.value v.taken) (IsImage lo.value v.taken (tried_in v.hand v.queue))
   pub outbox : HasStood lo ln → Leaves xo xn fx (pruned_to_all xo.value f.owner (given_all lo.value v.taken) v.pruned) (IsCutWith v.hand xo.value f.owner (given_all lo.value v.taken) lanes v.pruned)
   pub counted : Counted xo.failures xn.failures fx
   -- a clean outbox was live where it answered

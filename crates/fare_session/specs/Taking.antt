@@ -1,13 +1,14 @@
 -- What an owner does with its ledger.
-use Rattle.std.specs.Prelude.{◌≡◌, ◌⊎◌, ℕ, ◌+◌, ◌≤◌, min, if◌then◌else◌, Bool, true, List, [], ◌∷◌, ◌++◌, Option, None, Some, is_none, Result, Ok, Err}
+use Rattle.std.specs.Prelude.{◌≡◌, ℕ, ◌+◌, ◌≤◌, min, if◌then◌else◌, Bool, true, List, [], ◌∷◌, ◌++◌, length, take, Option, None, Some, is_none, Result, Ok, Err}
 use Rattle.std.specs.List.{AllByRecursion}
 use Rattle.fare_record.specs.declared.item.Item.{Item}
 use Rattle.fare_record.specs.declared.item.Item.TheVariants.{Tap, Stated}
 use Rattle.fare_store.specs.Standing.{Standing}
 use Rattle.fare_store.specs.LedgerWords.{LedgerValue}
+use Rattle.fare_session.specs.declared.batching.Halt.{Halt}
 use Rattle.fare_session.specs.declared.fault.SessionFault.{SessionFault}
 use Rattle.fare_session.specs.declared.fault.SessionFault.TheVariants.{Refused}
-use Rattle.fare_history.specs.Serving.{given, given_all, IsUnrefused, AreUnrefused, in_hand, IsDated}
+use Rattle.fare_history.specs.Serving.{given, given_all, IsUnrefused, AreUnrefused, in_hand, tried_in, IsDated}
 use Rattle.fare_history.specs.Plainly.{IsRefused}
 use Rattle.fare_session.specs.Stores.{stored_fault, IsOwners, Called, HasStood, Leaves}
 
@@ -31,18 +32,20 @@ abbrev pub IsRefusedHand : LedgerValue → Option Item → Type 0
 IsRefusedHand l None = ⊥
 IsRefusedHand l (Some i) = IsRefused l i
 
--- the ledger has these items, or also the one in the hand, which it then doesn't refuse
-abbrev pub IsImage : LedgerValue → List Item → Option Item → LedgerValue → Type 0
-IsImage l items hand w = (w ≡ given_all l items) ⊎ (AreUnrefused (given_all l items) (in_hand hand) × (w ≡ given_all l (items ++ in_hand hand)))
+-- the ledger has these items, and behind them a first part of those that were tried, none of which it refuses
+pub record IsImage (l : LedgerValue) (items tried : List Item) (w : LedgerValue) : Type 0 where
+  pub count : ℕ
+  pub unrefused : AreUnrefused (given_all l items) (take count tried)
+  pub value : w ≡ given_all l (items ++ take count tried)
 
 -- no fault leaves nothing in the hand, and a fault leaves one item there
 abbrev pub InHand : Option SessionFault → Option Item → Type 0
 InHand None hand = hand ≡ None
 InHand (Some fault) hand = (i : Item) × (hand ≡ Some i)
 
--- the ledger took these items, in order, and failed or refused at the one in the hand
-pub record IsTaken (old new : Standing LedgerValue) (items : List Item) (hand : Option Item) (fault : Option SessionFault) (before after : ℕ) : Type 0 where
-  pub leaves : Leaves old new (stored_fault fault) (given_all old.value items) (IsImage old.value items hand)
+-- the ledger took these items, in order, and failed or refused at the one in the hand, perhaps in a call with those behind it
+pub record IsTaken (old new : Standing LedgerValue) (items : List Item) (hand : Option Item) (behind : List Item) (fault : Option SessionFault) (before after : ℕ) : Type 0 where
+  pub leaves : Leaves old new (stored_fault fault) (given_all old.value items) (IsImage old.value items (tried_in hand behind))
   pub tally : HasStood old new → Tallied before after (added_by old.value items)
   pub owners : IsOwners fault
   pub empty : fault ≡ None → hand ≡ None
@@ -71,19 +74,28 @@ WasKept old new i (Err fault) = (new ≡ old) × (fault ≡ Refused → IsRefuse
 abbrev pub IsKept : Standing LedgerValue → Standing LedgerValue → Item → Result Bool SessionFault → Type 0
 IsKept old new i result = Called old new (stored_fault (fault_kept result)) (WasKept old.value new.value i result) (λ w. AreUnrefused old.value (i ∷ []) × (w ≡ given old.value i)) × IsOwners (fault_kept result)
 
--- of these items some were taken, in order, and one is in the hand
-pub record IsTaking (old new : Standing LedgerValue) (items : List Item) (fault : Option SessionFault) (before after : ℕ) : Type 0 where
-  pub done : List Item
-  pub hand : Option Item
-  pub all : items ≡ done ++ in_hand hand
-  pub has : InHand fault hand
-  pub taken : IsTaken old new done hand fault before after
+-- what ended the owner, and how many items stand behind the one in its hand then
+abbrev pub fault_of_halt : Option Halt → Option SessionFault
+fault_of_halt None = None
+fault_of_halt (Some halt) = Some halt.fault
 
--- of what was left
-pub record IsLeftTaken (old new : Standing LedgerValue) (left rest : List Item) (fault : Option SessionFault) (before after : ℕ) : Type 0 where
+abbrev pub behind_of : Option Halt → ℕ
+behind_of None = 0
+behind_of (Some halt) = halt.behind
+
+-- of these items some were taken, in order; at a halt one is in the hand, and the others stand behind it
+pub record IsTaking (old new : Standing LedgerValue) (items : List Item) (halt : Option Halt) (before after : ℕ) : Type 0 where
   pub done : List Item
   pub hand : Option Item
-  pub all : left ≡ done ++ (in_hand hand ++ rest)
-  pub has : InHand fault hand
-  pub taken : IsTaken old new done hand fault before after
-  pub none : fault ≡ None → rest ≡ []
+  pub behind : List Item
+  pub all : items ≡ done ++ (in_hand hand ++ behind)
+  pub has : InHand (fault_of_halt halt) hand
+  pub count : length behind ≡ behind_of halt
+  pub taken : IsTaken old new done hand behind (fault_of_halt halt) before after
+
+-- of what was left some items were given, and what came of these; without a halt all were
+pub record IsLeftTaken (old new : Standing LedgerValue) (left rest : List Item) (halt : Option Halt) (before after : ℕ) : Type 0 where
+  pub items : List Item
+  pub all : left ≡ items ++ rest
+  pub taking : IsTaking old new items halt before after
+  pub none : halt ≡ None → rest ≡ []

@@ -1,11 +1,14 @@
 //! Sessions of the hub on running threads. `serve_owner` is a session of one owner: a forwarder's thread reads the
-//! outbox and an owner's thread writes the ledger, with one lane queue between them. Whatever the schedule, what it
-//! did is told by a service, a value in the words of the stores alone: what the owner took, what is in its hand and in
-//! its queue, and which lanes were pruned. By it the contract says what both stores may hold afterwards, also where a
-//! call of a store failed and where a stop comes, and what the report says.
+//! outbox and an owner's thread writes the ledger, with one lane queue between them. The owner takes what the queue
+//! holds at once, and taps that stand together in such a batch go to the ledger in one commit; so do the prunes at the
+//! end to the outbox. Whatever the schedule, what a session did is told by a service, a value in the words of the
+//! stores alone: what the owner took, what is in its hand and in its queue, and which lanes were pruned. By it the
+//! contract says what both stores may hold afterwards, also where a call of a store failed and where a stop comes, and
+//! what the report says.
 #![tactic(auto)]
 
 mod asking;
+mod batching;
 mod ending;
 mod fault;
 mod forwarding;

@@ -6,4 +6,6 @@ pub(crate) struct Pace<'a, G, R> {
     pub(crate) gate: &'a G,
     // how often each may find nothing to do
     pub(crate) turns: u64,
+    // how many items the owner takes at once, at most
+    pub(crate) batch: usize,
 }

@@ -5,7 +5,7 @@ use crate::fault::SessionFault;
 pub struct OwnerReport {
     /// How many items, taps and statements alike, the ledger took that it didn't hold yet; it stays at 2^64 - 1.
     pub taken: u64,
-    /// How many items are left in the owner's hand and in its lane queue.
+    /// How many items are left: the one in the owner's hand, those behind it in its batch, and those in its lane queue.
     pub left: u64,
     /// Why it ended early, if it did: the owner's fault, else the forwarder's.
     pub fault: Option<SessionFault>,

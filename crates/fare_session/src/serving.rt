@@ -1,14 +1,17 @@
 //! The session.
-ghost use Rattle.std.specs.Prelude.{◌≡◌, ◌≤◌, [], None, Some, IsSome};
+ghost use Rattle.std.specs.Prelude.{◌≡◌, ◌+◌, ◌-◌, ◌<◌, ◌≤◌, [], None, Some, IsSome, IfSome, IfOk};
 ghost use Rattle.fare_scheme.specs.Words.{position_of_owner};
 ghost use Rattle.fare_lane_queue.specs.Passes.{capacity_of, sent_list, taken_list, forward_bases, IsForwardOf, IsOwnerOf};
 ghost use Rattle.fare_store.specs.Standing.{IsSound};
 ghost use Rattle.fare_session.specs.Forwarding.{AreApart, Forwarded, HasCursors};
 ghost use Rattle.fare_session.specs.Taking.{IsTaking};
+ghost use Rattle.fare_session.specs.Batching.{IsBatch};
+ghost use Rattle.fare_lane_queue.specs.Lane.{IsRoom};
 ghost use Rattle.fare_session.specs.Session.{IsThreaded, IsSession};
 ghost use Rattle.fare_session.specs.Served.{IsServed, report_of};
 
 use crate::asking::{Asked, ask};
+use crate::batching::{Halt, batch_of};
 use crate::ending::Ending;
 use crate::fault::{SessionFault, failed};
 use crate::forwarding::forward_all;
@@ -24,7 +27,7 @@ use fare_record::{DeviceId, OwnerId};
 use fare_route::Forwarder;
 use fare_scheme::Scheme;
 use fare_store::{Ledger, Outbox};
-use std::alloc::Global;
+use std::alloc::{AllocError, Global};
 use std::sync::Wait;
 use std::thread::{Threads, join_mut};
 use std::time::Clock;
@@ -50,7 +53,8 @@ fn run_threads<
     ledger: &mut L,
     taken: &mut u64,
     passage: &mut Passage,
-) -> (Option<SessionFault>, Option<SessionFault>)
+) -> (Option<SessionFault>, Option<Halt>)
+    requires batch { IsBatch pace.now.batch }
     requires forward { IsForwardOf passage.old.queue passage.old.forward × (sent_list passage.old.forward ≡ []) × (forward_bases passage.old.forward ≡ bases.now) }
     requires owner { IsOwnerOf passage.old.queue passage.old.mine × (taken_list passage.old.mine ≡ []) }
     requires apart { AreApart bases.now }
@@ -59,6 +63,7 @@ fn run_threads<
     ensures queue { IsForwardOf passage.old.queue passage.new.forward × IsOwnerOf passage.old.queue passage.new.mine }
     ensures forwarded { Forwarded bases.now (O.standing outbox.old) (O.standing outbox.new) forwarder.old forwarder.new (sent_list passage.new.forward) result.0 }
     ensures taken { IsTaking (L.standing ledger.old) (L.standing ledger.new) (taken_list passage.new.mine) result.1 taken.old taken.new }
+    ensures few { IfSome result.1 (λ halt. halt.behind < pace.now.batch) }
 {
     let ending = Ending::new();
     let ending = &ending;
@@ -75,10 +80,11 @@ fn run_threads<
             ensures queue { IsForwardOf line.entry.now forward.exit.now }
             ensures forwarded { Forwarded bases.entry.now (O.standing outbox.entry.now) (O.standing outbox.exit.now) forwarder.entry.now forwarder.exit.now (sent_list forward.exit.now) result }
         { forward_all(pace, line, ending, bases, forwarder, outbox, forward) },
-        &mut || -> Option<SessionFault>
-            requires { IsOwnerOf line.now mine.now × (taken_list mine.now ≡ []) }
+        &mut || -> Option<Halt>
+            requires { IsOwnerOf line.now mine.now × (taken_list mine.now ≡ []) × IsBatch pace.now.batch }
             ensures queue { IsOwnerOf line.entry.now mine.exit.now }
             ensures taken { IsTaking (L.standing ledger.entry.now) (L.standing ledger.exit.now) (taken_list mine.exit.now) result taken.entry.now taken.exit.now }
+            ensures few { IfSome result (λ halt. halt.behind < pace.entry.now.batch) }
         { take_all(pace, line, ending, ledger, taken, mine) },
     )
 }
@@ -98,8 +104,9 @@ fn run_lanes<O: Outbox + Send, L: Ledger + Send, G: Gate + Sync, R: Threads + Wa
     requires owner { IsOwnerOf passage.queue passage.mine × (taken_list passage.mine ≡ []) }
     requires apart { AreApart bases.now }
     requires cursors { HasCursors bases.now forwarder.old }
-    requires room { capacity_of passage.queue ≤ 1024 }
-    ensures { IsThreaded bases.now (capacity_of passage.queue) (O.standing outbox.old) (O.standing outbox.new) (L.standing ledger.old) (L.standing ledger.new) forwarder.old forwarder.new result.0 result.1 taken.old taken.new result.2 }
+    requires batch { IsBatch pace.now.batch }
+    requires room { capacity_of passage.queue + (pace.now.batch - 1) ≤ 1024 }
+    ensures { IsThreaded bases.now (capacity_of passage.queue + (pace.now.batch - 1)) (O.standing outbox.old) (O.standing outbox.new) (L.standing ledger.old) (L.standing ledger.new) forwarder.old forwarder.new result.0 result.1 taken.old taken.new result.2 }
 {
     let (put, took) = run_threads(pace, bases, forwarder, outbox, ledger, taken, &mut passage);
     let Passage {
@@ -108,11 +115,11 @@ fn run_lanes<O: Outbox + Send, L: Ledger + Send, G: Gate + Sync, R: Threads + Wa
         mine,
     } = passage;
     let mut ended = queue.finish(pace.rt, forward, mine);
-    if let Some(fault) = took {
-        return (put, Some(fault), ended.left + 1);
+    if let Some(halt) = took {
+        return (put, Some(halt.fault), ended.left + halt.behind + 1);
     }
     match take_left(pace.rt, &mut ended, ledger, taken) {
-        Some(fault) => (put, Some(fault), ended.left + 1),
+        Some(halt) => (put, Some(halt.fault), ended.left + halt.behind + 1),
         None => (put, None, 0),
     }
 }
@@ -127,7 +134,7 @@ fn serve_lanes<
     pace: &Pace<G, R>,
     owner: OwnerId,
     bases: &[(DeviceId, u64)],
-    lanes: &[(DeviceId, u64)],
+    lanes: &mut [(DeviceId, u64)],
     forwarder: &mut Forwarder,
     outbox: &mut O,
     ledger: &mut L,
@@ -137,10 +144,11 @@ fn serve_lanes<
     requires owner { IsOwnerOf passage.queue passage.mine × (taken_list passage.mine ≡ []) }
     requires apart { AreApart bases.now }
     requires cursors { HasCursors bases.now forwarder.old }
-    requires room { capacity_of passage.queue ≤ 1024 }
+    requires batch { IsBatch pace.now.batch }
+    requires room { capacity_of passage.queue + (pace.now.batch - 1) ≤ 1024 }
     requires mine { forwarder.old.owner ≡ owner }
-    requires all { AreApart lanes.now }
-    ensures { IsSession bases.now lanes.now (capacity_of passage.queue) (O.standing outbox.old) (O.standing outbox.new) (L.standing ledger.old) (L.standing ledger.new) forwarder.old result }
+    requires all { AreApart lanes.old }
+    ensures { IsSession bases.now lanes.old (capacity_of passage.queue + (pace.now.batch - 1)) (O.standing outbox.old) (O.standing outbox.new) (L.standing ledger.old) (L.standing ledger.new) forwarder.old result }
 {
     let mut taken = 0;
     let (put, fault, left) = run_lanes(pace, bases, forwarder, outbox, ledger, &mut taken, passage);
@@ -193,6 +201,32 @@ fn not_begun(fault: SessionFault) -> OwnerReport
     }
 }
 
+// The lane queue of an owner. With what a batch leaves behind its item in the hand it holds the capacity at most.
+fn open(
+    alloc: Global,
+    capacity: u32,
+    batch: usize,
+    bases: &[(DeviceId, u64)],
+) -> Result<Passage, AllocError>
+    requires room { IsRoom capacity bases.now }
+    requires some { 1 ≤ batch }
+    requires few { batch ≤ capacity }
+    ensures forward { IfOk result (λ p. IsForwardOf p.queue p.forward × (sent_list p.forward ≡ []) × (forward_bases p.forward ≡ bases.now)) }
+    ensures owner { IfOk result (λ p. IsOwnerOf p.queue p.mine × (taken_list p.mine ≡ [])) }
+    ensures room { IfOk result (λ p. capacity_of p.queue + (batch - 1) ≡ capacity) }
+{
+    let behind = (batch - 1) as u32;
+    match LaneQueue::new(alloc, capacity - behind, bases) {
+        Ok((queue, forward, mine)) => Ok(Passage {
+            queue,
+            forward,
+            mine,
+        }),
+        Err(LaneQueueFault::Memory) => Err(AllocError),
+        Err(LaneQueueFault::Range) => unreachable!(),
+    }
+}
+
 /// Serves an owner: one thread hands on what comes next in the outbox of the owner's lanes, over one lane queue,
 /// and one takes it into the ledger. What is left once both have ended this call takes, and it prunes the lanes
 /// to the ledger's counts. A lane that the ledger has retired is left out, but pruned as the others. A thread that found the queue full or empty `turns` times ends.
@@ -232,24 +266,24 @@ pub fn serve_owner<
     let Ok(mut forwarder) = Forwarder::start(alloc, scheme, owner, &asked.standings) else {
         return not_begun(SessionFault::Memory);
     };
-    let (queue, forward, mine) = match LaneQueue::new(alloc, capacity, &working) {
-        Ok(made) => made,
-        Err(LaneQueueFault::Memory) => return not_begun(SessionFault::Memory),
-        Err(LaneQueueFault::Range) => unreachable!(),
+    let batch = batch_of(capacity);
+    let Ok(passage) = open(alloc, capacity, batch, &working) else {
+        return not_begun(SessionFault::Memory);
     };
-    let pace = Pace { rt, gate, turns };
+    let pace = Pace {
+        rt,
+        gate,
+        turns,
+        batch,
+    };
     serve_lanes(
         &pace,
         owner,
         &working,
-        &asked.bases,
+        &mut asked.bases,
         &mut forwarder,
         outbox,
         ledger,
-        Passage {
-            queue,
-            forward,
-            mine,
-        },
+        passage,
     )
 }

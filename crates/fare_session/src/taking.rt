@@ -1,14 +1,16 @@
 //! The owner's thread: it takes from the lane queue, and alone writes the ledger.
-ghost use Rattle.std.specs.Prelude.{◌≡◌, []};
+ghost use Rattle.std.specs.Prelude.{◌≡◌, ◌<◌, [], IfSome};
 ghost use Rattle.fare_record.specs.Limits.{IsDay};
 ghost use Rattle.fare_record.specs.declared.item.Item.TheVariants.{Tap, Stated};
 ghost use Rattle.fare_lane_queue.specs.Passes.{taken_list, IsOwnerOf, left_list, IsEnded};
 ghost use Rattle.fare_history.specs.Serving.{IsDated};
+ghost use Rattle.fare_session.specs.Batching.{IsBatch};
 ghost use Rattle.fare_session.specs.Taking.{IsKept, IsTaken, IsTaking, IsLeftTaken, done_by, held_by};
 
+use crate::batching::{Halt, keep_batch, keep_batch_left, take_one};
 use crate::ending::Ending;
 use crate::fault::{SessionFault, failed};
-use crate::gate::{Gate, Point};
+use crate::gate::Gate;
 use crate::pace::Pace;
 use crate::turns::Turns;
 use fare_lane_queue::{Ended, LaneQueue, OwnerPass};
@@ -63,7 +65,7 @@ pub(crate) fn keep_item<L: Ledger>(
     item: &Item,
     taken: &mut u64,
 ) -> Option<SessionFault>
-    ensures { IsTaken (L.standing ledger.old) (L.standing ledger.new) (done_by item.now result) (held_by item.now result) result taken.old taken.new }
+    ensures { IsTaken (L.standing ledger.old) (L.standing ledger.new) (done_by item.now result) (held_by item.now result) [] result taken.old taken.new }
 {
     let count = *taken;
     match keep(ledger, item) {
@@ -85,21 +87,22 @@ pub(crate) fn take_all<L: Ledger, G: Gate, R: Wait + Clock>(
     ledger: &mut L,
     taken: &mut u64,
     pass: &mut OwnerPass,
-) -> Option<SessionFault>
+) -> Option<Halt>
     requires queue { IsOwnerOf line.now pass.old × (taken_list pass.old ≡ []) }
+    requires batch { IsBatch pace.now.batch }
     ensures queue { IsOwnerOf line.now pass.new }
     ensures taken { IsTaking (L.standing ledger.old) (L.standing ledger.new) (taken_list pass.new) result taken.old taken.new }
+    ensures few { IfSome result (λ halt. halt.behind < pace.now.batch) }
 {
     let mut turns = Turns::new(pace.turns);
     for _ in pace.rt.forever() {
         let ended = ending.has_forwarder_ended();
-        match line.take(pace.rt, pass) {
+        match take_one(pace, line, pass) {
             Some(item) => {
-                pace.gate.pass(Point::OwnerTook);
                 turns.found();
-                if let Some(fault) = keep_item(ledger, &item, taken) {
+                if let Some(halt) = keep_batch(pace, line, &item, ledger, taken, pass) {
                     ending.owner_ends();
-                    return Some(fault);
+                    return Some(halt);
                 }
             }
             None => {
@@ -120,7 +123,7 @@ pub(crate) fn take_left<L: Ledger, R: Wait>(
     ended: &mut Ended,
     ledger: &mut L,
     taken: &mut u64,
-) -> Option<SessionFault>
+) -> Option<Halt>
     requires { IsEnded ended.old }
     ensures ended { IsEnded ended.new }
     ensures taken { IsLeftTaken (L.standing ledger.old) (L.standing ledger.new) (left_list ended.old) (left_list ended.new) result taken.old taken.new }
@@ -129,8 +132,8 @@ pub(crate) fn take_left<L: Ledger, R: Wait>(
         let Some(item) = ended.next(rt) else {
             return None;
         };
-        if let Some(fault) = keep_item(ledger, &item, taken) {
-            return Some(fault);
+        if let Some(halt) = keep_batch_left(rt, ended, &item, ledger, taken) {
+            return Some(halt);
         }
     }
     unreachable!()

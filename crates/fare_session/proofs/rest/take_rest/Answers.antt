@@ -102,7 +102,7 @@ loop-preserved g c =
     let ln = g.L.Ledger.standing c.keep_item.new.ledger in
     let nd : IsNextDue xm xn c.loop.forwarder c.next_due.new.forwarder p.0 c.loop.reached (Ok (Some x)) =
     subst (λ (z : Option Item). IsNextDue xm xn c.loop.forwarder c.next_due.new.forwarder p.0 c.loop.reached (Ok z)) c.in-Ok-Some.field-0-is c.in-Ok-Some.ensures in
-    let took : IsTaken lm ln (x ∷ []) None None c.loop.taken c.keep_item.new.taken = c.in_default.ensures in
+    let took : IsTaken lm ln (x ∷ []) None [] None c.loop.taken c.keep_item.new.taken = c.in_default.ensures in
     record {
       done = i.done ++ x ∷ [];
       hand = i.hand;

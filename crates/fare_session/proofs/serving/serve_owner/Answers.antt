@@ -1,16 +1,14 @@
-use Rattle.std.proofs.Common.{◌≡◌, ℕ, None, Some, List, sym, ap, ◌∙◌, subst}
+use Rattle.std.proofs.Common.{◌≡◌, ℕ, ◌+◌, ◌-◌, None, List, sym, ap, ◌∙◌, subst}
 use Rattle.std.specs.Prelude.{Option, unwrap_or, Ok, Err}
 use Rattle.fare_route.specs.Routing.{started}
-use Rattle.fare_lane_queue.specs.Lane.{IsRoom}
 use Rattle.fare_lane_queue.specs.Passes.{capacity_of}
 use Rattle.fare_store.specs.declared.fault.Fault.{Fault}
 use Rattle.fare_session.specs.declared.report.OwnerReport.{OwnerReport}
 use Rattle.fare_session.specs.Stores.{Stays}
 use Rattle.fare_session.specs.Forwarding.{HasCursors, AreApart}
-use Rattle.fare_session.specs.Asking.{IsAsked, AreSifted, AreWorking}
+use Rattle.fare_session.specs.Asking.{IsAsked, AreSifted}
 use Rattle.fare_history.specs.Serving.{lane_room}
-use Rattle.fare_session.specs.Served.{IsServed, report_of}
-use Rattle.fare_session.specs.declared.fault.SessionFault.TheVariants.{Memory}
+use Rattle.fare_session.specs.Served.{IsServed}
 use Rattle.fare_session.specs.Session.{IsSession}
 use Rattle.fare_session.proofs.Takes.{failed_owners, not_refused}
 use Rattle.fare_session.proofs.StoreCalls.{stays_then}
@@ -78,8 +76,8 @@ returns-in_default-start g c =
     subst (λ (z : OwnerReport). IsServed sc c.args.owner x x lo lz z) (sym c.not_begun-in_default-start.ensures)
     (served_memory sc c.args.owner x lo lz both)
 
-pub returns-in-Err-Memory : goal.returns-in-Err-Memory
-returns-in-Err-Memory g c =
+pub returns-in_default-open : goal.returns-in_default-open
+returns-in_default-open g c =
     let sc = c.args.scheme.now in
     let x = g.O.Outbox.standing c.args.outbox.now in
     let lo = g.L.Ledger.standing c.args.ledger.now in
@@ -92,17 +90,16 @@ returns-in-Err-Memory g c =
     let told : Stays lo lm None = subst (λ (z : Option Fault). Stays lo lm z) asked.none asked.stays in
     let sifted : AreSifted lm lz bases working (Ok c.in_default-sift.field-0) = subst (λ (b : List (ℕ × ℕ)). AreSifted lm lz b working (Ok c.in_default-sift.field-0)) c.deref.ensures.value c.in_default-sift.ensures in
     let both : Stays lo lz None = stays_then lo lm lz None told (subst (λ (z : Option Fault). Stays lm lz z) sifted.none sifted.stays) in
-    subst (λ (z : OwnerReport). IsServed sc c.args.owner x x lo lz z) (sym c.not_begun-in-Err-Memory.ensures)
+    subst (λ (z : OwnerReport). IsServed sc c.args.owner x x lo lz z) (sym c.not_begun-in_default-open.ensures)
     (served_memory sc c.args.owner x lo lz both)
 
-pub unreachable-requires-in-Err-Range : goal.unreachable-requires-in-Err-Range
-unreachable-requires-in-Err-Range g c =
+pub open-requires-clause-room : goal.open-requires-clause-room
+open-requires-clause-room g c =
     let lm = g.L.Ledger.standing c.ask.new.ledger in
     let lz = g.L.Ledger.standing c.sift.new.ledger in
     let bases = c.deref.result.now in
     let sifted : AreSifted lm lz bases c.sift.new.working.items (Ok c.in_default-sift.field-0) = c.in_default-sift.ensures in
-    let room : IsRoom c.in-Some.capacity c.deref-3.result.now = record { size = c.in-Some.ensures.valid; devices = subst AreApart (sym c.deref-3.ensures.value) sifted.told.apart } in
-    (c.in-Err-Range.ensures.range).0 (ap Err c.in-Err-Range.field-0-is) room
+    record { size = c.in-Some.ensures.valid; devices = subst AreApart (sym c.deref-3.ensures.value) sifted.told.apart }
 
 pub serve_lanes-requires-clause-cursors : goal.serve_lanes-requires-clause-cursors
 serve_lanes-requires-clause-cursors g c κs within =
@@ -131,7 +128,7 @@ serve_lanes-requires-clause-all g c κs within =
     let standings = c.ask.new.asked.standings.items in
     let bases = c.ask.new.asked.bases.items in
     let asked : IsAsked sc lo lm standings bases (Ok c.in_default-ask.field-0) = c.in_default-ask.ensures in
-    subst AreApart (sym c.deref-5.ensures.value) (bases_apart sc lo lm standings bases asked.told)
+    subst AreApart (sym c.deref_mut.ensures.value) (bases_apart sc lo lm standings bases asked.told)
 
 pub returns : goal.returns
 returns g c =
@@ -152,10 +149,10 @@ returns g c =
     let after : Stays lm lz None = subst (λ (z : Option Fault). Stays lm lz z) sifted.none sifted.stays in
     let second : c.deref-2.result.now ≡ standings = c.deref-2.ensures.value in
     let fourth : c.deref-4.result.now ≡ working = c.deref-4.ensures.value in
-    let fifth : c.deref-5.result.now ≡ bases = c.deref-5.ensures.value in
+    let fifth : c.deref_mut.result.now ≡ bases = c.deref_mut.ensures.value in
     let f = c.in-Ok.forwarder in
-    let room = capacity_of c.in-Ok-new.made.0 in
-    let few : room ≡ lane_room sc c.args.owner = c.in-Ok-new.ensures.room.0 ∙ ap (λ (o : Option ℕ). unwrap_or o 0) c.in-Some.ensures.value in
+    let room = capacity_of c.in-Ok-open.passage.queue + (c.batch_of-batch.result - 1) in
+    let few : room ≡ lane_room sc c.args.owner = c.in-Ok-open.ensures.room ∙ ap (λ (o : Option ℕ). unwrap_or o 0) c.in-Some.ensures.value in
     let session : IsSession working bases room x xn lz ln f c.serve_lanes.result = subst (λ (z : List (ℕ × ℕ) × List (ℕ × ℕ)). IsSession z.0 z.1 room x xn lz ln f c.serve_lanes.result) (λ i. (fourth i, fifth i)) c.serve_lanes.ensures in
     served_from sc c.args.owner room x xn lo lz ln standings bases working f c.serve_lanes.result (working_since sc lo lm lz told after bases working sifted.told) (told_then sc lo lm lz told after standings bases asked.told) asked.count (bases_apart sc lo lm standings bases asked.told)
     (λ d. c.in-Ok.ensures.cursors d ∙ ap (λ (s : List (ℕ × Option ℕ)). started sc s d) second) c.in-Ok.ensures.owner few both (λ clean. asked.live (after.calls.clean clean)) asked.some session c.have_laws.ensures.outbox c.have_laws.ensures.ledger

@@ -5,7 +5,7 @@ use Rattle.fare_record.specs.declared.item.Item.TheVariants.{Tap}
 use Rattle.fare_store.specs.declared.fault.Refused.{Refused}
 use Rattle.fare_store.specs.declared.fault.Refused.TheVariants.{Because}
 use Rattle.fare_store.specs.Standing.{Writes}
-use Rattle.fare_store.specs.LedgerWords.{is_mine, take_judged, took}
+use Rattle.fare_store.specs.LedgerWords.{take_judged, took}
 use Rattle.fare_session.specs.declared.fault.SessionFault.TheVariants as session
 use Rattle.fare_session.specs.Taking.{IsKept}
 use Rattle.fare_session.proofs.Owns.{tap_foreign, tap_refused}

@@ -1,5 +1,5 @@
 use Rattle.std.proofs.Common.{rules, ◌≡◌, ℕ, ◌+◌, ◌++◌, ◌∷◌, [], None, Some, List, refl, sym, ap, ◌∙◌, subst, arith}
-use Rattle.std.specs.Prelude.{slice_get, get_or, Option, Ok}
+use Rattle.std.specs.Prelude.{slice_get, Option, Ok}
 use Rattle.std.proofs.lemmas.Option.{slice_get-get_or}
 use Rattle.fare_store.specs.Standing.{Reads}
 use Rattle.fare_session.specs.Stores.{Stays}
