@@ -36,7 +36,7 @@ use Rattle.fare_collect.specs.declared.station.Station.{Station}
 use Rattle.fare_writer.specs.declared.teller.Teller.{Teller}
 use Rattle.fare_inbox_queue.specs.declared.ack_passes.HearPass.{HearPass}
 use Rattle.fare_writer.specs.declared.halt.Halt.{Halt}
-use Rattle.fare_writer.specs.Entries.{item_of, is_new, done_by, Entry, items_of, storing_all, AreEntries, new_count, in_hand, told_to}
+use Rattle.fare_writer.specs.Entries.{item_of, Entry, items_of, storing_all, AreEntries, new_count, in_hand, told_to}
 use Rattle.fare_collect.specs.Arriving.{arrivals}
 use Rattle.fare_writer.specs.Arriving.{IsUnexpected}
 use Rattle.fare_writer.specs.Writing.{store_fault, LeavesOutbox}
@@ -53,7 +53,7 @@ use Rattle.fare_collect.proofs.Served.{element}
 use Rattle.fare_collect.proofs.Handed.{keeps_append, handed_then}
 use Rattle.fare_collect.proofs.Read.{expected_kept}
 use Rattle.fare_collect.proofs.Named.{Knows, known_all, AreNamed, named_arrivals, by_parts, named_part, items_arrive}
-use Rattle.fare_collect.proofs.Gathers.{entry_of, items_are, storing_is, new_is, stored_is, told_is, gathering_of, accepted_is, left_length}
+use Rattle.fare_collect.proofs.Gathers.{entry_of, items_are, storing_is, new_is, stored_is, told_is, gathering_of, accepted_is, tried_first, left_length}
 use Rattle.fare_collect.proofs.Opens.{HaveOpened, opened, opened_stations, resumed_first, first_known, here_or_not}
 
 -- LISTS
@@ -200,20 +200,20 @@ store_halt None e = absurd (cc)
 store_halt (Some h) e = let is : h.fault ≡ writer.Store = cc in ap store_fault is
 
 pub section_says : {S : Type 0} (sc : SchemeValue) (talks : S → Talk) (a b c : Standing OutboxValue) (n0 n1 : Tally) → n0.stored ≡ 0 → n0.days.keys ≡ [] → (before mid after : List (Station S)) (left : ℕ) (halt : Option Halt) (s : HasSession sc talks b c n0 n1 mid after left halt)
-    → AreStations sc before → HaveOpened sc a b before mid → HasBegun sc a b before mid → c.clean → SaysOfGathering sc before (gathering_of s.written.entries (hand_of halt) s.inbox s.last) n1.stored (fault_of_halt halt) a.value
+    → AreStations sc before → HaveOpened sc a b before mid → HasBegun sc a b before mid → c.clean → SaysOfGathering sc before (gathering_of s.written.entries (hand_of halt) (s.written.behind ++ s.inbox) s.last) n1.stored (fault_of_halt halt) a.value
 section_says {S} sc talks a b c n0 n1 zero_count unnoted before mid after left halt s are o begun clean =
     let es = s.written.entries in
     let are_mid = opened_stations sc a b before mid are o in
     let named = all_named sc talks a b c n0 n1 before mid after left halt s are_mid o begun in
-    let accepted = accepted_is es (hand_of halt) s.all s.inbox s.last s.written.all in
+    let accepted = accepted_is es (hand_of halt) s.written.behind s.all s.inbox s.last s.written.all in
     let in_all : AreNamed sc s.all = named_front sc s.all s.inbox named in
-    let in_entries : AreNamed sc (items_of es) = named_front sc (items_of es) (in_hand (hand_of halt)) (subst (AreNamed sc) s.written.all in_all) in
+    let in_entries : AreNamed sc (items_of es) = named_front sc (items_of es) (in_hand (hand_of halt) ++ s.written.behind) (subst (AreNamed sc) s.written.all in_all) in
     let value : history.storing_all a.value (map entry_of es) ≡ storing_all b.value es = storing_is a.value es ∙ ap (λ x. storing_all x es) (sym begun.same) in
     record {
       gathering = record {
         counted = λ device. subst (λ (l : List Item). history.CountsFrom (a.value.upto device + 1) (history.links_of device l)) (sym accepted) (all_counted sc talks a b c n0 n1 before mid after left halt s are are_mid o begun named device);
         stored = stored_is sc a.value es in_entries (subst (λ x. AreEntries sc x es) begun.same (s.written.wrote.known clean begun.going begun.fits));
-        room = (let f = s.few in let l = length-map s.inbox item_of in omega (arith, f, l));
+        room = (let f = s.few in let l = length-map (s.written.behind ++ s.inbox) item_of in omega (arith, f, l));
         last = subst (λ x. AllByRecursion (history.IsAnswerFrom sc x) s.last) (sym value) (s.from clean (λ live. begun.fits));
       };
       stored = (
@@ -237,13 +237,11 @@ section_says {S} sc talks a b c n0 n1 zero_count unnoted before mid after left h
     days : halt ≡ None → n1.days.keys ≡ days_named sc (history.items_of (map entry_of s.written.entries))
     days none =
         s.written.noted none
-        ∙ λ i. fold (noting sc) (unnoted i) ((ap (map item_of) (s.written.all ∙ (ap (λ h. items_of s.written.entries ++ in_hand (hand_of h)) none ∙ append-nil (items_of s.written.entries))) ∙ sym (items_are s.written.entries)) i)
+        ∙ λ i. fold (noting sc) (unnoted i) ((ap (map item_of) (s.written.all ∙ ((λ j. items_of s.written.entries ++ (in_hand (hand_of (none j)) ++ s.written.alone (ap hand_of none) j)) ∙ append-nil (items_of s.written.entries))) ∙ sym (items_are s.written.entries)) i)
 
 -- WHAT IT LEAVES
-leaves_by : (x : OutboxValue) (es : List Entry) (hand : Option Arrived) (inbox : List Arrived) (last : List AckItem) (v : OutboxValue) → LeavesOutbox x es hand v → IsStoredBy (gathering_of es hand inbox last) x v
-leaves_by x es None inbox last v is = inl (is ∙ sym (storing_is x es))
-leaves_by x es (Some a) inbox last v (inl is) = inl (is ∙ sym (storing_is x es))
-leaves_by x es (Some a) inbox last v (inr is) = inr (item_of a, refl, ap (λ y. is_new y a) (storing_is x es) ∙ is.0, is.1 ∙ ap (done_by a) (sym (storing_is x es)))
+leaves_by : (x : OutboxValue) (es : List Entry) (hand : Option Arrived) (behind inbox : List Arrived) (last : List AckItem) (v : OutboxValue) → (hand ≡ None → behind ≡ []) → LeavesOutbox x es (in_hand hand ++ behind) v → IsStoredBy (gathering_of es hand (behind ++ inbox) last) x v
+leaves_by x es hand behind inbox last v alone is = tried_first (history.storing_all x (map entry_of es)) v hand behind inbox alone (subst (λ y. history.HasFirst y (map item_of (in_hand hand ++ behind)) v) (sym (storing_is x es)) is)
 
 -- A STATION
 held_is : (s : Standing OutboxValue) → IsSound s → s.live → s.lawful → (x : OutboxValue) → MayHold s x → x ≡ s.value
@@ -356,14 +354,14 @@ station_talks : {S : Type 0} (sc : SchemeValue) (talks : S → Talk) (a b c : St
     → IsSound a → AreStations sc before → HaveDevices sc before → HaveBegun before begun → HaveResumed sc a b begun mid (Ok tt) → HaveOpened sc a b before mid → (k : ℕ) (d : Station S) → k < length before
     → (w : IsToldAll sc talks (told_to sc k s.written.entries) (history.answers_to sc (slice_index_or mid k d).collector.station s.last) (slice_index_or mid k d) (slice_index_or after k d))
     → of_station (slice_index_or mid k d).collector.station (s.all ++ s.inbox) ≡ arrivals sc (slice_index_or mid k d).collector.station (next_in (slice_index_or mid k d).collector) w.frames
-    → HasTalked sc talks a c (gathering_of s.written.entries (hand_of halt) s.inbox s.last) (slice_index_or before k d) (slice_index_or after k d)
+    → HasTalked sc talks a c (gathering_of s.written.entries (hand_of halt) (s.written.behind ++ s.inbox) s.last) (slice_index_or before k d) (slice_index_or after k d)
 station_talks {S} sc talks a b c n0 n1 before begun mid after left halt s sound are devices first then_ o k d lt w part = record {
   frames = w.frames;
   held = w.held;
   given = w.given ∙ ap (λ (q : S). (talks q).given ++ (w.frames ++ held_list w.held)) (o.each k d lt).0;
   accepted = λ fit x may.
       let start = starts fit in
-      ap (history.of_station sc id) (accepted_is s.written.entries (hand_of halt) s.all s.inbox s.last s.written.all)
+      ap (history.of_station sc id) (accepted_is s.written.entries (hand_of halt) s.written.behind s.all s.inbox s.last s.written.all)
       ∙ (part_accepted sc talks a b c n0 n1 before mid after left halt s o start (named fit) k d lt w.frames part
       ∙ ap (λ y. links.arrivals sc (first_links sc y id) w.frames) (sym (held_is a sound start.live start.lawful x may)));
   kept = w.kept;
@@ -388,16 +386,16 @@ station_talks {S} sc talks a b c n0 n1 before begun mid after left halt s sound 
     named : IsFitting a c → AreNamed sc (s.all ++ s.inbox)
     named fit = all_named sc talks a b c n0 n1 before mid after left halt s (opened_stations sc a b before mid are o) o (starts fit)
 
-    answers : IsFitting a c → history.answers_to sc id (history.all_answers (gathering_of s.written.entries (hand_of halt) s.inbox s.last)) ≡ told_to sc k s.written.entries ++ history.answers_to sc (slice_index_or mid k d).collector.station s.last
+    answers : IsFitting a c → history.answers_to sc id (history.all_answers (gathering_of s.written.entries (hand_of halt) (s.written.behind ++ s.inbox) s.last)) ≡ told_to sc k s.written.entries ++ history.answers_to sc (slice_index_or mid k d).collector.station s.last
     answers fit =
         let es = s.written.entries in
-        let in_entries = named_front sc (items_of es) (in_hand (hand_of halt)) (subst (AreNamed sc) s.written.all (named_front sc s.all s.inbox (named fit))) in
-        answers_are sc b.value es (hand_of halt) s.inbox s.last id k (are.each k d lt) in_entries (s.written.wrote.known fit.clean (starts fit).going (starts fit).fits)
+        let in_entries = named_front sc (items_of es) (in_hand (hand_of halt) ++ s.written.behind) (subst (AreNamed sc) s.written.all (named_front sc s.all s.inbox (named fit))) in
+        answers_are sc b.value es (hand_of halt) (s.written.behind ++ s.inbox) s.last id k (are.each k d lt) in_entries (s.written.wrote.known fit.clean (starts fit).going (starts fit).fits)
         ∙ ap (λ (n : ℕ). told_to sc k es ++ history.answers_to sc n s.last) (sym (o.each k d lt).1)
 
 station_talked : {S : Type 0} (sc : SchemeValue) (talks : S → Talk) (a b c : Standing OutboxValue) (n0 n1 : Tally) (before begun mid after : List (Station S)) (left : ℕ) (halt : Option Halt) (s : HasSession sc talks b c n0 n1 mid after left halt)
     → IsSound a → AreStations sc before → HaveDevices sc before → HaveBegun before begun → HaveResumed sc a b begun mid (Ok tt) → (k : ℕ) (d : Station S) → k < length before
-    → HasTalked sc talks a c (gathering_of s.written.entries (hand_of halt) s.inbox s.last) (slice_index_or before k d) (slice_index_or after k d)
+    → HasTalked sc talks a c (gathering_of s.written.entries (hand_of halt) (s.written.behind ++ s.inbox) s.last) (slice_index_or before k d) (slice_index_or after k d)
 station_talked {S} sc talks a b c n0 n1 before begun mid after left halt s sound are devices first then_ k d lt =
     let o = opened sc a b before begun mid (Ok tt) first then_ in
     let both = station_told sc talks b c n0 n1 mid after left halt s k d (let l = o.len in omega (arith, lt, l)) in
@@ -407,10 +405,10 @@ station_talked {S} sc talks a b c n0 n1 before begun mid after left halt s sound
 pub ran : {S : Type 0} (sc : SchemeValue) (talks : S → Talk) (a b c : Standing OutboxValue) (n0 n1 : Tally) → n0.stored ≡ 0 → n0.days.keys ≡ [] → (before begun mid after : List (Station S)) (left : ℕ) (halt : Option Halt) → IsSound a → AreStations sc before → HaveDevices sc before
     → HaveBegun before begun → HaveResumed sc a b begun mid (Ok tt) → HasSession sc talks b c n0 n1 mid after left halt → IsCollected sc talks a c before after n1.stored left (fault_of_halt halt)
 ran {S} sc talks a b c n0 n1 zero_count unnoted before begun mid after left halt sound are devices first then_ s = record {
-  g = gathering_of es hand s.inbox s.last;
+  g = gathering_of es hand (s.written.behind ++ s.inbox) s.last;
   says = λ fit x may.
       let start = starts fit.clean fit.lawful in
-      subst (SaysOfGathering sc before (gathering_of es hand s.inbox s.last) n1.stored (fault_of_halt halt)) (sym (held_is a sound start.live start.lawful x may)) (section_says sc talks a b c n0 n1 zero_count unnoted before mid after left halt s are o start fit.clean);
+      subst (SaysOfGathering sc before (gathering_of es hand (s.written.behind ++ s.inbox) s.last) n1.stored (fault_of_halt halt)) (sym (held_is a sound start.live start.lawful x may)) (section_says sc talks a b c n0 n1 zero_count unnoted before mid after left halt s are o start fit.clean);
   outbox = λ fit. record {
     leads = λ v may.
         let start = starts fit.clean fit.lawful in
@@ -419,8 +417,8 @@ ran {S} sc talks a b c n0 n1 zero_count unnoted before begun mid after left halt
   holds = λ fit live. let start = starts fit.clean fit.lawful in (s.written.wrote.value live start.fits).1 ∙ value start;
   len = s.len ∙ o.len;
   each = station_talked sc talks a b c n0 n1 before begun mid after left halt s sound are devices first then_;
-  left_is = s.count ∙ sym (left_length hand s.inbox);
-  finished = λ e. (ap (λ (h : Option Halt). option_map item_of (hand_of h)) (no_halt halt e), ap (map item_of) (s.empty (no_halt halt e)));
+  left_is = s.count ∙ sym (left_length hand (s.written.behind ++ s.inbox));
+  finished = λ e. (ap (λ (h : Option Halt). option_map item_of (hand_of h)) (no_halt halt e), λ i. map item_of (s.written.alone (ap hand_of (no_halt halt e)) i ++ s.empty (no_halt halt e) i));
   read = λ e k d lt none.
       let within : k < length mid = (let l = o.len in omega (arith, lt, l)) in
       (station_told sc talks b c n0 n1 mid after left halt s k d within).0.ended none ((s.read (no_halt halt e)).each k d within (let l = s.len in omega (arith, within, l)) none);
@@ -452,6 +450,6 @@ ran {S} sc talks a b c n0 n1 zero_count unnoted before begun mid after left halt
     value : HasBegun sc a b before mid → storing_all b.value es ≡ history.storing_all a.value (map entry_of es)
     value start = ap (λ x. storing_all x es) start.same ∙ sym (storing_is a.value es)
 
-    leads : IsFitting a c → HasBegun sc a b before mid → (v : OutboxValue) → MayHold c v → IsStoredBy (gathering_of es hand s.inbox s.last) a.value v
-    leads fit start v (inl now) = inl (now.1 ∙ ((s.written.wrote.value now.0 start.fits).1 ∙ value start))
-    leads fit start v (inr leaves) = leaves_by a.value es hand s.inbox s.last v (subst (λ x. LeavesOutbox x es hand v) start.same (s.written.wrote.stop fit.clean start.going start.fits v leaves))
+    leads : IsFitting a c → HasBegun sc a b before mid → (v : OutboxValue) → MayHold c v → IsStoredBy (gathering_of es hand (s.written.behind ++ s.inbox) s.last) a.value v
+    leads fit start v (inl now) = record { count = 0; new = tt; value = now.1 ∙ ((s.written.wrote.value now.0 start.fits).1 ∙ value start) }
+    leads fit start v (inr leaves) = leaves_by a.value es hand s.written.behind s.inbox s.last v s.written.alone (subst (λ x. LeavesOutbox x es (in_hand hand ++ s.written.behind) v) start.same (s.written.wrote.stop fit.clean start.going start.fits v leaves))

@@ -1,5 +1,5 @@
 -- What the threads did, in the words of sessions.
-use Rattle.std.proofs.Common.{◌≡◌, ℕ, ◌+◌, ◌==◌, Bool, true, false, if◌then◌else◌, List, [], ◌∷◌, ◌++◌, length, map, Some, None, is_some, refl, sym, ap, ◌∙◌, append_assoc, arith}
+use Rattle.std.proofs.Common.{◌≡◌, ℕ, ◌+◌, ◌==◌, subst, Bool, true, false, if◌then◌else◌, List, [], ◌∷◌, ◌++◌, length, map, Some, None, is_some, refl, sym, ap, ◌∙◌, append_assoc, arith}
 use Rattle.std.specs.Prelude.{Option, option_map}
 use Rattle.std.specs.List.{AllByRecursion}
 use Rattle.std.proofs.lemmas.List.{map-append, length-map}
@@ -18,6 +18,7 @@ use Rattle.fare_inbox_queue.specs.Inbox.{station_in}
 use Rattle.fare_inbox_queue.specs.declared.arrived.Arrived.{Arrived}
 use Rattle.fare_writer.specs.Entries.{item_of, device_of, is_new, storing, IsAnswerTo, Entry, items_of, storing_all, AreEntries, new_count, in_hand, told_of, told_to}
 use Rattle.fare_collect.specs.Collected.{new_items}
+use Rattle.fare_writer.proofs.Wrote.{first_more}
 use Rattle.fare_collect.proofs.Named.{IsNamed, AreNamed}
 
 -- ENTRIES
@@ -109,12 +110,18 @@ hand_is (Some a) = refl
 abbrev pub gathering_of : List Entry → Option Arrived → List Arrived → List AckItem → history.Gathering
 gathering_of es hand inbox last = record { entries = map entry_of es; hand = option_map item_of hand; inbox = map item_of inbox; last = last }
 
-pub accepted_is : (es : List Entry) (hand : Option Arrived) (all inbox : List Arrived) (last : List AckItem) → all ≡ items_of es ++ in_hand hand → history.accepted_by (gathering_of es hand inbox last) ≡ map item_of (all ++ inbox)
-accepted_is es hand all inbox last is =
-    (λ i. items_are es i ++ (hand_is hand i ++ map item_of inbox))
-    ∙ ((λ i. map item_of (items_of es) ++ sym (map-append item_of (in_hand hand) inbox) i)
-    ∙ (sym (map-append item_of (items_of es) (in_hand hand ++ inbox))
-    ∙ ap (map item_of) (sym (append_assoc (items_of es) (in_hand hand) inbox) ∙ ap (λ l. l ++ inbox) (sym is))))
+-- those behind the one in the hand stand before those in the inbox
+pub accepted_is : (es : List Entry) (hand : Option Arrived) (behind all inbox : List Arrived) (last : List AckItem) → all ≡ items_of es ++ (in_hand hand ++ behind) → history.accepted_by (gathering_of es hand (behind ++ inbox) last) ≡ map item_of (all ++ inbox)
+accepted_is es hand behind all inbox last is =
+    (λ i. items_are es i ++ (hand_is hand i ++ map item_of (behind ++ inbox)))
+    ∙ ((λ i. map item_of (items_of es) ++ sym (map-append item_of (in_hand hand) (behind ++ inbox)) i)
+    ∙ (sym (map-append item_of (items_of es) (in_hand hand ++ (behind ++ inbox)))
+    ∙ ap (map item_of) (ap (λ l. items_of es ++ l) (sym (append_assoc (in_hand hand) behind inbox)) ∙ (sym (append_assoc (items_of es) (in_hand hand ++ behind) inbox) ∙ ap (λ l. l ++ inbox) (sym is)))))
+
+-- what was tried is part of what is left
+pub tried_first : (x y : OutboxValue) (hand : Option Arrived) (behind inbox : List Arrived) → (hand ≡ None → behind ≡ []) → history.HasFirst x (map item_of (in_hand hand ++ behind)) y → history.HasFirst x (serving.tried_in (option_map item_of hand) (map item_of (behind ++ inbox))) y
+tried_first x y None behind inbox alone first = subst (λ l. history.HasFirst x (map item_of l) y) (alone refl) first
+tried_first x y (Some a) behind inbox alone first = subst (λ l. history.HasFirst x (item_of a ∷ l) y) (sym (map-append item_of behind inbox)) (first_more x (map item_of (a ∷ behind)) (map item_of inbox) y first)
 
 pub left_length : (hand : Option Arrived) (inbox : List Arrived) → length (serving.in_hand (option_map item_of hand) ++ map item_of inbox) ≡ length (in_hand hand ++ inbox)
 left_length hand inbox = ap length ((λ i. hand_is hand i ++ map item_of inbox) ∙ sym (map-append item_of (in_hand hand) inbox)) ∙ length-map (in_hand hand ++ inbox) item_of

@@ -23,7 +23,7 @@ use Rattle.fare_store.specs.Keys.{Key}
 use Rattle.fare_route.specs.Stating.{are_all_stated}
 use Rattle.fare_collect.specs.Noting.{day_ack, day_acks}
 use Rattle.fare_collect.specs.Ending.{IsHanded, last_ack, acks_of, last_acks, AreSent, HaveSent, HaveLast}
-use Rattle.fare_collect.proofs.Written.{wrote_none}
+use Rattle.fare_writer.proofs.Written.{wrote_none}
 use Rattle.fare_writer.proofs.Wrote.{wrote_then, wrote_read}
 use Rattle.fare_collect.proofs.Handed.{handed_none, handed_then}
 use Rattle.fare_collect.proofs.Posted.{same_or_apart}
@@ -32,11 +32,11 @@ use Rattle.fare_collect.proofs.Places.{apart_by_place, same_by_place}
 abbrev pub Reads_upto : Standing OutboxValue → Standing OutboxValue → ℕ → Result ℕ Fault → Type 0
 Reads_upto b c device r = Reads b c (λ u. u ≡ b.value.upto device) r
 
-pub read_ok : (sc : SchemeValue) (a b c : Standing OutboxValue) (device u : ℕ) → IsSound b → Wrote sc a b [] None None → Reads_upto b c device (Ok u) → Wrote sc a c [] None None
-read_ok sc a b c device u sound was read = wrote_then sc a b c [] [] None None was (wrote_read sc b c None (u ≡ b.value.upto device) sound (called b c None ((c.value ≡ b.value) × (u ≡ b.value.upto device)) (λ v. ⊥) read))
+pub read_ok : (sc : SchemeValue) (a b c : Standing OutboxValue) (device u : ℕ) → IsSound b → Wrote sc a b [] [] None → Reads_upto b c device (Ok u) → Wrote sc a c [] [] None
+read_ok sc a b c device u sound was read = wrote_then sc a b c [] [] [] None was (wrote_read sc b c None (u ≡ b.value.upto device) sound (called b c None ((c.value ≡ b.value) × (u ≡ b.value.upto device)) (λ v. ⊥) read))
 
-pub read_err : (sc : SchemeValue) (a b c : Standing OutboxValue) (device : ℕ) (f : Fault) → IsSound b → Wrote sc a b [] None None → Reads_upto b c device (Err f) → Wrote sc a c [] None (Some f)
-read_err sc a b c device f sound was read = wrote_then sc a b c [] [] None (Some f) was (wrote_read sc b c (Some f) (Unit {0}) sound (called b c (Some f) ((c.value ≡ b.value) × Unit {0}) (λ v. ⊥) read))
+pub read_err : (sc : SchemeValue) (a b c : Standing OutboxValue) (device : ℕ) (f : Fault) → IsSound b → Wrote sc a b [] [] None → Reads_upto b c device (Err f) → Wrote sc a c [] [] (Some f)
+read_err sc a b c device f sound was read = wrote_then sc a b c [] [] [] (Some f) was (wrote_read sc b c (Some f) (Unit {0}) sound (called b c (Some f) ((c.value ≡ b.value) × Unit {0}) (λ v. ⊥) read))
 
 -- ANSWERS TO THE STATIONS
 pub nothing_handed : {S : Type 0} (talks : S → Talk) (s : Station S) → IsHanded talks [] s s
@@ -123,7 +123,7 @@ pub have_more : {S : Type 0} (sc : SchemeValue) (talks : S → Talk) (a b c : St
     → HaveSent sc talks a b first now due (Ok tt) → HaveLast sc talks b c now next more result → HaveLast sc talks a c first next (λ x. due x ++ more x) result
 have_more {S} sc talks a b c first now next due more result was then_ = record {
   have = record {
-    wrote = wrote_then sc a b c [] [] None (fault_of result) was.wrote then_.have.wrote;
+    wrote = wrote_then sc a b c [] [] [] (fault_of result) was.wrote then_.have.wrote;
     answers = was.answers ++ then_.have.answers;
     sent = sent_then sc talks was.answers then_.have.answers first now next was.sent then_.have.sent;
     began = elim then_.have.began [
@@ -155,9 +155,9 @@ have_same sc talks a b first now due more result same was = record { wrote = was
 
 -- and then the outbox failed
 pub have_failed : {S : Type 0} (sc : SchemeValue) (talks : S → Talk) (a b c : Standing OutboxValue) (first now : List (Station S)) (due more : OutboxValue → List AckItem) (f : Fault)
-    → HaveSent sc talks a b first now due (Ok tt) → Wrote sc b c [] None (Some f) → HaveSent sc talks a c first now more (Err f)
+    → HaveSent sc talks a b first now due (Ok tt) → Wrote sc b c [] [] (Some f) → HaveSent sc talks a c first now more (Err f)
 have_failed sc talks a b c first now due more f was reads = record {
-  wrote = wrote_then sc a b c [] [] None (Some f) was.wrote reads;
+  wrote = wrote_then sc a b c [] [] [] (Some f) was.wrote reads;
   answers = was.answers;
   sent = was.sent;
   began = elim was.began [ inl none ↦ inl none | inr live ↦ inr (λ clean. live (reads.clean clean)) ];
@@ -169,10 +169,10 @@ pub no_last : {S : Type 0} (sc : SchemeValue) (talks : S → Talk) (a b : Standi
 no_last sc talks a b first now due f have = record { have = have; read = λ e. absurd (cc) }
 
 -- EACH DAY
-asked_read : (sc : SchemeValue) (b c : Standing OutboxValue) (k : Key) (held : Bool) → IsSound b → Asks b c (λ all. all ≡ are_all_stated sc b.value k.1 k.2) (Ok held) → Wrote sc b c [] None None
+asked_read : (sc : SchemeValue) (b c : Standing OutboxValue) (k : Key) (held : Bool) → IsSound b → Asks b c (λ all. all ≡ are_all_stated sc b.value k.1 k.2) (Ok held) → Wrote sc b c [] [] None
 asked_read sc b c k held sound asks = wrote_read sc b c None (held ≡ are_all_stated sc b.value k.1 k.2) sound asks
 
-pub asked_failed : (sc : SchemeValue) (b c : Standing OutboxValue) (k : Key) (f : Fault) → IsSound b → Asks b c (λ all. all ≡ are_all_stated sc b.value k.1 k.2) (Err f) → Wrote sc b c [] None (Some f)
+pub asked_failed : (sc : SchemeValue) (b c : Standing OutboxValue) (k : Key) (f : Fault) → IsSound b → Asks b c (λ all. all ≡ are_all_stated sc b.value k.1 k.2) (Err f) → Wrote sc b c [] [] (Some f)
 asked_failed sc b c k f sound asks = wrote_read sc b c (Some f) (Unit {0}) sound asks
 
 -- its acknowledgement, where the outbox holds the statements of all owners

@@ -1,4 +1,3 @@
-pub mod Written
 pub mod Read
 pub mod Rested
 pub mod Posted

@@ -21,6 +21,7 @@ use Rattle.fare_writer.specs.Writing.{as_writer, Wrote}
 use Rattle.fare_collect.specs.Resting.{IsNoneOf}
 use Rattle.fare_collect.specs.Resuming.{AreStations, resumed_next, HaveBegun, HaveResumed}
 use Rattle.fare_collect.specs.Collected.{first_links, IsCollected}
+use Rattle.fare_writer.proofs.Wrote.{none_more}
 use Rattle.fare_collect.proofs.Places.{same_by_place}
 use Rattle.fare_collect.proofs.Gathers.{gathering_of}
 
@@ -97,7 +98,7 @@ here_or_not {S} sc stations station are = by (position_of_station sc station) re
 
 -- NO THREAD RAN
 pub nothing : {S : Type 0} (sc : SchemeValue) (talks : S → Talk) (a b : Standing OutboxValue) (f : Option Fault) (before after : List (Station S)) (w : WriterFault)
-    → Wrote sc a b [] None f → HaveOpened sc a b before after → (w ≢ writer.Refused) → (w ≡ writer.Store → Rose a.failures b.failures) → IsCollected sc talks a b before after 0 0 (Some w)
+    → Wrote sc a b [] [] f → HaveOpened sc a b before after → (w ≢ writer.Refused) → (w ≡ writer.Store → Rose a.failures b.failures) → IsCollected sc talks a b before after 0 0 (Some w)
 nothing {S} sc talks a b f before after w wrote o other rose = record {
   g = gathering_of [] None [] [];
   says = λ fit x holds. record {
@@ -110,10 +111,10 @@ nothing {S} sc talks a b f before after w wrote o other rose = record {
   };
   outbox = λ fit. record {
     leads = λ v may. elim may [
-      | inl now ↦ (a.value, inl (wrote.live now.0, refl), inl (now.1 ∙ (wrote.value now.0 (fit.lawful (wrote.live now.0))).1))
+      | inl now ↦ (a.value, inl (wrote.live now.0, refl), none_more a.value [] v (now.1 ∙ (wrote.value now.0 (fit.lawful (wrote.live now.0))).1))
       | inr leaves ↦ elim (wrote.shut fit.clean fit.lawful v leaves) [
-        | inl before ↦ (v, inr before, inl refl)
-        | inr live ↦ (a.value, inl (live, refl), inl (wrote.stop fit.clean live (fit.lawful live) v leaves))
+        | inl before ↦ (v, inr before, none_more v [] v refl)
+        | inr live ↦ (a.value, inl (live, refl), wrote.stop fit.clean live (fit.lawful live) v leaves)
       ]
     ];
   };

@@ -26,7 +26,7 @@ use Rattle.fare_collect.specs.Stations.{held_list, AreExpected, SourceCounted}
 use Rattle.fare_collect.specs.Resting.{HasKeepingLeft, HasKeptLeft, HasNext, HasResting, HasRested}
 use Rattle.fare_writer.specs.Keeping.{HasKept}
 use Rattle.fare_writer.specs.Judging.{items_in, HasJudged}
-use Rattle.fare_collect.proofs.Written.{written_none, written_then}
+use Rattle.fare_writer.proofs.Written.{written_none, written_then}
 use Rattle.fare_collect.proofs.Read.{arrivals_append, next_append, expected_by, expected_append}
 
 pub kept_none : (sc : SchemeValue) (s : Standing OutboxValue) (n : Tally) → IsSound s → HasKept sc s s [] n n None

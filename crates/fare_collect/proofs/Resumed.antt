@@ -18,7 +18,7 @@ use Rattle.fare_store.specs.OutboxWords.{OutboxValue}
 use Rattle.fare_collect.specs.declared.station.Station.{Station}
 use Rattle.fare_writer.specs.Writing.{Wrote}
 use Rattle.fare_collect.specs.Resuming.{AreStations, resumed_next, HaveResumed}
-use Rattle.fare_collect.proofs.Written.{wrote_none}
+use Rattle.fare_writer.proofs.Written.{wrote_none}
 use Rattle.fare_collect.proofs.Last.{Reads_upto, read_ok, read_err}
 use Rattle.fare_collect.proofs.Posted.{same_or_apart}
 use Rattle.fare_collect.proofs.Places.{apart_by_place, same_by_place}
@@ -126,7 +126,7 @@ known_changed f next key device = by (device == key) (next device)
 -- ALL STATIONS
 -- they go on for the devices before a position
 pub record AreResuming {S : Type 0} (sc : SchemeValue) (old new : Standing OutboxValue) (before after : List (Station S)) (position : ℕ) : Type 0 where
-  pub wrote : Wrote sc old new [] None None
+  pub wrote : Wrote sc old new [] [] None
   pub len : length after ≡ length before
   pub each : (k : ℕ) (d : Station S) → k < length before → ((slice_index_or after k d).source ≡ (slice_index_or before k d).source) × ((slice_index_or after k d).collector.station ≡ (slice_index_or before k d).collector.station)
   pub ends : (k : ℕ) (d : Station S) → k < length before → (slice_index_or after k d).end ≡ (slice_index_or before k d).end

@@ -1,5 +1,5 @@
 -- What a session of the stations and the writer did, whatever its outbox might have held when it began.
-use Rattle.std.specs.Prelude.{◌≡◌, ◌⊎◌, ℕ, ◌+◌, ◌<◌, min, true, is_some, List, [], ◌∷◌, ◌++◌, length, map, slice_index_or, Option, Some, None, if◌then◌else◌}
+use Rattle.std.specs.Prelude.{◌≡◌, ℕ, ◌+◌, ◌<◌, min, true, is_some, List, [], ◌∷◌, ◌++◌, length, map, slice_index_or, Option, Some, None, if◌then◌else◌}
 use Rattle.std.specs.List.{AllByRecursion}
 use Rattle.fare_record.specs.declared.item.Item.{Item}
 use Rattle.fare_frame.specs.declared.frame.Frame.{Frame}
@@ -9,7 +9,7 @@ use Rattle.fare_collector.specs.Collecting.{is_id, next_in}
 use Rattle.fare_store.specs.Standing.{Standing}
 use Rattle.fare_store.specs.OutboxWords.{OutboxValue}
 use Rattle.fare_history.specs.Serving.{in_hand, device_of}
-use Rattle.fare_history.specs.Gathering.{is_new, done_by, storing, storing_all, items_of, Entry, Gathering, accepted_by, all_answers, answers_to, of_station, IsGathering}
+use Rattle.fare_history.specs.Gathering.{is_new, storing, storing_all, tried_by, HasFirst, items_of, Entry, Gathering, accepted_by, all_answers, answers_to, of_station, IsGathering}
 use Rattle.fare_history.specs.AcceptedLinks.{arrivals}
 use Rattle.fare_history.specs.Plainly.{IsRefusedByOutbox}
 use Rattle.fare_history.specs.Holding.{MayHold, Leads}
@@ -77,9 +77,9 @@ pub record IsFitting (old new : Standing OutboxValue) : Type 0 where
   pub clean : new.clean
   pub lawful : old.live → old.lawful
 
--- the outbox has what was handled, or also the item in the hand, whose store failed and which it doesn't refuse
+-- the outbox has what was handled, and the first of the item in the hand and those behind it, whose store failed and which it doesn't refuse
 abbrev pub IsStoredBy : Gathering → OutboxValue → OutboxValue → Type 0
-IsStoredBy g x y = (y ≡ storing_all x g.entries) ⊎ ((i : Item) × (g.hand ≡ Some i) × (is_new (storing_all x g.entries) i ≡ true) × (y ≡ done_by i (storing_all x g.entries)))
+IsStoredBy g x y = HasFirst (storing_all x g.entries) (tried_by g) y
 
 -- how many items of these entries the outbox stores, one after the other
 abbrev pub new_items : OutboxValue → List Entry → ℕ

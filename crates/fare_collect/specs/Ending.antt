@@ -94,7 +94,7 @@ pub record AreSent {S : Type 0} (sc : SchemeValue) (talks : S → Talk) (answers
 
 -- What is due was sent: each acknowledgement is true of the outbox, and where no read failed none is missing.
 pub record HaveSent {S : Type 0} (sc : SchemeValue) (talks : S → Talk) (old new : Standing OutboxValue) (before after : List (Station S)) (due : OutboxValue → List AckItem) (result : Result Unit Fault) : Type 0 where
-  pub wrote : Wrote sc old new [] None (fault_of result)
+  pub wrote : Wrote sc old new [] [] (fault_of result)
   pub answers : List AckItem
   pub sent : AreSent sc talks answers before after
   -- where the outbox answered and has kept what was committed, it was live

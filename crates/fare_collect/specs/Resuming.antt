@@ -28,7 +28,7 @@ pub record HaveBegun {S : Type 0} (before after : List (Station S)) : Type 0 whe
 -- Each station is still its own. Where all devices were asked for, its collector goes on behind what the opening
 -- outbox has had of them, and an outbox that has kept what was committed is live: it has answered.
 pub record HaveResumed {S : Type 0} (sc : SchemeValue) (old new : Standing OutboxValue) (before after : List (Station S)) (result : Result Unit Fault) : Type 0 where
-  pub wrote : Wrote sc old new [] None (fault_of result)
+  pub wrote : Wrote sc old new [] [] (fault_of result)
   pub len : length after ≡ length before
   pub each : (k : ℕ) (d : Station S) → k < length before → ((slice_index_or after k d).source ≡ (slice_index_or before k d).source) × ((slice_index_or after k d).collector.station ≡ (slice_index_or before k d).collector.station)
   pub ends : (k : ℕ) (d : Station S) → k < length before → (slice_index_or after k d).end ≡ (slice_index_or before k d).end

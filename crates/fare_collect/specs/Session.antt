@@ -1,5 +1,5 @@
 -- What a whole session did to each station and to the outbox.
-use Rattle.std.specs.Prelude.{◌≡◌, ◌≢◌, ℕ, ◌<◌, ◌≤◌, true, List, [], ◌∷◌, ◌++◌, length, map, slice_index_or, Option, Some, None}
+use Rattle.std.specs.Prelude.{◌≡◌, ◌≢◌, ℕ, ◌-◌, ◌<◌, ◌≤◌, true, List, [], ◌∷◌, ◌++◌, length, map, slice_index_or, Option, Some, None}
 use Rattle.fare_frame.specs.declared.frame.Frame.{Frame}
 use Rattle.std.specs.List.{AllByRecursion}
 use Rattle.fare_scheme.specs.Values.{SchemeValue}
@@ -31,7 +31,7 @@ use Rattle.fare_writer.specs.Arriving.{IsUnexpected}
 use Rattle.fare_record.specs.declared.ack_item.AckItem.{AckItem}
 use Rattle.fare_collect.specs.declared.fault.StationFault.TheVariants.{Unexpected, Memory}
 use Rattle.fare_collect.specs.Stations.{held_list, frame_for, AreExpected, SourceCounted, HasRead}
-use Rattle.fare_writer.specs.Handling.{hand_of, HasWritten}
+use Rattle.fare_writer.specs.Handling.{hand_of, batch_of, HasWritten}
 
 -- a station had its passes, ran, and gave them back
 pub record HasGivenBack {S : Type 0} (sc : SchemeValue) (talks : S → Talk) (inbox : Inbox) (lines : List AckLine) (k : ℕ) (old new : Station S) (p0 p1 : StationPass) (h0 h1 : HearPass) : Type 0 where
@@ -95,7 +95,7 @@ pub record IsOpen {S : Type 0} (sc : SchemeValue) (stations : List (Station S)) 
   pub all : map station_of passes ≡ stations_of writer
   pub queue : IsWriterOf inbox writer × (taken_list writer ≡ [])
   pub lines : AreNew (length stations) ls tellers hears
-  pub room : capacity_of inbox ≡ sc.inbox_capacity
+  pub room : capacity_of inbox ≡ sc.inbox_capacity - (batch_of sc - 1)
   pub small : sc.inbox_capacity ≤ 4294967295
 
 -- A station's whole session: what its thread and the rest of its source came to, then what its line still had was
@@ -126,9 +126,9 @@ pub record HasSession {S : Type 0} (sc : SchemeValue) (talks : S → Talk) (old 
   pub each : (k : ℕ) (d : Station S) (t : Teller) (h : HearPass) → k < length before
       → HasEnded sc talks all (λ station. of_station station inbox) (slice_index_or tellers_new k t) (slice_index_or hears k h) (answers_to sc (slice_index_or before k d).collector.station last) (slice_index_or before k d) (slice_index_or after k d)
   pub others : (station : ℕ) → IsNoneOf station before → (of_station station all ≡ []) × (of_station station inbox ≡ [])
-  pub few : length inbox ≤ sc.inbox_capacity
+  pub few : length (written.behind ++ inbox) ≤ sc.inbox_capacity
   pub empty : halt ≡ None → inbox ≡ []
-  pub count : left ≡ length (in_hand (hand_of halt) ++ inbox)
+  pub count : left ≡ length (in_hand (hand_of halt) ++ (written.behind ++ inbox))
   -- each of the last acknowledgements is true of the outbox; without a halt of the writer none is missing
   pub from : new.clean → (old.live → old.lawful) → AllByRecursion (IsAnswerFrom sc (storing_all old.value written.entries)) last
   pub whole : halt ≡ None → new.clean → (old.live → old.lawful) → last ≡ last_answers sc tally_new.days.keys (storing_all old.value written.entries)

@@ -1,5 +1,5 @@
 ghost use Rattle.fare_writer.specs.declared.fault.WriterFault.{WriterFault};
-ghost use Rattle.std.specs.Prelude.{◌≡◌, ◌+◌, ◌≤◌, ◌++◌, [], length, map, IfOk, IsErr, Option, vec_len, vec_capacity};
+ghost use Rattle.std.specs.Prelude.{◌≡◌, ◌+◌, ◌≤◌, ◌++◌, [], min, length, map, IfOk, IsErr, Option, vec_len, vec_capacity};
 ghost use Rattle.fare_collect.specs.Collected.{as_session, fault_at, faults_at, fault_of_halt, writer_faults, station_faults, HaveDevices, IsCollected};
 ghost use Rattle.fare_store.specs.Standing.{IsSound};
 ghost use Rattle.fare_writer.specs.Entries.{in_hand};
@@ -9,7 +9,6 @@ ghost use Rattle.fare_collect.specs.Session.{id_of, IsOpen, HasSession};
 use crate::answering::answer_last;
 use crate::ending::hand_all;
 use crate::fault::StationFault;
-use crate::floor::Floor;
 use crate::opening::{Lines, open_lines};
 use crate::serving::{Intake, gather};
 use crate::station::{End, Station};
@@ -19,7 +18,7 @@ use fare_scheme::Scheme;
 use fare_session::{Gate, SessionFault};
 use fare_source::Source;
 use fare_store::{Fault, Outbox};
-use fare_writer::{Halt, Tally, WriterFault, writer_fault};
+use fare_writer::{Floor, Halt, Tally, WriterFault, batch_of, writer_fault};
 use std::alloc::{AllocError, Global};
 use std::sync::Wait;
 use std::thread::Threads;
@@ -120,7 +119,8 @@ fn open<S>(alloc: Global, scheme: &Scheme, stations: &[Station<S>]) -> Result<Qu
     let ids = ids_of(alloc, stations)?;
     let capacity = scheme.inbox_capacity();
     let lines = open_lines(alloc, capacity, stations.len())?;
-    let Ok((inbox, passes, writer)) = Inbox::new(alloc, capacity, &ids) else {
+    let behind = (batch_of(scheme) - 1) as u32;
+    let Ok((inbox, passes, writer)) = Inbox::new(alloc, capacity - behind, &ids) else {
         return Err(AllocError);
     };
     Ok(Queues {
@@ -145,13 +145,14 @@ impl Queues {
     }
 }
 
-// How many items the writer had in its hand.
-fn in_hand(halt: &Halt) -> u64
-    ensures { result ≡ length (in_hand halt.now.hand) }
+// How many items the writer had in its hand and behind it.
+fn not_handled(halt: &Halt) -> u64
+    ensures { result ≡ min (length (in_hand halt.now.hand) + halt.now.behind) 18446744073709551615 }
 {
+    let behind = halt.behind;
     match halt.hand {
-        Some(_) => 1,
-        None => 0,
+        Some(_) => behind.saturating_add(1),
+        None => behind,
     }
 }
 
@@ -198,7 +199,7 @@ fn run<S: Source + Send, O: Outbox + Send, G: Gate + Sync, R: Threads + Wait + C
     drop(ended);
     hand_all(rt, lines, tellers, hears, stations);
     if let Some(halt) = halt {
-        return (left.saturating_add(in_hand(&halt)), Some(halt));
+        return (left.saturating_add(not_handled(&halt)), Some(halt));
     }
     match answer_last(scheme, &tally.days, outbox, stations) {
         Ok(()) => (left, None),
@@ -206,6 +207,7 @@ fn run<S: Source + Send, O: Outbox + Send, G: Gate + Sync, R: Threads + Wait + C
             left,
             Some(Halt {
                 hand: None,
+                behind: 0,
                 fault: writer_fault(fault),
             }),
         ),

@@ -8,7 +8,6 @@ mod collecting;
 mod ended;
 mod ending;
 mod fault;
-mod floor;
 mod making;
 mod opening;
 mod putting;

@@ -7,12 +7,12 @@ ghost use Rattle.fare_writer.specs.Arriving.{IsUnexpected};
 ghost use Rattle.fare_frame.specs.declared.frame.Frame.TheVariants.{Tapped};
 
 use crate::ended::Ended;
-use crate::floor::Floor;
 use fare_collector::{Collector, unaccept_undoes_accept};
 use fare_frame::Frame;
 use fare_inbox_queue::{Arrived, Inbox, StationPass};
 use fare_record::Record;
 use fare_session::{Gate, Point, Turns};
+use fare_writer::Floor;
 use std::sync::Wait;
 use std::time::Clock;
 

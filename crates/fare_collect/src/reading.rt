@@ -6,7 +6,6 @@ ghost use Rattle.fare_collect.specs.Stations.{HasAnswered, HasRead, frame_for, a
 
 use crate::ended::Ended;
 use crate::fault::StationFault;
-use crate::floor::Floor;
 use crate::putting::pass_on;
 use crate::station::Post;
 use fare_collector::Collector;
@@ -15,6 +14,7 @@ use fare_inbox_queue::{AckLine, HearPass, Inbox};
 use fare_record::AckItem;
 use fare_session::{Gate, Turns};
 use fare_source::{Source, SourceFault};
+use fare_writer::Floor;
 use std::sync::Wait;
 use std::time::Clock;
 

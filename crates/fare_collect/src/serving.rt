@@ -6,7 +6,6 @@ ghost use Rattle.fare_writer.specs.Handling.{AreTellers, HasWritten};
 ghost use Rattle.fare_collect.specs.Resting.{AreApart, AreRead};
 ghost use Rattle.fare_collect.specs.Session.{HaveGivenBack, AreReady, HaveGathered};
 
-use crate::floor::Floor;
 use crate::opening::{post_all, relieve_all};
 use crate::resting::{keep_left, rest_all};
 use crate::station::Station;
@@ -15,7 +14,7 @@ use fare_inbox_queue::{AckLine, HearPass, Inbox, InboxEnded, StationPass, Writer
 use fare_session::Gate;
 use fare_source::Source;
 use fare_store::Outbox;
-use fare_writer::{Halt, Tally, Teller};
+use fare_writer::{Floor, Halt, Tally, Teller};
 use std::sync::Wait;
 use std::thread::Threads;
 use std::time::Clock;

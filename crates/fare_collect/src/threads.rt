@@ -5,7 +5,6 @@ ghost use Rattle.fare_collect.specs.Stations.{IsPostedAt, ArePosted, HasRunStati
 ghost use Rattle.fare_writer.specs.Handling.{AreTellers, HasWritten};
 
 use crate::ended::Ended;
-use crate::floor::Floor;
 use crate::reading::read_all;
 use crate::station::Station;
 use crate::writing::write_all;
@@ -13,7 +12,7 @@ use fare_inbox_queue::{AckLine, Inbox, WriterPass};
 use fare_session::Gate;
 use fare_source::Source;
 use fare_store::Outbox;
-use fare_writer::{Halt, Tally, Teller};
+use fare_writer::{Floor, Halt, Tally, Teller};
 use std::sync::Wait;
 use std::thread;
 use std::thread::{Threads, join_mut};

@@ -3,11 +3,10 @@ ghost use Rattle.fare_inbox_queue.specs.InboxPasses.{taken_list, stations_of, Is
 ghost use Rattle.fare_writer.specs.Handling.{AreTellers, HasWritten};
 
 use crate::ended::Ended;
-use crate::floor::Floor;
 use fare_inbox_queue::{AckLine, Inbox, WriterPass};
 use fare_session::{Gate, Turns};
 use fare_store::Outbox;
-use fare_writer::{Halt, Tally, Teller, handle};
+use fare_writer::{Floor, Halt, Tally, Teller, handle_batch};
 use std::sync::Wait;
 use std::time::Clock;
 
@@ -34,15 +33,8 @@ pub(crate) fn write_all<O: Outbox, G: Gate, R: Wait + Clock>(
         match inbox.take(floor.rt, writer) {
             Some(item) => {
                 turns.found();
-                if let Some(halt) = handle(
-                    floor.rt,
-                    floor.scheme,
-                    lines,
-                    floor.gate,
-                    item,
-                    tally,
-                    outbox,
-                    tellers,
+                if let Some(halt) = handle_batch(
+                    floor, inbox, lines, item, tally, outbox, writer, tellers,
                 ) {
                     ended.writer_ends();
                     return Some(halt);

@@ -1,5 +1,5 @@
 -- What a stop leaves, through a list of sessions.
-use Rattle.std.proofs.Common.{◌≡◌, ℕ, zero, suc, List, ◌++◌, Some, sym, ap, ◌∙◌, subst, arith, inl, inr}
+use Rattle.std.proofs.Common.{◌≡◌, ℕ, zero, suc, List, ◌++◌, take, Some, sym, ap, ◌∙◌, subst, arith, inl, inr}
 use Rattle.std.specs.Prelude.{◌⊎◌, ◌≢◌, slice_get, Bool, Vec}
 use Rattle.std.specs.Global.{Global}
 use Rattle.fare_record.specs.declared.item.Item.{Item}
@@ -10,7 +10,7 @@ use Rattle.fare_store.specs.Standing.{Standing}
 use Rattle.fare_store.specs.OutboxWords.{OutboxValue}
 use Rattle.fare_store.specs.LedgerWords.{LedgerValue}
 use Rattle.fare_history.specs.Holding.{MayHold}
-use Rattle.fare_history.specs.Serving.{Service, given_all, in_hand}
+use Rattle.fare_history.specs.Serving.{Service, given_all, tried_in}
 use Rattle.fare_history.proofs.Entries.{element_at}
 use Rattle.fare_session.specs.Served.{IsTakenBy}
 use Rattle.fare_sessions.specs.declared.hub.Hub.{Hub}
@@ -28,8 +28,7 @@ given_own sc owner w m items is was =
     subst (IsOwn sc owner) (sym is) (made.0 ∙ was.0, record { start = made.1 ∙ was.1.start; knows = λ device. ap (λ (f : ℕ → Bool). f device) made.2 ∙ was.1.knows device })
 
 taken_own : (sc : SchemeValue) (owner : ℕ) (v : Service) (w m : LedgerValue) → IsTakenBy v w m → IsOwn sc owner w → IsOwn sc owner m
-taken_own sc owner v w m (inl is) was = given_own sc owner w m v.taken is was
-taken_own sc owner v w m (inr is) was = given_own sc owner w m (v.taken ++ in_hand v.hand) is.1 was
+taken_own sc owner v w m is was = given_own sc owner w m (v.taken ++ take is.count (tried_in v.hand v.queue)) is.value was
 
 module _ {O L : Type 0} (outbox : O → Standing OutboxValue) (ledger : L → Standing LedgerValue) where
   -- what a stop leaves of stores that followed from others fits together, where it did of those

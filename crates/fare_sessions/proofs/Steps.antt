@@ -1,7 +1,8 @@
 -- What one session made of whatever the stores may hold.
-use Rattle.std.proofs.Common.{◌≡◌, ℕ, zero, suc, ◌<◌, List, [], ◌∷◌, ◌++◌, length, slice_index_or, Some, None, Bool, true, false, refl, sym, ap, ◌∙◌, subst, arith, inl, inr}
+use Rattle.std.proofs.Common.{◌≡◌, ℕ, zero, suc, ◌<◌, List, [], ◌∷◌, ◌++◌, length, take, slice_index_or, Some, None, Bool, true, false, refl, sym, ap, ◌∙◌, subst, arith, inl, inr}
 use Rattle.std.specs.Prelude.{◌⊎◌, ◌≢◌, ◌==◌, slice_get, Option, Vec, if◌then◌else◌}
 use Rattle.std.specs.Global.{Global}
+use Rattle.std.proofs.lemmas.List.{append-nil}
 use Rattle.fare_record.specs.declared.item.Item.{Item}
 use Rattle.fare_scheme.specs.Values.{SchemeValue}
 use Rattle.fare_scheme.specs.Words.{position_of_owner}
@@ -11,14 +12,15 @@ use Rattle.fare_store.specs.Standing.{Standing}
 use Rattle.fare_store.specs.Tables.{put}
 use Rattle.fare_store.specs.OutboxWords.{OutboxValue}
 use Rattle.fare_store.specs.LedgerWords.{LedgerValue}
-use Rattle.fare_history.specs.Gathering.{Gathering, Entry, done_by, is_new, storing, storing_all, stored_hand, hand_stored}
+use Rattle.fare_history.specs.Gathering.{Gathering}
 use Rattle.fare_history.specs.Holding.{MayHold}
-use Rattle.fare_history.specs.Serving.{Service, committed, given_all, in_hand, pruned_to_all}
+use Rattle.fare_history.specs.Serving.{Service, given_all, in_hand, pruned_to_all, tried_in, first_taken}
 use Rattle.fare_history.specs.Stores as history
 use Rattle.fare_history.specs.Stores.{StoresValue, stores_after}
 use Rattle.fare_store.proofs.Entries.{is_one, put_here}
 use Rattle.fare_session.specs.declared.fault.SessionFault.{SessionFault}
-use Rattle.fare_session.specs.Served.{AreFit, IsServed, IsTakenBy, IsPrunedBy, SaysOfService}
+use Rattle.fare_session.proofs.Plainly.{taken_of, pruned_of}
+use Rattle.fare_session.specs.Served.{AreFit, IsTakenBy, IsPrunedBy, SaysOfService}
 use Rattle.fare_collect.specs.declared.station.Station.{Station}
 use Rattle.fare_collect.specs.Collected.{IsCollected, IsFitting, IsStoredBy, HasTalked, writer_faults, faults_at, station_faults}
 use Rattle.fare_agreement.specs.Stopping.{IsLeftBy, pruned_too}
@@ -55,17 +57,6 @@ no_owner None is = refl
 no_owner (Some f) is = absurd (cc)
 
 -- STORES
-storing_more : (x : OutboxValue) (es : List Entry) (e : Entry) → storing_all x (es ++ e ∷ []) ≡ storing (storing_all x es) e.item
-storing_more x [] e = refl
-storing_more x (f ∷ es) e = storing_more (storing x f.item) es e
-
-hand_is_stored : (x : OutboxValue) (g : Gathering) (i : Item) → g.hand ≡ Some i → is_new (storing_all x g.entries) i ≡ true → done_by i (storing_all x g.entries) ≡ storing_all x (hand_stored g).entries
-hand_is_stored x g i hand new =
-    let y = storing_all x g.entries in
-    ap (λ (b : Bool). if b then done_by i y else y) (sym new)
-    ∙ (sym (storing_more x g.entries (record { item = i; answers = [] }))
-    ∙ ap (λ (o : Option Item). storing_all x (g.entries ++ stored_hand o)) (sym hand))
-
 pub put_back : {A : Type 0} (f : ℕ → A) (k : ℕ) (old v : A) → f k ≡ v → put (put f k old) k v ≡ f
 put_back f k old v same = λ i j. by j (j == k) refl i
   where
@@ -75,8 +66,7 @@ put_back f k old v same = λ i j. by j (j == k) refl i
 
 -- what the outbox may hold came of the session's entries, or also of what was in the writer's hand
 collected_left : (x : OutboxValue) (g : Gathering) (k : StoresValue) → IsStoredBy g x k.outbox → IsLeftBy (record { outbox = x; ledgers = k.ledgers }) (history.Collects g) k
-collected_left x g k (inl e) = inl (λ i. record { outbox = e i; ledgers = k.ledgers })
-collected_left x g k (inr e) = let all = e.3 ∙ hand_is_stored x g e.0 e.1 e.2 in inr (λ i. record { outbox = all i; ledgers = k.ledgers })
+collected_left x g k first = (first, refl)
 
 -- two owners with one place are one
 one_owner : (sc : SchemeValue) (a b place : ℕ) → position_of_owner sc a ≡ Some place → position_of_owner sc b ≡ Some place → a ≡ b
@@ -235,16 +225,15 @@ module _ {S O L : Type 0} (talks : S → Talk) (outbox : O → Standing OutboxVa
           λ i. record { outbox = to i; ledgers = sym (put_back k.ledgers owner l.0 (given_all (put k.ledgers owner l.0 owner) items) given) i }
 
       pruned_or_more : (w : Service) → w.pruned ≡ v.pruned → k.ledgers owner ≡ given_all l.0 w.taken → IsPrunedBy old.scheme owner (k.ledgers owner) v x.0 k.outbox
-          → (k ≡ stores_after m (history.Serves_owner owner w)) ⊎ ((device : ℕ) × (k ≡ stores_after m (history.Serves_owner owner (pruned_too w device))))
-      pruned_or_more w same took (inl e) = inl (same_stores w.taken w.pruned took (e ∙ ap (pruned_to_all x.0 owner (k.ledgers owner)) (sym same)))
-      pruned_or_more w same took (inr e) = inr (e.1.0, same_stores w.taken (w.pruned ++ e.1.0 ∷ []) took (e.1.2 ∙ ap (λ ds. pruned_to_all x.0 owner (k.ledgers owner) (ds ++ e.1.0 ∷ [])) (sym same)))
+          → (devices : List ℕ) × (k ≡ stores_after m (history.Serves_owner owner (pruned_too w devices)))
+      pruned_or_more w same took (inl e) = ([], same_stores w.taken (w.pruned ++ []) took (e ∙ ap (pruned_to_all x.0 owner (k.ledgers owner)) (sym same ∙ sym (append-nil w.pruned))))
+      pruned_or_more w same took (inr e) = (e.1.0, same_stores w.taken (w.pruned ++ e.1.0) took (e.1.2 ∙ ap (λ ds. pruned_to_all x.0 owner (k.ledgers owner) (ds ++ e.1.0)) (sym same)))
 
-      left_by : IsTakenBy v l.0 (k.ledgers owner) → IsLeftBy m (history.Serves_owner owner v) k
-      left_by (inl e) = (v, inl refl, pruned_or_more v refl e x.2)
-      left_by (inr e) = (committed v, inr refl, pruned_or_more (committed v) refl e.1 x.2)
+      left_with : (n : ℕ) → k.ledgers owner ≡ given_all l.0 (v.taken ++ take n (tried_in v.hand v.queue)) → IsLeftBy m (history.Serves_owner owner v) k
+      left_with n e = let w = first_taken n v in (w, (n, refl), pruned_or_more w (pruned_of n v.hand v) (e ∙ ap (given_all l.0) (sym (taken_of n v.hand v))) x.2)
 
       left : IsLeftBy m (history.Serves_owner owner v) k
-      left = left_by l.2
+      left = left_with l.2.count l.2.value
 
   -- ANY SESSION
   pub step_led : (old new : Hub O L) (s r : Session S) (c : Counts) → HasRun talks outbox ledger old new s r c → AreClean outbox ledger new → AreSound outbox ledger old → (k : StoresValue) → MayStandAs outbox ledger new k

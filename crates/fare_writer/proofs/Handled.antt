@@ -78,7 +78,7 @@ counts_as n0 n1 new false (inr same) e = let u = same.1 in omega (arith, u)
 put_here : (f : ℕ → ℕ) (d n : ℕ) → put f d n d ≡ n
 put_here f d n = grind (arith, nat_tests)
 
-tap_answer : (sc : SchemeValue) (x : OutboxValue) (station : ℕ) (r : RecordValue) → is_new x (Tap station r) ≡ true
+pub tap_answer : (sc : SchemeValue) (x : OutboxValue) (station : ℕ) (r : RecordValue) → is_new x (Tap station r) ≡ true
     → IsAnswerTo sc (storing x (Tap station r)) r.device (Upto (record { device = r.device; upto = r.link }))
 tap_answer sc x station r new = record {
   to = refl;
@@ -112,9 +112,9 @@ abbrev All_held : SchemeValue → Standing OutboxValue → StatementValue → Bo
 All_held sc b s held = held ≡ are_all_stated sc b.value s.device s.day
 
 asked : (sc : SchemeValue) (a b c : Standing OutboxValue) (item : Arrived) (s : StatementValue) (new held : Bool) → IsSound b → Puts a b item (Ok new) → Asks b c (All_held sc b s) (Ok held)
-    → Wrote sc a c (entry item [] ∷ []) None None
+    → Wrote sc a c (entry item [] ∷ []) [] None
 asked sc a b c item s new held sound puts reads =
-    wrote_then sc a b c (entry item [] ∷ []) [] None None (wrote_put sc a b item new sound puts) (wrote_read sc b c None (held ≡ are_all_stated sc b.value s.device s.day) sound reads)
+    wrote_then sc a b c (entry item [] ∷ []) [] [] None (wrote_put sc a b item new sound puts) (wrote_read sc b c None (held ≡ are_all_stated sc b.value s.device s.day) sound reads)
 
 pub written_held : (sc : SchemeValue) (a b c : Standing OutboxValue) (station : ℕ) (s : StatementValue) (new : Bool) (place : Option ℕ) (ack : AckItem) (took : Bool) (t u : List Teller) (n0 n1 : Tally)
     → IsSound b → Puts a b (Stated station s) (Ok new) → Asks b c (All_held sc b s) (Ok true) → place ≡ position_of_station sc station → ack ≡ Day (record { device = s.device; day = s.day }) → HasTold place ack t u took → Counts sc (Stated station s) n0 n1 new
@@ -152,10 +152,10 @@ not_refused fault.Store e = absurd (cc)
 
 pub written_failed : (sc : SchemeValue) (a b c : Standing OutboxValue) (item : Arrived) (s : StatementValue) (new : Bool) (f : Fault) (t : List Teller) (n0 n1 : Tally)
     → IsSound b → Puts a b item (Ok new) → Asks b c (All_held sc b s) (Err f) → Counts sc item n0 n1 new
-    → HasWritten sc a c (item ∷ []) t t n0 n1 (Some (record { hand = None; fault = as_writer f }))
+    → HasWritten sc a c (item ∷ []) t t n0 n1 (Some (record { hand = None; behind = 0; fault = as_writer f }))
 written_failed sc a b c item s new f t n0 n1 sound puts reads counts =
     written_asked sc a c item t n0 n1 (as_writer f)
-    (subst (λ (k : Option Fault). Wrote sc a c (entry item [] ∷ []) None k) (sym (same_fault f))
-    (wrote_then sc a b c (entry item [] ∷ []) [] None (Some f) (wrote_put sc a b item new sound puts) (wrote_read sc b c (Some f) (Unit {0}) sound reads)))
+    (subst (λ (k : Option Fault). Wrote sc a c (entry item [] ∷ []) [] k) (sym (same_fault f))
+    (wrote_then sc a b c (entry item [] ∷ []) [] [] (Some f) (wrote_put sc a b item new sound puts) (wrote_read sc b c (Some f) (Unit {0}) sound reads)))
     (λ clean live lawful. counts_as n0.stored n1.stored new (is_new a.value item) counts.0 (puts.value (puts.stays refl live (reads.clean clean)) lawful).1.0)
     (not_refused f)

@@ -3,3 +3,5 @@ pub mod Puttings
 pub mod Wrote
 pub mod Told
 pub mod Handled
+pub mod Written
+pub mod Batches

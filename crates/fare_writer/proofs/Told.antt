@@ -55,13 +55,17 @@ told_one sc a place item t u at told = record {
 -- ITEMS
 -- an item that was stored, or had been before
 pub written_one : (sc : SchemeValue) (a b : Standing OutboxValue) (item : Arrived) (answers : List AckItem) (t u : List Teller) (n0 n1 : Tally) → n1.days.keys ≡ noting sc n0.days.keys (item_of item)
-    → Wrote sc a b (entry item answers ∷ []) None None → HaveBeenTold sc (entry item answers ∷ []) t u
+    → Wrote sc a b (entry item answers ∷ []) [] None → HaveBeenTold sc (entry item answers ∷ []) t u
     → (b.clean → a.live → a.lawful → min n1.stored 18446744073709551615 ≡ min (n0.stored + (if is_new a.value item then 1 else 0)) 18446744073709551615)
     → HasWritten sc a b (item ∷ []) t u n0 n1 None
 written_one sc a b item answers t u n0 n1 notes wrote told counts = record {
   entries = entry item answers ∷ [];
+  behind = [];
   all = refl;
   wrote = wrote;
+  behind_is = refl;
+  alone = λ e. refl;
+  few = omega arith;
   told = told;
   refused = λ live lawful. tt;
   counted = λ clean live lawful. let c = counts clean live lawful in omega (arith, c);
@@ -70,50 +74,62 @@ written_one sc a b item answers t u n0 n1 notes wrote told counts = record {
 
 -- the same, and then the outbox failed
 pub written_asked : (sc : SchemeValue) (a b : Standing OutboxValue) (item : Arrived) (t : List Teller) (n0 n1 : Tally) (f : WriterFault)
-    → Wrote sc a b (entry item [] ∷ []) None (store_fault f)
+    → Wrote sc a b (entry item [] ∷ []) [] (store_fault f)
     → (b.clean → a.live → a.lawful → min n1.stored 18446744073709551615 ≡ min (n0.stored + (if is_new a.value item then 1 else 0)) 18446744073709551615)
     → (f ≡ Refused → ⊥)
-    → HasWritten sc a b (item ∷ []) t t n0 n1 (Some (record { hand = None; fault = f }))
+    → HasWritten sc a b (item ∷ []) t t n0 n1 (Some (record { hand = None; behind = 0; fault = f }))
 written_asked sc a b item t n0 n1 f wrote counts failed = record {
   entries = entry item [] ∷ [];
+  behind = [];
   all = refl;
   wrote = wrote;
+  behind_is = refl;
+  alone = λ e. refl;
+  few = omega arith;
   told = told_same sc item t;
   refused = λ live lawful. not_refused f (storing a.value item) failed;
   counted = λ clean live lawful. let c = counts clean live lawful in omega (arith, c);
   noted = λ e. absurd (cc);
 }
   where
-    not_refused : (f : WriterFault) (x : OutboxValue) → (f ≡ Refused → ⊥) → RefusedBy x (Some (record { hand = None; fault = f }))
+    not_refused : (f : WriterFault) (x : OutboxValue) → (f ≡ Refused → ⊥) → RefusedBy x (Some (record { hand = None; behind = 0; fault = f }))
     not_refused Refused x never = absurd (never refl)
     not_refused Memory x never = tt
     not_refused Store x never = tt
 
 -- one that was refused, or failed
 pub written_halt : (sc : SchemeValue) (a b : Standing OutboxValue) (item : Arrived) (t : List Teller) (n0 n1 : Tally) (f : WriterFault) → n1.stored ≡ n0.stored → IsSound a → Puts a b item (Err f)
-    → HasWritten sc a b (item ∷ []) t t n0 n1 (Some (record { hand = Some item; fault = f }))
+    → HasWritten sc a b (item ∷ []) t t n0 n1 (Some (record { hand = Some item; behind = 0; fault = f }))
 written_halt sc a b item t n0 n1 f same sound puts = record {
   entries = [];
+  behind = [];
   all = refl;
   wrote = wrote_halt sc a b item f sound puts;
+  behind_is = refl;
+  alone = λ e. refl;
+  few = omega arith;
   told = told_none sc t;
   refused = λ live lawful. is_refused f (puts.value live lawful).1;
   counted = λ clean live lawful. omega (arith, same);
   noted = λ e. absurd (cc);
 }
   where
-    is_refused : (f : WriterFault) → Put a.value b.value item (Err f) → RefusedBy a.value (Some (record { hand = Some item; fault = f }))
+    is_refused : (f : WriterFault) → Put a.value b.value item (Err f) → RefusedBy a.value (Some (record { hand = Some item; behind = 0; fault = f }))
     is_refused Refused p = p.0
     is_refused Memory p = tt
     is_refused Store p = tt
 
 -- one that was not given to the outbox, since there was no memory to note its day
 pub written_full : (sc : SchemeValue) (s : Standing OutboxValue) (item : Arrived) (t : List Teller) (n0 n1 : Tally) → n1.stored ≡ n0.stored → IsSound s
-    → HasWritten sc s s (item ∷ []) t t n0 n1 (Some (record { hand = Some item; fault = Memory }))
+    → HasWritten sc s s (item ∷ []) t t n0 n1 (Some (record { hand = Some item; behind = 0; fault = Memory }))
 written_full sc s item t n0 n1 same sound = record {
   entries = [];
+  behind = [];
   all = refl;
   wrote = wrote_full sc s item sound;
+  behind_is = refl;
+  alone = λ e. refl;
+  few = omega arith;
   told = told_none sc t;
   refused = λ live lawful. tt;
   counted = λ clean live lawful. omega (arith, same);

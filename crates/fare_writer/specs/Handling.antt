@@ -1,5 +1,5 @@
 -- What the writer did with items, one after the other.
-use Rattle.std.specs.Prelude.{◌≡◌, ℕ, ◌+◌, ◌<◌, min, Bool, List, [], ◌∷◌, ◌++◌, length, map, slice_index_or, Option, Some, None, if◌then◌else◌, fold}
+use Rattle.std.specs.Prelude.{◌≡◌, ℕ, ◌+◌, ◌≤◌, ◌/◌, ◌-◌, ◌<◌, min, Bool, List, [], ◌∷◌, ◌++◌, length, map, slice_index_or, Option, Some, None, if◌then◌else◌, fold}
 use Rattle.fare_scheme.specs.Values.{SchemeValue}
 use Rattle.fare_collector.specs.Collecting.{is_id}
 use Rattle.fare_inbox_queue.specs.declared.arrived.Arrived.{Arrived}
@@ -41,6 +41,15 @@ abbrev pub hand_of : Option Halt → Option Arrived
 hand_of None = None
 hand_of (Some h) = h.hand
 
+-- how many items of its batch stand behind the one in its hand
+abbrev pub behind_of : Option Halt → ℕ
+behind_of None = 0
+behind_of (Some h) = h.behind
+
+-- as many items are in a batch at most: half of what the inbox may hold, so that the queue has room for as many again
+abbrev pub batch_of : SchemeValue → ℕ
+batch_of sc = min 256 (sc.inbox_capacity - sc.inbox_capacity / 2)
+
 abbrev pub fault_of : Option Halt → Option Fault
 fault_of None = None
 fault_of (Some h) = store_fault h.fault
@@ -60,11 +69,15 @@ abbrev pub noting_all : SchemeValue → List Key → List Arrived → List Key
 noting_all sc days items = fold (noting sc) days (map item_of items)
 
 -- what came of these items, one after the other: some were stored, or had been before, and told; at its end the
--- writer may have one in its hand
+-- writer may have one in its hand, and some of its batch behind it
 pub record HasWritten (sc : SchemeValue) (old new : Standing OutboxValue) (items : List Arrived) (tellers_old tellers_new : List Teller) (tally_old tally_new : Tally) (halt : Option Halt) : Type 0 where
   pub entries : List Entry
-  pub all : items ≡ items_of entries ++ in_hand (hand_of halt)
-  pub wrote : Wrote sc old new entries (hand_of halt) (fault_of halt)
+  pub behind : List Arrived
+  pub all : items ≡ items_of entries ++ (in_hand (hand_of halt) ++ behind)
+  pub wrote : Wrote sc old new entries (in_hand (hand_of halt) ++ behind) (fault_of halt)
+  pub behind_is : length behind ≡ behind_of halt
+  pub alone : hand_of halt ≡ None → behind ≡ []
+  pub few : length behind ≤ batch_of sc - 1
   pub told : HaveBeenTold sc entries tellers_old tellers_new
   pub refused : new.live → old.lawful → RefusedBy (storing_all old.value entries) halt
   pub counted : new.clean → old.live → old.lawful → min tally_new.stored 18446744073709551615 ≡ min (tally_old.stored + new_count old.value entries) 18446744073709551615

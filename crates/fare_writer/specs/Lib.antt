@@ -6,3 +6,4 @@ pub mod Writing
 pub mod Handling
 pub mod Keeping
 pub mod Judging
+pub mod Batches

@@ -1,5 +1,5 @@
 -- What calls of the outbox, one for each item, made of it.
-use Rattle.std.specs.Prelude.{◌≡◌, ◌⊎◌, true, Bool, Option, None, Some, Result, Ok, Err, IfOk, List}
+use Rattle.std.specs.Prelude.{◌≡◌, ◌⊎◌, true, Bool, Option, None, Some, Result, Ok, Err, IfOk, List, map}
 use Rattle.fare_scheme.specs.Values.{SchemeValue}
 use Rattle.fare_store.specs.Standing.{Standing, Counted}
 use Rattle.fare_store.specs.Standing as store
@@ -10,7 +10,8 @@ use Rattle.fare_store.specs.declared.fault.Fault.TheVariants as fault
 use Rattle.fare_writer.specs.declared.fault.WriterFault.{WriterFault}
 use Rattle.fare_writer.specs.declared.fault.WriterFault.TheVariants.{Refused, Memory, Store}
 use Rattle.fare_inbox_queue.specs.declared.arrived.Arrived.{Arrived}
-use Rattle.fare_writer.specs.Entries.{is_new, done_by, IsRepeated, IsRefused, storing, Entry, storing_all, AreEntries}
+use Rattle.fare_history.specs.Gathering.{HasFirst}
+use Rattle.fare_writer.specs.Entries.{item_of, is_new, done_by, IsRepeated, IsRefused, storing, Entry, storing_all, AreEntries}
 
 -- the store's own fault
 abbrev pub store_fault : WriterFault → Option Fault
@@ -40,18 +41,18 @@ Puts old new a result = Called old new (fault_of result) (Put old.value new.valu
 abbrev pub Asks : {A : Type 0} → Standing OutboxValue → Standing OutboxValue → (A → Type 0) → Result A Fault → Type 0
 Asks old new answer result = Called old new (store.fault_of result) ((new.value ≡ old.value) × IfOk result answer) (λ v. ⊥)
 
--- what a stop may leave: all items, or also the one in the hand
-abbrev pub LeavesOutbox : OutboxValue → List Entry → Option Arrived → OutboxValue → Type 0
-LeavesOutbox x es None v = v ≡ storing_all x es
-LeavesOutbox x es (Some a) v = (v ≡ storing_all x es) ⊎ ((is_new (storing_all x es) a ≡ true) × (v ≡ done_by a (storing_all x es)))
+-- what a stop may leave: all items, and the first of those that were tried
+abbrev pub LeavesOutbox : OutboxValue → List Entry → List Arrived → OutboxValue → Type 0
+LeavesOutbox x es tried v = HasFirst (storing_all x es) (map item_of tried) v
 
--- Calls one after the other: these items were stored, or had been before; at a fault there is perhaps one in the
--- hand. Nothing is said of what an outbox holds that has not kept what was committed, or that a failure has shut.
-pub record Wrote (sc : SchemeValue) (old new : Standing OutboxValue) (entries : List Entry) (hand : Option Arrived) (faulted : Option Fault) : Type 0 where
+-- Calls one after the other: these items were stored, or had been before; at a fault there are perhaps some that the
+-- last call had before it. Nothing is said of what an outbox holds that has not kept what was committed, or that a
+-- failure has shut.
+pub record Wrote (sc : SchemeValue) (old new : Standing OutboxValue) (entries : List Entry) (tried : List Arrived) (faulted : Option Fault) : Type 0 where
   pub value : new.live → old.lawful → new.lawful × (new.value ≡ storing_all old.value entries)
   -- as far as what was committed is kept, whether or not a failure has shut the outbox at the end
   pub known : new.clean → old.live → old.lawful → AreEntries sc old.value entries
-  pub stop : new.clean → old.live → old.lawful → (v : OutboxValue) → new.may_leave v → LeavesOutbox old.value entries hand v
+  pub stop : new.clean → old.live → old.lawful → (v : OutboxValue) → new.may_leave v → LeavesOutbox old.value entries tried v
   -- where the outbox was shut before, a stop leaves what it could have left then
   pub shut : new.clean → (old.live → old.lawful) → (v : OutboxValue) → new.may_leave v → old.may_leave v ⊎ old.live
   pub lasts : new.clean → (old.live → old.lawful) → old.lasting → new.lasting

@@ -6,6 +6,8 @@ use fare_inbox_queue::Arrived;
 pub struct Halt {
     /// The item that it had in its hand.
     pub hand: Option<Arrived>,
+    /// How many items of its batch stand behind that one.
+    pub behind: u64,
     /// What ended it.
     pub fault: WriterFault,
 }

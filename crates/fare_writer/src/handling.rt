@@ -1,7 +1,8 @@
-ghost use Rattle.std.specs.Prelude.{◌∷◌, []};
+ghost use Rattle.std.specs.Prelude.{◌≡◌, ◌∷◌, [], IfSome};
 ghost use Rattle.fare_inbox_queue.specs.Line.{IsUpTo};
 ghost use Rattle.fare_writer.specs.Handling.{AreTellers, HasTold, HasWritten};
 
+use crate::floor::Floor;
 use crate::halt::Halt;
 use crate::storing::{store, writer_fault};
 use crate::tally::Tally;
@@ -9,14 +10,13 @@ use crate::teller::Teller;
 use fare_inbox_queue::{AckLine, Arrived};
 use fare_record::{Ack, AckItem, DayAck};
 use fare_route::are_stated;
-use fare_scheme::Scheme;
 use fare_session::{Gate, Point};
 use fare_store::Outbox;
 use std::sync::Wait;
 use std::time::Clock;
 
 // Puts an answer into the line at a place, if there is one. A full line drops it.
-fn tell<R: Wait + Clock>(
+pub(crate) fn tell<R: Wait + Clock>(
     rt: &R,
     lines: &[AckLine],
     place: Option<usize>,
@@ -54,10 +54,8 @@ fn tell<R: Wait + Clock>(
 /// it fails. With an empty hand, once the item was stored or had been before: `Memory` or `Store` where the outbox can't
 /// say which statements it holds.
 pub fn handle<O: Outbox, G: Gate, R: Wait + Clock>(
-    rt: &R,
-    scheme: &Scheme,
+    floor: &Floor<G, R>,
     lines: &[AckLine],
-    gate: &G,
     item: Arrived,
     tally: &mut Tally,
     outbox: &mut O,
@@ -65,37 +63,39 @@ pub fn handle<O: Outbox, G: Gate, R: Wait + Clock>(
 ) -> Option<Halt>
     requires ready { AreTellers lines.now tellers.old }
     ensures ready { AreTellers lines.now tellers.new }
-    ensures written { HasWritten scheme.now (O.standing outbox.old) (O.standing outbox.new) (item ∷ []) tellers.old tellers.new tally.old tally.new result }
+    ensures written { HasWritten floor.now.scheme.now (O.standing outbox.old) (O.standing outbox.new) (item ∷ []) tellers.old tellers.new tally.old tally.new result }
+    ensures alone { IfSome result (λ halt. halt.behind ≡ 0) }
 {
-    let new = match store(scheme, &item, tally, outbox) {
+    let new = match store(floor.scheme, &item, tally, outbox) {
         Ok(new) => new,
         Err(halt) => return Some(halt),
     };
     if new {
-        gate.pass(Point::WriterStored);
+        floor.gate.pass(Point::WriterStored);
     }
     match item {
         Arrived::Tap(station, row) => {
             if new {
                 let ack = AckItem::Upto(Ack::new(row.device(), row.link()));
-                let place = scheme.station_position(station);
-                tell(rt, lines, place, ack, row.link(), tellers);
+                let place = floor.scheme.station_position(station);
+                tell(floor.rt, lines, place, ack, row.link(), tellers);
             }
             None
         }
         Arrived::Stated(station, statement) => {
             let device = statement.device();
             let day = statement.day();
-            match are_stated(scheme, outbox, device, day) {
+            match are_stated(floor.scheme, outbox, device, day) {
                 Err(fault) => Some(Halt {
                     hand: None,
+                    behind: 0,
                     fault: writer_fault(fault),
                 }),
                 Ok(held) => {
                     if held {
                         let ack = AckItem::Day(DayAck::new(device, day));
-                        let place = scheme.station_position(station);
-                        tell(rt, lines, place, ack, 0, tellers);
+                        let place = floor.scheme.station_position(station);
+                        tell(floor.rt, lines, place, ack, 0, tellers);
                     }
                     None
                 }

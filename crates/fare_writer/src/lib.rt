@@ -1,11 +1,13 @@
-//! What the writer of a session does with one item: whether the collector of its station accepts it, storing it in the
-//! outbox, and only then telling the station's line what may be acknowledged. Over an outbox that keeps what was
+//! What the writer of a session does with the items of its inbox: whether the collector of its station accepts one,
+//! storing it in the outbox, several taps in one commit, and only then telling the station's line what may be acknowledged. Over an outbox that keeps what was
 //! committed and whose rows fit together, an item was stored, or had been before, or it is in the hand of the writer,
 //! which it ended; and what a line was told is to the item's own device, and true of the outbox then: the greatest link
 //! that it has had, or a day of which it holds the statements of all owners.
 #![tactic(auto)]
 
+mod batching;
 mod fault;
+mod floor;
 mod halt;
 mod handling;
 mod judging;
@@ -14,7 +16,9 @@ mod storing;
 mod tally;
 mod teller;
 
+pub use batching::{batch_of, handle_batch};
 pub use fault::WriterFault;
+pub use floor::Floor;
 pub use halt::Halt;
 pub use handling::handle;
 pub use judging::judge;

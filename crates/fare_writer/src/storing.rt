@@ -31,10 +31,12 @@ pub(crate) fn store<O: Outbox>(
 ) -> Result<bool, Halt>
     ensures stored { IfOk result (λ new. Puts (O.standing outbox.old) (O.standing outbox.new) item.now (Ok new) × Counts scheme.now item.now tally.old tally.new new) }
     ensures halted { IfErr result (λ halt. HasKept scheme.now (O.standing outbox.old) (O.standing outbox.new) (item.now ∷ []) tally.old tally.new (Some halt)) }
+    ensures alone { IfErr result (λ halt. halt.behind ≡ 0) }
 {
     if tally.note(scheme, item).is_err() {
         return Err(Halt {
             hand: Some(*item),
+            behind: 0,
             fault: WriterFault::Memory,
         });
     }
@@ -47,6 +49,7 @@ pub(crate) fn store<O: Outbox>(
         }
         Err(fault) => Err(Halt {
             hand: Some(*item),
+            behind: 0,
             fault,
         }),
     }

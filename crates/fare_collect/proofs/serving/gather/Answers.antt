@@ -6,7 +6,7 @@ use Rattle.fare_inbox_queue.specs.Inbox.{of_station}
 use Rattle.std.specs.Prelude.{Option}
 use Rattle.fare_writer.specs.declared.halt.Halt.{Halt}
 use Rattle.fare_writer.specs.Handling.{HasWritten}
-use Rattle.fare_collect.proofs.Written.{written_then}
+use Rattle.fare_writer.proofs.Written.{written_then}
 use Rattle.fare_collect.proofs.Served.{element}
 use Rattle.fare_collect.proofs.RestedAll.{apart_after, gathered_rest}
 use Rattle.fare_collect.proofs.serving.gather.Goals as goal

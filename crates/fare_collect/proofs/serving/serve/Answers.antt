@@ -7,7 +7,7 @@ use Rattle.fare_inbox_queue.specs.InboxPasses.{taken_list, stations_of, left_of,
 use Rattle.fare_inbox_queue.proofs.Ends.{left_parts}
 use Rattle.fare_writer.specs.declared.halt.Halt.{Halt}
 use Rattle.fare_writer.specs.Handling.{HasWritten}
-use Rattle.fare_collect.proofs.Written.{written_then}
+use Rattle.fare_writer.proofs.Written.{written_then}
 use Rattle.fare_collect.proofs.Served.{gathered_all, gathered_more, passes_back, parts_are, both_nil, unnamed}
 use Rattle.fare_collect.proofs.serving.serve.Goals as goal
 

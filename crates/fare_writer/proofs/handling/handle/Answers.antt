@@ -21,7 +21,7 @@ returns-in-Err-clause-written g c = c.in-Err.ensures.halted.each c.args.tellers.
 
 pub returns-after-new-2-clause-written : goal.returns-after-new-2-clause-written
 returns-after-new-2-clause-written g c =
-    let sc = c.args.scheme.now in
+    let sc = c.args.floor.now.scheme.now in
     let a = g.O.Outbox.standing c.args.outbox.now in
     let b = g.O.Outbox.standing c.store.new.outbox in
     let n0 = c.args.tally.now in
@@ -48,7 +48,7 @@ returns-after-new-2-clause-written g c =
 
 pub returns-in-Err-are_stated-clause-written : goal.returns-in-Err-are_stated-clause-written
 returns-in-Err-are_stated-clause-written g c =
-    let sc = c.args.scheme.now in
+    let sc = c.args.floor.now.scheme.now in
     let a = g.O.Outbox.standing c.args.outbox.now in
     let b = g.O.Outbox.standing c.store.new.outbox in
     let d = g.O.Outbox.standing c.are_stated.new.outbox in
@@ -61,12 +61,12 @@ returns-in-Err-are_stated-clause-written g c =
     let step : Counts sc c.args.item n0 n1 new = c.in-Ok.ensures.stored.1 in
     let reads = asks_of b d (λ held. held ≡ are_all_stated sc b.value s.device s.day) (Err c.in-Err-are_stated.fault)
     (subst (λ (x : ℕ × ℕ). Reads b d (λ held. held ≡ are_all_stated sc b.value x.0 x.1) (Err c.in-Err-are_stated.fault)) (λ i. (c.device-device.ensures i, c.day-day.ensures i)) c.in-Err-are_stated.ensures) in
-    subst (λ (f : WriterFault). HasWritten sc a d (c.args.item ∷ []) t t n0 n1 (Some (record { hand = None; fault = f }))) (sym c.writer_fault.ensures)
+    subst (λ (f : WriterFault). HasWritten sc a d (c.args.item ∷ []) t t n0 n1 (Some (record { hand = None; behind = 0; fault = f }))) (sym c.writer_fault.ensures)
     (written_failed sc a b d c.args.item s new c.in-Err-are_stated.fault t n0 n1 sound c.in-Ok.ensures.stored.0 reads step)
 
 pub returns-after-held-clause-written : goal.returns-after-held-clause-written
 returns-after-held-clause-written g c =
-    let sc = c.args.scheme.now in
+    let sc = c.args.floor.now.scheme.now in
     let a = g.O.Outbox.standing c.args.outbox.now in
     let b = g.O.Outbox.standing c.store.new.outbox in
     let d = g.O.Outbox.standing c.are_stated.new.outbox in

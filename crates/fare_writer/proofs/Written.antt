@@ -16,7 +16,7 @@ use Rattle.fare_writer.specs.declared.halt.Halt.{Halt}
 use Rattle.fare_writer.specs.Entries.{item_of, storing, Entry, items_of, in_hand, storing_all, new_count, told_to, told_of}
 use Rattle.fare_writer.specs.Writing.{Wrote}
 use Rattle.fare_writer.specs.Handling.{noting_all, HaveBeenTold, HasWritten, RefusedBy, hand_of, fault_of}
-use Rattle.fare_writer.proofs.Wrote.{storing_append, wrote_then}
+use Rattle.fare_writer.proofs.Wrote.{storing_append, wrote_then, none_more}
 use Rattle.fare_writer.proofs.Told.{told_none}
 
 -- LISTS OF ENTRIES
@@ -26,11 +26,11 @@ items_append (e ∷ es) fs = ap (λ l. e.item ∷ l) (items_append es fs)
 
 -- CALLS
 -- no call
-pub wrote_none : (sc : SchemeValue) (s : Standing OutboxValue) → IsSound s → Wrote sc s s [] None None
+pub wrote_none : (sc : SchemeValue) (s : Standing OutboxValue) → IsSound s → Wrote sc s s [] [] None
 wrote_none sc s sound = record {
   value = λ live lawful. (lawful, refl);
   known = λ clean live lawful. tt;
-  stop = λ clean live lawful v leaves. sound.settled live lawful v leaves;
+  stop = λ clean live lawful v leaves. none_more s.value [] v (sound.settled live lawful v leaves);
   shut = λ clean lawful v leaves. inl leaves;
   lasts = λ clean lawful lasting. lasting;
   clean = λ h. h;
@@ -67,8 +67,12 @@ noted_append sc days xs ys = ap (fold (noting sc) days) (map-append item_of xs y
 pub written_none : (sc : SchemeValue) (s : Standing OutboxValue) (t : List Teller) (n : Tally) → IsSound s → HasWritten sc s s [] t t n n None
 written_none sc s t n sound = record {
   entries = [];
+  behind = [];
   all = refl;
   wrote = wrote_none sc s sound;
+  behind_is = refl;
+  alone = λ e. refl;
+  few = omega arith;
   told = told_none sc t;
   refused = λ live lawful. tt;
   counted = λ clean live lawful. omega arith;
@@ -79,12 +83,16 @@ pub written_then : (sc : SchemeValue) (a b c : Standing OutboxValue) (xs ys : Li
     → HasWritten sc a b xs t u n0 n1 None → HasWritten sc b c ys u v n1 n2 halt → HasWritten sc a c (xs ++ ys) t v n0 n2 halt
 written_then sc a b c xs ys t u v n0 n1 n2 halt first second = record {
   entries = first.entries ++ second.entries;
+  behind = second.behind;
   all =
-      ap (λ l. l ++ ys) (first.all ∙ append-nil (items_of first.entries))
+      ap (λ l. l ++ ys) (first.all ∙ (ap (λ l. items_of first.entries ++ l) (first.alone refl) ∙ append-nil (items_of first.entries)))
       ∙ (ap (λ l. items_of first.entries ++ l) second.all
-      ∙ (sym (append_assoc (items_of first.entries) (items_of second.entries) (in_hand (hand_of halt)))
-      ∙ ap (λ l. l ++ in_hand (hand_of halt)) (sym (items_append first.entries second.entries))));
-  wrote = wrote_then sc a b c first.entries second.entries (hand_of halt) (fault_of halt) first.wrote second.wrote;
+      ∙ (sym (append_assoc (items_of first.entries) (items_of second.entries) (in_hand (hand_of halt) ++ second.behind))
+      ∙ ap (λ l. l ++ (in_hand (hand_of halt) ++ second.behind)) (sym (items_append first.entries second.entries))));
+  wrote = wrote_then sc a b c first.entries second.entries (in_hand (hand_of halt) ++ second.behind) (fault_of halt) (subst (λ (l : List Arrived). Wrote sc a b first.entries l None) (first.alone refl) first.wrote) second.wrote;
+  behind_is = second.behind_is;
+  alone = second.alone;
+  few = second.few;
   told = told_then sc first.entries second.entries t u v first.told second.told;
   refused = λ live lawful.
       let one = first.wrote.value (second.wrote.live live) lawful in
