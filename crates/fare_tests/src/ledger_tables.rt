@@ -20,7 +20,7 @@ CREATE TABLE stated (device INTEGER NOT NULL, day INTEGER NOT NULL, total INTEGE
   PRIMARY KEY (device, day)) STRICT;";
 
 // The demonstration scheme, with one device and owner 1.
-fn scheme(alloc: Global) -> Option<Scheme> {
+pub(crate) fn scheme(alloc: Global) -> Option<Scheme> {
     Scheme::demo(alloc, DemoSize::OneDevice, 4, 4, 4).ok()
 }
 
@@ -33,7 +33,7 @@ fn database(alloc: Global, sql: &[&str]) -> Option<Connection<MemStore>> {
     Some(conn)
 }
 
-fn ledger(alloc: Global, sql: &[&str]) -> Option<SqlLedger<MemStore>> {
+pub(crate) fn ledger(alloc: Global, sql: &[&str]) -> Option<SqlLedger<MemStore>> {
     SqlLedger::open(
         alloc,
         &scheme(alloc)?,

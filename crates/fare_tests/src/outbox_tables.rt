@@ -27,7 +27,7 @@ fn database(alloc: Global, sql: &[&str]) -> Option<Connection<MemStore>> {
     Some(conn)
 }
 
-fn outbox(alloc: Global, sql: &[&str]) -> Option<SqlOutbox<MemStore>> {
+pub(crate) fn outbox(alloc: Global, sql: &[&str]) -> Option<SqlOutbox<MemStore>> {
     SqlOutbox::open(alloc, database(alloc, sql)?).ok()
 }
 
