@@ -10,6 +10,8 @@ import time
 
 TOP = os.path.dirname(os.path.dirname(os.path.abspath(__file__)))
 PROGRAM = os.environ.get("HUB", os.path.join(TOP, "crates/fare_hub/out/fare_hub"))
+# How many items the inbox and the owner's lane queue may hold.
+QUEUE = int(os.environ.get("QUEUE", "64"))
 MOMENT = 1_704_100_000
 DAY = 19_723
 
@@ -34,7 +36,7 @@ def acked(device, link):
 
 def scheme_of(stations):
     """The lines of a scheme of one owner with so many stations, each of one device of its number."""
-    lines = ["owner 1 64", "operator 1", "product 1 1 175", "caps 1 525 2470", "inbox 64",
+    lines = [f"owner 1 {QUEUE}", "operator 1", "product 1 1 175", "caps 1 525 2470", f"inbox {QUEUE}",
              "zone GMT0BST,M3.5.0/1,M10.5.0", f"start {DAY}"]
     for number in range(1, stations + 1):
         lines += [f"station {number} 1", f"device {number} {number} 64"]
