@@ -250,6 +250,11 @@ impl<R: Read + Drop, W: Write + Drop> Source for NetSource<R, W> {
         !self.intake.is_waiting()
     }
 
+    /// Whether `next` would answer without a read.
+    fn has_next(&self) -> bool {
+        self.refused || !self.intake.is_waiting()
+    }
+
     /// The next frame of the stream; `None` where the reader is at its end and all frames were given. What stands
     /// behind the last frame, less than a frame, is dropped then.
     ///

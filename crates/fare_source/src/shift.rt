@@ -122,6 +122,10 @@ impl<S: Source> Source for Shift<S> {
         self.over || self.quiet == 0 || self.frames == 0 || self.listens()
     }
 
+    fn has_next(&self) -> bool {
+        self.over || self.source.has_next()
+    }
+
     /// The source's next frame; `None` where the shift is over.
     fn next(&mut self) -> Result<Option<Frame>, SourceFault>
         ensures gives { Gives (in_shift self.old.whole self.old.over (S.talk self.old.source)) (in_shift self.new.whole self.new.over (S.talk self.new.source)) result }
@@ -142,6 +146,16 @@ impl<S: Source> Source for Shift<S> {
             self.over = true;
         }
         next
+    }
+
+    /// The shift is over, unless it is a whole one.
+    fn finish(&mut self)
+        ensures waits { Waits (in_shift self.old.whole self.old.over (S.talk self.old.source)) (in_shift self.new.whole self.new.over (S.talk self.new.source)) }
+        ensures over { IsTrue self.new.over ↔ ((self.old.over ≡ true) ⊎ (self.old.whole ≡ false)) }
+    {
+        if !self.whole {
+            self.over = true;
+        }
     }
 
     fn answer(&mut self, frame: &Frame) -> Result<(), SourceFault> {

@@ -17,9 +17,21 @@ pub trait Source {
         true
     }
 
+    /// Whether `next` would answer now, as far as that is known without a wait; one that doesn't know says true. Where it
+    /// says false, its station can wait for an answer that is due before it asks whether more has come.
+    fn has_next(&self) -> bool {
+        true
+    }
+
     /// The next frame; `None` where there is none any more.
     fn next(&mut self) -> Result<Option<Frame>, SourceFault>
         ensures { Gives (talk self.old) (talk self.new) result };
+
+    /// No frame more is wanted of it for now. A source of which a part is read answers `None` from then on, until the next
+    /// part; for one that is read to its end nothing changes.
+    fn finish(&mut self)
+        ensures { Waits (talk self.old) (talk self.new) }
+    {}
 
     /// Hands it an answer.
     fn answer(&mut self, frame: &Frame) -> Result<(), SourceFault>
