@@ -22,4 +22,10 @@ pub trait Gate {
     fn naps(&self) -> bool {
         false
     }
+
+    /// Whether the stations of a session are to read no more, since it has lasted long enough. What was read is stored
+    /// and answered; the next session goes on from there.
+    fn is_over(&self) -> bool {
+        false
+    }
 }

@@ -229,7 +229,8 @@ fn open(
 
 /// Serves an owner: one thread hands on what comes next in the outbox of the owner's lanes, over one lane queue,
 /// and one takes it into the ledger. What is left once both have ended this call takes, and it prunes the lanes
-/// to the ledger's counts. A lane that the ledger has retired is left out, but pruned as the others. A thread that found the queue full or empty `turns` times ends.
+/// to the ledger's counts. A lane that the ledger has retired is left out, but pruned as the others. A thread that found
+/// the queue full or empty `turns` times in a row ends.
 pub fn serve_owner<
     O: Outbox + Send,
     L: Ledger + Send,
