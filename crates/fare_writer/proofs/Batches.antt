@@ -1,8 +1,9 @@
 -- Several items at the writer: taken, stored all at once, and told.
-use Rattle.std.proofs.Common.{◌≡◌, ℕ, ◌+◌, ◌-◌, ◌≤◌, List, [], ◌∷◌, ◌++◌, length, map, take, Some, None, true, false, refl, sym, ap, ◌∙◌, subst, append_assoc, inl, inr, arith}
+use Rattle.std.proofs.Common.{◌≡◌, ℕ, ◌+◌, ◌-◌, ◌≤◌, List, [], ◌∷◌, ◌++◌, length, map, take, drop, Some, None, true, false, refl, sym, ap, ◌∙◌, subst, append_assoc, inl, inr, arith}
 use Rattle.std.specs.Prelude.{Option, Result, Ok, Err, Bool, min, ◌⊎◌, if◌then◌else◌, fold, IfOk}
 use Rattle.std.specs.List.{AllByRecursion}
-use Rattle.std.proofs.lemmas.List.{append-nil, map-append, take-map, take-take, length-take-le}
+use Rattle.std.proofs.lemmas.List.{append-nil, map-append, take-map, take-take, take-append-drop, length-take-le}
+use Rattle.std.proofs.Math.Seq.{take-add}
 use Rattle.fare_record.specs.Values.{RecordValue}
 use Rattle.fare_record.specs.declared.item.Item.TheVariants as item
 use Rattle.fare_record.specs.declared.ack_item.AckItem.{AckItem}
@@ -37,7 +38,7 @@ use Rattle.fare_writer.specs.Batches.{HasTakenMore, AreTaps, BeginWithTaps, AreS
 use Rattle.fare_writer.proofs.Handled.{tap_answer}
 use Rattle.fare_writer.proofs.Wrote.{entry, none_more, first_more}
 use Rattle.fare_writer.proofs.Told.{told_none, told_same, told_dropped, told_one}
-use Rattle.fare_writer.proofs.Written.{items_append, told_then}
+use Rattle.fare_writer.proofs.Written.{items_append, told_then, written_then}
 
 -- TAKING
 pub taken_none : (p : WriterPass) (first : List Arrived) → HasTakenMore p p first first
@@ -278,3 +279,45 @@ written_halted sc a b first rest t u n0 n1 halt result zero_behind low h w = rec
 -- what the writer has taken then
 pub taken_behind : (o m n : WriterPass) (first : Arrived) (more : List Arrived) → taken_list m ≡ taken_list o ++ first ∷ [] → taken_list n ≡ taken_list m ++ more → taken_list n ≡ taken_list o ++ first ∷ more
 taken_behind o m n first more one then_ = then_ ∙ (ap (λ l. l ++ more) one ∙ append_assoc (taken_list o) (first ∷ []) more)
+
+-- ONE AFTER THE OTHER
+-- where no tap was first, nothing was stored of these
+pub none_first : (sc : SchemeValue) (a b : Standing OutboxValue) (items : List Arrived) (n : ℕ) (t : List Teller) (k : Tally) → n ≡ 0 → IsSound b → StoresFirst a b items (Ok n) → BeginWithTaps items n → HasWritten sc a b [] t t k k None
+none_first sc a b items n t k none sound call taps =
+    let long : length (take n items) ≡ 0 = ap (λ m. length (take m items)) none in
+    subst (λ m. HasWritten sc a b (take m items) t t k k None) none
+    (written_first sc a b items n t t k k sound call taps (subst (λ m. HaveTold sc (take m items) t t) (sym none) (told_nothing sc t)) (omega (arith, long)) refl)
+
+-- the first of these was stored alone
+pub alone_first : (sc : SchemeValue) (a b c : Standing OutboxValue) (items : List Arrived) (first : Arrived) (n : ℕ) (t u : List Teller) (k m : Tally) → n ≡ 0 → IsSound b → StoresFirst a b items (Ok n) → BeginWithTaps items n
+    → take 1 items ≡ first ∷ [] → HasWritten sc b c (first ∷ []) t u k m None → HasWritten sc a c (take 1 items) t u k m None
+alone_first sc a b c items first n t u k m none sound call taps is one =
+    subst (λ l. HasWritten sc a c l t u k m None) (sym is)
+    (written_then sc a b c [] (first ∷ []) t t u k k m None (none_first sc a b items n t k none sound call taps) one)
+
+-- or it ended the writer
+pub alone_halted : (sc : SchemeValue) (a b c : Standing OutboxValue) (items : List Arrived) (first : Arrived) (rest : List Arrived) (n : ℕ) (t u : List Teller) (k m : Tally) (halt result : Halt) → n ≡ 0 → IsSound b → StoresFirst a b items (Ok n) → BeginWithTaps items n
+    → items ≡ first ∷ rest → halt.behind ≡ 0 → length items ≤ batch_of sc → HaltsBefore halt rest result → HasWritten sc b c (first ∷ []) t u k m (Some halt) → HasWritten sc a c items t u k m (Some result)
+alone_halted sc a b c items first rest n t u k m halt result none sound call taps is alone few h one =
+    let l = ap length is in
+    subst (λ xs. HasWritten sc a c xs t u k m (Some result)) (sym is)
+    (written_then sc a b c [] (first ∷ rest) t t u k k m (Some result) (none_first sc a b items n t k none sound call taps)
+    (written_halted sc b c first rest t u k m halt result alone (omega (arith, l, few)) h one))
+
+-- a first part, and what came of those behind it
+pub on_from : (sc : SchemeValue) (a b c : Standing OutboxValue) (items part : List Arrived) (place n : ℕ) (t u v : List Teller) (k m o : Tally) → part ≡ drop place items → HasWritten sc a b (take place items) t u k m None → HasWritten sc b c (take n part) u v m o None
+    → HasWritten sc a c (take (place + n) items) t v k o None
+on_from sc a b c items part place n t u v k m o is before one =
+    subst (λ xs. HasWritten sc a c xs t v k o None) (sym (take-add place n items ∙ ap (λ l. take place items ++ take n l) (sym is)))
+    (written_then sc a b c (take place items) (take n part) t u v k m o None before one)
+
+pub halted_from : (sc : SchemeValue) (a b c : Standing OutboxValue) (items part : List Arrived) (place : ℕ) (t u v : List Teller) (k m o : Tally) (halt : Halt) → part ≡ drop place items → HasWritten sc a b (take place items) t u k m None → HasWritten sc b c part u v m o (Some halt)
+    → HasWritten sc a c items t v k o (Some halt)
+halted_from sc a b c items part place t u v k m o halt is before one =
+    subst (λ xs. HasWritten sc a c xs t v k o (Some halt)) (ap (λ l. take place items ++ l) is ∙ take-append-drop place items)
+    (written_then sc a b c (take place items) part t u v k m o (Some halt) before one)
+
+-- what no line was told of
+pub told_silently : (sc : SchemeValue) (items : List Arrived) (t : List Teller) → HaveTold sc items t t
+told_silently sc [] t = told_nothing sc t
+told_silently sc (a ∷ rest) t = told_more sc (a ∷ []) rest t t t (told_statement sc a t) (told_silently sc rest t)

@@ -1,25 +1,25 @@
 //! Several items in one commit.
-ghost use Rattle.std.specs.Prelude.{◌≡◌, ◌+◌, ◌≤◌, ◌∷◌, [], min, length, take, IfOk};
+ghost use Rattle.std.specs.Prelude.{◌≡◌, ◌+◌, ◌≤◌, ◌∷◌, [], Some, None, min, length, take, IfOk, IfErr};
 ghost use Rattle.fare_inbox_queue.specs.InboxPasses.{stations_of, IsWriterOf};
-ghost use Rattle.fare_writer.specs.Batches.{HasTakenMore, AreTaps, BeginWithTaps, StoresFirst, HaveTold, HaltsBefore, HasWrittenBatch};
+ghost use Rattle.fare_writer.specs.Batches.{HasTakenMore, HaveTold, HasWrittenBatch};
 ghost use Rattle.fare_writer.specs.Handling.{AreTellers, HasWritten, batch_of};
 
 use crate::floor::Floor;
 use crate::halt::Halt;
 use crate::handling::{handle, tell};
-use crate::storing::writer_fault;
+use crate::leading::{halted, store_lead};
 use crate::tally::Tally;
 use crate::teller::Teller;
 use fare_inbox_queue::{AckLine, Arrived, Inbox, WriterPass};
 use fare_record::{Ack, AckItem, Record};
 use fare_scheme::Scheme;
 use fare_session::{Gate, Point};
-use fare_store::{Fault, Outbox};
+use fare_store::Outbox;
 use std::sync::Wait;
 use std::time::Clock;
 
 // As many items are in a batch at most.
-const BATCH: usize = 256;
+pub(crate) const BATCH: usize = 256;
 
 /// As many items are in a batch at most: half of what the inbox may hold, so that the queue has room for as many again.
 pub fn batch_of(scheme: &Scheme) -> usize
@@ -55,38 +55,6 @@ fn take_more<R: Wait>(
         items[place] = item;
     }
     most
-}
-
-// The rows of the taps before the first statement, and how many these are.
-fn lead(items: &[Arrived], rows: &mut [Record]) -> usize
-    requires { length items.now ≤ length rows.old }
-    ensures taps { AreTaps items.now rows.new result }
-    ensures few { result ≤ length items.now }
-{
-    for place in 0..items.len() {
-        match items[place] {
-            Arrived::Tap(_, row) => rows[place] = row,
-            Arrived::Stated(_, _) => return place,
-        }
-    }
-    items.len()
-}
-
-// Stores the taps before the first statement all at once, or the first of them.
-fn store_lead<O: Outbox>(
-    outbox: &mut O,
-    items: &[Arrived],
-    rows: &mut [Record],
-) -> Result<usize, Fault>
-    requires { length items.now ≤ length rows.old }
-    ensures does { StoresFirst (O.standing outbox.old) (O.standing outbox.new) items.now result }
-    ensures taps { IfOk result (BeginWithTaps items.now) }
-{
-    let count = lead(items, rows);
-    match outbox.store_all(&rows[..count]) {
-        Ok(stored) => Ok(stored),
-        Err(fault) => Err(fault),
-    }
 }
 
 // Tells an item's station what may be acknowledged of it, once it is stored: of a tap its link.
@@ -128,30 +96,41 @@ fn tell_all<G: Gate, R: Wait + Clock>(
     }
 }
 
-// What ended the writer at an item, with those of its batch that stand behind that one.
-fn halted(halt: Halt, rest: &[Arrived]) -> Halt
-    requires { halt.behind ≡ 0 }
-    ensures { HaltsBefore halt rest.now result }
+// Stores the first taps all at once, or else the first item alone, and tells their stations' lines. Answers how many it
+// stored.
+fn handle_some<O: Outbox, G: Gate, R: Wait + Clock>(
+    floor: &Floor<G, R>,
+    lines: &[AckLine],
+    items: &[Arrived],
+    rows: &mut [Record],
+    tally: &mut Tally,
+    outbox: &mut O,
+    tellers: &mut [Teller],
+) -> Result<usize, Halt>
+    requires ready { AreTellers lines.now tellers.old }
+    requires some { 1 ≤ length items.now }
+    requires few { length items.now ≤ batch_of floor.now.scheme.now }
+    requires room { length items.now ≤ length rows.old }
+    ensures ready { AreTellers lines.now tellers.new }
+    ensures some { IfOk result (λ n. (1 ≤ n) × (n ≤ length items.now)) }
+    ensures written { IfOk result (λ n. HasWritten floor.now.scheme.now (O.standing outbox.old) (O.standing outbox.new) (take n items.now) tellers.old tellers.new tally.old tally.new None) }
+    ensures halted { IfErr result (λ halt. HasWritten floor.now.scheme.now (O.standing outbox.old) (O.standing outbox.new) items.now tellers.old tellers.new tally.old tally.new (Some halt)) }
 {
-    let count = rest.len() as u64;
-    if halt.hand.is_some() {
-        return Halt {
-            hand: halt.hand,
-            behind: count,
-            fault: halt.fault,
-        };
+    let stored = match store_lead(outbox, items, rows) {
+        Ok(stored) => stored,
+        Err(halt) => return Err(halt),
+    };
+    if stored > 0 {
+        tell_all(floor, lines, &items[..stored], tally, tellers);
+        return Ok(stored);
     }
-    match rest.first() {
-        None => halt,
-        Some(next) => Halt {
-            hand: Some(*next),
-            behind: count - 1,
-            fault: halt.fault,
-        },
+    match handle(floor, lines, items[0], tally, outbox, tellers) {
+        None => Ok(1),
+        Some(halt) => Err(halted(halt, &items[1..])),
     }
 }
 
-// Stores items and tells their stations' lines: the first taps all at once, and what stands behind them one by one.
+// Stores items and tells their stations' lines, in order: taps that stand together all at once.
 fn handle_all<O: Outbox, G: Gate, R: Wait + Clock>(
     floor: &Floor<G, R>,
     lines: &[AckLine],
@@ -162,33 +141,23 @@ fn handle_all<O: Outbox, G: Gate, R: Wait + Clock>(
     tellers: &mut [Teller],
 ) -> Option<Halt>
     requires ready { AreTellers lines.now tellers.old }
-    requires some { 1 ≤ length items.now }
     requires few { length items.now ≤ batch_of floor.now.scheme.now }
     requires room { length items.now ≤ length rows.old }
     ensures ready { AreTellers lines.now tellers.new }
     ensures written { HasWritten floor.now.scheme.now (O.standing outbox.old) (O.standing outbox.new) items.now tellers.old tellers.new tally.old tally.new result }
 {
-    let stored = match store_lead(outbox, items, rows) {
-        Ok(stored) => stored,
-        Err(fault) => {
-            return Some(Halt {
-                hand: Some(items[0]),
-                behind: (items.len() - 1) as u64,
-                fault: writer_fault(fault),
-            });
-        }
-    };
-    tell_all(floor, lines, &items[..stored], tally, tellers);
-    for place in stored..items.len() {
-        if let Some(halt) = handle(floor, lines, items[place], tally, outbox, tellers) {
-            return Some(halted(halt, &items[place + 1..]));
+    let mut place = 0;
+    while place < items.len() {
+        match handle_some(floor, lines, &items[place..], rows, tally, outbox, tellers) {
+            Ok(stored) => place += stored,
+            Err(halt) => return Some(halt),
         }
     }
     None
 }
 
-/// Stores an item and those that the inbox has behind it, as many as are a batch: the taps before the first statement
-/// in one commit. Each is told to its station's line once the commit that holds it is done. A full line drops that.
+/// Stores an item and those that the inbox has behind it, as many as are a batch: taps that stand together in one
+/// commit. Each is told to its station's line once the commit that holds it is done. A full line drops that.
 ///
 /// What it returns ended the writer, as for one item; then those of the batch that are neither stored nor in the hand
 /// stand behind that one.

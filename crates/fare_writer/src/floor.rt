@@ -9,6 +9,6 @@ pub struct Floor<'a, G, R> {
     pub scheme: &'a Scheme,
     /// What the threads pass.
     pub gate: &'a G,
-    /// How often each may find nothing to do.
+    /// How often in a row each may find nothing to do.
     pub turns: u64,
 }

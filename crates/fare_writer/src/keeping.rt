@@ -1,12 +1,19 @@
-ghost use Rattle.std.specs.Prelude.{◌∷◌, []};
-ghost use Rattle.fare_writer.specs.Keeping.{HasKept};
+//! Items that are stored once the threads have joined, when no line is told.
+ghost use Rattle.std.specs.Prelude.{◌≡◌, ◌≤◌, ◌∷◌, [], Some, None, length, take, IfOk, IfErr, IfSome};
+ghost use Rattle.fare_writer.specs.Handling.{batch_of};
+ghost use Rattle.fare_inbox_queue.specs.InboxPasses.{IsInboxEnded};
+ghost use Rattle.fare_writer.specs.Keeping.{HasKept, HasTakenLeft, HasKeptBatch};
 
+use crate::batching::{BATCH, batch_of};
 use crate::halt::Halt;
+use crate::leading::{halted, store_lead};
 use crate::storing::store;
 use crate::tally::Tally;
-use fare_inbox_queue::Arrived;
+use fare_inbox_queue::{Arrived, InboxEnded};
+use fare_record::Record;
 use fare_scheme::Scheme;
 use fare_store::Outbox;
+use std::sync::Wait;
 
 /// Stores an item, and tells no line.
 ///
@@ -19,10 +26,109 @@ pub fn keep<O: Outbox>(
     tally: &mut Tally,
     outbox: &mut O,
 ) -> Option<Halt>
-    ensures { HasKept scheme.now (O.standing outbox.old) (O.standing outbox.new) (item ∷ []) tally.old tally.new result }
+    ensures kept { HasKept scheme.now (O.standing outbox.old) (O.standing outbox.new) (item ∷ []) tally.old tally.new result }
+    ensures alone { IfSome result (λ halt. halt.behind ≡ 0) }
 {
     match store(scheme, &item, tally, outbox) {
         Ok(_) => None,
         Err(halt) => Some(halt),
     }
+}
+
+// Stores the first taps all at once, or else the first item alone. Answers how many it stored.
+fn keep_some<O: Outbox>(
+    scheme: &Scheme,
+    items: &[Arrived],
+    rows: &mut [Record],
+    tally: &mut Tally,
+    outbox: &mut O,
+) -> Result<usize, Halt>
+    requires some { 1 ≤ length items.now }
+    requires few { length items.now ≤ batch_of scheme.now }
+    requires room { length items.now ≤ length rows.old }
+    ensures some { IfOk result (λ n. (1 ≤ n) × (n ≤ length items.now)) }
+    ensures kept { IfOk result (λ n. HasKept scheme.now (O.standing outbox.old) (O.standing outbox.new) (take n items.now) tally.old tally.new None) }
+    ensures halted { IfErr result (λ halt. HasKept scheme.now (O.standing outbox.old) (O.standing outbox.new) items.now tally.old tally.new (Some halt)) }
+{
+    let stored = match store_lead(outbox, items, rows) {
+        Ok(stored) => stored,
+        Err(halt) => return Err(halt),
+    };
+    if stored > 0 {
+        tally.count_all(stored);
+        return Ok(stored);
+    }
+    match keep(scheme, items[0], tally, outbox) {
+        None => Ok(1),
+        Some(halt) => Err(halted(halt, &items[1..])),
+    }
+}
+
+// Stores items, in order: taps that stand together all at once.
+fn keep_all<O: Outbox>(
+    scheme: &Scheme,
+    items: &[Arrived],
+    rows: &mut [Record],
+    tally: &mut Tally,
+    outbox: &mut O,
+) -> Option<Halt>
+    requires few { length items.now ≤ batch_of scheme.now }
+    requires room { length items.now ≤ length rows.old }
+    ensures { HasKept scheme.now (O.standing outbox.old) (O.standing outbox.new) items.now tally.old tally.new result }
+{
+    let mut place = 0;
+    while place < items.len() {
+        match keep_some(scheme, &items[place..], rows, tally, outbox) {
+            Ok(stored) => place += stored,
+            Err(halt) => return Some(halt),
+        }
+    }
+    None
+}
+
+// Takes what is left in the inbox behind the first item, as long as there is room, and answers how many items there are
+// then.
+fn take_left<R: Wait>(rt: &R, ended: &mut InboxEnded, items: &mut [Arrived], most: usize) -> usize
+    requires ended { IsInboxEnded ended.old }
+    requires some { 1 ≤ most }
+    requires room { most ≤ length items.old }
+    ensures ended { IsInboxEnded ended.new }
+    ensures taken { HasTakenLeft ended.old ended.new (take 1 items.old) (take result items.new) }
+    ensures some { 1 ≤ result }
+    ensures few { result ≤ most }
+{
+    for place in 1..most {
+        let Some(item) = ended.next(rt) else {
+            return place;
+        };
+        items[place] = item;
+    }
+    most
+}
+
+/// Stores an item and those that are left in the inbox behind it, as many as are a batch, and tells no line: taps that
+/// stand together in one commit.
+///
+/// What it returns ended the writer, as for one item; then those of the batch that are neither stored nor in the hand
+/// stand behind that one.
+pub fn keep_batch<O: Outbox, R: Wait>(
+    rt: &R,
+    scheme: &Scheme,
+    ended: &mut InboxEnded,
+    item: Arrived,
+    tally: &mut Tally,
+    outbox: &mut O,
+) -> Option<Halt>
+    requires { IsInboxEnded ended.old }
+    ensures ended { IsInboxEnded ended.new }
+    ensures kept { HasKeptBatch scheme.now (O.standing outbox.old) (O.standing outbox.new) item ended.old ended.new tally.old tally.new result }
+{
+    let Arrived::Tap(_, row) = item else {
+        return keep(scheme, item, tally, outbox);
+    };
+    let mut items = [item; BATCH];
+    let most = batch_of(scheme);
+    let count = take_left(rt, ended, &mut items, most);
+    let mut rows = [row; BATCH];
+    keep_all(scheme, &items[..count], &mut rows, tally, outbox)
 }

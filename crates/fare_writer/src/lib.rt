@@ -1,8 +1,9 @@
 //! What the writer of a session does with the items of its inbox: whether the collector of its station accepts one,
-//! storing it in the outbox, several taps in one commit, and only then telling the station's line what may be acknowledged. Over an outbox that keeps what was
-//! committed and whose rows fit together, an item was stored, or had been before, or it is in the hand of the writer,
-//! which it ended; and what a line was told is to the item's own device, and true of the outbox then: the greatest link
-//! that it has had, or a day of which it holds the statements of all owners.
+//! storing it in the outbox, taps that stand together in one commit, and only then telling the station's line what may
+//! be acknowledged. Over an outbox that keeps what was committed and whose rows fit together, an item was stored, or had
+//! been before, or it is in the hand of the writer, which it ended; and what a line was told is to the item's own device,
+//! and true of the outbox then: the greatest link that it has had, or a day of which it holds the statements of all
+//! owners.
 #![tactic(auto)]
 
 mod batching;
@@ -12,6 +13,7 @@ mod halt;
 mod handling;
 mod judging;
 mod keeping;
+mod leading;
 mod storing;
 mod tally;
 mod teller;
@@ -22,7 +24,7 @@ pub use floor::Floor;
 pub use halt::Halt;
 pub use handling::handle;
 pub use judging::judge;
-pub use keeping::keep;
+pub use keeping::{keep, keep_batch};
 pub use storing::writer_fault;
 pub use tally::Tally;
 pub use teller::Teller;

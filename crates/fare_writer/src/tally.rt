@@ -60,4 +60,11 @@ impl Tally {
     {
         self.stored = self.stored.saturating_add(1);
     }
+    // So many items more were stored.
+    pub(crate) fn count_all(&mut self, count: usize)
+        ensures stored { self.new.stored ≡ min (self.old.stored + count) 18446744073709551615 }
+        ensures days { self.new.days ≡ self.old.days }
+    {
+        self.stored = self.stored.saturating_add(count as u64);
+    }
 }

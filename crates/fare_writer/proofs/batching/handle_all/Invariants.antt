@@ -1,9 +1,14 @@
-use Rattle.std.proofs.Common.{None, take}
+use Rattle.std.proofs.Common.{◌≤◌, ◌-◌, None, length, take}
 use Rattle.fare_writer.specs.Handling.{AreTellers, HasWritten}
 use Rattle.fare_writer.proofs.batching.handle_all.Given as goal
 
 abbrev pub invariant-loop-place : goal.invariant-loop-place
 invariant-loop-place g l = record {
   ready : AreTellers l.lines l.tellers;
+  inside : l.place ≤ length l.items;
+  room : length l.items ≤ length l.rows;
   written : HasWritten l.floor.scheme.now (g.O.Outbox.standing l.fn.outbox) (g.O.Outbox.standing l.outbox) (take l.place l.items) l.fn.tellers l.tellers l.fn.tally l.tally None;
 }
+
+abbrev pub decreases-loop-place : goal.decreases-loop-place
+decreases-loop-place g l = length l.items - l.place
