@@ -15,7 +15,7 @@ use Rattle.fare_source.specs.Talking.{Talk, Waits, Gives, Hears}
 use Rattle.fare_history.specs.AcceptedLinks.{next_links, next_links_all}
 use Rattle.fare_collect.specs.Arriving.{arrivals}
 use Rattle.fare_writer.specs.Arriving.{arrived_of, IsUnexpected}
-use Rattle.fare_collect.specs.Stations.{frame_for, as_station, AreExpected, SourceCounted, HasPassedOn, HasAnswered, HasRead}
+use Rattle.fare_collect.specs.Stations.{frame_for, as_station, held_list, AreExpected, SourceCounted, HasPassedOn, HasAnswered, HasRead}
 
 -- FRAMES
 pub arrivals_append : (sc : SchemeValue) (station : ℕ) (next : ℕ → Option ℕ) (fs gs : List Frame) → arrivals sc station next (fs ++ gs) ≡ arrivals sc station next fs ++ arrivals sc station (next_links_all sc next fs) gs
@@ -325,6 +325,31 @@ read_unexpected sc station a b c n0 n1 n2 s0 s1 s2 h0 h1 f was gives none next s
       unexpected = λ e. (was.frames, f, refl, none);
       expected = subst (AreExpected (Some Unexpected)) (sym (append-nil (was.frames ++ f ∷ []))) (expected_append (Some Unexpected) was.frames (f ∷ []) (expected_front was.frames [] was.expected) (λ wrong. (refl, refl), tt));
       cause = gives.cause ∙ was.cause;
+    }
+
+-- and then more was read
+pub read_then : (sc : SchemeValue) (station : ℕ) (a b c : Talk) (n0 n1 n2 : ℕ → Option ℕ) (s0 s1 s2 : List Arrived) (h0 h1 h2 : List AckItem) (held : Option Frame) (at_end : Bool) (f : Option StationFault)
+    → HasRead sc station a b n0 n1 s0 s1 h0 h1 None false None → HasRead sc station b c n1 n2 s1 s2 h1 h2 held at_end f → HasRead sc station a c n0 n2 s0 s2 h0 h2 held at_end f
+read_then sc station a b c n0 n1 n2 s0 s1 s2 h0 h1 h2 held at_end f was more =
+    let all : h1 ≡ h0 ++ was.handed = was.took ∙ (ap (λ l. h0 ++ (was.handed ++ l)) (was.kept not_memory) ∙ ap (λ l. h0 ++ l) (append-nil was.handed)) in
+    record {
+      frames = was.frames ++ more.frames;
+      given = more.given ∙ (ap (λ l. l ++ (more.frames ++ held_list held)) (was.given ∙ ap (λ l. a.given ++ l) (append-nil was.frames)) ∙ (append_assoc a.given was.frames (more.frames ++ held_list held) ∙ ap (λ l. a.given ++ l) (sym (append_assoc was.frames more.frames (held_list held)))));
+      sent =
+          more.sent ∙ ((λ i. was.sent i ++ arrivals sc station (was.next i) more.frames)
+          ∙ (append_assoc s0 (arrivals sc station n0 was.frames) (arrivals sc station (next_links_all sc n0 was.frames) more.frames)
+          ∙ ap (λ l. s0 ++ l) (sym (arrivals_append sc station n0 was.frames more.frames))));
+      next = more.next ∙ (ap (λ n. next_links_all sc n more.frames) was.next ∙ sym (next_append sc n0 was.frames more.frames));
+      handed = was.handed ++ more.handed;
+      lost = more.lost;
+      took = more.took ∙ (ap (λ l. l ++ (more.handed ++ more.lost)) all ∙ (append_assoc h0 was.handed (more.handed ++ more.lost) ∙ ap (λ l. h0 ++ l) (sym (append_assoc was.handed more.handed more.lost))));
+      answered = more.answered ∙ (ap (λ l. l ++ map frame_for more.handed) was.answered ∙ (append_assoc a.answered (map frame_for was.handed) (map frame_for more.handed) ∙ ap (λ l. a.answered ++ l) (sym (map-append frame_for was.handed more.handed))));
+      few = more.few;
+      kept = more.kept;
+      ended = more.ended;
+      unexpected = λ e. let one = more.unexpected e in (was.frames ++ one.0, one.1, ap (λ l. was.frames ++ l) one.2 ∙ sym (append_assoc was.frames one.0 (one.1 ∷ [])), one.3);
+      expected = subst (AreExpected f) (sym (append_assoc was.frames more.frames (held_list held))) (expected_append f was.frames (more.frames ++ held_list held) (expected_front was.frames [] was.expected) more.expected);
+      cause = subst (λ n. SourceCounted n c.failures f) was.cause more.cause;
     }
 
 -- the same of a post that stands so

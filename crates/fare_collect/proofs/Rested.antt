@@ -1,5 +1,5 @@
 -- What the call itself did after the joins, one step more.
-use Rattle.std.proofs.Common.{◌≡◌, ℕ, ◌+◌, List, [], ◌∷◌, ◌++◌, Some, None, true, false, refl, sym, ap, ◌∙◌, subst, append_assoc, arith, inl, inr, length-append}
+use Rattle.std.proofs.Common.{◌≡◌, ◌==◌, ℕ, ◌+◌, List, [], ◌∷◌, ◌++◌, Some, None, true, false, refl, sym, ap, ◌∙◌, subst, append_assoc, arith, inl, inr, length-append}
 use Rattle.std.specs.Prelude.{Option, ◌⊎◌}
 use Rattle.std.proofs.lemmas.List.{append-nil}
 use Rattle.std.proofs.lemmas.List.Elements.{filter-append}
@@ -11,20 +11,21 @@ use Rattle.fare_store.specs.Standing.{Standing, IsSound}
 use Rattle.fare_store.specs.OutboxWords.{OutboxValue}
 use Rattle.fare_inbox_queue.specs.declared.arrived.Arrived.{Arrived}
 use Rattle.fare_inbox_queue.specs.declared.inbox_ended.InboxEnded.{InboxEnded}
-use Rattle.fare_inbox_queue.specs.Inbox.{of_station}
+use Rattle.fare_inbox_queue.specs.Inbox.{of_station, station_in}
 use Rattle.fare_inbox_queue.specs.InboxPasses.{left_of}
 use Rattle.fare_writer.specs.declared.tally.Tally.{Tally}
 use Rattle.fare_collect.specs.declared.fault.StationFault.{StationFault}
 use Rattle.fare_collect.specs.declared.fault.StationFault.TheVariants.{Unexpected}
 use Rattle.fare_collect.specs.declared.station.Station.{Station}
+use Rattle.fare_collect.specs.declared.station.End.{End}
 use Rattle.fare_writer.specs.declared.halt.Halt.{Halt}
-use Rattle.fare_source.specs.Talking.{Talk}
+use Rattle.fare_source.specs.Talking.{Talk, Waits}
 use Rattle.fare_history.specs.AcceptedLinks.{next_links, next_links_all}
 use Rattle.fare_collect.specs.Arriving.{arrivals}
 use Rattle.fare_writer.specs.Arriving.{arrived_of, IsUnexpected}
 use Rattle.fare_collect.specs.Stations.{held_list, AreExpected, SourceCounted}
 use Rattle.fare_collect.specs.Resting.{HasKeepingLeft, HasKeptLeft, HasNext, HasResting, HasRested}
-use Rattle.fare_writer.specs.Keeping.{HasKept}
+use Rattle.fare_writer.specs.Keeping.{HasKept, HasKeptBatch}
 use Rattle.fare_writer.specs.Judging.{items_in, HasJudged}
 use Rattle.fare_writer.proofs.Written.{written_none, written_then}
 use Rattle.fare_collect.proofs.Read.{arrivals_append, next_append, expected_by, expected_append}
@@ -39,16 +40,23 @@ kept_then sc a b c xs ys n0 n1 n2 halt first second = record { each = λ t. writ
 pub keeping_none : (sc : SchemeValue) (s : Standing OutboxValue) (e : InboxEnded) (n : Tally) → IsSound s → HasKeepingLeft sc s s e e n n None
 keeping_none sc s e n sound = record { items = []; parts = λ station. refl; kept = kept_none sc s n sound; count = omega arith }
 
-pub keeping_more : (sc : SchemeValue) (a b c : Standing OutboxValue) (e0 e1 e2 : InboxEnded) (item : Arrived) (n0 n1 n2 : Tally) (halt : Option Halt) → HasKeepingLeft sc a b e0 e1 n0 n1 None
-    → ((station : ℕ) → left_of e1 station ≡ of_station station (item ∷ []) ++ left_of e2 station) → e1.left ≡ e2.left + 1 → HasKept sc b c (item ∷ []) n1 n2 halt → HasKeepingLeft sc a c e0 e2 n0 n2 halt
-keeping_more sc a b c e0 e1 e2 item n0 n1 n2 halt was next fewer kept = record {
-  items = was.items ++ item ∷ [];
+batch_parts : (e1 e2 e3 : InboxEnded) (item : Arrived) (more : List Arrived) → ((station : ℕ) → left_of e1 station ≡ of_station station (item ∷ []) ++ left_of e2 station) → ((station : ℕ) → left_of e2 station ≡ of_station station more ++ left_of e3 station)
+    → (station : ℕ) → left_of e1 station ≡ of_station station (item ∷ more) ++ left_of e3 station
+batch_parts e1 e2 e3 item more first rest station =
+    first station ∙ (ap (λ l. of_station station (item ∷ []) ++ l) (rest station)
+    ∙ (sym (append_assoc (of_station station (item ∷ [])) (of_station station more) (left_of e3 station))
+    ∙ ap (λ l. l ++ left_of e3 station) (sym (filter-append (λ (a : Arrived). station_in a == station) (item ∷ []) more))))
+
+pub keeping_more : (sc : SchemeValue) (a b c : Standing OutboxValue) (e0 e1 e2 e3 : InboxEnded) (item : Arrived) (n0 n1 n2 : Tally) (halt : Option Halt) → HasKeepingLeft sc a b e0 e1 n0 n1 None
+    → ((station : ℕ) → left_of e1 station ≡ of_station station (item ∷ []) ++ left_of e2 station) → e1.left ≡ e2.left + 1 → HasKeptBatch sc b c item e2 e3 n1 n2 halt → HasKeepingLeft sc a c e0 e3 n0 n2 halt
+keeping_more sc a b c e0 e1 e2 e3 item n0 n1 n2 halt was next fewer batch = record {
+  items = was.items ++ item ∷ batch.more;
   parts = λ station.
-      was.parts station ∙ (ap (λ l. of_station station was.items ++ l) (next station)
-      ∙ (sym (append_assoc (of_station station was.items) (of_station station (item ∷ [])) (left_of e2 station))
-      ∙ ap (λ l. l ++ left_of e2 station) (sym (filter-append _ was.items (item ∷ [])))));
-  kept = kept_then sc a b c was.items (item ∷ []) n0 n1 n2 halt was.kept kept;
-  count = let l = length-append was.items (item ∷ []) in let w = was.count in omega (arith, l, w, fewer);
+      was.parts station ∙ (ap (λ l. of_station station was.items ++ l) (batch_parts e1 e2 e3 item batch.more next batch.from.parts station)
+      ∙ (sym (append_assoc (of_station station was.items) (of_station station (item ∷ batch.more)) (left_of e3 station))
+      ∙ ap (λ l. l ++ left_of e3 station) (sym (filter-append _ was.items (item ∷ batch.more)))));
+  kept = kept_then sc a b c was.items (item ∷ batch.more) n0 n1 n2 halt was.kept batch.kept;
+  count = let l = length-append was.items (item ∷ batch.more) in let w = was.count in let k = batch.from.count in omega (arith, l, w, k, fewer);
 }
 
 pub keeping_end : (sc : SchemeValue) (a b : Standing OutboxValue) (e0 e1 e2 : InboxEnded) (n0 n1 : Tally) → HasKeepingLeft sc a b e0 e1 n0 n1 None
@@ -68,22 +76,23 @@ pub keeping_halt : (sc : SchemeValue) (a b : Standing OutboxValue) (e0 e1 : Inbo
 keeping_halt sc a b e0 e1 n0 n1 halt was = record { some = was; whole = λ h. absurd (cc); none = λ h. absurd (cc) }
 
 -- THE REST OF A SOURCE
-pub resting_none : {S : Type 0} (sc : SchemeValue) (talks : S → Talk) (id : ℕ) (s : Standing OutboxValue) (n : Tally) (t : Station S) → IsSound s → t.end.fault ≡ None → t.end.ended ≡ false → HasResting sc talks id s s n n t t [] None
-resting_none sc talks id s n t sound fault unended = record {
+-- of a source that was told that no frame more is wanted for now
+pub resting_none : {S : Type 0} (sc : SchemeValue) (talks : S → Talk) (id : ℕ) (s : Standing OutboxValue) (n : Tally) (t u : Station S) → IsSound s → t.end.fault ≡ None → t.end.ended ≡ false → Waits (talks t.source) (talks u.source) → u.end ≡ t.end → u.collector ≡ t.collector → HasResting sc talks id s s n n t u [] None
+resting_none sc talks id s n t u sound fault unended waits end collector = record {
   more = [];
-  given = sym (append-nil (talks t.source).given);
-  frames = sym (append-nil (held_list t.end.held));
+  given = waits.given ∙ sym (append-nil (talks t.source).given);
+  frames = ap (λ (e : End). held_list e.held) end ∙ sym (append-nil (held_list t.end.held));
   start = fault;
   unended = unended;
-  going = unended;
-  answered = refl;
+  going = ap (λ (e : End). e.ended) end ∙ unended;
+  answered = waits.answered;
   items = [];
   arrived = refl;
-  next = refl;
-  named = refl;
+  next = ap next_in collector;
+  named = ap (λ c. c.station) collector;
   kept = kept_none sc s n sound;
-  fault = fault;
-  failures = refl;
+  fault = ap (λ (e : End). e.fault) end ∙ fault;
+  failures = waits.failures;
 }
 
 pub resting_more : {S : Type 0} (sc : SchemeValue) (talks : S → Talk) (id : ℕ) (a b c : Standing OutboxValue) (n0 n1 n2 : Tally) (t0 t1 t2 : Station S) (k : Collector) (passed : List Frame) (f : Frame) (result : Option (Option Arrived)) (halt : Option Halt)

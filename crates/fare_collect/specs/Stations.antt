@@ -88,6 +88,10 @@ pub record HasRead (sc : SchemeValue) (station : ℕ) (old new : Talk) (next_old
   pub expected : AreExpected fault (frames ++ held_list held)
   pub cause : SourceCounted old.failures new.failures fault
 
+-- nothing has ended the station at this post
+abbrev pub IsFresh : Post → Type 0
+IsFresh p = (p.held ≡ None) × (p.ended ≡ false) × (p.fault ≡ None)
+
 -- the station at a place has a post that was made for it
 pub record IsPostedAt {S : Type 0} (inbox : Inbox) (lines : List AckLine) (k : ℕ) (t : Station S) : Type 0 where
   pub place : k < length lines

@@ -10,6 +10,7 @@ mod ending;
 mod fault;
 mod making;
 mod opening;
+mod pacing;
 mod putting;
 mod reading;
 mod resting;

@@ -7,11 +7,12 @@ ghost use Rattle.fare_writer.specs.Arriving.{IsUnexpected};
 ghost use Rattle.fare_frame.specs.declared.frame.Frame.TheVariants.{Tapped};
 
 use crate::ended::Ended;
+use crate::pacing::Pacing;
 use fare_collector::{Collector, unaccept_undoes_accept};
 use fare_frame::Frame;
 use fare_inbox_queue::{Arrived, Inbox, StationPass};
 use fare_record::Record;
-use fare_session::{Gate, Point, Turns};
+use fare_session::{Gate, Point};
 use fare_writer::Floor;
 use std::sync::Wait;
 use std::time::Clock;
@@ -22,7 +23,7 @@ pub(crate) fn put<G: Gate, R: Wait + Clock>(
     inbox: &Inbox,
     ended: &Ended,
     item: &Arrived,
-    turns: &mut Turns,
+    pacing: &mut Pacing,
     pass: &mut StationPass,
 ) -> bool
     requires queue { IsStationOf inbox.now pass.old }
@@ -34,11 +35,11 @@ pub(crate) fn put<G: Gate, R: Wait + Clock>(
     for _ in floor.rt.forever() {
         if inbox.put(floor.rt, pass, *item).is_ok() {
             floor.gate.pass(Point::StationPut);
-            turns.found();
+            pacing.put();
             return true;
         }
-        turns.spend(floor.rt, floor.gate);
-        if turns.are_used_up() || ended.has_writer_ended() {
+        pacing.spend(floor.rt, floor.gate);
+        if pacing.are_used_up() || ended.has_writer_ended() {
             return false;
         }
     }
@@ -52,7 +53,7 @@ fn put_tap<G: Gate, R: Wait + Clock>(
     inbox: &Inbox,
     ended: &Ended,
     tapped: Record,
-    turns: &mut Turns,
+    pacing: &mut Pacing,
     pass: &mut StationPass,
     collector: &mut Collector,
 ) -> bool
@@ -65,7 +66,7 @@ fn put_tap<G: Gate, R: Wait + Clock>(
         return true;
     }
     let item = Arrived::Tap(pass.station(), tapped);
-    if put(floor, inbox, ended, &item, turns, pass) {
+    if put(floor, inbox, ended, &item, pacing, pass) {
         return true;
     }
     unaccept_undoes_accept();
@@ -80,7 +81,7 @@ pub(crate) fn pass_on<G: Gate, R: Wait + Clock>(
     inbox: &Inbox,
     ended: &Ended,
     frame: &Frame,
-    turns: &mut Turns,
+    pacing: &mut Pacing,
     pass: &mut StationPass,
     collector: &mut Collector,
 ) -> Option<bool>
@@ -92,7 +93,7 @@ pub(crate) fn pass_on<G: Gate, R: Wait + Clock>(
     ensures station { (station_of pass.new ≡ station_of pass.old) × (collector.new.station ≡ collector.old.station) }
 {
     if let Some(tapped) = frame.tapped() {
-        return Some(put_tap(floor, inbox, ended, tapped, turns, pass, collector));
+        return Some(put_tap(floor, inbox, ended, tapped, pacing, pass, collector));
     }
     let statement = frame.stated()?;
     if collector
@@ -102,5 +103,5 @@ pub(crate) fn pass_on<G: Gate, R: Wait + Clock>(
         return Some(true);
     }
     let item = Arrived::Stated(pass.station(), statement);
-    Some(put(floor, inbox, ended, &item, turns, pass))
+    Some(put(floor, inbox, ended, &item, pacing, pass))
 }

@@ -2,17 +2,18 @@ ghost use Rattle.std.specs.Prelude.{◌≡◌, ◌++◌, ◌∷◌, [], true, fa
 ghost use Rattle.fare_inbox_queue.specs.InboxPasses.{station_of, sent_list, IsStationOf};
 ghost use Rattle.fare_inbox_queue.specs.LinePasses.{heard_list, IsHearOf};
 ghost use Rattle.fare_collector.specs.Collecting.{next_in};
-ghost use Rattle.fare_collect.specs.Stations.{HasAnswered, HasRead, frame_for, as_station};
+ghost use Rattle.fare_collect.specs.Stations.{HasAnswered, HasRead, IsFresh, frame_for, as_station};
 
 use crate::ended::Ended;
 use crate::fault::StationFault;
+use crate::pacing::Pacing;
 use crate::putting::pass_on;
 use crate::station::Post;
 use fare_collector::Collector;
 use fare_frame::Frame;
 use fare_inbox_queue::{AckLine, HearPass, Inbox};
 use fare_record::AckItem;
-use fare_session::{Gate, Turns};
+use fare_session::Gate;
 use fare_source::{Source, SourceFault};
 use fare_writer::Floor;
 use std::sync::Wait;
@@ -44,6 +45,7 @@ fn answer_all<S: Source, R: Wait + Clock>(
     line: &AckLine,
     hear: &mut HearPass,
     source: &mut S,
+    pacing: &mut Pacing,
 ) -> Option<StationFault>
     requires { IsHearOf line.now hear.old }
     ensures queue { IsHearOf line.now hear.new }
@@ -51,6 +53,7 @@ fn answer_all<S: Source, R: Wait + Clock>(
 {
     for _ in rt.forever() {
         let item = line.take(rt, hear)?;
+        pacing.answered();
         if let Err(fault) = source.answer(&frame_of(&item)) {
             return Some(fault_of(fault));
         }
@@ -58,8 +61,47 @@ fn answer_all<S: Source, R: Wait + Clock>(
     unreachable!()
 }
 
+// Reads one more frame, and passes it on. Answers whether the station goes on; where it doesn't, its post says why.
+fn read_next<S: Source, G: Gate, R: Wait + Clock>(
+    floor: &Floor<G, R>,
+    inbox: &Inbox,
+    ended: &Ended,
+    pacing: &mut Pacing,
+    post: &mut Post,
+    collector: &mut Collector,
+    source: &mut S,
+) -> bool
+    requires queue { IsStationOf inbox.now post.old.pass }
+    requires fresh { IsFresh post.old }
+    ensures queue { IsStationOf inbox.now post.new.pass × (post.new.hear ≡ post.old.hear) }
+    ensures station { (station_of post.new.pass ≡ station_of post.old.pass) × (collector.new.station ≡ collector.old.station) }
+    ensures read { HasRead floor.now.scheme.now (station_of post.old.pass) (S.talk source.old) (S.talk source.new) (next_in collector.old) (next_in collector.new) (sent_list post.old.pass) (sent_list post.new.pass) (heard_list post.old.hear) (heard_list post.new.hear) post.new.held post.new.ended post.new.fault }
+    ensures fresh { result ≡ true → IsFresh post.new }
+{
+    match source.next() {
+        Err(fault) => post.fault = Some(fault_of(fault)),
+        Ok(None) => post.ended = true,
+        Ok(Some(frame)) => {
+            match pass_on(
+                floor,
+                inbox,
+                ended,
+                &frame,
+                pacing,
+                &mut post.pass,
+                collector,
+            ) {
+                Some(true) => return !floor.gate.is_over(),
+                Some(false) => post.held = Some(frame),
+                None => post.fault = Some(StationFault::Unexpected),
+            }
+        }
+    }
+    false
+}
+
 // The station's thread: takes the frames of its source to its collector and into the inbox, and hands the source
-// what its line has between them.
+// what its line has between them. It asks its source at least once, also where the session is over before it begins.
 pub(crate) fn read_all<S: Source, G: Gate, R: Wait + Clock>(
     floor: &Floor<G, R>,
     inbox: &Inbox,
@@ -70,57 +112,33 @@ pub(crate) fn read_all<S: Source, G: Gate, R: Wait + Clock>(
     source: &mut S,
 )
     requires queue { IsStationOf inbox.now post.old.pass × IsHearOf line.now post.old.hear }
-    requires fresh { (post.old.held ≡ None) × (post.old.ended ≡ false) × (post.old.fault ≡ None) }
+    requires fresh { IsFresh post.old }
     ensures queue { IsStationOf inbox.now post.new.pass × IsHearOf line.now post.new.hear }
     ensures station { (station_of post.new.pass ≡ station_of post.old.pass) × (collector.new.station ≡ collector.old.station) }
     ensures read { HasRead floor.now.scheme.now (station_of post.old.pass) (S.talk source.old) (S.talk source.new) (next_in collector.old) (next_in collector.new) (sent_list post.old.pass) (sent_list post.new.pass) (heard_list post.old.hear) (heard_list post.new.hear) post.new.held post.new.ended post.new.fault }
 {
-    let mut turns = Turns::new(floor.turns);
+    let mut pacing = Pacing::new(floor.turns);
     for _ in floor.rt.forever() {
-        if let Some(fault) = answer_all(floor.rt, line, &mut post.hear, source) {
+        if let Some(fault) = answer_all(floor.rt, line, &mut post.hear, source, &mut pacing) {
             post.fault = Some(fault);
             break;
         }
         if ended.has_writer_ended() {
             break;
         }
+        if pacing.holds(source.has_next()) {
+            pacing.wait(floor.rt, floor.gate);
+            continue;
+        }
         if !source.is_ready() {
-            turns.spend(floor.rt, floor.gate);
-            if turns.are_used_up() {
+            pacing.spend(floor.rt, floor.gate);
+            if pacing.is_over(floor.gate) {
                 break;
             }
             continue;
         }
-        match source.next() {
-            Err(fault) => {
-                post.fault = Some(fault_of(fault));
-                break;
-            }
-            Ok(None) => {
-                post.ended = true;
-                break;
-            }
-            Ok(Some(frame)) => {
-                match pass_on(
-                    floor,
-                    inbox,
-                    ended,
-                    &frame,
-                    &mut turns,
-                    &mut post.pass,
-                    collector,
-                ) {
-                    Some(true) => {}
-                    Some(false) => {
-                        post.held = Some(frame);
-                        break;
-                    }
-                    None => {
-                        post.fault = Some(StationFault::Unexpected);
-                        break;
-                    }
-                }
-            }
+        if !read_next(floor, inbox, ended, &mut pacing, post, collector, source) {
+            break;
         }
     }
     ended.station_ends();

@@ -12,7 +12,7 @@ use fare_record::StationId;
 use fare_scheme::Scheme;
 use fare_source::Source;
 use fare_store::Outbox;
-use fare_writer::{Halt, Tally, judge, keep};
+use fare_writer::{Halt, Tally, judge, keep, keep_batch};
 use std::sync::Wait;
 use std::time::Clock;
 
@@ -30,7 +30,7 @@ pub(crate) fn keep_left<O: Outbox, R: Wait + Clock>(
 {
     for _ in rt.forever() {
         let item = ended.next(rt)?;
-        if let Some(halt) = keep(scheme, item, tally, outbox) {
+        if let Some(halt) = keep_batch(rt, scheme, ended, item, tally, outbox) {
             return Some(halt);
         }
     }
@@ -57,7 +57,7 @@ fn next_frame<S: Source>(station: &mut Station<S>) -> Option<Frame>
     }
 }
 
-// Stores the rest of a station's source: first the frame that is held.
+// Stores the rest of a station's source: first the frame that is held. Of a source of which a part is read that is all.
 pub(crate) fn rest<S: Source, O: Outbox, R: Wait + Clock>(
     rt: &R,
     scheme: &Scheme,
@@ -69,6 +69,7 @@ pub(crate) fn rest<S: Source, O: Outbox, R: Wait + Clock>(
     requires { (station.old.end.fault ≡ None) × (station.old.end.ended ≡ false) }
     ensures { HasRested scheme.now S.talk id (O.standing outbox.old) (O.standing outbox.new) tally.old tally.new station.old station.new result }
 {
+    station.source.finish();
     for _ in rt.forever() {
         let frame = next_frame(station)?;
         match judge(scheme, id, &frame, &mut station.collector) {

@@ -11,7 +11,7 @@ use Rattle.fare_collect.proofs.Rested.{kept_none, resting_none, resting_more, re
 use Rattle.fare_collect.proofs.resting.rest.Goals as goal
 
 pub loop-init : goal.loop-init
-loop-init g c = ([], resting_none c.args.scheme.now g.S.Source.talk c.args.id (g.O.Outbox.standing c.args.outbox.now) c.args.tally.now c.args.station.now (g.met.O.Outbox.sound c.args.outbox.now) c.requires.0 c.requires.1, tt)
+loop-init g c = ([], resting_none c.args.scheme.now g.S.Source.talk c.args.id (g.O.Outbox.standing c.args.outbox.now) c.args.tally.now c.args.station.now _ (g.met.O.Outbox.sound c.args.outbox.now) c.requires.0 c.requires.1 c.finish.ensures refl refl, tt)
 
 pub loop-preserved-in-Some-None : goal.loop-preserved-in-Some-None
 loop-preserved-in-Some-None g c =
@@ -45,7 +45,7 @@ loop-preserved g c =
     let d = g.O.Outbox.standing c.keep.new.outbox in
     let next : HasNext (talks t1.source) (talks t2.source) t1.end t2.end (Some frame) = subst (λ (r : Option Frame). HasNext (talks t1.source) (talks t2.source) t1.end t2.end r) c.in_ok-frame.was c.next_frame.ensures.0 in
     let judged : HasJudged c.args.scheme.now c.args.id frame t2.collector k (Some (Some item)) = subst (λ (r : Option (Option Arrived)). HasJudged c.args.scheme.now c.args.id frame t2.collector k r) (c.in-Some-Some.is ∙ ap Some c.in-Some-Some.field-0-is) c.judge.ensures in
-    let kept : HasKept c.args.scheme.now b d (item ∷ []) c.loop.tally c.keep.new.tally None = subst (λ (h : Option Halt). HasKept c.args.scheme.now b d (item ∷ []) c.loop.tally c.keep.new.tally h) c.in_default.is c.keep.ensures in (
+    let kept : HasKept c.args.scheme.now b d (item ∷ []) c.loop.tally c.keep.new.tally None = subst (λ (h : Option Halt). HasKept c.args.scheme.now b d (item ∷ []) c.loop.tally c.keep.new.tally h) c.in_default.is c.keep.ensures.kept in (
       inv.0 ++ frame ∷ [],
       resting_more c.args.scheme.now talks c.args.id a b d c.args.tally.now c.loop.tally c.keep.new.tally c.args.station.now t1 t2 k inv.0 frame (Some (Some item)) None inv.1 next c.next_frame.ensures.1 judged kept,
       expected_more inv.0 frame inv.2 (λ wrong. let is = judged.expected wrong in absurd (cc is)),
@@ -66,7 +66,7 @@ returns-in-Some-keep g c =
     let d = g.O.Outbox.standing c.keep.new.outbox in
     let next : HasNext (talks t1.source) (talks t2.source) t1.end t2.end (Some frame) = subst (λ (r : Option Frame). HasNext (talks t1.source) (talks t2.source) t1.end t2.end r) c.in_ok-frame.was c.next_frame.ensures.0 in
     let judged : HasJudged c.args.scheme.now c.args.id frame t2.collector k (Some (Some item)) = subst (λ (r : Option (Option Arrived)). HasJudged c.args.scheme.now c.args.id frame t2.collector k r) (c.in-Some-Some.is ∙ ap Some c.in-Some-Some.field-0-is) c.judge.ensures in
-    let kept : HasKept c.args.scheme.now b d (item ∷ []) c.loop.tally c.keep.new.tally (Some halt) = subst (λ (h : Option Halt). HasKept c.args.scheme.now b d (item ∷ []) c.loop.tally c.keep.new.tally h) c.in-Some-keep.is c.keep.ensures in
+    let kept : HasKept c.args.scheme.now b d (item ∷ []) c.loop.tally c.keep.new.tally (Some halt) = subst (λ (h : Option Halt). HasKept c.args.scheme.now b d (item ∷ []) c.loop.tally c.keep.new.tally h) c.in-Some-keep.is c.keep.ensures.kept in
     rested_halt c.args.scheme.now talks c.args.id a d c.args.tally.now c.keep.new.tally c.args.station.now (record t2 { collector = k }) (inv.0 ++ frame ∷ []) halt
     (resting_more c.args.scheme.now talks c.args.id a b d c.args.tally.now c.loop.tally c.keep.new.tally c.args.station.now t1 t2 k inv.0 frame (Some (Some item)) (Some halt) inv.1 next c.next_frame.ensures.1 judged kept)
     next.held (expected_more inv.0 frame inv.2 (λ wrong. let is = judged.expected wrong in absurd (cc is)))
