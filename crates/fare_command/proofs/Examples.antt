@@ -49,6 +49,14 @@ rounds : fault_of hub_app (codes "serve" ∷ codes "--port" ∷ codes "1" ∷ co
 unfolding clap_on_literals
 rounds = refl
 
+round_ends : fault_of hub_app (codes "serve" ∷ codes "--port" ∷ codes "1" ∷ codes "--turns" ∷ codes "1" ∷ codes "--outbox" ∷ codes "x" ∷ codes "--round-ms" ∷ codes "60000" ∷ []) ≡ []
+unfolding clap_on_literals
+round_ends = refl
+
+no_round : fault_of hub_app (codes "serve" ∷ codes "--port" ∷ codes "1" ∷ codes "--turns" ∷ codes "1" ∷ codes "--outbox" ∷ codes "x" ∷ codes "--round-ms" ∷ codes "0" ∷ []) ≡ kind.ValueValidation ∷ []
+unfolding clap_on_literals
+no_round = refl
+
 bill : fault_of hub_app (codes "bill" ∷ codes "--outbox" ∷ codes "x" ∷ codes "--owner" ∷ codes "65535" ∷ codes "--day" ∷ codes "0" ∷ []) ≡ []
 unfolding clap_on_literals
 bill = refl

@@ -1,5 +1,5 @@
 -- The command line, in the words of clap: `replay [--store STORE]`;
--- `serve --port PORT --turns TURNS --outbox PATH [--read-ms MILLIS] [--write-ms MILLIS] [--rounds N] [--until FILE] [--patience N]`;
+-- `serve --port PORT --turns TURNS --outbox PATH [--read-ms MILLIS] [--write-ms MILLIS] [--rounds N] [--until FILE] [--patience N] [--round-ms MILLIS]`;
 -- and of the stores at a path `close --outbox PATH`, `bill --outbox PATH --owner O --day D`, `settle` with the same words,
 -- `stand --outbox PATH`, and `retire --outbox PATH --owner O --device D`.
 use Rattle.std.specs.Prelude.{◌≡◌, Some, false, true, codes, pos}
@@ -48,6 +48,9 @@ until_rule = option_rule (codes "until")
 abbrev pub patience_rule : Rule
 patience_rule = record (option_rule (codes "patience")) { parser = Some (vp.Signed (pos 1) (pos 1000000000)) }
 
+abbrev pub round_rule : Rule
+round_rule = millis_rule (codes "round-ms")
+
 abbrev pub owner_rule : Rule
 owner_rule = record (option_rule (codes "owner")) { required = true; parser = Some (vp.Signed (pos 1) (pos 65535)) }
 
@@ -72,7 +75,7 @@ waiting_serve_app = with_rule (with_rule plain_serve_app read_rule) write_rule
 
 -- and how often it begins again
 abbrev pub serve_app : App
-serve_app = with_rule (with_rule (with_rule waiting_serve_app rounds_rule) until_rule) patience_rule
+serve_app = with_rule (with_rule (with_rule (with_rule waiting_serve_app rounds_rule) until_rule) patience_rule) round_rule
 
 -- QUESTIONS
 -- of the stores at a path

@@ -1,6 +1,6 @@
 ghost use Rattle.std.specs.Prelude.{◌≡◌, IfOk, false, codes};
 ghost use Rattle.clap.specs.Words.{App, app_of, rule_of, with_subcommand};
-ghost use Rattle.fare_command.specs.CommandLine.{IsMade, asking_app, base_app, day_app, day_rule, device_rule, hub_app, lane_app, outbox_rule, owner_rule, patience_rule, plain_serve_app, port_rule, read_rule, replay_app, rounds_rule, running_app, serve_app, standing_app, store_rule, stores_app, turns_rule, until_rule, waiting_serve_app, write_rule};
+ghost use Rattle.fare_command.specs.CommandLine.{IsMade, asking_app, base_app, day_app, day_rule, device_rule, hub_app, lane_app, outbox_rule, owner_rule, patience_rule, plain_serve_app, port_rule, read_rule, replay_app, round_rule, rounds_rule, running_app, serve_app, standing_app, store_rule, stores_app, turns_rule, until_rule, waiting_serve_app, write_rule};
 
 use clap::{Arg, ArgAction, Command};
 use std::alloc::{AllocError, Global};
@@ -68,7 +68,7 @@ fn read_arg<'a>(alloc: Global) -> Arg<'a>
         .value_name("MILLIS")
         .action(ArgAction::Set)
         .value_parser(clap::value_parser!(u32).range(1..=60_000))
-        .help("How long a read of a line waits, 1 to 60,000 (10 if not given)")
+        .help("How long a read of a line waits, 1 to 60,000 (5 if not given)")
 }
 
 /// `--write-ms MILLIS`
@@ -120,8 +120,21 @@ fn patience_arg<'a>(alloc: Global) -> Arg<'a>
         .action(ArgAction::Set)
         .value_parser(clap::value_parser!(u32).range(1..=1_000_000_000))
         .help(
-            "After how many quiet reads of a line the round goes on, 1 to 1,000,000,000 (10 if not given)",
+            "After how many quiet reads of a line the round goes on, 1 to 1,000,000,000 (2 if not given)",
         )
+}
+
+/// `--round-ms MILLIS`
+fn round_arg<'a>(alloc: Global) -> Arg<'a>
+    ensures rule { rule_of result ≡ round_rule }
+    ensures local { result.global ≡ false }
+{
+    Arg::new(alloc, "round-ms")
+        .long("round-ms")
+        .value_name("MILLIS")
+        .action(ArgAction::Set)
+        .value_parser(clap::value_parser!(u32).range(1..=60_000))
+        .help("How long the lines of a round are read at most, 1 to 60,000 (1,000 if not given)")
 }
 
 /// `--owner O`
@@ -202,7 +215,8 @@ fn serve_command<'a>(alloc: Global) -> Result<Command<'a>, AllocError>
     waiting_serve_command(alloc)?
         .arg(rounds_arg(alloc))?
         .arg(until_arg(alloc))?
-        .arg(patience_arg(alloc))
+        .arg(patience_arg(alloc))?
+        .arg(round_arg(alloc))
 }
 
 /// A question of the stores at a path.

@@ -15,7 +15,7 @@ use thiserror::Error;
 /// The most turns that may be asked for.
 const MOST_TURNS: u32 = 1_000_000_000;
 
-/// The most milliseconds that a read or a write of a line may wait.
+/// The most milliseconds that a read or a write of a line may wait, and that the lines of a round may be read.
 const MOST_MILLIS: u32 = 60_000;
 
 /// The most rounds that may be asked for.
@@ -24,12 +24,15 @@ const MOST_ROUNDS: u32 = 4_294_967_295;
 /// The most quiet reads that may be asked for, and how many they are where nothing else is asked for.
 const MOST_PATIENCE: u32 = 1_000_000_000;
 
-const PATIENCE: u32 = 10;
+const PATIENCE: u32 = 2;
 
-/// How many milliseconds a read of a line waits, and a write, where nothing else is asked for.
-const READ_MILLIS: u32 = 10;
+/// How many milliseconds a read of a line waits, a write, and how many the lines of a round are read at most, where
+/// nothing else is asked for.
+const READ_MILLIS: u32 = 5;
 
 const WRITE_MILLIS: u32 = 1_000;
+
+const ROUND_MILLIS: u32 = 1_000;
 
 /// What an operator asks of the stores, or orders.
 #[derive(Clone, Copy, PartialEq, Eq, Debug)]
@@ -54,8 +57,9 @@ pub enum Job<'a> {
         sql: bool,
     },
     /// Serve stations on a port of 127.0.0.1, for a number of turns, with the outbox's database at a path; a read of
-    /// a line and a write wait so many milliseconds. So many rounds, or up to the one in which a file is there; in each a
-    /// line is read until so many of its reads in a row are quiet.
+    /// a line and a write wait so many milliseconds. So many rounds, or up to the one in which a file is there; in
+    /// each a line is read until so many of its reads in a row are quiet, or so many milliseconds of the round have
+    /// passed.
     Serve {
         port: u16,
         turns: u32,
@@ -65,6 +69,7 @@ pub enum Job<'a> {
         rounds: u32,
         until: Option<&'a str>,
         patience: u32,
+        round_millis: u32,
     },
     /// Ask something of the stores, the outbox's database of which lies at a path.
     Ask {
@@ -286,6 +291,7 @@ fn serve_job<'a>(alloc: Global, matches: &ArgMatches<'a>) -> Result<Job<'a>, Wor
     let rounds = if until.is_some() { MOST_ROUNDS } else { 1 };
     let rounds = given_of(alloc, matches, "rounds", MOST_ROUNDS, rounds)?;
     let patience = given_of(alloc, matches, "patience", MOST_PATIENCE, PATIENCE)?;
+    let round_millis = given_of(alloc, matches, "round-ms", MOST_MILLIS, ROUND_MILLIS)?;
     Ok(Job::Serve {
         port,
         turns,
@@ -295,6 +301,7 @@ fn serve_job<'a>(alloc: Global, matches: &ArgMatches<'a>) -> Result<Job<'a>, Wor
         rounds,
         until,
         patience,
+        round_millis,
     })
 }
 

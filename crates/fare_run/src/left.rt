@@ -8,7 +8,7 @@ pub struct ServeOptions<'a> {
     pub port: u16,
     /// The path of the outbox's database; owner O's ledger lies at this path, a dot and O.
     pub path: &'a str,
-    /// How often and how long it waits for others, and how many rounds it serves.
+    /// How often and how long it waits for others, how many rounds it serves, and how long the lines of one are read.
     pub limits: Limits,
     /// Where it is to end after the round in which a file is there, the file's path.
     pub until: Option<&'a str>,

@@ -44,6 +44,7 @@ fn read_work<'a>(alloc: Global, words: &'a [&'a str]) -> Result<Work<'a>, WordsF
             rounds,
             until,
             patience,
+            round_millis,
         } => Ok(Work::Left(Left::Serve(ServeOptions {
             port,
             path,
@@ -53,6 +54,7 @@ fn read_work<'a>(alloc: Global, words: &'a [&'a str]) -> Result<Work<'a>, WordsF
                 write_millis,
                 rounds,
                 patience,
+                round_millis,
             },
             until,
         }))),

@@ -10,6 +10,7 @@
 
 mod counts;
 mod fault;
+mod gate;
 mod gathering;
 mod guest;
 mod lending;

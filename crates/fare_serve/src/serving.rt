@@ -6,13 +6,13 @@ ghost use Rattle.fare_serve.specs.Serving.{HasFailedHeld, HasFailedLines, HasHel
 
 use crate::counts::{Counts, write_counts};
 use crate::fault::ServeFault;
+use crate::gate::RoundGate;
 use crate::gathering::Lines;
 use crate::lending::{lend_all, take_all_back};
 use crate::limits::Limits;
 use crate::rounds::serve_round;
 use crate::seats::Rule;
 use fare_collect::{StationsFault, stations_of};
-use fare_session::{Gate, Point};
 use fare_sessions::Hub;
 use fare_store::{Ledger, Outbox};
 use std::alloc::Global;
@@ -22,17 +22,6 @@ use std::net::TcpListener;
 use std::sync::Wait;
 use std::thread::Threads;
 use std::time::Clock;
-
-/// No thread is held, and one that waits for long naps.
-struct Open;
-
-impl Gate for Open {
-    fn pass(&self, _point: Point) {}
-
-    fn naps(&self) -> bool {
-        true
-    }
-}
 
 // Whether the file is there whose presence ends serving. Where the system doesn't say, it isn't.
 fn is_told(rt: &HostRuntime, until: Option<&str>) -> bool
@@ -86,6 +75,7 @@ fn hold_round<O: Outbox + Send, L: Ledger + Send, R: Threads + Wait + Clock + Ep
     ensures seats { vec_len lines.new.seats ≡ vec_len lines.old.seats }
     ensures fault { IfErr result (λ fault. fault ≢ ServeFault.Write) }
 {
+    let gate = RoundGate::new(rt, whole, limits);
     let shifts = lend_all(alloc, whole, limits.patience, &mut lines.seats)?;
     let stations = match stations_of(alloc, &hub.scheme, shifts) {
         Ok(stations) => stations,
@@ -93,7 +83,7 @@ fn hold_round<O: Outbox + Send, L: Ledger + Send, R: Threads + Wait + Clock + Ep
         Err(StationsFault::Range) => unreachable!(),
     };
     let turns = u64::from(limits.turns);
-    let (report, stations) = serve_round(rt, alloc, &Open, turns, hub, stations, counts)?;
+    let (report, stations) = serve_round(rt, alloc, &gate, turns, hub, stations, counts)?;
     take_all_back(rt, whole, stations, &report.faults, &mut lines.seats);
     Ok(())
 }
@@ -132,14 +122,16 @@ fn hold_rounds<O: Outbox + Send, L: Ledger + Send, R: Threads + Wait + Clock + E
 /// them: `stored N`, `taken OWNER N` for each owner, and `left N`, each the sum over all sessions.
 ///
 /// A round is a session of all stations and then one of each owner. There are as many as the limits say, at least one;
-/// fewer where a file is named, and is there when a round has ended. Where there is but one round, and no file is named,
-/// each line is read to its end; else in shifts, one a round, and a line that is quiet waits for the next round. Before
-/// the first round connections are taken until each station has one, in at most so many attempts as there are turns;
-/// before each other those that have come, and where no station has a line, a short while is waited for one. At most 16
-/// connections wait for their greeting at once, each for at most 100 reads. One that doesn't greet, or not as a device of
-/// the scheme, is let go, and so is a second one of a station before the first round, unless the first is over. Between
-/// rounds the newer line of a station replaces the older one. A station that has no line takes part in a round with one
-/// that is at its end; one whose line has ended or broken has none till its validator comes again.
+/// fewer where a file is named, and is there when a round has ended. Where there is but one round, and no file is
+/// named, each line is read to its end; else in shifts, one a round: a line that is quiet waits for the next round, and
+/// once a round has lasted so many milliseconds as the limits say no line is read in it any more, and each goes on in
+/// the next one. Where the clock fails a round has no such end. Before the first round connections are taken until each
+/// station has one, in at most so many attempts as there are turns; before each other those that have come, and where
+/// no station has a line, a short while is waited for one. At most 16 connections wait for their greeting at once, each
+/// for at most 100 reads. One that doesn't greet, or not as a device of the scheme, is let go, and so is a second one
+/// of a station before the first round, unless the first is over. Between rounds the newer line of a station replaces
+/// the older one. A station that has no line takes part in a round with one that is at its end; one whose line has
+/// ended or broken has none till its validator comes again.
 ///
 /// `Memory` or `Store` where that is the first such fault of a session, in their order, and none follows it then; `Memory`
 /// also where there is none for a line's seat, a station or a session's list of faults, or for the text; nothing was
