@@ -8,9 +8,11 @@ use fare_part_tests::{FIRST, Numbers, record, statement};
 use fare_record::{Day, DeviceId, OwnerId, Record};
 use fare_scheme::{DemoSize, Scheme};
 use fare_session::{Gate, OwnerReport, Point, SessionFault, serve_owner};
+use fare_source::Shift;
 use fare_store::{FailingLedger, FailingOutbox, Ledger, Outbox, PlainLedger, PlainOutbox};
 use std::alloc::Global;
 use std::sync::Wait;
+use std::sync::atomic::{AtomicU64, Ordering};
 use std::thread::Threads;
 use std::time::Clock;
 
@@ -83,6 +85,7 @@ fn gathered_in<O: Outbox + Send, R: Threads + Wait + Clock + Sync>(
     scheme: &Scheme,
     source: Script,
     outbox: &mut O,
+    turns: u64,
 ) -> Option<(CollectReport, Script)> {
     let mut sources = Vec::new(alloc);
     sources.push(source).ok()?;
@@ -90,7 +93,7 @@ fn gathered_in<O: Outbox + Send, R: Threads + Wait + Clock + Sync>(
     if stations.len() > 16 {
         return None;
     }
-    let report = collect(rt, alloc, scheme, &mut stations, outbox, &Free, TURNS).ok()?;
+    let report = collect(rt, alloc, scheme, &mut stations, outbox, &Free, turns).ok()?;
     let mut sources = sources_of(alloc, stations)?;
     Some((report, sources.pop()?))
 }
@@ -104,7 +107,7 @@ fn gathered<O: Outbox + Send, R: Threads + Wait + Clock + Sync>(
     outbox: &mut O,
 ) -> Option<(CollectReport, Script)> {
     let scheme = Scheme::demo(alloc, DemoSize::OneDevice, 4, inbox, 4).ok()?;
-    gathered_in(rt, alloc, &scheme, source, outbox)
+    gathered_in(rt, alloc, &scheme, source, outbox, TURNS)
 }
 
 // How many items were stored, the first fault, the last answer, and how far the outbox has had the device's taps.
@@ -134,6 +137,104 @@ fn taps_and_a_statement_come_through_any_inbox(rt: HostRuntime) {
         let answers = source.last_two();
         same(&rt, &answers, &(day_ack(1, FIRST_DAY), ack(1, 600)));
     }
+}
+
+// The writer's thread ends where it first finds nothing to do: what the inbox then has is stored behind the joins.
+#[test]
+fn what_the_threads_left_comes_through_too(rt: HostRuntime) {
+    let scheme = Scheme::demo(rt.alloc(), DemoSize::OneDevice, 4, 1_024, 4).expect(&rt, "a scheme");
+    for turns in [0, 1, 2] {
+        let source = two_days(rt.alloc()).expect(&rt, "a source");
+        let mut outbox = PlainOutbox::new(rt.alloc());
+        let (report, source) = gathered_in(
+            &rt,
+            rt.alloc(),
+            &scheme,
+            source,
+            &mut outbox,
+            turns,
+        ).expect(&rt, "a session");
+        let got = came_to(&report, &source, &mut outbox);
+        same(&rt, &got, &Some((601, None, ack(1, 600), 600)));
+        same(&rt, &report.left, &0);
+    }
+}
+
+/// A gate that ends a session of the stations once so many items were put into the inbox.
+#[derive(Drop)]
+struct EndsAfter {
+    put: AtomicU64,
+    most: u64,
+}
+
+impl Gate for EndsAfter {
+    fn pass(&self, point: Point) {
+        if point == Point::StationPut {
+            self.put.fetch_add(1, Ordering::SeqCst);
+        }
+    }
+
+    fn is_over(&self) -> bool {
+        self.put.load(Ordering::SeqCst) >= self.most
+    }
+}
+
+// A session of one station over a shift of a source, up to so many items: its report, and the source again.
+fn gathered_up_to<R: Threads + Wait + Clock + Sync>(
+    rt: &R,
+    alloc: Global,
+    scheme: &Scheme,
+    source: Script,
+    outbox: &mut PlainOutbox,
+    most: u64,
+) -> Option<(CollectReport, Script)> {
+    let gate = EndsAfter {
+        put: AtomicU64::new(0),
+        most,
+    };
+    let mut shifts = Vec::new(alloc);
+    shifts.push(Shift::new(source, 10, 65_536)).ok()?;
+    let mut stations = stations_of(alloc, scheme, shifts).ok()?;
+    if stations.len() > 16 {
+        return None;
+    }
+    let report = collect(rt, alloc, scheme, &mut stations, outbox, &gate, TURNS).ok()?;
+    let (_, shift) = stations.pop()?.into_parts();
+    Some((report, shift.into_source()))
+}
+
+// A session that is over reads no more of a shift than one frame, and stores and answers what it read; the next goes
+// on from there.
+#[test]
+fn a_session_that_is_over_leaves_the_rest_to_the_next(rt: HostRuntime) {
+    let scheme = Scheme::demo(rt.alloc(), DemoSize::OneDevice, 4, 256, 4).expect(&rt, "a scheme");
+    let mut outbox = PlainOutbox::new(rt.alloc());
+    let mut source = two_days(rt.alloc()).expect(&rt, "a source");
+    for (most, stored, last) in [
+        (0, 1, 1),
+        (100, 100, 101),
+        (150, 150, 251),
+        (1_000, 350, 600),
+    ] {
+        let (report, read) = gathered_up_to(
+            &rt,
+            rt.alloc(),
+            &scheme,
+            source,
+            &mut outbox,
+            most,
+        ).expect(&rt, "a session");
+        source = read;
+        let got = came_to(&report, &source, &mut outbox);
+        same(&rt, &got, &Some((stored, None, ack(1, last), last)));
+        same(&rt, &report.left, &0);
+    }
+    same(
+        &rt,
+        &source.last_two(),
+        &(day_ack(1, FIRST_DAY), ack(1, 600)),
+    );
+    same(&rt, &(source.given.len(), source.frames.len()), &(601, 0));
 }
 
 // An outbox that holds a row of lane number 5 already, as that of link 1.

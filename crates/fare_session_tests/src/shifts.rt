@@ -81,6 +81,22 @@ fn a_whole_shift_ends_with_its_source(rt: HostRuntime) {
 }
 
 #[test]
+fn a_finished_shift_gives_no_more_and_the_next_goes_on(rt: HostRuntime) {
+    let source = script(rt.alloc(), 5, 3).expect(&rt, "script");
+    let mut first = Shift::new(source, 4, 10);
+    same(&rt, &first.next().is_ok(), &true);
+    first.finish();
+    same(&rt, &(first.is_over(), first.is_ready()), &(true, true));
+    same(&rt, &(first.has_next(), given(&mut first)), &(true, 0));
+    let mut second = Shift::new(first.into_source(), 4, 10);
+    same(&rt, &(given(&mut second), second.is_over()), &(4, true));
+    let source = script(rt.alloc(), 5, 3).expect(&rt, "script");
+    let mut whole = Shift::whole(source);
+    whole.finish();
+    same(&rt, &(given(&mut whole), whole.is_over()), &(5, true));
+}
+
+#[test]
 fn a_shift_hands_on_answers_and_failures(rt: HostRuntime) {
     let mut source = script(rt.alloc(), 5, 0).expect(&rt, "script");
     source.left = 3;

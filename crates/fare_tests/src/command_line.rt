@@ -17,7 +17,7 @@ fn reads_jobs(rt: HostRuntime) -> Result<(), Fail> {
             Job::Serve { .. } | Job::Ask { .. } => panic!(rt; "not a replay"),
         }
     }
-    const WORDS: [&str; 11] = [
+    const WORDS: [&str; 13] = [
         "serve",
         "--port",
         "65535",
@@ -29,8 +29,16 @@ fn reads_jobs(rt: HostRuntime) -> Result<(), Fail> {
         "1",
         "--write-ms",
         "60000",
+        "--round-ms",
+        "1",
     ];
-    for (count, read, write) in [(7, 10, 1_000), (9, 1, 1_000), (11, 1, 60_000)] {
+    // How many of the words there are, and the milliseconds of a read, a write and a round.
+    for (count, read, write, round) in [
+        (7, 5, 1_000, 1_000),
+        (9, 1, 1_000, 1_000),
+        (11, 1, 60_000, 1_000),
+        (13, 1, 60_000, 1),
+    ] {
         match read_words(rt.alloc(), &WORDS[..count])? {
             Job::Serve {
                 port,
@@ -41,14 +49,19 @@ fn reads_jobs(rt: HostRuntime) -> Result<(), Fail> {
                 rounds,
                 until,
                 patience,
+                round_millis,
             } => {
                 same(
                     &rt,
                     &(port, turns, path),
                     &(65535, 1_000_000_000, "out box"),
                 );
-                same(&rt, &(read_millis, write_millis), &(read, write));
-                same(&rt, &(rounds, until, patience), &(1, None, 10));
+                same(
+                    &rt,
+                    &(read_millis, write_millis, round_millis),
+                    &(read, write, round),
+                );
+                same(&rt, &(rounds, until, patience), &(1, None, 2));
             }
             Job::Replay { .. } | Job::Ask { .. } => panic!(rt; "not a server"),
         }
@@ -59,13 +72,22 @@ fn reads_jobs(rt: HostRuntime) -> Result<(), Fail> {
 #[test]
 fn reads_how_long_to_serve(rt: HostRuntime) -> Result<(), Fail> {
     const ALL: u32 = 4_294_967_295;
-    const CASES: [(&[&str], u32, Option<&str>, u32); 4] = [
-        (&["--rounds", "4294967295"], ALL, None, 10),
-        (&["--until", "stop"], ALL, Some("stop"), 10),
-        (&["--until", "stop", "--rounds", "7"], 7, Some("stop"), 10),
-        (&["--patience", "1000000000"], 1, None, 1_000_000_000),
+    const CASES: [(&[&str], (u32, Option<&str>), (u32, u32)); 5] = [
+        (&["--rounds", "4294967295"], (ALL, None), (2, 1_000)),
+        (&["--until", "stop"], (ALL, Some("stop")), (2, 1_000)),
+        (
+            &["--until", "stop", "--rounds", "7"],
+            (7, Some("stop")),
+            (2, 1_000),
+        ),
+        (
+            &["--patience", "1000000000"],
+            (1, None),
+            (1_000_000_000, 1_000),
+        ),
+        (&["--round-ms", "60000"], (1, None), (2, 60_000)),
     ];
-    for &(options, want_rounds, want_until, want_patience) in &CASES {
+    for &(options, want_rounds, want_length) in &CASES {
         let mut words = Vec::new(rt.alloc());
         words.extend_from_slice(&["serve", "--port", "0", "--turns", "1", "--outbox", "x"])?;
         words.extend_from_slice(options)?;
@@ -74,12 +96,13 @@ fn reads_how_long_to_serve(rt: HostRuntime) -> Result<(), Fail> {
                 rounds,
                 until,
                 patience,
+                round_millis,
                 ..
             } => {
                 same(
                     &rt,
-                    &(rounds, until, patience),
-                    &(want_rounds, want_until, want_patience),
+                    &((rounds, until), (patience, round_millis)),
+                    &(want_rounds, want_length),
                 );
             }
             Job::Replay { .. } | Job::Ask { .. } => panic!(rt; "not a server"),
@@ -254,9 +277,37 @@ fn refuses_words(rt: HostRuntime) -> Result<(), Fail> {
     Ok(())
 }
 
+// Lengths of a round that are out of their range, or no number.
+#[test]
+fn refuses_lengths_of_a_round(rt: HostRuntime) -> Result<(), Fail> {
+    const CASES: [(&str, &str); 3] = [
+        ("0", "0 is not in 1..=60000"),
+        ("60001", "60001 is not in 1..=60000"),
+        ("long", "invalid value 'long' for '--round-ms <MILLIS>'"),
+    ];
+    for &(millis, want) in &CASES {
+        let words = [
+            "serve",
+            "--port",
+            "1",
+            "--turns",
+            "1",
+            "--outbox",
+            "x",
+            "--round-ms",
+            millis,
+        ];
+        match read_words(rt.alloc(), &words) {
+            Err(WordsFault::Refused(text)) => contains(&rt, text.as_str(), want),
+            _ => panic!(rt; "not refused: {want}"),
+        }
+    }
+    Ok(())
+}
+
 #[test]
 fn shows_help_and_version(rt: HostRuntime) -> Result<(), Fail> {
-    const CASES: [(&[&str], &str); 4] = [
+    const CASES: [(&[&str], &str); 5] = [
         (&["--help"], "Usage: fare_hub <COMMAND>"),
         (&["--version"], "fare_hub 0.1.0\n"),
         (&["replay", "--help"], "Usage: fare_hub replay [OPTIONS]"),
@@ -264,6 +315,7 @@ fn shows_help_and_version(rt: HostRuntime) -> Result<(), Fail> {
             &["help", "serve"],
             "Usage: fare_hub serve [OPTIONS] --port <PORT> --turns <TURNS> --outbox <PATH>",
         ),
+        (&["help", "serve"], "--round-ms <MILLIS>"),
     ];
     for &(words, want) in &CASES {
         match read_words(rt.alloc(), words) {

@@ -156,7 +156,8 @@ fn words_that_ask_to_serve_leave_it_to_do(rt: HostRuntime) {
             read_millis: 20,
             write_millis: 1_000,
             rounds: 1,
-            patience: 10,
+            patience: 2,
+            round_millis: 1_000,
         },
         until: None,
     };

@@ -1,4 +1,5 @@
-//! Serving in rounds over sockets: a validator that comes late, one that breaks and comes again, and a newer line.
+//! Serving in rounds over sockets: a validator that comes late, one that breaks and comes again, a newer line, and
+//! lines that don't fall quiet.
 ghost use Rattle.fare_sessions.specs.Stores.{HasLedgers};
 
 use crate::checking::same;
@@ -18,14 +19,24 @@ use std::sync::Wait;
 use std::thread::{self, Threads};
 use std::time::{Clock, Duration};
 
-// A read waits 5 milliseconds, and a line that is quiet for two of them waits for the next round.
+// A read waits 5 milliseconds, and a line that is quiet for two of them waits for the next round; so does any line
+// after 20 milliseconds of a round.
 const LIMITS: Limits = Limits {
     turns: 100,
     read_millis: 5,
     write_millis: 1_000,
     rounds: 2_000,
     patience: 2,
+    round_millis: 20,
 };
+
+// How many taps a line that goes on brings, and how many at most where it goes on till it is let go.
+const TAPS: u64 = 200;
+
+const MOST_TAPS: u64 = 5_000;
+
+// How many answers are waited for at most.
+const MOST_ANSWERS: usize = 1_000;
 
 /// What validators do till serving is told to end.
 #[derive(Clone, Copy, PartialEq, Eq, Debug)]
@@ -36,6 +47,10 @@ enum Play {
     BreaksAndComesAgain,
     /// It comes again on another line, and the first one is still there.
     ComesTwice,
+    /// It goes on with a tap each millisecond, so that its line doesn't fall quiet.
+    GoesOn,
+    /// It goes on so also where serving is told to end, till its line is let go.
+    GoesOnToTheEnd,
 }
 
 fn device(number: u64) -> Option<DeviceId> {
@@ -46,6 +61,36 @@ fn send(alloc: Global, stream: &mut TcpStream, frame: Frame) -> Option<()> {
     let mut bytes = Vec::new(alloc);
     frame.put(&mut bytes).ok()?;
     stream.write_all(&bytes).ok()
+}
+
+// A device's tap of this number is sent.
+fn tap(alloc: Global, stream: &mut TcpStream, number: u64, link: u64) -> Option<()> {
+    let numbers = Numbers {
+        device: number,
+        link,
+        lane: link,
+        ..FIRST
+    };
+    send(alloc, stream, Frame::Tapped(record(numbers)?))
+}
+
+// Sends device 1's taps from one number to another, one each millisecond. None where its line is over before.
+fn go_on(host: &HostRuntime, stream: &mut TcpStream, first: u64, last: u64) -> Option<()> {
+    for link in first..=last {
+        tap(host.alloc(), stream, 1, link)?;
+        thread::sleep(host, Duration::from_millis(1));
+    }
+    Some(())
+}
+
+// Goes on, makes the file that ends serving amid that, and still goes on till the line is let go. None where it isn't.
+fn go_on_to_the_end(host: &HostRuntime, stream: &mut TcpStream, path: &str) -> Option<()> {
+    go_on(host, stream, 2, TAPS)?;
+    fs::write(host, path, "").ok()?;
+    match go_on(host, stream, TAPS + 1, MOST_TAPS) {
+        Some(()) => None,
+        None => Some(()),
+    }
 }
 
 // A line of a device, on which these taps were sent.
@@ -63,13 +108,7 @@ fn dial<R: Net<Listener = TcpListener, Stream = TcpStream>>(
     let hello = Hello::new(device(number)?, 1);
     send(alloc, &mut stream, Frame::Greeted(hello))?;
     for link in links {
-        let numbers = Numbers {
-            device: number,
-            link: *link,
-            lane: *link,
-            ..FIRST
-        };
-        send(alloc, &mut stream, Frame::Tapped(record(numbers)?))?;
+        tap(alloc, &mut stream, number, *link)?;
     }
     Some(stream)
 }
@@ -82,7 +121,7 @@ fn hears(alloc: Global, stream: &mut TcpStream, number: u64, upto: u64) -> Optio
     let mut wanted = Vec::new(alloc);
     let ack = Ack::new(device(number)?, upto);
     Frame::Acked(ack).put(&mut wanted).ok()?;
-    for _ in 0..10 {
+    for _ in 0..MOST_ANSWERS {
         let mut bytes = [0u8; 15];
         stream.read_exact(&mut bytes).ok()?;
         if bytes.as_slice() == wanted.as_slice() {
@@ -99,11 +138,13 @@ fn has_ended(alloc: Global, stream: &mut TcpStream) -> bool {
 }
 
 fn perform<R: Net<Listener = TcpListener, Stream = TcpStream>>(
+    host: &HostRuntime,
     rt: &R,
-    alloc: Global,
     address: SocketAddr,
     what: Play,
+    path: &str,
 ) -> Option<()> {
+    let alloc = host.alloc();
     let mut first = dial(rt, alloc, address, 1, &[1])?;
     hears(alloc, &mut first, 1, 1)?;
     match what {
@@ -125,6 +166,11 @@ fn perform<R: Net<Listener = TcpListener, Stream = TcpStream>>(
                 None
             }
         }
+        Play::GoesOn => {
+            go_on(host, &mut first, 2, TAPS)?;
+            hears(alloc, &mut first, 1, TAPS)
+        }
+        Play::GoesOnToTheEnd => go_on_to_the_end(host, &mut first, path),
     }
 }
 
@@ -136,7 +182,7 @@ fn perform_and_end<R: Net<Listener = TcpListener, Stream = TcpStream>>(
     what: Play,
     path: &str,
 ) -> bool {
-    let performed = perform(rt, host.alloc(), address, what).is_some();
+    let performed = perform(host, rt, address, what, path).is_some();
     fs::write(host, path, "").is_ok() && performed
 }
 
@@ -233,5 +279,43 @@ fn a_newer_line_of_a_station_replaces_the_older_one(rt: HostRuntime) {
         &rt,
         &(heard, ended, output.as_slice()),
         &(true, Ok(()), b"stored 2\ntaken 1 2\nleft 0\n".as_slice()),
+    );
+}
+
+// The number behind the word `stored`.
+fn stored_in(text: &str) -> Option<u64> {
+    let (stored, _) = text.strip_prefix("stored ")?.split_once("\n")?;
+    stored.parse::<u64>().ok()
+}
+
+#[test]
+fn each_tap_of_a_line_that_goes_on_is_stored_once_and_answered(rt: HostRuntime) {
+    let seen = played(&rt, &rt, Play::GoesOn, "going.end");
+    let (heard, ended, output) = seen.expect(&rt, "memory");
+    same(
+        &rt,
+        &(heard, ended, output.as_slice()),
+        &(
+            true,
+            Ok(()),
+            b"stored 200\ntaken 1 200\nleft 0\n".as_slice(),
+        ),
+    );
+}
+
+// Serving ends long before the line does, and what was stored up to there was taken.
+#[test]
+fn a_round_ends_though_a_line_goes_on(rt: HostRuntime) {
+    let seen = played(&rt, &rt, Play::GoesOnToTheEnd, "amid.end");
+    let (let_go, ended, output) = seen.expect(&rt, "memory");
+    let said = std::str::from_utf8(&output).unwrap_or("no text");
+    let stored = stored_in(said).expect(&rt, "counts");
+    let wanted = format!(in rt.alloc(); "stored {stored}\ntaken 1 {stored}\nleft 0\n").expect(
+        &rt, "memory",
+    );
+    same(
+        &rt,
+        &(let_go, ended, said),
+        &(true, Ok(()), wanted.as_str()),
     );
 }

@@ -20,6 +20,7 @@ fn limits(turns: u32) -> Limits {
         write_millis: 1_000,
         rounds: 1,
         patience: 1,
+        round_millis: 1_000,
     }
 }
 

@@ -19,6 +19,7 @@ const LIMITS: Limits = Limits {
     write_millis: 1_000,
     rounds: 1,
     patience: 10,
+    round_millis: 1_000,
 };
 
 // A scheme of one device.
