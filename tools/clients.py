@@ -46,11 +46,12 @@ def scheme_of(stations):
 class Hub:
     """The program, serving so many stations once, or for as long as a file isn't there."""
 
-    def __init__(self, folder, turns=2_000, read_ms=5, write_ms=200, stations=2, under=(), until=None):
+    def __init__(self, folder, turns=2_000, read_ms=5, write_ms=200, stations=2, under=(), until=None, options=()):
         self.path = os.path.join(folder, "outbox")
+        given = {"--read-ms": read_ms, "--write-ms": write_ms, "--until": until}
         self.program = subprocess.Popen(
-            [*under, PROGRAM, "serve", "--port", "0", "--turns", str(turns), "--outbox", self.path,
-             "--read-ms", str(read_ms), "--write-ms", str(write_ms), *(["--until", until] if until else [])],
+            [*under, PROGRAM, "serve", "--port", "0", "--turns", str(turns), "--outbox", self.path, *options,
+             *[word for name, value in given.items() if value is not None for word in (name, str(value))]],
             stdin=subprocess.PIPE, stdout=subprocess.PIPE, stderr=subprocess.PIPE)
         self.program.stdin.write(scheme_of(stations).encode())
         self.program.stdin.close()
