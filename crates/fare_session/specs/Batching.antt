@@ -14,7 +14,7 @@ use Rattle.fare_session.specs.Taking.{IsTaken, IsTaking}
 
 -- how many items may be in a batch
 abbrev pub IsBatch : ℕ → Type 0
-IsBatch n = (1 ≤ n) × (n ≤ 64)
+IsBatch n = (1 ≤ n) × (n ≤ 256)
 
 -- these items came from the queue
 abbrev pub CameWith : OwnerPass → OwnerPass → List Item → Type 0

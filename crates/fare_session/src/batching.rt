@@ -16,7 +16,7 @@ use std::sync::Wait;
 use std::time::Clock;
 
 // As many items are in a batch at most.
-const BATCH: usize = 64;
+const BATCH: usize = 256;
 
 /// What ended the owner at an item, and how many items of its batch stand behind that one.
 #[derive(Clone, Copy, PartialEq, Eq, Debug)]
