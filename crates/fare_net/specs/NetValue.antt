@@ -9,6 +9,8 @@ pub record NetValue : Type 0 where
   -- what the reader has left and what the writer holds, where they tell
   pub unread : Option (List ℕ)
   pub written : Option (List ℕ)
+  -- the bytes of the answers that it has not sent yet
+  pub unsent : List ℕ
   -- the frames that it gave, and those that it was handed
   pub given : List Frame
   pub answered : List Frame
@@ -16,7 +18,7 @@ pub record NetValue : Type 0 where
   pub failures : ℕ
   -- its greeting was refused
   pub refused : Bool
-  -- an answer did not go out whole
+  -- an answer did not go out whole, so none follows
   pub cut : Bool
   -- how many reads are left
   pub turns : ℕ

@@ -1,8 +1,8 @@
 -- What the calls of a source over a line make of it.
 use Rattle.std.specs.Prelude.{◌≡◌, ◌≢◌, ℕ, ◌<◌, ◌≤◌, ◌+◌, ◌*◌, ◌⊎◌, true, false, List, [], ◌∷◌, ◌++◌, length, Option, Some, None, Result, Ok, Err}
-use Rattle.std.specs.Io.KnownBytes.{Consumes, IsAtEnd}
+use Rattle.std.specs.Io.KnownBytes.{Appends, Consumes, IsAtEnd}
 use Rattle.fare_record.specs.Values.{HelloValue}
-use Rattle.fare_frame.specs.Grammar.{hello_of, IsRest}
+use Rattle.fare_frame.specs.Grammar.{frame_bytes, hello_of, IsRest}
 use Rattle.fare_frame.specs.Reading.{Spells, HasNoFrame}
 use Rattle.fare_frame.specs.declared.frame.Frame.{Frame}
 use Rattle.fare_frame.specs.declared.frame.Frame.TheVariants.{Greeted}
@@ -32,6 +32,7 @@ fresh_source unread written turns = record {
   intake = fresh_intake;
   unread = unread;
   written = written;
+  unsent = [];
   given = [];
   answered = [];
   failures = 0;
@@ -39,6 +40,30 @@ fresh_source unread written turns = record {
   cut = false;
   turns = turns;
 }
+
+-- ANSWERING
+-- of what it was answered and had not sent, so much went out, and the rest waits; or there was some, and the writer failed
+abbrev pub SendsOn : NetValue → NetValue → Type 0
+SendsOn old new = ((sent : List ℕ) × Appends old.written new.written sent × (old.unsent ≡ sent ++ new.unsent) × (new.cut ≡ old.cut)) ⊎ ((old.unsent ≢ []) × (old.cut ≡ false) × (new.cut ≡ true))
+
+-- nothing waits to be sent, or the writer failed
+abbrev pub IsToldAll : NetValue → Type 0
+IsToldAll v = (v.cut ≡ true) ⊎ (v.unsent ≡ [])
+
+-- it sent on, and nothing else changed
+pub record Sends (old new : NetValue) : Type 0 where
+  pub goes : SendsOn old new
+  pub intake : new.intake ≡ old.intake
+  pub unread : new.unread ≡ old.unread
+  pub given : new.given ≡ old.given
+  pub answered : new.answered ≡ old.answered
+  pub failures : new.failures ≡ old.failures
+  pub refused : new.refused ≡ old.refused
+  pub turns : new.turns ≡ old.turns
+
+-- it was handed an answer: what went out and what waits are what waited, and then the frame's bytes
+abbrev pub Hands : NetValue → NetValue → Frame → Type 0
+Hands old new f = (sent : List ℕ) × Appends old.written new.written sent × (old.unsent ++ frame_bytes f ≡ sent ++ new.unsent)
 
 -- READING
 -- More was read: what was read more is what the reader gave, in at most so many reads as are gone.
@@ -53,24 +78,38 @@ pub record Advances (old new : NetValue) : Type 0 where
   pub reads : HasReadMore old new more
   pub taken : new.intake.taken ≡ old.intake.taken
   pub written : new.written ≡ old.written
+  pub unsent : new.unsent ≡ old.unsent
   pub given : new.given ≡ old.given
   pub answered : new.answered ≡ old.answered
   pub failures : new.failures ≡ old.failures
   pub refused : new.refused ≡ old.refused
   pub cut : new.cut ≡ old.cut
 
--- it read on, and wrote nothing
+-- it sent on and read on, and nothing else changed
+pub record Listens (old new : NetValue) : Type 0 where
+  pub more : List ℕ
+  pub reads : HasReadMore old new more
+  pub goes : SendsOn old new
+  pub taken : new.intake.taken ≡ old.intake.taken
+  pub given : new.given ≡ old.given
+  pub answered : new.answered ≡ old.answered
+  pub failures : new.failures ≡ old.failures
+  pub refused : new.refused ≡ old.refused
+
+-- it sent on and read on
 pub record HasRead (old new : NetValue) : Type 0 where
   pub more : List ℕ
   pub reads : HasReadMore old new more
-  pub written : new.written ≡ old.written
+  pub goes : SendsOn old new
   pub refused : new.refused ≡ old.refused
-  pub cut : new.cut ≡ old.cut
 
--- it read nothing
+-- it read and sent nothing
 pub record IsStill (old new : NetValue) : Type 0 where
   pub read : new.intake.read ≡ old.intake.read
   pub unread : new.unread ≡ old.unread
+  pub written : new.written ≡ old.written
+  pub unsent : new.unsent ≡ old.unsent
+  pub cut : new.cut ≡ old.cut
   pub turns : new.turns ≡ old.turns
 
 -- a call failed, which counts, and nothing else changed
@@ -78,6 +117,7 @@ pub record Counts (old new : NetValue) : Type 0 where
   pub intake : new.intake ≡ old.intake
   pub unread : new.unread ≡ old.unread
   pub written : new.written ≡ old.written
+  pub unsent : new.unsent ≡ old.unsent
   pub given : new.given ≡ old.given
   pub answered : new.answered ≡ old.answered
   pub refused : new.refused ≡ old.refused
@@ -115,6 +155,7 @@ pub record HasGreeted (old new : NetValue) : Type 0 where
   pub more : List ℕ
   pub reads : HasReadMore old new more
   pub written : new.written ≡ old.written
+  pub unsent : new.unsent ≡ old.unsent
   pub given : new.given ≡ old.given
   pub answered : new.answered ≡ old.answered
   pub failures : new.failures ≡ old.failures

@@ -1,4 +1,4 @@
-ghost use Rattle.std.specs.Prelude.{◌≡◌, ◌≤◌, OnOk, IfErr, vec_capacity, [], Err};
+ghost use Rattle.std.specs.Prelude.{◌≡◌, ◌≤◌, ◌+◌, ◌++◌, OnOk, IfErr, vec_capacity, vec_len, Err};
 ghost use Rattle.std.specs.Io.KnownBytes.{Appends, Keeps};
 ghost use Rattle.fare_frame.specs.Grammar.{frame_bytes};
 
@@ -7,13 +7,12 @@ use fare_frame::{Frame, LONGEST_FRAME};
 use std::alloc::Global;
 use std::io::Write;
 
-// Spells a frame in place of what was spelled before; there is room for any frame.
+// Spells a frame behind what was spelled before; there is room for any frame.
 pub(crate) fn spell(frame: &Frame, spelled: &mut Vec<u8>)
-    requires { 51 ≤ vec_capacity spelled.old }
-    ensures bytes { spelled.new.items ≡ frame_bytes frame.now }
-    ensures room { 51 ≤ vec_capacity spelled.new }
+    requires { vec_len spelled.old + 51 ≤ vec_capacity spelled.old }
+    ensures bytes { spelled.new.items ≡ spelled.old.items ++ frame_bytes frame.now }
+    ensures room { vec_capacity spelled.old ≤ vec_capacity spelled.new }
 {
-    spelled.clear();
     if frame.put(spelled).is_err() {
         unreachable!()
     }

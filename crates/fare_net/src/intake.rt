@@ -12,6 +12,9 @@ use std::marker::Model;
 /// shortest frame.
 const MOST_FRAMES: usize = 460;
 
+/// Of a read that brought so many frames more is taken to stand behind them.
+const BUSY_FRAMES: usize = 64;
+
 /// How far a stream is.
 #[derive(Clone, Copy, PartialEq, Eq)]
 pub(crate) enum Stage {
@@ -79,6 +82,11 @@ impl Intake {
         self.place >= self.frames.len() && self.stage != Stage::Live
     }
 
+    // Whether the last read brought so many frames that more are taken to stand behind them.
+    pub(crate) fn is_busy(&self) -> bool {
+        self.frames.len() >= BUSY_FRAMES
+    }
+
     // How far it is.
     pub(crate) fn stage(&self) -> Stage
         ensures stage { result ≡ self.now.stage }
@@ -114,9 +122,18 @@ impl Intake {
         match told {
             Ok(Turn::Read(count)) => self.feed(buffer, count),
             Ok(Turn::Ended) => self.stop(true),
-            Ok(Turn::Waited) => {}
+            Ok(Turn::Waited) => self.idle(),
             Err(_) => self.stop(false),
         }
+    }
+
+    // A read brought nothing.
+    fn idle(&mut self)
+        requires { IsWaiting self.old }
+        ensures { self.new ≡ self.old }
+    {
+        self.frames.clear();
+        self.place = 0;
     }
 
     // The stream is at its end, or has failed.

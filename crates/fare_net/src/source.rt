@@ -1,10 +1,8 @@
-ghost use Rattle.std.specs.Prelude.{◌≡◌, ◌⊎◌, ◌↔◌, true, false, IfOk, IfErr, OnOk, OnErr, IsTrue, IsFalse, ◌-◌, Err};
-ghost use Rattle.std.specs.Io.KnownBytes.{Appends};
-ghost use Rattle.fare_frame.specs.Grammar.{frame_bytes};
+ghost use Rattle.std.specs.Prelude.{◌≡◌, ◌≤◌, ◌⊎◌, ◌↔◌, true, false, length, IfOk, IfErr, OnOk, OnErr, IsTrue, IsFalse, ◌-◌, Err};
 ghost use Rattle.fare_source.specs.Talking.{Waits, Gives, Hears};
 ghost use Rattle.fare_net.specs.Intakes.{IsOver, IsWaiting};
 ghost use Rattle.fare_net.specs.Spoken.{IsSpoken};
-ghost use Rattle.fare_net.specs.Sources.{Advances, Counts, Greets, HasGreeted, HasRead, HelloFails, IsStill, TakesOff, fresh_source, talk_of};
+ghost use Rattle.fare_net.specs.Sources.{Advances, Counts, Greets, Hands, HasGreeted, HasRead, HelloFails, IsStill, IsToldAll, Listens, Sends, TakesOff, fresh_source, talk_of};
 
 use crate::answer::{send, spell};
 use crate::intake::{Intake, Stage};
@@ -23,6 +21,9 @@ use std::marker::Model;
 /// come.
 const NEWEST_VERSION: u16 = 2;
 
+/// How many bytes of answers wait at most till they are sent in one write.
+const MOST_UNSENT: usize = 4_096;
+
 // Whether the frames of a version are spoken.
 fn is_spoken(version: u16) -> bool
     ensures { IsTrue result ↔ IsSpoken version }
@@ -31,12 +32,14 @@ fn is_spoken(version: u16) -> bool
 }
 
 /// A validator's line as a source, over a reader and a writer. It takes all its memory when it is made, and reads no
-/// oftener than it was told; a read that brought nothing counts. What it gave and was handed, proofs alone remember.
+/// oftener than it was told; a read that brought nothing counts. Answers are sent together: before it reads on, where
+/// no other has room, at `flush`, and when it is dropped. What it gave and was handed, proofs alone remember.
 pub struct NetSource<R: Read + Drop, W: Write + Drop> {
     reader: R,
     writer: W,
     intake: Intake,
-    spelled: Vec<u8>,
+    // the bytes of the answers that were not sent yet
+    unsent: Vec<u8>,
     // how many reads are left
     turns: u64,
     // the greeting was refused
@@ -61,6 +64,7 @@ impl<R: Read + Drop, W: Write + Drop> Model for NetSource<R, W> {
       intake = s.intake;
       unread = R.remaining s.reader;
       written = W.contents s.writer;
+      unsent = s.unsent.items;
       given = frames_in s.given.items;
       answered = frames_in s.answered.items;
       failures = s.failures;
@@ -69,7 +73,7 @@ impl<R: Read + Drop, W: Write + Drop> Model for NetSource<R, W> {
       turns = s.turns;
     } };
 
-    ghost invariant = { λ s. (51 ≤ vec_capacity s.spelled) × (s.intake.stage ≡ Ended → IsAtEnd (R.remaining s.reader)) };
+    ghost invariant = { λ s. (4096 ≤ vec_capacity s.unsent) × (s.intake.stage ≡ Ended → IsAtEnd (R.remaining s.reader)) };
 }
 
 // It is written out, so that a caller doesn't prove again how each part is let go.
@@ -77,20 +81,23 @@ impl<R: Read + Drop, W: Write + Drop> Drop for NetSource<R, W> {
     fn drop(self) {
         let NetSource {
             reader,
-            writer,
+            mut writer,
             intake,
-            spelled,
+            unsent,
             turns: _,
             refused: _,
-            cut: _,
+            cut,
             failures: _,
             given,
             answered,
         } = self;
+        if !cut && !unsent.is_empty() {
+            let _ = send(&mut writer, &unsent);
+        }
         drop(reader);
         drop(writer);
         drop(intake);
-        drop(spelled);
+        drop(unsent);
         drop(given);
         drop(answered);
     }
@@ -108,12 +115,12 @@ impl<R: Read + Drop, W: Write + Drop> NetSource<R, W> {
         ensures { IfOk result (λ source. source ≡ fresh_source (R.remaining reader) (W.contents writer) turns) }
     {
         let intake = Intake::new(alloc)?;
-        let spelled = Vec::with_capacity(alloc, LONGEST_FRAME)?;
+        let unsent = Vec::with_capacity(alloc, MOST_UNSENT)?;
         Ok(NetSource {
             reader,
             writer,
             intake,
-            spelled,
+            unsent,
             turns,
             refused: false,
             cut: false,
@@ -129,6 +136,34 @@ impl<R: Read + Drop, W: Write + Drop> NetSource<R, W> {
         ensures { IsTrue result ↔ (self.now.refused ≡ true) ⊎ IsOver self.now.intake }
     {
         self.refused || self.intake.is_over()
+    }
+
+    /// Sends the answers that were not sent yet. Where the writer fails, how much of them went out is not said, none
+    /// follows them, and each answer from then on fails.
+    pub fn flush(&mut self)
+        ensures sends { Sends self.old self.new }
+        ensures told { IsToldAll self.new }
+    {
+        if self.cut || self.unsent.is_empty() {
+            return;
+        }
+        match send(&mut self.writer, &self.unsent) {
+            Ok(()) => self.unsent.clear(),
+            Err(_) => self.cut = true,
+        }
+    }
+
+    // Whether an answer has room, which is made by sending those before it; there is none where the writer failed.
+    fn makes_room(&mut self) -> bool
+        requires { self.old.cut ≡ false }
+        ensures sends { Sends self.old self.new }
+        ensures room { IsTrue result → (self.new.cut ≡ false) × (length self.new.unsent ≤ 4045) }
+        ensures none { IsFalse result → self.new.cut ≡ true }
+    {
+        if self.unsent.len() > MOST_UNSENT - LONGEST_FRAME {
+            self.flush();
+        }
+        !self.cut
     }
 
     // One read, where it is waited for; the stream has failed where none is left.
@@ -166,6 +201,21 @@ impl<R: Read + Drop, W: Write + Drop> NetSource<R, W> {
         if self.intake.is_waiting() {
             self.intake.stop(false);
         }
+    }
+
+    // Where a frame is waited for, sends its answers and reads until one is there, or the stream is at its end or has
+    // failed.
+    fn read_on(&mut self)
+        ensures listens { Listens self.old self.new }
+        ensures told { IsWaiting self.old.intake → IsToldAll self.new }
+        ensures ready { IsWaiting self.new.intake → ⊥ }
+        ensures still { (IsWaiting self.old.intake → ⊥) → self.new ≡ self.old }
+    {
+        if !self.intake.is_waiting() {
+            return;
+        }
+        self.flush();
+        self.fill();
     }
 
     // Counts a call that fails.
@@ -235,10 +285,11 @@ impl<R: Read + Drop, W: Write + Drop> NetSource<R, W> {
 impl<R: Read + Drop, W: Write + Drop> Source for NetSource<R, W> {
     ghost talk = { talk_of };
 
-    /// Whether `next` would answer without a read. Where a frame is waited for it reads once.
+    /// Whether `next` would answer without a read. Where a frame is waited for it sends its answers and reads once.
     fn is_ready(&mut self) -> bool
         ensures rests { Waits (talk_of self.old) (talk_of self.new) }
-        ensures advances { Advances self.old self.new }
+        ensures listens { Listens self.old self.new }
+        ensures told { self.old.refused ≡ false → IsWaiting self.old.intake → IsToldAll self.new }
         ensures ready { IsTrue result → (self.new.refused ≡ true) ⊎ (IsWaiting self.new.intake → ⊥) }
         ensures waits { IsFalse result → (self.new.refused ≡ false) × IsWaiting self.new.intake }
         ensures closed { self.old.refused ≡ true → self.new ≡ self.old }
@@ -246,17 +297,19 @@ impl<R: Read + Drop, W: Write + Drop> Source for NetSource<R, W> {
         if self.refused || !self.intake.is_waiting() {
             return true;
         }
+        self.flush();
         self.advance();
         !self.intake.is_waiting()
     }
 
-    /// Whether `next` would answer without a read.
+    /// Whether `next` would answer without a read; or the last read brought so many frames that more are likely to have
+    /// come.
     fn has_next(&self) -> bool {
-        self.refused || !self.intake.is_waiting()
+        self.refused || !self.intake.is_waiting() || self.intake.is_busy()
     }
 
     /// The next frame of the stream; `None` where the reader is at its end and all frames were given. What stands
-    /// behind the last frame, less than a frame, is dropped then.
+    /// behind the last frame, less than a frame, is dropped then. Before it reads it sends its answers.
     ///
     /// `Failed` where the greeting was refused; and, once the frames before it were given, where the reader failed, a
     /// fault of the stream came, or no read is left. It is never `Memory`.
@@ -265,6 +318,9 @@ impl<R: Read + Drop, W: Write + Drop> Source for NetSource<R, W> {
         ensures reads { HasRead self.old self.new }
         ensures takes { TakesOff self.old self.new result }
 
+        // What it was answered goes out before it reads.
+        ensures told { self.old.refused ≡ false → IsWaiting self.old.intake → IsToldAll self.new }
+
         // Where it was ready, it reads nothing.
         ensures still { (IsWaiting self.old.intake → ⊥) → IsStill self.old self.new }
         ensures closed { self.old.refused ≡ true → (result ≡ Err SourceFault.Failed) × IsStill self.old self.new }
@@ -272,7 +328,7 @@ impl<R: Read + Drop, W: Write + Drop> Source for NetSource<R, W> {
         if self.refused {
             return Err(self.fails());
         }
-        self.fill();
+        self.read_on();
         let stage = self.intake.stage();
         match self.intake.take() {
             Some(frame) => {
@@ -289,28 +345,24 @@ impl<R: Read + Drop, W: Write + Drop> Source for NetSource<R, W> {
         }
     }
 
-    /// Sends a frame.
+    /// Takes a frame that is to be sent, with others, before the next read.
     ///
-    /// `Failed` where the greeting was refused, or an answer before this one failed, and nothing is written then; or
-    /// where the writer failed: how much of the frame went out is not said, and no other follows it. It is never
-    /// `Memory`.
+    /// `Failed` where the greeting was refused, or the writer failed before, and nothing is written then; or where there
+    /// was no room beside those that were not sent yet and the writer failed at these: how much of them went out is not
+    /// said, and no other follows them. It is never `Memory`.
     fn answer(&mut self, frame: &Frame) -> Result<(), SourceFault>
         ensures hears { Hears (talk_of self.old) (talk_of self.new) frame.now result }
-        ensures sent { OnOk result (Appends self.old.written self.new.written (frame_bytes frame.now)) }
+        ensures hands { OnOk result (Hands self.old self.new frame.now) }
         ensures whole { OnOk result (self.new.cut ≡ false) }
         ensures stays { (self.new.intake ≡ self.old.intake) × (self.new.unread ≡ self.old.unread) × (self.new.refused ≡ self.old.refused) × (self.new.turns ≡ self.old.turns) }
-        ensures closed { (self.old.refused ≡ true) ⊎ (self.old.cut ≡ true) → (result ≡ Err SourceFault.Failed) × (self.new.written ≡ self.old.written) × (self.new.cut ≡ self.old.cut) }
+        ensures closed { (self.old.refused ≡ true) ⊎ (self.old.cut ≡ true) → (result ≡ Err SourceFault.Failed) × (self.new.written ≡ self.old.written) × (self.new.unsent ≡ self.old.unsent) × (self.new.cut ≡ self.old.cut) }
         ensures failed { IfErr result (λ fault. (fault ≡ SourceFault.Failed) × ((self.old.refused ≡ true) ⊎ (self.new.cut ≡ true))) }
     {
         self.answered = self.answered.and(frame, &());
-        if self.refused || self.cut {
+        if self.refused || self.cut || !self.makes_room() {
             return Err(self.fails());
         }
-        spell(frame, &mut self.spelled);
-        if send(&mut self.writer, &self.spelled).is_err() {
-            self.cut = true;
-            return Err(self.fails());
-        }
+        spell(frame, &mut self.unsent);
         Ok(())
     }
 }

@@ -29,6 +29,7 @@ use Rattle.fare_serve.specs.Serving.{AreAllCovered, HasFailedHeld, shift_talk}
 use Rattle.fare_serve.specs.declared.fault.ServeFault.{ServeFault}
 use Rattle.fare_serve.specs.declared.seats.Seat.{Seat}
 use Rattle.fare_serve.specs.declared.seats.Seat.TheVariants.{Free, Lent, Held}
+use Rattle.fare_serve.proofs.Seated.{held_one, none_held}
 
 -- SESSIONS OF OWNERS
 pub are_serving : {S : Type 0} (ks : List ℕ) (calls : List (Call S)) → map olds_of calls ≡ map serving_of ks → AllByRecursion IsServing calls
@@ -128,12 +129,6 @@ pub come_none : (sc : SchemeValue) → ComeOfLines sc []
 come_none sc = ([], record { each = λ k d lt. absurd (omega (arith, lt)) }, tt)
 
 -- WHAT LINES WERE ANSWERED
-none_held : (line : NetValue) (seat : Seat) → seat ≡ Free → seat ≡ Held line → ⊥
-none_held line seat p q = cc
-
-held_one : (a b : NetValue) (seat : Seat) → seat ≡ Held a → seat ≡ Held b → a ≡ b
-held_one a b seat p q = cc
-
 at_map : {X Y : Type 0} (f : X → Y) (xs : List X) (k : ℕ) (d : X) → slice_index_or (map f xs) k (f d) ≡ f (slice_index_or xs k d)
 at_map f [] k d = refl
 at_map f (x ∷ xs) zero d = refl
@@ -184,7 +179,7 @@ module _ (sc : SchemeValue) (x : OutboxValue) where
   went_back : (fault : Option SessionFault) (line l : NetValue) (new : Seat) → GoesBack fault line new → new ≡ Held l → IsLineCovered line → IsLineCovered l
   went_back (Some fault) line l new goes has is = absurd (none_held l new goes has)
   went_back None line l new (inl (free, done)) has is = absurd (none_held l new free has)
-  went_back None line l new (inr (held, more)) has is = subst IsLineCovered (held_one line l new held has) is
+  went_back None line l new (inr (now, held, sends, told, done)) has is = subst IsLineCovered (held_one now l new held has) (subst (AllByRecursion (IsFrameCovered sc x)) (sym sends.answered) is)
 
   back_at : (faults : List (ℕ × SessionFault)) (t : Station (Shift NetValue)) (old new : Seat) (l : NetValue) → ((m : NetValue) → old ≡ Held m → ⊥) → IsBack faults t old new → new ≡ Held l → IsLineCovered t.source.source → IsLineCovered l
   back_at faults t Lent new l none back has is = went_back (fault_in t.collector.station faults) t.source.source l new back has is

@@ -9,8 +9,8 @@ use Rattle.fare_frame.specs.Reading.{Spells}
 use Rattle.fare_frame.specs.Grammar.{spelling_of}
 use Rattle.fare_scheme.specs.Values.{SchemeValue}
 use Rattle.fare_net.specs.NetValue.{NetValue}
-use Rattle.fare_net.specs.Sources.{Advances, Greets, HasGreeted, IsFront}
-use Rattle.fare_net.proofs.Sources.{advances_then}
+use Rattle.fare_net.specs.Sources.{Greets, HasGreeted, IsFront, Listens}
+use Rattle.fare_net.proofs.Sources.{listens_then}
 use Rattle.fare_serve.specs.Lines.{HasGreetedAs, IsNewLine, IsUnheard}
 use Rattle.fare_serve.specs.Seats.{AreFree, AreSeatsGathered, AreSeats, AreSeatsAfter, HasTakenSeat, IsSeatGathered, IsSeatAfter}
 use Rattle.fare_serve.specs.declared.seats.Rule.{Rule}
@@ -20,10 +20,10 @@ use Rattle.fare_serve.specs.declared.seats.Seat.TheVariants.{Free, Lent, Held}
 use Rattle.fare_serve.proofs.Counted.{same_or_apart}
 
 -- LINES
-pub unheard_still : (u v : NetValue) → Advances u v → IsUnheard u → IsUnheard v
+pub unheard_still : (u v : NetValue) → Listens u v → IsUnheard u → IsUnheard v
 unheard_still u v a was = record { taken = a.taken ∙ was.taken; given = a.given ∙ was.given; answered = a.answered ∙ was.answered }
 
-front_still : (u v : NetValue) → Advances u v → IsFront u → IsFront v
+front_still : (u v : NetValue) → Listens u v → IsFront u → IsFront v
 front_still u v a front =
     let more = a.more in
     let spelled : Spells v.intake.read u.intake.taken (front.0 ++ more) = record {
@@ -32,7 +32,7 @@ front_still u v a front =
     } in
     (front.0 ++ more, subst (λ (fs : List Frame). Spells v.intake.read fs (front.0 ++ more)) (sym a.taken) spelled)
 
-greeted_still : (sc : SchemeValue) (station : ℕ) (u v : NetValue) → Advances u v → HasGreetedAs sc station u → HasGreetedAs sc station v
+greeted_still : (sc : SchemeValue) (station : ℕ) (u v : NetValue) → Listens u v → HasGreetedAs sc station u → HasGreetedAs sc station v
 greeted_still sc station u v a was = record {
   hello = was.hello;
   version = was.version;
@@ -44,7 +44,7 @@ greeted_still sc station u v a was = record {
   answered = a.answered ∙ was.answered;
 }
 
-pub new_still : (sc : SchemeValue) (place : ℕ) (u v : NetValue) → Advances u v → IsNewLine sc place u → IsNewLine sc place v
+pub new_still : (sc : SchemeValue) (place : ℕ) (u v : NetValue) → Listens u v → IsNewLine sc place u → IsNewLine sc place v
 new_still sc place u v a was = (was.0, was.1, greeted_still sc was.0 u v a was.2)
 
 pub greeted_as : (sc : SchemeValue) (station : ℕ) (guest line : NetValue) → IsUnheard guest → HasGreeted guest line → Greets sc guest line station → line.refused ≡ false → HasGreetedAs sc station line
@@ -67,15 +67,15 @@ sat sc First place Free new source came has = inr (source, has, inl came)
 sat sc First place Lent new source came has = inr (source, has, inl came)
 sat sc Last place old new source came has = inr (source, has, inl came)
 
-held_one : (a b : NetValue) (seat : Seat) → seat ≡ Held a → seat ≡ Held b → a ≡ b
+pub held_one : (a b : NetValue) (seat : Seat) → seat ≡ Held a → seat ≡ Held b → a ≡ b
 held_one a b seat p q = cc
 
-on_then : (sc : SchemeValue) (rule : Rule) (place : ℕ) (a b c : Seat) (line first : NetValue) → c ≡ Held line → rule ≡ First → b ≡ Held first → Advances first line → IsSeatAfter sc rule place a b → IsSeatAfter sc rule place a c
+on_then : (sc : SchemeValue) (rule : Rule) (place : ℕ) (a b c : Seat) (line first : NetValue) → c ≡ Held line → rule ≡ First → b ≡ Held first → Listens first line → IsSeatAfter sc rule place a b → IsSeatAfter sc rule place a c
 on_then sc rule place a b c line first is by was on (inl same) = inr (line, is, inr (first, by, sym same ∙ was, on))
 on_then sc rule place a b c line first is by was on (inr (m, has, inl came)) =
-    inr (line, is, inl (new_still sc place m line (subst (λ (x : NetValue). Advances x line) (held_one first m b was has) on) came))
+    inr (line, is, inl (new_still sc place m line (subst (λ (x : NetValue). Listens x line) (held_one first m b was has) on) came))
 on_then sc rule place a b c line first is by was on (inr (m, has, inr (f, rules, had, before))) =
-    inr (line, is, inr (f, rules, had, advances_then f m line before (subst (λ (x : NetValue). Advances x line) (held_one first m b was has) on)))
+    inr (line, is, inr (f, rules, had, listens_then f m line before (subst (λ (x : NetValue). Listens x line) (held_one first m b was has) on)))
 
 after_one : (sc : SchemeValue) (rule : Rule) (place : ℕ) (a b c : Seat) → IsSeatAfter sc rule place a b → IsSeatAfter sc rule place b c → IsSeatAfter sc rule place a c
 after_one sc rule place a b c p (inl same) = subst (IsSeatAfter sc rule place a) (sym same) p
@@ -124,7 +124,7 @@ free_none = record { each = λ k d lt. absurd (omega (arith, lt)) }
 pub free_more : (seats : List Seat) → AreFree seats → AreFree (seats ++ Free ∷ [])
 free_more seats free = record { each = free_at seats free.each }
 
-none_held : (line : NetValue) (seat : Seat) → seat ≡ Free → seat ≡ Held line → ⊥
+pub none_held : (line : NetValue) (seat : Seat) → seat ≡ Free → seat ≡ Held line → ⊥
 none_held line seat p q = cc
 
 pub seats_of_free : (sc : SchemeValue) (seats : List Seat) → AreFree seats → AreSeats sc seats
@@ -132,9 +132,9 @@ seats_of_free sc seats free = record { each = λ k d line lt has. absurd (none_h
 
 -- GATHERING
 -- a line that was read on, of a seat that was gathered
-on_gathered : (sc : SchemeValue) (place : ℕ) (a b c : Seat) (line first : NetValue) → c ≡ Held line → b ≡ Held first → Advances first line → ((l : NetValue) → a ≡ Held l → IsNewLine sc place l) → IsSeatGathered sc place a b → IsSeatGathered sc place a c
+on_gathered : (sc : SchemeValue) (place : ℕ) (a b c : Seat) (line first : NetValue) → c ≡ Held line → b ≡ Held first → Listens first line → ((l : NetValue) → a ≡ Held l → IsNewLine sc place l) → IsSeatGathered sc place a b → IsSeatGathered sc place a c
 on_gathered sc place a b c line first is was on were (inl same) = inr (line, is, new_still sc place first line on (were first (sym same ∙ was)))
-on_gathered sc place a b c line first is was on were (inr (m, has, came)) = inr (line, is, new_still sc place m line (subst (λ (x : NetValue). Advances x line) (held_one first m b was has) on) came)
+on_gathered sc place a b c line first is was on were (inr (m, has, came)) = inr (line, is, new_still sc place m line (subst (λ (x : NetValue). Listens x line) (held_one first m b was has) on) came)
 
 gathered_one : (sc : SchemeValue) (rule : Rule) (place : ℕ) (a b c : Seat) → (rule ≡ First → (l : NetValue) → a ≡ Held l → IsNewLine sc place l) → IsSeatGathered sc place a b → IsSeatAfter sc rule place b c → IsSeatGathered sc place a c
 gathered_one sc rule place a b c were p (inl same) = subst (IsSeatGathered sc place a) (sym same) p

@@ -5,6 +5,7 @@ use Rattle.fare_session.specs.declared.fault.SessionFault.TheVariants as session
 use Rattle.fare_source.specs.declared.shift.Shift.{Shift}
 use Rattle.fare_collect.specs.declared.station.Station.{Station}
 use Rattle.fare_net.specs.NetValue.{NetValue}
+use Rattle.fare_net.specs.Sources.{IsToldAll, Sends}
 use Rattle.fare_serve.specs.Lines.{IsDone, absent_line}
 use Rattle.fare_serve.specs.declared.seats.Seat.{Seat}
 use Rattle.fare_serve.specs.declared.seats.Seat.TheVariants.{Free, Lent, Held}
@@ -42,10 +43,10 @@ abbrev pub fault_in : ℕ → List (ℕ × SessionFault) → Option SessionFault
 fault_in station [] = None
 fault_in station (f ∷ fs) = if is_of_line station f.1 then Some f.1 else fault_in station fs
 
--- a line goes back into its seat, unless it broke or is over
+-- a line goes back into its seat, unless it broke or is over; what it was answered was sent before, or its writer failed
 abbrev pub GoesBack : Option SessionFault → NetValue → Seat → Type 0
 GoesBack (Some fault) line new = new ≡ Free
-GoesBack None line new = ((new ≡ Free) × IsDone line) ⊎ ((new ≡ Held line) × (¬ IsDone line))
+GoesBack None line new = ((new ≡ Free) × IsDone line) ⊎ ((now : NetValue) × (new ≡ Held now) × Sends line now × IsToldAll now × (¬ IsDone now))
 
 -- that of a station whose seat it was lent of; another seat is as it was
 abbrev pub IsBack : List (ℕ × SessionFault) → Station (Shift NetValue) → Seat → Seat → Type 0

@@ -1,49 +1,68 @@
 use crate::limits::Limits;
 use fare_session::{Gate, Point};
-use std::time::{Clock, Duration, Instant};
+use std::sync::atomic::{AtomicU64, Ordering};
+use std::time::{Clock, Instant};
 
-/// The gate of a round: no thread is held, one that waits for long naps, and the stations are read no more once the
-/// round has lasted long enough. No contract speaks of it.
+/// The gate of a round: no thread is held, and one that waits for long naps. The stations are read no more once none of
+/// their lines has brought anything for a while, or once the round has lasted long enough. No contract speaks of it.
 #[derive(Drop)]
 pub(crate) struct RoundGate<'a, R> {
     rt: &'a R,
-    end: Option<Instant>,
-}
-
-// When a round that begins now has lasted this long; never where the clock fails, or doesn't count so far.
-fn end_after<R: Clock>(rt: &R, millis: u32) -> Option<Instant> {
-    let now = Instant::now(rt).ok()?;
-    now.checked_add(Duration::from_millis(u64::from(millis)))
+    // lines are read to their ends, and nothing else ends the round
+    whole: bool,
+    // when the round began; none where the clock failed
+    begin: Option<Instant>,
+    // how many milliseconds it lasts at most, and how many it goes on where no line brings anything
+    most: u64,
+    quiet: u64,
+    // how many milliseconds had passed when a line brought something last
+    last: AtomicU64,
 }
 
 impl<'a, R: Clock> RoundGate<'a, R> {
-    /// The gate of a round that begins now. One in which lines are read to their ends has no end of its own, nor has
-    /// one at whose begin the clock fails.
+    /// The gate of a round that begins now, and in which lines are read to their ends or not.
     pub(crate) fn new(rt: &'a R, whole: bool, limits: Limits) -> RoundGate<'a, R> {
-        let end = if whole {
-            None
-        } else {
-            end_after(rt, limits.round_millis)
-        };
-        RoundGate { rt, end }
+        let quiet = u64::from(limits.patience.max(1)).saturating_mul(u64::from(limits.read_millis));
+        RoundGate {
+            rt,
+            whole,
+            begin: Instant::now(rt).ok(),
+            most: u64::from(limits.round_millis),
+            quiet,
+            last: AtomicU64::new(0),
+        }
+    }
+
+    // How many milliseconds of the round have passed; `None` where the clock fails.
+    fn passed(&self) -> Option<u64> {
+        let now = Instant::now(self.rt).ok()?;
+        u64::try_from(now.duration_since(self.begin?).as_millis()).ok()
     }
 }
 
 impl<'a, R: Clock> Gate for RoundGate<'a, R> {
-    fn pass(&self, _point: Point) {}
+    fn pass(&self, point: Point) {
+        if self.whole || point != Point::StationPut {
+            return;
+        }
+        if let Some(passed) = self.passed() {
+            self.last.store(passed, Ordering::SeqCst);
+        }
+    }
 
     fn naps(&self) -> bool {
         true
     }
 
-    // A clock that fails ends no round.
+    // Where the clock fails each line is read once a round.
     fn is_over(&self) -> bool {
-        let Some(end) = self.end else {
+        if self.whole {
             return false;
-        };
-        match Instant::now(self.rt) {
-            Ok(now) => now >= end,
-            Err(_) => false,
         }
+        let Some(passed) = self.passed() else {
+            return true;
+        };
+        let quiet = passed.saturating_sub(self.last.load(Ordering::SeqCst));
+        passed >= self.most || quiet >= self.quiet
     }
 }

@@ -1,5 +1,5 @@
 ghost use Rattle.std.specs.Prelude.{◌≡◌};
-ghost use Rattle.fare_net.specs.Sources.{Advances};
+ghost use Rattle.fare_net.specs.Sources.{Listens};
 ghost use Rattle.fare_serve.specs.Lines.{IsUnheard};
 
 use crate::limits::Limits;
@@ -51,7 +51,7 @@ impl Guest {
 
     // Reads it once; whether its greeting, or that there is none, is known now.
     pub(crate) fn is_heard(&mut self) -> bool
-        ensures { Advances self.old self.new }
+        ensures { Listens self.old self.new }
     {
         self.reads = self.reads.saturating_add(1);
         self.source.is_ready()

@@ -38,15 +38,15 @@ fn lend(alloc: Global, seat: &mut Seat) -> Result<LineSource, AllocError>
     }
 }
 
-// A shift of a line: the whole, or as much as a round takes.
-fn shift_of(source: LineSource, whole: bool, patience: u32) -> Shift<LineSource>
+// A shift of a line: the whole, or as much as a round takes, whose gate ends it.
+fn shift_of(source: LineSource, whole: bool) -> Shift<LineSource>
     ensures source { result.source ≡ source }
     ensures fresh { IsFresh whole result }
 {
     if whole {
         Shift::whole(source)
     } else {
-        Shift::new(source, u64::from(patience.max(1)), MOST_FRAMES)
+        Shift::new(source, u64::MAX, MOST_FRAMES)
     }
 }
 
@@ -54,7 +54,6 @@ fn shift_of(source: LineSource, whole: bool, patience: u32) -> Shift<LineSource>
 pub(crate) fn lend_all(
     alloc: Global,
     whole: bool,
-    patience: u32,
     seats: &mut [Seat],
 ) -> Result<Vec<Shift<LineSource>>, AllocError>
     ensures each { IfOk result (λ shifts. vec_len shifts ≡ length seats.old) }
@@ -64,7 +63,7 @@ pub(crate) fn lend_all(
     let mut shifts = Vec::with_capacity(alloc, seats.len())?;
     for place in 0..seats.len() {
         let source = lend(alloc, &mut seats[place])?;
-        shifts.push_reserved(shift_of(source, whole, patience));
+        shifts.push_reserved(shift_of(source, whole));
     }
     Ok(shifts)
 }
@@ -86,7 +85,7 @@ fn fault_of(station: StationId, faults: &[(usize, SessionFault)]) -> Option<Sess
     None
 }
 
-// Takes a station's line back into its seat, unless it broke or is over.
+// Takes a station's line back into its seat, unless it broke or is over. What it was answered goes out before.
 fn take_back<R: Eprint>(
     rt: &R,
     whole: bool,
@@ -98,7 +97,8 @@ fn take_back<R: Eprint>(
 {
     let (collector, shift) = station.into_parts();
     let id = collector.station();
-    let source = shift.into_source();
+    let mut source = shift.into_source();
+    source.flush();
     if !seat.is_lent() {
         return;
     }

@@ -11,8 +11,8 @@ pub struct Limits {
     pub write_millis: u32,
     /// How many rounds are served at most; one is always served.
     pub rounds: u32,
-    /// After how many reads in a row that brought no frame a line waits for the next round; at least 1. Where there is
-    /// only one round each line is read to its end.
+    /// For how many reads, of so many milliseconds each, no line may bring anything before a round's lines are read no
+    /// more; at least 1. Where there is only one round each line is read to its end.
     pub patience: u32,
     /// After how many milliseconds of a round the stations' lines are read no more; at least 1. Where there is only one
     /// round each line is read to its end.

@@ -76,7 +76,7 @@ fn hold_round<O: Outbox + Send, L: Ledger + Send, R: Threads + Wait + Clock + Ep
     ensures fault { IfErr result (λ fault. fault ≢ ServeFault.Write) }
 {
     let gate = RoundGate::new(rt, whole, limits);
-    let shifts = lend_all(alloc, whole, limits.patience, &mut lines.seats)?;
+    let shifts = lend_all(alloc, whole, &mut lines.seats)?;
     let stations = match stations_of(alloc, &hub.scheme, shifts) {
         Ok(stations) => stations,
         Err(StationsFault::Memory) => return Err(ServeFault::Memory),
@@ -123,15 +123,15 @@ fn hold_rounds<O: Outbox + Send, L: Ledger + Send, R: Threads + Wait + Clock + E
 ///
 /// A round is a session of all stations and then one of each owner. There are as many as the limits say, at least one;
 /// fewer where a file is named, and is there when a round has ended. Where there is but one round, and no file is
-/// named, each line is read to its end; else in shifts, one a round: a line that is quiet waits for the next round, and
-/// once a round has lasted so many milliseconds as the limits say no line is read in it any more, and each goes on in
-/// the next one. Where the clock fails a round has no such end. Before the first round connections are taken until each
-/// station has one, in at most so many attempts as there are turns; before each other those that have come, and where
-/// no station has a line, a short while is waited for one. At most 16 connections wait for their greeting at once, each
-/// for at most 100 reads. One that doesn't greet, or not as a device of the scheme, is let go, and so is a second one
-/// of a station before the first round, unless the first is over. Between rounds the newer line of a station replaces
-/// the older one. A station that has no line takes part in a round with one that is at its end; one whose line has
-/// ended or broken has none till its validator comes again.
+/// named, each line is read to its end; else in shifts, one a round: all lines are read until none of them has brought
+/// anything for as long as `patience` reads may take, or the round has lasted so many milliseconds as the limits say,
+/// and each goes on in the next one. Where the clock fails each line is read once a round. Before the first round
+/// connections are taken until each station has one, in at most so many attempts as there are turns; before each other
+/// those that have come, and where no station has a line, a short while is waited for one. At most 16 connections wait
+/// for their greeting at once, each for at most 100 reads. One that doesn't greet, or not as a device of the scheme, is
+/// let go, and so is a second one of a station before the first round, unless the first is over. Between rounds the
+/// newer line of a station replaces the older one. A station that has no line takes part in a round with one that is at
+/// its end; one whose line has ended or broken has none till its validator comes again.
 ///
 /// `Memory` or `Store` where that is the first such fault of a session, in their order, and none follows it then; `Memory`
 /// also where there is none for a line's seat, a station or a session's list of faults, or for the text; nothing was

@@ -401,7 +401,7 @@ impl Write for Room<'_> {
     }
 }
 
-// What three answers of a source came to whose writer takes so many bytes; and how many it took.
+// What three answers of a source came to, each sent behind it, whose writer takes so many bytes; and how many it took.
 fn answers_with(alloc: Global, room: usize) -> Option<([Result<(), SourceFault>; 3], usize)> {
     let frame = acked()?;
     let mut written = Vec::new(alloc);
@@ -410,11 +410,11 @@ fn answers_with(alloc: Global, room: usize) -> Option<([Result<(), SourceFault>;
         written: &mut written,
     };
     let mut source = NetSource::new(alloc, io::empty(), writer, 1).ok()?;
-    let answers = [
-        source.answer(&frame),
-        source.answer(&frame),
-        source.answer(&frame),
-    ];
+    let mut answers = [Ok(()); 3];
+    for answer in &mut answers {
+        *answer = source.answer(&frame);
+        source.flush();
+    }
     drop(source);
     Some((answers, written.len()))
 }
@@ -424,9 +424,8 @@ fn no_answer_follows_one_that_failed(rt: HostRuntime) {
     let failed = Err(SourceFault::Failed);
     for room in 0..46usize {
         let want = match room {
-            0..15 => [failed, failed, failed],
-            15..30 => [Ok(()), failed, failed],
-            30..45 => [Ok(()), Ok(()), failed],
+            0..15 => [Ok(()), failed, failed],
+            15..30 => [Ok(()), Ok(()), failed],
             _ => [Ok(()), Ok(()), Ok(())],
         };
         same(
@@ -434,5 +433,88 @@ fn no_answer_follows_one_that_failed(rt: HostRuntime) {
             &answers_with(rt.alloc(), room),
             &Some((want, room.min(45))),
         );
+    }
+}
+
+/// Notes how many bytes each write brings.
+#[derive(Drop)]
+struct Noted<'a> {
+    sizes: &'a mut Vec<usize>,
+}
+
+impl Write for Noted<'_> {
+    fn write(&mut self, buf: &[u8]) -> io::Result<usize> {
+        match self.sizes.push(buf.len()) {
+            Ok(()) => Ok(buf.len()),
+            Err(_) => Err(ErrorKind::OutOfMemory.into()),
+        }
+    }
+
+    fn flush(&mut self) -> io::Result<()> {
+        Ok(())
+    }
+}
+
+/// What a source is asked between its answers.
+#[derive(Clone, Copy, PartialEq, Eq, Debug)]
+enum Asked {
+    Nothing,
+    Flush,
+    /// Whether it is ready, where it has to read for it.
+    Ready,
+    /// Whether it is ready, where a frame is there.
+    ReadyBefore,
+    /// The next frame, for which it has to read.
+    Next,
+}
+
+// How many bytes each write brought of a source that gave one of two frames, or none, and was handed so many answers
+// before it was asked and one afterwards; then it is dropped.
+fn writes_with(alloc: Global, asked: Asked, count: usize) -> Option<Vec<usize>> {
+    let frame = acked()?;
+    let mut sizes = Vec::new(alloc);
+    let bytes = two();
+    let read: &[u8] = if asked == Asked::ReadyBefore {
+        &bytes
+    } else {
+        &[]
+    };
+    let mut source = NetSource::new(alloc, read, Noted { sizes: &mut sizes }, 2).ok()?;
+    if asked == Asked::ReadyBefore {
+        source.next().ok()?;
+    }
+    for _ in 0..count {
+        source.answer(&frame).ok()?;
+    }
+    match asked {
+        Asked::Nothing => {}
+        Asked::Flush => source.flush(),
+        Asked::Ready | Asked::ReadyBefore => {
+            source.is_ready();
+        }
+        Asked::Next => {
+            source.next().ok()?;
+        }
+    }
+    source.answer(&frame).ok()?;
+    drop(source);
+    Some(sizes)
+}
+
+// An acknowledgement has 15 bytes, and 4,096 wait at most.
+#[test]
+fn answers_go_out_together(rt: HostRuntime) {
+    const CASES: [(Asked, usize, &[usize]); 7] = [
+        (Asked::Nothing, 3, &[60]),
+        (Asked::Flush, 3, &[45, 15]),
+        (Asked::Ready, 3, &[45, 15]),
+        (Asked::ReadyBefore, 3, &[60]),
+        (Asked::Next, 3, &[45, 15]),
+        (Asked::Nothing, 270, &[4_050, 15]),
+        (Asked::Next, 600, &[4_050, 4_050, 900, 15]),
+    ];
+    for &(asked, count, sizes) in &CASES {
+        let seen = writes_with(rt.alloc(), asked, count).expect(&rt, "memory");
+        same(&rt, &(asked, seen.as_slice()), &(asked, sizes));
     }
 }

@@ -1,5 +1,5 @@
 //! Serving in rounds over sockets: a validator that comes late, one that breaks and comes again, a newer line, and
-//! lines that don't fall quiet.
+//! lines that don't fall quiet, alone and beside one that does.
 ghost use Rattle.fare_sessions.specs.Stores.{HasLedgers};
 
 use crate::checking::same;
@@ -15,12 +15,13 @@ use std::alloc::Global;
 use std::fs;
 use std::io::{Read, Write};
 use std::net::{Net, SocketAddr, TcpListener, TcpStream};
+use std::process::Abort;
 use std::sync::Wait;
 use std::thread::{self, Threads};
 use std::time::{Clock, Duration};
 
-// A read waits 5 milliseconds, and a line that is quiet for two of them waits for the next round; so does any line
-// after 20 milliseconds of a round.
+// A read waits 5 milliseconds; a round goes on to the owners where no line brought anything for two of them, or after 20
+// milliseconds.
 const LIMITS: Limits = Limits {
     turns: 100,
     read_millis: 5,
@@ -28,6 +29,12 @@ const LIMITS: Limits = Limits {
     rounds: 2_000,
     patience: 2,
     round_millis: 20,
+};
+
+// Rounds that last as long as a line brings something.
+const LONG_ROUNDS: Limits = Limits {
+    round_millis: 60_000,
+    ..LIMITS
 };
 
 // How many taps a line that goes on brings, and how many at most where it goes on till it is let go.
@@ -51,6 +58,8 @@ enum Play {
     GoesOn,
     /// It goes on so also where serving is told to end, till its line is let go.
     GoesOnToTheEnd,
+    /// It goes on so in a long round, and that of device 2, which has come too, sends a tap after it was quiet for a while.
+    SpeaksBeside,
 }
 
 fn device(number: u64) -> Option<DeviceId> {
@@ -91,6 +100,21 @@ fn go_on_to_the_end(host: &HostRuntime, stream: &mut TcpStream, path: &str) -> O
         Some(()) => None,
         None => Some(()),
     }
+}
+
+// Goes on till the second tap of device 2 is acknowledged on the other line. None where it isn't, or a line is over before.
+fn go_on_beside(alloc: Global, stream: &mut TcpStream, other: &mut TcpStream) -> Option<()> {
+    let mut wanted = Vec::new(alloc);
+    Frame::Acked(Ack::new(device(2)?, 2)).put(&mut wanted).ok()?;
+    other.set_read_timeout(Some(Duration::from_millis(1))).ok()?;
+    for link in TAPS + 1..=MOST_TAPS {
+        tap(alloc, stream, 1, link)?;
+        let mut bytes = [0u8; 15];
+        if other.read_exact(&mut bytes).is_ok() && bytes.as_slice() == wanted.as_slice() {
+            return Some(());
+        }
+    }
+    None
 }
 
 // A line of a device, on which these taps were sent.
@@ -171,6 +195,13 @@ fn perform<R: Net<Listener = TcpListener, Stream = TcpStream>>(
             hears(alloc, &mut first, 1, TAPS)
         }
         Play::GoesOnToTheEnd => go_on_to_the_end(host, &mut first, path),
+        Play::SpeaksBeside => {
+            let mut second = dial(rt, alloc, address, 2, &[1])?;
+            hears(alloc, &mut second, 2, 1)?;
+            go_on(host, &mut first, 2, TAPS)?;
+            tap(alloc, &mut second, 2, 2)?;
+            go_on_beside(alloc, &mut first, &mut second)
+        }
     }
 }
 
@@ -191,6 +222,7 @@ fn serve_until<R: Threads + Wait + Clock + Eprint + Sync>(
     rt: &R,
     listener: &TcpListener,
     hub: Hub<PlainOutbox, PlainLedger>,
+    limits: Limits,
     path: &str,
 ) -> (Result<(), ServeFault>, Vec<u8>)
     requires { HasLedgers hub }
@@ -201,7 +233,7 @@ fn serve_until<R: Threads + Wait + Clock + Eprint + Sync>(
         rt,
         listener,
         &mut hub,
-        LIMITS,
+        limits,
         Some(path),
         &mut output,
     );
@@ -236,6 +268,10 @@ fn played<
     let scheme = Scheme::demo(alloc, DemoSize::TwoDevices, 4, 4, 4).ok()?;
     let ledger = PlainLedger::new(alloc, &scheme, OwnerId::new(1)?).ok()?;
     let hub = hub_of(alloc, scheme, ledger)?;
+    let limits = match what {
+        Play::SpeaksBeside => LONG_ROUNDS,
+        _ => LIMITS,
+    };
     if hub.scheme.owner_count() != hub.ledgers.len() {
         return None;
     }
@@ -243,7 +279,7 @@ fn played<
         rt,
         || -> (Result<(), ServeFault>, Vec<u8>)
             requires { HasLedgers hub }
-        { serve_until(host, rt, &listener, hub, path) },
+        { serve_until(host, rt, &listener, hub, limits, path) },
         || perform_and_end(host, rt, address, what, path),
     );
     Some((heard, ended, output))
@@ -303,19 +339,33 @@ fn each_tap_of_a_line_that_goes_on_is_stored_once_and_answered(rt: HostRuntime) 
     );
 }
 
+// How a play ends whose number of taps isn't known: serving ended well, and what was stored was taken.
+fn plays_well<
+    R: Net<Listener = TcpListener, Stream = TcpStream>
+        + Threads
+        + Wait
+        + Clock
+        + Eprint
+        + Abort
+        + Sync,
+>(host: &HostRuntime, rt: &R, what: Play, path: &str) {
+    let (heard, ended, output) = played(host, rt, what, path).expect(rt, "memory");
+    let said = std::str::from_utf8(&output).unwrap_or("no text");
+    let stored = stored_in(said).expect(rt, "counts");
+    let wanted = format!(in host.alloc(); "stored {stored}\ntaken 1 {stored}\nleft 0\n").expect(
+        rt, "memory",
+    );
+    same(rt, &(heard, ended, said), &(true, Ok(()), wanted.as_str()));
+}
+
 // Serving ends long before the line does, and what was stored up to there was taken.
 #[test]
 fn a_round_ends_though_a_line_goes_on(rt: HostRuntime) {
-    let seen = played(&rt, &rt, Play::GoesOnToTheEnd, "amid.end");
-    let (let_go, ended, output) = seen.expect(&rt, "memory");
-    let said = std::str::from_utf8(&output).unwrap_or("no text");
-    let stored = stored_in(said).expect(&rt, "counts");
-    let wanted = format!(in rt.alloc(); "stored {stored}\ntaken 1 {stored}\nleft 0\n").expect(
-        &rt, "memory",
-    );
-    same(
-        &rt,
-        &(let_go, ended, said),
-        &(true, Ok(()), wanted.as_str()),
-    );
+    plays_well(&rt, &rt, Play::GoesOnToTheEnd, "amid.end");
+}
+
+// The round goes on as long as one line does, and so does each other line.
+#[test]
+fn a_quiet_line_is_heard_beside_one_that_goes_on(rt: HostRuntime) {
+    plays_well(&rt, &rt, Play::SpeaksBeside, "beside.end");
 }
