@@ -29,7 +29,15 @@ no_command : fault_of hub_app [] ≡ kind.MissingSubcommand ∷ []
 unfolding clap_on_literals
 no_command = refl
 
-no_port : fault_of hub_app (codes "serve" ∷ codes "--turns" ∷ codes "1" ∷ codes "--outbox" ∷ codes "x" ∷ []) ≡ kind.MissingRequiredArgument ∷ []
+plain_serve : fault_of hub_app (codes "serve" ∷ codes "--outbox" ∷ codes "x" ∷ []) ≡ []
+unfolding clap_on_literals
+plain_serve = refl
+
+no_outbox : fault_of hub_app (codes "serve" ∷ codes "--port" ∷ codes "0" ∷ codes "--turns" ∷ codes "1" ∷ []) ≡ kind.MissingRequiredArgument ∷ []
+unfolding clap_on_literals
+no_outbox = refl
+
+no_port : fault_of hub_app (codes "serve" ∷ codes "--port" ∷ codes "65536" ∷ codes "--outbox" ∷ codes "x" ∷ []) ≡ kind.ValueValidation ∷ []
 unfolding clap_on_literals
 no_port = refl
 

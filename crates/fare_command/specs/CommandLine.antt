@@ -1,5 +1,5 @@
 -- The command line, in the words of clap: `replay [--store STORE]`;
--- `serve --port PORT --turns TURNS --outbox PATH [--read-ms MILLIS] [--write-ms MILLIS] [--rounds N] [--until FILE] [--patience N] [--round-ms MILLIS]`;
+-- `serve [--port PORT] [--turns TURNS] --outbox PATH [--read-ms MILLIS] [--write-ms MILLIS] [--rounds N] [--until FILE] [--patience N] [--round-ms MILLIS]`;
 -- and of the stores at a path `close --outbox PATH`, `bill --outbox PATH --owner O --day D`, `settle` with the same words,
 -- `stand --outbox PATH`, and `retire --outbox PATH --owner O --device D`.
 use Rattle.std.specs.Prelude.{◌≡◌, Some, false, true, codes, pos}
@@ -21,10 +21,10 @@ abbrev pub store_rule : Rule
 store_rule = option_rule (codes "store")
 
 abbrev pub port_rule : Rule
-port_rule = record (option_rule (codes "port")) { required = true; parser = Some (vp.Signed (pos 0) (pos 65535)) }
+port_rule = record (option_rule (codes "port")) { parser = Some (vp.Signed (pos 0) (pos 65535)) }
 
 abbrev pub turns_rule : Rule
-turns_rule = record (option_rule (codes "turns")) { required = true; parser = Some (vp.Signed (pos 1) (pos 1000000000)) }
+turns_rule = record (option_rule (codes "turns")) { parser = Some (vp.Signed (pos 1) (pos 1000000000)) }
 
 abbrev pub outbox_rule : Rule
 outbox_rule = record (option_rule (codes "outbox")) { required = true }
@@ -65,7 +65,7 @@ abbrev pub replay_app : App
 replay_app = with_rule (new_app (codes "replay")) store_rule
 
 -- SERVE
--- what it has to be told
+-- where it listens, how often it tries, and where its stores lie
 abbrev pub plain_serve_app : App
 plain_serve_app = with_rule (with_rule (with_rule (new_app (codes "serve")) port_rule) turns_rule) outbox_rule
 

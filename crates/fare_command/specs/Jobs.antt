@@ -25,9 +25,10 @@ abbrev pub IsNumber : ℕ → Option Text → ℕ → Type 0
 IsNumber bits None n = ⊥
 IsNumber bits (Some text) n = ParsesUnsigned {E = ℕ} bits 10 text (Ok n)
 
--- a number of turns
-abbrev pub IsTurns : Option Text → ℕ → Type 0
-IsTurns text n = IsNumber 32 text n × (1 ≤ n) × (n ≤ 1000000000)
+-- the port; 7071 where none is given
+abbrev pub IsPort : Option Text → ℕ → Type 0
+IsPort None port = port ≡ 7071
+IsPort (Some text) port = IsNumber 16 (Some text) port
 
 -- a number from 1 to this one; that one where none is given
 abbrev pub IsGiven : ℕ → ℕ → Option Text → ℕ → Type 0
@@ -65,7 +66,7 @@ IsQuestion name rows (Retire owner device) = (name ≡ codes "retire") × IsOwne
 abbrev pub JobIn : Text → List Row → Job → Type 0
 JobIn name rows (Replay sql) = (name ≡ codes "replay") × IsStore (first_of (codes "store") rows) sql
 JobIn name rows (Serve port turns path read_millis write_millis rounds until patience round_millis) = (name ≡ codes "serve")
-    × IsNumber 16 (first_of (codes "port") rows) port × IsTurns (first_of (codes "turns") rows) turns
+    × IsPort (first_of (codes "port") rows) port × IsGiven 1000000000 2000 (first_of (codes "turns") rows) turns
     × (first_of (codes "outbox") rows ≡ Some path.now)
     × IsMillis 5 (first_of (codes "read-ms") rows) read_millis × IsMillis 1000 (first_of (codes "write-ms") rows) write_millis
     × IsGiven 4294967295 (usual_rounds (first_of (codes "until") rows)) (first_of (codes "rounds") rows) rounds

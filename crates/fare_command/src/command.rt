@@ -26,9 +26,10 @@ fn port_arg<'a>(alloc: Global) -> Arg<'a>
         .long("port")
         .value_name("PORT")
         .action(ArgAction::Set)
-        .required(true)
         .value_parser(clap::value_parser!(u16))
-        .help("The port on 127.0.0.1, 0 to 65,535; with 0 the system chooses one")
+        .help(
+            "The port on 127.0.0.1, 0 to 65,535 (7071 if not given); with 0 the system chooses one",
+        )
 }
 
 /// `--turns TURNS`
@@ -40,9 +41,10 @@ fn turns_arg<'a>(alloc: Global) -> Arg<'a>
         .long("turns")
         .value_name("TURNS")
         .action(ArgAction::Set)
-        .required(true)
         .value_parser(clap::value_parser!(u32).range(1..=1_000_000_000))
-        .help("How often each part tries again before it gives up, 1 to 1,000,000,000")
+        .help(
+            "How often each part tries again before it gives up, 1 to 1,000,000,000 (2,000 if not given)",
+        )
 }
 
 /// `--outbox PATH`
@@ -120,7 +122,7 @@ fn patience_arg<'a>(alloc: Global) -> Arg<'a>
         .action(ArgAction::Set)
         .value_parser(clap::value_parser!(u32).range(1..=1_000_000_000))
         .help(
-            "After how many quiet reads of a line the round goes on, 1 to 1,000,000,000 (2 if not given)",
+            "For how many reads no line may bring anything before the round goes on, 1 to 1,000,000,000 (2 if not given)",
         )
 }
 
@@ -187,7 +189,7 @@ fn replay_command<'a>(alloc: Global) -> Result<Command<'a>, AllocError>
         .arg(store_arg(alloc))
 }
 
-/// `serve`, with what it has to be told.
+/// `serve`, with where it listens, how often it tries, and where its stores lie.
 fn plain_serve_command<'a>(alloc: Global) -> Result<Command<'a>, AllocError>
     ensures { IfOk result (IsMade plain_serve_app) }
 {

@@ -2,7 +2,7 @@ ghost use Rattle.std.specs.Prelude.{◌≡◌, ℕ, Bool, None, IfOk, IfErr, map
 ghost use Rattle.clap.specs.Words.{rows_of, found_of, first_of, subcommand_of, subcommand_rows_of};
 ghost use Rattle.clap.specs.Values.{kind_of};
 ghost use Rattle.fare_command.specs.CommandLine.{hub_app};
-ghost use Rattle.fare_command.specs.Jobs.{IsDayIn, IsDeviceIn, IsGiven, IsOwnerIn, IsStore, IsNumber, IsTurns, JobIn, JobOf, RefusedFor, FailsOn, IsSound, Tells};
+ghost use Rattle.fare_command.specs.Jobs.{IsDayIn, IsDeviceIn, IsGiven, IsOwnerIn, IsPort, IsStore, JobIn, JobOf, RefusedFor, FailsOn, IsSound, Tells};
 ghost use Rattle.fare_command.specs.declared.words.WordsFault.TheVariants.{Memory};
 
 use crate::command::hub_command;
@@ -12,8 +12,13 @@ use fare_record::{Day, DeviceId, OwnerId};
 use std::alloc::{AllocError, Global};
 use thiserror::Error;
 
-/// The most turns that may be asked for.
+/// The port where no other is asked for.
+const PORT: u16 = 7071;
+
+/// The most turns that may be asked for, and how many they are where nothing else is asked for.
 const MOST_TURNS: u32 = 1_000_000_000;
+
+const TURNS: u32 = 2_000;
 
 /// The most milliseconds that a read or a write of a line may wait, and that the lines of a round may be read.
 const MOST_MILLIS: u32 = 60_000;
@@ -58,8 +63,8 @@ pub enum Job<'a> {
     },
     /// Serve stations on a port of 127.0.0.1, for a number of turns, with the outbox's database at a path; a read of
     /// a line and a write wait so many milliseconds. So many rounds, or up to the one in which a file is there; in
-    /// each a line is read until so many of its reads in a row are quiet, or so many milliseconds of the round have
-    /// passed.
+    /// each the lines are read until none has brought anything for so many reads, or so many milliseconds of the round
+    /// have passed.
     Serve {
         port: u16,
         turns: u32,
@@ -148,33 +153,20 @@ fn store_of(alloc: Global, matches: &ArgMatches<'_>) -> Result<bool, WordsFault>
     }
 }
 
-/// The port.
+/// The port, or the usual one where it is not given.
 fn port_of(alloc: Global, matches: &ArgMatches<'_>) -> Result<u16, WordsFault>
-    ensures ok { IfOk result (IsNumber 16 (first_of (codes "port") (rows_of (found_of matches.now)))) }
-    ensures err { IfErr result (RefusedFor ((n : ℕ) → IsNumber 16 (first_of (codes "port") (rows_of (found_of matches.now))) n → ⊥)) }
+    ensures ok { IfOk result (IsPort (first_of (codes "port") (rows_of (found_of matches.now)))) }
+    ensures err { IfErr result (RefusedFor ((n : ℕ) → IsPort (first_of (codes "port") (rows_of (found_of matches.now))) n → ⊥)) }
 {
-    let text = "error: the port is a number from 0 to 65,535\n";
-    let Some(port) = text_of(matches, "port") else {
-        return Err(WordsFault::Refused(String::from_str(alloc, text)?));
+    let Some(text) = text_of(matches, "port") else {
+        return Ok(PORT);
     };
-    match port.parse::<u16>() {
+    match text.parse::<u16>() {
         Ok(port) => Ok(port),
-        Err(_) => Err(WordsFault::Refused(String::from_str(alloc, text)?)),
-    }
-}
-
-/// The number of turns.
-fn turns_of(alloc: Global, matches: &ArgMatches<'_>) -> Result<u32, WordsFault>
-    ensures ok { IfOk result (IsTurns (first_of (codes "turns") (rows_of (found_of matches.now)))) }
-    ensures err { IfErr result (RefusedFor ((n : ℕ) → IsTurns (first_of (codes "turns") (rows_of (found_of matches.now))) n → ⊥)) }
-{
-    let text = "error: the turns are a number from 1 to 1,000,000,000\n";
-    let Some(turns) = text_of(matches, "turns") else {
-        return Err(WordsFault::Refused(String::from_str(alloc, text)?));
-    };
-    match turns.parse::<u32>() {
-        Ok(turns) if turns >= 1 && turns <= MOST_TURNS => Ok(turns),
-        _ => Err(WordsFault::Refused(String::from_str(alloc, text)?)),
+        Err(_) => {
+            let text = "error: the port is a number from 0 to 65,535\n";
+            Err(WordsFault::Refused(String::from_str(alloc, text)?))
+        }
     }
 }
 
@@ -283,7 +275,7 @@ fn serve_job<'a>(alloc: Global, matches: &ArgMatches<'a>) -> Result<Job<'a>, Wor
     ensures err { IfErr result (RefusedFor ((job : Job) → JobIn (codes "serve") (rows_of (found_of matches.now)) job → ⊥)) }
 {
     let port = port_of(alloc, matches)?;
-    let turns = turns_of(alloc, matches)?;
+    let turns = given_of(alloc, matches, "turns", MOST_TURNS, TURNS)?;
     let path = path_of(alloc, matches)?;
     let read_millis = given_of(alloc, matches, "read-ms", MOST_MILLIS, READ_MILLIS)?;
     let write_millis = given_of(alloc, matches, "write-ms", MOST_MILLIS, WRITE_MILLIS)?;

@@ -70,6 +70,45 @@ fn reads_jobs(rt: HostRuntime) -> Result<(), Fail> {
 }
 
 #[test]
+fn serves_with_what_is_usual(rt: HostRuntime) -> Result<(), Fail> {
+    // The words behind the outbox, the port, and the turns.
+    const CASES: [(&[&str], (u16, u32)); 4] = [
+        (&[], (7_071, 2_000)),
+        (&["--turns", "1"], (7_071, 1)),
+        (&["--port", "0"], (0, 2_000)),
+        (&["--port=1", "--turns=1000000000"], (1, 1_000_000_000)),
+    ];
+    for &(options, want) in &CASES {
+        let mut words = Vec::new(rt.alloc());
+        words.extend_from_slice(&["serve", "--outbox", "x"])?;
+        words.extend_from_slice(options)?;
+        match read_words(rt.alloc(), &words)? {
+            Job::Serve {
+                port,
+                turns,
+                path,
+                read_millis,
+                write_millis,
+                rounds,
+                until,
+                patience,
+                round_millis,
+            } => {
+                same(&rt, &((port, turns), path), &(want, "x"));
+                same(
+                    &rt,
+                    &(read_millis, write_millis, round_millis),
+                    &(5, 1_000, 1_000),
+                );
+                same(&rt, &(rounds, until, patience), &(1, None, 2));
+            }
+            Job::Replay { .. } | Job::Ask { .. } => panic!(rt; "not a server"),
+        }
+    }
+    Ok(())
+}
+
+#[test]
 fn reads_how_long_to_serve(rt: HostRuntime) -> Result<(), Fail> {
     const ALL: u32 = 4_294_967_295;
     const CASES: [(&[&str], (u32, Option<&str>), (u32, u32)); 5] = [
@@ -207,10 +246,10 @@ fn refuses_words(rt: HostRuntime) -> Result<(), Fail> {
             "cannot be used multiple times",
         ),
         (&["serve", "--port", "1", "--turns", "1"], "--outbox <PATH>"),
-        (&["serve", "--turns", "1", "--outbox", "x"], "--port <PORT>"),
+        (&["serve"], "--outbox <PATH>"),
         (
-            &["serve", "--port", "1", "--outbox", "x"],
-            "--turns <TURNS>",
+            &["serve", "--port", "1", "--outbox", "x", "--turns"],
+            "a value is required for '--turns <TURNS>'",
         ),
         (
             &["serve", "--port", "65536", "--turns", "1", "--outbox", "x"],
@@ -313,7 +352,7 @@ fn shows_help_and_version(rt: HostRuntime) -> Result<(), Fail> {
         (&["replay", "--help"], "Usage: fare_hub replay [OPTIONS]"),
         (
             &["help", "serve"],
-            "Usage: fare_hub serve [OPTIONS] --port <PORT> --turns <TURNS> --outbox <PATH>",
+            "Usage: fare_hub serve [OPTIONS] --outbox <PATH>",
         ),
         (&["help", "serve"], "--round-ms <MILLIS>"),
     ];
