@@ -1,6 +1,6 @@
 use crate::limits::Limits;
 use fare_session::{Gate, Point};
-use std::sync::atomic::{AtomicU64, Ordering};
+use std::sync::atomic::{AtomicBool, AtomicU64, Ordering};
 use std::time::{Clock, Instant};
 
 /// The gate of a round: no thread is held, and one that waits for long naps. The stations are read no more once none of
@@ -17,6 +17,8 @@ pub(crate) struct RoundGate<'a, R> {
     quiet: u64,
     // how many milliseconds had passed when a line brought something last
     last: AtomicU64,
+    // a station has seen that it is over: so it is for the others too, whatever their lines still bring
+    over: AtomicBool,
 }
 
 impl<'a, R: Clock> RoundGate<'a, R> {
@@ -30,6 +32,7 @@ impl<'a, R: Clock> RoundGate<'a, R> {
             most: u64::from(limits.round_millis),
             quiet,
             last: AtomicU64::new(0),
+            over: AtomicBool::new(false),
         }
     }
 
@@ -37,6 +40,16 @@ impl<'a, R: Clock> RoundGate<'a, R> {
     fn passed(&self) -> Option<u64> {
         let now = Instant::now(self.rt).ok()?;
         u64::try_from(now.duration_since(self.begin?).as_millis()).ok()
+    }
+
+    // Whether no line has brought anything for long enough, or it has lasted long enough; also where the clock fails, so
+    // that each line is read once a round then.
+    fn has_lasted(&self) -> bool {
+        let Some(passed) = self.passed() else {
+            return true;
+        };
+        let quiet = passed.saturating_sub(self.last.load(Ordering::SeqCst));
+        passed >= self.most || quiet >= self.quiet
     }
 }
 
@@ -54,15 +67,13 @@ impl<'a, R: Clock> Gate for RoundGate<'a, R> {
         true
     }
 
-    // Where the clock fails each line is read once a round.
     fn is_over(&self) -> bool {
         if self.whole {
             return false;
         }
-        let Some(passed) = self.passed() else {
-            return true;
-        };
-        let quiet = passed.saturating_sub(self.last.load(Ordering::SeqCst));
-        passed >= self.most || quiet >= self.quiet
+        if self.has_lasted() {
+            self.over.store(true, Ordering::SeqCst);
+        }
+        self.over.load(Ordering::SeqCst)
     }
 }
