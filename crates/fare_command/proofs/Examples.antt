@@ -65,6 +65,14 @@ no_round : fault_of hub_app (codes "serve" ∷ codes "--port" ∷ codes "1" ∷ 
 unfolding clap_on_literals
 no_round = refl
 
+scheme : fault_of hub_app (codes "serve" ∷ codes "--scheme" ∷ codes "y" ∷ codes "--outbox" ∷ codes "x" ∷ []) ≡ []
+unfolding clap_on_literals
+scheme = refl
+
+scheme_of_stores : fault_of hub_app (codes "stand" ∷ codes "--outbox" ∷ codes "x" ∷ codes "--scheme" ∷ codes "y" ∷ []) ≡ []
+unfolding clap_on_literals
+scheme_of_stores = refl
+
 bill : fault_of hub_app (codes "bill" ∷ codes "--outbox" ∷ codes "x" ∷ codes "--owner" ∷ codes "65535" ∷ codes "--day" ∷ codes "0" ∷ []) ≡ []
 unfolding clap_on_literals
 bill = refl

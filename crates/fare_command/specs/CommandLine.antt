@@ -1,7 +1,8 @@
 -- The command line, in the words of clap: `replay [--store STORE]`;
--- `serve [--port PORT] [--turns TURNS] --outbox PATH [--read-ms MILLIS] [--write-ms MILLIS] [--rounds N] [--until FILE] [--patience N] [--round-ms MILLIS]`;
--- and of the stores at a path `close --outbox PATH`, `bill --outbox PATH --owner O --day D`, `settle` with the same words,
--- `stand --outbox PATH`, and `retire --outbox PATH --owner O --device D`.
+-- `serve [--port PORT] [--turns TURNS] --outbox PATH [--scheme FILE] [--read-ms MILLIS] [--write-ms MILLIS] [--rounds N] [--until FILE] [--patience N] [--round-ms MILLIS]`;
+-- and of the stores at a path `close --outbox PATH [--scheme FILE]`, `bill --outbox PATH [--scheme FILE] --owner O --day D`,
+-- `settle` with the same words, `stand --outbox PATH [--scheme FILE]`, and
+-- `retire --outbox PATH [--scheme FILE] --owner O --device D`.
 use Rattle.std.specs.Prelude.{◌≡◌, Some, false, true, codes, pos}
 use Rattle.clap.specs.Words.{App, Rule, Text, app_of, new_app, new_rule, with_rule, with_subcommand}
 use Rattle.clap.specs.declared.builder.command.Command.{Command}
@@ -28,6 +29,9 @@ turns_rule = record (option_rule (codes "turns")) { parser = Some (vp.Signed (po
 
 abbrev pub outbox_rule : Rule
 outbox_rule = record (option_rule (codes "outbox")) { required = true }
+
+abbrev pub scheme_rule : Rule
+scheme_rule = option_rule (codes "scheme")
 
 -- a number of milliseconds, 1 to 60,000
 abbrev pub millis_rule : Text → Rule
@@ -65,9 +69,9 @@ abbrev pub replay_app : App
 replay_app = with_rule (new_app (codes "replay")) store_rule
 
 -- SERVE
--- where it listens, how often it tries, and where its stores lie
+-- where it listens, how often it tries, and where its stores and its scheme lie
 abbrev pub plain_serve_app : App
-plain_serve_app = with_rule (with_rule (with_rule (new_app (codes "serve")) port_rule) turns_rule) outbox_rule
+plain_serve_app = with_rule (with_rule (with_rule (with_rule (new_app (codes "serve")) port_rule) turns_rule) outbox_rule) scheme_rule
 
 -- and how long it waits
 abbrev pub waiting_serve_app : App
@@ -78,9 +82,9 @@ abbrev pub serve_app : App
 serve_app = with_rule (with_rule (with_rule (with_rule waiting_serve_app rounds_rule) until_rule) patience_rule) round_rule
 
 -- QUESTIONS
--- of the stores at a path
+-- of the stores at a path, for a scheme
 abbrev pub stores_app : Text → App
-stores_app name = with_rule (new_app name) outbox_rule
+stores_app name = with_rule (with_rule (new_app name) outbox_rule) scheme_rule
 
 -- and of an owner's day
 abbrev pub day_app : Text → App

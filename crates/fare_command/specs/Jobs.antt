@@ -65,15 +65,17 @@ IsQuestion name rows (Retire owner device) = (name ≡ codes "retire") × IsOwne
 -- the job of a subcommand with these matches
 abbrev pub JobIn : Text → List Row → Job → Type 0
 JobIn name rows (Replay sql) = (name ≡ codes "replay") × IsStore (first_of (codes "store") rows) sql
-JobIn name rows (Serve port turns path read_millis write_millis rounds until patience round_millis) = (name ≡ codes "serve")
+JobIn name rows (Serve port turns path scheme read_millis write_millis rounds until patience round_millis) = (name ≡ codes "serve")
     × IsPort (first_of (codes "port") rows) port × IsGiven 1000000000 2000 (first_of (codes "turns") rows) turns
     × (first_of (codes "outbox") rows ≡ Some path.now)
+    × (option_map (λ file. file.now) scheme ≡ first_of (codes "scheme") rows)
     × IsMillis 5 (first_of (codes "read-ms") rows) read_millis × IsMillis 1000 (first_of (codes "write-ms") rows) write_millis
     × IsGiven 4294967295 (usual_rounds (first_of (codes "until") rows)) (first_of (codes "rounds") rows) rounds
     × (option_map (λ file. file.now) until ≡ first_of (codes "until") rows)
     × IsGiven 1000000000 2 (first_of (codes "patience") rows) patience
     × IsMillis 1000 (first_of (codes "round-ms") rows) round_millis
-JobIn name rows (Ask path question) = (first_of (codes "outbox") rows ≡ Some path.now) × IsQuestion name rows question
+JobIn name rows (Ask path scheme question) = (first_of (codes "outbox") rows ≡ Some path.now)
+    × (option_map (λ file. file.now) scheme ≡ first_of (codes "scheme") rows) × IsQuestion name rows question
 
 -- the job of the matches of the words
 abbrev pub JobOf : Option (Text × List Row) → Job → Type 0

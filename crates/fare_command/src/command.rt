@@ -1,6 +1,6 @@
 ghost use Rattle.std.specs.Prelude.{◌≡◌, IfOk, false, codes};
 ghost use Rattle.clap.specs.Words.{App, app_of, rule_of, with_subcommand};
-ghost use Rattle.fare_command.specs.CommandLine.{IsMade, asking_app, base_app, day_app, day_rule, device_rule, hub_app, lane_app, outbox_rule, owner_rule, patience_rule, plain_serve_app, port_rule, read_rule, replay_app, round_rule, rounds_rule, running_app, serve_app, standing_app, store_rule, stores_app, turns_rule, until_rule, waiting_serve_app, write_rule};
+ghost use Rattle.fare_command.specs.CommandLine.{IsMade, asking_app, base_app, day_app, day_rule, device_rule, hub_app, lane_app, outbox_rule, owner_rule, patience_rule, plain_serve_app, port_rule, read_rule, replay_app, round_rule, rounds_rule, running_app, scheme_rule, serve_app, standing_app, store_rule, stores_app, turns_rule, until_rule, waiting_serve_app, write_rule};
 
 use clap::{Arg, ArgAction, Command};
 use std::alloc::{AllocError, Global};
@@ -58,6 +58,18 @@ fn outbox_arg<'a>(alloc: Global) -> Arg<'a>
         .action(ArgAction::Set)
         .required(true)
         .help("The database of the outbox; owner O's ledger lies at PATH.O")
+}
+
+/// `--scheme FILE`
+fn scheme_arg<'a>(alloc: Global) -> Arg<'a>
+    ensures rule { rule_of result ≡ scheme_rule }
+    ensures local { result.global ≡ false }
+{
+    Arg::new(alloc, "scheme")
+        .long("scheme")
+        .value_name("FILE")
+        .action(ArgAction::Set)
+        .help("The file of the scheme's lines (standard input if not given)")
 }
 
 /// `--read-ms MILLIS`
@@ -189,7 +201,7 @@ fn replay_command<'a>(alloc: Global) -> Result<Command<'a>, AllocError>
         .arg(store_arg(alloc))
 }
 
-/// `serve`, with where it listens, how often it tries, and where its stores lie.
+/// `serve`, with where it listens, how often it tries, and where its stores and its scheme lie.
 fn plain_serve_command<'a>(alloc: Global) -> Result<Command<'a>, AllocError>
     ensures { IfOk result (IsMade plain_serve_app) }
 {
@@ -199,7 +211,8 @@ fn plain_serve_command<'a>(alloc: Global) -> Result<Command<'a>, AllocError>
         )
         .arg(port_arg(alloc))?
         .arg(turns_arg(alloc))?
-        .arg(outbox_arg(alloc))
+        .arg(outbox_arg(alloc))?
+        .arg(scheme_arg(alloc))
 }
 
 /// `serve`, with how long it waits.
@@ -221,7 +234,7 @@ fn serve_command<'a>(alloc: Global) -> Result<Command<'a>, AllocError>
         .arg(round_arg(alloc))
 }
 
-/// A question of the stores at a path.
+/// A question of the stores at a path, for a scheme.
 fn stores_command<'a>(
     alloc: Global,
     name: &'a str,
@@ -231,7 +244,8 @@ fn stores_command<'a>(
 {
     Command::new(alloc, name)
         .about(about)
-        .arg(outbox_arg(alloc))
+        .arg(outbox_arg(alloc))?
+        .arg(scheme_arg(alloc))
 }
 
 /// A question of an owner's day.

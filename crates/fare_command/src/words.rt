@@ -61,14 +61,15 @@ pub enum Job<'a> {
     Replay {
         sql: bool,
     },
-    /// Serve stations on a port of 127.0.0.1, for a number of turns, with the outbox's database at a path; a read of
-    /// a line and a write wait so many milliseconds. So many rounds, or up to the one in which a file is there; in
-    /// each the lines are read until none has brought anything for so many reads, or so many milliseconds of the round
-    /// have passed.
+    /// Serve stations on a port of 127.0.0.1, for a number of turns, with the outbox's database at a path, for the scheme
+    /// whose lines are in a file, or else on standard input; a read of a line and a write wait so many milliseconds. So
+    /// many rounds, or up to the one in which a file is there; in each the lines are read until none has brought anything
+    /// for so many reads, or so many milliseconds of the round have passed.
     Serve {
         port: u16,
         turns: u32,
         path: &'a str,
+        scheme: Option<&'a str>,
         read_millis: u32,
         write_millis: u32,
         rounds: u32,
@@ -76,9 +77,11 @@ pub enum Job<'a> {
         patience: u32,
         round_millis: u32,
     },
-    /// Ask something of the stores, the outbox's database of which lies at a path.
+    /// Ask something of the stores, the outbox's database of which lies at a path, for the scheme whose lines are in a
+    /// file, or else on standard input.
     Ask {
         path: &'a str,
+        scheme: Option<&'a str>,
         question: Question,
     },
 }
@@ -277,6 +280,7 @@ fn serve_job<'a>(alloc: Global, matches: &ArgMatches<'a>) -> Result<Job<'a>, Wor
     let port = port_of(alloc, matches)?;
     let turns = given_of(alloc, matches, "turns", MOST_TURNS, TURNS)?;
     let path = path_of(alloc, matches)?;
+    let scheme = text_of(matches, "scheme");
     let read_millis = given_of(alloc, matches, "read-ms", MOST_MILLIS, READ_MILLIS)?;
     let write_millis = given_of(alloc, matches, "write-ms", MOST_MILLIS, WRITE_MILLIS)?;
     let until = text_of(matches, "until");
@@ -288,6 +292,7 @@ fn serve_job<'a>(alloc: Global, matches: &ArgMatches<'a>) -> Result<Job<'a>, Wor
         port,
         turns,
         path,
+        scheme,
         read_millis,
         write_millis,
         rounds,
@@ -303,10 +308,12 @@ fn bill_job<'a>(alloc: Global, matches: &ArgMatches<'a>) -> Result<Job<'a>, Word
     ensures err { IfErr result (RefusedFor ((job : Job) → JobIn (codes "bill") (rows_of (found_of matches.now)) job → ⊥)) }
 {
     let path = path_of(alloc, matches)?;
+    let scheme = text_of(matches, "scheme");
     let owner = owner_of(alloc, matches)?;
     let day = day_of(alloc, matches)?;
     Ok(Job::Ask {
         path,
+        scheme,
         question: Question::Bill { owner, day },
     })
 }
@@ -317,10 +324,12 @@ fn settle_job<'a>(alloc: Global, matches: &ArgMatches<'a>) -> Result<Job<'a>, Wo
     ensures err { IfErr result (RefusedFor ((job : Job) → JobIn (codes "settle") (rows_of (found_of matches.now)) job → ⊥)) }
 {
     let path = path_of(alloc, matches)?;
+    let scheme = text_of(matches, "scheme");
     let owner = owner_of(alloc, matches)?;
     let day = day_of(alloc, matches)?;
     Ok(Job::Ask {
         path,
+        scheme,
         question: Question::Settle { owner, day },
     })
 }
@@ -331,8 +340,10 @@ fn close_job<'a>(alloc: Global, matches: &ArgMatches<'a>) -> Result<Job<'a>, Wor
     ensures err { IfErr result (RefusedFor ((job : Job) → JobIn (codes "close") (rows_of (found_of matches.now)) job → ⊥)) }
 {
     let path = path_of(alloc, matches)?;
+    let scheme = text_of(matches, "scheme");
     Ok(Job::Ask {
         path,
+        scheme,
         question: Question::Close,
     })
 }
@@ -343,8 +354,10 @@ fn stand_job<'a>(alloc: Global, matches: &ArgMatches<'a>) -> Result<Job<'a>, Wor
     ensures err { IfErr result (RefusedFor ((job : Job) → JobIn (codes "stand") (rows_of (found_of matches.now)) job → ⊥)) }
 {
     let path = path_of(alloc, matches)?;
+    let scheme = text_of(matches, "scheme");
     Ok(Job::Ask {
         path,
+        scheme,
         question: Question::Stand,
     })
 }
@@ -355,10 +368,12 @@ fn retire_job<'a>(alloc: Global, matches: &ArgMatches<'a>) -> Result<Job<'a>, Wo
     ensures err { IfErr result (RefusedFor ((job : Job) → JobIn (codes "retire") (rows_of (found_of matches.now)) job → ⊥)) }
 {
     let path = path_of(alloc, matches)?;
+    let scheme = text_of(matches, "scheme");
     let owner = owner_of(alloc, matches)?;
     let device = device_of(alloc, matches)?;
     Ok(Job::Ask {
         path,
+        scheme,
         question: Question::Retire { owner, device },
     })
 }

@@ -1,5 +1,5 @@
 -- What a replay reads and writes.
-use Rattle.std.specs.Prelude.{ℕ, ◌≤◌, List, Option, Result, Ok, Err, IfSome, ◌≡◌, ◌⊎◌, length, Vec}
+use Rattle.std.specs.Prelude.{ℕ, ◌≤◌, List, Option, Some, Result, Ok, Err, IfSome, ◌≡◌, ◌⊎◌, length, Vec}
 use Rattle.std.specs.Global.{Global}
 use Rattle.std.specs.Io.KnownBytes.{Appends, Keeps}
 use Rattle.fare_lines.specs.declared.line.Line.{Line}
@@ -51,6 +51,11 @@ FailsToRead known (BadLine number) = IfSome known (λ input. IsShort input × Fi
 FailsToRead known Memory = Unit {0}
 FailsToRead known Store = ⊥
 FailsToRead known Write = ⊥
+
+-- these bytes are what was read: as lines, or as an input that is none
+abbrev pub IsReadOf : List ℕ → Result (Vec Line Global) ReplayFault → Type 0
+IsReadOf input (Ok lines) = ReadsLines lines.items input
+IsReadOf input (Err fault) = FailsToRead (Some input) fault
 
 -- what each fault says: a store fails and a writer does only where all lines are good; only after Write may something have been written
 abbrev pub ReplayFails : Option (List ℕ) → Option (List ℕ) → Option (List ℕ) → ReplayFault → Type 0

@@ -1,5 +1,5 @@
-ghost use Rattle.std.specs.Prelude.{◌≡◌, ◌≢◌, Err, OnOk, IfOk, IfErr, IfSome};
-ghost use Rattle.fare_replay.specs.Replay.{ReadsAll, ReadsLines, ReplayFails, Replays, FailsToRead, fault_of_parse, fault_of_run};
+ghost use Rattle.std.specs.Prelude.{◌≡◌, ◌≢◌, ℕ, List, Err, OnOk, IfOk, IfErr, IfSome};
+ghost use Rattle.fare_replay.specs.Replay.{IsReadOf, ReadsAll, ReadsLines, ReplayFails, Replays, FailsToRead, fault_of_parse, fault_of_run};
 
 use fare_lines::{Line, ParseFault, parse};
 use fare_trace::{RunFault, StoreKind, answer_text};
@@ -82,10 +82,11 @@ fn read_all<R: Read>(alloc: Global, reader: &mut R) -> Result<Vec<u8>, ReplayFau
 
 /// Reads the lines of a trace to its end. `Read` where the reader fails or has no end within 16,777,216 bytes and
 /// 16,777,217 reads; `BadLine` with the first line that is none; `Memory` where there was none; never `Store` or
-/// `Write`.
+/// `Write`. Also of a reader whose bytes aren't known there are some of which this holds.
 pub fn read_lines<R: Read>(alloc: Global, reader: &mut R) -> Result<Vec<Line>, ReplayFault>
     ensures lines { IfOk result (λ lines. IfSome (R.remaining reader.old) (ReadsLines lines.items)) }
     ensures fails { IfErr result (FailsToRead (R.remaining reader.old)) }
+    ensures some { (input : List ℕ) × IsReadOf input result }
 {
     let bytes = read_all(alloc, reader)?;
     parse(alloc, &bytes).map_err(input_fault)

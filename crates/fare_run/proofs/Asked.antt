@@ -18,7 +18,7 @@ use Rattle.fare_desk.specs.Showing.{AreLaneLines, AreUptoLines}
 use Rattle.fare_desk.specs.declared.fault.DeskFault.{DeskFault}
 use Rattle.fare_desk.specs.declared.fault.DeskFault.TheVariants as desk
 use Rattle.fare_sessions.specs.declared.hub.Hub.{Hub}
-use Rattle.fare_run.specs.Asking.{Answers, AskEnds, AskFails, FailsIn, IsAnswered, KeepsUnlessWrite}
+use Rattle.fare_run.specs.Asking.{Answers, AskEnds, AskFails, FailsIn, IsAnswered, IsAskedOf, KeepsUnlessWrite}
 use Rattle.fare_run.specs.Runs.{IsOfFiles}
 use Rattle.fare_run.specs.Scheming.{SpellsScheme}
 use Rattle.fare_run.specs.declared.ask_failure.AskFailure.{AskFailure}
@@ -56,12 +56,12 @@ not_retire e = third_letters_apart (ap (λ (l : List ℕ). slice_index_or l 2 0)
 pub no_files : (matched : Option (Text × List Row)) (sql : _) (j : Job) → JobOf matched (job.Replay sql) → JobOf matched j → IsOfFiles j → ⊥
 no_files None sql j replays is files = replays
 no_files (Some m) sql (job.Replay other) replays is files = files
-no_files (Some m) sql (job.Serve port turns path read_millis write_millis rounds until patience round_millis) replays is files = not_serve (sym replays.0 ∙ is.0)
-no_files (Some m) sql (job.Ask path Close) replays is files = not_close (sym replays.0 ∙ is.1)
-no_files (Some m) sql (job.Ask path (Bill owner day)) replays is files = not_bill (sym replays.0 ∙ is.1.0)
-no_files (Some m) sql (job.Ask path (Settle owner day)) replays is files = not_settle (sym replays.0 ∙ is.1.0)
-no_files (Some m) sql (job.Ask path Stand) replays is files = not_stand (sym replays.0 ∙ is.1)
-no_files (Some m) sql (job.Ask path (Retire owner device)) replays is files = not_retire (sym replays.0 ∙ is.1.0)
+no_files (Some m) sql (job.Serve port turns path scheme read_millis write_millis rounds until patience round_millis) replays is files = not_serve (sym replays.0 ∙ is.0)
+no_files (Some m) sql (job.Ask path scheme Close) replays is files = not_close (sym replays.0 ∙ is.2)
+no_files (Some m) sql (job.Ask path scheme (Bill owner day)) replays is files = not_bill (sym replays.0 ∙ is.2.0)
+no_files (Some m) sql (job.Ask path scheme (Settle owner day)) replays is files = not_settle (sym replays.0 ∙ is.2.0)
+no_files (Some m) sql (job.Ask path scheme Stand) replays is files = not_stand (sym replays.0 ∙ is.2)
+no_files (Some m) sql (job.Ask path scheme (Retire owner device)) replays is files = not_retire (sym replays.0 ∙ is.2.0)
 
 -- THE STORES
 module _ {O L : Type 0} (outbox : O → Standing OutboxValue) (ledger : L → Standing LedgerValue) where
@@ -89,6 +89,11 @@ pub asked_failed : (question : Question) (known : Option (List ℕ)) (sc : Schem
 asked_failed question known sc before after (Ok u) spelled is = tt
 asked_failed question known sc before after (Err (Stores why)) spelled is = (is.0, inr (has_scheme known sc spelled, is.1))
 asked_failed question known sc before after (Err (Desk fault)) spelled is = (has_scheme known sc spelled, is)
+
+pub asked_of : (question : Question) (input : List ℕ) (sc : SchemeValue) (before after : Option (List ℕ)) (r : Result (Unit {0}) AskFailure) → SpellsScheme sc input → OnOk r (IsAnswered sc question before after) → IfErr r (FailsIn question before after) → IsAskedOf question before after input r
+asked_of question input sc before after (Ok u) spelled done fails = record { sc = sc; spelled = spelled; writes = done }
+asked_of question input sc before after (Err (Stores why)) spelled done fails = (fails.0, inr ((sc, spelled), fails.1))
+asked_of question input sc before after (Err (Desk fault)) spelled done fails = ((sc, spelled), fails)
 
 -- FAILURES
 pub keeps_unless : (fault : DeskFault) (before after : Option (List ℕ)) → (fault ≢ desk.Write → Keeps before after) → KeepsUnlessWrite fault before after

@@ -12,7 +12,7 @@ use Rattle.fare_serve.specs.Counting.{counts_text}
 use Rattle.fare_serve.specs.declared.fault.ServeFault.{ServeFault}
 use Rattle.fare_serve.specs.declared.fault.ServeFault.TheVariants as serve
 use Rattle.fare_run.specs.Scheming.{MakesNoScheme, SpellsScheme}
-use Rattle.fare_run.specs.Serving.{FailsOver, HasScheme, IsUntold, LeavesStores, ServeEnds, ServeFails, ServesOver, WritesCounts, listening_line, serving_failure}
+use Rattle.fare_run.specs.Serving.{FailsOver, HasScheme, IsUntold, LeavesStores, ServeEnds, ServeFails, IsServedOf, ServesOver, WritesCounts, listening_line, serving_failure}
 use Rattle.fare_run.specs.Stores.{IsOfStores}
 use Rattle.fare_run.specs.declared.serve_failure.ServeFailure.{ServeFailure}
 use Rattle.fare_run.specs.declared.serve_failure.ServeFailure.TheVariants.{Lines, Refused, NoScheme, Memory, Store, Network, Write}
@@ -75,6 +75,10 @@ done_over (Err failure) known old new sc own same spelled done = tt
 pub failed_over : (r : Result (Unit {0}) ServeFailure) (known old new : Option (List ℕ)) (sc : SchemeValue) → IfSome known (SpellsScheme sc) → IfErr r (FailsOver old new) → IfErr r (ServeFails known old new)
 failed_over (Ok u) known old new sc spelled is = tt
 failed_over (Err failure) known old new sc spelled is = fails_over known old new sc failure spelled is
+
+pub served_of : (r : Result (Unit {0}) ServeFailure) (input : List ℕ) (old new : Option (List ℕ)) (sc : SchemeValue) → SpellsScheme sc input → OnOk r (WritesCounts sc old new) → IfErr r (FailsOver old new) → IsServedOf old new input r
+served_of (Ok u) input old new sc spelled done fails = ends (Some input) sc old new spelled done
+served_of (Err failure) input old new sc spelled done fails = fails_over (Some input) old new sc failure spelled fails
 
 -- over stores
 pub over_network : (old : Option (List ℕ)) (failure : ServeFailure) → failure ≡ Network → FailsOver old old failure

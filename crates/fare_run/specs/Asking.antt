@@ -1,5 +1,5 @@
 -- What comes of a question of the stores, or an order.
-use Rattle.std.specs.Prelude.{◌≡◌, ◌≢◌, ◌↔◌, ◌⊎◌, ℕ, false, List, ◌++◌, Option, None, is_some}
+use Rattle.std.specs.Prelude.{◌≡◌, ◌≢◌, ◌↔◌, ◌⊎◌, ℕ, false, List, ◌++◌, Option, None, Some, Result, Ok, Err, is_some}
 use Rattle.std.specs.Io.KnownBytes.{Appends, Keeps}
 use Rattle.std.specs.Map.{keys_of}
 use Rattle.fare_cap.specs.Bills.{BillValue}
@@ -103,3 +103,9 @@ FailsIn question before after (Desk fault) = IsAnsweredAtOnce question → Keeps
 abbrev pub AskFails : Question → Option (List ℕ) → Option (List ℕ) → Option (List ℕ) → AskFailure → Type 0
 AskFails question known before after (Stores why) = Keeps before after × OpensNone known why
 AskFails question known before after (Desk fault) = HasScheme known × (IsAnsweredAtOnce question → KeepsUnlessWrite fault before after)
+
+-- So it ended for these bytes of a scheme's lines: well where they make one and the answer for it was written, or by a
+-- failure that says this of them.
+abbrev pub IsAskedOf : Question → Option (List ℕ) → Option (List ℕ) → List ℕ → Result (Unit {0}) AskFailure → Type 0
+IsAskedOf question before after input (Ok _) = AskEnds question before after input
+IsAskedOf question before after input (Err failure) = AskFails question (Some input) before after failure

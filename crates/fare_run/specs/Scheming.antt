@@ -1,5 +1,5 @@
 -- The scheme that the lines of an input make.
-use Rattle.std.specs.Prelude.{ℕ, List, Option, IfSome}
+use Rattle.std.specs.Prelude.{ℕ, List, Option, Some, Result, Ok, Err, IfSome}
 use Rattle.fare_scheme.specs.Values.{SchemeValue}
 use Rattle.fare_lines.specs.declared.line.Line.{Line}
 use Rattle.fare_replay.specs.Replay.{FailsToRead, ReadsLines}
@@ -30,3 +30,8 @@ MakesNoScheme known Memory = Unit {0}
 MakesNoScheme known Store = ⊥
 MakesNoScheme known Network = ⊥
 MakesNoScheme known Write = ⊥
+
+-- these bytes spell lines that make the scheme, or none, for that reason
+abbrev pub IsSchemeOf : List ℕ → Result SchemeValue ServeFailure → Type 0
+IsSchemeOf input (Ok sc) = SpellsScheme sc input
+IsSchemeOf input (Err failure) = MakesNoScheme (Some input) failure

@@ -1,5 +1,5 @@
 -- How serving ends, by what is known of the input before, and of the output before and after.
-use Rattle.std.specs.Prelude.{◌≡◌, ◌⊎◌, ℕ, ◌++◌, Bool, List, Option, IfSome, codes}
+use Rattle.std.specs.Prelude.{◌≡◌, ◌⊎◌, ℕ, ◌++◌, Bool, List, Option, Some, Result, Ok, Err, IfSome, codes}
 use Rattle.std.specs.Fmt.{decimal}
 use Rattle.std.specs.Io.KnownBytes.{Appends, Keeps}
 use Rattle.fare_scheme.specs.Values.{SchemeValue}
@@ -82,3 +82,9 @@ ServeFails known old new Memory = MayListen old new
 ServeFails known old new Store = MayListen old new × HasScheme known
 ServeFails known old new Network = Keeps old new × HasScheme known
 ServeFails known old new Write = HasScheme known
+
+-- So it ended for these bytes of a scheme's lines: well where they make one and the counts for its owners were written, or
+-- by a failure that says this of them.
+abbrev pub IsServedOf : Option (List ℕ) → Option (List ℕ) → List ℕ → Result (Unit {0}) ServeFailure → Type 0
+IsServedOf old new input (Ok _) = ServeEnds old new input
+IsServedOf old new input (Err failure) = ServeFails (Some input) old new failure

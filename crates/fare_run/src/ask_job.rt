@@ -1,11 +1,11 @@
-ghost use Rattle.std.specs.Prelude.{◌≡◌, length, OnOk, IfErr, IfSome};
-ghost use Rattle.fare_run.specs.Asking.{AskEnds, AskFails, FailsIn, IsAnswered};
+ghost use Rattle.std.specs.Prelude.{◌≡◌, ◌≢◌, ℕ, List, None, length, OnOk, IfErr, IfSome};
+ghost use Rattle.fare_run.specs.Asking.{AskEnds, AskFails, FailsIn, IsAnswered, IsAskedOf};
 ghost use Rattle.fare_run.specs.Databases.{AnswersIn, KeepsIn, Refuses};
 
 use crate::ask_failure::AskFailure;
 use crate::asking::answer_over;
 use crate::left::AskOptions;
-use crate::scheming::read_scheme;
+use crate::scheming::scheme_from;
 use crate::serve_job::{databases_at, of_opening};
 use fare_command::Question;
 use fare_databases::{Absent, Databases, close_files, close_hub, open_hub};
@@ -46,21 +46,24 @@ pub fn ask_databases<S: Alter + Drop, O: Write>(
     }
 }
 
-/// Answers a question of the stores in files at a path, closes their days or retires a lane, for the scheme that the lines of an input
-/// make. A file that isn't there is not made.
+/// Answers a question of the stores in files at a path, closes their days or retires a lane, for the scheme that the lines of
+/// an input make, or of a file where the options name one. A store's file that isn't there is not made.
 ///
-/// `Stores` where the input makes no scheme, or where the stores can't be opened: nothing is written then. `Desk` as
-/// `answer_over` says.
+/// `Stores` where the lines can't be read or make no scheme, or where the stores can't be opened: nothing is written then. `Desk` as
+/// `answer_over` says. Where a file is named the input is left as it is, and what is said of the input's bytes holds of some
+/// bytes: a file's aren't known.
 pub fn ask<I: Read, O: Write>(
     rt: &HostRuntime,
     options: &AskOptions<'_>,
     input: &mut I,
     output: &mut O,
 ) -> Result<(), AskFailure>
-    ensures done { OnOk result (IfSome (I.remaining input.old) (AskEnds options.now.question (O.contents output.old) (O.contents output.new))) }
-    ensures fails { IfErr result (AskFails options.now.question (I.remaining input.old) (O.contents output.old) (O.contents output.new)) }
+    ensures done { options.now.scheme ≡ None → OnOk result (IfSome (I.remaining input.old) (AskEnds options.now.question (O.contents output.old) (O.contents output.new))) }
+    ensures fails { options.now.scheme ≡ None → IfErr result (AskFails options.now.question (I.remaining input.old) (O.contents output.old) (O.contents output.new)) }
+    ensures some { (bytes : List ℕ) × IsAskedOf options.now.question (O.contents output.old) (O.contents output.new) bytes result }
+    ensures untouched { options.now.scheme ≢ None → input.new ≡ input.old }
 {
-    let scheme = match read_scheme(rt.alloc(), input) {
+    let scheme = match scheme_from(rt, options.scheme, input) {
         Ok(scheme) => scheme,
         Err(failure) => return Err(AskFailure::Stores(failure)),
     };

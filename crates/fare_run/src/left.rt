@@ -8,6 +8,8 @@ pub struct ServeOptions<'a> {
     pub port: u16,
     /// The path of the outbox's database; owner O's ledger lies at this path, a dot and O.
     pub path: &'a str,
+    /// Where the scheme's lines are in a file and not in the input, the file's path.
+    pub scheme: Option<&'a str>,
     /// How often and how long it waits for others, how many rounds it serves, and how long the lines of one are read.
     pub limits: Limits,
     /// Where it is to end after the round in which a file is there, the file's path.
@@ -19,6 +21,8 @@ pub struct ServeOptions<'a> {
 pub struct AskOptions<'a> {
     /// The path of the outbox's database; owner O's ledger lies at this path, a dot and O.
     pub path: &'a str,
+    /// Where the scheme's lines are in a file and not in the input, the file's path.
+    pub scheme: Option<&'a str>,
     /// What is asked, or ordered.
     pub question: Question,
 }

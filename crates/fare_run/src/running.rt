@@ -39,6 +39,7 @@ fn read_work<'a>(alloc: Global, words: &'a [&'a str]) -> Result<Work<'a>, WordsF
             port,
             turns,
             path,
+            scheme,
             read_millis,
             write_millis,
             rounds,
@@ -48,6 +49,7 @@ fn read_work<'a>(alloc: Global, words: &'a [&'a str]) -> Result<Work<'a>, WordsF
         } => Ok(Work::Left(Left::Serve(ServeOptions {
             port,
             path,
+            scheme,
             limits: Limits {
                 turns,
                 read_millis,
@@ -58,7 +60,15 @@ fn read_work<'a>(alloc: Global, words: &'a [&'a str]) -> Result<Work<'a>, WordsF
             },
             until,
         }))),
-        Job::Ask { path, question } => Ok(Work::Left(Left::Ask(AskOptions { path, question }))),
+        Job::Ask {
+            path,
+            scheme,
+            question,
+        } => Ok(Work::Left(Left::Ask(AskOptions {
+            path,
+            scheme,
+            question,
+        }))),
     }
 }
 

@@ -13,7 +13,7 @@ use thiserror::Error;
 /// Why the program did not serve to its end, in the order in which this is found.
 #[derive(Clone, Copy, PartialEq, Eq, Debug, Error)]
 pub enum ServeFailure {
-    /// The input could not be read, is no trace, or there was no memory for it.
+    /// The input, or the scheme's file, could not be opened or read, is no trace, or there was no memory for it.
     #[error("{0}")]
     Lines(ReplayFault),
     /// A scheme line was refused before the scheme was sealed.

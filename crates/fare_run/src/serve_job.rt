@@ -1,10 +1,10 @@
-ghost use Rattle.std.specs.Prelude.{◌≡◌, is_none, length, OnOk, IfOk, IfErr, IfSome};
+ghost use Rattle.std.specs.Prelude.{◌≡◌, ◌≢◌, ℕ, List, None, is_none, length, OnOk, IfOk, IfErr, IfSome};
 ghost use Rattle.fare_run.specs.Databases.{ServesIn};
-ghost use Rattle.fare_run.specs.Serving.{FailsOver, ServeEnds, ServeFails, WritesCounts};
+ghost use Rattle.fare_run.specs.Serving.{FailsOver, IsServedOf, ServeEnds, ServeFails, WritesCounts};
 ghost use Rattle.fare_run.specs.Stores.{IsOfStores};
 
 use crate::left::ServeOptions;
-use crate::scheming::read_scheme;
+use crate::scheming::scheme_from;
 use crate::serve_failure::ServeFailure;
 use crate::serving::serve_over;
 use fare_databases::{
@@ -84,11 +84,12 @@ pub fn serve_databases<
     }
 }
 
-/// Serves the stations of the scheme that the lines of an input make, over the stores in files at a path, in rounds of one
-/// session of the stations and one of each owner. Writes `listening PORT` before it waits for the first line, and the
+/// Serves the stations of the scheme that the lines of an input make, or of a file where the options name one, over the
+/// stores in files at a path, in rounds of one session of the stations and one of each owner. Writes `listening PORT` before it waits for the first line, and the
 /// counts of all rounds at the end.
 ///
-/// Each failure of `ServeFailure` in its order; none but one of the writer comes where a count was written.
+/// Each failure of `ServeFailure` in its order; none but one of the writer comes where a count was written. Where a file is
+/// named the input is left as it is, and what is said of the input's bytes holds of some bytes: a file's aren't known.
 pub fn serve<
     I: Read,
     O: Write,
@@ -100,11 +101,19 @@ pub fn serve<
     input: &mut I,
     output: &mut O,
 ) -> Result<(), ServeFailure>
-    ensures done { OnOk result (IfSome (I.remaining input.old) (ServeEnds (O.contents output.old) (O.contents output.new))) }
-    ensures fails { IfErr result (ServeFails (I.remaining input.old) (O.contents output.old) (O.contents output.new)) }
+    ensures done { options.now.scheme ≡ None → OnOk result (IfSome (I.remaining input.old) (ServeEnds (O.contents output.old) (O.contents output.new))) }
+    ensures fails { options.now.scheme ≡ None → IfErr result (ServeFails (I.remaining input.old) (O.contents output.old) (O.contents output.new)) }
+    ensures some { (bytes : List ℕ) × IsServedOf (O.contents output.old) (O.contents output.new) bytes result }
+    ensures untouched { options.now.scheme ≢ None → input.new ≡ input.old }
 {
-    let scheme = read_scheme(rt.alloc(), input)?;
-    let databases = databases_at(rt, &scheme, options.path, Absent::Made)?;
+    let scheme = match scheme_from(rt, options.scheme, input) {
+        Ok(scheme) => scheme,
+        Err(failure) => return Err(failure),
+    };
+    let databases = match databases_at(rt, &scheme, options.path, Absent::Made) {
+        Ok(databases) => databases,
+        Err(failure) => return Err(failure),
+    };
     let (databases, served) = serve_databases(rt, handles, scheme, databases, options, output);
     close_files(databases);
     served

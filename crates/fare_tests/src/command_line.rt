@@ -44,6 +44,7 @@ fn reads_jobs(rt: HostRuntime) -> Result<(), Fail> {
                 port,
                 turns,
                 path,
+                scheme,
                 read_millis,
                 write_millis,
                 rounds,
@@ -62,6 +63,7 @@ fn reads_jobs(rt: HostRuntime) -> Result<(), Fail> {
                     &(read, write, round),
                 );
                 same(&rt, &(rounds, until, patience), &(1, None, 2));
+                same(&rt, &scheme, &None);
             }
             Job::Replay { .. } | Job::Ask { .. } => panic!(rt; "not a server"),
         }
@@ -87,6 +89,7 @@ fn serves_with_what_is_usual(rt: HostRuntime) -> Result<(), Fail> {
                 port,
                 turns,
                 path,
+                scheme,
                 read_millis,
                 write_millis,
                 rounds,
@@ -101,6 +104,7 @@ fn serves_with_what_is_usual(rt: HostRuntime) -> Result<(), Fail> {
                     &(5, 1_000, 1_000),
                 );
                 same(&rt, &(rounds, until, patience), &(1, None, 2));
+                same(&rt, &scheme, &None);
             }
             Job::Replay { .. } | Job::Ask { .. } => panic!(rt; "not a server"),
         }
@@ -190,9 +194,48 @@ fn reads_questions(rt: HostRuntime) -> Result<(), Fail> {
     ];
     for (words, want) in cases {
         match read_words(rt.alloc(), words)? {
-            Job::Ask { path, question } => same(&rt, &(path, question), &("x", want)),
+            Job::Ask {
+                path,
+                scheme,
+                question,
+            } => same(&rt, &(path, scheme, question), &("x", None, want)),
             Job::Replay { .. } | Job::Serve { .. } => panic!(rt; "not a question"),
         }
+    }
+    Ok(())
+}
+
+// The words of each job that a file's scheme may be for.
+#[test]
+fn reads_which_file_has_the_scheme(rt: HostRuntime) -> Result<(), Fail> {
+    const CASES: [&[&str]; 6] = [
+        &["serve"],
+        &["close"],
+        &["bill", "--owner", "1", "--day", "0"],
+        &["settle", "--owner", "1", "--day", "0"],
+        &["stand"],
+        &["retire", "--owner", "1", "--device", "1"],
+    ];
+    for &job in &CASES {
+        let mut words = Vec::new(rt.alloc());
+        words.extend_from_slice(job)?;
+        words.extend_from_slice(&["--scheme", "the lines", "--outbox=x"])?;
+        match read_words(rt.alloc(), &words)? {
+            Job::Serve { path, scheme, .. } | Job::Ask { path, scheme, .. } => {
+                same(&rt, &(path, scheme), &("x", Some("the lines")));
+            }
+            Job::Replay { .. } => panic!(rt; "a replay"),
+        }
+    }
+    Ok(())
+}
+
+// An empty word is a file's name like any other, of the scheme as of the outbox: what opens it is refused.
+#[test]
+fn reads_empty_names(rt: HostRuntime) -> Result<(), Fail> {
+    match read_words(rt.alloc(), &["stand", "--outbox", "", "--scheme", ""])? {
+        Job::Ask { path, scheme, .. } => same(&rt, &(path, scheme), &("", Some(""))),
+        Job::Replay { .. } | Job::Serve { .. } => panic!(rt; "not a question"),
     }
     Ok(())
 }
@@ -229,7 +272,7 @@ fn refuses_questions(rt: HostRuntime) -> Result<(), Fail> {
 
 #[test]
 fn refuses_words(rt: HostRuntime) -> Result<(), Fail> {
-    const CASES: [(&[&str], &str); 14] = [
+    const CASES: [(&[&str], &str); 17] = [
         (&[], "requires a subcommand"),
         (&["play"], "unrecognized subcommand 'play'"),
         (&["replay", "now"], "unexpected argument 'now' found"),
@@ -247,6 +290,18 @@ fn refuses_words(rt: HostRuntime) -> Result<(), Fail> {
         ),
         (&["serve", "--port", "1", "--turns", "1"], "--outbox <PATH>"),
         (&["serve"], "--outbox <PATH>"),
+        (
+            &["replay", "--scheme", "y"],
+            "unexpected argument '--scheme' found",
+        ),
+        (
+            &["serve", "--outbox", "x", "--scheme"],
+            "a value is required for '--scheme <FILE>'",
+        ),
+        (
+            &["stand", "--outbox", "x", "--scheme=y", "--scheme=y"],
+            "cannot be used multiple times",
+        ),
         (
             &["serve", "--port", "1", "--outbox", "x", "--turns"],
             "a value is required for '--turns <TURNS>'",

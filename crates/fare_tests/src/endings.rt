@@ -145,12 +145,15 @@ fn words_that_ask_to_serve_leave_it_to_do(rt: HostRuntime) {
         "x",
         "--read-ms",
         "20",
+        "--scheme",
+        "y",
     ];
     let (mut input, mut output) = (b"draw\n".as_slice(), Vec::new(rt.alloc()));
     let left = run(rt.alloc(), &words, &mut input, &mut output).expect(&rt, "words");
     let options = ServeOptions {
         port: 7_000,
         path: "x",
+        scheme: Some("y"),
         limits: Limits {
             turns: 9,
             read_millis: 20,
@@ -175,6 +178,7 @@ fn words_that_ask_a_question_leave_it_to_do(rt: HostRuntime) {
     let left = run(rt.alloc(), &words, &mut input, &mut output).expect(&rt, "words");
     let options = AskOptions {
         path: "x",
+        scheme: None,
         question: Question::Stand,
     };
     same(

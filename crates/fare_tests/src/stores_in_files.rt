@@ -7,6 +7,7 @@ use fare_record::{Day, DeviceId, OwnerId};
 use fare_replay::{ReplayFault, replay};
 use fare_run::{AskFailure, AskOptions, ServeFailure, ServeOptions, ask, serve};
 use fare_serve::Limits;
+use std::fs;
 use std::io::{self, ErrorKind, Write};
 use std::net::{Ipv4Addr, Net, Shutdown, TcpListener, TcpStream};
 use std::sync::Wait;
@@ -89,6 +90,7 @@ fn served<
     let options = ServeOptions {
         port: 0,
         path,
+        scheme: None,
         limits: LIMITS,
         until: None,
     };
@@ -127,11 +129,109 @@ fn what_comes_before_serving_writes_nothing(rt: HostRuntime) {
     }
 }
 
+// An input that is no trace: whoever reads it is told so.
+const NO_TRACE: &[u8] = b"tap";
+
+// How serving no line, for the scheme in a file, ended, what was written, and how many bytes of the input are left.
+fn served_from<
+    'a,
+    R: Net<Listener = TcpListener, Stream = TcpStream> + Threads + Wait + Clock + Eprint + Sync,
+>(
+    rt: &HostRuntime,
+    handles: &R,
+    path: &'a str,
+    file: &'a str,
+) -> (Result<(), ServeFailure>, Vec<u8>, usize) {
+    let mut input = NO_TRACE;
+    let mut output = Dialler {
+        rt: handles,
+        frames: &[],
+        said: Vec::new(rt.alloc()),
+        line: None,
+    };
+    let options = ServeOptions {
+        port: 0,
+        path,
+        scheme: Some(file),
+        limits: Limits { turns: 4, ..LIMITS },
+        until: None,
+    };
+    let ended = serve(rt, handles, &options, &mut input, &mut output);
+    let Dialler { said, line, .. } = output;
+    drop(line);
+    (ended, said, input.len())
+}
+
+// How the question where the lanes of these stores stand ends, for the scheme in a file, what is written, and how many bytes
+// of the input are left.
+fn asked_from<'a>(
+    rt: &HostRuntime,
+    path: &'a str,
+    file: &'a str,
+) -> (Result<(), AskFailure>, Vec<u8>, usize) {
+    let mut input = NO_TRACE;
+    let mut output = Vec::new(rt.alloc());
+    let options = AskOptions {
+        path,
+        scheme: Some(file),
+        question: Question::Stand,
+    };
+    let ended = ask(rt, &options, &mut input, &mut output);
+    (ended, output, input.len())
+}
+
+// The scheme's lines come from the file that is named, and the input is not read.
+#[test]
+fn a_scheme_in_a_file(rt: HostRuntime) {
+    const STANDS: &[u8] = b"upto 1 0\nlane 1 1 taken 0 closed none rows 0 statements 0\n";
+    assert!(rt; fs::write(&rt, "demo.scheme", DEMO).is_ok());
+    let (ended, said, left) = served_from(&rt, &rt, "by-file.db", "demo.scheme");
+    same(
+        &rt,
+        &(ended, said.as_slice(), left),
+        &(Ok(()), b"stored 0\ntaken 1 0\nleft 0\n".as_slice(), 3),
+    );
+    let (ended, said, left) = asked_from(&rt, "by-file.db", "demo.scheme");
+    same(&rt, &(ended, said.as_slice(), left), &(Ok(()), STANDS, 3));
+}
+
+// A file that isn't there, a folder, an empty name, and lines that make no scheme: nothing is written, and no store is made.
+#[test]
+fn a_scheme_that_is_not_in_its_file(rt: HostRuntime) {
+    const CASES: [(&str, ServeFailure); 6] = [
+        ("no-such.scheme", ServeFailure::Lines(ReplayFault::Read)),
+        (".", ServeFailure::Lines(ReplayFault::Read)),
+        ("", ServeFailure::Lines(ReplayFault::Read)),
+        (
+            "bad.scheme",
+            ServeFailure::Lines(ReplayFault::BadLine { line: 2 }),
+        ),
+        ("refused.scheme", ServeFailure::Refused(Refusal::ZeroId)),
+        ("open.scheme", ServeFailure::NoScheme),
+    ];
+    let bad = fs::write(&rt, "bad.scheme", b"owner 1 4\ntap\n");
+    let refused = fs::write(&rt, "refused.scheme", b"owner 0 4\n");
+    let open = fs::write(&rt, "open.scheme", b"owner 1 4\n");
+    assert!(rt; bad.is_ok() && refused.is_ok() && open.is_ok());
+    for &(file, failure) in &CASES {
+        let (ended, said, left) = served_from(&rt, &rt, "never-made.db", file);
+        same(&rt, &(ended, said.len(), left), &(Err(failure), 0, 3));
+        let (ended, said, left) = asked_from(&rt, "never-made.db", file);
+        let none = Err(AskFailure::Stores(failure));
+        same(&rt, &(ended, said.len(), left), &(none, 0, 3));
+        same(&rt, &fs::exists(&rt, "never-made.db").ok(), &Some(false));
+    }
+}
+
 // How a question of the stores at a path ends, and what is written.
 fn asked(rt: &HostRuntime, path: &str, question: Question) -> (Result<(), AskFailure>, Vec<u8>) {
     let mut input = DEMO;
     let mut output = Vec::new(rt.alloc());
-    let options = AskOptions { path, question };
+    let options = AskOptions {
+        path,
+        scheme: None,
+        question,
+    };
     let ended = ask(rt, &options, &mut input, &mut output);
     (ended, output)
 }
@@ -311,6 +411,7 @@ fn asked_while_served<
     let options = ServeOptions {
         port: 0,
         path,
+        scheme: None,
         limits: Limits { turns: 4, ..LIMITS },
         until: None,
     };
