@@ -19,8 +19,7 @@ use Rattle.fare_writer.specs.Keeping.{HasKept}
 use Rattle.fare_source.specs.Talking.{Talk}
 use Rattle.fare_history.specs.AcceptedLinks.{next_links_all}
 use Rattle.fare_collect.specs.Arriving.{arrivals}
-use Rattle.fare_writer.specs.Arriving.{IsUnexpected}
-use Rattle.fare_collect.specs.Stations.{held_list, AreExpected, SourceCounted}
+use Rattle.fare_collect.specs.Stations.{held_list, AreExpected, EndUnexpected, SourceCounted}
 
 -- some of what was left in the inbox, from the front of each station's part
 pub record HasKeepingLeft (sc : SchemeValue) (old new : Standing OutboxValue) (before after : InboxEnded) (tally_old tally_new : Tally) (halt : Option Halt) : Type 0 where
@@ -62,26 +61,41 @@ pub record HasRested {S : Type 0} (sc : SchemeValue) (talks : S → Talk) (id : 
   pub kept : HasKept sc old new items tally_old tally_new halt
   pub whole : halt ≡ None → after.end.fault ≡ None → (after.end.ended ≡ true) × (talks after.source).ended
   pub at_end : after.end.ended ≡ true → (talks after.source).ended × (after.end.fault ≡ None)
-  pub unexpected : after.end.fault ≡ Some Unexpected → (front : List Frame) × (f : Frame) × (held_list before.end.held ++ more ≡ front ++ f ∷ []) × IsUnexpected f
+  pub unexpected : after.end.fault ≡ Some Unexpected → EndUnexpected (held_list before.end.held ++ more)
   pub expected : AreExpected after.end.fault (held_list before.end.held ++ more)
   pub cause : SourceCounted (talks before.source).failures (talks after.source).failures after.end.fault
 
--- some of that
-pub record HasResting {S : Type 0} (sc : SchemeValue) (talks : S → Talk) (id : ℕ) (old new : Standing OutboxValue) (tally_old tally_new : Tally) (before after : Station S) (passed : List Frame) (halt : Option Halt) : Type 0 where
+-- nothing has ended the station's source
+abbrev pub IsGoing : End → Type 0
+IsGoing e = (e.fault ≡ None) × (e.ended ≡ false)
+
+-- frames of a station's source, first the one that was held, went to its collector, which accepted these items
+pub record HasPassed {S : Type 0} (sc : SchemeValue) (talks : S → Talk) (id : ℕ) (before after : Station S) (items : List Arrived) : Type 0 where
   pub more : List Frame
   pub given : (talks after.source).given ≡ (talks before.source).given ++ more
+  pub passed : List Frame
   pub frames : passed ++ held_list after.end.held ≡ held_list before.end.held ++ more
-  pub start : before.end.fault ≡ None
-  pub unended : before.end.ended ≡ false
-  pub going : after.end.ended ≡ false
+  pub start : IsGoing before.end
   pub answered : (talks after.source).answered ≡ (talks before.source).answered
-  pub items : List Arrived
   pub arrived : items ≡ arrivals sc id (next_in before.collector) passed
   pub next : next_in after.collector ≡ next_links_all sc (next_in before.collector) passed
   pub named : after.collector.station ≡ before.collector.station
-  pub kept : HasKept sc old new items tally_old tally_new halt
-  pub fault : after.end.fault ≡ None
-  pub failures : (talks after.source).failures ≡ (talks before.source).failures
+  pub at_end : after.end.ended ≡ true → (talks after.source).ended × (after.end.fault ≡ None)
+  pub unexpected : after.end.fault ≡ Some Unexpected → EndUnexpected passed
+  pub expected : AreExpected after.end.fault passed
+  pub cause : SourceCounted (talks before.source).failures (talks after.source).failures after.end.fault
+
+-- the items stand behind the first ones, as the collector accepted them
+pub record HasReadOn {S : Type 0} (sc : SchemeValue) (talks : S → Talk) (id : ℕ) (before after : Station S) (first items : List Arrived) : Type 0 where
+  pub more : List Arrived
+  pub items_are : items ≡ first ++ more
+  pub passed : HasPassed sc talks id before after more
+
+-- what came of an item and of those that the collector accepted behind it
+pub record HasRestedBatch {S : Type 0} (sc : SchemeValue) (talks : S → Talk) (id : ℕ) (old new : Standing OutboxValue) (first : Arrived) (tally_old tally_new : Tally) (before after : Station S) (halt : Option Halt) : Type 0 where
+  pub more : List Arrived
+  pub passed : HasPassed sc talks id before after more
+  pub kept : HasKept sc old new (first ∷ more) tally_old tally_new halt
 
 -- ALL STATIONS
 -- what of these items came from the station: what its collector accepts of the frames that were passed on
@@ -98,7 +112,7 @@ pub record IsRestOf {S : Type 0} (sc : SchemeValue) (talks : S → Talk) (items 
   pub idle : before.end.fault ≢ None → passed ≡ []
   pub ended : (before.end.ended ≡ true → (talks before.source).ended × (before.end.held ≡ None) × (before.end.fault ≡ None)) → after.end.ended ≡ true → (talks after.source).ended × (after.end.held ≡ None) × (after.end.fault ≡ None)
   pub cause : (n : ℕ) → SourceCounted n (talks before.source).failures before.end.fault → SourceCounted n (talks after.source).failures after.end.fault
-  pub unexpected : after.end.fault ≡ Some Unexpected → (before.end.fault ≡ Some Unexpected) ⊎ ((front : List Frame) × (f : Frame) × (passed ≡ front ++ f ∷ []) × IsUnexpected f)
+  pub unexpected : after.end.fault ≡ Some Unexpected → (before.end.fault ≡ Some Unexpected) ⊎ EndUnexpected passed
   pub expected : (front : List Frame) → AreExpected before.end.fault (front ++ held_list before.end.held) → AreExpected after.end.fault ((front ++ passed) ++ held_list after.end.held)
 
 -- the sources of the stations up to a place have come to their ends, or met a fault

@@ -1,4 +1,5 @@
-ghost use Rattle.std.specs.Prelude.{◌≡◌, None, false};
+ghost use Rattle.std.specs.Prelude.{◌≡◌, None, true, false, IsTrue, IsFalse};
+ghost use Rattle.fare_collect.specs.Resting.{IsGoing};
 
 use crate::fault::StationFault;
 use fare_collector::Collector;
@@ -33,6 +34,14 @@ impl End {
             ended: false,
             fault: None,
         }
+    }
+
+    // Whether no frame more comes of the source: it has come to its end, or its station met a fault.
+    pub(crate) fn is_over(&self) -> bool
+        ensures over { IsTrue result → self.now.fault ≡ None → self.now.ended ≡ true }
+        ensures going { IsFalse result → IsGoing self.now }
+    {
+        self.ended || self.fault.is_some()
     }
 }
 

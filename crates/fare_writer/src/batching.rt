@@ -18,8 +18,8 @@ use fare_store::Outbox;
 use std::sync::Wait;
 use std::time::Clock;
 
-// As many items are in a batch at most.
-pub(crate) const BATCH: usize = 256;
+/// As many items are in a batch at most.
+pub const BATCH: usize = 256;
 
 /// As many items are in a batch at most: half of what the inbox may hold, so that the queue has room for as many again.
 pub fn batch_of(scheme: &Scheme) -> usize

@@ -64,8 +64,12 @@ fn keep_some<O: Outbox>(
     }
 }
 
-// Stores items, in order: taps that stand together all at once.
-fn keep_all<O: Outbox>(
+/// Stores items of a batch, in order, and tells no line: taps that stand together in one commit. Their rows go into a
+/// place of the caller's.
+///
+/// What it returns ended the writer, as for one item; then those that are neither stored nor in the hand stand behind
+/// that one.
+pub fn keep_all<O: Outbox>(
     scheme: &Scheme,
     items: &[Arrived],
     rows: &mut [Record],

@@ -18,13 +18,13 @@ mod storing;
 mod tally;
 mod teller;
 
-pub use batching::{batch_of, handle_batch};
+pub use batching::{BATCH, batch_of, handle_batch};
 pub use fault::WriterFault;
 pub use floor::Floor;
 pub use halt::Halt;
 pub use handling::handle;
 pub use judging::judge;
-pub use keeping::{keep, keep_batch};
+pub use keeping::{keep, keep_all, keep_batch};
 pub use storing::writer_fault;
 pub use tally::Tally;
 pub use teller::Teller;

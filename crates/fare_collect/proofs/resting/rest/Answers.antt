@@ -1,101 +1,71 @@
-use Rattle.std.proofs.Common.{◌∷◌, ◌++◌, [], Some, None, refl, sym, ap, subst, ◌∙◌}
+use Rattle.std.proofs.Common.{◌∷◌, [], Some, None, refl, sym, subst, inl, inr}
 use Rattle.std.specs.Prelude.{Option}
-use Rattle.fare_frame.specs.declared.frame.Frame.{Frame}
+use Rattle.std.proofs.lemmas.List.{append-nil}
 use Rattle.fare_inbox_queue.specs.declared.arrived.Arrived.{Arrived}
 use Rattle.fare_writer.specs.declared.halt.Halt.{Halt}
-use Rattle.fare_collect.specs.Resting.{HasNext, HasRested}
-use Rattle.fare_writer.specs.Keeping.{HasKept}
-use Rattle.fare_writer.specs.Judging.{HasJudged}
-use Rattle.fare_collect.proofs.Read.{expected_more}
-use Rattle.fare_collect.proofs.Rested.{kept_none, resting_none, resting_more, rested_end, rested_halt, rested_unexpected}
+use Rattle.fare_writer.specs.Entries.{in_hand}
+use Rattle.fare_collect.specs.Resting.{HasPassed, HasRested, HasRestedBatch}
+use Rattle.fare_collect.proofs.Rested.{kept_none, passed_none, passed_then, rested, rested_more}
 use Rattle.fare_collect.proofs.resting.rest.Goals as goal
 
 pub loop-init : goal.loop-init
-loop-init g c = ([], resting_none c.args.scheme.now g.S.Source.talk c.args.id (g.O.Outbox.standing c.args.outbox.now) c.args.tally.now c.args.station.now _ (g.met.O.Outbox.sound c.args.outbox.now) c.requires.0 c.requires.1 c.finish.ensures refl refl, tt)
+loop-init g c = (
+  [],
+  passed_none c.args.scheme.now g.S.Source.talk c.args.id c.args.station.now _ (c.requires.0, c.requires.1) c.finish.ensures refl refl,
+  kept_none c.args.scheme.now (g.O.Outbox.standing c.args.outbox.now) c.args.tally.now (g.met.O.Outbox.sound c.args.outbox.now),
+  inl (c.requires.0, c.requires.1),
+)
 
-pub loop-preserved-in-Some-None : goal.loop-preserved-in-Some-None
-loop-preserved-in-Some-None g c =
+pub returns-in_err-item : goal.returns-in_err-item
+returns-in_err-item g c =
     let inv = c.loop.invariant in
     let talks = g.S.Source.talk in
+    let t0 = c.args.station.now in
     let t1 = c.loop.station in
-    let t2 = c.next_frame.new.station in
-    let k = c.judge.new.collector in
-    let frame = c.in_ok-frame.frame in
+    let t2 = c.next_item.new.station in
     let a = g.O.Outbox.standing c.args.outbox.now in
     let b = g.O.Outbox.standing c.loop.outbox in
-    let next : HasNext (talks t1.source) (talks t2.source) t1.end t2.end (Some frame) = subst (λ (r : Option Frame). HasNext (talks t1.source) (talks t2.source) t1.end t2.end r) c.in_ok-frame.was c.next_frame.ensures.0 in
-    let judged : HasJudged c.args.scheme.now c.args.id frame t2.collector k (Some None) = subst (λ (r : Option (Option Arrived)). HasJudged c.args.scheme.now c.args.id frame t2.collector k r) (c.in-Some-None.is ∙ ap Some c.in-Some-None.field-0-is) c.judge.ensures in (
-      inv.0 ++ frame ∷ [],
-      resting_more c.args.scheme.now talks c.args.id a b b c.args.tally.now c.loop.tally c.loop.tally c.args.station.now t1 t2 k inv.0 frame (Some None) None inv.1 next c.next_frame.ensures.1 judged
-          (kept_none c.args.scheme.now b c.loop.tally (g.met.O.Outbox.sound c.loop.outbox)),
-      expected_more inv.0 frame inv.2 (λ wrong. let is = judged.expected wrong in absurd (cc is)),
-    )
+    let going = c.if-is_over.ensures.going refl in
+    let last : HasPassed c.args.scheme.now talks c.args.id t1 t2 [] = subst (λ (r : Option Arrived). HasPassed c.args.scheme.now talks c.args.id t1 t2 (in_hand r)) c.in_err-item.was c.next_item.ensures.passed in
+    let all : HasPassed c.args.scheme.now talks c.args.id t0 t2 inv.0 = subst (HasPassed c.args.scheme.now talks c.args.id t0 t2) (append-nil inv.0) (passed_then c.args.scheme.now talks c.args.id t0 t1 t2 inv.0 [] inv.1 going last) in
+    subst (λ (h : Option Halt). HasRested c.args.scheme.now talks c.args.id a b c.args.tally.now c.loop.tally t0 t2 h) (sym c.from_residual.ensures)
+    (rested c.args.scheme.now talks c.args.id a b c.args.tally.now c.loop.tally t0 t2 inv.0 None all c.next_item.ensures.held inv.2 (λ h. c.next_item.ensures.over c.in_err-item.was))
 
 pub loop-preserved : goal.loop-preserved
 loop-preserved g c =
     let inv = c.loop.invariant in
     let talks = g.S.Source.talk in
+    let t0 = c.args.station.now in
     let t1 = c.loop.station in
-    let t2 = c.next_frame.new.station in
-    let k = c.judge.new.collector in
-    let frame = c.in_ok-frame.frame in
-    let item = c.in-Some-Some.item in
+    let t2 = c.next_item.new.station in
+    let t3 = c.rest_batch.new.station in
+    let item = c.in_ok-item.item in
     let a = g.O.Outbox.standing c.args.outbox.now in
     let b = g.O.Outbox.standing c.loop.outbox in
-    let d = g.O.Outbox.standing c.keep.new.outbox in
-    let next : HasNext (talks t1.source) (talks t2.source) t1.end t2.end (Some frame) = subst (λ (r : Option Frame). HasNext (talks t1.source) (talks t2.source) t1.end t2.end r) c.in_ok-frame.was c.next_frame.ensures.0 in
-    let judged : HasJudged c.args.scheme.now c.args.id frame t2.collector k (Some (Some item)) = subst (λ (r : Option (Option Arrived)). HasJudged c.args.scheme.now c.args.id frame t2.collector k r) (c.in-Some-Some.is ∙ ap Some c.in-Some-Some.field-0-is) c.judge.ensures in
-    let kept : HasKept c.args.scheme.now b d (item ∷ []) c.loop.tally c.keep.new.tally None = subst (λ (h : Option Halt). HasKept c.args.scheme.now b d (item ∷ []) c.loop.tally c.keep.new.tally h) c.in_default.is c.keep.ensures.kept in (
-      inv.0 ++ frame ∷ [],
-      resting_more c.args.scheme.now talks c.args.id a b d c.args.tally.now c.loop.tally c.keep.new.tally c.args.station.now t1 t2 k inv.0 frame (Some (Some item)) None inv.1 next c.next_frame.ensures.1 judged kept,
-      expected_more inv.0 frame inv.2 (λ wrong. let is = judged.expected wrong in absurd (cc is)),
+    let d = g.O.Outbox.standing c.rest_batch.new.outbox in
+    let next : HasPassed c.args.scheme.now talks c.args.id t1 t2 (item ∷ []) = subst (λ (r : Option Arrived). HasPassed c.args.scheme.now talks c.args.id t1 t2 (in_hand r)) c.in_ok-item.was c.next_item.ensures.passed in
+    let batch : HasRestedBatch c.args.scheme.now talks c.args.id b d item c.loop.tally c.rest_batch.new.tally t2 t3 None = subst (λ (h : Option Halt). HasRestedBatch c.args.scheme.now talks c.args.id b d item c.loop.tally c.rest_batch.new.tally t2 t3 h) c.in_default.is c.rest_batch.ensures.rested in
+    let on = rested_more c.args.scheme.now talks c.args.id a b d c.args.tally.now c.loop.tally c.rest_batch.new.tally t0 t1 t2 t3 inv.0 item None inv.1 (c.if-is_over.ensures.going refl) inv.2 next c.in_ok-item.ensures.going batch in (
+      on.0,
+      on.1,
+      on.2,
+      inr c.rest_batch.ensures.held,
     )
 
-pub returns-in-Some-keep : goal.returns-in-Some-keep
-returns-in-Some-keep g c =
+pub returns-in-Some-rest_batch : goal.returns-in-Some-rest_batch
+returns-in-Some-rest_batch g c =
     let inv = c.loop.invariant in
     let talks = g.S.Source.talk in
+    let t0 = c.args.station.now in
     let t1 = c.loop.station in
-    let t2 = c.next_frame.new.station in
-    let k = c.judge.new.collector in
-    let frame = c.in_ok-frame.frame in
-    let item = c.in-Some-Some.item in
-    let halt = c.in-Some-keep.halt in
+    let t2 = c.next_item.new.station in
+    let t3 = c.rest_batch.new.station in
+    let item = c.in_ok-item.item in
+    let halt = c.in-Some-rest_batch.halt in
     let a = g.O.Outbox.standing c.args.outbox.now in
     let b = g.O.Outbox.standing c.loop.outbox in
-    let d = g.O.Outbox.standing c.keep.new.outbox in
-    let next : HasNext (talks t1.source) (talks t2.source) t1.end t2.end (Some frame) = subst (λ (r : Option Frame). HasNext (talks t1.source) (talks t2.source) t1.end t2.end r) c.in_ok-frame.was c.next_frame.ensures.0 in
-    let judged : HasJudged c.args.scheme.now c.args.id frame t2.collector k (Some (Some item)) = subst (λ (r : Option (Option Arrived)). HasJudged c.args.scheme.now c.args.id frame t2.collector k r) (c.in-Some-Some.is ∙ ap Some c.in-Some-Some.field-0-is) c.judge.ensures in
-    let kept : HasKept c.args.scheme.now b d (item ∷ []) c.loop.tally c.keep.new.tally (Some halt) = subst (λ (h : Option Halt). HasKept c.args.scheme.now b d (item ∷ []) c.loop.tally c.keep.new.tally h) c.in-Some-keep.is c.keep.ensures.kept in
-    rested_halt c.args.scheme.now talks c.args.id a d c.args.tally.now c.keep.new.tally c.args.station.now (record t2 { collector = k }) (inv.0 ++ frame ∷ []) halt
-    (resting_more c.args.scheme.now talks c.args.id a b d c.args.tally.now c.loop.tally c.keep.new.tally c.args.station.now t1 t2 k inv.0 frame (Some (Some item)) (Some halt) inv.1 next c.next_frame.ensures.1 judged kept)
-    next.held (expected_more inv.0 frame inv.2 (λ wrong. let is = judged.expected wrong in absurd (cc is)))
-
-pub returns-in_err-frame : goal.returns-in_err-frame
-returns-in_err-frame g c =
-    let inv = c.loop.invariant in
-    let talks = g.S.Source.talk in
-    let t1 = c.loop.station in
-    let t2 = c.next_frame.new.station in
-    let a = g.O.Outbox.standing c.args.outbox.now in
-    let b = g.O.Outbox.standing c.loop.outbox in
-    let next : HasNext (talks t1.source) (talks t2.source) t1.end t2.end None = subst (λ (r : Option Frame). HasNext (talks t1.source) (talks t2.source) t1.end t2.end r) c.in_err-frame.was c.next_frame.ensures.0 in
-    subst (λ (h : Option Halt). HasRested c.args.scheme.now talks c.args.id a b c.args.tally.now c.loop.tally c.args.station.now t2 h) (sym c.from_residual.ensures)
-    (rested_end c.args.scheme.now talks c.args.id a b c.args.tally.now c.loop.tally c.args.station.now t1 t2 inv.0 inv.1 next c.next_frame.ensures.1 inv.2)
-
-pub returns-in-None-judge : goal.returns-in-None-judge
-returns-in-None-judge g c =
-    let inv = c.loop.invariant in
-    let talks = g.S.Source.talk in
-    let t1 = c.loop.station in
-    let t2 = c.next_frame.new.station in
-    let k = c.judge.new.collector in
-    let frame = c.in_ok-frame.frame in
-    let a = g.O.Outbox.standing c.args.outbox.now in
-    let b = g.O.Outbox.standing c.loop.outbox in
-    let next : HasNext (talks t1.source) (talks t2.source) t1.end t2.end (Some frame) = subst (λ (r : Option Frame). HasNext (talks t1.source) (talks t2.source) t1.end t2.end r) c.in_ok-frame.was c.next_frame.ensures.0 in
-    let judged : HasJudged c.args.scheme.now c.args.id frame t2.collector k None = subst (λ (r : Option (Option Arrived)). HasJudged c.args.scheme.now c.args.id frame t2.collector k r) c.in-None-judge.is c.judge.ensures in
-    rested_unexpected c.args.scheme.now talks c.args.id a b c.args.tally.now c.loop.tally c.args.station.now (record t2 { collector = k }) _ (inv.0 ++ frame ∷ [])
-    (resting_more c.args.scheme.now talks c.args.id a b b c.args.tally.now c.loop.tally c.loop.tally c.args.station.now t1 t2 k inv.0 frame None None inv.1 next c.next_frame.ensures.1 judged
-    (kept_none c.args.scheme.now b c.loop.tally (g.met.O.Outbox.sound c.loop.outbox)))
-    next.held refl refl next.held refl refl inv.0 frame refl (judged.unexpected refl) inv.2
+    let d = g.O.Outbox.standing c.rest_batch.new.outbox in
+    let next : HasPassed c.args.scheme.now talks c.args.id t1 t2 (item ∷ []) = subst (λ (r : Option Arrived). HasPassed c.args.scheme.now talks c.args.id t1 t2 (in_hand r)) c.in_ok-item.was c.next_item.ensures.passed in
+    let batch : HasRestedBatch c.args.scheme.now talks c.args.id b d item c.loop.tally c.rest_batch.new.tally t2 t3 (Some halt) = subst (λ (h : Option Halt). HasRestedBatch c.args.scheme.now talks c.args.id b d item c.loop.tally c.rest_batch.new.tally t2 t3 h) c.in-Some-rest_batch.is c.rest_batch.ensures.rested in
+    let on = rested_more c.args.scheme.now talks c.args.id a b d c.args.tally.now c.loop.tally c.rest_batch.new.tally t0 t1 t2 t3 inv.0 item (Some halt) inv.1 (c.if-is_over.ensures.going refl) inv.2 next c.in_ok-item.ensures.going batch in
+    rested c.args.scheme.now talks c.args.id a d c.args.tally.now c.rest_batch.new.tally t0 t3 on.0 (Some halt) on.1 c.rest_batch.ensures.held on.2 (λ h. absurd (cc))
