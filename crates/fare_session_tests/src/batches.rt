@@ -307,6 +307,36 @@ fn an_outbox_may_fail_at_any_call_with_several(rt: HostRuntime) {
     assert!(rt; false, "each call failed");
 }
 
+// The threads have no turns, so nearly all of a line's 601 items are stored behind the joins: in less than 40 calls of the
+// outbox, of which each fails in turn. A second session stores what the failure left.
+#[test]
+fn an_outbox_may_fail_at_any_call_behind_the_joins(rt: HostRuntime) {
+    let scheme = Scheme::demo(rt.alloc(), DemoSize::OneDevice, 4, 1_024, 4).expect(&rt, "a scheme");
+    let mut failed = 0_u64;
+    for call in 1..40 {
+        let mut outbox = FailingOutbox::new(PlainOutbox::new(rt.alloc()), call);
+        let source = two_days(rt.alloc()).expect(&rt, "a source");
+        let (first, _) = gathered_in(&rt, rt.alloc(), &scheme, source, &mut outbox, 0).expect(
+            &rt,
+            "a session",
+        );
+        if first.faults.is_empty() {
+            assert!(rt; failed > 0 && first.stored == 601);
+            return;
+        }
+        let source = two_days(rt.alloc()).expect(&rt, "a source");
+        let (second, source) = gathered_in(&rt, rt.alloc(), &scheme, source, &mut outbox, 0).expect(
+            &rt,
+            "a session",
+        );
+        let got = came_to(&second, &source, &mut outbox);
+        let rest = 601_u64.saturating_sub(first.stored);
+        same(&rt, &got, &Some((rest, None, ack(1, 600), 600)));
+        failed = failed.saturating_add(1);
+    }
+    assert!(rt; false, "each call failed");
+}
+
 // An outbox with so many rows of each of two days, and the statement of the first.
 fn two_days_stored(alloc: Global, each: u64) -> Option<PlainOutbox> {
     let mut outbox = PlainOutbox::new(alloc);
