@@ -1,0 +1,4 @@
+pub mod Hosts
+pub mod Named
+pub mod Single
+pub mod Words
