@@ -65,6 +65,14 @@ no_round : fault_of hub_app (codes "serve" ∷ codes "--port" ∷ codes "1" ∷ 
 unfolding clap_on_literals
 no_round = refl
 
+asks : fault_of hub_app (codes "serve" ∷ codes "--outbox" ∷ codes "x" ∷ codes "--ask" ∷ codes "65535" ∷ []) ≡ []
+unfolding clap_on_literals
+asks = refl
+
+no_ask : fault_of hub_app (codes "serve" ∷ codes "--outbox" ∷ codes "x" ∷ codes "--ask" ∷ codes "65536" ∷ []) ≡ kind.ValueValidation ∷ []
+unfolding clap_on_literals
+no_ask = refl
+
 scheme : fault_of hub_app (codes "serve" ∷ codes "--scheme" ∷ codes "y" ∷ codes "--outbox" ∷ codes "x" ∷ []) ≡ []
 unfolding clap_on_literals
 scheme = refl

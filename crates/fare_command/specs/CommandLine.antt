@@ -1,5 +1,5 @@
 -- The command line, in the words of clap: `replay [--store STORE]`;
--- `serve [--port PORT] [--turns TURNS] --outbox PATH [--scheme FILE] [--read-ms MILLIS] [--write-ms MILLIS] [--rounds N] [--until FILE] [--patience N] [--round-ms MILLIS]`;
+-- `serve [--port PORT] [--turns TURNS] --outbox PATH [--scheme FILE] [--read-ms MILLIS] [--write-ms MILLIS] [--rounds N] [--until FILE] [--patience N] [--round-ms MILLIS] [--ask PORT]`;
 -- and of the stores at a path `close --outbox PATH [--scheme FILE]`, `bill --outbox PATH [--scheme FILE] --owner O --day D`,
 -- `settle` with the same words, `stand --outbox PATH [--scheme FILE]`, and
 -- `retire --outbox PATH [--scheme FILE] --owner O --device D`.
@@ -23,6 +23,9 @@ store_rule = option_rule (codes "store")
 
 abbrev pub port_rule : Rule
 port_rule = record (option_rule (codes "port")) { parser = Some (vp.Signed (pos 0) (pos 65535)) }
+
+abbrev pub ask_rule : Rule
+ask_rule = record (option_rule (codes "ask")) { parser = Some (vp.Signed (pos 0) (pos 65535)) }
 
 abbrev pub turns_rule : Rule
 turns_rule = record (option_rule (codes "turns")) { parser = Some (vp.Signed (pos 1) (pos 1000000000)) }
@@ -78,8 +81,12 @@ abbrev pub waiting_serve_app : App
 waiting_serve_app = with_rule (with_rule plain_serve_app read_rule) write_rule
 
 -- and how often it begins again
+abbrev pub lasting_serve_app : App
+lasting_serve_app = with_rule (with_rule (with_rule (with_rule waiting_serve_app rounds_rule) until_rule) patience_rule) round_rule
+
+-- and where it answers its operator
 abbrev pub serve_app : App
-serve_app = with_rule (with_rule (with_rule (with_rule waiting_serve_app rounds_rule) until_rule) patience_rule) round_rule
+serve_app = with_rule lasting_serve_app ask_rule
 
 -- QUESTIONS
 -- of the stores at a path, for a scheme

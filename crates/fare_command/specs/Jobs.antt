@@ -30,6 +30,12 @@ abbrev pub IsPort : Option Text → ℕ → Type 0
 IsPort None port = port ≡ 7071
 IsPort (Some text) port = IsNumber 16 (Some text) port
 
+-- the port at which an operator is answered; none where none is given
+abbrev pub IsAskPort : Option Text → Option ℕ → Type 0
+IsAskPort None port = port ≡ None
+IsAskPort (Some text) None = ⊥
+IsAskPort (Some text) (Some port) = IsNumber 16 (Some text) port
+
 -- a number from 1 to this one; that one where none is given
 abbrev pub IsGiven : ℕ → ℕ → Option Text → ℕ → Type 0
 IsGiven most default None n = n ≡ default
@@ -65,7 +71,7 @@ IsQuestion name rows (Retire owner device) = (name ≡ codes "retire") × IsOwne
 -- the job of a subcommand with these matches
 abbrev pub JobIn : Text → List Row → Job → Type 0
 JobIn name rows (Replay sql) = (name ≡ codes "replay") × IsStore (first_of (codes "store") rows) sql
-JobIn name rows (Serve port turns path scheme read_millis write_millis rounds until patience round_millis) = (name ≡ codes "serve")
+JobIn name rows (Serve port turns path scheme read_millis write_millis rounds until patience round_millis ask) = (name ≡ codes "serve")
     × IsPort (first_of (codes "port") rows) port × IsGiven 1000000000 2000 (first_of (codes "turns") rows) turns
     × (first_of (codes "outbox") rows ≡ Some path.now)
     × (option_map (λ file. file.now) scheme ≡ first_of (codes "scheme") rows)
@@ -74,6 +80,7 @@ JobIn name rows (Serve port turns path scheme read_millis write_millis rounds un
     × (option_map (λ file. file.now) until ≡ first_of (codes "until") rows)
     × IsGiven 1000000000 2 (first_of (codes "patience") rows) patience
     × IsMillis 1000 (first_of (codes "round-ms") rows) round_millis
+    × IsAskPort (first_of (codes "ask") rows) ask
 JobIn name rows (Ask path scheme question) = (first_of (codes "outbox") rows ≡ Some path.now)
     × (option_map (λ file. file.now) scheme ≡ first_of (codes "scheme") rows) × IsQuestion name rows question
 

@@ -1,6 +1,6 @@
 ghost use Rattle.std.specs.Prelude.{◌≡◌, IfOk, false, codes};
 ghost use Rattle.clap.specs.Words.{App, app_of, rule_of, with_subcommand};
-ghost use Rattle.fare_command.specs.CommandLine.{IsMade, asking_app, base_app, day_app, day_rule, device_rule, hub_app, lane_app, outbox_rule, owner_rule, patience_rule, plain_serve_app, port_rule, read_rule, replay_app, round_rule, rounds_rule, running_app, scheme_rule, serve_app, standing_app, store_rule, stores_app, turns_rule, until_rule, waiting_serve_app, write_rule};
+ghost use Rattle.fare_command.specs.CommandLine.{IsMade, ask_rule, asking_app, base_app, day_app, day_rule, device_rule, hub_app, lane_app, lasting_serve_app, outbox_rule, owner_rule, patience_rule, plain_serve_app, port_rule, read_rule, replay_app, round_rule, rounds_rule, running_app, scheme_rule, serve_app, standing_app, store_rule, stores_app, turns_rule, until_rule, waiting_serve_app, write_rule};
 
 use clap::{Arg, ArgAction, Command};
 use std::alloc::{AllocError, Global};
@@ -151,6 +151,21 @@ fn round_arg<'a>(alloc: Global) -> Arg<'a>
         .help("How long the lines of a round are read at most, 1 to 60,000 (1,000 if not given)")
 }
 
+/// `--ask PORT`
+fn ask_arg<'a>(alloc: Global) -> Arg<'a>
+    ensures rule { rule_of result ≡ ask_rule }
+    ensures local { result.global ≡ false }
+{
+    Arg::new(alloc, "ask")
+        .long("ask")
+        .value_name("PORT")
+        .action(ArgAction::Set)
+        .value_parser(clap::value_parser!(u16))
+        .help(
+            "A port on 127.0.0.1, 0 to 65,535, where it answers an operator over HTTP between two rounds (none if not given)",
+        )
+}
+
 /// `--owner O`
 fn owner_arg<'a>(alloc: Global) -> Arg<'a>
     ensures rule { rule_of result ≡ owner_rule }
@@ -224,14 +239,21 @@ fn waiting_serve_command<'a>(alloc: Global) -> Result<Command<'a>, AllocError>
         .arg(write_arg(alloc))
 }
 
-fn serve_command<'a>(alloc: Global) -> Result<Command<'a>, AllocError>
-    ensures { IfOk result (IsMade serve_app) }
+/// `serve`, with how often it begins again.
+fn lasting_serve_command<'a>(alloc: Global) -> Result<Command<'a>, AllocError>
+    ensures { IfOk result (IsMade lasting_serve_app) }
 {
     waiting_serve_command(alloc)?
         .arg(rounds_arg(alloc))?
         .arg(until_arg(alloc))?
         .arg(patience_arg(alloc))?
         .arg(round_arg(alloc))
+}
+
+fn serve_command<'a>(alloc: Global) -> Result<Command<'a>, AllocError>
+    ensures { IfOk result (IsMade serve_app) }
+{
+    lasting_serve_command(alloc)?.arg(ask_arg(alloc))
 }
 
 /// A question of the stores at a path, for a scheme.

@@ -1,8 +1,8 @@
-ghost use Rattle.std.specs.Prelude.{◌≡◌, ℕ, Bool, None, IfOk, IfErr, map, option_map, codes};
+ghost use Rattle.std.specs.Prelude.{◌≡◌, ℕ, Bool, None, Option, IfOk, IfErr, map, option_map, codes};
 ghost use Rattle.clap.specs.Words.{rows_of, found_of, first_of, subcommand_of, subcommand_rows_of};
 ghost use Rattle.clap.specs.Values.{kind_of};
 ghost use Rattle.fare_command.specs.CommandLine.{hub_app};
-ghost use Rattle.fare_command.specs.Jobs.{IsDayIn, IsDeviceIn, IsGiven, IsOwnerIn, IsPort, IsStore, JobIn, JobOf, RefusedFor, FailsOn, IsSound, Tells};
+ghost use Rattle.fare_command.specs.Jobs.{IsAskPort, IsDayIn, IsDeviceIn, IsGiven, IsOwnerIn, IsPort, IsStore, JobIn, JobOf, RefusedFor, FailsOn, IsSound, Tells};
 ghost use Rattle.fare_command.specs.declared.words.WordsFault.TheVariants.{Memory};
 
 use crate::command::hub_command;
@@ -64,7 +64,8 @@ pub enum Job<'a> {
     /// Serve stations on a port of 127.0.0.1, for a number of turns, with the outbox's database at a path, for the scheme
     /// whose lines are in a file, or else on standard input; a read of a line and a write wait so many milliseconds. So
     /// many rounds, or up to the one in which a file is there; in each the lines are read until none has brought anything
-    /// for so many reads, or so many milliseconds of the round have passed.
+    /// for so many reads, or so many milliseconds of the round have passed. An operator is answered over HTTP at another
+    /// port of 127.0.0.1, if one is given.
     Serve {
         port: u16,
         turns: u32,
@@ -76,6 +77,7 @@ pub enum Job<'a> {
         until: Option<&'a str>,
         patience: u32,
         round_millis: u32,
+        ask: Option<u16>,
     },
     /// Ask something of the stores, the outbox's database of which lies at a path, for the scheme whose lines are in a
     /// file, or else on standard input.
@@ -168,6 +170,23 @@ fn port_of(alloc: Global, matches: &ArgMatches<'_>) -> Result<u16, WordsFault>
         Ok(port) => Ok(port),
         Err(_) => {
             let text = "error: the port is a number from 0 to 65,535\n";
+            Err(WordsFault::Refused(String::from_str(alloc, text)?))
+        }
+    }
+}
+
+/// The port at which an operator is answered, if one is given.
+fn ask_of(alloc: Global, matches: &ArgMatches<'_>) -> Result<Option<u16>, WordsFault>
+    ensures ok { IfOk result (IsAskPort (first_of (codes "ask") (rows_of (found_of matches.now)))) }
+    ensures err { IfErr result (RefusedFor ((port : Option ℕ) → IsAskPort (first_of (codes "ask") (rows_of (found_of matches.now))) port → ⊥)) }
+{
+    let Some(text) = text_of(matches, "ask") else {
+        return Ok(None);
+    };
+    match text.parse::<u16>() {
+        Ok(port) => Ok(Some(port)),
+        Err(_) => {
+            let text = "error: the port that answers is a number from 0 to 65,535\n";
             Err(WordsFault::Refused(String::from_str(alloc, text)?))
         }
     }
@@ -288,6 +307,7 @@ fn serve_job<'a>(alloc: Global, matches: &ArgMatches<'a>) -> Result<Job<'a>, Wor
     let rounds = given_of(alloc, matches, "rounds", MOST_ROUNDS, rounds)?;
     let patience = given_of(alloc, matches, "patience", MOST_PATIENCE, PATIENCE)?;
     let round_millis = given_of(alloc, matches, "round-ms", MOST_MILLIS, ROUND_MILLIS)?;
+    let ask = ask_of(alloc, matches)?;
     Ok(Job::Serve {
         port,
         turns,
@@ -299,6 +319,7 @@ fn serve_job<'a>(alloc: Global, matches: &ArgMatches<'a>) -> Result<Job<'a>, Wor
         until,
         patience,
         round_millis,
+        ask,
     })
 }
 

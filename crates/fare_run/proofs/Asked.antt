@@ -56,7 +56,7 @@ not_retire e = third_letters_apart (ap (λ (l : List ℕ). slice_index_or l 2 0)
 pub no_files : (matched : Option (Text × List Row)) (sql : _) (j : Job) → JobOf matched (job.Replay sql) → JobOf matched j → IsOfFiles j → ⊥
 no_files None sql j replays is files = replays
 no_files (Some m) sql (job.Replay other) replays is files = files
-no_files (Some m) sql (job.Serve port turns path scheme read_millis write_millis rounds until patience round_millis) replays is files = not_serve (sym replays.0 ∙ is.0)
+no_files (Some m) sql (job.Serve port turns path scheme read_millis write_millis rounds until patience round_millis ask) replays is files = not_serve (sym replays.0 ∙ is.0)
 no_files (Some m) sql (job.Ask path scheme Close) replays is files = not_close (sym replays.0 ∙ is.2)
 no_files (Some m) sql (job.Ask path scheme (Bill owner day)) replays is files = not_bill (sym replays.0 ∙ is.2.0)
 no_files (Some m) sql (job.Ask path scheme (Settle owner day)) replays is files = not_settle (sym replays.0 ∙ is.2.0)

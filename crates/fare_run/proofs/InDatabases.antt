@@ -30,13 +30,16 @@ use Rattle.fare_desk.specs.Billing as desk
 use Rattle.fare_desk.specs.Closing.{GoesOn}
 use Rattle.fare_desk.specs.Faults.{name_of}
 use Rattle.fare_desk.specs.declared.fault.DeskFault.{DeskFault}
-use Rattle.fare_serve.specs.Calls.{AreHeld, IsOfScheme}
+use Rattle.fare_serve.specs.Calls.{IsOfScheme}
 use Rattle.fare_serve.specs.Coming.{AreLinesCovered, ComeOfLines}
 use Rattle.fare_serve.specs.Counting.{counts_text}
 use Rattle.fare_serve.specs.Rounds.{AreCountsOf, IsRound, calls_of}
+use Rattle.fare_serve.specs.Pausing.{HasRested, PauseOf}
+use Rattle.fare_serve.specs.Spacing.{AreSpaced}
 use Rattle.fare_serve.specs.Serving.{AreAllCovered, HaveTold, IsReadToEnds, KeepsStores, shift_talk}
 use Rattle.fare_serve.proofs.Coming.{come_none}
 use Rattle.fare_serve.proofs.Held.{calls_keep}
+use Rattle.fare_serve.proofs.Rested.{rested_none}
 use Rattle.fare_command.specs.declared.words.Question.{Question}
 use Rattle.fare_command.specs.declared.words.Question.TheVariants.{Close, Bill, Settle, Stand, Retire}
 use Rattle.fare_databases.specs.Closed.{IsHandedBack}
@@ -48,7 +51,7 @@ use Rattle.fare_databases.proofs.Looks.{ledger_self, open_alike, parts_alike, sh
 use Rattle.fare_databases.proofs.Now.{now_all, stands_now, unknown_now}
 use Rattle.fare_run.specs.Asking.{Answers, FailsBill, FailsOf}
 use Rattle.fare_run.specs.Databases.{AnswersIn, IsBilled, IsMadeOf, IsRefusedBill, IsUnbilled, KeepDatabases, KeepsCalls, KeepsIn, LineCall, RefusesIn, ServesIn, bill_text, settlement_text}
-use Rattle.fare_run.specs.Serving.{LeavesStores, ServesOver, listening_line}
+use Rattle.fare_run.specs.Serving.{LeavesStores, ServesOver}
 use Rattle.fare_run.specs.declared.serve_failure.ServeFailure.{ServeFailure}
 
 module _ {S : Type 0} (g : Ghosts S) (sc : SchemeValue) (valid : IsScheme sc) (before after : Databases S) where
@@ -60,8 +63,8 @@ module _ {S : Type 0} (g : Ghosts S) (sc : SchemeValue) (valid : IsScheme sc) (b
         (kept, so kept.is);
   }
 
-  pub serves_unopened : (most : ℕ) (untold : Bool) (written : Option (List ℕ)) (failure : ServeFailure) → length before.ledgers.items ≡ length sc.owners → StayStores g sc before after → ServesIn g sc most untold before after written written (Err failure)
-  serves_unopened most untold written failure count stay = record {
+  pub serves_unopened : (most : ℕ) (untold asks : Bool) (written : Option (List ℕ)) (failure : ServeFailure) → length before.ledgers.items ≡ length sc.owners → StayStores g sc before after → ServesIn g sc most untold asks before after written written (Err failure)
+  serves_unopened most untold asks written failure count stay = record {
     calls = [];
     came = inl refl;
     lines = come_none sc;
@@ -74,8 +77,9 @@ module _ {S : Type 0} (g : Ghosts S) (sc : SchemeValue) (valid : IsScheme sc) (b
     numbered_old lists numbered = subst (λ s. AreNumberedLists s lists) (sym same) numbered
 
     -- SERVING
-    keeps_calls : (calls : List LineCall) → AreHeld shift_talk (stands_outbox g) (stands_ledger g) old new calls → ComeOfLines old.scheme calls → KeepsCalls g sc before after calls
-    keeps_calls calls held come = record {
+    keeps_calls : (does : PauseOf (SqlOutbox S g) (SqlLedger S g)) (last : Hub (SqlOutbox S g) (SqlLedger S g)) (calls : List LineCall) → AreSpaced shift_talk does (stands_outbox g) (stands_ledger g) old last calls
+        → HasRested does (stands_outbox g) (stands_ledger g) last new → ComeOfLines old.scheme calls → KeepsCalls g sc before after calls
+    keeps_calls does last calls held rested come = record {
       keeps = λ clean lists numbered told outbox ledgers shows agreed outbox_left ledgers_left leave.
           let h = agreed.0 in
           let clean_now = clean_new g sc valid before after old new same count holds k.scheme k.follow back clean in
@@ -88,17 +92,18 @@ module _ {S : Type 0} (g : Ghosts S) (sc : SchemeValue) (valid : IsScheme sc) (b
           (kept.0, (covered, answered));
     }
       where
-        k : KeepsStores (stands_outbox g) (stands_ledger g) old new calls (λ lists. HaveTold sc lists calls)
-        k = calls_keep (stands_outbox g) (stands_ledger g) old new calls (λ lists. HaveTold sc lists calls) (λ lists told. subst (λ s. HaveTold s lists calls) (sym same) told) held come
+        k : KeepsStores does (stands_outbox g) (stands_ledger g) old new calls (λ lists. HaveTold sc lists calls)
+        k = calls_keep does (stands_outbox g) (stands_ledger g) old last new calls (λ lists. HaveTold sc lists calls) (λ lists told. subst (λ s. HaveTold s lists calls) (sym same) told) held rested come
 
-    pub serves_opened : (most : ℕ) (untold : Bool) (written_before written_after : Option (List ℕ)) (r : Result (Unit {0}) ServeFailure) → OnOk r (ServesOver (stands_outbox g) (stands_ledger g) old new most untold written_before written_after) → IfErr r (LeavesStores (stands_outbox g) (stands_ledger g) old new) → ServesIn g sc most untold before after written_before written_after r
-    serves_opened most untold written_before written_after (Ok u) over none =
+    pub serves_opened : (does : PauseOf (SqlOutbox S g) (SqlLedger S g)) (most : ℕ) (untold asks : Bool) (written_before written_after : Option (List ℕ)) (r : Result (Unit {0}) ServeFailure) → OnOk r (ServesOver does (stands_outbox g) (stands_ledger g) old new most untold asks written_before written_after) → IfErr r (LeavesStores does (stands_outbox g) (stands_ledger g) old new) → ServesIn g sc most untold asks before after written_before written_after r
+    serves_opened does most untold asks written_before written_after (Ok u) over none =
         let held = over.served.held in
         let been = held.held in
         record {
           calls = flat_map calls_of been.rounds;
           came = record {
-            port = over.port;
+            ports = over.ports;
+            are_ports = over.are_ports;
             rounds = been.rounds;
             counts = over.served.counts;
             are = refl;
@@ -108,19 +113,19 @@ module _ {S : Type 0} (g : Ghosts S) (sc : SchemeValue) (valid : IsScheme sc) (b
             each = subst (λ s. AllByRecursion (λ r. (stations : List (Station (Shift NetValue))) × IsRound s r stations) been.rounds) same been.served.each;
             to_ends = λ whole. subst (λ s. AllByRecursion (IsReadToEnds s) been.rounds) same (been.to_ends whole);
             counted = subst (λ s. AreCountsOf s been.rounds over.served.counts) same been.counted;
-            written = Appends-trans written_before over.mid written_after (listening_line over.port) (counts_text over.served.counts) over.told over.served.written;
+            written = Appends-trans written_before over.mid written_after over.ports (counts_text over.served.counts) over.told over.served.written;
           };
           lines = subst (λ s. ComeOfLines s (flat_map calls_of been.rounds)) same been.come;
-          keeps = keeps_calls (flat_map calls_of been.rounds) been.served.held been.come;
+          keeps = keeps_calls does new (flat_map calls_of been.rounds) been.served.held (rested_none does (stands_outbox g) (stands_ledger g) new) been.come;
         }
-    serves_opened most untold written_before written_after (Err failure) none (inl still) = record { calls = []; came = inl refl; lines = come_none sc; keeps = keeps_calls [] still (come_none old.scheme) }
-    serves_opened most untold written_before written_after (Err failure) none (inr it) =
+    serves_opened does most untold asks written_before written_after (Err failure) none (inl still) = record { calls = []; came = inl refl; lines = come_none sc; keeps = keeps_calls does new [] still (rested_none does (stands_outbox g) (stands_ledger g) new) (come_none old.scheme) }
+    serves_opened does most untold asks written_before written_after (Err failure) none (inr it) =
         let failed = it.2.failed in
         record {
           calls = failed.calls;
           came = inr (it.0, it.1, failed.ended, subst (λ s. AllByRecursion (IsOfScheme s) failed.calls) same failed.each);
           lines = subst (λ s. ComeOfLines s failed.calls) same it.2.come;
-          keeps = keeps_calls failed.calls failed.held it.2.come;
+          keeps = keeps_calls does failed.last failed.calls failed.held failed.rested it.2.come;
         }
 
     -- ASKING

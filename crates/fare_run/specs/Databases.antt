@@ -42,7 +42,7 @@ use Rattle.fare_databases.specs.declared.databases.Databases.{Databases}
 use Rattle.fare_desk.specs.Faults.{name_of}
 use Rattle.fare_desk.specs.declared.fault.DeskFault.{DeskFault}
 use Rattle.fare_run.specs.Asking.{Answers, FailsOf}
-use Rattle.fare_run.specs.Serving.{listening_line, serving_failure}
+use Rattle.fare_run.specs.Serving.{ArePorts, serving_failure}
 use Rattle.fare_run.specs.declared.ask_failure.AskFailure.{AskFailure}
 use Rattle.fare_run.specs.declared.ask_failure.AskFailure.TheVariants.{Stores, Desk}
 use Rattle.fare_run.specs.declared.serve_failure.ServeFailure.{ServeFailure}
@@ -63,9 +63,10 @@ LineCall = Call (Shift NetValue)
 
 -- Served to the end, these are the calls of rounds of the scheme's stations and owners: at least one, at most so many, and
 -- exactly so many where no file could end them; where lines are read to their ends, each of whole shifts of them. What was
--- written is the port and the sums of the calls' reports.
-pub record ServedRounds (sc : SchemeValue) (most : ℕ) (untold : Bool) (calls : List LineCall) (before after : Option (List ℕ)) : Type 0 where
-  pub port : ℕ
+-- written is the ports and the sums of the calls' reports.
+pub record ServedRounds (sc : SchemeValue) (most : ℕ) (untold asks : Bool) (calls : List LineCall) (before after : Option (List ℕ)) : Type 0 where
+  pub ports : List ℕ
+  pub are_ports : ArePorts asks ports
   pub rounds : List (Round (Shift NetValue))
   pub counts : Counts
   pub are : calls ≡ flat_map calls_of rounds
@@ -75,13 +76,13 @@ pub record ServedRounds (sc : SchemeValue) (most : ℕ) (untold : Bool) (calls :
   pub each : AllByRecursion (λ r. (stations : List (Station (Shift NetValue))) × IsRound sc r stations) rounds
   pub to_ends : reads_to_ends most untold ≡ true → AllByRecursion (IsReadToEnds sc) rounds
   pub counted : AreCountsOf sc rounds counts
-  pub written : Appends before after (listening_line port ++ counts_text counts)
+  pub written : Appends before after (ports ++ counts_text counts)
 
 -- Where a failure ended it they are those up to it, each of the scheme's stations or of an owner; none where it came before
 -- any.
-abbrev pub CameOf : SchemeValue → ℕ → Bool → List LineCall → Option (List ℕ) → Option (List ℕ) → Result (Unit {0}) ServeFailure → Type 0
-CameOf sc most untold calls before after (Ok _) = ServedRounds sc most untold calls before after
-CameOf sc most untold calls before after (Err failure) = (calls ≡ []) ⊎ ((fault : ServeFault) × (failure ≡ serving_failure fault) × AreEndedBy fault calls × AllByRecursion (IsOfScheme sc) calls)
+abbrev pub CameOf : SchemeValue → ℕ → Bool → Bool → List LineCall → Option (List ℕ) → Option (List ℕ) → Result (Unit {0}) ServeFailure → Type 0
+CameOf sc most untold asks calls before after (Ok _) = ServedRounds sc most untold asks calls before after
+CameOf sc most untold asks calls before after (Err failure) = (calls ≡ []) ⊎ ((fault : ServeFault) × (failure ≡ serving_failure fault) × AreEndedBy fault calls × AllByRecursion (IsOfScheme sc) calls)
 
 -- What these calls keep: where the frames that the lines gave in them are of lists with which the stores in the databases
 -- agree, they agree with them behind it; nothing that they held is missing; and each acknowledgement that a line was answered
@@ -89,11 +90,11 @@ CameOf sc most untold calls before after (Err failure) = (calls ≡ []) ⊎ ((fa
 abbrev pub KeepsCalls : {S : Type 0} → Ghosts S → SchemeValue → Databases S → Databases S → List LineCall → Type 0
 KeepsCalls g sc before after calls = KeepDatabases g sc before after (λ lists. HaveTold sc lists calls) (λ k. AreAllCovered sc k.outbox calls × AreLinesCovered sc k.outbox calls)
 
--- What serving over databases does, by the most rounds and whether no file may end them: these calls, where their lines came
--- from, and what they keep, however it ended.
-pub record ServesIn {S : Type 0} (g : Ghosts S) (sc : SchemeValue) (most : ℕ) (untold : Bool) (before after : Databases S) (written_before written_after : Option (List ℕ)) (result : Result (Unit {0}) ServeFailure) : Type 0 where
+-- What serving over databases does, by the most rounds, whether no file may end them and whether an operator is answered
+-- between them: these calls, where their lines came from, and what they keep, however it ended.
+pub record ServesIn {S : Type 0} (g : Ghosts S) (sc : SchemeValue) (most : ℕ) (untold asks : Bool) (before after : Databases S) (written_before written_after : Option (List ℕ)) (result : Result (Unit {0}) ServeFailure) : Type 0 where
   pub calls : List LineCall
-  pub came : CameOf sc most untold calls written_before written_after result
+  pub came : CameOf sc most untold asks calls written_before written_after result
   pub lines : ComeOfLines sc calls
   pub keeps : KeepsCalls g sc before after calls
 

@@ -22,7 +22,7 @@ IsJob words job = JobOf (subcommand_of hub_app words) job
 -- a job that works on stores in files
 abbrev pub IsOfFiles : Job → Type 0
 IsOfFiles (job.Replay sql) = ⊥
-IsOfFiles (job.Serve port turns path scheme read_millis write_millis rounds until patience round_millis) = Unit {0}
+IsOfFiles (job.Serve port turns path scheme read_millis write_millis rounds until patience round_millis ask) = Unit {0}
 IsOfFiles (job.Ask path scheme question) = Unit {0}
 
 -- clap has nothing to say of the words, and this is their job
@@ -65,7 +65,7 @@ IsBefore (Refused text) = Unit {0}
 
 -- the job that is left to do
 abbrev pub job_left : Left → Job
-job_left (left.Serve options) = job.Serve options.port options.limits.turns options.path options.scheme options.limits.read_millis options.limits.write_millis options.limits.rounds options.until options.limits.patience options.limits.round_millis
+job_left (left.Serve options) = job.Serve options.port options.limits.turns options.path options.scheme options.limits.read_millis options.limits.write_millis options.limits.rounds options.until options.limits.patience options.limits.round_millis options.ask
 job_left (left.Ask options) = job.Ask options.path options.scheme options.question
 
 -- the job of which this is what is done

@@ -14,6 +14,9 @@ pub struct ServeOptions<'a> {
     pub limits: Limits,
     /// Where it is to end after the round in which a file is there, the file's path.
     pub until: Option<&'a str>,
+    /// Where an operator is to be answered over HTTP between two rounds, the port of 127.0.0.1; with 0 the system chooses
+    /// one.
+    pub ask: Option<u16>,
 }
 
 /// What a question of the stores has to be told.

@@ -46,6 +46,7 @@ fn read_work<'a>(alloc: Global, words: &'a [&'a str]) -> Result<Work<'a>, WordsF
             until,
             patience,
             round_millis,
+            ask,
         } => Ok(Work::Left(Left::Serve(ServeOptions {
             port,
             path,
@@ -59,6 +60,7 @@ fn read_work<'a>(alloc: Global, words: &'a [&'a str]) -> Result<Work<'a>, WordsF
                 round_millis,
             },
             until,
+            ask,
         }))),
         Job::Ask {
             path,

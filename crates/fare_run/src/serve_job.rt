@@ -1,4 +1,4 @@
-ghost use Rattle.std.specs.Prelude.{◌≡◌, ◌≢◌, ℕ, List, None, is_none, length, OnOk, IfOk, IfErr, IfSome};
+ghost use Rattle.std.specs.Prelude.{◌≡◌, ◌≢◌, ℕ, List, None, is_none, is_some, length, OnOk, IfOk, IfErr, IfSome};
 ghost use Rattle.fare_run.specs.Databases.{ServesIn};
 ghost use Rattle.fare_run.specs.Serving.{FailsOver, IsServedOf, ServeEnds, ServeFails, WritesCounts};
 ghost use Rattle.fare_run.specs.Stores.{IsOfStores};
@@ -63,9 +63,9 @@ pub fn serve_databases<
     output: &mut O,
 ) -> (Databases<S>, Result<(), ServeFailure>)
     requires owners { length databases.ledgers.items ≡ length scheme.owners }
-    ensures served { OnOk result.1 (WritesCounts scheme (O.contents output.old) (O.contents output.new)) }
-    ensures fails { IfErr result.1 (FailsOver (O.contents output.old) (O.contents output.new)) }
-    ensures runs { ServesIn S.Store scheme options.now.limits.rounds (is_none options.now.until) databases result.0 (O.contents output.old) (O.contents output.new) result.1 }
+    ensures served { OnOk result.1 (WritesCounts scheme (is_some options.now.ask) (O.contents output.old) (O.contents output.new)) }
+    ensures fails { IfErr result.1 (FailsOver (is_some options.now.ask) (O.contents output.old) (O.contents output.new)) }
+    ensures runs { ServesIn S.Store scheme options.now.limits.rounds (is_none options.now.until) (is_some options.now.ask) databases result.0 (O.contents output.old) (O.contents output.new) result.1 }
 {
     match open_hub(rt.alloc(), scheme, databases) {
         Ok(mut opened) => {
@@ -73,6 +73,7 @@ pub fn serve_databases<
                 rt,
                 handles,
                 options.port,
+                options.ask,
                 &mut opened.hub,
                 options.limits,
                 options.until,
@@ -85,8 +86,9 @@ pub fn serve_databases<
 }
 
 /// Serves the stations of the scheme that the lines of an input make, or of a file where the options name one, over the
-/// stores in files at a path, in rounds of one session of the stations and one of each owner. Writes `listening PORT` before it waits for the first line, and the
-/// counts of all rounds at the end.
+/// stores in files at a path, in rounds of one session of the stations and one of each owner. Writes `listening PORT` before
+/// it waits for the first line, and behind it `answering PORT` where the options name a port at which an operator is
+/// answered; and the counts of all rounds at the end.
 ///
 /// Each failure of `ServeFailure` in its order; none but one of the writer comes where a count was written. Where a file is
 /// named the input is left as it is, and what is said of the input's bytes holds of some bytes: a file's aren't known.
@@ -101,9 +103,9 @@ pub fn serve<
     input: &mut I,
     output: &mut O,
 ) -> Result<(), ServeFailure>
-    ensures done { options.now.scheme ≡ None → OnOk result (IfSome (I.remaining input.old) (ServeEnds (O.contents output.old) (O.contents output.new))) }
-    ensures fails { options.now.scheme ≡ None → IfErr result (ServeFails (I.remaining input.old) (O.contents output.old) (O.contents output.new)) }
-    ensures some { (bytes : List ℕ) × IsServedOf (O.contents output.old) (O.contents output.new) bytes result }
+    ensures done { options.now.scheme ≡ None → OnOk result (IfSome (I.remaining input.old) (ServeEnds (is_some options.now.ask) (O.contents output.old) (O.contents output.new))) }
+    ensures fails { options.now.scheme ≡ None → IfErr result (ServeFails (is_some options.now.ask) (I.remaining input.old) (O.contents output.old) (O.contents output.new)) }
+    ensures some { (bytes : List ℕ) × IsServedOf (is_some options.now.ask) (O.contents output.old) (O.contents output.new) bytes result }
     ensures untouched { options.now.scheme ≢ None → input.new ≡ input.old }
 {
     let scheme = match scheme_from(rt, options.scheme, input) {

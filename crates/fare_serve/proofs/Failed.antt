@@ -19,10 +19,14 @@ use Rattle.fare_sessions.specs.declared.hub.Hub.{Hub}
 use Rattle.fare_sessions.specs.declared.session.Session.{Session}
 use Rattle.fare_sessions.specs.declared.session.Session.TheVariants.{Collect, Serve}
 use Rattle.fare_sessions.specs.declared.report.SessionsReport.{SessionsReport}
-use Rattle.fare_serve.specs.Calls.{AreEndedBy, AreHeld, AreUnended, Call, HasEnded, HasFailed, HasHeldStations, IsOfScheme, IsOutside, IsServing}
+use Rattle.fare_serve.specs.Calls.{AreEndedBy, AreHeld, AreUnended, Call, HasEnded, HasFailed, HasHeldStations, IsCollecting, IsOfScheme, IsOutside, IsServing}
+use Rattle.fare_serve.specs.Pausing.{HasRested, PauseOf}
+use Rattle.fare_serve.specs.Spacing.{AreSpaced, HaveStopped}
 use Rattle.fare_serve.specs.Rounds.{HasFailedRound, HaveFailedOwners, IsRound, Round, calls_of, olds_of, serving_of}
 use Rattle.fare_serve.specs.declared.fault.ServeFault.{ServeFault}
 use Rattle.fare_serve.proofs.Chained.{held_scheme, held_then}
+use Rattle.fare_serve.proofs.Rested.{rested_goes, rested_none}
+use Rattle.fare_serve.proofs.Spaced.{spaced_round, spaced_scheme, spaced_then}
 
 -- OWNERS
 -- the id stands at a place of the scheme's owners
@@ -69,18 +73,6 @@ ended_then [] ys fault unended ended = ended
 ended_then (x ∷ xs) ys fault unended ended = inr (unended.0, ended_then xs ys fault unended.1 ended)
 
 module _ {S O L : Type 0} (talks : S → Talk) (outbox : O → Standing OutboxValue) (ledger : L → Standing LedgerValue) where
-  -- outside of sessions
-  pub failed_outside : (hub : Hub O L) (fault : ServeFault) → IsOutside fault → HasFailed talks outbox ledger hub hub fault
-  failed_outside hub fault outside = record { calls = []; held = refl; ended = outside; each = tt }
-
-  -- behind calls that none ended, outside of sessions
-  pub failed_behind : (old new : Hub O L) (xs : List (Call S)) (fault : ServeFault) → AreHeld talks outbox ledger old new xs → AreUnended xs → AllByRecursion (IsOfScheme old.scheme) xs → IsOutside fault
-      → (f : HasFailed talks outbox ledger old new fault) × (f.calls ≡ xs)
-  failed_behind old new xs fault held unended each outside = (
-    record { calls = xs; held = held; ended = subst (AreEndedBy fault) (append-nil xs) (ended_then xs [] fault unended outside); each = each },
-    refl,
-  )
-
   -- behind calls that none ended, in others
   pub failed_after : (a b c : Hub O L) (xs : List (Call S)) (fault : ServeFault) → AreHeld talks outbox ledger a b xs → AreUnended xs → AllByRecursion (IsOfScheme a.scheme) xs → (next : HasFailed talks outbox ledger b c fault)
       → (f : HasFailed talks outbox ledger a c fault) × (f.calls ≡ xs ++ next.calls)
@@ -143,3 +135,44 @@ module _ {S O L : Type 0} (talks : S → Talk) (outbox : O → Standing OutboxVa
     };
     begun = ((stations, one.olds, refl), serving);
   }
+
+-- BEHIND ROUNDS
+-- a front of a round: nothing of it, or the stations' session, and sessions of owners behind it
+abbrev pub IsFront : {S : Type 0} → List (Call S) → Type 0
+IsFront [] = Unit {0}
+IsFront (c ∷ cs) = IsCollecting c × AllByRecursion IsServing cs
+
+module _ {S O L : Type 0} (talks : S → Talk) (does : PauseOf O L) (outbox : O → Standing OutboxValue) (ledger : L → Standing LedgerValue) where
+  -- behind calls that none ended, outside of sessions
+  pub stopped_behind : (old new : Hub O L) (xs : List (Call S)) (fault : ServeFault) → AreSpaced talks does outbox ledger old new xs → AreUnended xs → AllByRecursion (IsOfScheme old.scheme) xs → IsOutside fault
+      → (f : HaveStopped talks does outbox ledger old new fault) × (f.calls ≡ xs)
+  stopped_behind old new xs fault held unended each outside = (
+    record { calls = xs; last = new; held = held; rested = rested_none does outbox ledger new; ended = subst (AreEndedBy fault) (append-nil xs) (ended_then xs [] fault unended outside); each = each },
+    refl,
+  )
+
+  stopped_front : (a b m c : Hub O L) (xs cs : List (Call S)) (fault : ServeFault) → AreSpaced talks does outbox ledger a b xs → HasRested does outbox ledger b m → AreHeld talks outbox ledger m c cs → IsFront cs
+      → AreEndedBy fault (xs ++ cs) → AllByRecursion (IsOfScheme a.scheme) (xs ++ cs) → (f : HaveStopped talks does outbox ledger a c fault) × (f.calls ≡ xs ++ cs)
+  stopped_front a b m c xs [] fault spaced rested held front ended each = (
+    record { calls = xs ++ []; last = b; held = spaced_then talks does outbox ledger a b b xs [] spaced refl; rested = subst (HasRested does outbox ledger b) (sym held) rested; ended = ended; each = each },
+    refl,
+  )
+  stopped_front a b m c xs (x ∷ os) fault spaced rested held front ended each = (
+    record {
+      calls = xs ++ x ∷ os;
+      last = c;
+      held = spaced_then talks does outbox ledger a b c xs (x ∷ os) spaced (spaced_round talks does outbox ledger b m c x os rested front.0 front.1 held);
+      rested = rested_none does outbox ledger c;
+      ended = ended;
+      each = each;
+    },
+    refl,
+  )
+
+  -- behind calls that none ended, in the front of a round, before which the hub was at rest
+  pub stopped_after : (a b m c : Hub O L) (xs : List (Call S)) (fault : ServeFault) → AreSpaced talks does outbox ledger a b xs → AreUnended xs → AllByRecursion (IsOfScheme a.scheme) xs → HasRested does outbox ledger b m
+      → (next : HasFailed talks outbox ledger m c fault) → IsFront next.calls → (f : HaveStopped talks does outbox ledger a c fault) × (f.calls ≡ xs ++ next.calls)
+  stopped_after a b m c xs fault spaced unended each rested next front =
+      let same = (rested_goes does outbox ledger b m rested).scheme ∙ spaced_scheme talks does outbox ledger a b xs spaced in
+      stopped_front a b m c xs next.calls fault spaced rested next.held front (ended_then xs next.calls fault unended next.ended)
+      (all-append (IsOfScheme a.scheme) xs next.calls each (subst (λ sc. AllByRecursion (IsOfScheme sc) next.calls) same next.each))

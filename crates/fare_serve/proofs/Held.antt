@@ -15,23 +15,27 @@ use Rattle.fare_serve.specs.Rounds.{AreServed, HaveGiven, IsRound, Round, calls_
 use Rattle.fare_record.specs.Values.{RecordValue}
 use Rattle.fare_source.specs.declared.shift.Shift.{Shift}
 use Rattle.fare_net.specs.NetValue.{NetValue}
-use Rattle.fare_serve.specs.Calls.{AreHeld, Call, IsOutside}
-use Rattle.fare_serve.specs.Coming.{ComeOfLines}
+use Rattle.fare_serve.specs.Calls.{Call, IsOutside}
+use Rattle.fare_serve.specs.Coming.{ComeOfLines, HasBegun}
+use Rattle.fare_serve.specs.Pausing.{HasRested, PauseOf}
+use Rattle.fare_serve.specs.Spacing.{AreSpaced}
 use Rattle.fare_serve.specs.Seats.{AreFree, AreSeatsGathered, AreSeats}
 use Rattle.fare_serve.specs.Serving.{HasFailedHeld, HasFailedLines, HasHeldRound, HaveBeenHeld, HaveFailed, HaveTold, IsReadToEnds, KeepsStores, shift_talk}
 use Rattle.fare_serve.specs.declared.fault.ServeFault.{ServeFault}
 use Rattle.fare_serve.specs.declared.counts.Counts.{Counts}
 use Rattle.fare_serve.specs.declared.seats.Seat.{Seat}
-use Rattle.fare_serve.proofs.Chained.{gave_all, held_covers, held_follow, held_keeps, held_lasts, held_scheme, held_sound, ledgers_on, rounds_more, rounds_none}
+use Rattle.fare_serve.proofs.Chained.{held_scheme, ledgers_on}
+use Rattle.fare_serve.proofs.Rested.{rested_goes, rested_none}
+use Rattle.fare_serve.proofs.Spaced.{all_covered, all_follow, all_keep, all_last, all_owned, all_scheme, all_sound, gave_all, rounds_more, rounds_none, spaced_scheme}
 use Rattle.fare_serve.proofs.Coming.{AreSeated, are_serving, come_none, come_of_rounds, come_to_fault, lines_covered, seated_more}
-use Rattle.fare_serve.proofs.Failed.{failed_after, failed_behind, rounds_of_scheme}
+use Rattle.fare_serve.proofs.Failed.{IsFront, rounds_of_scheme, stopped_after, stopped_behind}
 use Rattle.fare_serve.proofs.Seated.{seats_of_free}
 use Rattle.fare_serve.proofs.Counted.{counts_more, counts_none, entries_of}
 
-module _ {O L : Type 0} (outbox : O → Standing OutboxValue) (ledger : L → Standing LedgerValue) where
+module _ {O L : Type 0} (does : PauseOf O L) (outbox : O → Standing OutboxValue) (ledger : L → Standing LedgerValue) where
   -- Rounds that were held, one after the other, and the seats behind them.
   pub record HaveBeenSeated (old new : Hub O L) (whole : Bool) (count : ℕ) (counts : Counts) (seats : List Seat) : Type 0 where
-    pub held : HaveBeenHeld outbox ledger old new whole count counts
+    pub held : HaveBeenHeld does outbox ledger old new whole count counts
     pub first : List Seat
     pub free : AreFree first
     pub seated : AreSeated old.scheme first held.rounds seats
@@ -41,7 +45,7 @@ module _ {O L : Type 0} (outbox : O → Standing OutboxValue) (ledger : L → St
     held = record {
       rounds = [];
       many = refl;
-      served = rounds_none shift_talk outbox ledger hub;
+      served = rounds_none shift_talk does outbox ledger hub;
       counted = counts_none hub.scheme c none;
       to_ends = λ e. tt;
       come = come_none hub.scheme;
@@ -59,13 +63,13 @@ module _ {O L : Type 0} (outbox : O → Standing OutboxValue) (ledger : L → St
       by [] seated none = seats_of_free sc seats (subst AreFree (sym seated) was.free)
       by (r ∷ rs) seated none = absurd (cc)
 
-  pub been_more : (old middle new : Hub O L) (whole : Bool) (count : ℕ) (c d : Counts) (seats gathered next : List Seat) → HaveBeenSeated old middle whole count c seats → AreSeatsGathered middle.scheme seats gathered
-      → HasHeldRound outbox ledger middle new whole c d gathered next → HaveBeenSeated old new whole (count + 1) d next
-  been_more old middle new whole count c d seats gathered next been came one = record {
+  pub been_more : (old middle begun new : Hub O L) (whole : Bool) (count : ℕ) (c d : Counts) (seats gathered next : List Seat) → HaveBeenSeated old middle whole count c seats → AreSeatsGathered middle.scheme seats gathered → HasRested does outbox ledger middle begun
+      → HasHeldRound outbox ledger begun new whole c d gathered next → HaveBeenSeated old new whole (count + 1) d next
+  been_more old middle begun new whole count c d seats gathered next been came rested one = record {
     held = record {
       rounds = was.rounds ++ one.served.round ∷ [];
       many = length-append was.rounds (one.served.round ∷ []) ∙ ap (λ n. n + 1) was.many;
-      served = rounds_more shift_talk outbox ledger old middle new was.rounds one.served.round one.before was.served one.served.is one.served.held one.served.unended;
+      served = rounds_more shift_talk does outbox ledger old middle begun new was.rounds one.served.round one.before was.served rested one.served.is one.served.held one.served.unended;
       counted = counts_more old.scheme was.rounds one.served.round c d was.counted one.served.counted;
       to_ends = λ e. all-append (IsReadToEnds old.scheme) was.rounds (one.served.round ∷ []) (was.to_ends e) ((one.before, subst (λ sc. IsRound sc one.served.round one.before) same one.served.is, one.to_ends e), tt);
       come = come_of_rounds old.scheme been.first (was.rounds ++ one.served.round ∷ []) next been.free seated;
@@ -75,19 +79,22 @@ module _ {O L : Type 0} (outbox : O → Standing OutboxValue) (ledger : L → St
     seated = seated;
   }
     where
-      was : HaveBeenHeld outbox ledger old middle whole count c
+      was : HaveBeenHeld does outbox ledger old middle whole count c
       was = been.held
 
-      same : middle.scheme ≡ old.scheme
-      same = held_scheme shift_talk outbox ledger old middle (flat_map calls_of was.rounds) was.served.held
+      before : middle.scheme ≡ old.scheme
+      before = spaced_scheme shift_talk does outbox ledger old middle (flat_map calls_of was.rounds) was.served.held
+
+      same : begun.scheme ≡ old.scheme
+      same = (rested_goes does outbox ledger middle begun rested).scheme ∙ before
 
       seated : AreSeated old.scheme been.first (was.rounds ++ one.served.round ∷ []) next
       seated = seated_more old.scheme been.first was.rounds seats one.served.round next been.seated (record {
         gathered = gathered;
-        came = subst (λ sc. AreSeatsGathered sc seats gathered) same came;
+        came = subst (λ sc. AreSeatsGathered sc seats gathered) before came;
         over = one.over;
         back = one.back;
-        serves = are_serving (keys_of middle.scheme.owners) one.served.round.owners one.served.is.serves;
+        serves = are_serving (keys_of begun.scheme.owners) one.served.round.owners one.served.is.serves;
       })
 
   pub round_scheme : (old new : Hub O L) (whole : Bool) (c d : Counts) (s t : List Seat) → HasHeldRound outbox ledger old new whole c d s t → new.scheme ≡ old.scheme
@@ -96,56 +103,63 @@ module _ {O L : Type 0} (outbox : O → Standing OutboxValue) (ledger : L → St
   pub round_ledgers : (old new : Hub O L) (whole : Bool) (c d : Counts) (s t : List Seat) → HasHeldRound outbox ledger old new whole c d s t → HasLedgers old → HasLedgers new
   round_ledgers old new whole c d s t one has = ledgers_on shift_talk outbox ledger old new (calls_of one.served.round) one.served.held has
 
-  pub been_scheme : (old new : Hub O L) (whole : Bool) (count : ℕ) (c : Counts) → HaveBeenHeld outbox ledger old new whole count c → new.scheme ≡ old.scheme
-  been_scheme old new whole count c was = held_scheme shift_talk outbox ledger old new (flat_map calls_of was.rounds) was.served.held
+  pub been_scheme : (old new : Hub O L) (whole : Bool) (count : ℕ) (c : Counts) → HaveBeenHeld does outbox ledger old new whole count c → new.scheme ≡ old.scheme
+  been_scheme old new whole count c was = spaced_scheme shift_talk does outbox ledger old new (flat_map calls_of was.rounds) was.served.held
 
   -- the counts have an entry for each owner
-  pub been_entries : (old new : Hub O L) (whole : Bool) (count : ℕ) (c : Counts) → HaveBeenHeld outbox ledger old new whole count c → length c.taken.items ≡ length new.scheme.owners
+  pub been_entries : (old new : Hub O L) (whole : Bool) (count : ℕ) (c : Counts) → HaveBeenHeld does outbox ledger old new whole count c → length c.taken.items ≡ length new.scheme.owners
   been_entries old new whole count c was = entries_of old.scheme c was.counted.owners ∙ ap (λ (sc : SchemeValue). length sc.owners) (sym (been_scheme old new whole count c was))
 
   -- WHAT THE CALLS KEEP OF THE STORES
-  pub calls_keep : (old new : Hub O L) (calls : List (Call (Shift NetValue))) (AreGiven : (ℕ → List RecordValue) → Type 0) → ((lists : ℕ → List RecordValue) → AreGiven lists → HaveTold old.scheme lists calls) → AreHeld shift_talk outbox ledger old new calls → ComeOfLines old.scheme calls
-      → KeepsStores outbox ledger old new calls AreGiven
-  calls_keep old new calls AreGiven told held come = record {
-    scheme = held_scheme shift_talk outbox ledger old new calls held;
-    follow = held_follow shift_talk outbox ledger old new calls held;
-    sound = held_sound shift_talk outbox ledger old new calls held;
-    agrees = λ clean sound lists numbered given agreed. held_keeps shift_talk outbox ledger old new calls held clean sound lists numbered (told lists given) agreed;
-    covered = λ clean sound lists numbered given agreed k may. held_covers shift_talk outbox ledger old new calls held clean sound lists numbered (told lists given) agreed k may;
-    answered = λ clean sound lists numbered given agreed k may. lines_covered old.scheme k.outbox calls come (held_covers shift_talk outbox ledger old new calls held clean sound lists numbered (told lists given) agreed k may);
-    lasts = held_lasts shift_talk outbox ledger old new calls held;
+  pub calls_keep : (old last new : Hub O L) (calls : List (Call (Shift NetValue))) (AreGiven : (ℕ → List RecordValue) → Type 0) → ((lists : ℕ → List RecordValue) → AreGiven lists → HaveTold old.scheme lists calls) → AreSpaced shift_talk does outbox ledger old last calls
+      → HasRested does outbox ledger last new → ComeOfLines old.scheme calls → KeepsStores does outbox ledger old new calls AreGiven
+  calls_keep old last new calls AreGiven told held rested come = record {
+    scheme = all_scheme shift_talk does outbox ledger old last new calls held rested;
+    follow = all_follow shift_talk does outbox ledger old last new calls held rested;
+    sound = all_sound shift_talk does outbox ledger old last new calls held rested;
+    agrees = λ clean sound lists numbered given agreed. all_keep shift_talk does outbox ledger old last new calls held rested clean sound lists numbered (told lists given) agreed;
+    covered = λ clean sound lists numbered given agreed k may. all_covered shift_talk does outbox ledger old last new calls held rested clean sound lists numbered (told lists given) agreed k may;
+    answered = λ clean sound lists numbered given agreed k may. lines_covered old.scheme k.outbox calls come (all_covered shift_talk does outbox ledger old last new calls held rested clean sound lists numbered (told lists given) agreed k may);
+    lasts = all_last shift_talk does outbox ledger old last new calls held rested;
+    owned = λ keep clean sound owned. all_owned shift_talk does outbox ledger old last new calls held rested clean sound keep owned;
   }
 
-  pub rounds_keep : (old new : Hub O L) (rounds : List (Round (Shift NetValue))) → AreServed shift_talk outbox ledger old new rounds → ComeOfLines old.scheme (flat_map calls_of rounds) → KeepsStores outbox ledger old new (flat_map calls_of rounds) (λ lists. HaveGiven shift_talk outbox ledger old.scheme lists rounds)
+  pub rounds_keep : (old new : Hub O L) (rounds : List (Round (Shift NetValue))) → AreServed shift_talk does outbox ledger old new rounds → ComeOfLines old.scheme (flat_map calls_of rounds) → KeepsStores does outbox ledger old new (flat_map calls_of rounds) (λ lists. HaveGiven shift_talk outbox ledger old.scheme lists rounds)
   rounds_keep old new rounds served come =
-      calls_keep old new (flat_map calls_of rounds) _ (λ lists given. gave_all shift_talk outbox ledger old.scheme lists rounds served.each given) served.held come
+      calls_keep old new new (flat_map calls_of rounds) _ (λ lists given. gave_all shift_talk does outbox ledger old.scheme lists rounds served.each given) served.held (rested_none does outbox ledger new) come
 
   -- A FAULT
-  pub lines_failed : (old new : Hub O L) (fault : ServeFault) → HaveFailed outbox ledger old new fault → HasFailedLines outbox ledger old new fault
+  pub lines_failed : (old new : Hub O L) (fault : ServeFault) → HaveFailed does outbox ledger old new fault → HasFailedLines does outbox ledger old new fault
   lines_failed old new fault h = record {
     failed = h.failed;
     come = h.come;
-    keeps = calls_keep old new h.failed.calls _ (λ lists given. given) h.failed.held h.come;
+    keeps = calls_keep old h.failed.last new h.failed.calls _ (λ lists given. given) h.failed.held h.failed.rested h.come;
   }
 
   -- before any session
-  pub none_failed : (hub : Hub O L) (fault : ServeFault) → IsOutside fault → HaveFailed outbox ledger hub hub fault
-  none_failed hub fault outside = record { failed = record { calls = []; held = refl; ended = outside; each = tt }; come = come_none hub.scheme }
+  pub none_failed : (hub : Hub O L) (fault : ServeFault) → IsOutside fault → HaveFailed does outbox ledger hub hub fault
+  none_failed hub fault outside = record { failed = record { calls = []; last = hub; held = refl; rested = rested_none does outbox ledger hub; ended = outside; each = tt }; come = come_none hub.scheme }
+
+  -- lines were lent to a front of a round
+  front_of : (seats : List Seat) (calls : List (Call (Shift NetValue))) → HasBegun seats calls → IsFront calls
+  front_of seats [] begun = tt
+  front_of seats (c ∷ cs) begun = ((begun.0.stations, begun.0.collects), begun.1)
 
   -- behind rounds, in one that had begun
-  pub rounds_failed : (old middle new : Hub O L) (whole : Bool) (count : ℕ) (c : Counts) (seats gathered : List Seat) (fault : ServeFault) → HaveBeenSeated old middle whole count c seats → AreSeatsGathered middle.scheme seats gathered
-      → HasFailedHeld outbox ledger middle new gathered fault → HaveFailed outbox ledger old new fault
-  rounds_failed old middle new whole count c seats gathered fault been came next =
+  pub rounds_failed : (old middle begun new : Hub O L) (whole : Bool) (count : ℕ) (c : Counts) (seats gathered : List Seat) (fault : ServeFault) → HaveBeenSeated old middle whole count c seats → AreSeatsGathered middle.scheme seats gathered → HasRested does outbox ledger middle begun
+      → HasFailedHeld outbox ledger begun new gathered fault → HaveFailed does outbox ledger old new fault
+  rounds_failed old middle begun new whole count c seats gathered fault been came rested next =
       let was = been.held in
-      let same = held_scheme shift_talk outbox ledger old middle (flat_map calls_of was.rounds) was.served.held in
-      let all = failed_after shift_talk outbox ledger old middle new (flat_map calls_of was.rounds) fault was.served.held was.served.unended (rounds_of_scheme old.scheme was.rounds was.served.each) next.failed in
+      let same = spaced_scheme shift_talk does outbox ledger old middle (flat_map calls_of was.rounds) was.served.held in
+      let front = front_of gathered next.failed.calls next.begun in
+      let all = stopped_after shift_talk does outbox ledger old middle begun new (flat_map calls_of was.rounds) fault was.served.held was.served.unended (rounds_of_scheme old.scheme was.rounds was.served.each) rested next.failed front in
       record {
         failed = all.0;
         come = subst (ComeOfLines old.scheme) (sym all.1) (come_to_fault old.scheme been.first was.rounds seats gathered next.failed.calls been.free been.seated (subst (λ sc. AreSeatsGathered sc seats gathered) same came) next.begun);
       }
 
   -- behind rounds, outside of sessions
-  pub rounds_failed_behind : (old new : Hub O L) (whole : Bool) (count : ℕ) (c : Counts) (fault : ServeFault) → HaveBeenHeld outbox ledger old new whole count c → IsOutside fault → HaveFailed outbox ledger old new fault
+  pub rounds_failed_behind : (old new : Hub O L) (whole : Bool) (count : ℕ) (c : Counts) (fault : ServeFault) → HaveBeenHeld does outbox ledger old new whole count c → IsOutside fault → HaveFailed does outbox ledger old new fault
   rounds_failed_behind old new whole count c fault was outside =
-      let all = failed_behind shift_talk outbox ledger old new (flat_map calls_of was.rounds) fault was.served.held was.served.unended (rounds_of_scheme old.scheme was.rounds was.served.each) outside in
+      let all = stopped_behind shift_talk does outbox ledger old new (flat_map calls_of was.rounds) fault was.served.held was.served.unended (rounds_of_scheme old.scheme was.rounds was.served.each) outside in
       record { failed = all.0; come = subst (ComeOfLines old.scheme) (sym all.1) was.come }

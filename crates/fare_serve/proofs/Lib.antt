@@ -1,7 +1,9 @@
 pub mod Chained
+pub mod Rested
 pub mod Counted
 pub mod Seated
 pub mod Lent
-pub mod Failed
 pub mod Coming
+pub mod Spaced
+pub mod Failed
 pub mod Held

@@ -83,6 +83,10 @@ IsOfScheme {S} sc c =
     ((stations : Vec (Station S) Global) × (c.olds ≡ Collect stations ∷ []) × AreStations sc stations.items × (length stations.items ≡ length sc.stations))
     ⊎ ((owner : ℕ) × (place : ℕ) × (c.olds ≡ Serve owner ∷ []) × (id_at sc.owners place ≡ Some owner))
 
+-- a session of stations
+abbrev pub IsCollecting : {S : Type 0} → Call S → Type 0
+IsCollecting {S} c = (stations : Vec (Station S) Global) × (c.olds ≡ Collect stations ∷ [])
+
 -- a session of an owner
 abbrev pub IsServing : {S : Type 0} → Call S → Type 0
 IsServing c = (owner : ℕ) × (c.olds ≡ Serve owner ∷ [])

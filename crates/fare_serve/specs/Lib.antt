@@ -2,7 +2,9 @@ pub mod Counting
 pub mod Lines
 pub mod Seats
 pub mod Lending
+pub mod Pausing
 pub mod Calls
+pub mod Spacing
 pub mod Coming
 pub mod Rounds
 pub mod Serving

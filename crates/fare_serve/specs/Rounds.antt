@@ -17,6 +17,8 @@ use Rattle.fare_sessions.specs.declared.session.Session.TheVariants.{Collect, Se
 use Rattle.fare_sessions.specs.Promises.{GaveOf}
 use Rattle.fare_sessions.specs.declared.report.SessionsReport.{SessionsReport}
 use Rattle.fare_serve.specs.Calls.{Call, AreHeld, AreUnended, HasFailed, IsServing, stations_in}
+use Rattle.fare_serve.specs.Pausing.{PauseOf}
+use Rattle.fare_serve.specs.Spacing.{AreSpaced}
 use Rattle.fare_serve.specs.Counting.{IsCountsOf, kept_count, owner_in}
 use Rattle.fare_serve.specs.declared.counts.Counts.{Counts}
 use Rattle.fare_serve.specs.declared.counts.Taken.{Taken}
@@ -83,13 +85,13 @@ pub record AreCountsOf {S : Type 0} (sc : SchemeValue) (rounds : List (Round S))
   pub left : c.left ≡ kept_count (sum_by left_over rounds)
 
 -- ROUNDS
-module _ {S O L : Type 0} (talks : S → Talk) (outbox : O → Standing OutboxValue) (ledger : L → Standing LedgerValue) where
-  -- rounds one after the other, each over the stores that the one before it left
-  pub record AreServed (old new : Hub O L) (rounds : List (Round S)) : Type 0 where
-    pub each : AllByRecursion (λ r. (before : List (Station S)) × IsRound old.scheme r before) rounds
-    pub held : AreHeld talks outbox ledger old new (flat_map calls_of rounds)
-    pub unended : AreUnended (flat_map calls_of rounds)
+-- rounds one after the other, each over the stores that the one before it, and the rest behind that one, left
+pub record AreServed {S O L : Type 0} (talks : S → Talk) (does : PauseOf O L) (outbox : O → Standing OutboxValue) (ledger : L → Standing LedgerValue) (old new : Hub O L) (rounds : List (Round S)) : Type 0 where
+  pub each : AllByRecursion (λ r. (before : List (Station S)) × IsRound old.scheme r before) rounds
+  pub held : AreSpaced talks does outbox ledger old new (flat_map calls_of rounds)
+  pub unended : AreUnended (flat_map calls_of rounds)
 
+module _ {S O L : Type 0} (talks : S → Talk) (outbox : O → Standing OutboxValue) (ledger : L → Standing LedgerValue) where
   -- each frame that a source gave in one of these rounds is of the lists
   abbrev pub HaveGiven : SchemeValue → (ℕ → List RecordValue) → List (Round S) → Type 0
   HaveGiven sc lists rounds = AllByRecursion (λ r. GaveOf talks sc lists r.stations.olds r.stations.news) rounds

@@ -23,6 +23,8 @@ use Rattle.fare_sessions.specs.Reopening.{AreLasting, AreOwned}
 use Rattle.fare_serve.specs.Counting.{counts_text}
 use Rattle.fare_scheme.specs.Values.{SchemeValue}
 use Rattle.fare_serve.specs.Calls.{Call, HasFailed, stations_in}
+use Rattle.fare_serve.specs.Pausing.{KeepOwners, PauseOf}
+use Rattle.fare_serve.specs.Spacing.{HaveStopped}
 use Rattle.fare_serve.specs.Coming.{AreLinesCovered, ComeOfLines, HasBegun, IsOverLines}
 use Rattle.fare_serve.specs.Lending.{AreBack}
 use Rattle.fare_serve.specs.Rounds.{Round, IsRound, AreCountsOf, AreServed, HasServedRound, HaveGiven, calls_of}
@@ -70,52 +72,53 @@ reads_to_ends most untold = nat_le most 1 && untold
 abbrev pub IsReadToEnds : SchemeValue → Round (Shift NetValue) → Type 0
 IsReadToEnds sc r = (before : List (Station (Shift NetValue))) × IsRound sc r before × AreWhole (map source_of before)
 
--- So many rounds were held, one after the other; these are the counts of all.
-pub record HaveBeenHeld {O L : Type 0} (outbox : O → Standing OutboxValue) (ledger : L → Standing LedgerValue) (old new : Hub O L) (whole : Bool) (count : ℕ) (counts : Counts) : Type 0 where
+-- So many rounds were held, one after the other, with pauses between them; these are the counts of all.
+pub record HaveBeenHeld {O L : Type 0} (does : PauseOf O L) (outbox : O → Standing OutboxValue) (ledger : L → Standing LedgerValue) (old new : Hub O L) (whole : Bool) (count : ℕ) (counts : Counts) : Type 0 where
   pub rounds : List (Round (Shift NetValue))
   pub many : length rounds ≡ count
-  pub served : AreServed shift_talk outbox ledger old new rounds
+  pub served : AreServed shift_talk does outbox ledger old new rounds
   pub counted : AreCountsOf old.scheme rounds counts
   pub to_ends : whole ≡ true → AllByRecursion (IsReadToEnds old.scheme) rounds
   pub come : ComeOfLines old.scheme (flat_map calls_of rounds)
 
--- Sessions up to a fault that ended them, and where their lines came from.
-pub record HaveFailed {O L : Type 0} (outbox : O → Standing OutboxValue) (ledger : L → Standing LedgerValue) (old new : Hub O L) (fault : ServeFault) : Type 0 where
-  pub failed : HasFailed shift_talk outbox ledger old new fault
+-- Sessions up to a fault that ended them, with pauses between two rounds, and where their lines came from.
+pub record HaveFailed {O L : Type 0} (does : PauseOf O L) (outbox : O → Standing OutboxValue) (ledger : L → Standing LedgerValue) (old new : Hub O L) (fault : ServeFault) : Type 0 where
+  pub failed : HaveStopped shift_talk does outbox ledger old new fault
   pub come : ComeOfLines old.scheme failed.calls
 
 -- At least one, at most so many, and exactly so many where no file could end them.
-pub record HasHeldRounds {O L : Type 0} (outbox : O → Standing OutboxValue) (ledger : L → Standing LedgerValue) (old new : Hub O L) (most : ℕ) (untold : Bool) (counts : Counts) : Type 0 where
+pub record HasHeldRounds {O L : Type 0} (does : PauseOf O L) (outbox : O → Standing OutboxValue) (ledger : L → Standing LedgerValue) (old new : Hub O L) (most : ℕ) (untold : Bool) (counts : Counts) : Type 0 where
   pub count : ℕ
   pub some : 0 < count
   pub few : count ≤ max most 1
   pub all : untold ≡ true → count ≡ max most 1
-  pub held : HaveBeenHeld outbox ledger old new (reads_to_ends most untold) count counts
+  pub held : HaveBeenHeld does outbox ledger old new (reads_to_ends most untold) count counts
 
--- What calls of sessions over lines, one after the other, keep of the stores: the scheme is the same, the stores go on from
--- those before, and what each holds fits together, where it did; and where they agreed with lists of taps of which the
--- lines' frames are, they do afterwards, nothing fell, and each acknowledgement that a line was answered in a call is covered
--- by the outbox, and so are all that it was answered from its greeting on; and whatever a stop would leave of them fits
--- together, where it did.
-pub record KeepsStores {O L : Type 0} (outbox : O → Standing OutboxValue) (ledger : L → Standing LedgerValue) (old new : Hub O L) (calls : List (Call (Shift NetValue))) (AreGiven : (ℕ → List RecordValue) → Type 0) : Type 0 where
+-- What calls of sessions over lines, one after the other, and the pauses between them keep of the stores: the scheme is the
+-- same, the stores go on from those before, and what each holds fits together, where it did; and where they agreed with lists
+-- of taps of which the lines' frames are, they do afterwards, nothing fell, and each acknowledgement that a line was answered
+-- in a call is covered by the outbox, and so are all that it was answered from its greeting on; and whatever a stop would
+-- leave of them fits together, where it did, and where no pause makes a ledger another owner's, each is its owner's.
+pub record KeepsStores {O L : Type 0} (does : PauseOf O L) (outbox : O → Standing OutboxValue) (ledger : L → Standing LedgerValue) (old new : Hub O L) (calls : List (Call (Shift NetValue))) (AreGiven : (ℕ → List RecordValue) → Type 0) : Type 0 where
   pub scheme : new.scheme ≡ old.scheme
   pub follow : StoresFollow outbox ledger old new
   pub sound : AreClean outbox ledger new → AreSound outbox ledger old → AreSound outbox ledger new
   pub agrees : AreClean outbox ledger new → AreSound outbox ledger old → (lists : ℕ → List RecordValue) → AreNumberedLists old.scheme lists → AreGiven lists → IsAgreed outbox ledger lists old → IsAgreed outbox ledger lists new × HasGrown outbox ledger old new
   pub covered : AreClean outbox ledger new → AreSound outbox ledger old → (lists : ℕ → List RecordValue) → AreNumberedLists old.scheme lists → AreGiven lists → IsAgreed outbox ledger lists old → (k : StoresValue) → MayStandAs outbox ledger new k → AreAllCovered old.scheme k.outbox calls
   pub answered : AreClean outbox ledger new → AreSound outbox ledger old → (lists : ℕ → List RecordValue) → AreNumberedLists old.scheme lists → AreGiven lists → IsAgreed outbox ledger lists old → (k : StoresValue) → MayStandAs outbox ledger new k → AreLinesCovered old.scheme k.outbox calls
-  pub lasts : AreClean outbox ledger new → AreSound outbox ledger old → AreLasting outbox ledger old → AreOwned outbox ledger old → AreLasting outbox ledger new × AreOwned outbox ledger new
+  pub lasts : AreClean outbox ledger new → AreSound outbox ledger old → AreLasting outbox ledger old → AreLasting outbox ledger new
+  pub owned : KeepOwners does outbox ledger → AreClean outbox ledger new → AreSound outbox ledger old → AreOwned outbox ledger old → AreOwned outbox ledger new
 
 -- What was written is the counts of the sessions' reports in rounds over lines, and what these keep of the stores.
-pub record HasServedLines {O L : Type 0} (outbox : O → Standing OutboxValue) (ledger : L → Standing LedgerValue) (old new : Hub O L) (most : ℕ) (untold : Bool) (written_old written_new : Option (List ℕ)) : Type 0 where
+pub record HasServedLines {O L : Type 0} (does : PauseOf O L) (outbox : O → Standing OutboxValue) (ledger : L → Standing LedgerValue) (old new : Hub O L) (most : ℕ) (untold : Bool) (written_old written_new : Option (List ℕ)) : Type 0 where
   pub counts : Counts
-  pub held : HasHeldRounds outbox ledger old new most untold counts
+  pub held : HasHeldRounds does outbox ledger old new most untold counts
   pub written : Appends written_old written_new (counts_text counts)
-  pub keeps : KeepsStores outbox ledger old new (flat_map calls_of held.held.rounds) (λ lists. HaveGiven shift_talk outbox ledger old.scheme lists held.held.rounds)
+  pub keeps : KeepsStores does outbox ledger old new (flat_map calls_of held.held.rounds) (λ lists. HaveGiven shift_talk outbox ledger old.scheme lists held.held.rounds)
 
 -- Where a fault ended the rounds: the calls up to it, the fault that it was, where their lines came from, and what they keep of
 -- the stores.
-pub record HasFailedLines {O L : Type 0} (outbox : O → Standing OutboxValue) (ledger : L → Standing LedgerValue) (old new : Hub O L) (fault : ServeFault) : Type 0 where
-  pub failed : HasFailed shift_talk outbox ledger old new fault
+pub record HasFailedLines {O L : Type 0} (does : PauseOf O L) (outbox : O → Standing OutboxValue) (ledger : L → Standing LedgerValue) (old new : Hub O L) (fault : ServeFault) : Type 0 where
+  pub failed : HaveStopped shift_talk does outbox ledger old new fault
   pub come : ComeOfLines old.scheme failed.calls
-  pub keeps : KeepsStores outbox ledger old new failed.calls (λ lists. HaveTold old.scheme lists failed.calls)
+  pub keeps : KeepsStores does outbox ledger old new failed.calls (λ lists. HaveTold old.scheme lists failed.calls)

@@ -1,11 +1,17 @@
 ghost use Rattle.std.specs.Prelude.{◌≡◌, ◌≤◌, IfOk, length, vec_len};
+ghost use Rattle.fare_sessions.specs.Stores.{HasLedgers};
+ghost use Rattle.fare_serve.specs.Pausing.{HasRested};
 ghost use Rattle.fare_serve.specs.Seats.{AreFree, AreSeatsGathered, AreSeats, AreSeatsAfter};
 
+use crate::counts::Counts;
 use crate::guest::{Guest, MOST_GUESTS, welcome};
 use crate::limits::Limits;
+use crate::pause::Pause;
 use crate::seats::{Rule, Seat, are_taken, free_seats, is_one_taken, seat_guests};
 use crate::telling::tell_absent;
 use fare_scheme::Scheme;
+use fare_sessions::Hub;
+use fare_store::{Ledger, Outbox};
 use std::alloc::{AllocError, Global};
 use std::net::TcpListener;
 use std::thread;
@@ -78,34 +84,42 @@ impl Lines {
     }
 
     // Takes lines for a round. For the first one until each station has one, in at most so many attempts as there are
-    // turns; for another those that have come, and where no station has one it waits a short while.
-    pub(crate) fn gather<R: Clock + Eprint>(
+    // turns; for another those that have come, and where no station has one it waits a short while. Behind each attempt
+    // there is a pause, when so many rounds have been held, of which these are the counts.
+    pub(crate) fn gather<O: Outbox, L: Ledger, P: Pause<O, L>, R: Clock + Eprint>(
         &mut self,
-        rt: &R,
-        alloc: Global,
+        rt: &HostRuntime,
+        handles: &R,
         listener: &TcpListener,
-        scheme: &Scheme,
+        hub: &mut Hub<O, L>,
         limits: Limits,
         rule: Rule,
+        pauses: &mut P,
+        counts: &Counts,
+        rounds: u32,
     )
+        requires ledgers { HasLedgers hub.old }
         ensures len { vec_len self.new.seats ≡ vec_len self.old.seats }
-        ensures gathered { (rule ≡ Rule.First → AreSeats scheme.now self.old.seats.items) → AreSeatsGathered scheme.now self.old.seats.items self.new.seats.items }
+        ensures gathered { (rule ≡ Rule.First → AreSeats hub.old.scheme self.old.seats.items) → AreSeatsGathered hub.old.scheme self.old.seats.items self.new.seats.items }
+        ensures rested { HasRested P.does O.standing L.standing hub.old hub.new }
     {
+        let alloc = rt.alloc();
         let attempts = match rule {
             Rule::First => limits.turns,
             Rule::Last => MOST_ATTEMPTS,
         };
         for _ in 0..attempts {
-            self.attempt(rt, alloc, listener, scheme, limits, rule);
+            self.attempt(handles, alloc, listener, &hub.scheme, limits, rule);
+            pauses.pause(rt, hub, counts, rounds);
             if self.are_enough(rule) {
                 break;
             }
             if self.guests.is_empty() {
-                thread::sleep(rt, Duration::from_millis(NAP));
+                thread::sleep(handles, Duration::from_millis(NAP));
             }
         }
         if rule == Rule::First {
-            self.tell_absent(rt, scheme);
+            self.tell_absent(handles, &hub.scheme);
         }
     }
 }

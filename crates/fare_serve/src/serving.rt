@@ -10,6 +10,7 @@ use crate::gate::RoundGate;
 use crate::gathering::Lines;
 use crate::lending::{lend_all, take_all_back};
 use crate::limits::Limits;
+use crate::pause::Pause;
 use crate::rounds::serve_round;
 use crate::seats::Rule;
 use fare_collect::{StationsFault, stations_of};
@@ -88,20 +89,27 @@ fn hold_round<O: Outbox + Send, L: Ledger + Send, R: Threads + Wait + Clock + Ep
     Ok(())
 }
 
-// Rounds, one after the other: at most so many as the limits say, or to the one after which the file is there.
-fn hold_rounds<O: Outbox + Send, L: Ledger + Send, R: Threads + Wait + Clock + Eprint + Sync>(
+// Rounds, one after the other, each behind pauses: at most so many as the limits say, or to the one after which the file is
+// there.
+fn hold_rounds<
+    O: Outbox + Send,
+    L: Ledger + Send,
+    P: Pause<O, L>,
+    R: Threads + Wait + Clock + Eprint + Sync,
+>(
     rt: &HostRuntime,
     handles: &R,
     listener: &TcpListener,
     hub: &mut Hub<O, L>,
     limits: Limits,
     until: Option<&str>,
+    pauses: &mut P,
     counts: &mut Counts,
 ) -> Result<(), ServeFault>
     requires ledgers { HasLedgers hub.old }
     requires none { AreNoCounts hub.old.scheme counts.old }
-    ensures held { OnOk result (HasHeldRounds O.standing L.standing hub.old hub.new limits.rounds (is_none until.entry) counts.new) }
-    ensures failed { IfErr result (HaveFailed O.standing L.standing hub.old hub.new) }
+    ensures held { OnOk result (HasHeldRounds P.does O.standing L.standing hub.old hub.new limits.rounds (is_none until.entry) counts.new) }
+    ensures failed { IfErr result (HaveFailed P.does O.standing L.standing hub.old hub.new) }
     ensures fault { IfErr result (λ fault. fault ≢ ServeFault.Write) }
 {
     let alloc = rt.alloc();
@@ -109,7 +117,9 @@ fn hold_rounds<O: Outbox + Send, L: Ledger + Send, R: Threads + Wait + Clock + E
     let mut lines = Lines::new(alloc, &hub.scheme, reads_of(limits, whole))?;
     for round in 0..limits.rounds.max(1) {
         let rule = rule_of(round);
-        lines.gather(handles, alloc, listener, &hub.scheme, limits, rule);
+        lines.gather(
+            rt, handles, listener, hub, limits, rule, pauses, counts, round,
+        );
         hold_round(handles, alloc, hub, limits, whole, &mut lines, counts)?;
         if is_told(rt, until) {
             return Ok(());
@@ -131,15 +141,17 @@ fn hold_rounds<O: Outbox + Send, L: Ledger + Send, R: Threads + Wait + Clock + E
 /// for their greeting at once, each for at most 100 reads. One that doesn't greet, or not as a device of the scheme, is
 /// let go, and so is a second one of a station before the first round, unless the first is over. Between rounds the
 /// newer line of a station replaces the older one. A station that has no line takes part in a round with one that is at
-/// its end; one whose line has ended or broken has none till its validator comes again.
+/// its end; one whose line has ended or broken has none till its validator comes again. Behind each attempt to take
+/// connections the hub is at rest, and what is done then is the pauses'.
 ///
 /// `Memory` or `Store` where that is the first such fault of a session, in their order, and none follows it then; `Memory`
 /// also where there is none for a line's seat, a station or a session's list of faults, or for the text; nothing was
-/// written then. `Write` where the writer failed. Whatever ended it, the stores hold what the sessions up to there made of
-/// them.
+/// written then. `Write` where the writer failed. Whatever ended it, the stores hold what the sessions and the pauses up to
+/// there made of them.
 pub fn serve_rounds<
     O: Outbox + Send,
     L: Ledger + Send,
+    P: Pause<O, L>,
     W: Write,
     R: Threads + Wait + Clock + Eprint + Sync,
 >(
@@ -149,16 +161,26 @@ pub fn serve_rounds<
     hub: &mut Hub<O, L>,
     limits: Limits,
     until: Option<&str>,
+    pauses: &mut P,
     output: &mut W,
 ) -> Result<(), ServeFault>
     requires ledgers { HasLedgers hub.old }
-    ensures served { OnOk result (HasServedLines O.standing L.standing hub.old hub.new limits.rounds (is_none until.entry) (W.contents output.old) (W.contents output.new)) }
-    ensures failed { IfErr result (HasFailedLines O.standing L.standing hub.old hub.new) }
+    ensures served { OnOk result (HasServedLines P.does O.standing L.standing hub.old hub.new limits.rounds (is_none until.entry) (W.contents output.old) (W.contents output.new)) }
+    ensures failed { IfErr result (HasFailedLines P.does O.standing L.standing hub.old hub.new) }
     ensures kept { IfErr result (λ fault. fault ≢ ServeFault.Write → Keeps (W.contents output.old) (W.contents output.new)) }
 {
     let alloc = rt.alloc();
     let mut counts = Counts::none(alloc, &hub.scheme)?;
-    hold_rounds(rt, handles, listener, hub, limits, until, &mut counts)?;
+    hold_rounds(
+        rt,
+        handles,
+        listener,
+        hub,
+        limits,
+        until,
+        pauses,
+        &mut counts,
+    )?;
     write_counts(alloc, &counts, output)?;
     Ok(())
 }

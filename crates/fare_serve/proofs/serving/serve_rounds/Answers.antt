@@ -11,25 +11,25 @@ returns-clause-served g c =
       counts = c.hold_rounds.new.counts;
       held = held;
       written = c.in_ok-write_counts.ensures.written;
-      keeps = rounds_keep g.O.Outbox.standing g.L.Ledger.standing c.args.hub.now c.hold_rounds.new.hub held.held.rounds held.held.served held.held.come;
+      keeps = rounds_keep g.P.Pause.does g.O.Outbox.standing g.L.Ledger.standing c.args.hub.now c.hold_rounds.new.hub held.held.rounds held.held.served held.held.come;
     }
 
 pub returns-in_err-counts-clause-failed : goal.returns-in_err-counts-clause-failed
 returns-in_err-counts-clause-failed g c =
-    let failed : HasFailedLines g.O.Outbox.standing g.L.Ledger.standing c.args.hub.now c.args.hub.now Memory = lines_failed g.O.Outbox.standing g.L.Ledger.standing c.args.hub.now c.args.hub.now Memory (none_failed g.O.Outbox.standing g.L.Ledger.standing c.args.hub.now Memory tt) in
+    let failed : HasFailedLines g.P.Pause.does g.O.Outbox.standing g.L.Ledger.standing c.args.hub.now c.args.hub.now Memory = lines_failed g.P.Pause.does g.O.Outbox.standing g.L.Ledger.standing c.args.hub.now c.args.hub.now Memory (none_failed g.P.Pause.does g.O.Outbox.standing g.L.Ledger.standing c.args.hub.now Memory tt) in
     search (rules, failed)
 
 pub returns-in_err-hold_rounds-clause-failed : goal.returns-in_err-hold_rounds-clause-failed
 returns-in_err-hold_rounds-clause-failed g c =
     let fault = c.in_err-hold_rounds.field-0.0 in
-    let failed : HasFailedLines g.O.Outbox.standing g.L.Ledger.standing c.args.hub.now c.hold_rounds.new.hub fault = lines_failed g.O.Outbox.standing g.L.Ledger.standing c.args.hub.now c.hold_rounds.new.hub fault c.in_err-hold_rounds.ensures.failed in
+    let failed : HasFailedLines g.P.Pause.does g.O.Outbox.standing g.L.Ledger.standing c.args.hub.now c.hold_rounds.new.hub fault = lines_failed g.P.Pause.does g.O.Outbox.standing g.L.Ledger.standing c.args.hub.now c.hold_rounds.new.hub fault c.in_err-hold_rounds.ensures.failed in
     search (rules, failed)
 
 pub returns-in_err-write_counts-clause-failed : goal.returns-in_err-write_counts-clause-failed
 returns-in_err-write_counts-clause-failed g c =
     let rounds = c.in_ok-hold_rounds.ensures.held in
     let fault = c.in_err-write_counts.field-0.0 in
-    let failed : HasFailedLines g.O.Outbox.standing g.L.Ledger.standing c.args.hub.now c.hold_rounds.new.hub fault =
-    lines_failed g.O.Outbox.standing g.L.Ledger.standing c.args.hub.now c.hold_rounds.new.hub fault
-    (rounds_failed_behind g.O.Outbox.standing g.L.Ledger.standing c.args.hub.now c.hold_rounds.new.hub _ rounds.count c.hold_rounds.new.counts fault rounds.held c.in_err-write_counts.ensures.outside) in
+    let failed : HasFailedLines g.P.Pause.does g.O.Outbox.standing g.L.Ledger.standing c.args.hub.now c.hold_rounds.new.hub fault =
+    lines_failed g.P.Pause.does g.O.Outbox.standing g.L.Ledger.standing c.args.hub.now c.hold_rounds.new.hub fault
+    (rounds_failed_behind g.P.Pause.does g.O.Outbox.standing g.L.Ledger.standing c.args.hub.now c.hold_rounds.new.hub _ rounds.count c.hold_rounds.new.counts fault rounds.held c.in_err-write_counts.ensures.outside) in
     search (rules, failed)

@@ -1,0 +1,167 @@
+-- What a response tells, of how a question or an order ended.
+use Rattle.std.proofs.Common.{◌≡◌, ◌≢◌, ◌⊎◌, ℕ, List, [], ◌++◌, true, refl, sym, ap, ◌∙◌, subst, inl, inr}
+use Rattle.std.specs.Prelude.{◌↔◌, Option, Some, None, Result, Ok, Err, OnOk, IfErr, is_some}
+use Rattle.std.specs.Io.KnownBytes.{Keeps}
+use Rattle.fare_desk.specs.Billing.{WritesBill, WritesSettlement}
+use Rattle.fare_desk.specs.Closing.{HasClosedLanes, lanes_of}
+use Rattle.fare_desk.specs.Faults.{is_of_retire, is_refusal, name_of, refused_of}
+use Rattle.fare_desk.specs.Retiring.{ComesOf, LeavesLane, RetiresLane}
+use Rattle.fare_desk.specs.declared.fault.DeskFault.{DeskFault}
+use Rattle.fare_desk.specs.declared.fault.DeskFault.TheVariants as desk
+use Rattle.fare_desk.proofs.Retires.{comes_self}
+use Rattle.fare_event.specs.declared.reply.Refusal.{Refusal}
+use Rattle.fare_event.specs.declared.reply.Refusal.TheVariants as refusal
+use Rattle.fare_history.specs.Stores.{StoresValue}
+use Rattle.fare_request.specs.declared.ask.Ask.{Ask}
+use Rattle.fare_request.specs.declared.ask.Ask.TheVariants as ask
+use Rattle.fare_scheme.specs.Words.{position_of_device, position_of_owner}
+use Rattle.fare_serve.specs.declared.counts.Counts.{Counts}
+use Rattle.fare_sessions.specs.Billing.{IsBillRefusal}
+use Rattle.fare_sessions.specs.Stores.{AreClean, AreSound}
+use Rattle.fare_sessions.specs.declared.hub.Hub.{Hub}
+use Rattle.fare_store.specs.LedgerWords.{LedgerValue}
+use Rattle.fare_store.specs.OutboxWords.{OutboxValue}
+use Rattle.fare_store.specs.Standing.{Standing}
+use Rattle.fare_side.specs.declared.bill_fault.BillFault.{BillFault}
+use Rattle.fare_side.specs.declared.bill_fault.BillFault.TheVariants as bill
+use Rattle.fare_page.specs.Answering.{IsDone, IsFault, IsFilled, IsTold, IsToldFault, IsToldPlainly, MayRetireOne, Tells, TellsNotRetired, TellsRefusal, TellsRetireFault, TellsRetired, bill_refusal, refusal_in, refused_line}
+
+-- what a refusal of a retire leaves
+leaves_same : (owner device : ℕ) (fault : DeskFault) (h k : StoresValue) → is_of_retire fault ≡ true → LeavesLane owner device fault h k → k ≡ h
+leaves_same owner device desk.UnknownOwner h k is l = l
+leaves_same owner device desk.UnknownDevice h k is l = l
+leaves_same owner device desk.Retired h k is l = l.1
+leaves_same owner device desk.BeforeStart h k is l = absurd (cc)
+leaves_same owner device (desk.NotClosed d) h k is l = absurd (cc)
+leaves_same owner device desk.Memory h k is l = absurd (cc)
+leaves_same owner device desk.Store h k is l = absurd (cc)
+leaves_same owner device desk.Write h k is l = absurd (cc)
+
+module _ {O L : Type 0} (outbox : O → Standing OutboxValue) (ledger : L → Standing LedgerValue) where
+  -- closes
+  pub tells_close : (counts : Counts) (rounds : ℕ) (a : Ask) (old new : Hub O L) (before after : List ℕ) (status : ℕ) (ended : Result (Unit {0}) DeskFault) → a ≡ ask.Close → before ≡ []
+      → OnOk ended (HasClosedLanes outbox ledger (lanes_of old.scheme) old new (Some before) (Some after)) → IsToldPlainly ended status → Tells outbox ledger counts rounds a old new status after
+  tells_close counts rounds a old new before after status ended is none closed told = subst (λ (x : Ask). Tells outbox ledger counts rounds x old new status after) (sym is) (by ended closed told)
+    where
+      by : (e : Result (Unit {0}) DeskFault) → OnOk e (HasClosedLanes outbox ledger (lanes_of old.scheme) old new (Some before) (Some after)) → IsToldPlainly e status → Tells outbox ledger counts rounds ask.Close old new status after
+      by (Ok u) c t = inl (t, subst (λ (l : List ℕ). HasClosedLanes outbox ledger (lanes_of old.scheme) old new (Some l) (Some after)) none c)
+      by (Err f) c t = inr t
+
+  -- a bill or a settlement
+  module _ (W : Option (List ℕ) → Option (List ℕ) → Type 0) (old new : Hub O L) (owner day : ℕ) (before middle after : List ℕ) (status : ℕ) (none : before ≡ []) where
+    abbrev Refused : Type 0
+    Refused = TellsRefusal outbox ledger old new owner day status after ⊎ IsFault status
+
+    by_name : (why : BillFault) → middle ≡ before → (AreClean outbox ledger new → AreSound outbox ledger old → IsBillRefusal outbox ledger old owner day (Some why)) → IsToldFault (Some (bill_refusal why)) middle after status → Refused
+    by_name why same refused (inl out) = inr out
+    by_name why same refused (inr named) = inl (record { why = why; told = (named.0, named.1 ∙ ap (λ (l : List ℕ). l ++ refused_line (bill_refusal why)) (same ∙ none)); is = refused })
+
+    by_fault : (fault : DeskFault) → is_refusal fault ≡ is_some (name_of fault) → (fault ≢ desk.Write → Keeps (Some before) (Some middle)) → (AreClean outbox ledger new → AreSound outbox ledger old → IsBillRefusal outbox ledger old owner day (name_of fault)) → IsToldFault (refusal_in fault) middle after status → Refused
+    by_fault desk.UnknownOwner is kept refused told = by_name bill.UnknownOwner (kept (λ w. absurd (cc))) refused told
+    by_fault desk.BeforeStart is kept refused told = by_name bill.BeforeStart (kept (λ w. absurd (cc))) refused told
+    by_fault (desk.NotClosed device) is kept refused told = by_name (bill.NotClosed device) (kept (λ w. absurd (cc))) refused told
+    by_fault desk.UnknownDevice is kept refused told = absurd (cc)
+    by_fault desk.Retired is kept refused told = absurd (cc)
+    by_fault desk.Memory is kept refused told = inr told
+    by_fault desk.Store is kept refused told = inr told
+    by_fault desk.Write is kept refused told = inr told
+
+    pub tells_day : (ended : Result (Unit {0}) DeskFault) → OnOk ended (W (Some before) (Some middle)) → (AreClean outbox ledger new → AreSound outbox ledger old → IsBillRefusal outbox ledger old owner day (refused_of ended)) → IfErr ended (λ fault. is_refusal fault ≡ is_some (name_of fault)) → IfErr ended (λ fault. fault ≢ desk.Write → Keeps (Some before) (Some middle)) → IsTold ended middle after status
+        → (IsDone status × W (Some []) (Some after)) ⊎ Refused
+    tells_day (Ok u) written refused named kept told = inl (told.0, subst (λ (l : List ℕ). W (Some []) (Some l)) (sym told.1) (subst (λ (l : List ℕ). W (Some l) (Some middle)) none written))
+    tells_day (Err fault) written refused named kept told = inr (by_fault fault named kept refused told)
+
+  pub tells_bill : (counts : Counts) (rounds : ℕ) (a : Ask) (old new : Hub O L) (owner day : ℕ) (before middle after : List ℕ) (status : ℕ) (ended : Result (Unit {0}) DeskFault) → a ≡ ask.Bill owner day → before ≡ []
+      → OnOk ended (WritesBill outbox ledger old new owner day (Some before) (Some middle)) → (AreClean outbox ledger new → AreSound outbox ledger old → IsBillRefusal outbox ledger old owner day (refused_of ended)) → IfErr ended (λ fault. is_refusal fault ≡ is_some (name_of fault)) → IfErr ended (λ fault. fault ≢ desk.Write → Keeps (Some before) (Some middle)) → IsTold ended middle after status
+      → Tells outbox ledger counts rounds a old new status after
+  tells_bill counts rounds a old new owner day before middle after status ended is none written refused named kept told =
+      subst (λ (x : Ask). Tells outbox ledger counts rounds x old new status after) (sym is) (tells_day (WritesBill outbox ledger old new owner day) old new owner day before middle after status none ended written refused named kept told)
+
+  pub tells_settlement : (counts : Counts) (rounds : ℕ) (a : Ask) (old new : Hub O L) (owner day : ℕ) (before middle after : List ℕ) (status : ℕ) (ended : Result (Unit {0}) DeskFault) → a ≡ ask.Settle owner day → before ≡ []
+      → OnOk ended (WritesSettlement outbox ledger old new owner day (Some before) (Some middle)) → (AreClean outbox ledger new → AreSound outbox ledger old → IsBillRefusal outbox ledger old owner day (refused_of ended)) → IfErr ended (λ fault. is_refusal fault ≡ is_some (name_of fault)) → IfErr ended (λ fault. fault ≢ desk.Write → Keeps (Some before) (Some middle)) → IsTold ended middle after status
+      → Tells outbox ledger counts rounds a old new status after
+  tells_settlement counts rounds a old new owner day before middle after status ended is none written refused named kept told =
+      subst (λ (x : Ask). Tells outbox ledger counts rounds x old new status after) (sym is) (tells_day (WritesSettlement outbox ledger old new owner day) old new owner day before middle after status none ended written refused named kept told)
+
+  -- what comes of stores by one relation comes of them by a weaker one
+  loosen : (old new : Hub O L) (R S : StoresValue → StoresValue → Type 0) → ((h k : StoresValue) → R h k → S h k) → ComesOf outbox ledger old new R → ComesOf outbox ledger old new S
+  loosen old new R S weaker comes = record { came = λ clean sound k may. (let was = comes.came clean sound k may in (was.0, was.1, weaker was.0 k was.2)) }
+
+  -- the end of a lane
+  module _ (old new : Hub O L) (owner device : ℕ) (before middle after : List ℕ) (status : ℕ) (none : before ≡ []) where
+    abbrev Told : Type 0
+    Told = TellsRetired outbox ledger old new owner device status after ⊎ (TellsNotRetired outbox ledger old new owner device status after ⊎ TellsRetireFault outbox ledger old new owner device status)
+
+    module _ (fault : DeskFault) (owner_is : (fault ≡ desk.UnknownOwner) ↔ (position_of_owner old.scheme owner ≡ None)) (device_is : (fault ≡ desk.UnknownDevice) ↔ ((position_of_owner old.scheme owner ≢ None) × (position_of_device old.scheme device ≡ None))) (leaves : ComesOf outbox ledger old new (LeavesLane owner device fault)) where
+      by_refusal : (why : Refusal) → (is_of_retire fault ≡ true) × (refusal_in fault ≡ Some why) → middle ≡ before → IsToldFault (Some why) middle after status → Told
+      by_refusal why is same (inl out) = inr (inr (out, loosen old new (LeavesLane owner device fault) (MayRetireOne owner device) (λ h k l. inl (leaves_same owner device fault h k is.0 l)) leaves))
+      by_refusal why is same (inr named) = inr (inl (record {
+        fault = fault;
+        why = why;
+        named = is;
+        told = (named.0, named.1 ∙ ap (λ (l : List ℕ). l ++ refused_line why) (same ∙ none));
+        unknown_owner = owner_is;
+        unknown_device = device_is;
+        leaves = leaves;
+      }))
+
+    by_retire : (fault : DeskFault) → ((fault ≡ desk.UnknownOwner) ↔ (position_of_owner old.scheme owner ≡ None)) → ((fault ≡ desk.UnknownDevice) ↔ ((position_of_owner old.scheme owner ≢ None) × (position_of_device old.scheme device ≡ None))) → ComesOf outbox ledger old new (LeavesLane owner device fault) → is_refusal fault ≡ is_of_retire fault → (fault ≢ desk.Write → Keeps (Some before) (Some middle)) → IsToldFault (refusal_in fault) middle after status → Told
+    by_retire desk.UnknownOwner o d leaves is kept told = by_refusal desk.UnknownOwner o d leaves refusal.UnknownOwner (refl, refl) (kept (λ w. absurd (cc))) told
+    by_retire desk.UnknownDevice o d leaves is kept told = by_refusal desk.UnknownDevice o d leaves refusal.UnknownDevice (refl, refl) (kept (λ w. absurd (cc))) told
+    by_retire desk.Retired o d leaves is kept told = by_refusal desk.Retired o d leaves refusal.Retired (refl, refl) (kept (λ w. absurd (cc))) told
+    by_retire desk.BeforeStart o d leaves is kept told = absurd (cc)
+    by_retire (desk.NotClosed other) o d leaves is kept told = absurd (cc)
+    by_retire desk.Memory o d leaves is kept told = inr (inr (told, loosen old new (LeavesLane owner device desk.Memory) (MayRetireOne owner device) (λ h k l. l) leaves))
+    by_retire desk.Store o d leaves is kept told = inr (inr (told, loosen old new (LeavesLane owner device desk.Store) (MayRetireOne owner device) (λ h k l. l) leaves))
+    by_retire desk.Write o d leaves is kept told = inr (inr (told, loosen old new (LeavesLane owner device desk.Write) (MayRetireOne owner device) (λ h k l. inr l) leaves))
+
+    pub tells_lane : (ended : Result (Unit {0}) DeskFault) → ((ended ≡ Err desk.UnknownOwner) ↔ (position_of_owner old.scheme owner ≡ None)) → ((ended ≡ Err desk.UnknownDevice) ↔ ((position_of_owner old.scheme owner ≢ None) × (position_of_device old.scheme device ≡ None)))
+        → OnOk ended (RetiresLane outbox ledger owner device old new (Some before) (Some middle)) → IfErr ended (λ fault. ComesOf outbox ledger old new (LeavesLane owner device fault)) → IfErr ended (λ fault. is_refusal fault ≡ is_of_retire fault) → IfErr ended (λ fault. fault ≢ desk.Write → Keeps (Some before) (Some middle)) → IsTold ended middle after status → Told
+    tells_lane (Ok u) owner_is device_is retired failed named kept told =
+        let known : position_of_owner old.scheme owner ≢ None = λ n. (let e : Ok u ≡ Err desk.UnknownOwner = owner_is.1 n in absurd (cc)) in
+        inl (record {
+          told = told.0;
+          known = (known, λ n. (let e : Ok u ≡ Err desk.UnknownDevice = device_is.1 (known, n) in absurd (cc)));
+          retires = subst (λ (l : List ℕ). RetiresLane outbox ledger owner device old new (Some []) (Some l)) (sym told.1) (subst (λ (l : List ℕ). RetiresLane outbox ledger owner device old new (Some l) (Some middle)) none retired);
+        })
+    tells_lane (Err fault) owner_is device_is retired failed named kept told =
+        by_retire fault (λ e. owner_is.0 (ap (λ (f : DeskFault). Err f) e), λ n. (let e : Err fault ≡ Err desk.UnknownOwner = owner_is.1 n in let same : fault ≡ desk.UnknownOwner = cc in same)) (λ e. device_is.0 (ap (λ (f : DeskFault). Err f) e), λ n. (let e : Err fault ≡ Err desk.UnknownDevice = device_is.1 n in let same : fault ≡ desk.UnknownDevice = cc in same)) failed named kept told
+
+  pub tells_retire : (counts : Counts) (rounds : ℕ) (a : Ask) (old new : Hub O L) (owner device : ℕ) (before middle after : List ℕ) (status : ℕ) (ended : Result (Unit {0}) DeskFault) → a ≡ ask.Retire owner device → before ≡ []
+      → ((ended ≡ Err desk.UnknownOwner) ↔ (position_of_owner old.scheme owner ≡ None)) → ((ended ≡ Err desk.UnknownDevice) ↔ ((position_of_owner old.scheme owner ≢ None) × (position_of_device old.scheme device ≡ None)))
+      → OnOk ended (RetiresLane outbox ledger owner device old new (Some before) (Some middle)) → IfErr ended (λ fault. ComesOf outbox ledger old new (LeavesLane owner device fault)) → IfErr ended (λ fault. is_refusal fault ≡ is_of_retire fault) → IfErr ended (λ fault. fault ≢ desk.Write → Keeps (Some before) (Some middle)) → IsTold ended middle after status
+      → Tells outbox ledger counts rounds a old new status after
+  tells_retire counts rounds a old new owner device before middle after status ended is none owner_is device_is retired failed named kept told =
+      subst (λ (x : Ask). Tells outbox ledger counts rounds x old new status after) (sym is) (tells_lane old new owner device before middle after status none ended owner_is device_is retired failed named kept told)
+
+  -- nothing was done, for want of memory or since a store failed
+  pub undone : (counts : Counts) (rounds : ℕ) (a : Ask) (hub : Hub O L) (status : ℕ) (body : List ℕ) → IsFault status → Tells outbox ledger counts rounds a hub hub status body
+  undone counts rounds ask.Page hub status body out = inr out
+  undone counts rounds ask.Metrics hub status body out = inr out
+  undone counts rounds ask.Stand hub status body out = inr out
+  undone counts rounds (ask.Bill owner day) hub status body out = inr (inr out)
+  undone counts rounds (ask.Settle owner day) hub status body out = inr (inr out)
+  undone counts rounds ask.Close hub status body out = inr out
+  undone counts rounds (ask.Retire owner device) hub status body out = inr (inr (out, comes_self outbox ledger hub (MayRetireOne owner device) (λ k. inl refl)))
+  undone counts rounds (ask.Nothing why) hub status body out = inr out
+
+  -- what was told of a lane tells what may have come of it
+  may_retire : (old new : Hub O L) (owner device status : ℕ) (body : List ℕ) → TellsRetired outbox ledger old new owner device status body ⊎ (TellsNotRetired outbox ledger old new owner device status body ⊎ TellsRetireFault outbox ledger old new owner device status) → ComesOf outbox ledger old new (MayRetireOne owner device)
+  may_retire old new owner device status body (inl done) = loosen old new (λ h k. LeavesLane owner device desk.Write h k) (MayRetireOne owner device) (λ h k l. inr l) (record { came = done.retires.retired.came })
+  may_retire old new owner device status body (inr (inl refused)) = loosen old new (LeavesLane owner device refused.fault) (MayRetireOne owner device) (λ h k l. inl (leaves_same owner device refused.fault h k refused.named.0 l)) refused.leaves
+  may_retire old new owner device status body (inr (inr failed)) = failed.1
+
+  -- that there was no memory may be told in place of anything
+  faulted : (counts : Counts) (rounds : ℕ) (a : Ask) (old new : Hub O L) (status : ℕ) (body : List ℕ) (is : ℕ) (content : List ℕ) → Tells outbox ledger counts rounds a old new status body → IsFault is → Tells outbox ledger counts rounds a old new is content
+  faulted counts rounds ask.Page old new status body is content tells out = inr out
+  faulted counts rounds ask.Metrics old new status body is content tells out = inr out
+  faulted counts rounds ask.Stand old new status body is content tells out = inr out
+  faulted counts rounds (ask.Bill owner day) old new status body is content tells out = inr (inr out)
+  faulted counts rounds (ask.Settle owner day) old new status body is content tells out = inr (inr out)
+  faulted counts rounds ask.Close old new status body is content tells out = inr out
+  faulted counts rounds (ask.Retire owner device) old new status body is content tells out = inr (inr (out, may_retire old new owner device status body tells))
+  faulted counts rounds (ask.Nothing why) old new status body is content tells out = inr out
+
+  pub filled : (counts : Counts) (rounds : ℕ) (a : Ask) (old new : Hub O L) (status : ℕ) (body : List ℕ) (is : ℕ) (content : List ℕ) → Tells outbox ledger counts rounds a old new status body → IsFilled status body is content → Tells outbox ledger counts rounds a old new is content
+  filled counts rounds a old new status body is content tells (inl same) = subst (λ (s : ℕ). Tells outbox ledger counts rounds a old new s content) (sym same.0) (subst (λ (l : List ℕ). Tells outbox ledger counts rounds a old new status l) (sym same.1) tells)
+  filled counts rounds a old new status body is content tells (inr out) = faulted counts rounds a old new status body is content tells out

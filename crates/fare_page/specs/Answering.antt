@@ -1,0 +1,189 @@
+-- What a hub at rest answers to a request, and what becomes of its stores.
+use Rattle.std.specs.Prelude.{◌≡◌, ◌≢◌, ◌↔◌, ◌⊎◌, ℕ, true, List, [], ◌∷◌, ◌++◌, codes, Option, Some, None, Result, Ok, Err}
+use Rattle.fare_desk.specs.Billing.{WritesBill, WritesSettlement}
+use Rattle.fare_desk.specs.Closing.{GoesOn, HasClosedLanes, lanes_of}
+use Rattle.fare_desk.specs.Faults.{is_of_retire}
+use Rattle.fare_desk.specs.Retiring.{ComesOf, LeavesLane, RetiresLane}
+use Rattle.fare_desk.specs.Showing.{OnlyAsks, WritesStanding}
+use Rattle.fare_desk.specs.declared.fault.DeskFault.{DeskFault}
+use Rattle.fare_desk.specs.declared.fault.DeskFault.TheVariants as desk
+use Rattle.fare_agreement.specs.Stopping.{IsLeftBy}
+use Rattle.fare_event.specs.declared.reply.Refusal.{Refusal}
+use Rattle.fare_event.specs.declared.reply.Refusal.TheVariants as refusal
+use Rattle.fare_event.specs.declared.reply.Reply.TheVariants as reply
+use Rattle.fare_history.specs.Stores.{StoresValue, Retires_lane}
+use Rattle.fare_lines.specs.Replies.{reply_text}
+use Rattle.fare_request.specs.Asking.{Asks}
+use Rattle.fare_request.specs.declared.ask.Ask.{Ask}
+use Rattle.fare_request.specs.declared.ask.Ask.TheVariants as ask
+use Rattle.fare_request.specs.declared.ask.Mistake.{Mistake}
+use Rattle.fare_request.specs.declared.ask.Mistake.TheVariants as mistake
+use Rattle.fare_scheme.specs.Values.{SchemeValue}
+use Rattle.fare_scheme.specs.Words.{position_of_device, position_of_owner}
+use Rattle.fare_serve.specs.declared.counts.Counts.{Counts}
+use Rattle.fare_sessions.specs.Billing.{IsBillRefusal}
+use Rattle.fare_sessions.specs.Stores.{AreClean, AreSound}
+use Rattle.fare_sessions.specs.declared.hub.Hub.{Hub}
+use Rattle.fare_store.specs.LedgerWords.{LedgerValue}
+use Rattle.fare_store.specs.OutboxWords.{OutboxValue}
+use Rattle.fare_store.specs.Standing.{Standing}
+use Rattle.fare_side.specs.declared.bill_fault.BillFault.{BillFault}
+use Rattle.fare_side.specs.declared.bill_fault.BillFault.TheVariants as bill
+use Rattle.http.specs.declared.request.Parts.{Parts}
+use Rattle.http.specs.Request.{head_of}
+use Rattle.http_server.specs.Exchange.{Call}
+use Rattle.http_server.specs.declared.response.Response.{Response}
+use Rattle.fare_page.specs.Metrics.{metrics_text}
+
+-- REFUSALS
+-- the refusal of a bill, as a trace names it
+abbrev pub bill_refusal : BillFault → Refusal
+bill_refusal bill.UnknownOwner = refusal.UnknownOwner
+bill_refusal bill.BeforeStart = refusal.BeforeStart
+bill_refusal (bill.NotClosed device) = refusal.NotClosed device
+
+-- the refusal that a fault is, if it is one
+abbrev pub refusal_in : DeskFault → Option Refusal
+refusal_in desk.UnknownOwner = Some refusal.UnknownOwner
+refusal_in desk.UnknownDevice = Some refusal.UnknownDevice
+refusal_in desk.BeforeStart = Some refusal.BeforeStart
+refusal_in (desk.NotClosed device) = Some (refusal.NotClosed device)
+refusal_in desk.Retired = Some refusal.Retired
+refusal_in _ = None
+
+-- its line
+abbrev pub refused_line : Refusal → List ℕ
+refused_line why = reply_text (reply.Refused why)
+
+-- MISTAKES
+abbrev pub mistake_status : Mistake → ℕ
+mistake_status mistake.Foreign = 403
+mistake_status mistake.Nowhere = 404
+mistake_status mistake.WantsGet = 405
+mistake_status mistake.WantsPost = 405
+mistake_status mistake.Words = 400
+
+abbrev pub mistake_line : Mistake → List ℕ
+mistake_line mistake.Foreign = codes "refused Foreign\n"
+mistake_line mistake.Nowhere = codes "refused Nowhere\n"
+mistake_line mistake.WantsGet = codes "refused WantsGet\n"
+mistake_line mistake.WantsPost = codes "refused WantsPost\n"
+mistake_line mistake.Words = codes "refused Words\n"
+
+-- STATUSES
+-- it was done
+abbrev pub IsDone : ℕ → Type 0
+IsDone status = status ≡ 200
+
+-- it was not, for want of memory or since a store failed: nothing is said of the body
+abbrev pub IsFault : ℕ → Type 0
+IsFault status = status ≡ 503
+
+-- refused by name: its line stands behind what was there
+abbrev pub IsNamed : Refusal → List ℕ → List ℕ → ℕ → Type 0
+IsNamed why before after status = (status ≡ 409) × (after ≡ before ++ refused_line why)
+
+abbrev pub IsToldFault : Option Refusal → List ℕ → List ℕ → ℕ → Type 0
+IsToldFault None before after status = IsFault status
+IsToldFault (Some why) before after status = IsFault status ⊎ IsNamed why before after status
+
+-- what is told of how a question or an order ended
+abbrev pub IsTold : Result (Unit {0}) DeskFault → List ℕ → List ℕ → ℕ → Type 0
+IsTold (Ok _) before after status = IsDone status × (after ≡ before)
+IsTold (Err fault) before after status = IsToldFault (refusal_in fault) before after status
+
+-- and of closes, or of a question that is never refused by name
+abbrev pub IsToldPlainly : Result (Unit {0}) DeskFault → ℕ → Type 0
+IsToldPlainly (Ok _) status = IsDone status
+IsToldPlainly (Err fault) status = IsFault status
+
+-- what the response is, of this status and body: they, or that there was no memory
+abbrev pub IsFilled : ℕ → List ℕ → ℕ → List ℕ → Type 0
+IsFilled status body is content = ((is ≡ status) × (content ≡ body)) ⊎ IsFault is
+
+-- ANSWERS
+-- it leaves what the stores hold as it was
+abbrev pub IsQuestion : Ask → Type 0
+IsQuestion ask.Page = Unit {0}
+IsQuestion ask.Metrics = Unit {0}
+IsQuestion ask.Stand = Unit {0}
+IsQuestion (ask.Bill owner day) = Unit {0}
+IsQuestion (ask.Settle owner day) = Unit {0}
+IsQuestion ask.Close = ⊥
+IsQuestion (ask.Retire owner device) = ⊥
+IsQuestion (ask.Nothing why) = Unit {0}
+
+abbrev pub TellsPage : ℕ → Type 0
+TellsPage status = IsDone status ⊎ IsFault status
+
+abbrev pub TellsMetrics : Counts → ℕ → ℕ → List ℕ → Type 0
+TellsMetrics counts rounds status body = (IsDone status × (body ≡ metrics_text counts rounds)) ⊎ IsFault status
+
+abbrev pub TellsMistake : Mistake → ℕ → List ℕ → Type 0
+TellsMistake why status body = ((status ≡ mistake_status why) × (body ≡ mistake_line why)) ⊎ IsFault status
+
+-- the owner and the device are registered
+abbrev pub IsKnownLane : SchemeValue → ℕ → ℕ → Type 0
+IsKnownLane sc owner device = (position_of_owner sc owner ≢ None) × (position_of_device sc device ≢ None)
+
+-- the stores k are h, or h with the owner's lane of the device retired, which it wasn't
+abbrev pub MayRetireOne : ℕ → ℕ → StoresValue → StoresValue → Type 0
+MayRetireOne owner device h k = IsLeftBy h (Retires_lane owner device) k
+
+module _ {O L : Type 0} (outbox : O → Standing OutboxValue) (ledger : L → Standing LedgerValue) where
+  -- a bill or a settlement was refused by the first name that applies, whose line is told
+  pub record TellsRefusal (old new : Hub O L) (owner day : ℕ) (status : ℕ) (body : List ℕ) : Type 0 where
+    pub why : BillFault
+    pub told : (status ≡ 409) × (body ≡ refused_line (bill_refusal why))
+    pub is : AreClean outbox ledger new → AreSound outbox ledger old → IsBillRefusal outbox ledger old owner day (Some why)
+
+  -- a lane that is registered was retired, whose line is told
+  pub record TellsRetired (old new : Hub O L) (owner device : ℕ) (status : ℕ) (body : List ℕ) : Type 0 where
+    pub told : IsDone status
+    pub known : IsKnownLane old.scheme owner device
+    pub retires : RetiresLane outbox ledger owner device old new (Some []) (Some body)
+
+  -- it was not, but refused by the first name that applies, whose line is told; this changed nothing
+  pub record TellsNotRetired (old new : Hub O L) (owner device : ℕ) (status : ℕ) (body : List ℕ) : Type 0 where
+    pub fault : DeskFault
+    pub why : Refusal
+    pub named : (is_of_retire fault ≡ true) × (refusal_in fault ≡ Some why)
+    pub told : (status ≡ 409) × (body ≡ refused_line why)
+    pub unknown_owner : (fault ≡ desk.UnknownOwner) ↔ (position_of_owner old.scheme owner ≡ None)
+    pub unknown_device : (fault ≡ desk.UnknownDevice) ↔ ((position_of_owner old.scheme owner ≢ None) × (position_of_device old.scheme device ≡ None))
+    pub leaves : ComesOf outbox ledger old new (LeavesLane owner device fault)
+
+  -- that it failed is told: then the lane may be retired all the same
+  abbrev pub TellsRetireFault : Hub O L → Hub O L → ℕ → ℕ → ℕ → Type 0
+  TellsRetireFault old new owner device status = IsFault status × ComesOf outbox ledger old new (MayRetireOne owner device)
+
+  -- What is told to it, of the stores of a hub as they were and as they are: what the same question of stores in files is
+  -- answered, or its refusal.
+  abbrev pub Tells : Counts → ℕ → Ask → Hub O L → Hub O L → ℕ → List ℕ → Type 0
+  Tells counts rounds ask.Page old new status body = TellsPage status
+  Tells counts rounds ask.Metrics old new status body = TellsMetrics counts rounds status body
+  Tells counts rounds ask.Stand old new status body = (IsDone status × WritesStanding outbox ledger old new (Some []) (Some body)) ⊎ IsFault status
+  Tells counts rounds (ask.Bill owner day) old new status body = (IsDone status × WritesBill outbox ledger old new owner day (Some []) (Some body)) ⊎ (TellsRefusal old new owner day status body ⊎ IsFault status)
+  Tells counts rounds (ask.Settle owner day) old new status body = (IsDone status × WritesSettlement outbox ledger old new owner day (Some []) (Some body)) ⊎ (TellsRefusal old new owner day status body ⊎ IsFault status)
+  Tells counts rounds ask.Close old new status body = (IsDone status × HasClosedLanes outbox ledger (lanes_of old.scheme) old new (Some []) (Some body)) ⊎ IsFault status
+  Tells counts rounds (ask.Retire owner device) old new status body = TellsRetired old new owner device status body ⊎ (TellsNotRetired old new owner device status body ⊎ TellsRetireFault old new owner device status)
+  Tells counts rounds (ask.Nothing why) old new status body = TellsMistake why status body
+
+  -- A request was answered: it asks for this, which the response tells; and the stores went on.
+  pub record IsAnswered (counts : Counts) (rounds : ℕ) (request : Parts) (old new : Hub O L) (response : Response) : Type 0 where
+    pub ask : Ask
+    pub asks : Asks request ask
+    pub goes : GoesOn outbox ledger old new
+    pub reads : IsQuestion ask → OnlyAsks outbox ledger old new
+    pub tells : Tells counts rounds ask old new response.status response.body.items
+
+  -- REQUESTS
+  -- requests were answered one after the other, each over the stores that the one before it left
+  abbrev pub AreAnswered : Counts → ℕ → Hub O L → Hub O L → List Call → Type 0
+  AreAnswered counts rounds old new [] = new ≡ old
+  AreAnswered counts rounds old new (c ∷ cs) = (middle : Hub O L) × IsAnswered counts rounds (head_of c.0) old middle c.1 × AreAnswered counts rounds middle new cs
+
+  -- some requests were, and nothing else was done
+  pub record HasAnswered (counts : Counts) (rounds : ℕ) (old new : Hub O L) : Type 0 where
+    pub calls : List Call
+    pub answered : AreAnswered counts rounds old new calls

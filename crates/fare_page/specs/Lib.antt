@@ -1,0 +1,3 @@
+pub mod Metrics
+pub mod Answering
+pub mod Pausing

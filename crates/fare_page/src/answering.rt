@@ -1,0 +1,95 @@
+//! What a hub at rest answers.
+ghost use Rattle.std.specs.Prelude.{◌≡◌, [], List, ℕ};
+ghost use Rattle.fare_desk.specs.Closing.{GoesOn};
+ghost use Rattle.fare_desk.specs.Showing.{OnlyAsks};
+ghost use Rattle.fare_sessions.specs.Stores.{HasLedgers};
+ghost use Rattle.fare_page.specs.Answering.{IsQuestion, Tells, TellsMetrics, TellsMistake, TellsPage};
+
+use crate::metrics::metrics_of;
+use crate::mistakes::{line_of, status_of};
+use crate::page::page;
+use crate::told::{tell, tell_plainly};
+use fare_desk::{close_days, retire_lane, write_bill, write_settlement, write_standing};
+use fare_request::{Ask, Mistake};
+use fare_serve::Counts;
+use fare_sessions::Hub;
+use fare_store::{Ledger, Outbox};
+use http::StatusCode;
+use std::alloc::Global;
+
+// The page.
+fn tell_page(body: &mut Vec<u8>) -> StatusCode
+    ensures { TellsPage result }
+{
+    match body.extend_from_slice(page().as_bytes()) {
+        Ok(()) => StatusCode::OK,
+        Err(_) => StatusCode::SERVICE_UNAVAILABLE,
+    }
+}
+
+// The counts of so many rounds.
+fn tell_metrics(alloc: Global, counts: &Counts, rounds: u64, body: &mut Vec<u8>) -> StatusCode
+    requires { body.old.items ≡ [] }
+    ensures { TellsMetrics counts.now rounds result body.new.items }
+{
+    let Ok(text) = metrics_of(alloc, counts, rounds) else {
+        return StatusCode::SERVICE_UNAVAILABLE;
+    };
+    match body.extend_from_slice(text.as_bytes()) {
+        Ok(()) => StatusCode::OK,
+        Err(_) => StatusCode::SERVICE_UNAVAILABLE,
+    }
+}
+
+// Why a request asks for nothing.
+fn tell_mistake(why: Mistake, body: &mut Vec<u8>) -> StatusCode
+    requires { body.old.items ≡ [] }
+    ensures { TellsMistake why result body.new.items }
+{
+    match body.extend_from_slice(line_of(why)) {
+        Ok(()) => status_of(why),
+        Err(_) => StatusCode::SERVICE_UNAVAILABLE,
+    }
+}
+
+// Answers what is asked of a hub, and of the counts of so many rounds: the status, and the body.
+pub(crate) fn answer<O: Outbox, L: Ledger>(
+    alloc: Global,
+    hub: &mut Hub<O, L>,
+    counts: &Counts,
+    rounds: u64,
+    ask: Ask,
+    body: &mut Vec<u8>,
+) -> StatusCode
+    requires ledgers { HasLedgers hub.old }
+    requires empty { body.old.items ≡ [] }
+    ensures goes { GoesOn O.standing L.standing hub.old hub.new }
+    ensures reads { IsQuestion ask → OnlyAsks O.standing L.standing hub.old hub.new }
+    ensures tells { Tells O.standing L.standing counts.now rounds ask hub.old hub.new result body.new.items }
+{
+    match ask {
+        Ask::Page => tell_page(body),
+        Ask::Metrics => tell_metrics(alloc, counts, rounds, body),
+        Ask::Stand => {
+            let ended = write_standing(alloc, hub, body);
+            tell_plainly(ended)
+        }
+        Ask::Bill { owner, day } => {
+            let ended = write_bill(alloc, hub, owner, day, body);
+            tell(ended, body)
+        }
+        Ask::Settle { owner, day } => {
+            let ended = write_settlement(alloc, hub, owner, day, body);
+            tell(ended, body)
+        }
+        Ask::Close => {
+            let ended = close_days(alloc, hub, body);
+            tell_plainly(ended)
+        }
+        Ask::Retire { owner, device } => {
+            let ended = retire_lane(alloc, hub, owner, device, body);
+            tell(ended, body)
+        }
+        Ask::Nothing(why) => tell_mistake(why, body),
+    }
+}
