@@ -51,6 +51,7 @@ fn reads_jobs(rt: HostRuntime) -> Result<(), Fail> {
                 until,
                 patience,
                 round_millis,
+                ask,
             } => {
                 same(
                     &rt,
@@ -63,7 +64,7 @@ fn reads_jobs(rt: HostRuntime) -> Result<(), Fail> {
                     &(read, write, round),
                 );
                 same(&rt, &(rounds, until, patience), &(1, None, 2));
-                same(&rt, &scheme, &None);
+                same(&rt, &(scheme, ask), &(None, None));
             }
             Job::Replay { .. } | Job::Ask { .. } => panic!(rt; "not a server"),
         }
@@ -96,6 +97,7 @@ fn serves_with_what_is_usual(rt: HostRuntime) -> Result<(), Fail> {
                 until,
                 patience,
                 round_millis,
+                ask,
             } => {
                 same(&rt, &((port, turns), path), &(want, "x"));
                 same(
@@ -104,7 +106,7 @@ fn serves_with_what_is_usual(rt: HostRuntime) -> Result<(), Fail> {
                     &(5, 1_000, 1_000),
                 );
                 same(&rt, &(rounds, until, patience), &(1, None, 2));
-                same(&rt, &scheme, &None);
+                same(&rt, &(scheme, ask), &(None, None));
             }
             Job::Replay { .. } | Job::Ask { .. } => panic!(rt; "not a server"),
         }
@@ -147,6 +149,30 @@ fn reads_how_long_to_serve(rt: HostRuntime) -> Result<(), Fail> {
                     &((rounds, until), (patience, round_millis)),
                     &(want_rounds, want_length),
                 );
+            }
+            Job::Replay { .. } | Job::Ask { .. } => panic!(rt; "not a server"),
+        }
+    }
+    Ok(())
+}
+
+#[test]
+fn reads_where_an_operator_is_answered(rt: HostRuntime) -> Result<(), Fail> {
+    // The words behind the outbox, and the port.
+    const CASES: [(&[&str], Option<u16>); 4] = [
+        (&["--port", "1"], None),
+        (&["--ask", "0"], Some(0)),
+        (&["--ask=65535"], Some(65_535)),
+        (&["--ask", "7072", "--until", "stop"], Some(7_072)),
+    ];
+    for &(options, want) in &CASES {
+        let mut words = Vec::new(rt.alloc());
+        words.extend_from_slice(&["serve", "--outbox", "x"])?;
+        words.extend_from_slice(options)?;
+        match read_words(rt.alloc(), &words)? {
+            Job::Serve { port, ask, .. } => {
+                let port_want = if want.is_some() { 7_071 } else { 1 };
+                same(&rt, &(port, ask), &(port_want, want));
             }
             Job::Replay { .. } | Job::Ask { .. } => panic!(rt; "not a server"),
         }
@@ -365,6 +391,22 @@ fn refuses_words(rt: HostRuntime) -> Result<(), Fail> {
                 );
                 contains(&rt, text.as_str(), want);
             }
+            _ => panic!(rt; "not refused: {want}"),
+        }
+    }
+    Ok(())
+}
+
+// Ports at which an operator would be answered that are none.
+#[test]
+fn refuses_ports_that_answer(rt: HostRuntime) -> Result<(), Fail> {
+    const CASES: [(&str, &str); 2] = [
+        ("65536", "65536 is not in 0..=65535"),
+        ("http", "invalid value 'http' for '--ask <PORT>'"),
+    ];
+    for &(port, want) in &CASES {
+        match read_words(rt.alloc(), &["serve", "--outbox", "x", "--ask", port]) {
+            Err(WordsFault::Refused(text)) => contains(&rt, text.as_str(), want),
             _ => panic!(rt; "not refused: {want}"),
         }
     }

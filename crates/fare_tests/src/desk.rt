@@ -12,11 +12,11 @@ use std::alloc::Global;
 use std::process::Abort;
 
 // The day of the taps.
-const DAY: u64 = 19_723;
+pub(crate) const DAY: u64 = 19_723;
 
 // What a ledger took of each of two devices: so many taps of the day, and the counts stated of it and of the day after.
 #[derive(Clone, Copy)]
-struct Held {
+pub(crate) struct Held {
     taps: u64,
     stated: Option<u64>,
     next_stated: Option<u64>,
@@ -42,7 +42,11 @@ fn fill<L: Ledger>(ledger: &mut L, device: u64, held: Held) -> Option<()> {
 }
 
 // A hub of one owner and two devices, of each of which its ledger took this.
-fn hub_with(alloc: Global, first: Held, second: Held) -> Option<Hub<PlainOutbox, PlainLedger>> {
+pub(crate) fn hub_with(
+    alloc: Global,
+    first: Held,
+    second: Held,
+) -> Option<Hub<PlainOutbox, PlainLedger>> {
     let scheme = Scheme::demo(alloc, DemoSize::TwoDevices, 4, 1, 4).ok()?;
     let mut ledger = PlainLedger::new(alloc, &scheme, OwnerId::new(1)?).ok()?;
     fill(&mut ledger, 1, first)?;
@@ -55,7 +59,7 @@ fn hub_with(alloc: Global, first: Held, second: Held) -> Option<Hub<PlainOutbox,
 }
 
 // How a question of a hub is answered, and what was written.
-fn answered<O: Outbox, L: Ledger>(
+pub(crate) fn answered<O: Outbox, L: Ledger>(
     alloc: Global,
     hub: &mut Hub<O, L>,
     question: Question,
@@ -68,21 +72,21 @@ fn answered<O: Outbox, L: Ledger>(
     Some((ended, output))
 }
 
-fn bill(owner: u64, day: u64) -> Option<Question> {
+pub(crate) fn bill(owner: u64, day: u64) -> Option<Question> {
     Some(Question::Bill {
         owner: OwnerId::new(owner)?,
         day: Day::new(day)?,
     })
 }
 
-fn settle(owner: u64, day: u64) -> Option<Question> {
+pub(crate) fn settle(owner: u64, day: u64) -> Option<Question> {
     Some(Question::Settle {
         owner: OwnerId::new(owner)?,
         day: Day::new(day)?,
     })
 }
 
-const WHOLE: Held = Held {
+pub(crate) const WHOLE: Held = Held {
     taps: 2,
     stated: Some(2),
     next_stated: Some(0),
@@ -220,7 +224,7 @@ fn lanes_stand_where_their_stores_say(rt: HostRuntime) {
 }
 
 // A hub of two whole devices, whose ledger fails at its k-th call.
-fn failing_hub(alloc: Global, calls: u64) -> Option<Hub<PlainOutbox, FailingLedger>> {
+pub(crate) fn failing_hub(alloc: Global, calls: u64) -> Option<Hub<PlainOutbox, FailingLedger>> {
     let Hub {
         scheme,
         outbox,

@@ -163,6 +163,7 @@ fn words_that_ask_to_serve_leave_it_to_do(rt: HostRuntime) {
             round_millis: 1_000,
         },
         until: None,
+        ask: None,
     };
     same(
         &rt,

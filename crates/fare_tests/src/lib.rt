@@ -37,6 +37,8 @@ mod older_formats;
 #[cfg(test)]
 mod outbox_tables;
 #[cfg(test)]
+mod page;
+#[cfg(test)]
 mod raising;
 #[cfg(test)]
 mod readers;

@@ -8,7 +8,7 @@ use fare_frame::Frame;
 use fare_part_tests::{FIRST, Numbers, record};
 use fare_record::{Ack, DeviceId, Hello, LAST_NUMBER, OwnerId};
 use fare_scheme::{DemoSize, Scheme};
-use fare_serve::{Limits, ServeFault, serve_rounds};
+use fare_serve::{Limits, Rest, ServeFault, serve_rounds};
 use fare_sessions::Hub;
 use fare_store::{PlainLedger, PlainOutbox};
 use std::alloc::Global;
@@ -235,6 +235,7 @@ fn serve_until<R: Threads + Wait + Clock + Eprint + Sync>(
         &mut hub,
         limits,
         Some(path),
+        &mut Rest,
         &mut output,
     );
     (ended, output)

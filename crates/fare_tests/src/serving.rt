@@ -2,7 +2,7 @@ use crate::checking::same;
 use fare_part_tests::{ACKED, GREETED, TAPPED};
 use fare_record::OwnerId;
 use fare_scheme::{DemoSize, Scheme};
-use fare_serve::{Limits, ServeFault, serve_rounds};
+use fare_serve::{Limits, Rest, ServeFault, serve_rounds};
 use fare_sessions::Hub;
 use fare_store::{FailingOutbox, Outbox, PlainLedger, PlainOutbox};
 use std::alloc::Global;
@@ -76,6 +76,7 @@ fn served<O: Outbox + Send + Drop, R: Threads + Wait + Clock + Eprint + Sync>(
         &mut hub,
         limits(turns),
         None,
+        &mut Rest,
         &mut output,
     );
     Some((ended, output))

@@ -93,6 +93,7 @@ fn served<
         scheme: None,
         limits: LIMITS,
         until: None,
+        ask: None,
     };
     let ended = serve(rt, handles, &options, &mut input, &mut output);
     let Dialler { said, line, .. } = output;
@@ -155,6 +156,7 @@ fn served_from<
         scheme: Some(file),
         limits: Limits { turns: 4, ..LIMITS },
         until: None,
+        ask: None,
     };
     let ended = serve(rt, handles, &options, &mut input, &mut output);
     let Dialler { said, line, .. } = output;
@@ -414,6 +416,7 @@ fn asked_while_served<
         scheme: None,
         limits: Limits { turns: 4, ..LIMITS },
         until: None,
+        ask: None,
     };
     let ended = serve(rt, handles, &options, &mut input, &mut output);
     let Asker { shown, closed, .. } = output;
