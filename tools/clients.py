@@ -14,6 +14,8 @@ PROGRAM = os.environ.get("HUB", os.path.join(TOP, "crates/fare_hub/out/fare_hub"
 QUEUE = int(os.environ.get("QUEUE", "64"))
 MOMENT = 1_704_100_000
 DAY = 19_723
+# How many seconds stand between two taps of a station that sends slowly.
+PAUSE = 0.05
 
 
 def framed(kind, body):
@@ -44,21 +46,26 @@ def scheme_of(stations):
 
 
 class Hub:
-    """The program, serving so many stations once, or for as long as a file isn't there."""
+    """The program, serving so many stations once, or for as long as a file isn't there; answering an operator, if it is to."""
 
-    def __init__(self, folder, turns=2_000, read_ms=5, write_ms=200, stations=2, under=(), until=None, options=()):
+    def __init__(self, folder, turns=2_000, read_ms=5, write_ms=200, stations=2, under=(), until=None, options=(),
+                 ask=None):
         self.path = os.path.join(folder, "outbox")
-        given = {"--read-ms": read_ms, "--write-ms": write_ms, "--until": until}
+        given = {"--read-ms": read_ms, "--write-ms": write_ms, "--until": until, "--ask": ask}
         self.program = subprocess.Popen(
             [*under, PROGRAM, "serve", "--port", "0", "--turns", str(turns), "--outbox", self.path, *options,
              *[word for name, value in given.items() if value is not None for word in (name, str(value))]],
             stdin=subprocess.PIPE, stdout=subprocess.PIPE, stderr=subprocess.PIPE)
         self.program.stdin.write(scheme_of(stations).encode())
         self.program.stdin.close()
-        first = self.program.stdout.readline().decode()
-        if not first.startswith("listening "):
-            raise AssertionError(f"the program said {first!r} {self.program.stderr.read()!r}")
-        self.port = int(first.split()[1])
+        self.port = self.port_behind("listening ")
+        self.answering = None if ask is None else self.port_behind("answering ")
+
+    def port_behind(self, word):
+        line = self.program.stdout.readline().decode()
+        if not line.startswith(word):
+            raise AssertionError(f"the program said {line!r} {self.program.stderr.read()!r}")
+        return int(line.split()[1])
 
     def connect(self, timeout=60):
         line = socket.create_connection(("127.0.0.1", self.port))
@@ -231,3 +238,76 @@ class Validator:
         except OSError:
             pass
         line.close()
+
+
+def answers(line, heard, count):
+    """Notes when each of so many links is covered by an answer."""
+    got, upto = b"", 0
+    while upto < count:
+        piece = line.recv(65_536)
+        now = time.monotonic()
+        if not piece:
+            return
+        got += piece
+        while len(got) >= 2 and len(got) >= 2 + (size := struct.unpack_from(">H", got)[0]):
+            kind, body, got = got[2], got[3:2 + size], got[2 + size:]
+            if kind == 3:
+                link = struct.unpack_from(">Q", body, 4)[0]
+                for place in range(upto, min(link, count)):
+                    heard[place] = now
+                upto = max(upto, link)
+
+
+def sends_slowly(hub, device, count):
+    """How long each of so many taps waited for its answer."""
+    line = hub.connect(timeout=120)
+    heard, sent = [None] * count, [0.0] * count
+    listener = threading.Thread(target=answers, args=(line, heard, count))
+    listener.start()
+    line.sendall(greeted(device))
+    time.sleep(0.5 + PAUSE * device / 17)
+    begun = time.monotonic()
+    for link in range(1, count + 1):
+        time.sleep(max(0, begun + PAUSE * link - time.monotonic()))
+        line.sendall(tapped(device, link))
+        sent[link - 1] = time.monotonic()
+    listener.join()
+    line.close()
+    wants("the answers", heard.count(None), 0)
+    return [after - before for after, before in zip(heard, sent)]
+
+
+def request(method="GET", target="/stand", host="127.0.0.1", fields=(), body=b""):
+    """The bytes of a request over HTTP."""
+    lines = [f"{method} {target} HTTP/1.1", f"Host: {host}", *fields]
+    if body:
+        lines.append(f"Content-Length: {len(body)}")
+    return "\r\n".join([*lines, "", ""]).encode() + body
+
+
+def asking(port, receives=None):
+    """A connection to the port where the program answers its operator."""
+    line = socket.socket()
+    if receives:
+        line.setsockopt(socket.SOL_SOCKET, socket.SO_RCVBUF, receives)
+    line.settimeout(20)
+    line.connect(("127.0.0.1", port))
+    return line
+
+
+def status_in(answer):
+    """The status of the first answer of these bytes; 0 where there is none."""
+    words = answer.split(b"\r\n", 1)[0].split(b" ")
+    return int(words[1]) if answer.startswith(b"HTTP/1.1 ") and len(words) > 1 else 0
+
+
+def asks(port, data):
+    """What is answered there to these bytes, sent at once."""
+    line = asking(port)
+    try:
+        line.sendall(data)
+    except OSError:
+        pass
+    answer = read_to_end(line)
+    line.close()
+    return answer
