@@ -92,6 +92,7 @@ pub(crate) fn pass_on<G: Gate, R: Wait + Clock>(
     ensures none { IfNone result (IsUnexpected frame.now × (next_in collector.new ≡ next_in collector.old) × (sent_list pass.new ≡ sent_list pass.old)) }
     ensures station { (station_of pass.new ≡ station_of pass.old) × (collector.new.station ≡ collector.old.station) }
 {
+    floor.gate.pass(Point::StationRead(pass.station()));
     if let Some(tapped) = frame.tapped() {
         return Some(put_tap(floor, inbox, ended, tapped, pacing, pass, collector));
     }

@@ -1,3 +1,5 @@
+use fare_record::StationId;
+
 /// A place in a session that its gate learns of, right after the thread there was answered.
 #[derive(Clone, Copy, PartialEq, Eq, Debug)]
 pub enum Point {
@@ -5,8 +7,14 @@ pub enum Point {
     ForwardPut,
     /// The owner took an item from the lane queue.
     OwnerTook,
+    /// The owner's ledger has committed what stood together in the queue, an item or several.
+    OwnerCommitted,
+    /// A station read a frame off its line.
+    StationRead(StationId),
     /// A station put an item into the inbox.
     StationPut,
+    /// The outbox has committed items of the writer, one or several at once.
+    WriterCommitted,
     /// The writer stored an item.
     WriterStored,
 }

@@ -10,7 +10,7 @@ ghost use Rattle.fare_session.specs.Taking.{IsKept, IsTaken, IsTaking, IsLeftTak
 use crate::batching::{Halt, keep_batch, keep_batch_left, take_one};
 use crate::ending::Ending;
 use crate::fault::{SessionFault, failed};
-use crate::gate::Gate;
+use crate::gate::{Gate, Point};
 use crate::pace::Pace;
 use crate::turns::Turns;
 use fare_lane_queue::{Ended, LaneQueue, OwnerPass};
@@ -104,6 +104,7 @@ pub(crate) fn take_all<L: Ledger, G: Gate, R: Wait + Clock>(
                     ending.owner_ends();
                     return Some(halt);
                 }
+                pace.gate.pass(Point::OwnerCommitted);
             }
             None => {
                 turns.spend(pace.rt, pace.gate);

@@ -32,7 +32,8 @@ impl Gate for Hold {
                     self.wait_for_a_take();
                 }
             }
-            Point::StationPut | Point::WriterStored => {}
+            Point::StationPut | Point::WriterStored | Point::WriterCommitted => {}
+            Point::StationRead(_) | Point::OwnerCommitted => {}
         }
     }
 

@@ -36,7 +36,8 @@ impl Gate for Hold {
             Point::WriterStored => {
                 self.stores.fetch_add(1, Ordering::SeqCst);
             }
-            Point::ForwardPut | Point::OwnerTook => {}
+            Point::ForwardPut | Point::OwnerTook | Point::OwnerCommitted => {}
+            Point::StationRead(_) | Point::WriterCommitted => {}
         }
     }
 }

@@ -121,6 +121,7 @@ fn handle_some<O: Outbox, G: Gate, R: Wait + Clock>(
         Err(halt) => return Err(halt),
     };
     if stored > 0 {
+        floor.gate.pass(Point::WriterCommitted);
         tell_all(floor, lines, &items[..stored], tally, tellers);
         return Ok(stored);
     }

@@ -71,6 +71,7 @@ pub fn handle<O: Outbox, G: Gate, R: Wait + Clock>(
         Err(halt) => return Some(halt),
     };
     if new {
+        floor.gate.pass(Point::WriterCommitted);
         floor.gate.pass(Point::WriterStored);
     }
     match item {
