@@ -6,4 +6,5 @@ pub mod Lanes
 pub mod Retires
 pub mod Shown
 pub mod Tried
+pub mod Waits
 pub mod Written

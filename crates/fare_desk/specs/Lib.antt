@@ -3,3 +3,4 @@ pub mod Closing
 pub mod Faults
 pub mod Retiring
 pub mod Showing
+pub mod Waiting

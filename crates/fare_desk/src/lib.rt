@@ -11,6 +11,7 @@ mod closing;
 mod fault;
 mod retiring;
 mod standing;
+mod waiting;
 mod writing;
 
 pub use billing::{write_bill, write_settlement};
@@ -18,3 +19,4 @@ pub use closing::close_days;
 pub use fault::DeskFault;
 pub use retiring::retire_lane;
 pub use standing::write_standing;
+pub use waiting::{OwnerWaits, Waiting, what_waits};

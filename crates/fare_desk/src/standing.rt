@@ -93,7 +93,7 @@ fn statements_from<O: Outbox>(
 }
 
 // How many taps of a device an owner has taken, and the last day that it has closed.
-fn ask_ledger<O: Outbox, L: Ledger>(
+pub(crate) fn ask_ledger<O: Outbox, L: Ledger>(
     hub: &mut Hub<O, L>,
     owner: OwnerId,
     device: DeviceId,
@@ -123,7 +123,7 @@ fn ask_rows<O: Outbox, L: Ledger>(
 }
 
 // How many statements of a device wait for an owner that has closed its days up to one, or none.
-fn ask_statements<O: Outbox, L: Ledger>(
+pub(crate) fn ask_statements<O: Outbox, L: Ledger>(
     hub: &mut Hub<O, L>,
     owner: OwnerId,
     device: DeviceId,
