@@ -34,7 +34,7 @@ use Rattle.fare_serve.specs.Calls.{IsOfScheme}
 use Rattle.fare_serve.specs.Coming.{AreLinesCovered, ComeOfLines}
 use Rattle.fare_serve.specs.Counting.{counts_text}
 use Rattle.fare_serve.specs.Rounds.{AreCountsOf, IsRound, calls_of}
-use Rattle.fare_serve.specs.Pausing.{HasRested, PauseOf}
+use Rattle.fare_serve.specs.Pausing.{HasPausedOnly, PauseOf}
 use Rattle.fare_serve.specs.Spacing.{AreSpaced}
 use Rattle.fare_serve.specs.Serving.{AreAllCovered, HaveTold, IsReadToEnds, KeepsStores, shift_talk}
 use Rattle.fare_serve.proofs.Coming.{come_none}
@@ -78,7 +78,7 @@ module _ {S : Type 0} (g : Ghosts S) (sc : SchemeValue) (valid : IsScheme sc) (b
 
     -- SERVING
     keeps_calls : (does : PauseOf (SqlOutbox S g) (SqlLedger S g)) (last : Hub (SqlOutbox S g) (SqlLedger S g)) (calls : List LineCall) → AreSpaced shift_talk does (stands_outbox g) (stands_ledger g) old last calls
-        → HasRested does (stands_outbox g) (stands_ledger g) last new → ComeOfLines old.scheme calls → KeepsCalls g sc before after calls
+        → HasPausedOnly does (stands_outbox g) (stands_ledger g) last new → ComeOfLines old.scheme calls → KeepsCalls g sc before after calls
     keeps_calls does last calls held rested come = record {
       keeps = λ clean lists numbered told outbox ledgers shows agreed outbox_left ledgers_left leave.
           let h = agreed.0 in

@@ -20,7 +20,7 @@ use Rattle.fare_sessions.specs.declared.session.Session.{Session}
 use Rattle.fare_sessions.specs.declared.session.Session.TheVariants.{Collect, Serve}
 use Rattle.fare_sessions.specs.declared.report.SessionsReport.{SessionsReport}
 use Rattle.fare_serve.specs.Calls.{AreEndedBy, AreHeld, AreUnended, Call, HasEnded, HasFailed, HasHeldStations, IsCollecting, IsOfScheme, IsOutside, IsServing}
-use Rattle.fare_serve.specs.Pausing.{HasRested, PauseOf}
+use Rattle.fare_serve.specs.Pausing.{HasPausedOnly, HasPausedSome, PauseOf}
 use Rattle.fare_serve.specs.Spacing.{AreSpaced, HaveStopped}
 use Rattle.fare_serve.specs.Rounds.{HasFailedRound, HaveFailedOwners, IsRound, Round, calls_of, olds_of, serving_of}
 use Rattle.fare_serve.specs.declared.fault.ServeFault.{ServeFault}
@@ -151,10 +151,10 @@ module _ {S O L : Type 0} (talks : S → Talk) (does : PauseOf O L) (outbox : O 
     refl,
   )
 
-  stopped_front : (a b m c : Hub O L) (xs cs : List (Call S)) (fault : ServeFault) → AreSpaced talks does outbox ledger a b xs → HasRested does outbox ledger b m → AreHeld talks outbox ledger m c cs → IsFront cs
+  stopped_front : (a b m c : Hub O L) (xs cs : List (Call S)) (fault : ServeFault) → AreSpaced talks does outbox ledger a b xs → HasPausedSome does outbox ledger b m → AreHeld talks outbox ledger m c cs → IsFront cs
       → AreEndedBy fault (xs ++ cs) → AllByRecursion (IsOfScheme a.scheme) (xs ++ cs) → (f : HaveStopped talks does outbox ledger a c fault) × (f.calls ≡ xs ++ cs)
   stopped_front a b m c xs [] fault spaced rested held front ended each = (
-    record { calls = xs ++ []; last = b; held = spaced_then talks does outbox ledger a b b xs [] spaced refl; rested = subst (HasRested does outbox ledger b) (sym held) rested; ended = ended; each = each },
+    record { calls = xs ++ []; last = b; held = spaced_then talks does outbox ledger a b b xs [] spaced refl; rested = subst (HasPausedOnly does outbox ledger b) (sym held) rested.0; ended = ended; each = each },
     refl,
   )
   stopped_front a b m c xs (x ∷ os) fault spaced rested held front ended each = (
@@ -169,10 +169,10 @@ module _ {S O L : Type 0} (talks : S → Talk) (does : PauseOf O L) (outbox : O 
     refl,
   )
 
-  -- behind calls that none ended, in the front of a round, before which the hub was at rest
-  pub stopped_after : (a b m c : Hub O L) (xs : List (Call S)) (fault : ServeFault) → AreSpaced talks does outbox ledger a b xs → AreUnended xs → AllByRecursion (IsOfScheme a.scheme) xs → HasRested does outbox ledger b m
+  -- behind calls that none ended, in the front of a round, before which there was a pause or several
+  pub stopped_after : (a b m c : Hub O L) (xs : List (Call S)) (fault : ServeFault) → AreSpaced talks does outbox ledger a b xs → AreUnended xs → AllByRecursion (IsOfScheme a.scheme) xs → HasPausedSome does outbox ledger b m
       → (next : HasFailed talks outbox ledger m c fault) → IsFront next.calls → (f : HaveStopped talks does outbox ledger a c fault) × (f.calls ≡ xs ++ next.calls)
   stopped_after a b m c xs fault spaced unended each rested next front =
-      let same = (rested_goes does outbox ledger b m rested).scheme ∙ spaced_scheme talks does outbox ledger a b xs spaced in
+      let same = (rested_goes does outbox ledger b m rested.0).scheme ∙ spaced_scheme talks does outbox ledger a b xs spaced in
       stopped_front a b m c xs next.calls fault spaced rested next.held front (ended_then xs next.calls fault unended next.ended)
       (all-append (IsOfScheme a.scheme) xs next.calls each (subst (λ sc. AllByRecursion (IsOfScheme sc) next.calls) same next.each))

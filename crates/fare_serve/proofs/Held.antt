@@ -17,7 +17,7 @@ use Rattle.fare_source.specs.declared.shift.Shift.{Shift}
 use Rattle.fare_net.specs.NetValue.{NetValue}
 use Rattle.fare_serve.specs.Calls.{Call, IsOutside}
 use Rattle.fare_serve.specs.Coming.{ComeOfLines, HasBegun}
-use Rattle.fare_serve.specs.Pausing.{HasRested, PauseOf}
+use Rattle.fare_serve.specs.Pausing.{HasPausedOnly, HasPausedSome, PauseOf}
 use Rattle.fare_serve.specs.Spacing.{AreSpaced}
 use Rattle.fare_serve.specs.Seats.{AreFree, AreSeatsGathered, AreSeats}
 use Rattle.fare_serve.specs.Serving.{HasFailedHeld, HasFailedLines, HasHeldRound, HaveBeenHeld, HaveFailed, HaveTold, IsReadToEnds, KeepsStores, shift_talk}
@@ -63,7 +63,7 @@ module _ {O L : Type 0} (does : PauseOf O L) (outbox : O → Standing OutboxValu
       by [] seated none = seats_of_free sc seats (subst AreFree (sym seated) was.free)
       by (r ∷ rs) seated none = absurd (cc)
 
-  pub been_more : (old middle begun new : Hub O L) (whole : Bool) (count : ℕ) (c d : Counts) (seats gathered next : List Seat) → HaveBeenSeated old middle whole count c seats → AreSeatsGathered middle.scheme seats gathered → HasRested does outbox ledger middle begun
+  pub been_more : (old middle begun new : Hub O L) (whole : Bool) (count : ℕ) (c d : Counts) (seats gathered next : List Seat) → HaveBeenSeated old middle whole count c seats → AreSeatsGathered middle.scheme seats gathered → HasPausedSome does outbox ledger middle begun
       → HasHeldRound outbox ledger begun new whole c d gathered next → HaveBeenSeated old new whole (count + 1) d next
   been_more old middle begun new whole count c d seats gathered next been came rested one = record {
     held = record {
@@ -86,7 +86,7 @@ module _ {O L : Type 0} (does : PauseOf O L) (outbox : O → Standing OutboxValu
       before = spaced_scheme shift_talk does outbox ledger old middle (flat_map calls_of was.rounds) was.served.held
 
       same : begun.scheme ≡ old.scheme
-      same = (rested_goes does outbox ledger middle begun rested).scheme ∙ before
+      same = (rested_goes does outbox ledger middle begun rested.0).scheme ∙ before
 
       seated : AreSeated old.scheme been.first (was.rounds ++ one.served.round ∷ []) next
       seated = seated_more old.scheme been.first was.rounds seats one.served.round next been.seated (record {
@@ -112,7 +112,7 @@ module _ {O L : Type 0} (does : PauseOf O L) (outbox : O → Standing OutboxValu
 
   -- WHAT THE CALLS KEEP OF THE STORES
   pub calls_keep : (old last new : Hub O L) (calls : List (Call (Shift NetValue))) (AreGiven : (ℕ → List RecordValue) → Type 0) → ((lists : ℕ → List RecordValue) → AreGiven lists → HaveTold old.scheme lists calls) → AreSpaced shift_talk does outbox ledger old last calls
-      → HasRested does outbox ledger last new → ComeOfLines old.scheme calls → KeepsStores does outbox ledger old new calls AreGiven
+      → HasPausedOnly does outbox ledger last new → ComeOfLines old.scheme calls → KeepsStores does outbox ledger old new calls AreGiven
   calls_keep old last new calls AreGiven told held rested come = record {
     scheme = all_scheme shift_talk does outbox ledger old last new calls held rested;
     follow = all_follow shift_talk does outbox ledger old last new calls held rested;
@@ -146,7 +146,7 @@ module _ {O L : Type 0} (does : PauseOf O L) (outbox : O → Standing OutboxValu
   front_of seats (c ∷ cs) begun = ((begun.0.stations, begun.0.collects), begun.1)
 
   -- behind rounds, in one that had begun
-  pub rounds_failed : (old middle begun new : Hub O L) (whole : Bool) (count : ℕ) (c : Counts) (seats gathered : List Seat) (fault : ServeFault) → HaveBeenSeated old middle whole count c seats → AreSeatsGathered middle.scheme seats gathered → HasRested does outbox ledger middle begun
+  pub rounds_failed : (old middle begun new : Hub O L) (whole : Bool) (count : ℕ) (c : Counts) (seats gathered : List Seat) (fault : ServeFault) → HaveBeenSeated old middle whole count c seats → AreSeatsGathered middle.scheme seats gathered → HasPausedSome does outbox ledger middle begun
       → HasFailedHeld outbox ledger begun new gathered fault → HaveFailed does outbox ledger old new fault
   rounds_failed old middle begun new whole count c seats gathered fault been came rested next =
       let was = been.held in

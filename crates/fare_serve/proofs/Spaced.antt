@@ -34,7 +34,7 @@ use Rattle.fare_sessions.proofs.Lasting.{lasting_on}
 use Rattle.fare_desk.specs.Closing.{GoesOn}
 use Rattle.fare_desk.proofs.Going.{goes_self}
 use Rattle.fare_serve.specs.Calls.{AreHeld, AreUnended, Call, IsCollecting, IsHeld, IsServing, ended_by}
-use Rattle.fare_serve.specs.Pausing.{HasRested, KeepOwners, PauseOf, does_nothing}
+use Rattle.fare_serve.specs.Pausing.{HasPausedOnly, HasPausedSome, KeepOwners, PauseOf, does_nothing}
 use Rattle.fare_serve.specs.Spacing.{AreSpaced, HaveStopped, IsBehind}
 use Rattle.fare_serve.specs.declared.fault.ServeFault.{ServeFault}
 use Rattle.fare_serve.specs.Rounds.{AreServed, HaveGiven, IsRound, Round, calls_of, olds_of, serving_of}
@@ -61,11 +61,11 @@ module _ {S O L : Type 0} (talks : S → Talk) (does : PauseOf O L) (outbox : O 
 
   -- ONE CALL, AND WHAT LIES BEFORE IT
   behind_goes : (c : Call S) (a b : Hub O L) → Behind c a b → GoesOn outbox ledger a b
-  behind_goes c a b (inl is) = rested_goes does outbox ledger a b is.1
+  behind_goes c a b (inl is) = rested_goes does outbox ledger a b is.1.0
   behind_goes c a b (inr is) = subst (GoesOn outbox ledger a) (sym is.1) (goes_self outbox ledger a)
 
   behind_owned : KeepOwners does outbox ledger → (c : Call S) (a b : Hub O L) → Behind c a b → AreClean outbox ledger b → AreSound outbox ledger a → AreOwned outbox ledger a → AreOwned outbox ledger b
-  behind_owned keep c a b (inl is) clean sound owned = rested_owned does outbox ledger keep a b is.1 clean sound owned
+  behind_owned keep c a b (inl is) clean sound owned = rested_owned does outbox ledger keep a b is.1.0 clean sound owned
   behind_owned keep c a b (inr is) clean sound owned = subst (AreOwned outbox ledger) (sym is.1) owned
 
   -- what agreed goes on to, and what then grows, through a rest and a call
@@ -133,8 +133,8 @@ module _ {S O L : Type 0} (talks : S → Talk) (does : PauseOf O L) (outbox : O 
   spaced_owners a b [] serve held = held
   spaced_owners a b (o ∷ os) serve held = (a, held.0, inr (serve.0, refl), held.1, spaced_owners held.0 b os serve.1 held.2)
 
-  -- a round, or its front, behind a rest
-  pub spaced_round : (a m b : Hub O L) (x : Call S) (os : List (Call S)) → HasRested does outbox ledger a m → IsCollecting x → AllByRecursion IsServing os → AreHeld talks outbox ledger m b (x ∷ os) → Spaced a b (x ∷ os)
+  -- a round, or its front, behind a pause or several
+  pub spaced_round : (a m b : Hub O L) (x : Call S) (os : List (Call S)) → HasPausedSome does outbox ledger a m → IsCollecting x → AllByRecursion IsServing os → AreHeld talks outbox ledger m b (x ∷ os) → Spaced a b (x ∷ os)
   spaced_round a m b x os rested collects serve held = (m, held.0, inl (collects, rested), held.1, spaced_owners held.0 b os serve held.2)
 
   pub spaced_scheme : (a b : Hub O L) (xs : List (Call S)) → Spaced a b xs → b.scheme ≡ a.scheme
@@ -201,7 +201,7 @@ module _ {S O L : Type 0} (talks : S → Talk) (does : PauseOf O L) (outbox : O 
       )
 
   -- WITH A REST BEHIND THE LAST CALL
-  module _ (a m b : Hub O L) (xs : List (Call S)) (held : Spaced a m xs) (rested : HasRested does outbox ledger m b) where
+  module _ (a m b : Hub O L) (xs : List (Call S)) (held : Spaced a m xs) (rested : HasPausedOnly does outbox ledger m b) where
     last_goes : GoesOn outbox ledger m b
     last_goes = rested_goes does outbox ledger m b rested
 
@@ -275,10 +275,10 @@ module _ {S O L : Type 0} (talks : S → Talk) (does : PauseOf O L) (outbox : O 
   pub rounds_none : (hub : Hub O L) → AreServed talks does outbox ledger hub hub []
   rounds_none hub = record { each = tt; held = refl; unended = tt }
 
-  pub rounds_more : (old middle begun new : Hub O L) (rounds : List (Round S)) (r : Round S) (before : List (Station S)) → AreServed talks does outbox ledger old middle rounds → HasRested does outbox ledger middle begun
+  pub rounds_more : (old middle begun new : Hub O L) (rounds : List (Round S)) (r : Round S) (before : List (Station S)) → AreServed talks does outbox ledger old middle rounds → HasPausedSome does outbox ledger middle begun
       → IsRound begun.scheme r before → AreHeld talks outbox ledger begun new (calls_of r) → AreUnended (calls_of r) → AreServed talks does outbox ledger old new (rounds ++ r ∷ [])
   rounds_more old middle begun new rounds r before was rested is held unended =
-      let same = (rested_goes does outbox ledger middle begun rested).scheme ∙ spaced_scheme old middle (flat_map calls_of rounds) was.held in
+      let same = (rested_goes does outbox ledger middle begun rested.0).scheme ∙ spaced_scheme old middle (flat_map calls_of rounds) was.held in
       let one : IsRound old.scheme r before = subst (λ sc. IsRound sc r before) same is in
       let round = spaced_round middle begun new r.stations r.owners rested (is.sessions, is.collects) (are_serving (keys_of begun.scheme.owners) r.owners is.serves) held in
       let calls = sym (flat_map-append calls_of rounds (r ∷ []) ∙ ap (λ (l : List (Call S)). flat_map calls_of rounds ++ l) (append-nil (calls_of r))) in
@@ -291,7 +291,7 @@ module _ {S O L : Type 0} (talks : S → Talk) (does : PauseOf O L) (outbox : O 
 -- PAUSES THAT DO NOTHING
 module _ {S O L : Type 0} (talks : S → Talk) (outbox : O → Standing OutboxValue) (ledger : L → Standing LedgerValue) where
   behind_still : (c : Call S) (a b : Hub O L) → IsBehind talks does_nothing outbox ledger c a b → b ≡ a
-  behind_still c a b (inl is) = rested_still outbox ledger a b is.1
+  behind_still c a b (inl is) = rested_still outbox ledger a b is.1.0
   behind_still c a b (inr is) = is.1
 
   -- leave the calls one after the other, with nothing between them

@@ -1,10 +1,13 @@
 use crate::limits::Limits;
+use crate::marks::Marks;
+use fare_scheme::Scheme;
 use fare_session::{Gate, Point};
 use std::sync::atomic::{AtomicBool, AtomicU64, Ordering};
 use std::time::{Clock, Instant};
 
 /// The gate of a round: no thread is held, and one that waits for long naps. The stations are read no more once none of
-/// their lines has brought anything for a while, or once the round has lasted long enough. No contract speaks of it.
+/// their lines has brought anything for a while, or once the round has lasted long enough. It marks off which lines frames
+/// came, and counts commits. No contract speaks of it.
 #[derive(Drop)]
 pub(crate) struct RoundGate<'a, R> {
     rt: &'a R,
@@ -19,11 +22,12 @@ pub(crate) struct RoundGate<'a, R> {
     last: AtomicU64,
     // a station has seen that it is over: so it is for the others too, whatever their lines still bring
     over: AtomicBool,
+    marks: Marks,
 }
 
 impl<'a, R: Clock> RoundGate<'a, R> {
-    /// The gate of a round that begins now, and in which lines are read to their ends or not.
-    pub(crate) fn new(rt: &'a R, whole: bool, limits: Limits) -> RoundGate<'a, R> {
+    /// The gate of a round of these stations that begins now, and in which lines are read to their ends or not.
+    pub(crate) fn new(rt: &'a R, scheme: &Scheme, whole: bool, limits: Limits) -> RoundGate<'a, R> {
         let quiet = u64::from(limits.patience.max(1)).saturating_mul(u64::from(limits.read_millis));
         RoundGate {
             rt,
@@ -33,13 +37,29 @@ impl<'a, R: Clock> RoundGate<'a, R> {
             quiet,
             last: AtomicU64::new(0),
             over: AtomicBool::new(false),
+            marks: Marks::new(scheme),
         }
     }
 
+    // What its threads have passed.
+    pub(crate) fn marks(&self) -> &Marks {
+        &self.marks
+    }
+
     // How many milliseconds of the round have passed; `None` where the clock fails.
-    fn passed(&self) -> Option<u64> {
+    pub(crate) fn passed(&self) -> Option<u64> {
         let now = Instant::now(self.rt).ok()?;
         u64::try_from(now.duration_since(self.begin?).as_millis()).ok()
+    }
+
+    // Notes that a line has brought something, where that keeps the round open.
+    fn note_put(&self) {
+        if self.whole {
+            return;
+        }
+        if let Some(passed) = self.passed() {
+            self.last.store(passed, Ordering::SeqCst);
+        }
     }
 
     // Whether no line has brought anything for long enough, or it has lasted long enough; also where the clock fails, so
@@ -55,11 +75,12 @@ impl<'a, R: Clock> RoundGate<'a, R> {
 
 impl<'a, R: Clock> Gate for RoundGate<'a, R> {
     fn pass(&self, point: Point) {
-        if self.whole || point != Point::StationPut {
-            return;
-        }
-        if let Some(passed) = self.passed() {
-            self.last.store(passed, Ordering::SeqCst);
+        match point {
+            Point::StationRead(station) => self.marks.mark_read(station),
+            Point::StationPut => self.note_put(),
+            Point::WriterCommitted => self.marks.mark_outbox_commit(),
+            Point::OwnerCommitted => self.marks.mark_ledger_commit(),
+            Point::ForwardPut | Point::OwnerTook | Point::WriterStored => {}
         }
     }
 

@@ -1,13 +1,14 @@
-ghost use Rattle.std.specs.Prelude.{◌≡◌, ◌≤◌, IfOk, length, vec_len};
+ghost use Rattle.std.specs.Prelude.{◌≡◌, ◌≤◌, ◌<◌, IfOk, length, vec_len};
 ghost use Rattle.fare_sessions.specs.Stores.{HasLedgers};
-ghost use Rattle.fare_serve.specs.Pausing.{HasRested};
+ghost use Rattle.fare_serve.specs.Pausing.{HasPausedSome};
 ghost use Rattle.fare_serve.specs.Seats.{AreFree, AreSeatsGathered, AreSeats, AreSeatsAfter};
 
-use crate::counts::Counts;
 use crate::guest::{Guest, MOST_GUESTS, welcome};
 use crate::limits::Limits;
 use crate::pause::Pause;
+use crate::progress::Progress;
 use crate::seats::{Rule, Seat, are_taken, free_seats, is_one_taken, seat_guests};
+use crate::seen::Seen;
 use crate::telling::tell_absent;
 use fare_scheme::Scheme;
 use fare_sessions::Hub;
@@ -22,6 +23,16 @@ const NAP: u64 = 1;
 
 /// How many attempts a round behind the first makes where no station has a line.
 const MOST_ATTEMPTS: u32 = 200;
+
+// How many attempts there are: for the first round as many as there are turns, at least one.
+fn attempts_of(limits: Limits, rule: Rule) -> u32
+    ensures { 0 < result }
+{
+    match rule {
+        Rule::First => limits.turns.max(1),
+        Rule::Last => MOST_ATTEMPTS,
+    }
+}
 
 /// The lines of a scheme's stations: a seat for each, in the order of registration, and the connections that have not
 /// greeted yet.
@@ -56,12 +67,14 @@ impl Lines {
         scheme: &Scheme,
         limits: Limits,
         rule: Rule,
+        seen: &mut Seen,
     )
         ensures len { vec_len self.new.seats ≡ vec_len self.old.seats }
         ensures after { AreSeatsAfter scheme.now rule self.old.seats.items self.new.seats.items }
     {
         welcome(alloc, listener, limits, self.reads, &mut self.guests);
-        seat_guests(rt, scheme, rule, &mut self.guests, &mut self.seats);
+        seat_guests(rt, scheme, rule, &mut self.guests, &mut self.seats, seen);
+        seen.note_lines(&self.seats);
     }
 
     // Whether a round may begin: the first one when each station has a line, another when one has.
@@ -84,8 +97,8 @@ impl Lines {
     }
 
     // Takes lines for a round. For the first one until each station has one, in at most so many attempts as there are
-    // turns; for another those that have come, and where no station has one it waits a short while. Behind each attempt
-    // there is a pause, when so many rounds have been held, of which these are the counts.
+    // turns, but in one at least; for another those that have come, and where no station has one it waits a short while.
+    // Behind each attempt there is a pause, which is lent how far serving has come.
     pub(crate) fn gather<O: Outbox, L: Ledger, P: Pause<O, L>, R: Clock + Eprint>(
         &mut self,
         rt: &HostRuntime,
@@ -95,22 +108,26 @@ impl Lines {
         limits: Limits,
         rule: Rule,
         pauses: &mut P,
-        counts: &Counts,
-        rounds: u32,
+        progress: &mut Progress,
     )
         requires ledgers { HasLedgers hub.old }
         ensures len { vec_len self.new.seats ≡ vec_len self.old.seats }
         ensures gathered { (rule ≡ Rule.First → AreSeats hub.old.scheme self.old.seats.items) → AreSeatsGathered hub.old.scheme self.old.seats.items self.new.seats.items }
-        ensures rested { HasRested P.does O.standing L.standing hub.old hub.new }
+        ensures paused { HasPausedSome P.does O.standing L.standing hub.old hub.new }
+        ensures counts { progress.new.counts ≡ progress.old.counts }
     {
         let alloc = rt.alloc();
-        let attempts = match rule {
-            Rule::First => limits.turns,
-            Rule::Last => MOST_ATTEMPTS,
-        };
-        for _ in 0..attempts {
-            self.attempt(handles, alloc, listener, &hub.scheme, limits, rule);
-            pauses.pause(rt, hub, counts, rounds);
+        for _ in 0..attempts_of(limits, rule) {
+            self.attempt(
+                handles,
+                alloc,
+                listener,
+                &hub.scheme,
+                limits,
+                rule,
+                &mut progress.seen,
+            );
+            pauses.pause(rt, hub, progress);
             if self.are_enough(rule) {
                 break;
             }

@@ -5,6 +5,7 @@ ghost use Rattle.fare_serve.specs.Serving.{AreWhole};
 
 use crate::line::{Line, LineSource};
 use crate::seats::Seat;
+use crate::seen::Seen;
 use crate::telling::{tell_broken, tell_ended};
 use fare_collect::Station;
 use fare_net::NetSource;
@@ -92,6 +93,7 @@ fn take_back<R: Eprint>(
     station: Station<Shift<LineSource>>,
     faults: &[(usize, SessionFault)],
     seat: &mut Seat,
+    seen: &mut Seen,
 )
     ensures { IsBack faults.now station seat.old seat.new }
 {
@@ -103,7 +105,7 @@ fn take_back<R: Eprint>(
         return;
     }
     if let Some(fault) = fault_of(id, faults) {
-        tell_broken(rt, id, &fault);
+        tell_broken(rt, id, &fault, seen);
         *seat = Seat::Free;
     } else if source.is_over() {
         if !whole {
@@ -122,6 +124,7 @@ pub(crate) fn take_all_back<R: Eprint>(
     stations: Vec<Station<Shift<LineSource>>>,
     faults: &[(usize, SessionFault)],
     seats: &mut [Seat],
+    seen: &mut Seen,
 )
     ensures { AreBack faults.now stations.items seats.old seats.new }
 {
@@ -129,7 +132,7 @@ pub(crate) fn take_all_back<R: Eprint>(
     while let Some(station) = stations.pop() {
         let place = stations.len();
         if place < seats.len() {
-            take_back(rt, whole, station, faults, &mut seats[place]);
+            take_back(rt, whole, station, faults, &mut seats[place], seen);
         }
     }
 }

@@ -1,9 +1,9 @@
 /// How often and how long a hub that serves waits for others, and how long a round is.
 #[derive(Clone, Copy, PartialEq, Eq, Debug)]
 pub struct Limits {
-    /// How often each part tries again before it gives up: how many attempts there are to gather the first lines, how
-    /// often each line is read where it is read to its end, and how often in a row each thread of a session may find
-    /// nothing to do.
+    /// How often each part tries again before it gives up: how many attempts there are to gather the first lines (one
+    /// at least), how often each line is read where it is read to its end, and how often in a row each thread of a
+    /// session may find nothing to do.
     pub turns: u32,
     /// How many milliseconds a read of a line waits for its first byte; at least 1.
     pub read_millis: u32,

@@ -3,6 +3,7 @@ ghost use Rattle.fare_serve.specs.Seats.{AreFree, AreSeatsAfter, HasTakenSeat, T
 
 use crate::guest::{Guest, MOST_GUESTS};
 use crate::line::LineSource;
+use crate::seen::Seen;
 use crate::telling::{
     tell_came, tell_newer, tell_refused, tell_replaced, tell_second, tell_unheard,
 };
@@ -61,52 +62,78 @@ fn is_over(seat: &mut Seat) -> bool
 }
 
 // Before the first round: the first line of a station that is not over keeps its seat.
-fn keep_first<R: Eprint>(rt: &R, station: StationId, source: LineSource, seat: &mut Seat)
+fn keep_first<R: Eprint>(
+    rt: &R,
+    station: StationId,
+    source: LineSource,
+    seat: &mut Seat,
+    seen: &mut Seen,
+)
     ensures { HasTakenSeat Rule.First seat.old seat.new source }
 {
     if !is_over(seat) {
-        tell_second(rt, station);
+        tell_second(rt, station, seen);
         return;
     }
     if !seat.is_free() {
-        tell_replaced(rt, station);
+        tell_replaced(rt, station, seen);
     }
     *seat = Seat::Held(source);
 }
 
 // Between rounds: the line that came last has the seat.
-fn keep_last<R: Eprint>(rt: &R, station: StationId, source: LineSource, seat: &mut Seat)
+fn keep_last<R: Eprint>(
+    rt: &R,
+    station: StationId,
+    source: LineSource,
+    seat: &mut Seat,
+    seen: &mut Seen,
+)
     ensures { HasTakenSeat Rule.Last seat.old seat.new source }
 {
     if seat.is_free() {
         tell_came(rt, station);
     } else {
-        tell_newer(rt, station);
+        tell_newer(rt, station, seen);
     }
     *seat = Seat::Held(source);
 }
 
 // Gives a station's seat to a line that greeted, or leaves it to the one that has it, as the rule says.
-fn take_seat<R: Eprint>(rt: &R, station: StationId, source: LineSource, rule: Rule, seat: &mut Seat)
+fn take_seat<R: Eprint>(
+    rt: &R,
+    station: StationId,
+    source: LineSource,
+    rule: Rule,
+    seat: &mut Seat,
+    seen: &mut Seen,
+)
     ensures { HasTakenSeat rule seat.old seat.new source }
 {
     match rule {
-        Rule::First => keep_first(rt, station, source, seat),
-        Rule::Last => keep_last(rt, station, source, seat),
+        Rule::First => keep_first(rt, station, source, seat, seen),
+        Rule::Last => keep_last(rt, station, source, seat, seen),
     }
 }
 
 // Seats a guest that was heard, or lets it go.
-fn seat_guest<R: Eprint>(rt: &R, scheme: &Scheme, guest: Guest, rule: Rule, seats: &mut [Seat])
+fn seat_guest<R: Eprint>(
+    rt: &R,
+    scheme: &Scheme,
+    guest: Guest,
+    rule: Rule,
+    seats: &mut [Seat],
+    seen: &mut Seen,
+)
     ensures { AreSeatsAfter scheme.now rule seats.old seats.new }
 {
     let mut source = guest.into_source();
     match source.hello(scheme) {
-        Err(fault) => tell_refused(rt, fault),
+        Err(fault) => tell_refused(rt, fault, seen),
         Ok(station) => {
             if let Some(place) = scheme.station_position(station) {
                 if place < seats.len() {
-                    take_seat(rt, station, source, rule, &mut seats[place]);
+                    take_seat(rt, station, source, rule, &mut seats[place], seen);
                 }
             }
         }
@@ -120,6 +147,7 @@ pub(crate) fn seat_guests<R: Eprint>(
     rule: Rule,
     guests: &mut Vec<Guest>,
     seats: &mut [Seat],
+    seen: &mut Seen,
 )
     ensures { AreSeatsAfter scheme.now rule seats.old seats.new }
 {
@@ -129,10 +157,10 @@ pub(crate) fn seat_guests<R: Eprint>(
             return;
         }
         if guests[place].is_heard() {
-            seat_guest(rt, scheme, guests.swap_remove(place), rule, seats);
+            seat_guest(rt, scheme, guests.swap_remove(place), rule, seats, seen);
         } else if guests[place].is_overdue() {
             drop(guests.swap_remove(place));
-            tell_unheard(rt);
+            tell_unheard(rt, seen);
         } else {
             place += 1;
         }

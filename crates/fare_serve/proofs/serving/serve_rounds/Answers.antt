@@ -8,14 +8,14 @@ pub returns-clause-served : goal.returns-clause-served
 returns-clause-served g c =
     let held = c.in_ok-hold_rounds.ensures.held in
     record {
-      counts = c.hold_rounds.new.counts;
+      counts = c.hold_rounds.new.progress.counts;
       held = held;
       written = c.in_ok-write_counts.ensures.written;
       keeps = rounds_keep g.P.Pause.does g.O.Outbox.standing g.L.Ledger.standing c.args.hub.now c.hold_rounds.new.hub held.held.rounds held.held.served held.held.come;
     }
 
-pub returns-in_err-counts-clause-failed : goal.returns-in_err-counts-clause-failed
-returns-in_err-counts-clause-failed g c =
+pub returns-in_err-progress-clause-failed : goal.returns-in_err-progress-clause-failed
+returns-in_err-progress-clause-failed g c =
     let failed : HasFailedLines g.P.Pause.does g.O.Outbox.standing g.L.Ledger.standing c.args.hub.now c.args.hub.now Memory = lines_failed g.P.Pause.does g.O.Outbox.standing g.L.Ledger.standing c.args.hub.now c.args.hub.now Memory (none_failed g.P.Pause.does g.O.Outbox.standing g.L.Ledger.standing c.args.hub.now Memory tt) in
     search (rules, failed)
 
@@ -31,5 +31,5 @@ returns-in_err-write_counts-clause-failed g c =
     let fault = c.in_err-write_counts.field-0.0 in
     let failed : HasFailedLines g.P.Pause.does g.O.Outbox.standing g.L.Ledger.standing c.args.hub.now c.hold_rounds.new.hub fault =
     lines_failed g.P.Pause.does g.O.Outbox.standing g.L.Ledger.standing c.args.hub.now c.hold_rounds.new.hub fault
-    (rounds_failed_behind g.P.Pause.does g.O.Outbox.standing g.L.Ledger.standing c.args.hub.now c.hold_rounds.new.hub _ rounds.count c.hold_rounds.new.counts fault rounds.held c.in_err-write_counts.ensures.outside) in
+    (rounds_failed_behind g.P.Pause.does g.O.Outbox.standing g.L.Ledger.standing c.args.hub.now c.hold_rounds.new.hub _ rounds.count c.hold_rounds.new.progress.counts fault rounds.held c.in_err-write_counts.ensures.outside) in
     search (rules, failed)
