@@ -33,7 +33,7 @@ fn is_here(host: &[u8]) -> bool
 }
 
 // The value of a header field, the first where there are several.
-fn field<'a>(request: &'a Request<Bytes>, name: &str) -> Option<&'a [u8]>
+pub(crate) fn field<'a>(request: &'a Request<Bytes>, name: &str) -> Option<&'a [u8]>
     ensures { option_copied result ≡ field_at (head_of request.now) (lowercase name.now) }
 {
     match request.headers().get(name) {
