@@ -14,8 +14,9 @@ use Rattle.fare_event.specs.declared.reply.Refusal.TheVariants as refusal
 use Rattle.fare_history.specs.Stores.{StoresValue}
 use Rattle.fare_request.specs.declared.ask.Ask.{Ask}
 use Rattle.fare_request.specs.declared.ask.Ask.TheVariants as ask
+use Rattle.fare_request.specs.declared.form.Form.{Form}
 use Rattle.fare_scheme.specs.Words.{position_of_device, position_of_owner}
-use Rattle.fare_serve.specs.declared.counts.Counts.{Counts}
+use Rattle.fare_serve.specs.declared.progress.Progress.{Progress}
 use Rattle.fare_sessions.specs.Billing.{IsBillRefusal}
 use Rattle.fare_sessions.specs.Stores.{AreClean, AreSound}
 use Rattle.fare_sessions.specs.declared.hub.Hub.{Hub}
@@ -24,7 +25,7 @@ use Rattle.fare_store.specs.OutboxWords.{OutboxValue}
 use Rattle.fare_store.specs.Standing.{Standing}
 use Rattle.fare_side.specs.declared.bill_fault.BillFault.{BillFault}
 use Rattle.fare_side.specs.declared.bill_fault.BillFault.TheVariants as bill
-use Rattle.fare_page.specs.Answering.{IsDone, IsFault, IsFilled, IsTold, IsToldFault, IsToldPlainly, MayRetireOne, Tells, TellsNotRetired, TellsRefusal, TellsRetireFault, TellsRetired, bill_refusal, refusal_in, refused_line}
+use Rattle.fare_page.specs.Answering.{IsBody, IsDone, IsFault, IsFilled, IsTold, IsToldFault, IsToldPlainly, MayRetireOne, Tells, TellsNotRetired, TellsRefusal, TellsRetireFault, TellsRetired, bill_refusal, form_for, in_form, refusal_in, refused_line}
 
 -- what a refusal of a retire leaves
 leaves_same : (owner device : ℕ) (fault : DeskFault) (h k : StoresValue) → is_of_retire fault ≡ true → LeavesLane owner device fault h k → k ≡ h
@@ -39,11 +40,11 @@ leaves_same owner device desk.Write h k is l = absurd (cc)
 
 module _ {O L : Type 0} (outbox : O → Standing OutboxValue) (ledger : L → Standing LedgerValue) where
   -- closes
-  pub tells_close : (counts : Counts) (rounds : ℕ) (a : Ask) (old new : Hub O L) (before after : List ℕ) (status : ℕ) (ended : Result (Unit {0}) DeskFault) → a ≡ ask.Close → before ≡ []
-      → OnOk ended (HasClosedLanes outbox ledger (lanes_of old.scheme) old new (Some before) (Some after)) → IsToldPlainly ended status → Tells outbox ledger counts rounds a old new status after
-  tells_close counts rounds a old new before after status ended is none closed told = subst (λ (x : Ask). Tells outbox ledger counts rounds x old new status after) (sym is) (by ended closed told)
+  pub tells_close : (progress : Progress) (a : Ask) (old new : Hub O L) (before after : List ℕ) (status : ℕ) (ended : Result (Unit {0}) DeskFault) → a ≡ ask.Close → before ≡ []
+      → OnOk ended (HasClosedLanes outbox ledger (lanes_of old.scheme) old new (Some before) (Some after)) → IsToldPlainly ended status → Tells outbox ledger progress a old new status after
+  tells_close progress a old new before after status ended is none closed told = subst (λ (x : Ask). Tells outbox ledger progress x old new status after) (sym is) (by ended closed told)
     where
-      by : (e : Result (Unit {0}) DeskFault) → OnOk e (HasClosedLanes outbox ledger (lanes_of old.scheme) old new (Some before) (Some after)) → IsToldPlainly e status → Tells outbox ledger counts rounds ask.Close old new status after
+      by : (e : Result (Unit {0}) DeskFault) → OnOk e (HasClosedLanes outbox ledger (lanes_of old.scheme) old new (Some before) (Some after)) → IsToldPlainly e status → Tells outbox ledger progress ask.Close old new status after
       by (Ok u) c t = inl (t, subst (λ (l : List ℕ). HasClosedLanes outbox ledger (lanes_of old.scheme) old new (Some l) (Some after)) none c)
       by (Err f) c t = inr t
 
@@ -71,17 +72,17 @@ module _ {O L : Type 0} (outbox : O → Standing OutboxValue) (ledger : L → St
     tells_day (Ok u) written refused named kept told = inl (told.0, subst (λ (l : List ℕ). W (Some []) (Some l)) (sym told.1) (subst (λ (l : List ℕ). W (Some l) (Some middle)) none written))
     tells_day (Err fault) written refused named kept told = inr (by_fault fault named kept refused told)
 
-  pub tells_bill : (counts : Counts) (rounds : ℕ) (a : Ask) (old new : Hub O L) (owner day : ℕ) (before middle after : List ℕ) (status : ℕ) (ended : Result (Unit {0}) DeskFault) → a ≡ ask.Bill owner day → before ≡ []
+  pub tells_bill : (progress : Progress) (a : Ask) (old new : Hub O L) (owner day : ℕ) (before middle after : List ℕ) (status : ℕ) (ended : Result (Unit {0}) DeskFault) → a ≡ ask.Bill owner day → before ≡ []
       → OnOk ended (WritesBill outbox ledger old new owner day (Some before) (Some middle)) → (AreClean outbox ledger new → AreSound outbox ledger old → IsBillRefusal outbox ledger old owner day (refused_of ended)) → IfErr ended (λ fault. is_refusal fault ≡ is_some (name_of fault)) → IfErr ended (λ fault. fault ≢ desk.Write → Keeps (Some before) (Some middle)) → IsTold ended middle after status
-      → Tells outbox ledger counts rounds a old new status after
-  tells_bill counts rounds a old new owner day before middle after status ended is none written refused named kept told =
-      subst (λ (x : Ask). Tells outbox ledger counts rounds x old new status after) (sym is) (tells_day (WritesBill outbox ledger old new owner day) old new owner day before middle after status none ended written refused named kept told)
+      → Tells outbox ledger progress a old new status after
+  tells_bill progress a old new owner day before middle after status ended is none written refused named kept told =
+      subst (λ (x : Ask). Tells outbox ledger progress x old new status after) (sym is) (tells_day (WritesBill outbox ledger old new owner day) old new owner day before middle after status none ended written refused named kept told)
 
-  pub tells_settlement : (counts : Counts) (rounds : ℕ) (a : Ask) (old new : Hub O L) (owner day : ℕ) (before middle after : List ℕ) (status : ℕ) (ended : Result (Unit {0}) DeskFault) → a ≡ ask.Settle owner day → before ≡ []
+  pub tells_settlement : (progress : Progress) (a : Ask) (old new : Hub O L) (owner day : ℕ) (before middle after : List ℕ) (status : ℕ) (ended : Result (Unit {0}) DeskFault) → a ≡ ask.Settle owner day → before ≡ []
       → OnOk ended (WritesSettlement outbox ledger old new owner day (Some before) (Some middle)) → (AreClean outbox ledger new → AreSound outbox ledger old → IsBillRefusal outbox ledger old owner day (refused_of ended)) → IfErr ended (λ fault. is_refusal fault ≡ is_some (name_of fault)) → IfErr ended (λ fault. fault ≢ desk.Write → Keeps (Some before) (Some middle)) → IsTold ended middle after status
-      → Tells outbox ledger counts rounds a old new status after
-  tells_settlement counts rounds a old new owner day before middle after status ended is none written refused named kept told =
-      subst (λ (x : Ask). Tells outbox ledger counts rounds x old new status after) (sym is) (tells_day (WritesSettlement outbox ledger old new owner day) old new owner day before middle after status none ended written refused named kept told)
+      → Tells outbox ledger progress a old new status after
+  tells_settlement progress a old new owner day before middle after status ended is none written refused named kept told =
+      subst (λ (x : Ask). Tells outbox ledger progress x old new status after) (sym is) (tells_day (WritesSettlement outbox ledger old new owner day) old new owner day before middle after status none ended written refused named kept told)
 
   -- what comes of stores by one relation comes of them by a weaker one
   loosen : (old new : Hub O L) (R S : StoresValue → StoresValue → Type 0) → ((h k : StoresValue) → R h k → S h k) → ComesOf outbox ledger old new R → ComesOf outbox ledger old new S
@@ -127,23 +128,23 @@ module _ {O L : Type 0} (outbox : O → Standing OutboxValue) (ledger : L → St
     tells_lane (Err fault) owner_is device_is retired failed named kept told =
         by_retire fault (λ e. owner_is.0 (ap (λ (f : DeskFault). Err f) e), λ n. (let e : Err fault ≡ Err desk.UnknownOwner = owner_is.1 n in let same : fault ≡ desk.UnknownOwner = cc in same)) (λ e. device_is.0 (ap (λ (f : DeskFault). Err f) e), λ n. (let e : Err fault ≡ Err desk.UnknownDevice = device_is.1 n in let same : fault ≡ desk.UnknownDevice = cc in same)) failed named kept told
 
-  pub tells_retire : (counts : Counts) (rounds : ℕ) (a : Ask) (old new : Hub O L) (owner device : ℕ) (before middle after : List ℕ) (status : ℕ) (ended : Result (Unit {0}) DeskFault) → a ≡ ask.Retire owner device → before ≡ []
+  pub tells_retire : (progress : Progress) (a : Ask) (old new : Hub O L) (owner device : ℕ) (before middle after : List ℕ) (status : ℕ) (ended : Result (Unit {0}) DeskFault) → a ≡ ask.Retire owner device → before ≡ []
       → ((ended ≡ Err desk.UnknownOwner) ↔ (position_of_owner old.scheme owner ≡ None)) → ((ended ≡ Err desk.UnknownDevice) ↔ ((position_of_owner old.scheme owner ≢ None) × (position_of_device old.scheme device ≡ None)))
       → OnOk ended (RetiresLane outbox ledger owner device old new (Some before) (Some middle)) → IfErr ended (λ fault. ComesOf outbox ledger old new (LeavesLane owner device fault)) → IfErr ended (λ fault. is_refusal fault ≡ is_of_retire fault) → IfErr ended (λ fault. fault ≢ desk.Write → Keeps (Some before) (Some middle)) → IsTold ended middle after status
-      → Tells outbox ledger counts rounds a old new status after
-  tells_retire counts rounds a old new owner device before middle after status ended is none owner_is device_is retired failed named kept told =
-      subst (λ (x : Ask). Tells outbox ledger counts rounds x old new status after) (sym is) (tells_lane old new owner device before middle after status none ended owner_is device_is retired failed named kept told)
+      → Tells outbox ledger progress a old new status after
+  tells_retire progress a old new owner device before middle after status ended is none owner_is device_is retired failed named kept told =
+      subst (λ (x : Ask). Tells outbox ledger progress x old new status after) (sym is) (tells_lane old new owner device before middle after status none ended owner_is device_is retired failed named kept told)
 
   -- nothing was done, for want of memory or since a store failed
-  pub undone : (counts : Counts) (rounds : ℕ) (a : Ask) (hub : Hub O L) (status : ℕ) (body : List ℕ) → IsFault status → Tells outbox ledger counts rounds a hub hub status body
-  undone counts rounds ask.Page hub status body out = inr out
-  undone counts rounds ask.Metrics hub status body out = inr out
-  undone counts rounds ask.Stand hub status body out = inr out
-  undone counts rounds (ask.Bill owner day) hub status body out = inr (inr out)
-  undone counts rounds (ask.Settle owner day) hub status body out = inr (inr out)
-  undone counts rounds ask.Close hub status body out = inr out
-  undone counts rounds (ask.Retire owner device) hub status body out = inr (inr (out, comes_self outbox ledger hub (MayRetireOne owner device) (λ k. inl refl)))
-  undone counts rounds (ask.Nothing why) hub status body out = inr out
+  pub undone : (progress : Progress) (a : Ask) (hub : Hub O L) (status : ℕ) (body : List ℕ) → IsFault status → Tells outbox ledger progress a hub hub status body
+  undone progress ask.Page hub status body out = inr out
+  undone progress ask.Metrics hub status body out = inr out
+  undone progress ask.Stand hub status body out = inr out
+  undone progress (ask.Bill owner day) hub status body out = inr (inr out)
+  undone progress (ask.Settle owner day) hub status body out = inr (inr out)
+  undone progress ask.Close hub status body out = inr out
+  undone progress (ask.Retire owner device) hub status body out = inr (inr (out, comes_self outbox ledger hub (MayRetireOne owner device) (λ k. inl refl)))
+  undone progress (ask.Nothing why) hub status body out = inr out
 
   -- what was told of a lane tells what may have come of it
   may_retire : (old new : Hub O L) (owner device status : ℕ) (body : List ℕ) → TellsRetired outbox ledger old new owner device status body ⊎ (TellsNotRetired outbox ledger old new owner device status body ⊎ TellsRetireFault outbox ledger old new owner device status) → ComesOf outbox ledger old new (MayRetireOne owner device)
@@ -152,16 +153,27 @@ module _ {O L : Type 0} (outbox : O → Standing OutboxValue) (ledger : L → St
   may_retire old new owner device status body (inr (inr failed)) = failed.1
 
   -- that there was no memory may be told in place of anything
-  faulted : (counts : Counts) (rounds : ℕ) (a : Ask) (old new : Hub O L) (status : ℕ) (body : List ℕ) (is : ℕ) (content : List ℕ) → Tells outbox ledger counts rounds a old new status body → IsFault is → Tells outbox ledger counts rounds a old new is content
-  faulted counts rounds ask.Page old new status body is content tells out = inr out
-  faulted counts rounds ask.Metrics old new status body is content tells out = inr out
-  faulted counts rounds ask.Stand old new status body is content tells out = inr out
-  faulted counts rounds (ask.Bill owner day) old new status body is content tells out = inr (inr out)
-  faulted counts rounds (ask.Settle owner day) old new status body is content tells out = inr (inr out)
-  faulted counts rounds ask.Close old new status body is content tells out = inr out
-  faulted counts rounds (ask.Retire owner device) old new status body is content tells out = inr (inr (out, may_retire old new owner device status body tells))
-  faulted counts rounds (ask.Nothing why) old new status body is content tells out = inr out
+  faulted : (progress : Progress) (a : Ask) (old new : Hub O L) (status : ℕ) (body : List ℕ) (is : ℕ) (content : List ℕ) → Tells outbox ledger progress a old new status body → IsFault is → Tells outbox ledger progress a old new is content
+  faulted progress ask.Page old new status body is content tells out = inr out
+  faulted progress ask.Metrics old new status body is content tells out = inr out
+  faulted progress ask.Stand old new status body is content tells out = inr out
+  faulted progress (ask.Bill owner day) old new status body is content tells out = inr (inr out)
+  faulted progress (ask.Settle owner day) old new status body is content tells out = inr (inr out)
+  faulted progress ask.Close old new status body is content tells out = inr out
+  faulted progress (ask.Retire owner device) old new status body is content tells out = inr (inr (out, may_retire old new owner device status body tells))
+  faulted progress (ask.Nothing why) old new status body is content tells out = inr out
 
-  pub filled : (counts : Counts) (rounds : ℕ) (a : Ask) (old new : Hub O L) (status : ℕ) (body : List ℕ) (is : ℕ) (content : List ℕ) → Tells outbox ledger counts rounds a old new status body → IsFilled status body is content → Tells outbox ledger counts rounds a old new is content
-  filled counts rounds a old new status body is content tells (inl same) = subst (λ (s : ℕ). Tells outbox ledger counts rounds a old new s content) (sym same.0) (subst (λ (l : List ℕ). Tells outbox ledger counts rounds a old new status l) (sym same.1) tells)
-  filled counts rounds a old new status body is content tells (inr out) = faulted counts rounds a old new status body is content tells out
+  pub filled : (progress : Progress) (a : Ask) (old new : Hub O L) (status : ℕ) (body : List ℕ) (is : ℕ) (content : List ℕ) → Tells outbox ledger progress a old new status body → IsFilled status body is content → Tells outbox ledger progress a old new is content
+  filled progress a old new status body is content tells (inl same) = subst (λ (s : ℕ). Tells outbox ledger progress a old new s content) (sym same.0) (subst (λ (l : List ℕ). Tells outbox ledger progress a old new status l) (sym same.1) tells)
+  filled progress a old new status body is content tells (inr out) = faulted progress a old new status body is content tells out
+
+-- what was filled in is the text, in its form
+module _ (wanted told : Form) (a : Ask) (status : ℕ) (text : List ℕ) (is : ℕ) (content : List ℕ) where
+  pub status_filled : IsFilled status (in_form told text) is content → IsFilled status text is text
+  status_filled (inl same) = inl (same.0, refl)
+  status_filled (inr out) = inr out
+
+  pub body_filled : IsFault status ⊎ (told ≡ form_for wanted a) → IsFilled status (in_form told text) is content → IsBody is (form_for wanted a) text content
+  body_filled (inl out) (inl same) = inr (same.0 ∙ out)
+  body_filled (inr chosen) (inl same) = inl (same.1 ∙ ap (λ (f : Form). in_form f text) chosen)
+  body_filled chosen (inr out) = inr out

@@ -5,22 +5,28 @@ use Rattle.fare_desk.specs.Closing.{GoesOn, HasClosedLanes, lanes_of}
 use Rattle.fare_desk.specs.Faults.{is_of_retire}
 use Rattle.fare_desk.specs.Retiring.{ComesOf, LeavesLane, RetiresLane}
 use Rattle.fare_desk.specs.Showing.{OnlyAsks, WritesStanding}
+use Rattle.fare_desk.specs.Waiting.{TellsOwners}
 use Rattle.fare_desk.specs.declared.fault.DeskFault.{DeskFault}
 use Rattle.fare_desk.specs.declared.fault.DeskFault.TheVariants as desk
+use Rattle.fare_desk.specs.declared.waiting.OwnerWaits.{OwnerWaits}
 use Rattle.fare_agreement.specs.Stopping.{IsLeftBy}
 use Rattle.fare_event.specs.declared.reply.Refusal.{Refusal}
 use Rattle.fare_event.specs.declared.reply.Refusal.TheVariants as refusal
 use Rattle.fare_event.specs.declared.reply.Reply.TheVariants as reply
 use Rattle.fare_history.specs.Stores.{StoresValue, Retires_lane}
+use Rattle.fare_json.specs.Lines.{json_text}
 use Rattle.fare_lines.specs.Replies.{reply_text}
 use Rattle.fare_request.specs.Asking.{Asks}
+use Rattle.fare_request.specs.Forms.{form_of}
+use Rattle.fare_request.specs.declared.form.Form.{Form}
+use Rattle.fare_request.specs.declared.form.Form.TheVariants as form
 use Rattle.fare_request.specs.declared.ask.Ask.{Ask}
 use Rattle.fare_request.specs.declared.ask.Ask.TheVariants as ask
 use Rattle.fare_request.specs.declared.ask.Mistake.{Mistake}
 use Rattle.fare_request.specs.declared.ask.Mistake.TheVariants as mistake
 use Rattle.fare_scheme.specs.Values.{SchemeValue}
 use Rattle.fare_scheme.specs.Words.{position_of_device, position_of_owner}
-use Rattle.fare_serve.specs.declared.counts.Counts.{Counts}
+use Rattle.fare_serve.specs.declared.progress.Progress.{Progress}
 use Rattle.fare_sessions.specs.Billing.{IsBillRefusal}
 use Rattle.fare_sessions.specs.Stores.{AreClean, AreSound}
 use Rattle.fare_sessions.specs.declared.hub.Hub.{Hub}
@@ -33,6 +39,8 @@ use Rattle.http.specs.declared.request.Parts.{Parts}
 use Rattle.http.specs.Request.{head_of}
 use Rattle.http_server.specs.Exchange.{Call}
 use Rattle.http_server.specs.declared.response.Response.{Response}
+use Rattle.std.specs.Map.{keys_of}
+use Rattle.fare_page.specs.Gauges.{gauges_text}
 use Rattle.fare_page.specs.Metrics.{metrics_text}
 
 -- REFUSALS
@@ -101,6 +109,22 @@ IsToldPlainly (Err fault) status = IsFault status
 abbrev pub IsFilled : ℕ → List ℕ → ℕ → List ℕ → Type 0
 IsFilled status body is content = ((is ≡ status) × (content ≡ body)) ⊎ IsFault is
 
+-- FORMS
+-- the form of an answer to this, where this one is wanted: the page and the counts have one
+abbrev pub form_for : Form → Ask → Form
+form_for wanted ask.Page = form.Text
+form_for wanted ask.Metrics = form.Text
+form_for wanted a = wanted
+
+-- lines in a form
+abbrev pub in_form : Form → List ℕ → List ℕ
+in_form form.Text text = text
+in_form form.Json text = json_text text
+
+-- a body is lines in a form; nothing is said of it where there was no memory or a store failed
+abbrev pub IsBody : ℕ → Form → List ℕ → List ℕ → Type 0
+IsBody status told text body = (body ≡ in_form told text) ⊎ IsFault status
+
 -- ANSWERS
 -- it leaves what the stores hold as it was
 abbrev pub IsQuestion : Ask → Type 0
@@ -115,9 +139,6 @@ IsQuestion (ask.Nothing why) = Unit {0}
 
 abbrev pub TellsPage : ℕ → Type 0
 TellsPage status = IsDone status ⊎ IsFault status
-
-abbrev pub TellsMetrics : Counts → ℕ → ℕ → List ℕ → Type 0
-TellsMetrics counts rounds status body = (IsDone status × (body ≡ metrics_text counts rounds)) ⊎ IsFault status
 
 abbrev pub TellsMistake : Mistake → ℕ → List ℕ → Type 0
 TellsMistake why status body = ((status ≡ mistake_status why) × (body ≡ mistake_line why)) ⊎ IsFault status
@@ -157,33 +178,40 @@ module _ {O L : Type 0} (outbox : O → Standing OutboxValue) (ledger : L → St
   abbrev pub TellsRetireFault : Hub O L → Hub O L → ℕ → ℕ → ℕ → Type 0
   TellsRetireFault old new owner device status = IsFault status × ComesOf outbox ledger old new (MayRetireOne owner device)
 
+  -- how far serving has come, what waits for owners and where devices stand is told
+  abbrev pub TellsMetrics : Progress → Hub O L → Hub O L → ℕ → List ℕ → Type 0
+  TellsMetrics progress old new status body = (IsDone status × ((waits : List OwnerWaits) × TellsOwners outbox ledger (keys_of old.scheme.owners) old new waits × (body ≡ metrics_text progress ++ gauges_text new.scheme waits))) ⊎ IsFault status
+
   -- What is told to it, of the stores of a hub as they were and as they are: what the same question of stores in files is
   -- answered, or its refusal.
-  abbrev pub Tells : Counts → ℕ → Ask → Hub O L → Hub O L → ℕ → List ℕ → Type 0
-  Tells counts rounds ask.Page old new status body = TellsPage status
-  Tells counts rounds ask.Metrics old new status body = TellsMetrics counts rounds status body
-  Tells counts rounds ask.Stand old new status body = (IsDone status × WritesStanding outbox ledger old new (Some []) (Some body)) ⊎ IsFault status
-  Tells counts rounds (ask.Bill owner day) old new status body = (IsDone status × WritesBill outbox ledger old new owner day (Some []) (Some body)) ⊎ (TellsRefusal old new owner day status body ⊎ IsFault status)
-  Tells counts rounds (ask.Settle owner day) old new status body = (IsDone status × WritesSettlement outbox ledger old new owner day (Some []) (Some body)) ⊎ (TellsRefusal old new owner day status body ⊎ IsFault status)
-  Tells counts rounds ask.Close old new status body = (IsDone status × HasClosedLanes outbox ledger (lanes_of old.scheme) old new (Some []) (Some body)) ⊎ IsFault status
-  Tells counts rounds (ask.Retire owner device) old new status body = TellsRetired old new owner device status body ⊎ (TellsNotRetired old new owner device status body ⊎ TellsRetireFault old new owner device status)
-  Tells counts rounds (ask.Nothing why) old new status body = TellsMistake why status body
+  abbrev pub Tells : Progress → Ask → Hub O L → Hub O L → ℕ → List ℕ → Type 0
+  Tells progress ask.Page old new status body = TellsPage status
+  Tells progress ask.Metrics old new status body = TellsMetrics progress old new status body
+  Tells progress ask.Stand old new status body = (IsDone status × WritesStanding outbox ledger old new (Some []) (Some body)) ⊎ IsFault status
+  Tells progress (ask.Bill owner day) old new status body = (IsDone status × WritesBill outbox ledger old new owner day (Some []) (Some body)) ⊎ (TellsRefusal old new owner day status body ⊎ IsFault status)
+  Tells progress (ask.Settle owner day) old new status body = (IsDone status × WritesSettlement outbox ledger old new owner day (Some []) (Some body)) ⊎ (TellsRefusal old new owner day status body ⊎ IsFault status)
+  Tells progress ask.Close old new status body = (IsDone status × HasClosedLanes outbox ledger (lanes_of old.scheme) old new (Some []) (Some body)) ⊎ IsFault status
+  Tells progress (ask.Retire owner device) old new status body = TellsRetired old new owner device status body ⊎ (TellsNotRetired old new owner device status body ⊎ TellsRetireFault old new owner device status)
+  Tells progress (ask.Nothing why) old new status body = TellsMistake why status body
 
-  -- A request was answered: it asks for this, which the response tells; and the stores went on.
-  pub record IsAnswered (counts : Counts) (rounds : ℕ) (request : Parts) (old new : Hub O L) (response : Response) : Type 0 where
+  -- A request was answered: it asks for this, which the response's status tells and a text, which is its body, in the form
+  -- that the request wants; and the stores went on.
+  pub record IsAnswered (progress : Progress) (request : Parts) (old new : Hub O L) (response : Response) : Type 0 where
     pub ask : Ask
     pub asks : Asks request ask
     pub goes : GoesOn outbox ledger old new
     pub reads : IsQuestion ask → OnlyAsks outbox ledger old new
-    pub tells : Tells counts rounds ask old new response.status response.body.items
+    pub text : List ℕ
+    pub tells : Tells progress ask old new response.status text
+    pub body : IsBody response.status (form_for (form_of request) ask) text response.body.items
 
   -- REQUESTS
   -- requests were answered one after the other, each over the stores that the one before it left
-  abbrev pub AreAnswered : Counts → ℕ → Hub O L → Hub O L → List Call → Type 0
-  AreAnswered counts rounds old new [] = new ≡ old
-  AreAnswered counts rounds old new (c ∷ cs) = (middle : Hub O L) × IsAnswered counts rounds (head_of c.0) old middle c.1 × AreAnswered counts rounds middle new cs
+  abbrev pub AreAnswered : Progress → Hub O L → Hub O L → List Call → Type 0
+  AreAnswered progress old new [] = new ≡ old
+  AreAnswered progress old new (c ∷ cs) = (middle : Hub O L) × IsAnswered progress (head_of c.0) old middle c.1 × AreAnswered progress middle new cs
 
   -- some requests were, and nothing else was done
-  pub record HasAnswered (counts : Counts) (rounds : ℕ) (old new : Hub O L) : Type 0 where
+  pub record HasAnswered (progress : Progress) (old new : Hub O L) : Type 0 where
     pub calls : List Call
-    pub answered : AreAnswered counts rounds old new calls
+    pub answered : AreAnswered progress old new calls

@@ -1,9 +1,10 @@
--- The text of counts, for a machine that watches.
+-- The text of how far serving has come, for a machine that watches.
 use Rattle.std.specs.Prelude.{ℕ, List, ◌++◌, codes}
 use Rattle.std.specs.List.{flat_map}
 use Rattle.std.specs.Fmt.{decimal}
-use Rattle.fare_serve.specs.declared.counts.Counts.{Counts}
 use Rattle.fare_serve.specs.declared.counts.Taken.{Taken}
+use Rattle.fare_serve.specs.declared.progress.Progress.{Progress}
+use Rattle.fare_page.specs.Seen.{seen_text}
 
 -- what an owner took
 unfoldable pub owner_line : Taken → List ℕ
@@ -19,5 +20,6 @@ totals_text rounds stored left =
     ++ (codes "\n# HELP fare_hub_left_total Items that were in a queue or a hand at the ends of sessions.\n# TYPE fare_hub_left_total counter\nfare_hub_left_total " ++ (decimal left
     ++ codes "\n# HELP fare_hub_taken_total Taps and statements that an owner took since serving began.\n# TYPE fare_hub_taken_total counter\n")))))
 
-abbrev pub metrics_text : Counts → ℕ → List ℕ
-metrics_text c rounds = totals_text rounds c.stored c.left ++ owner_lines c.taken.items
+-- the counts, and behind them what is seen of lines and rounds
+abbrev pub metrics_text : Progress → List ℕ
+metrics_text p = totals_text p.rounds p.counts.stored p.counts.left ++ (owner_lines p.counts.taken.items ++ seen_text p.seen)

@@ -1,21 +1,27 @@
 //! What a hub at rest answers.
-ghost use Rattle.std.specs.Prelude.{◌≡◌, [], List, ℕ};
+ghost use Rattle.std.specs.Prelude.{◌≡◌, ◌++◌, [], List, ℕ, IfOk, string_bytes};
 ghost use Rattle.fare_desk.specs.Closing.{GoesOn};
 ghost use Rattle.fare_desk.specs.Showing.{OnlyAsks};
 ghost use Rattle.fare_sessions.specs.Stores.{HasLedgers};
 ghost use Rattle.fare_page.specs.Answering.{IsQuestion, Tells, TellsMetrics, TellsMistake, TellsPage};
+ghost use Rattle.fare_page.specs.Gauges.{gauges_text};
+ghost use Rattle.fare_page.specs.Metrics.{metrics_text};
 
+use crate::gauges::add_gauges;
 use crate::metrics::metrics_of;
 use crate::mistakes::{line_of, status_of};
 use crate::page::page;
 use crate::told::{tell, tell_plainly};
-use fare_desk::{close_days, retire_lane, write_bill, write_settlement, write_standing};
+use fare_desk::{
+    OwnerWaits, close_days, retire_lane, what_waits, write_bill, write_settlement, write_standing,
+};
 use fare_request::{Ask, Mistake};
-use fare_serve::Counts;
+use fare_scheme::Scheme;
+use fare_serve::Progress;
 use fare_sessions::Hub;
 use fare_store::{Ledger, Outbox};
 use http::StatusCode;
-use std::alloc::Global;
+use std::alloc::{AllocError, Global};
 
 // The page.
 fn tell_page(body: &mut Vec<u8>) -> StatusCode
@@ -27,12 +33,36 @@ fn tell_page(body: &mut Vec<u8>) -> StatusCode
     }
 }
 
-// The counts of so many rounds.
-fn tell_metrics(alloc: Global, counts: &Counts, rounds: u64, body: &mut Vec<u8>) -> StatusCode
-    requires { body.old.items ≡ [] }
-    ensures { TellsMetrics counts.now rounds result body.new.items }
+// The text of how far serving has come, of what waits for owners, and of where devices stand.
+fn gauged(
+    alloc: Global,
+    scheme: &Scheme,
+    waits: &[OwnerWaits],
+    progress: &Progress,
+) -> Result<String, AllocError>
+    ensures { IfOk result (λ text. string_bytes text ≡ metrics_text progress.now ++ gauges_text scheme.now waits.now) }
 {
-    let Ok(text) = metrics_of(alloc, counts, rounds) else {
+    let mut text = metrics_of(alloc, progress)?;
+    add_gauges(alloc, scheme, waits, &mut text)?;
+    Ok(text)
+}
+
+// How far serving has come, what waits for owners, and where devices stand.
+fn tell_metrics<O: Outbox, L: Ledger>(
+    alloc: Global,
+    hub: &mut Hub<O, L>,
+    progress: &Progress,
+    body: &mut Vec<u8>,
+) -> StatusCode
+    requires ledgers { HasLedgers hub.old }
+    requires empty { body.old.items ≡ [] }
+    ensures asks { OnlyAsks O.standing L.standing hub.old hub.new }
+    ensures tells { TellsMetrics O.standing L.standing progress.now hub.old hub.new result body.new.items }
+{
+    let Ok(waits) = what_waits(alloc, hub) else {
+        return StatusCode::SERVICE_UNAVAILABLE;
+    };
+    let Ok(text) = gauged(alloc, &hub.scheme, &waits, progress) else {
         return StatusCode::SERVICE_UNAVAILABLE;
     };
     match body.extend_from_slice(text.as_bytes()) {
@@ -52,12 +82,11 @@ fn tell_mistake(why: Mistake, body: &mut Vec<u8>) -> StatusCode
     }
 }
 
-// Answers what is asked of a hub, and of the counts of so many rounds: the status, and the body.
+// Answers what is asked of a hub, when serving has come so far: the status, and the body.
 pub(crate) fn answer<O: Outbox, L: Ledger>(
     alloc: Global,
     hub: &mut Hub<O, L>,
-    counts: &Counts,
-    rounds: u64,
+    progress: &Progress,
     ask: Ask,
     body: &mut Vec<u8>,
 ) -> StatusCode
@@ -65,11 +94,11 @@ pub(crate) fn answer<O: Outbox, L: Ledger>(
     requires empty { body.old.items ≡ [] }
     ensures goes { GoesOn O.standing L.standing hub.old hub.new }
     ensures reads { IsQuestion ask → OnlyAsks O.standing L.standing hub.old hub.new }
-    ensures tells { Tells O.standing L.standing counts.now rounds ask hub.old hub.new result body.new.items }
+    ensures tells { Tells O.standing L.standing progress.now ask hub.old hub.new result body.new.items }
 {
     match ask {
         Ask::Page => tell_page(body),
-        Ask::Metrics => tell_metrics(alloc, counts, rounds, body),
+        Ask::Metrics => tell_metrics(alloc, hub, progress, body),
         Ask::Stand => {
             let ended = write_standing(alloc, hub, body);
             tell_plainly(ended)

@@ -4,7 +4,7 @@ ghost use Rattle.fare_desk.specs.Closing.{GoesOn};
 ghost use Rattle.fare_page.specs.Answering.{HasAnswered};
 
 use crate::caller::Caller;
-use fare_serve::Counts;
+use fare_serve::Progress;
 use fare_sessions::Hub;
 use fare_store::{Ledger, Outbox};
 use std::alloc::{AllocError, Global};
@@ -22,7 +22,7 @@ const MOST_MILLIS: u64 = 200;
 #[derive(Drop)]
 pub struct Callers {
     listener: TcpListener,
-    open: Vec<Caller>,
+    callers: Vec<Caller>,
 }
 
 // Whether so much time has passed that the others are heard in the next pause.
@@ -39,11 +39,11 @@ fn is_late(rt: &HostRuntime, begun: Option<Instant>) -> bool {
 impl Callers {
     /// None has come yet.
     pub fn new(alloc: Global, listener: TcpListener) -> Result<Callers, AllocError>
-        ensures { IfOk result (λ callers. (callers.listener ≡ listener) × (callers.open.items ≡ [])) }
+        ensures { IfOk result (λ callers. (callers.listener ≡ listener) × (callers.callers.items ≡ [])) }
     {
         Ok(Callers {
             listener,
-            open: Vec::with_capacity(alloc, MOST_CALLERS)?,
+            callers: Vec::with_capacity(alloc, MOST_CALLERS)?,
         })
     }
 
@@ -55,11 +55,11 @@ impl Callers {
         let Ok(keys) = RandomState::new(rt) else {
             return false;
         };
-        if self.open.len() >= MOST_CALLERS {
-            drop(self.open.remove(0));
+        if self.callers.len() >= MOST_CALLERS {
+            drop(self.callers.remove(0));
         }
         if let Ok(caller) = Caller::new(rt.alloc(), keys, stream) {
-            let _ = self.open.push(caller);
+            let _ = self.callers.push(caller);
         }
         true
     }
@@ -74,7 +74,7 @@ impl Callers {
     }
 
     /// Hears each who has come, once: reads what is there, answers each request that is whole, of the hub, which is at
-    /// rest, and of the counts of so many rounds, and writes what the connection takes. It waits for none of them, so one
+    /// rest, when serving has come so far, and writes what the connection takes. It waits for none of them, so one
     /// that is silent or slow holds nothing up; and once 200 milliseconds have passed the others are heard in the next
     /// call. A connection gets one answer, and is let go then, when it has been heard 500 times, or when 16 newer ones have
     /// come.
@@ -82,10 +82,9 @@ impl Callers {
         &mut self,
         rt: &HostRuntime,
         hub: &mut Hub<O, L>,
-        counts: &Counts,
-        rounds: u64,
+        progress: &Progress,
     )
-        ensures answered { HasAnswered O.standing L.standing counts.now rounds hub.old hub.new }
+        ensures answered { HasAnswered O.standing L.standing progress.now hub.old hub.new }
         ensures goes { GoesOn O.standing L.standing hub.old hub.new }
     {
         let alloc = rt.alloc();
@@ -93,13 +92,13 @@ impl Callers {
         let begun = Instant::now(rt).ok();
         let mut place = 0;
         for _ in 0..MOST_CALLERS {
-            if place >= self.open.len() || is_late(rt, begun) {
+            if place >= self.callers.len() || is_late(rt, begun) {
                 return;
             }
-            if self.open[place].hear(alloc, hub, counts, rounds) {
+            if self.callers[place].hear(alloc, hub, progress) {
                 place += 1;
             } else {
-                drop(self.open.remove(place));
+                drop(self.callers.remove(place));
             }
         }
     }

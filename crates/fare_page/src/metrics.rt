@@ -1,8 +1,9 @@
-//! The counts, in the text format of Prometheus.
+//! How far serving has come, in the text format of Prometheus: a family of samples behind the other.
 ghost use Rattle.std.specs.Prelude.{◌≡◌, ◌++◌, OnOk, IfOk, string_bytes};
 ghost use Rattle.fare_page.specs.Metrics.{metrics_text, owner_line, owner_lines, totals_text};
 
-use fare_serve::{Counts, Taken};
+use crate::seen::add_seen;
+use fare_serve::{Progress, Taken};
 use std::alloc::{AllocError, Global};
 
 // Adds the line of an owner.
@@ -36,11 +37,13 @@ fn totals_of(alloc: Global, rounds: u64, stored: u64, left: u64) -> Result<Strin
     )
 }
 
-// The counts of so many rounds.
-pub(crate) fn metrics_of(alloc: Global, counts: &Counts, rounds: u64) -> Result<String, AllocError>
-    ensures { IfOk result (λ text. string_bytes text ≡ metrics_text counts.now rounds) }
+// The text of how far serving has come: the counts, and what is seen of lines and rounds.
+pub(crate) fn metrics_of(alloc: Global, progress: &Progress) -> Result<String, AllocError>
+    ensures { IfOk result (λ text. string_bytes text ≡ metrics_text progress.now) }
 {
-    let mut text = totals_of(alloc, rounds, counts.stored, counts.left)?;
+    let counts = &progress.counts;
+    let mut text = totals_of(alloc, progress.rounds, counts.stored, counts.left)?;
     add_all_taken(alloc, &counts.taken, &mut text)?;
+    add_seen(alloc, &progress.seen, &mut text)?;
     Ok(text)
 }

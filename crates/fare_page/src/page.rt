@@ -127,6 +127,7 @@ footer a { color: inherit; }
     <div id="retired" class="told" aria-live="polite" hidden></div>
   </section>
 </div>
+<section class="card" id="stations" tabindex="0" aria-label="Stations" hidden></section>
 <form class="find" id="find" role="search">
   <label>Find a device<input id="which" type="search" inputmode="numeric" placeholder="its number" autocomplete="off"></label>
   <label class="check"><input id="only" type="checkbox">only what waits or is retired</label>
@@ -167,15 +168,45 @@ const table = (heads, rows, right) => {
   }
   return t;
 };
+// THE STATIONS' LINES
+const ago = (n, of) => number(Math.round(n / of[0])) + of[1] + " ago";
+const since = seconds => seconds < 2 ? "just now" : ago(seconds, seconds < 120 ? [1, " s"] : seconds < 7200 ? [60, " min"] : seconds < 172800 ? [3600, " h"] : [86400, " days"]);
+const labels = name => Object.fromEntries([...name.matchAll(/(\w+)="([^"]*)"/g)].map(m => [m[1], m[2]]));
+const seenIn = metrics => {
+  const seen = { stored: 0, rounds: 0, taken: 0, station: {}, lines: new Map() };
+  for (const line of metrics) {
+    const [name, n] = line.split(" "), of = labels(name), kind = name.split("{")[0];
+    if (kind === "fare_hub_stored_total") seen.stored = Number(n);
+    if (kind === "fare_hub_rounds_total") seen.rounds = Number(n);
+    if (kind === "fare_hub_taken_total") seen.taken += Number(n);
+    if (kind === "fare_hub_device_info") seen.station[of.device] = of.station;
+    if (kind === "fare_hub_line_up") seen.lines.set(of.station, { place: seen.lines.size, station: of.station, up: n === "1", devices: 0, rows: 0 });
+    if (kind === "fare_hub_line_last_frame_timestamp_seconds" && seen.lines.has(of.station)) seen.lines.get(of.station).heard = Number(n);
+  }
+  for (const station of Object.values(seen.station)) if (seen.lines.has(station)) seen.lines.get(station).devices += 1;
+  return seen;
+};
+const isQuieter = (a, b) => Number(a.up) - Number(b.up) || (a.heard || 0) - (b.heard || 0) || a.place - b.place;
+const heardText = l => l && l.heard ? make("span", since(Date.now() / 1000 - l.heard)) : make("span", "nothing yet", "none");
+const showStations = seen => {
+  const all = [...seen.lines.values()], down = all.filter(l => !l.up).length, head = make("div", undefined, "head");
+  if (at("order").value === "worst") all.sort(isQuieter);
+  head.append(make("h2", "Stations"), make("p", down ? number(down) + " of " + number(all.length) + " without a line" : "each has a line"));
+  at("stations").hidden = !all.length;
+  at("stations").replaceChildren(head, table(["Station", "Devices", "Line", "Last frame", "Waiting"], all.map(l => [
+    l.station, number(l.devices), l.up ? make("span", "stands", "none") : make("span", "none", "chip"), heardText(l),
+    l.rows ? make("span", number(l.rows), "chip") : make("span", "none", "none"),
+  ]), i => i === 1));
+};
 // WHERE THE LANES STAND
-const laneRow = (l, upto) => {
+const laneRow = (l, upto, seen) => {
   const bar = make("div", undefined, "bar" + (l.rows ? " some" : ""));
   const part = make("i");
   part.style.width = (l.taken + l.rows ? 100 * l.taken / (l.taken + l.rows) : 0) + "%";
   bar.append(part);
   bar.title = number(l.taken) + " of " + number(l.taken + l.rows) + " taken";
   return [
-    l.device, number(upto[l.device] || 0), number(l.taken), bar,
+    l.device, seen.station[l.device] || "–", heardText(seen.lines.get(seen.station[l.device])), number(upto[l.device] || 0), number(l.taken), bar,
     l.rows ? make("span", number(l.rows), "chip") : make("span", "none", "none"),
     l.closed === "none" ? make("span", "none yet", "none") : dayMark(l.closed),
     l.retired ? make("span", "retired", "chip gone") : l.statements ? make("span", number(l.statements) + (l.statements === 1 ? " day" : " days"), "chip") : make("span", "none", "none"),
@@ -187,7 +218,7 @@ const isFound = l => {
   const text = at("which").value.trim();
   return (!text || l.device.startsWith(text)) && (!at("only").checked || !isQuiet(l));
 };
-const laneTable = (owner, own, upto) => {
+const laneTable = (owner, own, upto, seen) => {
   const s = make("section", undefined, "card"), head = make("div", undefined, "head");
   const shown = own.filter(isFound), wait = own.filter(l => l.rows || l.statements).length, gone = own.filter(l => l.retired).length;
   if (at("order").value === "worst") shown.sort(isWorse);
@@ -196,7 +227,7 @@ const laneTable = (owner, own, upto) => {
   s.append(head);
   s.tabIndex = 0;
   s.setAttribute("aria-label", "Devices of owner " + owner);
-  if (shown.length) s.append(table(["Device", "Sent up to", "Taken", "", "Waiting", "Closed through", "To close"], shown.map(l => laneRow(l, upto)), i => i === 1 || i === 2));
+  if (shown.length) s.append(table(["Device", "Station", "Last frame", "Sent up to", "Taken", "", "Waiting", "Closed through", "To close"], shown.map(l => laneRow(l, upto, seen)), i => i === 3 || i === 4));
   else s.append(make("p", "No device is as it is looked for.", "empty"));
   return s;
 };
@@ -224,7 +255,7 @@ const drawCame = stored => {
 let owners = "", lately;
 const show = (stand, metrics) => {
   lately = [stand, metrics];
-  const upto = {}, lanes = [];
+  const upto = {}, lanes = [], seen = seenIn(metrics);
   for (const line of stand) {
     const w = line.split(" ");
     if (w[0] === "upto") upto[w[1]] = Number(w[2]);
@@ -232,24 +263,22 @@ const show = (stand, metrics) => {
   }
   const of = new Map();
   for (const l of lanes) of.set(l.owner, [...(of.get(l.owner) || []), l]);
-  if (lanes.length) at("owners").replaceChildren(...[...of].map(([owner, own]) => laneTable(owner, own, upto)));
+  if (lanes.length) at("owners").replaceChildren(...[...of].map(([owner, own]) => laneTable(owner, own, upto, seen)));
   else at("owners").replaceChildren(make("div", "No device of any owner is registered.", "card empty"));
   const rows = lanes.reduce((n, l) => n + l.rows, 0), open = lanes.reduce((n, l) => n + (l.retired ? 0 : l.statements), 0);
   at("waiting").textContent = number(rows);
   at("waits").classList.toggle("some", rows > 0);
   at("open").textContent = number(open);
   at("opens").classList.toggle("some", open > 0);
-  let taken = 0;
-  for (const line of metrics) {
-    const [name, n] = line.split(" ");
-    if (name === "fare_hub_stored_total") {
-      at("stored").textContent = number(n);
-      drawCame(Number(n));
-    }
-    if (name === "fare_hub_rounds_total") at("rounds").textContent = number(n);
-    if (name.startsWith("fare_hub_taken_total{")) taken += Number(n);
+  for (const l of lanes) {
+    const line = seen.lines.get(seen.station[l.device]);
+    if (line && !l.retired) line.rows += l.rows;
   }
-  at("taken").textContent = number(taken);
+  showStations(seen);
+  at("stored").textContent = number(seen.stored);
+  drawCame(seen.stored);
+  at("rounds").textContent = number(seen.rounds);
+  at("taken").textContent = number(seen.taken);
   if (owners !== [...of.keys()].join()) {
     owners = [...of.keys()].join();
     for (const id of ["owner", "whose"]) at(id).replaceChildren(...[...of.keys()].map(o => make("option", o)));
