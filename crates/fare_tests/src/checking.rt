@@ -7,11 +7,3 @@ use std::process::Abort;
 pub(crate) fn same<T: PartialEq + Debug>(rt: &impl Abort, came: &T, wanted: &T) {
     assert!(rt; came == wanted, "{came:?} in place of {wanted:?}");
 }
-
-/// Ends the test where a text lacks what was wanted in it.
-pub(crate) fn contains(rt: &impl Abort, text: &str, wanted: &str) {
-    assert!(rt;
-        text.contains(wanted),
-        "{text} in place of one with {wanted}"
-    );
-}

@@ -1,5 +1,4 @@
 use crate::checking::same;
-use crate::readers::{Closed, Lossy};
 use fare_command::Question;
 use fare_desk::DeskFault;
 use fare_event::Refusal;
@@ -7,6 +6,7 @@ use fare_record::DeviceId;
 use fare_replay::ReplayFault;
 use fare_run::{AskFailure, AskOptions, Failure, Left, ServeFailure, ServeOptions, run};
 use fare_serve::Limits;
+use fare_serve_tests::{Closed, Lossy};
 use std::alloc::Global;
 use std::io::Write;
 

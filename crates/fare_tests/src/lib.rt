@@ -1,6 +1,6 @@
 //! The tests of the public calls of the stores, in memory and in tables, with what finds a store's tables in a database, and
-//! of the upper crates: lines over sockets, rounds of serving, replays of whole traces, what an operator asks, and the
-//! words and endings of the program; and of lists of sessions over stores that stop. A crate's own tests would prove that
+//! of the upper crates: replays of whole traces, and the endings of the program; and of lists of sessions over stores that
+//! stop. A crate's own tests would prove that
 //! crate a second time, so they stand here and in the test crates below, over what is proved: values from outside (bytes
 //! of a format, worked traces, days by a clock) that show that the contracts say what was meant, and each call that takes
 //! memory succeeding. There is a small store of two formats too, for the raising of one. It promises nothing else.
@@ -13,11 +13,7 @@ mod bills_after_stops;
 #[cfg(test)]
 mod checking;
 #[cfg(test)]
-mod command_line;
-#[cfg(test)]
 mod databases;
-#[cfg(test)]
-mod desk;
 #[cfg(test)]
 mod endings;
 #[cfg(test)]
@@ -31,27 +27,17 @@ mod layout;
 #[cfg(test)]
 mod ledger_tables;
 #[cfg(test)]
-mod net;
-#[cfg(test)]
 mod older_formats;
 #[cfg(test)]
 mod outbox_tables;
 #[cfg(test)]
-mod page;
-#[cfg(test)]
 mod raising;
-#[cfg(test)]
-mod readers;
 #[cfg(test)]
 mod replay;
 #[cfg(test)]
 mod replay_sql;
 #[cfg(test)]
-mod rounds;
-#[cfg(test)]
 mod schemes;
-#[cfg(test)]
-mod serving;
 pub mod shelf;
 #[cfg(test)]
 mod stops;

@@ -1,10 +1,10 @@
 use crate::checking::same;
-use crate::readers::{Bytewise, Closed, Lossy, Zeros};
 use crate::worked::{
     TRACES_OF_DAYS, TRACES_OF_RETIRED, TRACES_OF_ROUTES, TRACES_OF_SCHEMES, TRACES_OF_TAPS,
 };
 use fare_lines::{ParseFault, parse};
 use fare_replay::{ReplayFault, replay};
+use fare_serve_tests::{Bytewise, Closed, Lossy, Zeros};
 use std::alloc::{AllocError, Global};
 use std::process::Abort;
 

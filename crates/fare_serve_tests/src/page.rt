@@ -1,11 +1,11 @@
 //! What requests over HTTP get of a hub at rest.
 use crate::checking::same;
-use crate::desk::{DAY, WHOLE, answered, bill, failing_hub, hub_with, settle};
+use crate::desk::{DAY, WHOLE, answered, bill, failing_hub, hub_with, settle, waits_between};
 use fare_command::Question;
 use fare_desk::DeskFault;
 use fare_page::Desk;
-use fare_record::OwnerId;
-use fare_serve::{Counts, Taken};
+use fare_record::{OwnerId, StationId};
+use fare_serve::{BrokenLines, Counts, LineSeen, Progress, RefusedLines, Seen, Taken};
 use fare_sessions::Hub;
 use fare_store::{Ledger, Outbox, PlainLedger, PlainOutbox};
 use http_server::{Config, Connection};
@@ -24,52 +24,92 @@ fn counts_of(alloc: Global) -> Option<Counts> {
     })
 }
 
+// What was seen of two stations, of which one has a line.
+fn seen_of(alloc: Global) -> Option<Seen> {
+    let up = LineSeen {
+        station: StationId::new(1)?,
+        is_up: true,
+        last_frame: Some(1_700_000_000),
+    };
+    let down = LineSeen {
+        station: StationId::new(2)?,
+        is_up: false,
+        last_frame: None,
+    };
+    Some(Seen {
+        refused: RefusedLines {
+            no_hello: 1,
+            bad_version: 2,
+            unknown_device: 3,
+            failed: 4,
+            no_greeting: 5,
+            second: 6,
+        },
+        replaced: 7,
+        broken: BrokenLines {
+            failed: 8,
+            unexpected: 9,
+        },
+        lines: Vec::from_array(alloc, [up, down]).ok()?,
+        round_millis: Some(1_043),
+        outbox_commits: 10,
+        ledger_commits: 11,
+    })
+}
+
+// How far serving has come behind three rounds.
+fn progress_of(alloc: Global) -> Option<Progress> {
+    Some(Progress {
+        counts: counts_of(alloc)?,
+        rounds: 3,
+        seen: seen_of(alloc)?,
+    })
+}
+
 // Answers what has come whole, at a desk.
 fn advance<O: Outbox, L: Ledger>(connection: &mut Connection, desk: &mut Desk<'_, '_, O, L>) {
     connection.advance(desk);
 }
 
-// Answers what has come whole over a connection, of a hub and of counts of three rounds.
+// Answers what has come whole over a connection, of a hub and of how far serving has come.
 fn answer_whole<O: Outbox, L: Ledger>(
     alloc: Global,
     connection: &mut Connection,
     hub: &mut Hub<O, L>,
-    counts: &Counts,
+    progress: &Progress,
 ) {
     let mut desk = Desk {
         alloc,
         hub,
-        counts,
-        rounds: 3,
+        progress,
     };
     advance(connection, &mut desk);
     let Desk {
         alloc: _,
         hub: _,
-        counts: _,
-        rounds: _,
+        progress: _,
     } = desk;
 }
 
 // What a request gets.
-fn told<O: Outbox, L: Ledger>(
+pub(crate) fn told<O: Outbox, L: Ledger>(
     rt: &HostRuntime,
     hub: &mut Hub<O, L>,
     request: &[u8],
 ) -> Option<Vec<u8>> {
     let alloc = rt.alloc();
-    let counts = counts_of(alloc)?;
+    let progress = progress_of(alloc)?;
     let mut connection = Connection::new(alloc, RandomState::new(rt).ok()?, Config::default());
     let mut unread = request;
     connection.read_from(&mut unread).ok()?;
-    answer_whole(alloc, &mut connection, hub, &counts);
+    answer_whole(alloc, &mut connection, hub, &progress);
     let mut sent = Vec::new(alloc);
     connection.write_to(&mut sent).ok()?;
     Some(sent)
 }
 
 // Whether an answer has this status and ends with this body, which stands behind an empty line.
-fn is_answer(answer: &[u8], status: &[u8], body: &[u8]) -> bool {
+pub(crate) fn is_answer(answer: &[u8], status: &[u8], body: &[u8]) -> bool {
     let Some(rest) = answer.strip_prefix(b"HTTP/1.1 ") else {
         return false;
     };
@@ -80,10 +120,10 @@ fn is_answer(answer: &[u8], status: &[u8], body: &[u8]) -> bool {
 }
 
 // A request, its status and its body.
-type Case = (&'static [u8], &'static [u8], &'static [u8]);
+pub(crate) type Case = (&'static [u8], &'static [u8], &'static [u8]);
 
 // The place of the first of these requests of one hub that gets something else.
-fn first_wrong<O: Outbox, L: Ledger>(
+pub(crate) fn first_wrong<O: Outbox, L: Ledger>(
     rt: &HostRuntime,
     hub: &mut Hub<O, L>,
     cases: &[Case],
@@ -152,7 +192,7 @@ fn an_operator_asks_and_closes_over_http(rt: HostRuntime) {
         (
             b"GET /metrics HTTP/1.1\r\nHost: localhost\r\n\r\n",
             b"200 ",
-            b"# HELP fare_hub_rounds_total Rounds that were held since serving began.\n# TYPE fare_hub_rounds_total counter\nfare_hub_rounds_total 3\n# HELP fare_hub_stored_total Taps and statements that were stored since serving began.\n# TYPE fare_hub_stored_total counter\nfare_hub_stored_total 6\n# HELP fare_hub_left_total Items that were in a queue or a hand at the ends of sessions.\n# TYPE fare_hub_left_total counter\nfare_hub_left_total 0\n# HELP fare_hub_taken_total Taps and statements that an owner took since serving began.\n# TYPE fare_hub_taken_total counter\nfare_hub_taken_total{owner=\"1\"} 4\n",
+            b"# HELP fare_hub_rounds_total Rounds that were held since serving began.\n# TYPE fare_hub_rounds_total counter\nfare_hub_rounds_total 3\n# HELP fare_hub_stored_total Taps and statements that were stored since serving began.\n# TYPE fare_hub_stored_total counter\nfare_hub_stored_total 6\n# HELP fare_hub_left_total Items that were in a queue or a hand at the ends of sessions.\n# TYPE fare_hub_left_total counter\nfare_hub_left_total 0\n# HELP fare_hub_taken_total Taps and statements that an owner took since serving began.\n# TYPE fare_hub_taken_total counter\nfare_hub_taken_total{owner=\"1\"} 4\n# HELP fare_hub_lines_refused_total Lines that were refused since serving began, by the reason.\n# TYPE fare_hub_lines_refused_total counter\nfare_hub_lines_refused_total{reason=\"no_hello\"} 1\nfare_hub_lines_refused_total{reason=\"bad_version\"} 2\nfare_hub_lines_refused_total{reason=\"unknown_device\"} 3\nfare_hub_lines_refused_total{reason=\"failed\"} 4\nfare_hub_lines_refused_total{reason=\"no_greeting\"} 5\nfare_hub_lines_refused_total{reason=\"second\"} 6\n# HELP fare_hub_lines_broken_total Lines that broke since serving began, by the reason.\n# TYPE fare_hub_lines_broken_total counter\nfare_hub_lines_broken_total{reason=\"failed\"} 8\nfare_hub_lines_broken_total{reason=\"unexpected\"} 9\n# HELP fare_hub_lines_replaced_total Lines that another one of their station replaced since serving began.\n# TYPE fare_hub_lines_replaced_total counter\nfare_hub_lines_replaced_total 7\n# HELP fare_hub_line_up Whether the station has a line now.\n# TYPE fare_hub_line_up gauge\nfare_hub_line_up{station=\"1\"} 1\nfare_hub_line_up{station=\"2\"} 0\n# HELP fare_hub_line_last_frame_timestamp_seconds When the last round ended in which a frame came off the station's line.\n# TYPE fare_hub_line_last_frame_timestamp_seconds gauge\nfare_hub_line_last_frame_timestamp_seconds{station=\"1\"} 1700000000\n# HELP fare_hub_last_round_seconds How long the last round took.\n# TYPE fare_hub_last_round_seconds gauge\nfare_hub_last_round_seconds 1.043\n# HELP fare_hub_commits_total Commits of what stations sent and of what owners took since serving began, by the store.\n# TYPE fare_hub_commits_total counter\nfare_hub_commits_total{store=\"outbox\"} 10\nfare_hub_commits_total{store=\"ledgers\"} 11\n# HELP fare_hub_waiting_rows Taps in the outbox that an owner has not taken, of lanes that are not retired.\n# TYPE fare_hub_waiting_rows gauge\nfare_hub_waiting_rows{owner=\"1\"} 0\n# HELP fare_hub_waiting_statements Statements in the outbox of days that an owner has not closed, of lanes that are not retired.\n# TYPE fare_hub_waiting_statements gauge\nfare_hub_waiting_statements{owner=\"1\"} 0\n# HELP fare_hub_oldest_waiting_tap_timestamp_seconds When the earliest of the taps was made that wait for an owner, in seconds since 1970; no line where none waits.\n# TYPE fare_hub_oldest_waiting_tap_timestamp_seconds gauge\n# HELP fare_hub_device_info At which station a device stands.\n# TYPE fare_hub_device_info gauge\nfare_hub_device_info{device=\"1\",station=\"1\"} 1\nfare_hub_device_info{device=\"2\",station=\"2\"} 1\n",
         ),
     ];
     let mut hub = hub_with(rt.alloc(), WHOLE, WHOLE).expect(&rt, "hub");
@@ -161,6 +201,17 @@ fn an_operator_asks_and_closes_over_http(rt: HostRuntime) {
 
 // A lane is retired once, by its owner and its device, and only by an order; then the closes pass it over, and the bill is
 // short of it.
+// Four rows wait, of which the earliest was made in the second second.
+#[test]
+fn what_waits_for_an_owner_is_in_the_metrics(rt: HostRuntime) {
+    const END: &[u8] =
+        b"# TYPE fare_hub_waiting_rows gauge\nfare_hub_waiting_rows{owner=\"1\"} 4\n# HELP fare_hub_waiting_statements Statements in the outbox of days that an owner has not closed, of lanes that are not retired.\n# TYPE fare_hub_waiting_statements gauge\nfare_hub_waiting_statements{owner=\"1\"} 0\n# HELP fare_hub_oldest_waiting_tap_timestamp_seconds When the earliest of the taps was made that wait for an owner, in seconds since 1970; no line where none waits.\n# TYPE fare_hub_oldest_waiting_tap_timestamp_seconds gauge\nfare_hub_oldest_waiting_tap_timestamp_seconds{owner=\"1\"} 1704096002\n# HELP fare_hub_device_info At which station a device stands.\n# TYPE fare_hub_device_info gauge\nfare_hub_device_info{device=\"1\",station=\"1\"} 1\nfare_hub_device_info{device=\"2\",station=\"2\"} 1\n";
+    let mut hub = waits_between(rt.alloc(), (3, 1), (2, 0)).expect(&rt, "hub");
+    let request = b"GET /metrics HTTP/1.1\r\nHost: localhost\r\n\r\n";
+    let answer = told(&rt, &mut hub, request).expect(&rt, "answer");
+    same(&rt, &answer.ends_with(END), &true);
+}
+
 #[test]
 fn an_operator_retires_a_lane_over_http(rt: HostRuntime) {
     const CASES: [Case; 8] = [

@@ -22,7 +22,7 @@ use std::time::{Clock, Duration};
 
 // A read waits 5 milliseconds; a round goes on to the owners where no line brought anything for two of them, or after 20
 // milliseconds.
-const LIMITS: Limits = Limits {
+pub(crate) const LIMITS: Limits = Limits {
     turns: 100,
     read_millis: 5,
     write_millis: 1_000,
@@ -66,7 +66,7 @@ fn device(number: u64) -> Option<DeviceId> {
     DeviceId::new(number)
 }
 
-fn send(alloc: Global, stream: &mut TcpStream, frame: Frame) -> Option<()> {
+pub(crate) fn send(alloc: Global, stream: &mut TcpStream, frame: Frame) -> Option<()> {
     let mut bytes = Vec::new(alloc);
     frame.put(&mut bytes).ok()?;
     stream.write_all(&bytes).ok()
@@ -118,7 +118,7 @@ fn go_on_beside(alloc: Global, stream: &mut TcpStream, other: &mut TcpStream) ->
 }
 
 // A line of a device, on which these taps were sent.
-fn dial<R: Net<Listener = TcpListener, Stream = TcpStream>>(
+pub(crate) fn dial<R: Net<Listener = TcpListener, Stream = TcpStream>>(
     rt: &R,
     alloc: Global,
     address: SocketAddr,
@@ -138,7 +138,7 @@ fn dial<R: Net<Listener = TcpListener, Stream = TcpStream>>(
 }
 
 // Waits until the taps of a device up to this one are acknowledged.
-fn hears(alloc: Global, stream: &mut TcpStream, number: u64, upto: u64) -> Option<()> {
+pub(crate) fn hears(alloc: Global, stream: &mut TcpStream, number: u64, upto: u64) -> Option<()> {
     if upto > LAST_NUMBER {
         return None;
     }
@@ -156,7 +156,7 @@ fn hears(alloc: Global, stream: &mut TcpStream, number: u64, upto: u64) -> Optio
 }
 
 // Whether the other side of a line has let it go, once it said all that it had to say.
-fn has_ended(alloc: Global, stream: &mut TcpStream) -> bool {
+pub(crate) fn has_ended(alloc: Global, stream: &mut TcpStream) -> bool {
     let mut bytes = Vec::new(alloc);
     stream.read_to_end(&mut bytes).is_ok()
 }
@@ -242,7 +242,7 @@ fn serve_until<R: Threads + Wait + Clock + Eprint + Sync>(
 }
 
 // A hub of one owner with this ledger.
-fn hub_of(
+pub(crate) fn hub_of(
     alloc: Global,
     scheme: Scheme,
     ledger: PlainLedger,

@@ -1,10 +1,14 @@
 //! What an operator asks of stores and orders, and the lines that come of it.
+ghost use Rattle.fare_sessions.specs.Stores.{HasLedgers};
+
 use crate::checking::same;
 use fare_command::Question;
-use fare_desk::DeskFault;
+use fare_desk::{
+    DeskFault, Waiting, close_days, retire_lane, what_waits, write_bill, write_settlement,
+    write_standing,
+};
 use fare_part_tests::{FIRST, Numbers, record, statement};
-use fare_record::{Day, DeviceId, OwnerId};
-use fare_run::answer_over;
+use fare_record::{Day, DeviceId, Moment, OwnerId};
 use fare_scheme::{DemoSize, Scheme};
 use fare_sessions::Hub;
 use fare_store::{FailingLedger, Ledger, Outbox, PlainLedger, PlainOutbox};
@@ -58,6 +62,24 @@ pub(crate) fn hub_with(
     })
 }
 
+// Asks a hub this, or orders it.
+fn ask<O: Outbox, L: Ledger>(
+    alloc: Global,
+    hub: &mut Hub<O, L>,
+    question: Question,
+    output: &mut Vec<u8>,
+) -> Result<(), DeskFault>
+    requires { HasLedgers hub.old }
+{
+    match question {
+        Question::Close => close_days(alloc, hub, output),
+        Question::Bill { owner, day } => write_bill(alloc, hub, owner, day, output),
+        Question::Settle { owner, day } => write_settlement(alloc, hub, owner, day, output),
+        Question::Stand => write_standing(alloc, hub, output),
+        Question::Retire { owner, device } => retire_lane(alloc, hub, owner, device, output),
+    }
+}
+
 // How a question of a hub is answered, and what was written.
 pub(crate) fn answered<O: Outbox, L: Ledger>(
     alloc: Global,
@@ -68,7 +90,7 @@ pub(crate) fn answered<O: Outbox, L: Ledger>(
         return None;
     }
     let mut output = Vec::new(alloc);
-    let ended = answer_over(alloc, hub, question, &mut output);
+    let ended = ask(alloc, hub, question, &mut output);
     Some((ended, output))
 }
 
@@ -221,6 +243,115 @@ fn lanes_stand_where_their_stores_say(rt: HostRuntime) {
         let (ended, said) = answered(alloc, &mut hub, Question::Stand).expect(&rt, "answer");
         same(&rt, &(ended, said.as_slice()), &(Ok(()), lines));
     }
+}
+
+// Stores so many taps of a device, each made a second after the one before.
+fn fill_outbox(outbox: &mut PlainOutbox, device: u64, taps: u64, before: u64) -> Option<()> {
+    for number in 1..=taps {
+        let row = record(Numbers {
+            device,
+            link: number,
+            lane: number,
+            moment: before.saturating_add(number),
+            ..FIRST
+        })?;
+        outbox.store(&row).ok()?;
+    }
+    Some(())
+}
+
+// What waits for the only owner of a hub.
+fn waits_of<O: Outbox, L: Ledger>(alloc: Global, hub: &mut Hub<O, L>) -> Option<Waiting> {
+    if hub.ledgers.len() != hub.scheme.owner_count() {
+        return None;
+    }
+    let waits = what_waits(alloc, hub).ok()?;
+    match waits.as_slice() {
+        [one] if one.owner.get() == 1 => Some(one.waiting),
+        _ => None,
+    }
+}
+
+// How many taps of a device are stored, and how many taken; and how many rows wait of two devices, and when the earliest
+// was made of those that come next.
+type Waits = ((u64, u64), (u64, u64), u64, Option<u64>);
+
+// So many taps, and no statement.
+fn took(taps: u64) -> Held {
+    Held {
+        taps,
+        stated: None,
+        next_stated: None,
+    }
+}
+
+// What waits in two lanes, of each the taps that were stored and those that were taken.
+pub(crate) fn waits_between(
+    alloc: Global,
+    first: (u64, u64),
+    second: (u64, u64),
+) -> Option<Hub<PlainOutbox, PlainLedger>> {
+    let mut hub = hub_with(alloc, took(first.1), took(second.1))?;
+    fill_outbox(&mut hub.outbox, 1, first.0, MORNING)?;
+    fill_outbox(&mut hub.outbox, 2, second.0, MORNING + 100)?;
+    Some(hub)
+}
+
+// Before the first tap of those that wait.
+const MORNING: u64 = 1_704_096_000;
+
+#[test]
+fn what_waits_is_told_of_all_lanes_together(rt: HostRuntime) {
+    const CASES: [Waits; 8] = [
+        ((0, 0), (0, 0), 0, None),
+        ((1, 0), (0, 0), 1, Some(MORNING + 1)),
+        ((1, 1), (1, 1), 0, None),
+        ((1, 1), (2, 1), 1, Some(MORNING + 102)),
+        ((3, 1), (1, 1), 2, Some(MORNING + 2)),
+        ((300, 0), (257, 256), 301, Some(MORNING + 1)),
+        ((300, 300), (600, 1), 599, Some(MORNING + 102)),
+        ((1_000, 250), (64, 0), 814, Some(MORNING + 101)),
+    ];
+    let alloc = rt.alloc();
+    for &(first, second, rows, oldest) in &CASES {
+        let mut hub = waits_between(alloc, first, second).expect(&rt, "hub");
+        let waits = waits_of(alloc, &mut hub).expect(&rt, "waits");
+        let moment = waits.oldest.map(Moment::get);
+        same(
+            &rt,
+            &(waits.rows, waits.statements, moment),
+            &(rows, 0, oldest),
+        );
+    }
+}
+
+// Statements wait until their day is closed; and of a lane that is retired nothing does.
+#[test]
+fn nothing_waits_of_closed_days_and_of_retired_lanes(rt: HostRuntime) {
+    let alloc = rt.alloc();
+    let taken = Held {
+        taps: 2,
+        stated: Some(2),
+        next_stated: None,
+    };
+    let mut hub = hub_with(alloc, taken, WHOLE).expect(&rt, "hub");
+    hub.outbox = outbox_of(alloc).expect(&rt, "outbox");
+    const STEPS: [(Question, u64, u64); 3] = [
+        (Question::Stand, 1, 1),
+        (Question::Close, 1, 0),
+        (Question::Stand, 1, 0),
+    ];
+    for &(question, rows, statements) in &STEPS {
+        let (ended, _) = answered(alloc, &mut hub, question).expect(&rt, "answer");
+        same(&rt, &ended, &Ok(()));
+        let waits = waits_of(alloc, &mut hub).expect(&rt, "waits");
+        same(&rt, &(waits.rows, waits.statements), &(rows, statements));
+    }
+    let question = retire(1, 1).expect(&rt, "question");
+    let (ended, _) = answered(alloc, &mut hub, question).expect(&rt, "answer");
+    same(&rt, &ended, &Ok(()));
+    let waits = waits_of(alloc, &mut hub).expect(&rt, "waits");
+    same(&rt, &(waits.rows, waits.oldest.is_none()), &(0, true));
 }
 
 // A hub of two whole devices, whose ledger fails at its k-th call.
