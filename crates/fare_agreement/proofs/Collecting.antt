@@ -87,7 +87,7 @@ module _ (sc : SchemeValue) (lists : ℕ → List RecordValue) (all : AreNumbere
 
   -- a lane, by the greatest link of its device and its rows
   abbrev Lane : ℕ → ℕ → ℕ → (ℕ → Option RecordValue) → Type 0
-  Lane o d upto rows = LaneAgrees (part o (lists d)) (part o (take upto (lists d))) rows ((ls o).taken d) ((ls o).stated d) (is_closed (ls o) d)
+  Lane o d upto rows = LaneAgrees (part o (lists d)) (part o (take upto (lists d))) rows ((ls o).taken d) ((ls o).stated d) (is_closed (ls o) d) ((ls o).from d) ((ls o).start + (ls o).closed d) ((ls o).retired d)
 
   pub tap_agrees : (x : OutboxValue) (r : RecordValue) → IsAt (lists r.device) r.link r → r.link ≡ x.upto r.device + 1 → Agrees sc lists (record { outbox = x; ledgers = ls }) → Agrees sc lists (record { outbox = stored r x; ledgers = ls })
   tap_agrees x r at next is = record { lanes = λ o d known. of_owner o d known (o == r.owner) refl; stated = is.stated }
@@ -106,9 +106,9 @@ module _ (sc : SchemeValue) (lists : ℕ → List RecordValue) (all : AreNumbere
       -- its own lane
       own : knows_owner sc r.owner ≡ true → Lane r.owner r.device r.link (put (x.rows r.owner r.device) r.lane (Some r))
       own known =
-          subst (λ (l : List RecordValue). LaneAgrees (part r.owner (lists r.device)) l (put (x.rows r.owner r.device) r.lane (Some r)) ((ls r.owner).taken r.device) ((ls r.owner).stated r.device) (is_closed (ls r.owner) r.device))
+          subst (λ (l : List RecordValue). LaneAgrees (part r.owner (lists r.device)) l (put (x.rows r.owner r.device) r.lane (Some r)) ((ls r.owner).taken r.device) ((ls r.owner).stated r.device) (is_closed (ls r.owner) r.device) ((ls r.owner).from r.device) ((ls r.owner).start + (ls r.owner).closed r.device) ((ls r.owner).retired r.device))
           (sym (more r.owner true (is_self r.owner)))
-          (lane_stored _ _ _ _ _ _ (is.lanes r.owner r.device known) r r.lane (all.numbered r.device n r here).lane)
+          (lane_stored _ _ _ _ _ _ _ _ _ (is.lanes r.owner r.device known) r r.lane (all.numbered r.device n r here).lane)
 
       own_device : knows_owner sc r.owner ≡ true → (d : ℕ) (b : Bool) → (d == r.device) ≡ b → Lane r.owner d (if b then r.link else x.upto d) (if b then put (x.rows r.owner r.device) r.lane (Some r) else x.rows r.owner d)
       own_device known d true e = subst (λ j. Lane r.owner j r.link (put (x.rows r.owner r.device) r.lane (Some r))) (sym (is_one d r.device e)) (own known)
@@ -116,7 +116,7 @@ module _ (sc : SchemeValue) (lists : ℕ → List RecordValue) (all : AreNumbere
 
       -- other owners' lanes
       beside : (o : ℕ) → knows_owner sc o ≡ true → (o == r.owner) ≡ false → (d : ℕ) (b : Bool) → (d == r.device) ≡ b → Lane o d (if b then r.link else x.upto d) (x.rows o d)
-      beside o known other d true e = subst (λ j. Lane o j r.link (x.rows o j)) (sym (is_one d r.device e)) (lane_still _ _ _ _ _ _ (is.lanes o r.device known) _ (more o false (other_way o r.owner other)))
+      beside o known other d true e = subst (λ j. Lane o j r.link (x.rows o j)) (sym (is_one d r.device e)) (lane_still _ _ _ _ _ _ _ _ _ (is.lanes o r.device known) _ (more o false (other_way o r.owner other)))
       beside o known other d false e = is.lanes o d known
 
       of_owner : (o d : ℕ) → knows_owner sc o ≡ true → (b : Bool) → (o == r.owner) ≡ b → Lane o d (put x.upto r.device r.link d) ((if b then put2 (x.rows r.owner) r.device r.lane (Some r) else x.rows o) d)

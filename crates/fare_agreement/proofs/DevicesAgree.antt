@@ -10,6 +10,7 @@ use Rattle.fare_record.specs.declared.item.Item.{Item}
 use Rattle.fare_record.specs.declared.item.Item.TheVariants as item
 use Rattle.fare_scheme.specs.Values.{SchemeValue}
 use Rattle.fare_store.specs.OutboxWords.{OutboxValue}
+use Rattle.fare_store.specs.LedgerWords as own
 use Rattle.fare_store.specs.LedgerWords.{LedgerValue}
 use Rattle.fare_world.specs.Headline.{IsPrefixOf}
 use Rattle.fare_world.specs.Kept.{IsSystem, IsLane, pending, lane_numbers}
@@ -66,8 +67,10 @@ module _ (sc : SchemeValue) (s : System) (system : IsSystem sc s) (x : OutboxVal
   -- a lane of an owner's ledger
   lane_shown : (o d : ℕ) (l : LedgerValue) → ShowsLedger sc s o l → lane_agrees (numbered_by_devices s) x l o d
   lane_shown o d l owner = record {
-    taken_is = subst (λ t. IsPrefixOf t (part o (take (x.upto d) (s.devices d).taps))) (sym (owner.taken d))
+    all = l.taken d;
+    all_are = subst (λ t. IsPrefixOf t (part o (take (x.upto d) (s.devices d).taps))) (sym (owner.taken d))
         (front_is o took (x.upto d) (s.devices d).taps (subst (λ u. took ≤ length (part o (take u (s.devices d).taps))) (sym (shown.upto d)) within));
+    taken_are = record { gone = 0; few = omega arith; are = refl; past = λ k r less at. absurd (omega (arith, less)) };
     rows_are = record {
       gone = (s.lanes o d).gone;
       few = omega (arith, lane.gone, ap length (owner.taken d) ∙ length-take-le took (numbered_for s o d) (took_numbered sc s o d system));
@@ -75,15 +78,16 @@ module _ (sc : SchemeValue) (s : System) (system : IsSystem sc s) (x : OutboxVal
     };
     stated_are = counts_of (numbered_for s o d) (l.stated d) (s.lanes o d).stated (owner.stated d);
     closed_are = record {
-      met = λ day shut.
-          let closed : is_closed sc.start (s.lanes o d).closed day ≡ true = (λ i. is_closed (sym owner.ledger.made.start i) (sym (owner.closed d) i) day) ∙ shut in
-          owner.stated d day ∙ ap (λ b. count_of b (numbered_for s o d) day) (lane.closed day closed)
-          ∙ ap Some (sym (lane.counted day closed) ∙ ap (λ t. day_count t day) (sym (owner.taken d)));
+      whole = λ day shut. ap (λ t. day_count t day) (owner.taken d) ∙ lane.counted day (shut_is day shut);
+      met = λ day shut le. owner.stated d day ∙ ap (λ b. count_of b (numbered_for s o d) day) (lane.closed day (shut_is day shut)) ∙ ap Some (sym (lane.counted day (shut_is day shut)) ∙ ap (λ t. day_count t day) (sym (owner.taken d)));
     };
   }
     where
       lane : IsLane sc.start (numbered_for s o d) (length (arrived_of o (s.devices d))) (s.held o d) (lane_numbers d (pending (s.owners o))) (s.lanes o d)
       lane = system.lanes o d
+
+      shut_is : (day : ℕ) → own.is_closed l d day ≡ true → is_closed sc.start (s.lanes o d).closed day ≡ true
+      shut_is day shut = (λ i. is_closed (sym owner.ledger.made.start i) (sym (owner.closed d) i) day) ∙ shut
 
       took : ℕ
       took = (s.lanes o d).took
@@ -115,7 +119,7 @@ items_of_lists sc s system (g ∷ gs) each = (arrived_of_lists sc s (arrived_for
 session_of_lists : (sc : SchemeValue) (s : System) → IsSystem sc s → (h : StoresValue) (q : sent.Session) → sent.IsSession sc s h q → IsSessionOf sc (numbered_by_devices s) h (told_session q)
 session_of_lists sc s system h (sent.Collects g) is = (subst (AllByRecursion (IsOf (numbered_by_devices s))) (told_append g.entries (hand_given g.hand ++ g.inbox) ∙ ap (λ l. items_of (told_entries g.entries) ++ l) (told_rest g.hand g.inbox)) (items_of_lists sc s system (sent_by g) is.0), is.1)
 session_of_lists sc s system h (sent.Serves_owner o v) is = is
-session_of_lists sc s system h (sent.Closes_day o d day) is = (is.0, is.2)
+session_of_lists sc s system h (sent.Closes_day o d day) is = (is.0, is.2, is.3)
 session_of_lists sc s system h (sent.Retires_lane o d) is = (is.0, is.2)
 
 same_after : (h : StoresValue) (q : sent.Session) → stores_after h (told_session q) ≡ sent.stores_after h q

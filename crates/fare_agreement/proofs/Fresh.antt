@@ -1,11 +1,11 @@
 -- Empty stores agree with any lists.
-use Rattle.std.proofs.Common.{◌≡◌, ℕ, ◌-◌, List, [], ◌++◌, take, Some, None, Bool, true, false, refl, sym, ap, ◌∙◌, arith}
+use Rattle.std.proofs.Common.{◌≡◌, ℕ, ◌-◌, List, [], take, Some, None, Bool, true, false, refl, sym, ap, ◌∙◌, arith}
 use Rattle.std.specs.Prelude.{Option, slice_get, nat_le, if◌then◌else◌}
 use Rattle.fare_record.specs.Values.{RecordValue}
 use Rattle.fare_record.specs.Lanes.{part}
 use Rattle.fare_scheme.specs.Values.{SchemeValue}
 use Rattle.fare_store.specs.OutboxWords.{IsEmptyOutbox}
-use Rattle.fare_store.specs.LedgerWords.{IsEmptyLedger}
+use Rattle.fare_store.specs.LedgerWords.{IsEmptyLedger, is_closed}
 use Rattle.fare_world.specs.Knowing.{knows_owner}
 use Rattle.fare_world.specs.Shown.{row_at}
 use Rattle.fare_world.proofs.Lanes.{closed_first, closed_past}
@@ -30,10 +30,13 @@ empty_agrees sc lists h outbox ledgers = record { lanes = λ o d known. lane o d
 
     lane : (o d : ℕ) → IsEmptyLedger (h.ledgers o) → lane_agrees lists h.outbox (h.ledgers o) o d
     lane o d is = record {
-      taken_is = (had lists h.outbox o d, ap (λ t. t ++ had lists h.outbox o d) (is.taken d));
+      all = [];
+      all_are = (had lists h.outbox o d, refl);
+      taken_are = record { gone = 0; few = omega arith; are = is.taken d; past = λ k r less at. absurd (omega (arith, less)) };
       rows_are = record { gone = 0; few = omega arith; are = λ n. outbox.rows o d n ∙ sym (ap (λ l. row_at 0 l n) (none o d) ∙ row_none n) };
       stated_are = counts_none (part o (lists d)) ((h.ledgers o).stated d) (is.stated d);
-      closed_are = record {
-        met = λ day shut. absurd (omega (arith, is.closed d, closed_first (h.ledgers o).start ((h.ledgers o).closed d) day shut, closed_past (h.ledgers o).start ((h.ledgers o).closed d) day shut));
-      };
+      closed_are = record { whole = λ day shut. absurd (never o d is day shut); met = λ day shut le. absurd (never o d is day shut) };
     }
+      where
+        never : (o d : ℕ) → IsEmptyLedger (h.ledgers o) → (day : ℕ) → is_closed (h.ledgers o) d day ≡ true → ⊥
+        never o d is day shut = omega (arith, is.closed d, closed_first (h.ledgers o).start ((h.ledgers o).closed d) day shut, closed_past (h.ledgers o).start ((h.ledgers o).closed d) day shut)

@@ -1,5 +1,6 @@
 pub mod Prefixes
 pub mod Numbers
+pub mod LettingGo
 pub mod LaneSteps
 pub mod Collecting
 pub mod Takes
@@ -12,3 +13,4 @@ pub mod Fresh
 pub mod WeekTaken
 pub mod DevicesAgree
 pub mod WorkedSteps
+pub mod Untold

@@ -18,7 +18,8 @@ use Rattle.fare_history.specs.Stores.{StoresValue}
 use Rattle.fare_store.proofs.Entries.{put_here, put2_here, put3_here, is_one, is_self}
 use Rattle.fare_agreement.specs.Agreeing.{AreNumberedLists, had, Agrees, lane_agrees}
 use Rattle.fare_agreement.specs.Stopping.{with_link_alone, with_row_alone}
-use Rattle.fare_agreement.proofs.LaneSteps.{by_tests}
+use Rattle.fare_agreement.proofs.LaneSteps.{by_tests, lane_length}
+use Rattle.fare_agreement.proofs.LettingGo.{held_least}
 use Rattle.fare_agreement.proofs.Numbers.{part_take_next}
 use Rattle.fare_agreement.proofs.Prefixes.{prefix_length}
 
@@ -62,17 +63,16 @@ short_tells (Some k) false true taken false s t e = by (nat_lt taken k) (nat_lt 
     by false true p f = absurd (cc)
     by false false p f = absurd (cc)
 
-pub closed_short : (sc : SchemeValue) (lists : ℕ → List RecordValue) (h : StoresValue) (owner device day s t : ℕ) → knows_owner sc owner ≡ true → close_of (h.ledgers owner) device day ≡ Err (closing.CountsShort s t) → Agrees sc lists (record h { ledgers = put h.ledgers owner (with_close device (h.ledgers owner)) }) → ⊥
-closed_short sc lists h owner device day s t known judged is =
+pub closed_short : (sc : SchemeValue) (lists : ℕ → List RecordValue) (h : StoresValue) (owner device day s t : ℕ) → knows_owner sc owner ≡ true → close_of (h.ledgers owner) device day ≡ Err (closing.CountsShort s t) → (h.ledgers owner).from device ≤ day → Agrees sc lists (record h { ledgers = put h.ledgers owner (with_close device (h.ledgers owner)) }) → ⊥
+closed_short sc lists h owner device day s t known judged held is =
     let l = h.ledgers owner in
     let tells = short_tells (l.stated device day) (is_closed l device day) (day == l.start + l.closed device) (day_count (l.taken device) day) (l.retired device) s t judged in
     let next : day ≡ l.start + l.closed device = is_one day (l.start + l.closed device) tells.2 in
     let lane = subst (λ m. lane_agrees lists h.outbox m owner device) (put_here h.ledgers owner (with_close device l)) (is.lanes owner device known) in
     let closed : (nat_le l.start day && nat_lt day (l.start + (put l.closed device (l.closed device + 1) device))) ≡ true = ap (λ n. nat_le l.start day && nat_lt day (l.start + n)) (put_here l.closed device (l.closed device + 1)) ∙ last l.start (l.closed device) day next in
-    let met : l.stated device day ≡ Some (day_count (l.taken device) day) = lane.closed_are.met day closed in
-    let same : Some (day_count (l.taken device) day) ≡ Some s = sym met ∙ tells.0 in
-    let count : day_count (l.taken device) day ≡ s = cc in
-    omega (arith, count, tells.1)
+    let counted : s ≡ day_count (part owner (lists device)) day = lane.stated_are.counted day s tells.0 in
+    let least : day_count lane.all day ≤ day_count (l.taken device) day = held_least lane.all (l.from device) _ _ (l.taken device) lane.taken_are day held in
+    omega (arith, counted, lane.closed_are.whole day closed, least, tells.1)
   where
     last : (start n day : ℕ) → day ≡ start + n → (nat_le start day && nat_lt day (start + (n + 1))) ≡ true
     last start n day e = grind (arith, nat_tests)
@@ -91,7 +91,8 @@ module _ (sc : SchemeValue) (lists : ℕ → List RecordValue) (h : StoresValue)
   pub link_alone : Agrees sc lists (record h { outbox = with_link_alone r h.outbox }) → ⊥
   link_alone torn =
       let n = length (had lists h.outbox r.owner r.device) in
-      let kept = row_kept sc lists (record h { outbox = with_link_alone r h.outbox }) r.owner r.device n r torn known (prefix_length ((h.ledgers r.owner).taken r.device) (had lists h.outbox r.owner r.device) (is.lanes r.owner r.device known).taken_is) there in
+      let own = is.lanes r.owner r.device known in
+      let kept = row_kept sc lists (record h { outbox = with_link_alone r h.outbox }) r.owner r.device n r torn known (omega (arith, lane_length _ _ _ _ _ _ _ _ _ own, prefix_length own.all (had lists h.outbox r.owner r.device) own.all_are)) there in
       let rows = (is.lanes r.owner r.device known).rows_are in
       let both : None ≡ Some r = sym (ap (h.outbox.rows r.owner r.device) (sym lane) ∙ rows.are r.lane ∙ no_row rows.gone) ∙ kept in
       absurd (cc)

@@ -60,10 +60,10 @@ module _ (sc : SchemeValue) (lists : ℕ → List RecordValue) (owner : ℕ) (x 
       lane = next.0.lane ∙ ap (λ n. n + 1) (far r.device)
 
       at : slice_get (had lists x owner r.device) (length (l.taken r.device)) ≡ Some r
-      at = lane_next _ _ _ _ _ _ (agrees r.device) r (c.lane r.device + 1) (ap (λ n. n + 1) (far r.device)) next.0.held
+      at = lane_next _ _ _ _ _ _ _ _ _ (agrees r.device) r (c.lane r.device + 1) (ap (λ n. n + 1) (far r.device)) next.0.held
 
       still : is_closed l r.device r.tap.day ≡ false
-      still = not_closed (is_closed l r.device r.tap.day) (λ shut. lane_open _ _ _ _ _ _ (agrees r.device) r r.tap.day (part_front owner (x.upto r.device) (lists r.device)) at shut refl)
+      still = not_closed (is_closed l r.device r.tap.day) (λ shut. lane_open _ _ _ _ _ _ _ _ _ (agrees r.device) r r.tap.day (part_front owner (x.upto r.device) (lists r.device)) at shut refl)
   item_unrefused l c (item.Stated v) is own registered works agrees far next =
       subst (λ (b : Bool × Bool). (statement_judged b.0 (l.stated v.device v.day) v.count b.1 ≡ Ok tt) ⊎ (statement_judged b.0 (l.stated v.device v.day) v.count b.1 ≡ Err Repeated)) (λ i. (sym (own_item l v.owner v.device own next.0.mine registered) i, sym works i))
       (state_repeated (l.stated v.device v.day) v.count (λ c e. (agrees v.device).stated_are.counted v.day c e ∙ sym ((counts v.device).counted v.day v.count next.0.held)))

@@ -1,5 +1,5 @@
 -- Sessions, whole or stopped, keep agreement.
-use Rattle.std.proofs.Common.{◌≡◌, ℕ, ◌+◌, List, [], ◌∷◌, ◌++◌, take, drop, zero, suc, None, Some, true, refl, sym, ap, ◌∙◌, subst, arith, append_assoc, inl, inr}
+use Rattle.std.proofs.Common.{◌≡◌, ℕ, ◌+◌, ◌≤◌, List, [], ◌∷◌, ◌++◌, take, drop, zero, suc, None, Some, true, refl, sym, ap, ◌∙◌, subst, arith, append_assoc, inl, inr}
 use Rattle.std.specs.Prelude.{Option, ◌==◌}
 use Rattle.std.specs.List.{AllByRecursion}
 use Rattle.std.proofs.lemmas.List.{append-nil, take-append-drop}
@@ -8,14 +8,14 @@ use Rattle.fare_record.specs.Lanes.{day_count}
 use Rattle.fare_record.specs.declared.item.Item.{Item}
 use Rattle.fare_scheme.specs.Values.{SchemeValue}
 use Rattle.fare_store.specs.Tables.{put}
-use Rattle.fare_store.specs.LedgerWords.{LedgerValue, is_closed, with_close, with_retired}
+use Rattle.fare_store.specs.LedgerWords.{LedgerValue, is_closed, with_close, with_retired, forgotten}
 use Rattle.fare_world.specs.Knowing.{knows_owner}
 use Rattle.fare_side.specs.OpenDays as open_days
 use Rattle.fare_world.proofs.Lanes.{closed_later, closed_within}
 use Rattle.fare_history.specs.Serving.{behind_ledger, AreNextItems, given_all, pruned_to_all, in_hand, taken_behind, Service, IsService}
 use Rattle.fare_history.specs.Gathering.{Gathering, items_of, accepted_by, answers_of, all_answers, storing_all, IsAnswerFrom, IsGathering}
 use Rattle.fare_history.specs.Plainly.{IsCovered}
-use Rattle.fare_history.specs.Stores.{StoresValue, Session, Collects, Serves_owner, Closes_day, Retires_lane, MayClose, stores_after, stores_after_all}
+use Rattle.fare_history.specs.Stores.{StoresValue, Session, Collects, Serves_owner, Closes_day, Retires_lane, Forgets, MayClose, stores_after, stores_after_all}
 use Rattle.fare_store.proofs.Entries.{put_all, put_here, is_one}
 use Rattle.fare_history.proofs.Entries.{all-weaken, all-append, all-left, all-right}
 use Rattle.fare_history.proofs.Growing.{items_first}
@@ -25,7 +25,7 @@ use Rattle.fare_agreement.specs.Growing.{OutboxGrew, LedgerGrew, StoresGrew}
 use Rattle.fare_agreement.specs.Stopping.{IsSessionOf, AreSessionsOf, IsBegunOf, IsMaybeCommitted, IsLeftBy, AreLeft, IsStored, IsTaken, AreKept, AreAnswered}
 use Rattle.fare_agreement.proofs.Collecting.{outbox_self, outbox_trans, covered_still, stored_still, answer_covered, Gathers, entries_gather, links_left, tried_keep}
 use Rattle.fare_agreement.proofs.LaneSteps.{close_right}
-use Rattle.fare_agreement.proofs.Takes.{ledger_self, ledger_trans, taken_still, TakesAll, items_taken, all_pruned, closes, close_grows, retire_agrees, retire_grows}
+use Rattle.fare_agreement.proofs.Takes.{ledger_self, ledger_trans, taken_still, TakesAll, items_taken, all_pruned, closes, close_grows, retire_agrees, retire_grows, forgets, forget_grows, forgot_from}
 
 -- STORES THAT GREW
 pub stores_self : (h : StoresValue) → StoresGrew h h
@@ -40,6 +40,7 @@ kept_still sc h k grew (Collects g) is = (
   all-weaken (IsStored h.outbox) (IsStored k.outbox) (stored_still h.outbox k.outbox grew.outbox) (items_of g.entries) is.1,
 )
 kept_still sc h k grew (Serves_owner o v) is = all-weaken (IsTaken (h.ledgers o)) (IsTaken (k.ledgers o)) (taken_still (h.ledgers o) (k.ledgers o) (grew.ledgers o)) v.taken is
+kept_still sc h k grew (Forgets o d day) is = omega (arith, is, (grew.ledgers o).from d)
 kept_still sc h k grew (Closes_day o d day) is = closed_still (h.ledgers o) (k.ledgers o) (grew.ledgers o) d day is
   where
     closed_still : (l m : LedgerValue) → LedgerGrew l m → (d day : ℕ) → is_closed l d day ≡ true → is_closed m d day ≡ true
@@ -115,10 +116,18 @@ module _ (sc : SchemeValue) (lists : ℕ → List RecordValue) (all : AreNumbere
   session_keeps h (Closes_day o d day) is of = record {
     agrees = record {
       lanes = λ p e known. put_all (λ p m. (e : ℕ) → knows_owner sc p ≡ true → lane_agrees lists h.outbox m p e) h.ledgers o (with_close d (h.ledgers o)) (λ p e known. is.lanes p e known)
-          (λ e known. closes lists o h.outbox (h.ledgers o) (λ e. is.lanes o e of.0) d day of.1 e) p e known;
+          (λ e known. closes lists o h.outbox (h.ledgers o) (λ e. is.lanes o e of.0) d day of.1 of.2 e) p e known;
       stated = is.stated;
     };
-    grew = record { outbox = outbox_self h.outbox; ledgers = put_all (λ p m. LedgerGrew (h.ledgers p) m) h.ledgers o (with_close d (h.ledgers o)) (λ p. ledger_self (h.ledgers p)) (close_grows lists o h.outbox (h.ledgers o) (λ e. is.lanes o e of.0) d day of.1) };
+    grew = record { outbox = outbox_self h.outbox; ledgers = put_all (λ p m. LedgerGrew (h.ledgers p) m) h.ledgers o (with_close d (h.ledgers o)) (λ p. ledger_self (h.ledgers p)) (close_grows lists o h.outbox (h.ledgers o) (λ e. is.lanes o e of.0) d day of.1 of.2) };
+  }
+  session_keeps h (Forgets o d day) is of = record {
+    agrees = record {
+      lanes = λ p e known. put_all (λ p m. (e : ℕ) → knows_owner sc p ≡ true → lane_agrees lists h.outbox m p e) h.ledgers o (forgotten d day (h.ledgers o)) (λ p e known. is.lanes p e known)
+          (λ e known. forgets sc lists all o h.outbox (h.ledgers o) (λ e. is.lanes o e of.0) d day of.1 e) p e known;
+      stated = is.stated;
+    };
+    grew = record { outbox = outbox_self h.outbox; ledgers = put_all (λ p m. LedgerGrew (h.ledgers p) m) h.ledgers o (forgotten d day (h.ledgers o)) (λ p. ledger_self (h.ledgers p)) (forget_grows sc lists all o h.outbox (h.ledgers o) (λ e. is.lanes o e of.0) d day of.1) };
   }
   session_keeps h (Retires_lane o d) is of = record {
     agrees = record {
@@ -149,6 +158,7 @@ module _ (sc : SchemeValue) (lists : ℕ → List RecordValue) (all : AreNumbere
       (items_taken lists o h.outbox (λ d. is.stated o d) (h.ledgers o) (behind_ledger sc (h.ledgers o)) v.taken (λ d. is.lanes o d of.0) (λ d. refl) (items_first o h.outbox (behind_ledger sc (h.ledgers o)) v.taken (in_hand v.hand ++ v.queue) of.1.items)).kept
   session_kept h (Closes_day o d day) is of = subst (λ m. is_closed m d day ≡ true) (sym (put_here h.ledgers o (with_close d (h.ledgers o)))) (closed_now (h.ledgers o) d day of.1)
   session_kept h (Retires_lane o d) is of = ap (λ (m : LedgerValue). m.retired d) (put_here h.ledgers o (with_retired d (h.ledgers o))) ∙ put_here (h.ledgers o).retired d true
+  session_kept h (Forgets o d day) is of = subst (λ m. day ≤ m.from d) (sym (put_here h.ledgers o (forgotten d day (h.ledgers o)))) (forgot_from sc lists all o h.outbox (h.ledgers o) (λ e. is.lanes o e of.0) d day of.1)
 
   pub sessions_kept : (h : StoresValue) (qs : List Session) → Agrees sc lists h → AreSessionsOf sc lists h qs → AllByRecursion (AreKept sc (stores_after_all h qs)) qs
   sessions_kept h [] is of = tt
@@ -163,12 +173,14 @@ module _ (sc : SchemeValue) (lists : ℕ → List RecordValue) (all : AreNumbere
   answered_of h (Serves_owner o v) is = is
   answered_of h (Closes_day o d day) is = tt
   answered_of h (Retires_lane o d) is = tt
+  answered_of h (Forgets o d day) is = tt
 
   answered_still : (h k : StoresValue) → StoresGrew h k → (q : Session) → AreAnswered sc h q → AreAnswered sc k q
   answered_still h k grew (Collects g) is = kept_still sc h k grew (Collects g) is
   answered_still h k grew (Serves_owner o v) is = kept_still sc h k grew (Serves_owner o v) is
   answered_still h k grew (Closes_day o d day) is = tt
   answered_still h k grew (Retires_lane o d) is = tt
+  answered_still h k grew (Forgets o d day) is = tt
 
   -- what a stop in a session leaves agrees, and has what the session was answered
   pub record IsSafe (h k : StoresValue) (q : Session) : Type 0 where
@@ -223,9 +235,11 @@ module _ (sc : SchemeValue) (lists : ℕ → List RecordValue) (all : AreNumbere
       taken_some : (w : Service) → IsMaybeCommitted v w → (ds : List ℕ) → IsSafe h (stores_after h (Serves_owner o (record w { pruned = ds }))) (Serves_owner o v)
       taken_some w some ds = subst (λ (u : Service). IsSafe h (stores_after h (Serves_owner o (record u { pruned = ds }))) (Serves_owner o v)) (sym some.1) (first_some v.hand some.0 refl ds)
   stop_safe h k (Closes_day o d day) is of (inl e) = subst (λ m. IsSafe h m (Closes_day o d day)) (sym e) (record { agrees = is; grew = stores_self h; kept = tt })
-  stop_safe h k (Closes_day o d day) is of (inr e) = subst (λ m. IsSafe h m (Closes_day o d day)) (sym e.1) (whole_safe h (Closes_day o d day) is (of, e.0))
+  stop_safe h k (Closes_day o d day) is of (inr e) = subst (λ m. IsSafe h m (Closes_day o d day)) (sym e.1) (whole_safe h (Closes_day o d day) is (of.0, e.0, of.1))
   stop_safe h k (Retires_lane o d) is of (inl e) = subst (λ m. IsSafe h m (Retires_lane o d)) (sym e) (record { agrees = is; grew = stores_self h; kept = tt })
   stop_safe h k (Retires_lane o d) is of (inr e) = subst (λ m. IsSafe h m (Retires_lane o d)) (sym e.1) (whole_safe h (Retires_lane o d) is (of, e.0))
+  stop_safe h k (Forgets o d day) is of (inl e) = subst (λ m. IsSafe h m (Forgets o d day)) (sym e) (record { agrees = is; grew = stores_self h; kept = tt })
+  stop_safe h k (Forgets o d day) is of (inr e) = subst (λ m. IsSafe h m (Forgets o d day)) (sym e.1) (whole_safe h (Forgets o d day) is (of, e.0))
 
   -- ANY LIST OF SESSIONS
   pub record AreSafe (h k : StoresValue) (qs : List Session) : Type 0 where
@@ -243,5 +257,6 @@ module _ (sc : SchemeValue) (lists : ℕ → List RecordValue) (all : AreNumbere
 pub begun_of : (sc : SchemeValue) (lists : ℕ → List RecordValue) (h : StoresValue) (q : Session) → IsSessionOf sc lists h q → IsBegunOf sc lists h q
 begun_of sc lists h (Collects g) is = is
 begun_of sc lists h (Serves_owner o v) is = is
-begun_of sc lists h (Closes_day o d day) is = is.0
+begun_of sc lists h (Closes_day o d day) is = (is.0, is.2)
 begun_of sc lists h (Retires_lane o d) is = is.0
+begun_of sc lists h (Forgets o d day) is = is.0

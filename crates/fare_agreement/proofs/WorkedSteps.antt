@@ -49,7 +49,7 @@ module _ (sc : SchemeValue) where
   emptiness : Agrees sc two_taps (record { outbox = empty_outbox; ledgers = empty_ledger })
   emptiness =
       empty_agrees sc two_taps (record { outbox = empty_outbox; ledgers = empty_ledger }) (record { upto = λ d. refl; rows = λ o d k. refl; row_count = refl; stated = λ o d day. refl; stated_count = refl })
-      (λ o known. record { taken = λ d. refl; stated = λ d day. refl; closed = λ d. refl; retired = λ d. refl })
+      (λ o known. record { taken = λ d. refl; stated = λ d day. refl; closed = λ d. refl; retired = λ d. refl; from = λ d. refl })
 
   pub opening_agrees : IsOfDevice sc 7 → Agrees sc two_taps both_stored
   opening_agrees known =

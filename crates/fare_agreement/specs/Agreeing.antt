@@ -1,5 +1,5 @@
 -- When the rows of a hub's stores agree with the lists of taps that the devices numbered.
-use Rattle.std.specs.Prelude.{◌≡◌, ℕ, ◌+◌, ◌≤◌, Bool, true, List, [], length, take, Option, None, Some, slice_get}
+use Rattle.std.specs.Prelude.{◌≡◌, ℕ, ◌+◌, ◌<◌, ◌≤◌, Bool, true, false, List, [], length, take, Option, None, Some, slice_get}
 use Rattle.fare_record.specs.Values.{RecordValue}
 use Rattle.fare_record.specs.Lanes.{part, day_count}
 use Rattle.fare_record.specs.declared.item.Item.{Item}
@@ -7,7 +7,7 @@ use Rattle.fare_record.specs.declared.item.Item.TheVariants as item
 use Rattle.fare_scheme.specs.Values.{SchemeValue}
 use Rattle.fare_scheme.specs.Words.{station_of}
 use Rattle.fare_store.specs.OutboxWords.{OutboxValue}
-use Rattle.fare_store.specs.LedgerWords.{LedgerValue, is_closed}
+use Rattle.fare_store.specs.LedgerWords.{LedgerValue, let_go, is_closed}
 use Rattle.fare_world.specs.Headline.{IsPrefixOf}
 use Rattle.fare_world.specs.Knowing.{knows_owner}
 use Rattle.fare_world.specs.Shown.{row_at, IsAt}
@@ -46,20 +46,31 @@ pub record AreRowsOf (records : List RecordValue) (taken : ℕ) (rows : ℕ → 
 pub record AreCountsOf (records : List RecordValue) (stated : ℕ → Option ℕ) : Type 0 where
   pub counted : (day count : ℕ) → stated day ≡ Some count → count ≡ day_count records day
 
--- each closed day has its statement, and that many of these records
-pub record AreClosedOf (taken : List RecordValue) (stated : ℕ → Option ℕ) (closed : ℕ → Bool) : Type 0 where
-  pub met : (day : ℕ) → closed day ≡ true → stated day ≡ Some (day_count taken day)
+-- what a ledger shows of these records, which it took: the first so many were let go, each of a day before the one from which on all is held, and, where the lane is not retired, before the one that is open
+pub record AreHeldOf (records : List RecordValue) (from open_day : ℕ) (retired : Bool) (taken : List RecordValue) : Type 0 where
+  pub gone : ℕ
+  pub few : gone ≤ length records
+  pub are : taken ≡ let_go gone records
+  pub past : (k : ℕ) (r : RecordValue) → k < gone → slice_get records k ≡ Some r → (r.tap.day < from) × (retired ≡ false → r.tap.day < open_day)
+
+-- of each closed day all is taken that was numbered; and each closed day from the one on from which all is held has its statement, and that many of these records
+pub record AreClosedOf (numbered taken : List RecordValue) (stated : ℕ → Option ℕ) (closed : ℕ → Bool) (from : ℕ) : Type 0 where
+  pub whole : (day : ℕ) → closed day ≡ true → day_count taken day ≡ day_count numbered day
+  pub met : (day : ℕ) → closed day ≡ true → from ≤ day → stated day ≡ Some (day_count taken day)
 
 -- a lane agrees, by what was numbered of it, what the outbox has had of it and holds, and what the ledger holds
-pub record LaneAgrees (numbered arrived : List RecordValue) (rows : ℕ → Option RecordValue) (taken : List RecordValue) (stated : ℕ → Option ℕ) (closed : ℕ → Bool) : Type 0 where
-  pub taken_is : IsPrefixOf taken arrived
+pub record LaneAgrees (numbered arrived : List RecordValue) (rows : ℕ → Option RecordValue) (taken : List RecordValue) (stated : ℕ → Option ℕ) (closed : ℕ → Bool) (from open_day : ℕ) (retired : Bool) : Type 0 where
+  -- all that was taken, also what was let go since
+  pub all : List RecordValue
+  pub all_are : IsPrefixOf all arrived
+  pub taken_are : AreHeldOf all from open_day retired taken
   pub rows_are : AreRowsOf arrived (length taken) rows
   pub stated_are : AreCountsOf numbered stated
-  pub closed_are : AreClosedOf taken stated closed
+  pub closed_are : AreClosedOf numbered all stated closed from
 
 -- the lane of an owner and a device, in an outbox and the owner's ledger
 abbrev pub lane_agrees : (ℕ → List RecordValue) → OutboxValue → LedgerValue → ℕ → ℕ → Type 0
-lane_agrees lists x l owner device = LaneAgrees (part owner (lists device)) (had lists x owner device) (x.rows owner device) (l.taken device) (l.stated device) (is_closed l device)
+lane_agrees lists x l owner device = LaneAgrees (part owner (lists device)) (had lists x owner device) (x.rows owner device) (l.taken device) (l.stated device) (is_closed l device) (l.from device) (l.start + l.closed device) (l.retired device)
 
 -- the rows agree with the lists: each lane of each registered owner does, and so do the outbox's statements
 pub record Agrees (sc : SchemeValue) (lists : ℕ → List RecordValue) (h : StoresValue) : Type 0 where

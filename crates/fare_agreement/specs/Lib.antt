@@ -6,3 +6,4 @@ pub mod Totals
 pub mod Parts
 pub mod Attempted
 pub mod WorkedStop
+pub mod Untelling

@@ -1,6 +1,7 @@
 -- Sessions whose items are those of lists, what a stop in one leaves, and what stays of what a session was answered.
-use Rattle.std.specs.Prelude.{◌≡◌, ◌⊎◌, ℕ, ◌+◌, ◌-◌, ◌≤◌, Bool, true, List, [], ◌∷◌, ◌++◌, Some, slice_get}
+use Rattle.std.specs.Prelude.{◌≡◌, ◌⊎◌, ℕ, ◌+◌, ◌-◌, ◌<◌, ◌≤◌, Bool, true, List, [], ◌∷◌, ◌++◌, Some}
 use Rattle.std.specs.List.{AllByRecursion}
+use Rattle.fare_record.specs.Limits.{IsDay}
 use Rattle.fare_record.specs.Values.{RecordValue}
 use Rattle.fare_record.specs.declared.item.Item.{Item}
 use Rattle.fare_record.specs.declared.item.Item.TheVariants as item
@@ -12,8 +13,9 @@ use Rattle.fare_world.specs.Knowing.{knows_owner}
 use Rattle.fare_history.specs.Serving.{Service, IsService, first_taken}
 use Rattle.fare_history.specs.Gathering.{items_of, accepted_by, all_answers, storing_all, tried_by, HasFirst, IsGathering}
 use Rattle.fare_history.specs.Plainly.{IsCovered}
-use Rattle.fare_history.specs.Stores.{StoresValue, MayClose, MayRetire, Session, Collects, Serves_owner, Closes_day, Retires_lane, stores_after}
+use Rattle.fare_history.specs.Stores.{StoresValue, MayClose, MayRetire, MayForget, Session, Collects, Serves_owner, Closes_day, Retires_lane, Forgets, stores_after}
 use Rattle.fare_agreement.specs.Agreeing.{IsOf}
+use Rattle.fare_agreement.specs.Growing.{IsKept}
 
 -- SESSIONS
 -- the item's owner is registered
@@ -25,8 +27,9 @@ is_known sc (item.Stated v) = knows_owner sc v.owner
 abbrev pub IsSessionOf : SchemeValue → (ℕ → List RecordValue) → StoresValue → Session → Type 0
 IsSessionOf sc lists h (Collects g) = AllByRecursion (IsOf lists) (accepted_by g) × IsGathering sc h.outbox g
 IsSessionOf sc lists h (Serves_owner owner v) = (knows_owner sc owner ≡ true) × IsService sc owner h.outbox (h.ledgers owner) v
-IsSessionOf sc lists h (Closes_day owner device day) = (knows_owner sc owner ≡ true) × MayClose (h.ledgers owner) device day
+IsSessionOf sc lists h (Closes_day owner device day) = (knows_owner sc owner ≡ true) × MayClose (h.ledgers owner) device day × IsDay day
 IsSessionOf sc lists h (Retires_lane owner device) = (knows_owner sc owner ≡ true) × MayRetire (h.ledgers owner) device
+IsSessionOf sc lists h (Forgets owner device day) = (knows_owner sc owner ≡ true) × MayForget (h.ledgers owner) device day
 
 -- each is one from the stores that those before it left
 abbrev pub AreSessionsOf : SchemeValue → (ℕ → List RecordValue) → StoresValue → List Session → Type 0
@@ -34,12 +37,13 @@ AreSessionsOf sc lists h [] = Unit {0}
 AreSessionsOf sc lists h (q ∷ qs) = IsSessionOf sc lists h q × AreSessionsOf sc lists (stores_after h q) qs
 
 -- A STOP
--- the same of a session that may have been stopped: a close or a retire that failed may be one that the ledger would have refused
+-- the same of a session that may have been stopped: a close, a retire or a letting go that failed may be one that the ledger would have refused
 abbrev pub IsBegunOf : SchemeValue → (ℕ → List RecordValue) → StoresValue → Session → Type 0
 IsBegunOf sc lists h (Collects g) = IsSessionOf sc lists h (Collects g)
 IsBegunOf sc lists h (Serves_owner owner v) = IsSessionOf sc lists h (Serves_owner owner v)
-IsBegunOf sc lists h (Closes_day owner device day) = knows_owner sc owner ≡ true
+IsBegunOf sc lists h (Closes_day owner device day) = (knows_owner sc owner ≡ true) × IsDay day
 IsBegunOf sc lists h (Retires_lane owner device) = knows_owner sc owner ≡ true
+IsBegunOf sc lists h (Forgets owner device day) = knows_owner sc owner ≡ true
 
 -- the owner's session, or one that took also what this one has in its hand, and the first of what is behind it
 abbrev pub IsMaybeCommitted : Service → Service → Type 0
@@ -49,12 +53,13 @@ IsMaybeCommitted v w = (n : ℕ) × (w ≡ first_taken n v)
 abbrev pub pruned_too : Service → List ℕ → Service
 pruned_too v devices = record v { pruned = v.pruned ++ devices }
 
--- A stop is a store call that fails together with all calls after it. It leaves what the session had made of the stores until then, or also what that call commits: the store of the item in the hand, or of that and the first of those behind it, the take of the same of an owner, the prune of some lanes more, the close, or the retire. An owner whose take failed may go on to prune.
+-- A stop is a store call that fails together with all calls after it. It leaves what the session had made of the stores until then, or also what that call commits: the store of the item in the hand, or of that and the first of those behind it, the take of the same of an owner, the prune of some lanes more, the close, the retire, or the letting go. An owner whose take failed may go on to prune.
 abbrev pub IsLeftBy : StoresValue → Session → StoresValue → Type 0
 IsLeftBy h (Collects g) k = HasFirst (storing_all h.outbox g.entries) (tried_by g) k.outbox × (k.ledgers ≡ h.ledgers)
 IsLeftBy h (Serves_owner owner v) k = (w : Service) × IsMaybeCommitted v w × ((devices : List ℕ) × (k ≡ stores_after h (Serves_owner owner (pruned_too w devices))))
 IsLeftBy h (Closes_day owner device day) k = (k ≡ h) ⊎ (MayClose (h.ledgers owner) device day × (k ≡ stores_after h (Closes_day owner device day)))
 IsLeftBy h (Retires_lane owner device) k = (k ≡ h) ⊎ (MayRetire (h.ledgers owner) device × (k ≡ stores_after h (Retires_lane owner device)))
+IsLeftBy h (Forgets owner device day) k = (k ≡ h) ⊎ (MayForget (h.ledgers owner) device day × (k ≡ stores_after h (Forgets owner device day)))
 
 -- from stores h the sessions led to stores k: each may have been stopped, and the next went on from what that left
 abbrev pub AreLeft : SchemeValue → (ℕ → List RecordValue) → StoresValue → List Session → StoresValue → Type 0
@@ -76,10 +81,10 @@ abbrev pub IsStored : OutboxValue → Item → Type 0
 IsStored x (item.Tap r) = r.link ≤ x.upto r.device
 IsStored x (item.Stated v) = x.stated v.owner v.device v.day ≡ Some v.count
 
--- what was taken is in the ledger, a tap at the place of its lane number
+-- what was taken is in the ledger, a tap at the place of its lane number; or it was let go since
 abbrev pub IsTaken : LedgerValue → Item → Type 0
-IsTaken l (item.Tap r) = slice_get (l.taken r.device) (r.lane - 1) ≡ Some r
-IsTaken l (item.Stated v) = l.stated v.device v.day ≡ Some v.count
+IsTaken l (item.Tap r) = IsKept (l.taken r.device) (l.from r.device) (r.lane - 1) r
+IsTaken l (item.Stated v) = (l.stated v.device v.day ≡ Some v.count) ⊎ (v.day < l.from v.device)
 
 -- what the calls of a whole session were answered is in the stores
 abbrev pub AreKept : SchemeValue → StoresValue → Session → Type 0
@@ -87,10 +92,12 @@ AreKept sc h (Collects g) = AllByRecursion (IsCovered sc h.outbox) (all_answers 
 AreKept sc h (Serves_owner owner v) = AllByRecursion (IsTaken (h.ledgers owner)) v.taken
 AreKept sc h (Closes_day owner device day) = is_closed (h.ledgers owner) device day ≡ true
 AreKept sc h (Retires_lane owner device) = (h.ledgers owner).retired device ≡ true
+AreKept sc h (Forgets owner device day) = day ≤ (h.ledgers owner).from device
 
--- the same of a session that may have been stopped: of a close or a retire that failed nothing is said
+-- the same of a session that may have been stopped: of a close, a retire or a letting go that failed nothing is said
 abbrev pub AreAnswered : SchemeValue → StoresValue → Session → Type 0
 AreAnswered sc h (Collects g) = AreKept sc h (Collects g)
 AreAnswered sc h (Serves_owner owner v) = AreKept sc h (Serves_owner owner v)
 AreAnswered sc h (Closes_day owner device day) = Unit {0}
 AreAnswered sc h (Retires_lane owner device) = Unit {0}
+AreAnswered sc h (Forgets owner device day) = Unit {0}

@@ -25,7 +25,7 @@ empty_outbox = record { upto = λ device. 0; rows = λ owner device lane. None; 
 
 -- an owner's ledger, of any scheme that starts on day 20
 abbrev pub empty_ledger : ℕ → LedgerValue
-empty_ledger owner = record { owner = owner; start = 20; knows = λ device. device == 7; taken = λ device. []; stated = λ device day. None; closed = λ device. 0; retired = λ device. false }
+empty_ledger owner = record { owner = owner; start = 20; knows = λ device. device == 7; taken = λ device. []; stated = λ device day. None; closed = λ device. 0; retired = λ device. false; from = λ device. 0 }
 
 -- the outbox stored both taps, and no ledger has taken any
 abbrev pub both_stored : StoresValue

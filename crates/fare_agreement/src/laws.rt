@@ -1,7 +1,8 @@
 //! Laws of agreement. Each is a function that does nothing, whose contract is the law.
-ghost use Rattle.std.specs.Prelude.{◌≡◌, ℕ, ◌+◌, ◌≤◌, ◌==◌, List, ◌∷◌, ◌++◌, length, slice_get, true, false, IfSome, None, Some, Err};
+ghost use Rattle.std.specs.Prelude.{◌≡◌, ℕ, ◌+◌, ◌≤◌, ◌==◌, Option, List, ◌∷◌, ◌++◌, length, slice_get, true, false, IfSome, None, Some, Err};
 ghost use Rattle.std.specs.List.{AllByRecursion};
-ghost use Rattle.fare_record.specs.Values.{RecordValue};
+ghost use Rattle.fare_record.specs.Limits.{IsDay};
+ghost use Rattle.fare_record.specs.Values.{RecordValue, StatementValue};
 ghost use Rattle.fare_record.specs.declared.item.Item.{Item};
 ghost use Rattle.fare_record.specs.declared.item.Item.TheVariants.{Tap};
 ghost use Rattle.fare_scheme.specs.Values.{SchemeValue};
@@ -10,7 +11,7 @@ ghost use Rattle.fare_cap.specs.Fares.{week_start};
 ghost use Rattle.fare_cap.specs.Bills.{bill_of};
 ghost use Rattle.fare_owner.specs.declared.closing.CloseFault.TheVariants.{CountsShort};
 ghost use Rattle.fare_store.specs.Tables.{put};
-ghost use Rattle.fare_store.specs.OutboxWords.{OutboxValue, IsEmptyOutbox, pruned};
+ghost use Rattle.fare_store.specs.OutboxWords.{OutboxValue, IsEmptyOutbox, IsNextStatement, pruned};
 ghost use Rattle.fare_store.specs.LedgerWords.{LedgerValue, IsOfScheme, IsEmptyLedger, close_of, with_close, AreTapsBetween};
 ghost use Rattle.fare_side.specs.Weeks.{open_of};
 ghost use Rattle.fare_world.specs.Kept.{IsSystem};
@@ -23,15 +24,16 @@ ghost use Rattle.fare_history.specs.Plainly.{ServesPlainly, IsFinished, IsWholeS
 ghost use Rattle.fare_history.specs.Stores.{StoresValue, Session, Collects, Serves_owner, stores_after_all};
 ghost use Rattle.fare_refinement.specs.Sessions as sent;
 ghost use Rattle.fare_refinement.specs.Sessions.{ShowsStores, AreSessions};
-ghost use Rattle.fare_agreement.specs.Parts.{parts_of};
+ghost use Rattle.fare_agreement.specs.Parts.{parts_of, first_forgotten};
 ghost use Rattle.fare_agreement.specs.Totals.{had_by, held_by, stored_new, taken_new};
 ghost use Rattle.fare_agreement.specs.Agreeing.{AreNumberedLists, IsOf, had, Agrees, numbered_by_devices};
 ghost use Rattle.fare_agreement.specs.Growing.{StoresGrew};
 ghost use Rattle.fare_agreement.specs.Stopping.{is_known, with_link_alone, with_row_alone, IsSessionOf, AreSessionsOf, IsBegunOf, AreKept, IsLeftBy, AreAnswered, AreLeft};
 ghost use Rattle.fare_agreement.specs.Told.{told_sessions};
+ghost use Rattle.fare_agreement.specs.Untelling.{untold};
 
 /// Sessions whose items are those of the lists, one after the other, lead from stores that agree with the lists
-/// to stores that do. No number falls, and no tap, statement, closed day or retired lane goes. What was acknowledged,
+/// to stores that do. No number falls, and no tap, statement, closed day or retired lane goes, but what was let go. What was acknowledged,
 /// stored, taken, closed or retired in any of them is in the stores in the end.
 pub fn sessions_keep_agreement()
     ensures agrees { (sc : SchemeValue) (lists : ℕ → List RecordValue) (h : StoresValue) (qs : List Session) → AreNumberedLists sc lists → Agrees sc lists h → AreSessionsOf sc lists h qs → Agrees sc lists (stores_after_all h qs) }
@@ -106,9 +108,9 @@ pub fn sessions_add_what_was_new()
 
 /// Where the rows agree with the lists and an owner has closed a day of each device or retired its lane, the bill of
 /// the taps that its ledger holds of the week is the bill of the owner's parts of the lists, but that of a retired lane
-/// it has what was taken.
+/// it has what was taken; if nothing of the week was let go.
 pub fn bills_are_of_the_lists()
-    ensures { (sc : SchemeValue) (lists : ℕ → List RecordValue) (h : StoresValue) (owner day : ℕ) (rows : List RecordValue) → IsScheme sc → AreNumberedLists sc lists → Agrees sc lists h → knows_owner sc owner ≡ true → (h.ledgers owner).start ≡ sc.start → open_of (h.ledgers owner) day sc ≡ None → AreTapsBetween (h.ledgers owner) (week_start sc day) day rows
+    ensures { (sc : SchemeValue) (lists : ℕ → List RecordValue) (h : StoresValue) (owner day : ℕ) (rows : List RecordValue) → IsDay day → IsScheme sc → AreNumberedLists sc lists → Agrees sc lists h → knows_owner sc owner ≡ true → (h.ledgers owner).start ≡ sc.start → open_of (h.ledgers owner) day sc ≡ None → first_forgotten (h.ledgers owner).from (week_start sc day) sc.devices ≡ None → AreTapsBetween (h.ledgers owner) (week_start sc day) day rows
         → bill_of sc rows day ≡ bill_of sc (parts_of sc lists (h.ledgers owner) owner) day }
 {}
 
@@ -117,7 +119,14 @@ pub fn bills_are_of_the_lists()
 /// comes between them: its link without its row, or its row without its link.
 pub fn the_order_of_commits_matters()
     ensures pruned { (sc : SchemeValue) (lists : ℕ → List RecordValue) (h : StoresValue) (owner device : ℕ) (r : RecordValue) → knows_owner sc owner ≡ true → slice_get (had lists h.outbox owner device) (length ((h.ledgers owner).taken device)) ≡ Some r → Agrees sc lists (record h { outbox = pruned owner device (length ((h.ledgers owner).taken device) + 1) h.outbox }) → ⊥ }
-    ensures closed { (sc : SchemeValue) (lists : ℕ → List RecordValue) (h : StoresValue) (owner device day stated taken : ℕ) → knows_owner sc owner ≡ true → close_of (h.ledgers owner) device day ≡ Err (CountsShort stated taken) → Agrees sc lists (record h { ledgers = put h.ledgers owner (with_close device (h.ledgers owner)) }) → ⊥ }
+    ensures closed { (sc : SchemeValue) (lists : ℕ → List RecordValue) (h : StoresValue) (owner device day stated taken : ℕ) → knows_owner sc owner ≡ true → close_of (h.ledgers owner) device day ≡ Err (CountsShort stated taken) → (h.ledgers owner).from device ≤ day → Agrees sc lists (record h { ledgers = put h.ledgers owner (with_close device (h.ledgers owner)) }) → ⊥ }
     ensures link_alone { (sc : SchemeValue) (lists : ℕ → List RecordValue) (h : StoresValue) (r : RecordValue) → AreNumberedLists sc lists → Agrees sc lists h → knows_owner sc r.owner ≡ true → IsOf lists (Tap r) → r.link ≡ h.outbox.upto r.device + 1 → Agrees sc lists (record h { outbox = with_link_alone r h.outbox }) → ⊥ }
     ensures row_alone { (sc : SchemeValue) (lists : ℕ → List RecordValue) (h : StoresValue) (r : RecordValue) → AreNumberedLists sc lists → Agrees sc lists h → knows_owner sc r.owner ≡ true → IsOf lists (Tap r) → r.link ≡ h.outbox.upto r.device + 1 → Agrees sc lists (record h { outbox = with_row_alone r h.outbox }) → ⊥ }
+{}
+
+/// An owner's statements of a device's days before one may go from an outbox: stores that agreed agree, and what is
+/// asked of the lane's statements from that day on, or a later one, is answered as it was.
+pub fn statements_may_go()
+    ensures agrees { (sc : SchemeValue) (lists : ℕ → List RecordValue) (h : StoresValue) (owner device day : ℕ) → Agrees sc lists h → Agrees sc lists (record h { outbox = untold owner device day h.outbox }) }
+    ensures asked { (x : OutboxValue) (owner device day from : ℕ) (next : Option StatementValue) → day ≤ from → IsNextStatement x.stated owner device from next → IsNextStatement (untold owner device day x).stated owner device from next }
 {}

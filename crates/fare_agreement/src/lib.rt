@@ -9,7 +9,7 @@ mod worked;
 pub use laws::{
     a_stop_keeps_agreement, bills_are_of_the_lists, empty_stores_agree,
     no_item_of_the_lists_is_refused, no_tap_is_lost, sessions_add_what_was_new,
-    sessions_keep_agreement, stops_keep_agreement, stores_of_a_system_agree,
+    sessions_keep_agreement, statements_may_go, stops_keep_agreement, stores_of_a_system_agree,
     the_order_of_commits_matters, what_a_stop_leaves_says_plainly,
 };
 pub use worked::a_stop_between_take_and_prune;

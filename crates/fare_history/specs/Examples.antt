@@ -41,7 +41,7 @@ full_outbox = stored_statement (day_statement 1 3) (stored (tap_number 1 3) (sto
 
 -- the owner's ledger, before it has taken anything
 abbrev pub new_ledger : LedgerValue
-new_ledger = record { owner = 1; start = 19723; knows = λ device. device == 1; taken = λ device. []; stated = λ device day. None; closed = λ device. 0; retired = λ device. false }
+new_ledger = record { owner = 1; start = 19723; knows = λ device. device == 1; taken = λ device. []; stated = λ device day. None; closed = λ device. 0; retired = λ device. false; from = λ device. 0 }
 
 -- the ledger that has the three taps and the statement, and closed the day
 abbrev pub closed_ledger : LedgerValue

@@ -2,7 +2,7 @@
 use Rattle.std.specs.Prelude.{◌≡◌, ℕ, Ok, List, [], ◌∷◌}
 use Rattle.fare_store.specs.Tables.{put}
 use Rattle.fare_store.specs.OutboxWords.{OutboxValue}
-use Rattle.fare_store.specs.LedgerWords.{LedgerValue, with_close, close_of, with_retired, retire_of}
+use Rattle.fare_store.specs.LedgerWords.{LedgerValue, with_close, close_of, with_retired, retire_of, forget_judged, forgotten}
 use Rattle.fare_history.specs.Serving.{given_all, pruned_to_all, Service}
 use Rattle.fare_history.specs.Gathering.{Gathering, storing_all}
 
@@ -19,12 +19,17 @@ MayClose l device day = close_of l device day ≡ Ok tt
 abbrev pub MayRetire : LedgerValue → ℕ → Type 0
 MayRetire l device = retire_of l device ≡ Ok tt
 
--- what a hub does from session to session: a session of the stations and the writer, one of an owner, the close of an owner's day of a device, or the end of its lane of one
+-- the ledger refuses by no name to let go of what is of the device's days before this one
+abbrev pub MayForget : LedgerValue → ℕ → ℕ → Type 0
+MayForget l device day = forget_judged l device day ≡ Ok tt
+
+-- what a hub does from session to session: a session of the stations and the writer, one of an owner, the close of an owner's day of a device, the end of its lane of one, or the letting go of what is of the device's days before one
 pub data Session : Type 0 where
   Collects : Gathering → Session
   Serves_owner : ℕ → Service → Session
   Closes_day : ℕ → ℕ → ℕ → Session
   Retires_lane : ℕ → ℕ → Session
+  Forgets : ℕ → ℕ → ℕ → Session
 
 -- what a session makes of the stores
 abbrev pub stores_after : StoresValue → Session → StoresValue
@@ -35,6 +40,7 @@ stores_after h (Serves_owner owner v) = record {
 }
 stores_after h (Closes_day owner device day) = record h { ledgers = put h.ledgers owner (with_close device (h.ledgers owner)) }
 stores_after h (Retires_lane owner device) = record h { ledgers = put h.ledgers owner (with_retired device (h.ledgers owner)) }
+stores_after h (Forgets owner device day) = record h { ledgers = put h.ledgers owner (forgotten device day (h.ledgers owner)) }
 
 -- and what sessions do, one after the other
 abbrev pub stores_after_all : StoresValue → List Session → StoresValue

@@ -1,6 +1,7 @@
 -- Sessions of a hub, one after the other: what they make of its stores, and their events.
 use Rattle.std.specs.Prelude.{◌≡◌, ℕ, ◌≤◌, true, List, [], ◌∷◌, ◌++◌}
 use Rattle.std.specs.List.{AllByRecursion}
+use Rattle.fare_record.specs.Limits.{IsDay}
 use Rattle.fare_scheme.specs.Values.{SchemeValue}
 use Rattle.fare_store.specs.Tables.{put}
 use Rattle.fare_store.specs.LedgerWords.{with_close, with_retired}
@@ -47,7 +48,7 @@ stores_after_all h (q ∷ qs) = stores_after_all (stores_after h q) qs
 abbrev pub IsSession : SchemeValue → System → StoresValue → Session → Type 0
 IsSession sc s h (Collects g) = AllByRecursion (IsGiven s) (sent_by g) × IsGathering sc h.outbox (told_by g)
 IsSession sc s h (Serves_owner owner v) = (knows_owner sc owner ≡ true) × IsService sc owner h.outbox (h.ledgers owner) v
-IsSession sc s h (Closes_day owner device day) = (knows_owner sc owner ≡ true) × (knows_device sc device ≡ true) × MayClose (h.ledgers owner) device day
+IsSession sc s h (Closes_day owner device day) = (knows_owner sc owner ≡ true) × (knows_device sc device ≡ true) × MayClose (h.ledgers owner) device day × IsDay day
 IsSession sc s h (Retires_lane owner device) = (knows_owner sc owner ≡ true) × (knows_device sc device ≡ true) × MayRetire (h.ledgers owner) device
 
 -- each is one that began with the stores as those before it left them

@@ -10,6 +10,8 @@ pub mod Rows
 pub mod Lanes
 pub mod NextRows
 pub mod Pruning
+pub mod Held
+pub mod LettingGo
 pub mod LedgerDays
 pub mod LedgerMaking
 pub mod Noted

@@ -1,5 +1,6 @@
 -- What an owner's ledger holds, and what its calls make of it.
-use Rattle.std.specs.Prelude.{◌≡◌, ℕ, ◌+◌, ◌-◌, ◌<◌, ◌≤◌, true, false, nat_le, nat_lt, ◌==◌, ◌&&◌, Bool, List, [], ◌∷◌, ◌++◌, length, slice_get, Option, None, Some, Result, if◌then◌else◌, is_some}
+use Rattle.std.specs.Prelude.{◌≡◌, ℕ, ◌+◌, ◌-◌, ◌<◌, ◌≤◌, true, false, nat_le, nat_lt, ◌==◌, ◌&&◌, ◌||◌, not, max, Bool, List, [], ◌∷◌, ◌++◌, length, drop, replicate, slice_get, Option, None, Some, Result, Ok, Err, if◌then◌else◌, is_some}
+use Rattle.std.specs.List.{prefix_len}
 use Rattle.fare_record.specs.Values.{RecordValue, StatementValue}
 use Rattle.fare_record.specs.Lanes.{day_count}
 use Rattle.fare_scheme.specs.Values.{SchemeValue}
@@ -12,6 +13,8 @@ use Rattle.fare_owner.specs.declared.tap.TapFault.{TapFault}
 use Rattle.fare_owner.specs.declared.statement.StatementFault.{StatementFault}
 use Rattle.fare_owner.specs.declared.closing.CloseFault.{CloseFault}
 use Rattle.fare_owner.specs.declared.retiring.RetireFault.{RetireFault}
+use Rattle.fare_store.specs.declared.fault.ForgetFault.{ForgetFault}
+use Rattle.fare_store.specs.declared.fault.ForgetFault.TheVariants.{UnknownDevice, NotClosed}
 use Rattle.fare_store.specs.Tables.{put, put2}
 
 pub record LedgerValue : Type 0 where
@@ -20,7 +23,7 @@ pub record LedgerValue : Type 0 where
   pub start : ℕ
   -- whether a device is the scheme's
   pub knows : ℕ → Bool
-  -- the taps that it has taken from a device, in order
+  -- the taps that it has taken from a device, in order; in the place of each that was let go stands a blank
   pub taken : ℕ → List RecordValue
   -- the counts that were stated, by device and day
   pub stated : ℕ → ℕ → Option ℕ
@@ -28,6 +31,8 @@ pub record LedgerValue : Type 0 where
   pub closed : ℕ → ℕ
   -- whether its lane of a device is retired: nothing more of it is taken, stated or closed
   pub retired : ℕ → Bool
+  -- the first day of which a device's taps and statements are all held: only what is of earlier days was let go
+  pub from : ℕ → ℕ
 
 -- it was made with this scheme
 pub record IsOfScheme (sc : SchemeValue) (v : LedgerValue) : Type 0 where
@@ -39,6 +44,7 @@ pub record IsEmptyLedger (v : LedgerValue) : Type 0 where
   pub stated : (device day : ℕ) → v.stated device day ≡ None
   pub closed : (device : ℕ) → v.closed device ≡ 0
   pub retired : (device : ℕ) → v.retired device ≡ false
+  pub from : (device : ℕ) → v.from device ≡ 0
 
 abbrev pub is_mine : LedgerValue → ℕ → ℕ → Bool
 is_mine v owner device = (owner == v.owner) && v.knows device
@@ -77,6 +83,41 @@ retire_of v device = retire_judged (v.knows device) (v.retired device)
 
 abbrev pub with_retired : ℕ → LedgerValue → LedgerValue
 with_retired device v = record v { retired = put v.retired device true }
+
+-- FORGET
+-- what stands in the place of a tap that was let go: no tap, since each of those has a device, a link, an owner, a lane number and a day of the days that there are
+abbrev pub blank : RecordValue
+blank = record { device = 0; link = 0; owner = 0; lane = 0; tap = record { product = 0; token = 0; moment = 0; day = 100001; route = 0 } }
+
+-- these taps, of which the first so many went
+abbrev pub let_go : ℕ → List RecordValue → List RecordValue
+let_go n taps = replicate n blank ++ drop n taps
+
+-- a tap of a day before this one, or one that went
+abbrev pub is_past : ℕ → RecordValue → Bool
+is_past day r = nat_lt r.tap.day day || (r.lane == 0)
+
+-- how many of these taps stand before the first that isn't past
+abbrev pub front : ℕ → List RecordValue → ℕ
+front day taps = prefix_len (is_past day) taps
+
+-- how many of these taps went: they stand before those that are held
+abbrev pub gone_of : List RecordValue → ℕ
+gone_of taps = front 0 taps
+
+-- refused where the device isn't the scheme's, or a day before this one isn't closed and the lane isn't retired
+abbrev pub forget_judged : LedgerValue → ℕ → ℕ → Result Unit ForgetFault
+forget_judged v device day = if not (v.knows device) then Err UnknownDevice else (if not (v.retired device) && nat_lt (v.start + v.closed device) day then Err NotClosed else Ok tt)
+
+abbrev pub stated_from : ℕ → (ℕ → Option ℕ) → ℕ → Option ℕ
+stated_from day stated e = if nat_lt e day then None else stated e
+
+abbrev pub forgotten : ℕ → ℕ → LedgerValue → LedgerValue
+forgotten device day v = record v {
+  taken = put v.taken device (let_go (front day (v.taken device)) (v.taken device));
+  stated = put v.stated device (stated_from day (v.stated device));
+  from = put v.from device (max (v.from device) day);
+}
 
 -- TAPS BETWEEN TWO DAYS
 -- the one stands before the other, by day, moment, device and lane

@@ -5,7 +5,7 @@ ghost use Rattle.fare_store.specs.Failing.{failing};
 ghost use Rattle.fare_store.specs.PlainLedgerWords.{plain_ledger};
 
 use crate::failing::fails_now;
-use crate::{Fault, Ledger, PlainLedger, Refused};
+use crate::{Fault, ForgetFault, Ledger, PlainLedger, Refused};
 use fare_owner::{CloseFault, RetireFault, StatementFault, TapFault};
 use fare_record::{Day, DeviceId, OwnerId, Record, Statement};
 
@@ -125,6 +125,27 @@ impl Ledger for FailingLedger {
             return Err(Refused::Failed(Fault::Store));
         }
         self.ledger.retire(device)
+    }
+
+    fn forget(&mut self, device: DeviceId, day: Day) -> Result<(), Refused<ForgetFault>> {
+        if fails_now(&mut self.left) {
+            return Err(Refused::Failed(Fault::Store));
+        }
+        self.ledger.forget(device, day)
+    }
+
+    fn held_from(&mut self, device: DeviceId) -> Result<Day, Fault> {
+        if fails_now(&mut self.left) {
+            return Err(Fault::Store);
+        }
+        self.ledger.held_from(device)
+    }
+
+    fn gone(&mut self, device: DeviceId) -> Result<u64, Fault> {
+        if fails_now(&mut self.left) {
+            return Err(Fault::Store);
+        }
+        self.ledger.gone(device)
     }
 
     fn taps_between(&mut self, from: Day, to: Day) -> Result<Vec<Record>, Fault> {

@@ -71,6 +71,17 @@ pub enum StatedFault {
     OutboxFull,
 }
 
+/// Why a ledger doesn't let what is of the days before one go, in the order in which this is tested.
+#[derive(Clone, Copy, PartialEq, Eq, Debug, Error)]
+pub enum ForgetFault {
+    /// The device isn't the scheme's.
+    #[error("the device isn't the scheme's")]
+    UnknownDevice,
+    /// A day before it isn't closed, and the lane isn't retired.
+    #[error("an earlier day isn't closed")]
+    NotClosed,
+}
+
 /// Why there is no plain ledger, in the order in which this is tested.
 #[derive(Clone, Copy, PartialEq, Eq, Debug, Error)]
 pub enum LedgerFault {

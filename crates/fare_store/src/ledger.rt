@@ -6,9 +6,9 @@ ghost use Rattle.fare_store.specs.declared.fault.Refused.TheVariants.{Because};
 ghost use Rattle.fare_record.specs.Lanes.{day_count};
 ghost use Rattle.fare_store.specs.Standing.{Standing, IsSound, Reads, Writes};
 ghost use Rattle.fare_store.specs.Batches.{WritesFirst};
-ghost use Rattle.fare_store.specs.LedgerWords.{LedgerValue, IsEmptyLedger, closed_through, is_mine, take_judged, took, state_judged, with_statement, close_of, with_close, retire_of, with_retired, AreTapsBetween};
+ghost use Rattle.fare_store.specs.LedgerWords.{LedgerValue, IsEmptyLedger, closed_through, is_mine, take_judged, took, state_judged, with_statement, close_of, with_close, retire_of, with_retired, forget_judged, forgotten, gone_of, AreTapsBetween};
 
-use crate::{Fault, Refused};
+use crate::{Fault, ForgetFault, Refused};
 use fare_owner::{CloseFault, RetireFault, StatementFault, TapFault};
 use fare_record::{Day, DeviceId, OwnerId, Record, Statement};
 
@@ -86,6 +86,21 @@ pub trait Ledger {
         ensures not_mine { (result ≡ Err (Because retire_fault.NotMine)) ↔ IsFalse ((standing self.old).value.knows device) }
         ensures unasked { result ≡ Err (Because retire_fault.NotMine) → self.new ≡ self.old }
         ensures does { IsTrue ((standing self.old).value.knows device) → Writes (standing self.old) (standing self.new) (retire_of (standing self.old).value device) (with_retired device (standing self.old).value) result };
+
+    /// Lets go what is of a device's days before this one: its first taps, up to the first that is of this day or a
+    /// later one, and the statements. How many taps it has taken, and which lane number comes next, stays.
+    ///
+    /// Refused by the first case of `ForgetFault` that applies.
+    fn forget(&mut self, device: DeviceId, day: Day) -> Result<(), Refused<ForgetFault>>
+        ensures { Writes (standing self.old) (standing self.new) (forget_judged (standing self.old).value device day) (forgotten device day (standing self.old).value) result };
+
+    /// The first day of which a device's taps and statements are all held: nothing of it or of a later day was let go.
+    fn held_from(&mut self, device: DeviceId) -> Result<Day, Fault>
+        ensures { Reads (standing self.old) (standing self.new) (λ day. day ≡ (standing self.old).value.from device) result };
+
+    /// How many of a device's taps were let go.
+    fn gone(&mut self, device: DeviceId) -> Result<u64, Fault>
+        ensures { Reads (standing self.old) (standing self.new) (λ n. n ≡ gone_of ((standing self.old).value.taken device)) result };
 
     /// The taps of the days from one to another, by day, moment, device and lane number.
     fn taps_between(&mut self, from: Day, to: Day) -> Result<Vec<Record>, Fault>

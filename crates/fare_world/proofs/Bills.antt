@@ -76,5 +76,5 @@ module _ (sc : SchemeValue) (s : System) (is : IsSystem sc s) (o : ℕ) where
 
     pub week_in_order : IsScheme sc → sc.start ≤ from → first_open_of sc s o to ≡ None → in_order rows ≡ in_order (flat_map (λ (d : ℕ × Placement). of_days from to (counted_for s o d.0)) sc.devices)
     week_in_order valid first none =
-        week.week_in_order sc (counted_for s o) (λ d k r at. placed d k r (in_numbered d k r at)) (λ d unknown. none_counts d (ap (part o) ((is.devices d).known unknown))) v (λ d k r at. counts d k r (here d k r at)) from to rows between sc.start (λ e. (s.lanes o e).closed) (λ e. (s.lanes o e).retired) valid
-        (λ d done. ap (of_days from to) (taken d) ∙ counts_whole d from to done first) none
+        week.week_in_order sc (counted_for s o) (λ d k r at. placed d k r (in_numbered d k r at)) (λ d unknown. none_counts d (ap (part o) ((is.devices d).known unknown))) v from to rows between (λ d k r at _. counts d k r (here d k r at)) sc.start (λ e. (s.lanes o e).closed) (λ e. (s.lanes o e).retired) valid
+        (λ d _ done. ap (of_days from to) (taken d.0) ∙ counts_whole d.0 from to done first) none

@@ -137,7 +137,7 @@ module _ (sc : SchemeValue) (taps : ℕ → List RecordValue) (placed : (d k : �
           absurd (cc)
 
   -- A LEDGER, which holds some of them
-  module _ (v : ledger.LedgerValue) (taken_at : (d k : ℕ) (r : RecordValue) → slice_get (v.taken d) k ≡ Some r → slice_get (taps d) k ≡ Some r) (from to : ℕ) (rows : List RecordValue) (between : ledger.AreTapsBetween v from to rows) where
+  module _ (v : ledger.LedgerValue) (from to : ℕ) (rows : List RecordValue) (between : ledger.AreTapsBetween v from to rows) (taken_at : (d k : ℕ) (r : RecordValue) → slice_get (v.taken d) k ≡ Some r → r.tap.day ≤ to → slice_get (taps d) k ≡ Some r) where
     rows_apart : AreApart rows
     rows_apart = apart_from rows far
       where
@@ -148,17 +148,19 @@ module _ (sc : SchemeValue) (taps : ℕ → List RecordValue) (placed : (d k : �
             by false e = e
             by true e =
                 let tell = ties_tell a b e in
-                let one = (between.taken j a first).0 in
-                let other = (between.taken k b second).0 in
-                let at_a = taken_at a.device one.0 a one.1 in
-                let at_b = taken_at b.device other.0 b other.1 in
+                let of_a = between.taken j a first in
+                let of_b = between.taken k b second in
+                let one = of_a.0 in
+                let other = of_b.0 in
+                let at_a = taken_at a.device one.0 a one.1 of_a.2 in
+                let at_b = taken_at b.device other.0 b other.1 of_b.2 in
                 let place : one.0 ≡ other.0 = omega (arith, (placed a.device one.0 a at_a).0, (placed b.device other.0 b at_b).0, tell.1) in
                 let same : Some a ≡ Some b = sym at_a ∙ (λ i. slice_get (taps (tell.0 i)) (place i)) ∙ at_b in
                 let equal : a ≡ b = cc in
                 let never : true ≡ false = sym (between.sorted j k a b lt first second) ∙ ap (λ x. ledger.is_before a x) (sym equal) ∙ before_itself a in
                 absurd (cc)
 
-    pub week_in_order : (start : ℕ) (closed : ℕ → ℕ) (retired : ℕ → Bool) → IsScheme sc → ((d : ℕ) → (is_closed start (closed d) to || retired d) ≡ true → of_days from to (v.taken d) ≡ of_days from to (taps d)) → first_open start closed retired to sc.devices ≡ None → in_order rows ≡ in_order (flat_map (λ (d : ℕ × Placement). of_days from to (taps d.0)) sc.devices)
+    pub week_in_order : (start : ℕ) (closed : ℕ → ℕ) (retired : ℕ → Bool) → IsScheme sc → ((d : ℕ × Placement) → In d sc.devices → (is_closed start (closed d.0) to || retired d.0) ≡ true → of_days from to (v.taken d.0) ≡ of_days from to (taps d.0)) → first_open start closed retired to sc.devices ≡ None → in_order rows ≡ in_order (flat_map (λ (d : ℕ × Placement). of_days from to (taps d.0)) sc.devices)
     week_in_order start closed retired valid whole none = one_order rows _ rows_apart
         (flat_apart (λ d. of_days from to (taps d)) (λ d. apart_filter among (taps d) (lane_apart d)) of_one sc.devices valid.devices.distinct) forth back
       where
@@ -174,7 +176,7 @@ module _ (sc : SchemeValue) (taps : ℕ → List RecordValue) (placed : (d k : �
         forth r i =
             let at = in_at rows r i in
             let tells = between.taken at.0 r at.1 in
-            let numbered = taken_at r.device tells.0.0 r tells.0.1 in
+            let numbered = taken_at r.device tells.0.0 r tells.0.1 tells.2 in
             let entry = registered r.device tells.0.0 r numbered in
             let of_week : among r ≡ true = and_from (nat_le from r.tap.day) (nat_le r.tap.day to) (within tells.1) (within tells.2) in
             in_flat (λ (d : ℕ × Placement). of_days from to (taps d.0)) sc.devices entry.0 r entry.1
@@ -188,7 +190,7 @@ module _ (sc : SchemeValue) (taps : ℕ → List RecordValue) (placed : (d k : �
             let there = of_flat (λ (d : ℕ × Placement). of_days from to (taps d.0)) sc.devices r i in
             let d = there.0.0 in
             let done : (is_closed start (closed d) to || retired d) ≡ true = settled_all start closed retired to sc.devices none there.0 there.1 in
-            let both = of_filter among (v.taken d) r (subst (In r) (sym (whole d done)) there.2) in
+            let both = of_filter among (v.taken d) r (subst (In r) (sym (whole there.0 there.1 done)) there.2) in
             let at = in_at (v.taken d) r both.0 in
             let days = and_parts (nat_le from r.tap.day) (nat_le r.tap.day to) both.1 in
             let found = between.all d at.0 r at.1 (within days.0) (within days.1) in

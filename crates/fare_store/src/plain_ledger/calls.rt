@@ -3,7 +3,7 @@ ghost use Rattle.fare_store.specs.Standing.{plain};
 ghost use Rattle.fare_store.specs.PlainLedgerWords.{plain_ledger};
 
 use super::PlainLedger;
-use crate::{Fault, Ledger, Refused};
+use crate::{Fault, ForgetFault, Ledger, Refused};
 use fare_owner::{
     CloseFault, RetireFault, StatementFault, TapFault, judge_close, judge_retire, judge_statement,
     judge_tap,
@@ -99,6 +99,27 @@ impl Ledger for PlainLedger {
                 Err(_) => Err(Refused::Failed(Fault::Memory)),
             },
         }
+    }
+
+    fn forget(&mut self, device: DeviceId, day: Day) -> Result<(), Refused<ForgetFault>> {
+        if !self.knows(device) {
+            return Err(Refused::Because(ForgetFault::UnknownDevice));
+        }
+        if !self.is_over_before(device, day) {
+            return Err(Refused::Because(ForgetFault::NotClosed));
+        }
+        match self.let_go(device, day) {
+            Ok(()) => Ok(()),
+            Err(_) => Err(Refused::Failed(Fault::Memory)),
+        }
+    }
+
+    fn held_from(&mut self, device: DeviceId) -> Result<Day, Fault> {
+        Ok(self.gone_of(device).from)
+    }
+
+    fn gone(&mut self, device: DeviceId) -> Result<u64, Fault> {
+        Ok(self.gone_count(device))
     }
 
     fn taps_between(&mut self, from: Day, to: Day) -> Result<Vec<Record>, Fault> {

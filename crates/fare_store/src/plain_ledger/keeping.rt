@@ -1,11 +1,13 @@
-ghost use Rattle.std.specs.Prelude.{◌≡◌, ◌↔◌, ℕ, ◌+◌, ◌==◌, OnOk, OnErr, IsSome, IfOk, IfErr, IsTrue, length, unwrap_or};
+ghost use Rattle.std.specs.Prelude.{◌≡◌, ◌↔◌, ℕ, ◌+◌, ◌≤◌, ◌==◌, nat_eq, OnOk, OnErr, IsSome, IfOk, IfErr, IsTrue, length, unwrap_or};
+ghost use Rattle.std.specs.HashMap.{get};
 ghost use Rattle.fare_record.specs.Lanes.{day_count};
 ghost use Rattle.fare_scheme.specs.Words.{position_of_owner};
-ghost use Rattle.fare_store.specs.LedgerWords.{IsOfScheme, IsEmptyLedger, is_mine, is_closed, closed_through, with_statement, with_close, with_retired};
+ghost use Rattle.fare_store.specs.LedgerWords.{IsOfScheme, IsEmptyLedger, gone_of, is_mine, is_closed, closed_through, with_statement, with_close, with_retired};
 ghost use Rattle.fare_store.specs.Making.{new_refusal};
+ghost use Rattle.fare_store.specs.TapPlaces.{gone_in, from_in};
 ghost use Rattle.fare_store.specs.PlainLedgerWords.{plain_ledger};
 
-use super::PlainLedger;
+use super::{Gone, PlainLedger};
 use crate::LedgerFault;
 use fare_record::{Day, DeviceId, OwnerId, Record, Statement};
 use fare_scheme::Scheme;
@@ -39,9 +41,10 @@ impl PlainLedger {
             alloc,
             owner,
             start: scheme.start(),
+            begun: None,
             taken,
+            gone: HashMap::new(alloc),
             days: HashMap::new(alloc),
-            counts: HashMap::new(alloc),
             stated: HashMap::new(alloc),
             closed: HashMap::new(alloc),
             retired: HashSet::new(alloc),
@@ -52,7 +55,12 @@ impl PlainLedger {
     pub(super) fn holds_nothing(&self) -> bool
         ensures { IsTrue result ↔ IsEmptyLedger (plain_ledger self.now) }
     {
-        self.counts.is_empty() && self.stated.is_empty() && self.retired.is_empty()
+        let unbegun = self.begun.is_none();
+        let held = self.gone.is_empty();
+        let unstated = self.stated.is_empty();
+        let unclosed = self.closed.is_empty();
+        let unretired = self.retired.is_empty();
+        are_nothing(unbegun, held, unstated, unclosed, unretired)
     }
 
     // Whether something of an owner and a device is this owner's, and of a device of the scheme.
@@ -76,13 +84,41 @@ impl PlainLedger {
         !self.retired.is_empty() && self.retired.contains(&device)
     }
 
+    // What was let go of a device.
+    pub(super) fn gone_of(&self, device: DeviceId) -> Gone
+        ensures count { result.count ≡ gone_in (get nat_eq self.now.gone device) }
+        ensures from { result.from ≡ from_in (get nat_eq self.now.gone device) }
+        ensures few { result.count ≤ 1099511627775 }
+    {
+        match self.gone.get(&device) {
+            Some(gone) => *gone,
+            None => {
+                let Some(from) = Day::new(0) else {
+                    unreachable!()
+                };
+                Gone { count: 0, from }
+            }
+        }
+    }
+
+    // How many taps of a device were let go.
+    pub(super) fn gone_count(&self, device: DeviceId) -> u64
+        ensures { result ≡ gone_of ((plain_ledger self.now).taken device) }
+    {
+        self.gone_of(device).count
+    }
+
     // How many taps of a device it has taken.
     pub(super) fn held(&self, device: DeviceId) -> u64
         ensures { result ≡ length ((plain_ledger self.now).taken device) }
     {
-        match self.taken.get(&device) {
-            Some(rows) => rows.len() as u64,
-            None => 0,
+        let gone = self.gone_of(device).count;
+        let Some(rows) = self.taken.get(&device) else {
+            return gone;
+        };
+        match rows.last() {
+            Some(row) => row.lane(),
+            None => gone,
         }
     }
 
@@ -91,18 +127,16 @@ impl PlainLedger {
         ensures mine { result.0 ≡ is_mine (plain_ledger self.now) owner device }
         ensures held { result.1 ≡ length ((plain_ledger self.now).taken device) }
     {
-        match self.taken.get(&device) {
-            Some(rows) => (owner == self.owner, rows.len() as u64),
-            None => (false, 0),
-        }
+        (self.is_mine(owner, device), self.held(device))
     }
 
     // How many of these are of a day.
     pub(super) fn held_of(&self, device: DeviceId, day: Day) -> u64
         ensures { result ≡ day_count ((plain_ledger self.now).taken device) day }
     {
-        match self.counts.get(&(device, day)) {
-            Some(count) => *count,
+        let number = day.get();
+        match self.taken.get(&device) {
+            Some(rows) => count_of(rows, number),
             None => 0,
         }
     }
@@ -151,10 +185,9 @@ impl PlainLedger {
         Ok(())
     }
 
-    // Closes a device's first day that isn't closed, which is stated. At an error nothing changes.
+    // Closes a device's first day that isn't closed. At an error nothing changes.
     pub(super) fn write_close(&mut self, device: DeviceId, day: Day) -> Result<(), AllocError>
         requires next { day ≡ (plain_ledger self.old).start + (plain_ledger self.old).closed device }
-        requires stated { IsSome ((plain_ledger self.old).stated device day) }
         ensures ok { OnOk result (plain_ledger self.new ≡ with_close device (plain_ledger self.old)) }
         ensures err { OnErr result (plain_ledger self.new ≡ plain_ledger self.old) }
     {
@@ -170,4 +203,24 @@ impl PlainLedger {
         self.retired.insert(device)?;
         Ok(())
     }
+}
+
+// Whether all five are nothing.
+fn are_nothing(unbegun: bool, held: bool, unstated: bool, unclosed: bool, unretired: bool) -> bool
+    ensures { IsTrue result ↔ (IsTrue unbegun × IsTrue held × IsTrue unstated × IsTrue unclosed × IsTrue unretired) }
+{
+    unbegun && held && unstated && unclosed && unretired
+}
+
+// How many of these taps are of a day.
+fn count_of(rows: &[Record], day: u32) -> u64
+    ensures { result ≡ day_count rows.now day }
+{
+    let mut count: u64 = 0;
+    for row in rows {
+        if row.tap().day().get() == day {
+            count += 1;
+        }
+    }
+    count
 }

@@ -4,7 +4,7 @@ ghost use Rattle.std.specs.Vec.{vec_len, vec_capacity};
 ghost use Rattle.fare_store.specs.Tables.{put};
 ghost use Rattle.fare_store.specs.Batches.{DoesFirst};
 ghost use Rattle.fare_store.specs.LedgerWords.{take_judged, took, AreTapsBetween};
-ghost use Rattle.fare_store.specs.TapPlaces.{items_of, marks_of, rows_at};
+ghost use Rattle.fare_store.specs.TapPlaces.{items_of, marks_of, gone_in, at_place, rows_at};
 ghost use Rattle.fare_store.specs.PlainLedgerWords.{plain_ledger};
 
 use super::{Mark, PlainLedger};
@@ -21,16 +21,12 @@ impl PlainLedger {
         ensures ok { OnOk result (plain_ledger self.new ≡ took row.now (plain_ledger self.old)) }
         ensures err { OnErr result (plain_ledger self.new ≡ plain_ledger self.old) }
     {
-        let (device, tap) = (row.device(), row.tap());
-        let count = self.held_of(device, tap.day());
+        let device = row.device();
         make_room(&mut self.taken, device)?;
-        self.counts.reserve(1)?;
-        let mark = (device, (row.lane() - 1) as usize);
-        note(&mut self.days, self.alloc, tap.day(), mark)?;
+        let mark = (device, row.lane() - 1);
+        note(&mut self.days, self.alloc, row.tap().day(), mark)?;
         append(&mut self.taken, row);
-        let Ok(_) = self.counts.insert((device, tap.day()), count + 1) else {
-            unreachable!()
-        };
+        self.begun = Some(device);
         Ok(())
     }
 
@@ -86,7 +82,7 @@ impl PlainLedger {
 
     // Puts the taps of a day behind these, in the order of taking.
     fn add_taps_of(&self, day: Day, taps: &mut Vec<Record>) -> Result<(), AllocError>
-        ensures { OnOk result (taps.new.items ≡ taps.old.items ++ rows_at (λ device. items_of (get nat_eq self.now.taken device)) (marks_of (get nat_eq self.now.days day))) }
+        ensures { OnOk result (taps.new.items ≡ taps.old.items ++ rows_at (at_place (λ device. gone_in (get nat_eq self.now.gone device)) (λ device. items_of (get nat_eq self.now.taken device))) (marks_of (get nat_eq self.now.days day))) }
     {
         let Some(marks) = self.days.get(&day) else {
             return Ok(());
@@ -99,11 +95,18 @@ impl PlainLedger {
         Ok(())
     }
 
-    // The tap of a mark.
+    // The tap of a mark, if it is held.
     fn row_at(&self, mark: Mark) -> Option<Record>
-        ensures { result ≡ slice_get (items_of (get nat_eq self.now.taken mark.0)) mark.1 }
+        ensures { result ≡ at_place (λ device. gone_in (get nat_eq self.now.gone device)) (λ device. items_of (get nat_eq self.now.taken device)) mark.0 mark.1 }
     {
-        self.taken.get(&mark.0)?.get(mark.1).copied()
+        let gone = self.gone_of(mark.0).count;
+        if mark.1 < gone {
+            return None;
+        }
+        self.taken
+            .get(&mark.0)?
+            .get((mark.1 - gone) as usize)
+            .copied()
     }
 }
 

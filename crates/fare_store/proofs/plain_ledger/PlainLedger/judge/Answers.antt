@@ -1,4 +1,4 @@
-use Rattle.std.proofs.Common.{◌≡◌, length, sym, ap, ◌∙◌}
+use Rattle.std.proofs.Common.{◌≡◌, length, ap, ◌∙◌}
 use Rattle.fare_record.specs.Values.{TapValue}
 use Rattle.fare_owner.specs.TapJudged.{tap_judged}
 use Rattle.fare_store.specs.LedgerWords.{is_mine, is_closed}

@@ -1,0 +1,12 @@
+use Rattle.std.proofs.Common.{◌≡◌, None, Ok, sym, ◌∙◌, inr}
+use Rattle.fare_store.specs.LedgerWords.{forget_judged}
+use Rattle.fare_store.specs.PlainLedgerWords.{plain_ledger}
+use Rattle.fare_store.proofs.PlainLemmas.{plain_call}
+use Rattle.fare_store.proofs.LettingGo.{may_forget}
+use Rattle.fare_store.proofs.plain_ledger.calls.PlainLedgerLedger.forget.Goals as goal
+
+pub returns-in-Ok : goal.returns-in-Ok
+returns-in-Ok c =
+    let v = plain_ledger c.args.self.now in
+    let judged : forget_judged v c.args.device c.args.day ≡ Ok tt = may_forget v c.args.device c.args.day (sym c.knows.ensures ∙ c.if-not-knows.false) (sym c.is_over_before.ensures ∙ c.if-not-is_over_before.false) in
+    plain_call (plain_ledger c.args.self.now) (plain_ledger c.let_go.new.self) None _ _ (λ e. absurd (cc)) (judged, c.in-Ok.ensures.ok) (inr (judged, c.in-Ok.ensures.ok))
