@@ -57,12 +57,14 @@ refusal_name refusal.OutOfOrder = codes "OutOfOrder"
 refusal_name (refusal.CountsShort stated taken) = codes "CountsShort"
 refusal_name (refusal.CountsOver stated taken) = codes "CountsOver"
 refusal_name refusal.BeforeStart = codes "BeforeStart"
+refusal_name (refusal.Forgotten device) = codes "Forgotten"
 refusal_name (refusal.NotClosed device) = codes "NotClosed"
 
 -- the numbers that are shown with it
 abbrev pub refusal_numbers : Refusal → List (List ℕ)
 refusal_numbers (refusal.CountsShort stated taken) = decimal stated ∷ decimal taken ∷ []
 refusal_numbers (refusal.CountsOver stated taken) = decimal stated ∷ decimal taken ∷ []
+refusal_numbers (refusal.Forgotten device) = decimal device ∷ []
 refusal_numbers (refusal.NotClosed device) = decimal device ∷ []
 refusal_numbers _ = []
 

@@ -58,6 +58,7 @@ fn name_of(refusal: Refusal) -> &'static [u8]
         Refusal::CountsShort { .. } => b"CountsShort",
         Refusal::CountsOver { .. } => b"CountsOver",
         Refusal::BeforeStart => b"BeforeStart",
+        Refusal::Forgotten { .. } => b"Forgotten",
         Refusal::NotClosed { .. } => b"NotClosed",
     }
 }
@@ -306,7 +307,9 @@ fn append_refusal(refusal: &Refusal, out: &mut Vec<u8>) -> Result<(), AllocError
         Refusal::CountsShort { stated, taken } | Refusal::CountsOver { stated, taken } => {
             append_counts(name, *stated, *taken, out)
         }
-        Refusal::NotClosed { device } => append_open(name, *device, out),
+        Refusal::Forgotten { device } | Refusal::NotClosed { device } => {
+            append_open(name, *device, out)
+        }
         _ => append_line(b"refused", &[name], out),
     }
 }

@@ -11,7 +11,7 @@ use fare_part_tests::statement;
 use fare_record::{Day, DeviceId, OwnerId, StationId};
 use fare_scheme::Scheme;
 use fare_session::SessionFault;
-use fare_sessions::{ClosingFault, Hub, Session};
+use fare_sessions::{BillingFault, ClosingFault, Hub, Session};
 use fare_settle::Settlement;
 use fare_store::{
     FailingLedger, FailingOutbox, Fault, Ledger, Outbox, PlainLedger, PlainOutbox, Refused,
@@ -83,7 +83,7 @@ enum Question {
 /// Why it is not answered.
 #[derive(Clone, Copy, PartialEq, Eq, Debug)]
 enum Why {
-    Bill(Refused<BillFault>),
+    Bill(Refused<BillingFault>),
     Closing(Refused<ClosingFault>),
 }
 
@@ -149,7 +149,7 @@ fn refusal<O: Outbox, L: Ledger>(
 
 fn not_closed(device: u64) -> Option<Why> {
     let device = DeviceId::new(device)?;
-    Some(Why::Bill(Refused::Because(BillFault::NotClosed { device })))
+    billed(BillFault::NotClosed { device })
 }
 
 // The day of these frames, and of the statement of two taps behind them.
@@ -420,7 +420,7 @@ fn refused(alloc: Global, ledger: u64, question: Question) -> Option<Why> {
 }
 
 fn billed(why: BillFault) -> Option<Why> {
-    Some(Why::Bill(Refused::Because(why)))
+    Some(Why::Bill(Refused::Because(BillingFault::Unbilled(why))))
 }
 
 fn closed(why: ClosingFault) -> Option<Why> {

@@ -12,6 +12,8 @@ mod given;
 mod hub_sessions;
 mod hubs;
 #[cfg(test)]
+mod letting_go;
+#[cfg(test)]
 mod retired_lanes;
 mod scripts;
 #[cfg(test)]

@@ -51,6 +51,7 @@ answered_still sc h k grew (history.Collects g) is = kept_still sc h k grew (his
 answered_still sc h k grew (history.Serves_owner o v) is = kept_still sc h k grew (history.Serves_owner o v) is
 answered_still sc h k grew (history.Closes_day o d day) is = tt
 answered_still sc h k grew (history.Retires_lane o d) is = tt
+answered_still sc h k grew (history.Forgets o d day) is = tt
 
 module _ {S : Type 0} (sc : SchemeValue) (talks : S → Talk) (lists : ℕ → List RecordValue) (numbered : AreNumberedLists sc lists) where
   -- each frame that a source gave is of the lists

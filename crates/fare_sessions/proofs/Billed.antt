@@ -30,6 +30,8 @@ use Rattle.fare_side.specs.declared.bill_fault.BillFault.TheVariants.{UnknownOwn
 use Rattle.fare_side.specs.OpenDays.{first_open, short_devices, where_open}
 use Rattle.fare_side.specs.Weeks.{open_of, IsWeekOf}
 use Rattle.fare_side.specs.declared.week_taps.WeekTaps.{WeekTaps}
+use Rattle.fare_sessions.specs.declared.billing.BillingFault.{BillingFault}
+use Rattle.fare_sessions.specs.declared.billing.BillingFault.TheVariants.{Unbilled, Forgotten}
 use Rattle.fare_world.specs.Knowing.{knows_owner}
 use Rattle.fare_side.specs.Answering.{Answered}
 use Rattle.fare_history.specs.Holding.{MayHold}
@@ -37,11 +39,11 @@ use Rattle.fare_history.specs.Stores.{StoresValue}
 use Rattle.fare_store.proofs.Entries.{is_one}
 use Rattle.fare_session.specs.Stores.{Follows}
 use Rattle.fare_agreement.specs.Agreeing.{AreNumberedLists, had, Agrees}
-use Rattle.fare_agreement.specs.Parts.{part_counted, parts_of}
+use Rattle.fare_agreement.specs.Parts.{part_counted, parts_of, first_forgotten}
 use Rattle.fare_agreement.proofs.Prefixes.{prefix_trans, part_front}
 use Rattle.fare_agreement.proofs.WeekTaken.{week_in_order, bill_is}
 use Rattle.fare_sessions.specs.declared.hub.Hub.{Hub}
-use Rattle.fare_sessions.specs.Billing.{refusal_of, open_in, HasBasis, OnlyReads, IsBillRefusal}
+use Rattle.fare_sessions.specs.Billing.{refusal_of, open_in, TellsWeek, HasBasis, OnlyReads, IsBillRefusal}
 use Rattle.fare_sessions.specs.Stores.{ReplacesLedger, AreClean, AreSound, StoresFollow, MayStandAs}
 use Rattle.fare_sessions.proofs.Follow.{replaced_follow, replaced_sound, IsOwn}
 use Rattle.fare_sessions.proofs.Steps.{stood_before, own_stands}
@@ -83,16 +85,16 @@ module _ (sc : SchemeValue) (lists : ℕ → List RecordValue) (all : AreNumbere
   none_open = ap (λ start. first_open start (h.ledgers owner).closed (h.ledgers owner).retired day sc.devices) b.start ∙ b.closed
 
   pub bill_of_lists : bill_of sc rows day ≡ bill_of sc (parts_of sc lists (h.ledgers owner) owner) day
-  bill_of_lists = bill_is sc lists all owner (h.ledgers owner)
-      (λ d. prefix_trans ((h.ledgers owner).taken d) (had lists h.outbox owner d) (part owner (lists d)) (is.lanes owner d known).taken_is (part_front owner (h.outbox.upto d) (lists d)))
-      (λ d. (is.lanes owner d known).stated_are) (λ d. (is.lanes owner d known).closed_are) day rows b.valid b.start none_open b.taps
+  bill_of_lists = bill_is sc lists all owner (h.ledgers owner) (λ d. (is.lanes owner d known).all)
+      (λ d. prefix_trans (is.lanes owner d known).all (had lists h.outbox owner d) (part owner (lists d)) (is.lanes owner d known).all_are (part_front owner (h.outbox.upto d) (lists d)))
+      (λ d. (is.lanes owner d known).taken_are) (λ d. (is.lanes owner d known).closed_are) day rows b.dated b.valid b.start none_open b.held b.taps
 
   pub settlement_of_lists : settlement_of sc rows day ≡ settlement_of sc (parts_of sc lists (h.ledgers owner) owner) day
   settlement_of_lists =
-      ap (λ ordered. map_shares ordered) (week_in_order sc lists all owner (h.ledgers owner)
-      (λ d. prefix_trans ((h.ledgers owner).taken d) (had lists h.outbox owner d) (part owner (lists d)) (is.lanes owner d known).taken_is (part_front owner (h.outbox.upto d) (lists d)))
-      (λ d. (is.lanes owner d known).stated_are) (λ d. (is.lanes owner d known).closed_are) (week_start sc day) day rows b.taps b.valid
-      (subst (λ n. n ≤ week_start sc day) (sym b.start) (not_before (monday_on_or_before day) sc.start)) none_open)
+      ap (λ ordered. map_shares ordered) (week_in_order sc lists all owner (h.ledgers owner) (λ d. (is.lanes owner d known).all)
+      (λ d. prefix_trans (is.lanes owner d known).all (had lists h.outbox owner d) (part owner (lists d)) (is.lanes owner d known).all_are (part_front owner (h.outbox.upto d) (lists d)))
+      (λ d. (is.lanes owner d known).taken_are) (λ d. (is.lanes owner d known).closed_are) (week_start sc day) day rows b.dated b.taps b.valid
+      (subst (λ n. n ≤ week_start sc day) (sym b.start) (not_before (monday_on_or_before day) sc.start)) none_open b.held)
       ∙ (ap (λ (records : List RecordValue). settlement_of sc records day) (sym (filter_flat among (λ (d : ℕ × Placement). part_counted lists (h.ledgers owner) owner d.0) sc.devices))
       ∙ other_days_settle_nothing sc day among (parts_of sc lists (h.ledgers owner) owner) (record { kept = λ r first last. and_from (nat_le (week_start sc day) r.tap.day) (nat_le r.tap.day day) (within first) (within last) }))
     where
@@ -107,7 +109,7 @@ module _ (sc : SchemeValue) (lists : ℕ → List RecordValue) (all : AreNumbere
 
 module _ {O L : Type 0} (outbox : O → Standing OutboxValue) (ledger : L → Standing LedgerValue) where
   -- ONE LEDGER ASKED
-  module _ {V : Type 0} (old new : Hub O L) (owner day : ℕ) (r : ReplacesLedger old new owner) (same_outbox : new.outbox ≡ old.outbox) (sound_ledger : IsSound (ledger r.own_old)) (late : old.scheme.start ≤ day) (tells : LedgerValue → Result V BillFault → Type 0) (result : Result V (Refused BillFault))
+  module _ {V W : Type 0} (old new : Hub O L) (owner day : ℕ) (r : ReplacesLedger old new owner) (same_outbox : new.outbox ≡ old.outbox) (sound_ledger : IsSound (ledger r.own_old)) (late : old.scheme.start ≤ day) (tells : LedgerValue → Result V W → Type 0) (result : Result V (Refused W))
       (call : Calls (ledger r.own_old) (ledger r.own_new) (fault_in result) (((ledger r.own_new).value ≡ (ledger r.own_old).value) × ((ledger r.own_old).value.start ≤ day → Answered (tells (ledger r.own_old).value) result)) (λ v. ⊥)) where
     follows : StoresFollow outbox ledger old new
     follows = replaced_follow outbox ledger old new owner r (subst (λ x. Follows (outbox old.outbox) (outbox x)) (sym same_outbox) same) (record { clean = call.clean; live = call.live; lawful = λ live lawful. (call.value live lawful).0; lasts = call.lasts })
@@ -162,13 +164,13 @@ is_open : (o : Option ℕ) (why : BillFault) → where_open o ≡ Err why → (d
 is_open None why e = absurd (cc)
 is_open (Some d) why e = let is : NotClosed d ≡ why = cc in (d, refl, sym is)
 
-module _ {O L : Type 0} (outbox : O → Standing OutboxValue) (ledger : L → Standing LedgerValue) (old new : Hub O L) (owner day : ℕ) (r : ReplacesLedger old new owner) (same_outbox : new.outbox ≡ old.outbox) (sound_ledger : IsSound (ledger r.own_old)) (late : old.scheme.start ≤ day) (result : Result WeekTaps (Refused BillFault))
-    (call : Calls (ledger r.own_old) (ledger r.own_new) (fault_in result) (((ledger r.own_new).value ≡ (ledger r.own_old).value) × ((ledger r.own_old).value.start ≤ day → Answered (IsWeekOf old.scheme (ledger r.own_old).value day) result)) (λ v. ⊥)) where
-  week_now : AreClean outbox ledger new → AreSound outbox ledger old → fault_in result ≡ None → (ledger r.own_old).live × (ledger r.own_old).lawful × ((ledger r.own_old).value.start ≡ old.scheme.start) × Answered (IsWeekOf old.scheme (ledger r.own_old).value day) result
-  week_now clean sound none = told_now outbox ledger old new owner day r same_outbox sound_ledger late (λ l r. IsWeekOf old.scheme l day r) result call none clean sound
+module _ {O L : Type 0} (outbox : O → Standing OutboxValue) (ledger : L → Standing LedgerValue) (old new : Hub O L) (owner day : ℕ) (r : ReplacesLedger old new owner) (same_outbox : new.outbox ≡ old.outbox) (sound_ledger : IsSound (ledger r.own_old)) (late : old.scheme.start ≤ day) (result : Result WeekTaps (Refused BillingFault))
+    (call : Calls (ledger r.own_old) (ledger r.own_new) (fault_in result) (((ledger r.own_new).value ≡ (ledger r.own_old).value) × ((ledger r.own_old).value.start ≤ day → Answered (TellsWeek old.scheme day (ledger r.own_old).value) result)) (λ v. ⊥)) where
+  week_now : AreClean outbox ledger new → AreSound outbox ledger old → fault_in result ≡ None → (ledger r.own_old).live × (ledger r.own_old).lawful × ((ledger r.own_old).value.start ≡ old.scheme.start) × Answered (TellsWeek old.scheme day (ledger r.own_old).value) result
+  week_now clean sound none = told_now outbox ledger old new owner day r same_outbox sound_ledger late (λ l r. TellsWeek old.scheme day l r) result call none clean sound
 
-  week_told : AreClean outbox ledger new → AreSound outbox ledger old → fault_in result ≡ None → (h : StoresValue) → MayStandAs outbox ledger old h → ((h.ledgers owner).start ≡ old.scheme.start) × Answered (IsWeekOf old.scheme (h.ledgers owner) day) result
-  week_told clean sound none = told outbox ledger old new owner day r same_outbox sound_ledger late (λ l r. IsWeekOf old.scheme l day r) result call none clean sound
+  week_told : AreClean outbox ledger new → AreSound outbox ledger old → fault_in result ≡ None → (h : StoresValue) → MayStandAs outbox ledger old h → ((h.ledgers owner).start ≡ old.scheme.start) × Answered (TellsWeek old.scheme day (h.ledgers owner)) result
+  week_told clean sound none = told outbox ledger old new owner day r same_outbox sound_ledger late (λ l r. TellsWeek old.scheme day l r) result call none clean sound
 
   known_place : position_of_owner old.scheme owner ≡ None → ⊥
   known_place none = let both : ◌≡◌ {A = Option ℕ} (Some r.place) None = sym r.at ∙ none in absurd (cc)
@@ -177,43 +179,53 @@ module _ {O L : Type 0} (outbox : O → Standing OutboxValue) (ledger : L → St
   not_early lt = absurd (omega (arith, lt, late))
 
   -- refused by neither of the first two names
-  later_refusal : (refused : Option BillFault) → (refused ≡ Some UnknownOwner → ⊥) → (refused ≡ Some BeforeStart → ⊥)
-      → ((device : ℕ) → refused ≡ Some (NotClosed device) → (h : StoresValue) → MayStandAs outbox ledger old h → open_in old.scheme (h.ledgers owner) day ≡ Some device) → IsBillRefusal outbox ledger old owner day refused
-  later_refusal refused unknown early open_is = record {
+  later_refusal : (refused : Option BillingFault) → (refused ≡ Some (Unbilled UnknownOwner) → ⊥) → (refused ≡ Some (Unbilled BeforeStart) → ⊥)
+      → ((device : ℕ) → refused ≡ Some (Unbilled (NotClosed device)) → (h : StoresValue) → MayStandAs outbox ledger old h → open_in old.scheme (h.ledgers owner) day ≡ Some device)
+      → ((device : ℕ) → refused ≡ Some (Forgotten device) → (h : StoresValue) → MayStandAs outbox ledger old h → first_forgotten (h.ledgers owner).from (week_start old.scheme day) old.scheme.devices ≡ Some device) → IsBillRefusal outbox ledger old owner day refused
+  later_refusal refused unknown early open_is gone_is = record {
     unknown = ((λ e. absurd (unknown e)), (λ none. absurd (known_place none)));
     early = ((λ e. absurd (early e)), (λ is. absurd (not_early is.1)));
     not_closed = open_is;
+    forgotten_of = gone_is;
   }
 
   pub week_refused : AreClean outbox ledger new → AreSound outbox ledger old → IsBillRefusal outbox ledger old owner day (refusal_of result)
   week_refused clean sound = by result refl
     where
-      by : (q : Result WeekTaps (Refused BillFault)) → result ≡ q → IsBillRefusal outbox ledger old owner day (refusal_of q)
-      by (Ok v) e = later_refusal None (λ e. absurd (cc)) (λ e. absurd (cc)) (λ device e. absurd (cc))
-      by (Err (Failed f)) e = later_refusal None (λ e. absurd (cc)) (λ e. absurd (cc)) (λ device e. absurd (cc))
-      by (Err (Because why)) e =
+      by : (q : Result WeekTaps (Refused BillingFault)) → result ≡ q → IsBillRefusal outbox ledger old owner day (refusal_of q)
+      by (Ok v) e = later_refusal None (λ e. absurd (cc)) (λ e. absurd (cc)) (λ device e. absurd (cc)) (λ device e. absurd (cc))
+      by (Err (Failed f)) e = later_refusal None (λ e. absurd (cc)) (λ e. absurd (cc)) (λ device e. absurd (cc)) (λ device e. absurd (cc))
+      by (Err (Because (Forgotten gone))) e =
+          later_refusal (Some (Forgotten gone)) (λ f. absurd (cc)) (λ f. absurd (cc)) (λ device f. absurd (cc))
+          (λ device f h may.
+          let found : first_forgotten (h.ledgers owner).from (week_start old.scheme day) old.scheme.devices ≡ Some gone = subst (Answered (TellsWeek old.scheme day (h.ledgers owner))) e (week_told clean sound (ap fault_in e) h may).1 in
+          let same : ◌≡◌ {A = Option BillingFault} (Some (Forgotten gone)) (Some (Forgotten device)) = f in
+          let one : gone ≡ device = cc in
+          found ∙ ap Some one)
+      by (Err (Because (Unbilled why))) e =
           let none : fault_in result ≡ None = ap fault_in e in
           let v = (ledger r.own_old).value in
-          let now : where_open (open_of v day old.scheme) ≡ Err why = subst (Answered (IsWeekOf old.scheme v day)) e (week_now clean sound none).3 in
+          let now : where_open (open_of v day old.scheme) ≡ Err why = (subst (Answered (TellsWeek old.scheme day v)) e (week_now clean sound none).3).1 in
           let is = is_open (open_of v day old.scheme) why now in
           let named = is.2 in
-          later_refusal (Some why) (λ f. let both : ◌≡◌ {A = Option BillFault} (Some (NotClosed is.0)) (Some UnknownOwner) = ap Some (sym named) ∙ f in absurd (cc)) (λ f. let both : ◌≡◌ {A = Option BillFault} (Some (NotClosed is.0)) (Some BeforeStart) = ap Some (sym named) ∙ f in absurd (cc))
+          later_refusal (Some (Unbilled why)) (λ f. let both : ◌≡◌ {A = Option BillingFault} (Some (Unbilled (NotClosed is.0))) (Some (Unbilled UnknownOwner)) = ap (λ w. Some (Unbilled w)) (sym named) ∙ f in absurd (cc)) (λ f. let both : ◌≡◌ {A = Option BillingFault} (Some (Unbilled (NotClosed is.0))) (Some (Unbilled BeforeStart)) = ap (λ w. Some (Unbilled w)) (sym named) ∙ f in absurd (cc))
           (λ device f h may.
           let here = week_told clean sound none h may in
           let l = h.ledgers owner in
-          let found : where_open (open_of l day old.scheme) ≡ Err why = subst (Answered (IsWeekOf old.scheme l day)) e here.1 in
+          let found : where_open (open_of l day old.scheme) ≡ Err why = (subst (Answered (TellsWeek old.scheme day l)) e here.1).1 in
           let there = is_open (open_of l day old.scheme) why found in
-          let same : ◌≡◌ {A = Option BillFault} (Some (NotClosed there.0)) (Some (NotClosed device)) = ap Some (sym there.2) ∙ f in
+          let same : ◌≡◌ {A = Option BillingFault} (Some (Unbilled (NotClosed there.0))) (Some (Unbilled (NotClosed device))) = ap (λ w. Some (Unbilled w)) (sym there.2) ∙ f in
           let one : there.0 ≡ device = cc in
           ap (λ start. first_open start l.closed l.retired day old.scheme.devices) (sym here.0) ∙ (there.1 ∙ ap Some one))
+          (λ device f. absurd (cc))
 
-  pub week_basis : IsScheme old.scheme → AreClean outbox ledger new → AreSound outbox ledger old → IfOk result (λ v. (h : StoresValue) → MayStandAs outbox ledger old h → HasBasis old.scheme (h.ledgers owner) day v.taps.items v.short.items)
-  week_basis valid clean sound = by result refl
+  pub week_basis : IsScheme old.scheme → day ≤ 100000 → AreClean outbox ledger new → AreSound outbox ledger old → IfOk result (λ v. (h : StoresValue) → MayStandAs outbox ledger old h → HasBasis old.scheme (h.ledgers owner) day v.taps.items v.short.items)
+  week_basis valid dated clean sound = by result refl
     where
-      by : (q : Result WeekTaps (Refused BillFault)) → result ≡ q → IfOk q (λ v. (h : StoresValue) → MayStandAs outbox ledger old h → HasBasis old.scheme (h.ledgers owner) day v.taps.items v.short.items)
+      by : (q : Result WeekTaps (Refused BillingFault)) → result ≡ q → IfOk q (λ v. (h : StoresValue) → MayStandAs outbox ledger old h → HasBasis old.scheme (h.ledgers owner) day v.taps.items v.short.items)
       by (Err why) e = tt
       by (Ok v) e = λ h may.
           let here = week_told clean sound (ap fault_in e) h may in
           let l = h.ledgers owner in
-          let tells = subst (Answered (IsWeekOf old.scheme l day)) e here.1 in
-          record { valid = valid; start = here.0; closed = ap (λ start. first_open start l.closed l.retired day old.scheme.devices) (sym here.0) ∙ is_closed (open_of l day old.scheme) tells.0; short = tells.2 ∙ ap (λ start. short_devices start l.closed l.retired day old.scheme.devices) here.0; taps = tells.1 }
+          let tells = subst (Answered (TellsWeek old.scheme day l)) e here.1 in
+          record { valid = valid; dated = dated; start = here.0; closed = ap (λ start. first_open start l.closed l.retired day old.scheme.devices) (sym here.0) ∙ is_closed (open_of l day old.scheme) tells.1.0; held = tells.0; short = tells.1.2 ∙ ap (λ start. short_devices start l.closed l.retired day old.scheme.devices) here.0; taps = tells.1.1 }

@@ -2,6 +2,7 @@
 use Rattle.std.proofs.Common.{◌≡◌, ℕ, List, sym, ap, ◌∙◌, subst, inl, inr}
 use Rattle.std.specs.Prelude.{Result, Ok, Err, is_some}
 use Rattle.fare_owner.specs.declared.closing.CloseFault.{CloseFault}
+use Rattle.fare_record.specs.Limits.{IsDay}
 use Rattle.fare_record.specs.Values.{RecordValue}
 use Rattle.fare_store.specs.declared.fault.Refused.{Refused}
 use Rattle.fare_store.specs.declared.fault.Refused.TheVariants as refused
@@ -48,13 +49,13 @@ module _ {O L : Type 0} (outbox : O → Standing OutboxValue) (ledger : L → St
       by other was (Err (refused.Because why)) does = subst (IsOwn old.scheme other) (sym does.1) was
       by other was (Err (refused.Failed f)) does = subst (IsOwn old.scheme other) (sym does) was
 
-  module _ (sound_ledger : IsSound (ledger h.one.own_old)) (clean : AreClean outbox ledger new) (sound : AreSound outbox ledger old) (lists : ℕ → List RecordValue) (numbered : AreNumberedLists old.scheme lists) (is : IsAgreed outbox ledger lists old) where
+  module _ (dated : IsDay day) (sound_ledger : IsSound (ledger h.one.own_old)) (clean : AreClean outbox ledger new) (sound : AreSound outbox ledger old) (lists : ℕ → List RecordValue) (numbered : AreNumberedLists old.scheme lists) (is : IsAgreed outbox ledger lists old) where
     leads : Leads (IsClosedFrom device day) (ledger h.one.own_old) (ledger h.one.own_new)
     leads = write_leads (λ l. close_of l device day) (with_close device) (ledger h.one.own_old) (ledger h.one.own_new) h.answer h.writes (record { sound = sound_ledger; lawful = sound.lawful.ledgers_are h.one.place h.one.own_old h.one.was }) (clean.ledgers_are h.one.place h.one.own_new h.one.is)
 
     -- the stores before, and what the close made of them
     step : (k : StoresValue) → MayStandAs outbox ledger new k → (m : StoresValue) × MayStandAs outbox ledger old m × IsSafe old.scheme lists numbered m k (history.Closes_day owner device day)
-    step k may = (m, stood, stop_safe old.scheme lists numbered m k (history.Closes_day owner device day) (is.agreed m stood) (ap is_some h.one.at) (left l.2))
+    step k may = (m, stood, stop_safe old.scheme lists numbered m k (history.Closes_day owner device day) (is.agreed m stood) (ap is_some h.one.at, dated) (left l.2))
       where
         l : (l : LedgerValue) × MayHold (ledger h.one.own_old) l × IsClosedFrom device day l (k.ledgers owner)
         l = leads.leads (k.ledgers owner) (own_stands outbox ledger old new owner h.one k may)

@@ -6,8 +6,10 @@ pub mod Sums
 pub mod Reported
 pub mod Billed
 pub mod NextClose
+pub mod Unheld
 pub mod Closed
 pub mod Retired
+pub mod Forgotten
 pub mod Going
 pub mod Lasting
 pub mod Again

@@ -20,7 +20,7 @@ one_holds {V} s sound clean = ∥∥₁_map (sound.some clean) (λ left. (left.0
 
 -- LEDGERS
 any_ledger : LedgerValue
-any_ledger = record { owner = 0; start = 0; knows = λ device. false; taken = λ device. []; stated = λ device day. None; closed = λ device. 0; retired = λ device. false }
+any_ledger = record { owner = 0; start = 0; knows = λ device. false; taken = λ device. []; stated = λ device day. None; closed = λ device. 0; retired = λ device. false; from = λ device. 0 }
 
 abbrev in_front : LedgerValue → (ℕ → LedgerValue) → ℕ → LedgerValue
 in_front l f zero = l

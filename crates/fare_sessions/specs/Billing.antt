@@ -1,21 +1,30 @@
 -- What a hub answers of an owner's day, and what a close makes of its ledger.
-use Rattle.std.specs.Prelude.{◌≡◌, ◌≢◌, ◌↔◌, ◌+◌, ◌<◌, ℕ, nat_le, List, Option, None, Some, is_some, true, if◌then◌else◌, Result, Ok, Err}
+use Rattle.std.specs.Prelude.{◌≡◌, ◌≢◌, ◌↔◌, ◌+◌, ◌<◌, ℕ, nat_le, List, Option, None, Some, is_some, true, if◌then◌else◌, Result, Ok, Err, MatchResult}
+use Rattle.fare_record.specs.Limits.{IsDay}
 use Rattle.fare_record.specs.Values.{RecordValue}
 use Rattle.fare_scheme.specs.Facts.{IsScheme}
 use Rattle.fare_scheme.specs.Values.{SchemeValue}
 use Rattle.fare_scheme.specs.Words.{position_of_owner}
 use Rattle.fare_cap.specs.Fares.{week_start}
 use Rattle.fare_owner.specs.declared.closing.CloseFault.{CloseFault}
+use Rattle.fare_store.specs.declared.fault.ForgetFault.{ForgetFault}
 use Rattle.fare_store.specs.declared.fault.Refused.{Refused}
 use Rattle.fare_store.specs.declared.fault.Refused.TheVariants.{Because, Failed}
 use Rattle.fare_store.specs.declared.fault.Fault.{Fault}
 use Rattle.fare_store.specs.Standing.{Standing, Counted, Writes}
 use Rattle.fare_store.specs.OutboxWords.{OutboxValue}
-use Rattle.fare_store.specs.LedgerWords.{LedgerValue, AreTapsBetween, close_of, with_close}
+use Rattle.fare_store.specs.LedgerWords.{LedgerValue, AreTapsBetween, close_of, with_close, forget_judged, forgotten}
 use Rattle.fare_side.specs.declared.bill_fault.BillFault.{BillFault}
 use Rattle.fare_side.specs.declared.bill_fault.BillFault.TheVariants.{UnknownOwner, BeforeStart, NotClosed}
 use Rattle.fare_side.specs.OpenDays.{first_open, short_devices}
+use Rattle.fare_side.specs.declared.week_taps.WeekTaps.{WeekTaps}
+use Rattle.fare_side.specs.Weeks.{IsWeekOf}
 use Rattle.fare_history.specs.Stores.{StoresValue}
+use Rattle.fare_agreement.specs.Parts.{first_forgotten}
+use Rattle.fare_sessions.specs.declared.billing.BillingFault.{BillingFault}
+use Rattle.fare_sessions.specs.declared.billing.BillingFault.TheVariants.{Unbilled, Forgotten}
+use Rattle.fare_sessions.specs.declared.forgetting.ForgettingFault.{ForgettingFault}
+use Rattle.fare_sessions.specs.declared.forgetting.ForgettingFault.TheVariants as forgetting
 use Rattle.fare_sessions.specs.declared.closing.ClosingFault.{ClosingFault}
 use Rattle.fare_sessions.specs.declared.closing.ClosingFault.TheVariants as closing
 use Rattle.fare_sessions.specs.declared.hub.Hub.{Hub}
@@ -35,12 +44,27 @@ open_in sc l day = first_open sc.start l.closed l.retired day sc.devices
 abbrev pub short_in : SchemeValue → LedgerValue → ℕ → List ℕ
 short_in sc l day = short_devices sc.start l.closed l.retired day sc.devices
 
--- what a bill of a day is of, in an owner's ledger: of each device the day is closed or the lane retired, these are the taps from where its week begins to the day, and of these devices it is short
+-- the first device of which an owner's ledger does not hold all taps of a day's week
+abbrev pub gone_in : SchemeValue → LedgerValue → ℕ → Option ℕ
+gone_in sc l day = first_forgotten l.from (week_start sc day) sc.devices
+
+-- why a ledger's taps of a week are not told: of this device not all of them are held, the first such one, or all are and there is no bill
+abbrev pub TellsWhy : SchemeValue → ℕ → LedgerValue → BillingFault → Type 0
+TellsWhy sc day l (Forgotten device) = gone_in sc l day ≡ Some device
+TellsWhy sc day l (Unbilled why) = (gone_in sc l day ≡ None) × IsWeekOf sc l day (Err why)
+
+-- what a ledger tells of a week: its taps, where all of them are held, or why not
+abbrev pub TellsWeek : SchemeValue → ℕ → LedgerValue → Result WeekTaps BillingFault → Type 0
+TellsWeek sc day l r = MatchResult r (λ week. (gone_in sc l day ≡ None) × IsWeekOf sc l day (Ok week)) (TellsWhy sc day l)
+
+-- what a bill of a day is of, in an owner's ledger: of each device the day is closed or the lane retired, and nothing of its week was let go; these are the taps from where its week begins to the day, and of these devices it is short
 pub record HasBasis (sc : SchemeValue) (l : LedgerValue) (day : ℕ) (rows : List RecordValue) (devices : List ℕ) : Type 0 where
   pub valid : IsScheme sc
+  pub dated : IsDay day
   pub start : l.start ≡ sc.start
   pub closed : open_in sc l day ≡ None
   pub short : devices ≡ short_in sc l day
+  pub held : gone_in sc l day ≡ None
   pub taps : AreTapsBetween l (week_start sc day) day rows
 
 -- CLOSES
@@ -85,6 +109,21 @@ pub record HasAsked {O L : Type 0} (ledger : L → Standing LedgerValue) (old ne
   pub one : ReplacesLedger old new owner
   pub cause : Counted (ledger one.own_old).failures (ledger one.own_new).failures faulted
 
+-- LETTING GO
+-- the refusal of a letting go
+abbrev pub as_forgetting : Result Unit (Refused ForgetFault) → Result Unit (Refused ForgettingFault)
+as_forgetting (Ok _) = Ok tt
+as_forgetting (Err (Because why)) = Err (Because (forgetting.Ledger why))
+as_forgetting (Err (Failed f)) = Err (Failed f)
+
+-- the owner's ledger was asked to let go of what is of a device's days before one
+pub record HasForgotten {O L : Type 0} (ledger : L → Standing LedgerValue) (old new : Hub O L) (owner device day : ℕ) (result : Result Unit (Refused ForgettingFault)) : Type 0 where
+  pub one : ReplacesLedger old new owner
+  pub outbox_same : new.outbox ≡ old.outbox
+  pub answer : Result Unit (Refused ForgetFault)
+  pub writes : Writes (ledger one.own_old) (ledger one.own_new) (forget_judged (ledger one.own_old).value device day) (forgotten device day (ledger one.own_old).value) answer
+  pub told : result ≡ as_forgetting answer
+
 module _ {O L : Type 0} (outbox : O → Standing OutboxValue) (ledger : L → Standing LedgerValue) where
   -- one ledger was read, at most: what may stand now might have stood before
   pub record OnlyReads (old new : Hub O L) : Type 0 where
@@ -94,8 +133,9 @@ module _ {O L : Type 0} (outbox : O → Standing OutboxValue) (ledger : L → St
     pub sound : AreSound outbox ledger old → AreSound outbox ledger new
     pub same : AreClean outbox ledger new → AreSound outbox ledger old → (k : StoresValue) → MayStandAs outbox ledger new k → MayStandAs outbox ledger old k
 
-  -- the first of these refusals that applies: the owner is not registered, the day is before the first one, or of this device, the first such one, it is not closed and the lane not retired
-  pub record IsBillRefusal (old : Hub O L) (owner day : ℕ) (refused : Option BillFault) : Type 0 where
-    pub unknown : (refused ≡ Some UnknownOwner) ↔ (position_of_owner old.scheme owner ≡ None)
-    pub early : (refused ≡ Some BeforeStart) ↔ ((position_of_owner old.scheme owner ≢ None) × (day < old.scheme.start))
-    pub not_closed : (device : ℕ) → refused ≡ Some (NotClosed device) → (h : StoresValue) → MayStandAs outbox ledger old h → open_in old.scheme (h.ledgers owner) day ≡ Some device
+  -- the first of these refusals that applies: the owner is not registered, the day is before the first one, or of this device not all of its week is held, or it is not closed and the lane not retired, each time of the first such one
+  pub record IsBillRefusal (old : Hub O L) (owner day : ℕ) (refused : Option BillingFault) : Type 0 where
+    pub unknown : (refused ≡ Some (Unbilled UnknownOwner)) ↔ (position_of_owner old.scheme owner ≡ None)
+    pub early : (refused ≡ Some (Unbilled BeforeStart)) ↔ ((position_of_owner old.scheme owner ≢ None) × (day < old.scheme.start))
+    pub not_closed : (device : ℕ) → refused ≡ Some (Unbilled (NotClosed device)) → (h : StoresValue) → MayStandAs outbox ledger old h → open_in old.scheme (h.ledgers owner) day ≡ Some device
+    pub forgotten_of : (device : ℕ) → refused ≡ Some (Forgotten device) → (h : StoresValue) → MayStandAs outbox ledger old h → gone_in old.scheme (h.ledgers owner) day ≡ Some device

@@ -100,6 +100,7 @@ impl<O: Outbox, L: Ledger> Hub<O, L> {
         let Some(at) = self.scheme.owner_position(owner) else {
             return Err(Refused::Because(ClosingFault::UnknownOwner));
         };
+        prove!(day.get() <= 100_000);
         match self.ledgers[at].close(device, day) {
             Ok(()) => Ok(()),
             Err(Refused::Because(why)) => Err(Refused::Because(ClosingFault::Ledger(why))),

@@ -9,6 +9,7 @@
 mod billing;
 mod closing;
 mod course;
+mod forgetting;
 mod hub;
 mod reopening;
 mod report;
@@ -16,7 +17,9 @@ mod retiring;
 mod running;
 mod session;
 
+pub use billing::BillingFault;
 pub use closing::{ClosingFault, day_after};
+pub use forgetting::ForgettingFault;
 pub use hub::Hub;
 pub use reopening::{clean_stores_may_hold_something, stores_stand_again};
 pub use report::SessionsReport;

@@ -2,7 +2,7 @@ use Rattle.std.proofs.Common.{◌≡◌, None, sym, ◌∙◌, ap, subst}
 use Rattle.std.specs.Prelude.{Vec, Result}
 use Rattle.std.specs.Global.{Global}
 use Rattle.fare_record.specs.Values.{RecordValue}
-use Rattle.fare_side.specs.declared.bill_fault.BillFault.{BillFault}
+use Rattle.fare_sessions.specs.declared.billing.BillingFault.{BillingFault}
 use Rattle.fare_side.specs.declared.week_taps.WeekTaps.{WeekTaps}
 use Rattle.fare_store.specs.declared.fault.Refused.{Refused}
 use Rattle.fare_store.specs.Standing.{fault_in}
@@ -10,6 +10,9 @@ use Rattle.fare_sessions.specs.Billing.{HasAsked}
 use Rattle.fare_cap.specs.Bills.{bill_of}
 use Rattle.fare_sessions.proofs.Billed.{bill_of_lists, fault_kept}
 use Rattle.fare_sessions.proofs.hub.Hub.bill.Goals as goal
+
+pub returns-in-Ok-clause-held : goal.returns-in-Ok-clause-held
+returns-in-Ok-clause-held g c = λ clean sound h may. (c.in_ok-basis.ensures.basis clean sound h may).held
 
 pub returns-in-Ok-clause-closed : goal.returns-in-Ok-clause-closed
 returns-in-Ok-clause-closed g c = λ clean sound h may. (c.in_ok-basis.ensures.basis clean sound h may).closed
@@ -27,11 +30,11 @@ returns-in-Ok-clause-value g c =
     λ clean sound lists h all may agrees. is ∙ bill_of_lists c.args.self.now.scheme lists all h agrees c.args.owner c.in_ok-basis.ensures.known c.args.day rows c.in_ok-basis.field-0.short.items (c.in_ok-basis.ensures.basis clean sound h may)
 
 pub returns-in-Ok-clause-cause : goal.returns-in-Ok-clause-cause
-returns-in-Ok-clause-cause g c = λ known late. subst (λ (r : Result WeekTaps (Refused BillFault)). HasAsked g.L.Ledger.standing c.args.self.now c.basis.new.self c.args.owner (fault_in r)) c.in_ok-basis.was (c.basis.ensures.cause known late)
+returns-in-Ok-clause-cause g c = λ known late. subst (λ (r : Result WeekTaps (Refused BillingFault)). HasAsked g.L.Ledger.standing c.args.self.now c.basis.new.self c.args.owner (fault_in r)) c.in_ok-basis.was (c.basis.ensures.cause known late)
 
 pub returns-clause-cause : goal.returns-clause-cause
 returns-clause-cause g c = λ known late.
-    let asked : HasAsked g.L.Ledger.standing c.args.self.now c.basis.new.self c.args.owner None = subst (λ (r : Result WeekTaps (Refused BillFault)). HasAsked g.L.Ledger.standing c.args.self.now c.basis.new.self c.args.owner (fault_in r)) c.in_ok-basis.was (c.basis.ensures.cause known late) in
+    let asked : HasAsked g.L.Ledger.standing c.args.self.now c.basis.new.self c.args.owner None = subst (λ (r : Result WeekTaps (Refused BillingFault)). HasAsked g.L.Ledger.standing c.args.self.now c.basis.new.self c.args.owner (fault_in r)) c.in_ok-basis.was (c.basis.ensures.cause known late) in
     record { one = asked.one; cause = asked.cause }
 
 pub returns-in_err-basis-clause-cause : goal.returns-in_err-basis-clause-cause
