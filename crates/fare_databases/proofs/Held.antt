@@ -87,7 +87,7 @@ module _ (sc : SchemeValue) (owner : ℕ) (s : State) (trees : Trees) (x : Stand
             live = is.0;
             lawful = is.1;
             holds = holds_now (inr (inl (at.0, at.1, value)));
-            looks = looks_by it.made (λ known. ledger_words.value_at at.0 owner sc.start known trees) (λ k l. record { start = refl; taken = λ d. refl; stated = λ d. refl; closed = λ d. refl; retired = λ d. refl }) at.2 value;
+            looks = looks_by it.made (λ known. ledger_words.value_at at.0 owner sc.start known trees) (λ k l. record { start = refl; taken = λ d. refl; stated = λ d. refl; closed = λ d. refl; retired = λ d. refl; from = λ d. refl }) at.2 value;
           }
       by (inr (inr at)) =
           let site = at.2.0 in
@@ -97,7 +97,7 @@ module _ (sc : SchemeValue) (owner : ℕ) (s : State) (trees : Trees) (x : Stand
             live = is.0;
             lawful = is.1;
             holds = holds_now (inr (inr (at.0, at.1, (site, at.2.1, value))));
-            looks = looks_by it.made (λ known. value_older at.0 site owner sc.start known trees) (λ k l. record { start = refl; taken = λ d. refl; stated = λ d. refl; closed = λ d. refl; retired = λ d. refl }) at.2.2 value;
+            looks = looks_by it.made (λ known. value_older at.0 site owner sc.start known trees) (λ k l. record { start = refl; taken = λ d. refl; stated = λ d. refl; closed = λ d. refl; retired = λ d. refl; from = λ d. refl }) at.2.2 value;
           }
 
 -- PLACES

@@ -185,10 +185,11 @@ module _ {S : Type 0} (g : Ghosts S) where
     owner = yours ∙ sym mine;
     start = two.start ∙ sym one.start;
     knows = λ d. two.knows d ∙ sym (one.knows d);
-    taken = λ d. subst (IsPrefixOf (v.taken d)) (sym (looks.taken d)) (prefix_self (v.taken d));
-    stated = λ d day count e. ap (λ (f : ℕ → Option ℕ). f day) (looks.stated d) ∙ e;
+    taken = λ d k r e. inl (ap (λ (l : List RecordValue). slice_get l k) (looks.taken d) ∙ e);
+    stated = λ d day count e. inl (ap (λ (f : ℕ → Option ℕ). f day) (looks.stated d) ∙ e);
     closed = λ d. let e = looks.closed d in omega (arith, e);
     retired = λ d e. looks.retired d ∙ e;
+    from = λ d. let e = looks.from d in omega (arith, e);
   }
 
   module _ (sc : SchemeValue) (valid : IsScheme sc) (before after : Databases S) (count : length before.ledgers.items ≡ length sc.owners) (stay : StayStores g sc before after) (clean : AreCleanDisks g after)

@@ -84,6 +84,7 @@ pub record LedgersLook (v w : LedgerValue) : Type 0 where
   pub stated : (device : ℕ) → w.stated device ≡ v.stated device
   pub closed : (device : ℕ) → w.closed device ≡ v.closed device
   pub retired : (device : ℕ) → w.retired device ≡ v.retired device
+  pub from : (device : ℕ) → w.from device ≡ v.from device
 
 -- and the stores of a scheme
 pub record StoresLook (sc : SchemeValue) (h k : StoresValue) : Type 0 where

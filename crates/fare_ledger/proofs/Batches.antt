@@ -101,22 +101,23 @@ by_last c (r ∷ rs) h lanes same =
 pub all_by_last : (c : ℕ) (rs : List RecordValue) (h : Held) → with_taps_by_last c rs h ≡ with_taps c rs h
 all_by_last c rs h = by_last c rs h h.lanes (λ d none. refl)
 
-pub all_value : (o start : ℕ) (known : ℕ → Bool) (c : ℕ) (rs : List RecordValue) (h : Held) → AreTakable (value_in o start known h) c rs → value_in o start known (with_taps c rs h) ≡ done_all took rs (value_in o start known h)
-all_value o start known c [] h ok = refl
-all_value o start known c (r ∷ rs) h ok =
-    let one = take_value o start known h r c (may_take (value_in o start known h) r c ok.0) in
-    all_value o start known c rs (with_tap (row_of r) c h) (subst (λ (v : LedgerValue). AreTakable v c rs) (sym one) ok.1) ∙ ap (done_all took rs) one
+pub all_value : (o start : ℕ) (known : ℕ → Bool) (c : ℕ) (rs : List RecordValue) (h : Held) → AreTakable (value_in o start known h) c rs → FitTogether o start h → value_in o start known (with_taps c rs h) ≡ done_all took rs (value_in o start known h)
+all_value o start known c [] h ok fit = refl
+all_value o start known c (r ∷ rs) h ok fit =
+    let may = may_take (value_in o start known h) r c ok.0 in
+    let one = take_value o start known h r c may fit in
+    all_value o start known c rs (with_tap (row_of r) c h) (subst (λ (v : LedgerValue). AreTakable v c rs) (sym one) ok.1) (take_fits o start known h r c may fit) ∙ ap (done_all took rs) one
 
 pub all_fits : (o start : ℕ) (known : ℕ → Bool) (c : ℕ) (rs : List RecordValue) (h : Held) → AreTakable (value_in o start known h) c rs → FitTogether o start h → FitTogether o start (with_taps c rs h)
 all_fits o start known c [] h ok fit = fit
 all_fits o start known c (r ∷ rs) h ok fit =
     let may = may_take (value_in o start known h) r c ok.0 in
-    all_fits o start known c rs (with_tap (row_of r) c h) (subst (λ (v : LedgerValue). AreTakable v c rs) (sym (take_value o start known h r c may)) ok.1) (take_fits o start known h r c may fit)
+    all_fits o start known c rs (with_tap (row_of r) c h) (subst (λ (v : LedgerValue). AreTakable v c rs) (sym (take_value o start known h r c may fit)) ok.1) (take_fits o start known h r c may fit)
 
 -- what a stop leaves of it
 pub all_left : (w : Layout) (o start : ℕ) (known : ℕ → Bool) (c : ℕ) (h : Held) (rs : List RecordValue) (trees : Trees) → AreTakable (value_in o start known h) c rs → FitTogether o start h → MayBecome w (with_taps c rs h) trees
     → (value_at w o start known trees ≡ done_all took rs (value_in o start known h)) × IsLeft (schema_in w) (IsLawful w o start) trees
-all_left w o start known c h rs trees ok fit it = (ap (value_in o start known) (left_held w (with_taps c rs h) trees it) ∙ all_value o start known c rs h ok, becomes_left w o start (with_taps c rs h) trees it (all_fits o start known c rs h ok fit))
+all_left w o start known c h rs trees ok fit it = (ap (value_in o start known) (left_held w (with_taps c rs h) trees it) ∙ all_value o start known c rs h ok fit, becomes_left w o start (with_taps c rs h) trees it (all_fits o start known c rs h ok fit))
 
 -- ---- the whole call
 

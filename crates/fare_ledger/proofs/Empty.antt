@@ -6,9 +6,10 @@ use Rattle.std.proofs.lemmas.Bool.Decides.{nat_tests}
 use Rattle.sqlite_value.specs.Order.{Row, column}
 use Rattle.fare_tables.specs.Cells.{nat_in, id_of, AreAbove, AreRows, held, counted}
 use Rattle.fare_store.specs.LedgerWords.{LedgerValue, IsEmptyLedger}
-use Rattle.fare_ledger.specs.Held.{Held, TapRow, IsLane, lane_of, stated_in, is_begun, record_of}
-use Rattle.fare_ledger.specs.Words.{taken_in, value_in, FitTogether, AreUnbegun, AreUntaken, AreUnstated, AreUnretired}
+use Rattle.fare_ledger.specs.Held.{Held, IsLane, lane_of, IsSince, since_of, stated_in, is_begun, is_later}
+use Rattle.fare_ledger.specs.Words.{shown_in, value_in, FitTogether, AreUnbegun, AreUnstated, AreUnretired, AreUncut}
 use Rattle.fare_ledger.proofs.Days.{none_stated}
+use Rattle.fare_ledger.proofs.Stored.{shown_length}
 
 -- no row above a rowid has it
 above_none : (rows : List Row) (n d : ℕ) → AreAbove n rows → (d < n) ⊎ (d ≡ n) → held rows d ≡ None
@@ -76,26 +77,44 @@ unbegun o start known h rows n fit lanes ok is =
       λ none. (
           let nothing = λ (d : ℕ). zero_of_none rows d (length_none (filter is_begun rows) (zero.0 none)) in
           record {
-            taken = λ d. length_none (taken_in o h.taps d) (sym (fit.counted d) ∙ ap (λ l. (l d).taken) lanes ∙ (nothing d).0);
+            taken = λ d. length_none (shown_in o h d) (shown_length o h d (fit.counted d) ∙ ap (λ l. (l d).taken) lanes ∙ (nothing d).0);
             closed = λ d. ap (λ l. (l d).closed) lanes ∙ (nothing d).1;
           }),
       λ empty. zero.1 (ap length (none_of_zero rows ok (λ d. (
-        ap (λ l. (l d).taken) (sym lanes) ∙ fit.counted d ∙ ap length (empty.taken d),
+        ap (λ l. (l d).taken) (sym lanes) ∙ sym (shown_length o h d (fit.counted d)) ∙ ap length (empty.taken d),
         ap (λ l. (l d).closed) (sym lanes) ∙ empty.closed d,
       )))),
     )
 
-taps_none : (o : ℕ) (taps : List TapRow) → ((d : ℕ) → taken_in o taps d ≡ []) → taps ≡ []
-taps_none o [] none = refl
-taps_none o (t ∷ taps) none = absurd (
-    let own : (t.device == t.device) ≡ true = grind (arith, nat_tests) in
-    let e : record_of o t ∷ taken_in o taps t.device ≡ [] = rw own at (none t.device) in cc)
+-- all is held of every device where no row has a later day than day 0
+from_none : (rows : List Row) (d : ℕ) → filter is_later rows ≡ [] → since_of (held rows d) ≡ 0
+from_none [] d none = refl
+from_none (r ∷ rows) d none = elim (cases_Bool (is_later r)) [
+  | inl later ↦ absurd (let e = rw later at none in cc)
+  | inr not ↦ elim (cases_Bool (id_of r == d)) [
+    | inl here ↦ rw here (let e : nat_in (column r 2) ≡ 0 = grind (arith, nat_tests) in e)
+    | inr there ↦ rw there (from_none rows d (rw not at none))
+  ]
+]
 
-pub untaken : (o start : ℕ) (known : ℕ → Bool) (h : Held) (n : ℕ) → n ≡ counted (length h.taps) → IsTrue (n == 0) ↔ AreUntaken (value_in o start known h)
-untaken o start known h n is =
-    let zero = zero_counted n (length h.taps) is in (
-      λ none d. ap (λ ts. taken_in o ts d) (length_none h.taps (zero.0 none)),
-      λ empty. zero.1 (ap length (taps_none o h.taps empty)),
+none_later : (rows : List Row) → AreRows IsSince rows → ((d : ℕ) → since_of (held rows d) ≡ 0) → filter is_later rows ≡ []
+none_later [] ok zero = refl
+none_later (r ∷ rows) ok zero =
+    let itself : (id_of r == id_of r) ≡ true = grind (arith, nat_tests) in
+    let mine : nat_in (column r 2) ≡ 0 = rw itself at (zero (id_of r)) in
+    let first : nat_lt 0 (nat_in (column r 2)) ≡ false = grind (arith, nat_tests) in
+    rw first (none_later rows ok.2 (λ d. elim (cases_Bool (id_of r == d)) [
+      | inl here ↦ (
+          let same : d ≡ id_of r = grind (arith, nat_tests) in
+          ap since_of (above_none rows (id_of r) d ok.1 (inr same)))
+      | inr there ↦ (let e : since_of (held rows d) ≡ 0 = rw there at (zero d) in e)
+    ]))
+
+pub uncut : (o start : ℕ) (known : ℕ → Bool) (h : Held) (rows : List Row) (n : ℕ) → h.since ≡ (λ d. since_of (held rows d)) → AreRows IsSince rows → n ≡ counted (length (filter is_later rows)) → IsTrue (n == 0) ↔ AreUncut (value_in o start known h)
+uncut o start known h rows n since ok is =
+    let zero = zero_counted n (length (filter is_later rows)) is in (
+      λ none d. ap (λ f. f d) since ∙ from_none rows d (length_none (filter is_later rows) (zero.0 none)),
+      λ empty. zero.1 (ap length (none_later rows ok (λ d. ap (λ f. f d) (sym since) ∙ empty d))),
     )
 
 pub unstated : (o start : ℕ) (known : ℕ → Bool) (h : Held) (n : ℕ) → n ≡ counted (length h.statements) → IsTrue (n == 0) ↔ AreUnstated (value_in o start known h)
@@ -120,8 +139,8 @@ unretired o start known h rows n retired is =
     )
 
 -- a ledger is empty where all four tables are
-pub empty_is : (v : LedgerValue) (x y z t empty : Bool) → (IsTrue x ↔ AreUnbegun v) → (IsTrue y ↔ AreUntaken v) → (IsTrue z ↔ AreUnstated v) → (IsTrue t ↔ AreUnretired v) → (IsTrue empty ↔ (IsTrue x × IsTrue y × IsTrue z × IsTrue t)) → IsTrue empty ↔ IsEmptyLedger v
-empty_is v x y z t empty begun taken stated retired told = (
-  λ all. (let it = told.0 all in let none = begun.0 it.0 in record { taken = none.taken; stated = stated.0 it.2; closed = none.closed; retired = retired.0 it.3 }),
-  λ nothing. told.1 (begun.1 (record { taken = nothing.taken; closed = nothing.closed }), taken.1 nothing.taken, stated.1 nothing.stated, retired.1 nothing.retired),
+pub empty_is : (v : LedgerValue) (x y z t empty : Bool) → (IsTrue x ↔ AreUnbegun v) → (IsTrue y ↔ AreUncut v) → (IsTrue z ↔ AreUnstated v) → (IsTrue t ↔ AreUnretired v) → (IsTrue empty ↔ (IsTrue x × IsTrue y × IsTrue z × IsTrue t)) → IsTrue empty ↔ IsEmptyLedger v
+empty_is v x y z t empty begun cut stated retired told = (
+  λ all. (let it = told.0 all in let none = begun.0 it.0 in record { taken = none.taken; stated = stated.0 it.2; closed = none.closed; retired = retired.0 it.3; from = cut.0 it.1 }),
+  λ nothing. told.1 (begun.1 (record { taken = nothing.taken; closed = nothing.closed }), cut.1 nothing.from, stated.1 nothing.stated, retired.1 nothing.retired),
 )

@@ -32,11 +32,11 @@ use Rattle.fare_ledger.specs.Layouts.{schema_in, tree_in, ours, at_tree}
 use Rattle.fare_opening.proofs.Asked.{asked_at}
 use Rattle.fare_ledger.proofs.Placed.{within}
 use Rattle.fare_ledger.specs.Making.{site_of}
-use Rattle.fare_ledger.specs.Statements.{Retired, Routed, ledger_parts}
-use Rattle.fare_ledger.specs.Tables.{lane_query, stated_terms, stated_query, day_terms, begun_terms, retired_terms}
-use Rattle.fare_ledger.specs.Held.{TapRow, StatedRow, lane_row, IsLane, lane_of, tap_cells, tap_of, IsTap, stated_cells, stated_of, IsStated, is_of, stated_in, is_on, is_begun, retired_row, IsRetired}
+use Rattle.fare_ledger.specs.Statements.{Retired, Routed, Since, ledger_parts}
+use Rattle.fare_ledger.specs.Tables.{lane_query, stated_terms, stated_query, day_terms, begun_terms, retired_terms, since_query, later_terms}
+use Rattle.fare_ledger.specs.Held.{TapRow, StatedRow, lane_row, IsLane, lane_of, tap_cells, tap_of, IsTap, stated_cells, stated_of, IsStated, is_of, stated_in, is_on, is_begun, retired_row, IsRetired, since_row, IsSince, since_of, is_later}
 use Rattle.fare_ledger.specs.Words.{AreApart}
-use Rattle.fare_ledger.proofs.Texts.{lane_text, lane_meant, stated_text, stated_meant, day_text, day_meant, begun_text, begun_meant, taps_text, taps_meant, statements_text, statements_meant, retired_text, retired_meant, all_retired_text, all_retired_meant}
+use Rattle.fare_ledger.proofs.Texts.{lane_text, lane_meant, stated_text, stated_meant, day_text, day_meant, begun_text, begun_meant, later_text, later_meant, since_text, since_meant, statements_text, statements_meant, retired_text, retired_meant, all_retired_text, all_retired_meant}
 
 pub lane_ids : (r : Row) → IsLane r → column r 0 ≡ int (id_of r)
 lane_ids r ok = ap (λ x. column x 0) ok
@@ -58,6 +58,10 @@ at_stated w q db params rows = asked_at ledger_parts (site_of w) w.fits kind.Sta
 pub at_retired : (w : Layout) (q : Query) (db : Trees) (params : Row) (rows : List Row) → IsAnswer (at_tree (tree_in w Retired) q) (overlay db []) params rows → IsAnswer (at_tree 6 q) (overlay (ours w db) []) params rows
 unfolding ours
 at_retired w q db params rows = asked_at ledger_parts (site_of w) w.fits Retired (within w Retired refl) q 6 db (overlay (ours w db) []) params rows refl
+
+pub at_since : (w : Layout) (q : Query) (db : Trees) (params : Row) (rows : List Row) → IsAnswer (at_tree (tree_in w Since) q) (overlay db []) params rows → IsAnswer (at_tree 9 q) (overlay (ours w db) []) params rows
+unfolding ours
+at_since w q db params rows = asked_at ledger_parts (site_of w) w.fits Since (within w Since refl) q 9 db (overlay (ours w db) []) params rows refl
 
 -- ---- the numbers of a device
 
@@ -111,6 +115,50 @@ lane_read (Ok l) row lane is taken closed =
     let second : l.closed ≡ lane.closed = ap nat_in (sym closed ∙ ap (λ r. column r 1) is) in
     λ i. record { taken = first i; closed = second i }
 lane_read (Err e) row lane is taken closed = tt
+
+-- ---- the day from which on all of a device is held
+
+pub since_ids : (r : Row) → IsSince r → column r 0 ≡ int (id_of r)
+since_ids r ok = ap (λ x. column x 0) ok
+
+since_cell : (id f d : ℕ) → matches_as Null (λ _. []) since_query.filter end ((int d ∷ []) ∷ since_row id f ∷ []) ≡ chosen (id == d) ((int d ∷ []) ∷ since_row id f ∷ [])
+since_cell id f d = rw (eq_holds id d) (one_term (id == d) ((int d ∷ []) ∷ since_row id f ∷ []))
+
+since_each : (d : ℕ) (r : Row) → IsSince r → matches_as Null (λ _. []) since_query.filter end ((int d ∷ []) ∷ r ∷ []) ≡ chosen (id_of r == d) ((int d ∷ []) ∷ r ∷ [])
+since_each d r ok = subst (λ x. matches_as Null (λ _. []) since_query.filter end ((int d ∷ []) ∷ x ∷ []) ≡ chosen (id_of x == d) ((int d ∷ []) ∷ x ∷ [])) (sym ok) (since_cell (id_of r) (nat_in (column r 2)) d)
+
+since_answer : (db : Trees) (d : ℕ) (rows : List Row) → AreRows IsSince (db 9) → IsAnswer since_query (overlay db []) (int d ∷ []) rows
+    → ((rows ≡ []) × (held (db 9) d ≡ None)) ⊎ (rows ≡ (int (since_of (held (db 9) d)) ∷ []) ∷ [])
+since_answer db d rows ok a =
+    let staged : a.staged ≡ map (λ r. (int d ∷ []) ∷ r ∷ []) (filter (λ r. id_of r == d) (db 9)) = a.grouped ∙ matched IsSince (λ r. id_of r == d) (int d ∷ []) since_query.filter (since_each d) (db 9) (all_of IsSince (db 9) ok) in
+    let shown : (os : List Output) → a.ordered ≡ os → rows ≡ page since_query (int d ∷ []) (map (λ (p : Output). p.1) os) = λ os e. a.shown ∙ ap (λ xs. page since_query (int d ∷ []) (map (λ (p : Output). p.1) xs)) e in
+    elim (held_one IsSince since_ids (db 9) d ok) [
+      | inl none ↦ (
+          let kept : a.kept ≡ [] = a.distinct ∙ ap (map (output since_query)) (staged ∙ ap (map (λ r. (int d ∷ []) ∷ r ∷ [])) none.0) in
+          inl (shown [] (empty_permutation a.ordered (subst (λ k. IsPermutation k a.ordered) kept a.same)), none.1))
+      | inr one ↦ (
+          let o : Output = ([], column one.0 2 ∷ []) in
+          let kept : a.kept ≡ o ∷ [] = a.distinct ∙ ap (map (output since_query)) (staged ∙ ap (map (λ r. (int d ∷ []) ∷ r ∷ [])) one.2) in
+          let since : column one.0 2 ≡ int (since_of (held (db 9) d)) = ap (λ r. column r 2) one.1 ∙ ap (λ h. int (since_of h)) (sym one.3) in
+          inr (shown (o ∷ []) (one_permutation o a.ordered (subst (λ k. IsPermutation k a.ordered) kept a.same)) ∙ (λ i. (since i ∷ []) ∷ [])))
+    ]
+
+pub since_row_is : (w : Layout) (old new : State) (d : ℕ) (row : Row) → old.now.schema ≡ schema_in w → AreRows IsSince (ours w old.now.trees 9) → QueriesRow since_text (int d ∷ []) old new (Ok row) → row ≡ int (since_of (held (ours w old.now.trees 9) d)) ∷ []
+since_row_is w old new d row has ok h =
+    let got = (first_as since_text (int d ∷ []) old new (schema_in w) has _ (since_meant w).command_is (since_meant w).plain (since_meant w).unlisted row h).1 in
+    let a : IsAnswer since_query (overlay (ours w old.now.trees) []) (int d ∷ []) (row ∷ got.0) = at_since w since_query old.now.trees (int d ∷ []) (row ∷ got.0) (got.1 Null) in
+    elim (since_answer (ours w old.now.trees) d (row ∷ got.0) ok a) [
+      | inl none ↦ absurd (let e = none.0 in cc)
+      | inr one ↦ (let e = one in cc)
+    ]
+
+pub since_none : (w : Layout) (old new : State) (d : ℕ) → old.now.schema ≡ schema_in w → AreRows IsSince (ours w old.now.trees 9) → Shown since_text (int d ∷ []) old new [] → held (ours w old.now.trees 9) d ≡ None
+since_none w old new d has ok shown =
+    let read = reads_as since_text (int d ∷ []) old new (schema_in w) has _ (since_meant w).command_is (since_meant w).plain (since_meant w).unlisted [] shown in
+    elim (since_answer (ours w old.now.trees) d [] ok (at_since w since_query old.now.trees (int d ∷ []) [] (read.answer Null))) [
+      | inl none ↦ none.1
+      | inr one ↦ absurd (let e = one in cc)
+    ]
 
 -- ---- the stated count of a day
 
@@ -226,17 +274,32 @@ begun_counted w old new row has ok h =
     let all = matched IsLane is_begun [] begun_terms begun_each (ours w old.now.trees 1) (all_of IsLane (ours w old.now.trees 1) ok) in
     first ∙ ap (λ n. int (counted n) ∷ []) (ap length all ∙ length-map (filter is_begun (ours w old.now.trees 1)) (λ r. [] ∷ r ∷ []))
 
+later_truth : (a : Bool) → is_true (from_truth (Some a)) ≡ a
+later_truth true = refl
+later_truth false = refl
+
+later_holds : (a : ℕ) → is_true (binary (by.Compare cmp.Gt Binary) (int a) (int 0)) ≡ nat_lt 0 a
+unfolding binary
+later_holds a = rw (value_cmp-Int (pos a) (pos 0)) (later_truth (is_gt (int_cmp (pos a) (pos 0))) ∙ gt_is a)
+
+later_cell : (id f : ℕ) → matches_as Null (λ _. []) later_terms end ([] ∷ since_row id f ∷ []) ≡ chosen (nat_lt 0 f) ([] ∷ since_row id f ∷ [])
+later_cell id f = rw (later_holds f) (one_term (nat_lt 0 f) ([] ∷ since_row id f ∷ []))
+
+later_each : (r : Row) → IsSince r → matches_as Null (λ _. []) later_terms end ([] ∷ r ∷ []) ≡ chosen (is_later r) ([] ∷ r ∷ [])
+later_each r ok = subst (λ x. matches_as Null (λ _. []) later_terms end ([] ∷ x ∷ []) ≡ chosen (is_later x) ([] ∷ x ∷ [])) (sym ok) (later_cell (id_of r) (nat_in (column r 2)))
+
+pub later_counted : (w : Layout) (old new : State) (row : Row) → old.now.schema ≡ schema_in w → AreRows IsSince (ours w old.now.trees 9) → QueriesRow later_text [] old new (Ok row) → row ≡ int (counted (length (filter is_later (ours w old.now.trees 9)))) ∷ []
+later_counted w old new row has ok h =
+    let got = (first_as later_text [] old new (schema_in w) has _ (later_meant w).command_is (later_meant w).plain (later_meant w).unlisted row h).1 in
+    let a : IsAnswer (count_query 9 later_terms) (overlay (ours w old.now.trees) []) [] (row ∷ got.0) = at_since w (count_query 9 later_terms) old.now.trees [] (row ∷ got.0) (got.1 Null) in
+    let rows = count_answer 9 later_terms (overlay (ours w old.now.trees) []) [] (row ∷ got.0) a in
+    let first : row ≡ int (counted (length (found 9 later_terms (overlay (ours w old.now.trees) []) []))) ∷ [] = cc in
+    let all = matched IsSince is_later [] later_terms later_each (ours w old.now.trees 9) (all_of IsSince (ours w old.now.trees 9) ok) in
+    first ∙ ap (λ n. int (counted n) ∷ []) (ap length all ∙ length-map (filter is_later (ours w old.now.trees 9)) (λ r. [] ∷ r ∷ []))
+
 all_found : (rows : List Row) → length (flat_map (λ r. matches_as Null (λ _. []) [] end ([] ∷ r ∷ [])) rows) ≡ length rows
 all_found [] = refl
 all_found (r ∷ rows) = ap (λ n. suc n) (all_found rows)
-
-pub taps_counted : (w : Layout) (old new : State) (row : Row) → old.now.schema ≡ schema_in w → QueriesRow taps_text [] old new (Ok row) → row ≡ int (counted (length (map tap_of (ours w old.now.trees 7)))) ∷ []
-taps_counted w old new row has h =
-    let got = (first_as taps_text [] old new (schema_in w) has _ (taps_meant w).command_is (taps_meant w).plain (taps_meant w).unlisted row h).1 in
-    let a : IsAnswer (count_query 7 []) (overlay (ours w old.now.trees) []) [] (row ∷ got.0) = at_tap w (count_query 7 []) old.now.trees [] (row ∷ got.0) (got.1 Null) in
-    let rows = count_answer 7 [] (overlay (ours w old.now.trees) []) [] (row ∷ got.0) a in
-    let first : row ≡ int (counted (length (found 7 [] (overlay (ours w old.now.trees) []) []))) ∷ [] = cc in
-    first ∙ ap (λ n. int (counted n) ∷ []) (all_found (ours w old.now.trees 7) ∙ sym (length-map (ours w old.now.trees 7) tap_of))
 
 pub statements_counted : (w : Layout) (old new : State) (row : Row) → old.now.schema ≡ schema_in w → QueriesRow statements_text [] old new (Ok row) → row ≡ int (counted (length (map stated_of (ours w old.now.trees 4)))) ∷ []
 statements_counted w old new row has h =

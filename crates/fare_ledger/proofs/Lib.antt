@@ -3,12 +3,16 @@ pub mod OlderTexts
 pub mod Placed
 pub mod Found
 pub mod Links
+pub mod Sinces
 pub mod Puts
+pub mod Kept
+pub mod Cuts
 pub mod Own
 pub mod Taken
 pub mod Days
 pub mod Stored
 pub mod Judged
+pub mod Forgot
 pub mod Empty
 pub mod Listed
 pub mod Between
@@ -19,4 +23,5 @@ pub mod Opened
 pub mod AnyOrder
 pub mod AllOrders
 pub mod AnyRise
+pub mod ThirdRise
 pub mod Batches

@@ -35,7 +35,7 @@ use Rattle.fare_tables.proofs.Terms.{chosen, matched, eq_holds, one_term}
 use Rattle.fare_opening.specs.Numbers.{Meta, Device, Tap, Stated}
 use Rattle.fare_ledger.specs.declared.layout.Layout.{Layout}
 use Rattle.fare_ledger.specs.Layouts.{schema_in, tree_in, ours, at_tree}
-use Rattle.fare_ledger.specs.Statements.{Retired, Routed}
+use Rattle.fare_ledger.specs.Statements.{Retired, Routed, Since}
 use Rattle.fare_ledger.specs.Tables.{lane_table, renew_query}
 use Rattle.fare_ledger.specs.Held.{PutsLane, lane_row, IsLane}
 use Rattle.fare_ledger.proofs.Texts.{lane_terms, put_lane_text, put_lane_command, put_lane_meant}
@@ -88,7 +88,7 @@ conflict_id way r d k c ok is =
 
 abbrev pub IsPut : Layout → Trees → Trees → ℕ → ℕ → ℕ → Type 0
 IsPut way db next d k c =
-    ((ours way next 1 ≡ put_row (lane_row d k c) (ours way db 1)) ⊎ (ours way next 1 ≡ put_row (lane_row d k c) (without_rowid (pos d) (ours way db 1)))) × (ours way next 0 ≡ ours way db 0) × (ours way next 2 ≡ ours way db 2) × (ours way next 4 ≡ ours way db 4) × (ours way next 6 ≡ ours way db 6) × (ours way next 7 ≡ ours way db 7)
+    ((ours way next 1 ≡ put_row (lane_row d k c) (ours way db 1)) ⊎ (ours way next 1 ≡ put_row (lane_row d k c) (without_rowid (pos d) (ours way db 1)))) × (ours way next 0 ≡ ours way db 0) × (ours way next 2 ≡ ours way db 2) × (ours way next 4 ≡ ours way db 4) × (ours way next 6 ≡ ours way db 6) × (ours way next 7 ≡ ours way db 7) × (ours way next 9 ≡ ours way db 9)
 
 module _ (way : Layout) (limit : Option ℕ) (keys : Keys) (d k c : ℕ) where
   abbrev pub task : Task
@@ -109,6 +109,7 @@ module _ (way : Layout) (limit : Option ℕ) (keys : Keys) (d k c : ℕ) where
         ap (λ (t : Trees). ours way t 4) next ∙ kept Stated refl (apart way Stated Device refl refl refl),
         ap (λ (t : Trees). ours way t 6) next ∙ kept Retired refl (apart way Retired Device refl refl refl),
         ap (λ (t : Trees). ours way t 7) next ∙ kept Routed refl (apart way Routed Device refl refl refl),
+        ap (λ (t : Trees). ours way t 9) next ∙ kept Since refl (apart way Since Device refl refl refl),
       )
 
   clears : (db : Trees) (w : Written) (found : List Row) → Clears task Abort (lane_row d k c) db found (Ok w) → IsPut way db w.trees d k c
@@ -132,6 +133,7 @@ module _ (way : Layout) (limit : Option ℕ) (keys : Keys) (d k c : ℕ) where
         ap (λ (t : Trees). ours way t 4) next ∙ kept Stated refl (apart way Stated Device refl refl refl),
         ap (λ (t : Trees). ours way t 6) next ∙ kept Retired refl (apart way Retired Device refl refl refl),
         ap (λ (t : Trees). ours way t 7) next ∙ kept Routed refl (apart way Routed Device refl refl refl),
+        ap (λ (t : Trees). ours way t 9) next ∙ kept Since refl (apart way Since Device refl refl refl),
       )
 
   abbrev clause : Upsert
@@ -190,4 +192,4 @@ puts_lane way old new d k c count has ok h =
     let done = made (task way old.step_limit Enforced d k c) (mode_of old) command old.now.trees run.tally new.now (at_found (task way old.step_limit Enforced d k c) (mode_of old) command old.now.trees _ (run.tally, new.now) (lane_placed way) (subst (λ s. Does old.step_limit (mode_of old) params (record old.now { schema = s }) text None command (Ok (run.tally, new.now))) has run.changed)) in
     let put = inserts_or way old.step_limit Enforced d k c old.now.trees done.written ok done.wrote in
     let trees = subst (λ t. IsPut way old.now.trees t d k c) (sym (ap (λ (d : Database). d.trees) done.after_is)) put in
-    record { schema = ap (λ (d : Database). d.schema) done.after_is; database = run.sound; lanes = trees.0; taps = trees.5; statements = trees.3; retired = trees.4; meta = trees.1; unused = trees.2 }
+    record { schema = ap (λ (d : Database). d.schema) done.after_is; database = run.sound; lanes = trees.0; taps = trees.5; statements = trees.3; retired = trees.4; since = trees.6; meta = trees.1; unused = trees.2 }

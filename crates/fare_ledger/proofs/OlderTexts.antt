@@ -6,7 +6,7 @@ use Rattle.fare_layout.specs.Commands.{IsMeant}
 use Rattle.fare_layout.specs.Layouts.{AreUnderstood}
 use Rattle.fare_layout.specs.Places.{place_of}
 use Rattle.fare_ledger.specs.Statements.{older_texts}
-use Rattle.fare_ledger.specs.Tables.{first_schema, second_schema}
+use Rattle.fare_ledger.specs.Tables.{first_schema, second_schema, third_schema}
 use Rattle.fare_ledger.proofs.Texts.{own_places, meta_text, meta_at, meta_simple, put_meta_text, put_meta_at, put_meta_simple, set_meta_text, set_meta_at, set_meta_simple, older_text, older_at, older_simple}
 
 pub meta_first : IsMeant first_schema meta_text (meta_at (place_of own_places Meta))
@@ -46,3 +46,22 @@ older_second = refl
 
 unfoldable pub understood_second : AreUnderstood second_schema older_texts
 understood_second = ((meta_at (place_of own_places Meta), meta_second, meta_simple), ((put_meta_at (place_of own_places Meta), put_meta_second, put_meta_simple), ((set_meta_at (place_of own_places Meta), set_meta_second, set_meta_simple), ((older_at (place_of own_places Tap), older_second, older_simple), tt))))
+
+pub meta_third : IsMeant third_schema meta_text (meta_at (place_of own_places Meta))
+unfolding everything third_schema
+meta_third = refl
+
+pub put_meta_third : IsMeant third_schema put_meta_text (put_meta_at (place_of own_places Meta))
+unfolding everything third_schema
+put_meta_third = refl
+
+pub set_meta_third : IsMeant third_schema set_meta_text (set_meta_at (place_of own_places Meta))
+unfolding everything third_schema
+set_meta_third = refl
+
+pub older_third : IsMeant third_schema older_text (older_at (place_of own_places Tap))
+unfolding everything third_schema
+older_third = refl
+
+unfoldable pub understood_third : AreUnderstood third_schema older_texts
+understood_third = ((meta_at (place_of own_places Meta), meta_third, meta_simple), ((put_meta_at (place_of own_places Meta), put_meta_third, put_meta_simple), ((set_meta_at (place_of own_places Meta), set_meta_third, set_meta_simple), ((older_at (place_of own_places Tap), older_third, older_simple), tt))))

@@ -1,5 +1,5 @@
 -- What an open finds, and what it makes.
-use Rattle.std.proofs.Common.{◌≡◌, ◌⊎◌, inl, inr, ℕ, Bool, [], ◌∷◌, map, length, refl, sym, ap, subst, ◌∙◌, arith}
+use Rattle.std.proofs.Common.{◌≡◌, ◌⊎◌, inl, inr, ℕ, ◌-◌, ◌≤◌, Bool, [], ◌∷◌, map, length, refl, sym, ap, subst, ◌∙◌, arith}
 use Rattle.std.specs.Prelude.{is_some}
 use Rattle.sqlite.specs.Schema.{Schema}
 use Rattle.sqlite.specs.Effect.{Database, IsDatabase}
@@ -7,6 +7,7 @@ use Rattle.sqlite.specs.Tree.{Trees}
 use Rattle.sqlite.specs.State.{State}
 use Rattle.sqlite_rules.specs.Lists.{Has}
 use Rattle.fare_store.specs.LedgerWords.{IsEmptyLedger}
+use Rattle.fare_store.specs.PlainLedgerWords.{filled}
 use Rattle.fare_tables.specs.Cells.{AreRows, held, int}
 use Rattle.fare_tables.specs.Making.{no_schema}
 use Rattle.fare_tables.specs.Tabled.{IsFit, IsLawfulIn, IsLeft, left_of}
@@ -26,12 +27,12 @@ use Rattle.fare_opening.specs.Raising as raising
 use Rattle.fare_opening.proofs.Vacant as vacant
 use Rattle.fare_ledger.specs.declared.layout.Layout.{Layout}
 use Rattle.fare_ledger.specs.Layouts.{schema_in, ours}
-use Rattle.fare_ledger.specs.Held.{AreReadable, IsLane, IsTap, IsStated, IsRetired, lane_of, tap_of, stated_of, stated_in, held_of}
+use Rattle.fare_ledger.specs.Held.{AreReadable, IsLane, IsTap, IsStated, IsRetired, IsSince, since_of, lane_of, tap_of, stated_of, stated_in, held_of}
 use Rattle.fare_ledger.specs.Making.{site_of}
 use Rattle.fare_ledger.specs.Opening.{IsLedger, IsBlankOrOurs, CanRise, IsOlderLedger, IsLeftEmpty, IsLeftRaised, IsVacant, IsOpened, MayOpen, Settles}
-use Rattle.fare_ledger.specs.Words.{taken_in, value_at, value_in, AreNext, AreApart, FitTogether, IsLawful}
+use Rattle.fare_ledger.specs.Words.{taken_in, gone_in, value_at, value_in, AreNext, AreApart, FitTogether, IsLawful}
 use Rattle.fare_ledger.specs.Older.{value_older, IsLawfulOlder}
-use Rattle.fare_ledger.specs.Statements.{Retired, Routed, tables, ledger_parts}
+use Rattle.fare_ledger.specs.Statements.{Retired, Routed, Since, tables, ledger_parts}
 use Rattle.fare_ledger.proofs.Placed.{same_trees, within}
 use Rattle.fare_ledger.proofs.Own.{ledger_design}
 use Rattle.fare_ledger.proofs.Olders.{not_older, older_taken, one_older, moved_older, moved_value}
@@ -45,6 +46,7 @@ new_rows w o start known made is_new =
     let taps_none : db 7 ≡ [] = is_new.bare Routed (omega arith) (within w Routed refl) in
     let stated_none : db 4 ≡ [] = is_new.bare Stated (omega arith) (within w Stated refl) in
     let retired_none : db 6 ≡ [] = is_new.bare Retired (omega arith) (within w Retired refl) in
+    let since_none : db 9 ≡ [] = is_new.bare Since (omega arith) (within w Since refl) in
     let taps : (held_of db).taps ≡ [] = ap (map tap_of) taps_none in
     let said : (held_of db).statements ≡ [] = ap (map stated_of) stated_none in
     let none : (d : ℕ) → lane_of (held (db 1) d) ≡ record { taken = 0; closed = 0 } = λ d. ap (λ rows. lane_of (held rows d)) lanes_none in (
@@ -54,21 +56,23 @@ new_rows w o start known made is_new =
           taps = subst (AreRows IsTap) (sym taps_none) tt;
           statements = subst (AreRows IsStated) (sym stated_none) tt;
           retired = subst (AreRows IsRetired) (sym retired_none) tt;
+          since = subst (AreRows IsSince) (sym since_none) tt;
         };
         together = record {
-          counted = λ d. ap (λ l. l.taken) (none d) ∙ sym (ap (λ ts. length (taken_in o ts d)) taps);
-          numbered = subst (AreNext (λ d. 0)) (sym taps) tt;
+          counted = λ d. let few : length (taken_in o (held_of db).taps d) ≡ 0 = ap (λ ts. length (taken_in o ts d)) taps in omega (arith, few);
+          numbered = subst (AreNext (gone_in o (held_of db))) (sym taps) tt;
           single = subst AreApart (sym said) tt;
-          days = λ d y low high. absurd (let closed = ap (λ l. l.closed) (none d) in omega (arith, low, high, closed));
-          meta = record { row = int 1 ∷ int 3 ∷ int o ∷ []; only = is_new.meta; is = record { id_is = tt; format_is = refl; owner_is = refl } };
+          days = λ d y low high dated since. absurd (let closed = ap (λ l. l.closed) (none d) in omega (arith, low, high, closed));
+          meta = record { row = int 1 ∷ int 4 ∷ int o ∷ []; only = is_new.meta; is = record { id_is = tt; format_is = refl; owner_is = refl } };
           unused = is_new.bare Tap (omega arith) (within w Tap refl);
         };
       },
       record {
-        taken = λ d. ap (λ ts. taken_in o ts d) taps;
+        taken = λ d. λ i. filled (ap (λ l. l.taken) (none d) i - length (taken_in o (taps i) d)) (taken_in o (taps i) d);
         stated = λ d y. ap (λ ss. stated_in ss d y) said;
         closed = λ d. ap (λ l. l.closed) (none d);
         retired = λ d. ap (λ rows. is_some (held rows d)) retired_none;
+        from = λ d. ap (λ rows. since_of (held rows d)) since_none;
       },
     )
 

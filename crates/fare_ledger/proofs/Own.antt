@@ -19,10 +19,10 @@ use Rattle.fare_opening.specs.Moving.{Shape}
 use Rattle.fare_opening.specs.Numbers.{Tap}
 use Rattle.fare_opening.specs.Parts.{IsDesign, IsCounted, IsMoving, IsOlder, HasFewKeys, parts_of}
 use Rattle.fare_opening.proofs.Orders.{fit_as}
-use Rattle.fare_ledger.specs.Statements.{tables, texts, FitsLedger, moving_taps, first_format, second_format, ledger_parts}
-use Rattle.fare_ledger.specs.Tables.{one_table, two_tables, three_tables, first_schema, second_schema, ledger_schema, lane_table, tap_table, stated_table, retired_table, routed_table}
+use Rattle.fare_ledger.specs.Statements.{tables, texts, FitsLedger, moving_taps, first_format, second_format, third_format, ledger_parts}
+use Rattle.fare_ledger.specs.Tables.{one_table, two_tables, three_tables, first_schema, second_schema, third_schema, ledger_schema, lane_table, tap_table, stated_table, retired_table, routed_table, held_table}
 use Rattle.fare_ledger.proofs.Texts.{own_places, meta_own, put_meta_own, set_meta_own, unused_text, unused_own, put_older_own, clear_older_own, understood_all}
-use Rattle.fare_ledger.proofs.OlderTexts.{meta_first, put_meta_first, set_meta_first, older_first, understood_first, meta_second, put_meta_second, set_meta_second, older_second, understood_second}
+use Rattle.fare_ledger.proofs.OlderTexts.{meta_first, put_meta_first, set_meta_first, older_first, understood_first, meta_second, put_meta_second, set_meta_second, older_second, understood_second, meta_third, put_meta_third, set_meta_third, understood_third}
 
 -- TABLES
 abbrev pub make_meta_text : List ℕ
@@ -42,6 +42,9 @@ make_retired_text = codes "CREATE TABLE retired (device INTEGER PRIMARY KEY) STR
 
 abbrev pub make_routed_text : List ℕ
 make_routed_text = codes "CREATE TABLE tap2 (device INTEGER NOT NULL, lane INTEGER NOT NULL, link INTEGER NOT NULL, product INTEGER NOT NULL, token INTEGER NOT NULL, moment INTEGER NOT NULL, day INTEGER NOT NULL, route INTEGER NOT NULL, PRIMARY KEY (device, lane)) STRICT"
+
+abbrev pub make_held_text : List ℕ
+make_held_text = codes "CREATE TABLE held (device INTEGER PRIMARY KEY, since INTEGER NOT NULL CHECK (since >= 0)) STRICT"
 
 meta_is : table_defined_by make_meta_text ≡ Ok (meta_table 0)
 unfolding understood everything
@@ -66,6 +69,10 @@ retired_is = refl
 routed_is : table_defined_by make_routed_text ≡ Ok (routed_table 0)
 unfolding understood everything
 routed_is = refl
+
+held_is : table_defined_by make_held_text ≡ Ok (held_table 0)
+unfolding understood everything
+held_is = refl
 
 -- MADE
 pub meta_can : CanMake no_schema (codes "meta") make_meta_text (meta_table 0)
@@ -92,6 +99,10 @@ pub routed_can : CanMake second_schema (codes "tap2") make_routed_text (routed_t
 unfolding second_schema everything
 routed_can = record { creates = record { creates = refl; silent = refl; timeless = refl; begins = refl; ends = refl }; defined = routed_is; named = refl; uncounted = refl; room = omega arith }
 
+pub held_can : CanMake third_schema (codes "held") make_held_text (held_table 0)
+unfolding third_schema everything
+held_can = record { creates = record { creates = refl; silent = refl; timeless = refl; begins = refl; ends = refl }; defined = held_is; named = refl; uncounted = refl; room = omega arith }
+
 first_can : CanMakeAll no_schema first_format.tables
 first_can = (meta_table 0, meta_can, (lane_table 0, lane_can, (tap_table 0, tap_can, (stated_table 0, stated_can, tt))))
 
@@ -99,9 +110,13 @@ second_can : CanMakeAll no_schema second_format.tables
 unfolding first_schema
 second_can = (meta_table 0, meta_can, (lane_table 0, lane_can, (tap_table 0, tap_can, (stated_table 0, stated_can, (retired_table 0, retired_can, tt)))))
 
-pub can_make : CanMakeAll no_schema tables
+third_can : CanMakeAll no_schema third_format.tables
 unfolding first_schema second_schema
-can_make = (meta_table 0, meta_can, (lane_table 0, lane_can, (tap_table 0, tap_can, (stated_table 0, stated_can, (retired_table 0, retired_can, (routed_table 0, routed_can, tt))))))
+third_can = (meta_table 0, meta_can, (lane_table 0, lane_can, (tap_table 0, tap_can, (stated_table 0, stated_can, (retired_table 0, retired_can, (routed_table 0, routed_can, tt))))))
+
+pub can_make : CanMakeAll no_schema tables
+unfolding first_schema second_schema third_schema
+can_make = (meta_table 0, meta_can, (lane_table 0, lane_can, (tap_table 0, tap_can, (stated_table 0, stated_can, (retired_table 0, retired_can, (routed_table 0, routed_can, (held_table 0, held_can, tt)))))))
 
 meta_grows : Grows no_schema make_meta_text one_table
 unfolding understood everything
@@ -123,9 +138,13 @@ retired_grows : Grows first_schema make_retired_text second_schema
 unfolding first_schema second_schema understood everything
 retired_grows = record { table = retired_table 0; defines = record { plain = (refl, refl); whole = (refl, refl); defined = retired_is; uncounted = refl }; next_is = refl }
 
-routed_grows : Grows second_schema make_routed_text ledger_schema
-unfolding second_schema ledger_schema understood everything
+routed_grows : Grows second_schema make_routed_text third_schema
+unfolding second_schema third_schema understood everything
 routed_grows = record { table = routed_table 0; defines = record { plain = (refl, refl); whole = (refl, refl); defined = routed_is; uncounted = refl }; next_is = refl }
+
+held_grows : Grows third_schema make_held_text ledger_schema
+unfolding third_schema ledger_schema understood everything
+held_grows = record { table = held_table 0; defines = record { plain = (refl, refl); whole = (refl, refl); defined = held_is; uncounted = refl }; next_is = refl }
 
 first_grows : GrowsBy no_schema first_format.tables first_schema
 first_grows = (one_table, meta_grows, (two_tables, lane_grows, (three_tables, tap_grows, (first_schema, stated_grows, refl))))
@@ -133,8 +152,11 @@ first_grows = (one_table, meta_grows, (two_tables, lane_grows, (three_tables, ta
 second_grows : GrowsBy no_schema second_format.tables second_schema
 second_grows = (one_table, meta_grows, (two_tables, lane_grows, (three_tables, tap_grows, (first_schema, stated_grows, (second_schema, retired_grows, refl)))))
 
+third_grows : GrowsBy no_schema third_format.tables third_schema
+third_grows = (one_table, meta_grows, (two_tables, lane_grows, (three_tables, tap_grows, (first_schema, stated_grows, (second_schema, retired_grows, (third_schema, routed_grows, refl))))))
+
 own_grows : GrowsBy no_schema tables ledger_schema
-own_grows = (one_table, meta_grows, (two_tables, lane_grows, (three_tables, tap_grows, (first_schema, stated_grows, (second_schema, retired_grows, (ledger_schema, routed_grows, refl))))))
+own_grows = (one_table, meta_grows, (two_tables, lane_grows, (three_tables, tap_grows, (first_schema, stated_grows, (second_schema, retired_grows, (third_schema, routed_grows, (ledger_schema, held_grows, refl)))))))
 
 first_few : AllByRecursion (λ t. HasFewKeys t.1) first_format.tables
 first_few = (few_keys make_meta_text (meta_table 0) meta_is (omega arith), (few_keys make_lane_text (lane_table 0) lane_is (omega arith), (few_keys make_tap_text (tap_table 0) tap_is (omega arith), (few_keys make_stated_text (stated_table 0) stated_is (omega arith), tt))))
@@ -142,8 +164,11 @@ first_few = (few_keys make_meta_text (meta_table 0) meta_is (omega arith), (few_
 second_few : AllByRecursion (λ t. HasFewKeys t.1) second_format.tables
 second_few = (few_keys make_meta_text (meta_table 0) meta_is (omega arith), (few_keys make_lane_text (lane_table 0) lane_is (omega arith), (few_keys make_tap_text (tap_table 0) tap_is (omega arith), (few_keys make_stated_text (stated_table 0) stated_is (omega arith), (few_keys make_retired_text (retired_table 0) retired_is (omega arith), tt)))))
 
+third_few : AllByRecursion (λ t. HasFewKeys t.1) third_format.tables
+third_few = (few_keys make_meta_text (meta_table 0) meta_is (omega arith), (few_keys make_lane_text (lane_table 0) lane_is (omega arith), (few_keys make_tap_text (tap_table 0) tap_is (omega arith), (few_keys make_stated_text (stated_table 0) stated_is (omega arith), (few_keys make_retired_text (retired_table 0) retired_is (omega arith), (few_keys make_routed_text (routed_table 0) routed_is (omega arith), tt))))))
+
 own_few : AllByRecursion (λ t. HasFewKeys t.1) tables
-own_few = (few_keys make_meta_text (meta_table 0) meta_is (omega arith), (few_keys make_lane_text (lane_table 0) lane_is (omega arith), (few_keys make_tap_text (tap_table 0) tap_is (omega arith), (few_keys make_stated_text (stated_table 0) stated_is (omega arith), (few_keys make_retired_text (retired_table 0) retired_is (omega arith), (few_keys make_routed_text (routed_table 0) routed_is (omega arith), tt))))))
+own_few = (few_keys make_meta_text (meta_table 0) meta_is (omega arith), (few_keys make_lane_text (lane_table 0) lane_is (omega arith), (few_keys make_tap_text (tap_table 0) tap_is (omega arith), (few_keys make_stated_text (stated_table 0) stated_is (omega arith), (few_keys make_retired_text (retired_table 0) retired_is (omega arith), (few_keys make_routed_text (routed_table 0) routed_is (omega arith), (few_keys make_held_text (held_table 0) held_is (omega arith), tt)))))))
 
 -- IT FITS
 -- where the tables stand in a database of a ledger of an older format alone
@@ -153,6 +178,9 @@ first_places = record { all = record { at = 0; tree = 0 } ∷ record { at = 1; t
 abbrev pub second_places : Places
 second_places = record { all = record { at = 0; tree = 0 } ∷ record { at = 1; tree = 1 } ∷ record { at = 2; tree = 2 } ∷ record { at = 3; tree = 4 } ∷ record { at = 4; tree = 6 } ∷ [] }
 
+abbrev pub third_places : Places
+third_places = record { all = record { at = 0; tree = 0 } ∷ record { at = 1; tree = 1 } ∷ record { at = 2; tree = 2 } ∷ record { at = 3; tree = 4 } ∷ record { at = 4; tree = 6 } ∷ record { at = 5; tree = 7 } ∷ [] }
+
 first_fits : Fits first_schema first_format.texts first_schema first_places
 unfolding everything first_schema same_name understood_first
 first_fits = fit_as first_schema first_format.texts understood_first first_schema first_places refl refl refl (refl, (refl, (refl, (refl, tt)))) refl refl
@@ -161,9 +189,13 @@ second_fits : Fits second_schema second_format.texts second_schema second_places
 unfolding everything second_schema same_name understood_second
 second_fits = fit_as second_schema second_format.texts understood_second second_schema second_places refl refl refl (refl, (refl, (refl, (refl, (refl, tt))))) refl refl
 
+third_fits : Fits third_schema third_format.texts third_schema third_places
+unfolding everything third_schema same_name understood_third
+third_fits = fit_as third_schema third_format.texts understood_third third_schema third_places refl refl refl (refl, (refl, (refl, (refl, (refl, (refl, tt)))))) refl refl
+
 pub own_fits : FitsLedger ledger_schema own_places
 unfolding everything ledger_schema same_name understood_all
-own_fits = fit_as ledger_schema texts understood_all ledger_schema own_places refl refl refl (refl, (refl, (refl, (refl, (refl, (refl, tt)))))) refl refl
+own_fits = fit_as ledger_schema texts understood_all ledger_schema own_places refl refl refl (refl, (refl, (refl, (refl, (refl, (refl, (refl, tt))))))) refl refl
 
 first_last : AreLast no_schema (all_of first_places)
 first_last = (refl, (refl, (refl, (refl, tt))))
@@ -171,8 +203,11 @@ first_last = (refl, (refl, (refl, (refl, tt))))
 second_last : AreLast no_schema (all_of second_places)
 second_last = (refl, (refl, (refl, (refl, (refl, tt)))))
 
+third_last : AreLast no_schema (all_of third_places)
+third_last = (refl, (refl, (refl, (refl, (refl, (refl, tt))))))
+
 own_last : AreLast no_schema (all_of own_places)
-own_last = (refl, (refl, (refl, (refl, (refl, (refl, tt))))))
+own_last = (refl, (refl, (refl, (refl, (refl, (refl, (refl, tt)))))))
 
 -- the tables refer to no other, and have no default
 first_simple : AllByRecursion IsSimpleTable first_schema.tables
@@ -183,9 +218,13 @@ second_simple : AllByRecursion IsSimpleTable second_schema.tables
 unfolding second_schema
 second_simple = (record { columns = (tt, (tt, tt)); checks = tt; references = refl; stamps = tt; formats = refl }, (record { columns = (tt, (tt, (tt, tt))); checks = ((tt, tt), ((tt, tt), tt)); references = refl; stamps = tt; formats = refl }, (record { columns = (tt, (tt, (tt, (tt, (tt, (tt, (tt, tt))))))); checks = tt; references = refl; stamps = tt; formats = refl }, (record { columns = (tt, (tt, (tt, tt))); checks = tt; references = refl; stamps = tt; formats = refl }, (record { columns = (tt, tt); checks = tt; references = refl; stamps = tt; formats = refl }, tt)))))
 
+third_simple : AllByRecursion IsSimpleTable third_schema.tables
+unfolding third_schema
+third_simple = (record { columns = (tt, (tt, tt)); checks = tt; references = refl; stamps = tt; formats = refl }, (record { columns = (tt, (tt, (tt, tt))); checks = ((tt, tt), ((tt, tt), tt)); references = refl; stamps = tt; formats = refl }, (record { columns = (tt, (tt, (tt, (tt, (tt, (tt, (tt, tt))))))); checks = tt; references = refl; stamps = tt; formats = refl }, (record { columns = (tt, (tt, (tt, tt))); checks = tt; references = refl; stamps = tt; formats = refl }, (record { columns = (tt, tt); checks = tt; references = refl; stamps = tt; formats = refl }, (record { columns = (tt, (tt, (tt, (tt, (tt, (tt, (tt, (tt, tt)))))))); checks = tt; references = refl; stamps = tt; formats = refl }, tt))))))
+
 pub simple_tables : AllByRecursion IsSimpleTable ledger_schema.tables
 unfolding ledger_schema
-simple_tables = (record { columns = (tt, (tt, tt)); checks = tt; references = refl; stamps = tt; formats = refl }, (record { columns = (tt, (tt, (tt, tt))); checks = ((tt, tt), ((tt, tt), tt)); references = refl; stamps = tt; formats = refl }, (record { columns = (tt, (tt, (tt, (tt, (tt, (tt, (tt, tt))))))); checks = tt; references = refl; stamps = tt; formats = refl }, (record { columns = (tt, (tt, (tt, tt))); checks = tt; references = refl; stamps = tt; formats = refl }, (record { columns = (tt, tt); checks = tt; references = refl; stamps = tt; formats = refl }, (record { columns = (tt, (tt, (tt, (tt, (tt, (tt, (tt, (tt, tt)))))))); checks = tt; references = refl; stamps = tt; formats = refl }, tt))))))
+simple_tables = (record { columns = (tt, (tt, tt)); checks = tt; references = refl; stamps = tt; formats = refl }, (record { columns = (tt, (tt, (tt, tt))); checks = ((tt, tt), ((tt, tt), tt)); references = refl; stamps = tt; formats = refl }, (record { columns = (tt, (tt, (tt, (tt, (tt, (tt, (tt, tt))))))); checks = tt; references = refl; stamps = tt; formats = refl }, (record { columns = (tt, (tt, (tt, tt))); checks = tt; references = refl; stamps = tt; formats = refl }, (record { columns = (tt, tt); checks = tt; references = refl; stamps = tt; formats = refl }, (record { columns = (tt, (tt, (tt, (tt, (tt, (tt, (tt, (tt, tt)))))))); checks = tt; references = refl; stamps = tt; formats = refl }, (record { columns = (tt, (tt, tt)); checks = ((tt, tt), tt); references = refl; stamps = tt; formats = refl }, tt)))))))
 
 -- A LEDGER IS A STORE
 -- the table that holds no row, and what counts its rows
@@ -302,6 +341,30 @@ second_design = record {
   counted = tt;
 }
 
+pub third_design : IsDesign (parts_of third_format)
+unfolding third_schema
+third_design = record {
+  rest = drop 1 third_format.tables;
+  tables_are = refl;
+  meta_is = refl;
+  many = refl;
+  can = third_can;
+  grows = third_grows;
+  few = third_few;
+  simple = third_simple;
+  understood = understood_third;
+  home = third_places;
+  at_home = third_fits;
+  last = third_last;
+  asks = inl refl;
+  asks_meant = meta_third;
+  puts = inr (inl refl);
+  puts_meant = put_meta_third;
+  sets = inr (inr (inl refl));
+  sets_meant = set_meta_third;
+  counted = tt;
+}
+
 pub ledger_design : IsDesign ledger_parts
 unfolding ledger_schema
 ledger_design = record {
@@ -328,4 +391,4 @@ ledger_design = record {
 
 -- the older formats are such as are raised
 pub ledger_older : AllByRecursion (IsOlder ledger_parts) ledger_parts.older
-ledger_older = (record { design = first_design; tables_are = refl; moves = first_moves }, (record { design = second_design; tables_are = refl; moves = second_moves }, tt))
+ledger_older = (record { design = first_design; tables_are = refl; moves = first_moves }, (record { design = second_design; tables_are = refl; moves = second_moves }, (record { design = third_design; tables_are = refl; moves = tt }, tt)))

@@ -21,8 +21,8 @@ use Rattle.fare_opening.proofs.Standing as standing
 use Rattle.fare_ledger.specs.declared.layout.Layout.{Layout}
 use Rattle.fare_ledger.specs.Layouts.{schema_in, tree_in, place_in, table_at, ours}
 use Rattle.fare_ledger.specs.Making.{site_of}
-use Rattle.fare_ledger.specs.Statements.{Retired, Routed, ledger_parts}
-use Rattle.fare_ledger.specs.Tables.{ledger_schema, lane_table, stated_table, retired_table, routed_table}
+use Rattle.fare_ledger.specs.Statements.{Retired, Routed, Since, ledger_parts}
+use Rattle.fare_ledger.specs.Tables.{ledger_schema, lane_table, stated_table, retired_table, routed_table, held_table}
 
 -- each table is where it stands
 pub lane_placed : (w : Layout) → slice_get (schema_in w).tables (place_in w Device) ≡ Some (lane_table (tree_in w Device))
@@ -47,31 +47,41 @@ retired_stands w = standing.this_stands ledger_parts (site_of w) w.fits Retired 
 pub retired_placed : (w : Layout) → slice_get (schema_in w).tables (place_in w Retired) ≡ Some (retired_table (tree_in w Retired))
 retired_placed w = (retired_stands w).there
 
+pub held_stands : (w : Layout) → Stands (schema_in w) (held_table 9) (place_of w.places Since)
+unfolding ledger_schema
+held_stands w = standing.this_stands ledger_parts (site_of w) w.fits Since (held_table 9) refl
+
+pub held_placed : (w : Layout) → slice_get (schema_in w).tables (place_in w Since) ≡ Some (held_table (tree_in w Since))
+held_placed w = (held_stands w).there
+
 -- each table has a place
-pub within : (w : Layout) (k : TableNumber) → nat_lt k.number 6 ≡ true → k.number < length (all_of w.places)
+pub within : (w : Layout) (k : TableNumber) → nat_lt k.number 7 ≡ true → k.number < length (all_of w.places)
 unfolding ledger_schema
 within w k low =
-    let six : 6 ≡ length (all_of w.places) = standing.place_count (schema_in w) ledger_schema.tables (all_of w.places) w.fits.stands in
+    let seven : 7 ≡ length (all_of w.places) = standing.place_count (schema_in w) ledger_schema.tables (all_of w.places) w.fits.stands in
     grind (arith, nat_tests)
 
 -- what holds of each tree
-pub each : (P : ℕ → Type 0) (w : Layout) → AllByRecursion (λ (t : Table). P t.tree) (schema_in w).tables → (k : TableNumber) → nat_lt k.number 6 ≡ true → P (tree_in w k)
+pub each : (P : ℕ → Type 0) (w : Layout) → AllByRecursion (λ (t : Table). P t.tree) (schema_in w).tables → (k : TableNumber) → nat_lt k.number 7 ≡ true → P (tree_in w k)
 each P w all k low = standing.each_tree P ledger_parts (site_of w) w.fits all k (within w k low)
 
 -- two tables have two trees
-pub apart : (w : Layout) (k j : TableNumber) → (k.number == j.number) ≡ false → nat_lt k.number 6 ≡ true → nat_lt j.number 6 ≡ true → tree_in w k ≢ tree_in w j
+pub apart : (w : Layout) (k j : TableNumber) → (k.number == j.number) ≡ false → nat_lt k.number 7 ≡ true → nat_lt j.number 7 ≡ true → tree_in w k ≢ tree_in w j
 apart w k j other low high = elim (cases_Bool (nat_lt k.number j.number)) [
   | inl first ↦ standing.comes_first ledger_parts (site_of w) w.fits k j (grind (arith, nat_tests)) (within w j high)
   | inr last ↦ (λ e. standing.comes_first ledger_parts (site_of w) w.fits j k (grind (arith, nat_tests)) (within w k low) (sym e))
 ]
 
 -- no foreign key acts
-pub no_works : (w : Layout) (k : TableNumber) → nat_lt k.number 6 ≡ true → (keys : Keys) (db : Trees) (edit : Edit) → edit.table.tree ≡ tree_in w k → works (schema_in w) keys 0 edit.table.tree (taken_by db edit) edit.news ≡ []
+pub no_works : (w : Layout) (k : TableNumber) → nat_lt k.number 7 ≡ true → (keys : Keys) (db : Trees) (edit : Edit) → edit.table.tree ≡ tree_in w k → works (schema_in w) keys 0 edit.table.tree (taken_by db edit) edit.news ≡ []
 no_works w k low = standing.no_works ledger_parts (site_of w) w.fits k (within w k low)
 
 -- no index has the rowid for its key
 pub no_shares : (w : Layout) (new row : Row) → list_any (shares (Some (0 ∷ [])) (lane_table (tree_in w Device)) new row) (schema_in w).indexes ≡ false
 no_shares w new row = untouched.no_shares (lane_table (tree_in w Device)) new row w.schema.indexes (standing.none_by_rowid ledger_parts (site_of w) w.fits Device (within w Device refl))
+
+pub since_shares : (w : Layout) (new row : Row) → list_any (shares (Some (0 ∷ [])) (held_table (tree_in w Since)) new row) (schema_in w).indexes ≡ false
+since_shares w new row = untouched.no_shares (held_table (tree_in w Since)) new row w.schema.indexes (standing.none_by_rowid ledger_parts (site_of w) w.fits Since (within w Since refl))
 
 -- a schema has them at one place
 pub same_trees : (v w : Layout) (trees : Trees) → schema_in v ≡ schema_in w → ours v trees ≡ ours w trees

@@ -21,19 +21,19 @@ use Rattle.fare_tables.proofs.Statements.{made, cast_int, cast_null, went, same_
 use Rattle.fare_opening.specs.Numbers.{Meta, Device, Tap, Stated}
 use Rattle.fare_ledger.specs.declared.layout.Layout.{Layout}
 use Rattle.fare_ledger.specs.Layouts.{schema_in, tree_in, ours}
-use Rattle.fare_ledger.specs.Statements.{Retired, Routed}
+use Rattle.fare_ledger.specs.Statements.{Retired, Routed, Since}
 use Rattle.fare_ledger.specs.Tables.{routed_table, stated_table, retired_table}
-use Rattle.fare_ledger.specs.Held.{TapRow, StatedRow, PutsTap, PutsLane, PutsStated, PutsRetired, Becomes, AreReadable, IsLane, IsTap, IsStated, IsRetired, retired_row, lane_row, lane_of, tap_cells, tap_of, stated_cells, stated_of, held_of, with_lane, with_tap, with_stated, with_numbers, with_retired_lane}
+use Rattle.fare_ledger.specs.Held.{TapRow, StatedRow, PutsTap, PutsLane, PutsStated, PutsRetired, PutsSince, Becomes, AreReadable, IsLane, IsTap, IsStated, IsRetired, IsSince, since_row, since_of, retired_row, lane_row, lane_of, tap_cells, tap_of, stated_cells, stated_of, held_of, with_lane, with_tap, with_stated, with_numbers, with_retired_lane, with_since}
 use Rattle.fare_ledger.specs.Batches.{with_tap_if}
 use Rattle.fare_ledger.proofs.Texts.{put_tap_text, put_tap_command, put_tap_meant, put_stated_text, put_stated_command, put_stated_meant, put_retired_text, put_retired_command, put_retired_meant}
 use Rattle.fare_opening.proofs.Standing.{at_found}
 use Rattle.fare_ledger.proofs.Placed.{no_works, routed_placed, stated_placed, retired_placed, each, apart}
-use Rattle.fare_ledger.proofs.Found.{lane_ids, retired_ids}
+use Rattle.fare_ledger.proofs.Found.{lane_ids, retired_ids, since_ids}
 
 pub tap_ids : (r : Row) → IsTap r → column r 0 ≡ int (id_of r)
 tap_ids r ok = ap (λ x. column x 0) ok
 
-stated_ids : (r : Row) → IsStated r → column r 0 ≡ int (id_of r)
+pub stated_ids : (r : Row) → IsStated r → column r 0 ≡ int (id_of r)
 stated_ids r ok = ap (λ x. column x 0) ok
 
 pub puts_tap : (w : Layout) (old new : State) (t : TapRow) (count : ℕ) → old.now.schema ≡ schema_in w → Executes put_tap_text (tap_cells t) old new (Ok count) → PutsTap w old.now new.now t
@@ -64,6 +64,7 @@ puts_tap w old new t count has h =
       statements = at (tree_in w Stated) ∙ kept Stated refl (apart w Stated Routed refl refl refl);
       retired = at (tree_in w Retired) ∙ kept Retired refl (apart w Retired Routed refl refl refl);
       meta = at (tree_in w Meta) ∙ kept Meta refl (apart w Meta Routed refl refl refl);
+      since = at (tree_in w Since) ∙ kept Since refl (apart w Since Routed refl refl refl);
       unused = at (tree_in w Tap) ∙ kept Tap refl (apart w Tap Routed refl refl refl);
     }
 
@@ -95,6 +96,7 @@ puts_stated w old new s count has h =
       statements = at (tree_in w Stated) ∙ step.rows ∙ edit;
       retired = at (tree_in w Retired) ∙ kept Retired refl (apart w Retired Stated refl refl refl);
       meta = at (tree_in w Meta) ∙ kept Meta refl (apart w Meta Stated refl refl refl);
+      since = at (tree_in w Since) ∙ kept Since refl (apart w Since Stated refl refl refl);
       unused = at (tree_in w Tap) ∙ kept Tap refl (apart w Tap Stated refl refl refl);
     }
 
@@ -126,6 +128,7 @@ puts_retired w old new d count has h =
       statements = at (tree_in w Stated) ∙ kept Stated refl (apart w Stated Retired refl refl refl);
       retired = at (tree_in w Retired) ∙ step.rows ∙ edit;
       meta = at (tree_in w Meta) ∙ kept Meta refl (apart w Meta Retired refl refl refl);
+      since = at (tree_in w Since) ∙ kept Since refl (apart w Since Retired refl refl refl);
       unused = at (tree_in w Tap) ∙ kept Tap refl (apart w Tap Retired refl refl refl);
     }
 
@@ -152,15 +155,17 @@ both w old mid new t c ok first second =
     let lanes = lanes_after (ours w mid.trees 1) (ours w new.trees 1) t.device t.lane c (subst (AreRows IsLane) (sym first.lanes) ok.lanes) second.lanes in
     let statements = second.statements ∙ first.statements in
     let retired = second.retired ∙ first.retired in
+    let since = second.since ∙ first.since in
     record {
       schema = second.schema;
       database = second.database;
-      readable = record { lanes = lanes.0; taps = taps.0; statements = subst (AreRows IsStated) (sym statements) ok.statements; retired = subst (AreRows IsRetired) (sym retired) ok.retired };
+      readable = record { lanes = lanes.0; taps = taps.0; statements = subst (AreRows IsStated) (sym statements) ok.statements; retired = subst (AreRows IsRetired) (sym retired) ok.retired; since = subst (AreRows IsSince) (sym since) ok.since };
       value = λ i. record {
         lanes = λ x. (lanes.1 x ∙ ap (λ all. with_lane t.device t.lane c (λ y. lane_of (held all y)) x) first.lanes) i;
         taps = (ap (map tap_of) taps.1 ∙ map-append tap_of (ours w old.trees 7) _) i;
         statements = ap (map stated_of) statements i;
         retired = λ x. is_some (held (retired i) x);
+        since = λ x. since_of (held (since i) x);
         meta = (second.meta ∙ first.meta) i;
         unused = (second.unused ∙ first.unused) i;
       };
@@ -173,12 +178,13 @@ tap_alone w old new t c ok puts =
     record {
       schema = puts.schema;
       database = puts.database;
-      readable = record { lanes = subst (AreRows IsLane) (sym puts.lanes) ok.lanes; taps = taps.0; statements = subst (AreRows IsStated) (sym puts.statements) ok.statements; retired = subst (AreRows IsRetired) (sym puts.retired) ok.retired };
+      readable = record { lanes = subst (AreRows IsLane) (sym puts.lanes) ok.lanes; taps = taps.0; statements = subst (AreRows IsStated) (sym puts.statements) ok.statements; retired = subst (AreRows IsRetired) (sym puts.retired) ok.retired; since = subst (AreRows IsSince) (sym puts.since) ok.since };
       value = λ i. record {
         lanes = λ x. lane_of (held (puts.lanes i) x);
         taps = (ap (map tap_of) taps.1 ∙ map-append tap_of (ours w old.trees 7) _) i;
         statements = map stated_of (puts.statements i);
         retired = λ x. is_some (held (puts.retired i) x);
+        since = λ x. since_of (held (puts.since i) x);
         meta = puts.meta i;
         unused = puts.unused i;
       };
@@ -190,12 +196,13 @@ one_more w old new s ok puts =
     record {
       schema = puts.schema;
       database = puts.database;
-      readable = record { lanes = subst (AreRows IsLane) (sym puts.lanes) ok.lanes; taps = subst (AreRows IsTap) (sym puts.taps) ok.taps; statements = statements.0; retired = subst (AreRows IsRetired) (sym puts.retired) ok.retired };
+      readable = record { lanes = subst (AreRows IsLane) (sym puts.lanes) ok.lanes; taps = subst (AreRows IsTap) (sym puts.taps) ok.taps; statements = statements.0; retired = subst (AreRows IsRetired) (sym puts.retired) ok.retired; since = subst (AreRows IsSince) (sym puts.since) ok.since };
       value = λ i. record {
         lanes = λ x. lane_of (held (puts.lanes i) x);
         taps = map tap_of (puts.taps i);
         statements = (ap (map stated_of) statements.1 ∙ map-append stated_of (ours w old.trees 4) _) i;
         retired = λ x. is_some (held (puts.retired i) x);
+        since = λ x. since_of (held (puts.since i) x);
         meta = puts.meta i;
         unused = puts.unused i;
       };
@@ -207,12 +214,13 @@ other_numbers w old new d k c ok puts =
     record {
       schema = puts.schema;
       database = puts.database;
-      readable = record { lanes = lanes.0; taps = subst (AreRows IsTap) (sym puts.taps) ok.taps; statements = subst (AreRows IsStated) (sym puts.statements) ok.statements; retired = subst (AreRows IsRetired) (sym puts.retired) ok.retired };
+      readable = record { lanes = lanes.0; taps = subst (AreRows IsTap) (sym puts.taps) ok.taps; statements = subst (AreRows IsStated) (sym puts.statements) ok.statements; retired = subst (AreRows IsRetired) (sym puts.retired) ok.retired; since = subst (AreRows IsSince) (sym puts.since) ok.since };
       value = λ i. record {
         lanes = λ x. lanes.1 x i;
         taps = map tap_of (puts.taps i);
         statements = map stated_of (puts.statements i);
         retired = λ x. is_some (held (puts.retired i) x);
+        since = λ x. since_of (held (puts.since i) x);
         meta = puts.meta i;
         unused = puts.unused i;
       };
@@ -233,12 +241,53 @@ one_retired w old new d ok puts =
         taps = subst (AreRows IsTap) (sym puts.taps) ok.taps;
         statements = subst (AreRows IsStated) (sym puts.statements) ok.statements;
         retired = subst (AreRows IsRetired) (sym puts.retired) (rows_put IsRetired retired_ids rows d (Null ∷ []) refl ok.retired);
+        since = subst (AreRows IsSince) (sym puts.since) ok.since;
       };
       value = λ i. record {
         lanes = λ x. lane_of (held (puts.lanes i) x);
         taps = map tap_of (puts.taps i);
         statements = map stated_of (puts.statements i);
         retired = λ x. (ap (λ all. is_some (held all x)) puts.retired ∙ ap is_some (held_put IsRetired retired_ids rows d (Null ∷ []) x ok.retired) ∙ some_if (d == x) (retired_row d) (held rows x)) i;
+        since = λ x. since_of (held (puts.since i) x);
+        meta = puts.meta i;
+        unused = puts.unused i;
+      };
+    }
+
+since_if : (b : Bool) (r : Row) (o : Option Row) → since_of (if b then Some r else o) ≡ (if b then since_of (Some r) else since_of o)
+since_if true r o = refl
+since_if false r o = refl
+
+since_after : (rows now : List Row) (d f : ℕ) → AreRows IsSince rows → (now ≡ put_row (since_row d f) rows) ⊎ (now ≡ put_row (since_row d f) (without_rowid (pos d) rows))
+    → AreRows IsSince now × ((x : ℕ) → since_of (held now x) ≡ (if d == x then f else since_of (held rows x)))
+since_after rows now d f ok (inl is) = (
+  subst (AreRows IsSince) (sym is) (rows_put IsSince since_ids rows d (Null ∷ int f ∷ []) refl ok),
+  λ x. ap (λ all. since_of (held all x)) is ∙ ap since_of (held_put IsSince since_ids rows d (Null ∷ int f ∷ []) x ok) ∙ since_if (d == x) (since_row d f) (held rows x),
+)
+since_after rows now d f ok (inr is) = (
+  subst (AreRows IsSince) (sym is) (rows_put IsSince since_ids (without_rowid (pos d) rows) d (Null ∷ int f ∷ []) refl (rows_without IsSince since_ids rows d ok)),
+  λ x. ap (λ all. since_of (held all x)) is ∙ ap since_of (held_replaced IsSince since_ids rows d (Null ∷ int f ∷ []) x ok) ∙ since_if (d == x) (since_row d f) (held rows x),
+)
+
+pub other_since : (w : Layout) (old new : Database) (d f : ℕ) → AreReadable (ours w old.trees) → PutsSince w old new d f → Becomes w new (with_since d f (held_of (ours w old.trees)))
+other_since w old new d f ok puts =
+    let after = since_after (ours w old.trees 9) (ours w new.trees 9) d f ok.since puts.since in
+    record {
+      schema = puts.schema;
+      database = puts.database;
+      readable = record {
+        lanes = subst (AreRows IsLane) (sym puts.lanes) ok.lanes;
+        taps = subst (AreRows IsTap) (sym puts.taps) ok.taps;
+        statements = subst (AreRows IsStated) (sym puts.statements) ok.statements;
+        retired = subst (AreRows IsRetired) (sym puts.retired) ok.retired;
+        since = after.0;
+      };
+      value = λ i. record {
+        lanes = λ x. lane_of (held (puts.lanes i) x);
+        taps = map tap_of (puts.taps i);
+        statements = map stated_of (puts.statements i);
+        retired = λ x. is_some (held (puts.retired i) x);
+        since = λ x. after.1 x i;
         meta = puts.meta i;
         unused = puts.unused i;
       };

@@ -1,6 +1,6 @@
 -- What raising a ledger of an older format makes of its rows.
 use Rattle.std.proofs.Common.{◌≡◌, ◌≢◌, ◌<◌, ◌==◌, inl, inr, ℕ, Bool, true, false, List, [], ◌∷◌, ◌++◌, length, map, nat_lt, Some, if◌then◌else◌, refl, sym, ap, subst, ◌∙◌, arith}
-use Rattle.std.specs.Prelude.{is_some, IfSome}
+use Rattle.std.specs.Prelude.{is_some, IfSome, Option, None, ◌⊎◌}
 use Rattle.std.specs.List.{AllByRecursion}
 use Rattle.std.proofs.lemmas.Bool.Decides.{nat_tests}
 use Rattle.sqlite_value.specs.Order.{Row}
@@ -20,26 +20,35 @@ use Rattle.fare_opening.specs.MetaRow.{IsMeta}
 use Rattle.fare_opening.specs.Numbers.{Meta, Device, Tap, Stated}
 use Rattle.fare_opening.specs.Parts.{OlderParts, parts_of}
 use Rattle.fare_opening.specs.Raising as raising
-use Rattle.fare_opening.specs.Moving.{columns_of, IsNumbered, AreNumbered, copies}
+use Rattle.fare_opening.specs.Moving.{MovingParts, columns_of, IsNumbered, AreNumbered, copies}
 use Rattle.fare_opening.specs.Sites.{tree_at, rows_at}
 use Rattle.fare_opening.proofs.Standing as standing
 use Rattle.fare_ledger.specs.declared.layout.Layout.{Layout}
-use Rattle.fare_ledger.specs.Held.{Held, AreReadable, IsLane, IsTap, IsStated, IsRetired, lane_of, tap_of, stated_of, held_of}
+use Rattle.fare_ledger.specs.Held.{Held, AreReadable, IsLane, IsTap, IsStated, IsRetired, IsSince, lane_of, tap_of, stated_of, since_of, held_of}
 use Rattle.fare_ledger.specs.Layouts.{schema_in, ours}
 use Rattle.fare_ledger.specs.Making.{site_of}
-use Rattle.fare_ledger.specs.Older.{rows_in, olders, value_older, IsLawfulOlder}
+use Rattle.fare_ledger.specs.Older.{rows_in, taps_in, unmoved_in, olders, value_older, IsLawfulOlder}
 use Rattle.fare_ledger.specs.Opening.{Rises, IsOlderLedger, IsLeftRaised, KeepsAllButTwo}
-use Rattle.fare_ledger.specs.Statements.{Retired, moving_taps, ledger_parts}
-use Rattle.fare_ledger.specs.Tables.{first_schema, second_schema}
+use Rattle.fare_ledger.specs.Statements.{Retired, Routed, Since, moving_taps, ledger_parts}
+use Rattle.fare_ledger.specs.Tables.{first_schema, second_schema, third_schema}
 use Rattle.fare_ledger.specs.Words.{FitInFormat, FitTogether, IsLawful, value_at, value_in}
-use Rattle.fare_ledger.proofs.Olders.{has_four, up_to_five, one_older, older_within, moved_older, moved_value, same_tree}
+use Rattle.fare_ledger.proofs.Olders.{has_four, up_to_six, one_older, older_within, moved_older, moved_value, same_tree}
 use Rattle.fare_ledger.proofs.Placed.{within, apart}
 
--- each moves the taps
-moves : (o : OlderParts) → Has ledger_parts.older o → o.moving ≡ Some moving_taps
-moves o (inl is) = ap (λ (x : OlderParts). x.moving) is
-moves o (inr (inl is)) = ap (λ (x : OlderParts). x.moving) is
-moves o (inr (inr past)) = absurd past
+-- each of the first two moves the taps, and the third has them where the newest has
+abbrev IsMover : OlderParts → Type 0
+IsMover o = (o.moving ≡ Some moving_taps) ⊎ ((o.moving ≡ None) × (5 < length o.tables))
+
+moves : (o : OlderParts) → Has ledger_parts.older o → IsMover o
+moves o (inl is) = inl (ap (λ (x : OlderParts). x.moving) is)
+moves o (inr (inl is)) = inl (ap (λ (x : OlderParts). x.moving) is)
+moves o (inr (inr (inl is))) = inr (ap (λ (x : OlderParts). x.moving) is, subst (λ (x : OlderParts). 5 < length x.tables) (sym is) (omega arith))
+moves o (inr (inr (inr past))) = absurd past
+
+-- what each table of a list has
+each_of : (P Q : Table → Type 0) → ((t : Table) → P t → Q t) → (ts : List Table) → AllByRecursion P ts → AllByRecursion Q ts
+each_of P Q so [] all = tt
+each_of P Q so (t ∷ ts) all = (so t all.0, each_of P Q so ts all.1)
 
 same_head : {X : Type 0} {x y : X} {xs ys : List X} → x ∷ xs ≡ y ∷ ys → x ≡ y
 same_head e = cc
@@ -78,38 +87,49 @@ numbered (r ∷ rows) are = (numbered_row r are.0, numbered_above (id_of r) rows
 
 -- the taps of an older format have seven columns
 seven : (o : OlderParts) → Has ledger_parts.older o → columns_of o.own Tap ≡ 7
-unfolding first_schema second_schema
+unfolding first_schema second_schema third_schema
 seven o (inl is) = ap (λ (x : OlderParts). columns_of x.own Tap) is
 seven o (inr (inl is)) = ap (λ (x : OlderParts). columns_of x.own Tap) is
-seven o (inr (inr past)) = absurd past
+seven o (inr (inr (inl is))) = ap (λ (x : OlderParts). columns_of x.own Tap) is
+seven o (inr (inr (inr past))) = absurd past
 
 -- ---- the rows
 
 module _ (o : OlderParts) (w : Layout) (v : Site) (owner start : ℕ) (old new : Database) (older : Has ledger_parts.older o) (can : raising.CanRise ledger_parts o owner old v (site_of w)) (is : raising.IsRaised ledger_parts o owner (site_of w) old new) where
-  -- each table but meta and tap keeps its rows
-  others : AllByRecursion (λ (t : Table). t.tree ≢ tree_at (site_of w) Meta → t.tree ≢ tree_at (site_of w) Tap → new.trees t.tree ≡ old.trees t.tree) v.schema.tables
-  others = subst (λ (s : Schema). AllByRecursion (λ (t : Table). t.tree ≢ tree_at (site_of w) Meta → t.tree ≢ tree_at (site_of w) Tap → new.trees t.tree ≡ old.trees t.tree) s.tables) can.rises.has
-      (subst (λ m. AllByRecursion (λ (t : Table). t.tree ≢ tree_at (site_of w) Meta → raising.IsKept m (site_of w) t.tree → new.trees t.tree ≡ old.trees t.tree) old.schema.tables) (moves o older) is.others)
+  -- each table but meta keeps its rows, unless they move
+  others : AllByRecursion (λ (t : Table). t.tree ≢ tree_at (site_of w) Meta → raising.IsKept o.moving (site_of w) t.tree → new.trees t.tree ≡ old.trees t.tree) v.schema.tables
+  others = subst (λ (s : Schema). AllByRecursion (λ (t : Table). t.tree ≢ tree_at (site_of w) Meta → raising.IsKept o.moving (site_of w) t.tree → new.trees t.tree ≡ old.trees t.tree) s.tables) can.rises.has is.others
+
+  stays : (tree : ℕ) → tree ≢ tree_at (site_of w) Tap → raising.IsKept o.moving (site_of w) tree
+  stays tree other = elim (moves o older) [
+    | inl some ↦ subst (λ m. raising.IsKept m (site_of w) tree) (sym some) other
+    | inr none ↦ subst (λ m. raising.IsKept m (site_of w) tree) (sym none.0) tt
+  ]
 
   -- those that were there
   there : (k : TableNumber) → k.number < length o.tables → tree_at v k ≡ tree_at (site_of w) k
   there k low = same_tree o v (site_of w) old.schema k older can.rises low
 
+  all_low : (k : TableNumber) → k.number < length o.tables → nat_lt k.number 7 ≡ true
+  all_low k low = let six = up_to_six o older in grind (arith, nat_tests)
+
+  keeps_at : (k : TableNumber) → (k.number == 0) ≡ false → k.number < length o.tables → raising.IsKept o.moving (site_of w) (tree_at v k) → rows_at (site_of w) k new.trees ≡ rows_at v k old.trees
+  keeps_at k not_meta low kept =
+      let all = standing.each_tree (λ n. n ≢ tree_at (site_of w) Meta → raising.IsKept o.moving (site_of w) n → new.trees n ≡ old.trees n) (parts_of o) v can.rises.from others k (older_within o v older can.rises.from k low) in
+      ap new.trees (sym (there k low)) ∙ all (subst (λ n. n ≢ tree_at (site_of w) Meta) (sym (there k low)) (apart w k Meta not_meta (all_low k low) refl)) kept
+
   keeps : (k : TableNumber) → (k.number == 0) ≡ false → (k.number == 2) ≡ false → k.number < length o.tables → rows_at (site_of w) k new.trees ≡ rows_at v k old.trees
-  keeps k not_meta not_tap low =
-      let five = up_to_five o older in
-      let here : nat_lt k.number 6 ≡ true = grind (arith, nat_tests) in
-      let kept = standing.each_tree (λ n. n ≢ tree_at (site_of w) Meta → n ≢ tree_at (site_of w) Tap → new.trees n ≡ old.trees n) (parts_of o) v can.rises.from others k (older_within o v older can.rises.from k low) in
-      ap new.trees (sym (there k low)) ∙ kept (subst (λ n. n ≢ tree_at (site_of w) Meta) (sym (there k low)) (apart w k Meta not_meta here refl)) (subst (λ n. n ≢ tree_at (site_of w) Tap) (sym (there k low)) (apart w k Tap not_tap here refl))
+  keeps k not_meta not_tap low = keeps_at k not_meta low (stays (tree_at v k) (subst (λ n. n ≢ tree_at (site_of w) Tap) (sym (there k low)) (apart w k Tap not_tap (all_low k low) refl)))
+
+  -- the rows of one that it has
+  has_rows : (k : TableNumber) → k.number < length o.tables → rows_at v k old.trees ≡ rows_in o v k old.trees
+  has_rows k low = let yes : nat_lt k.number (length o.tables) ≡ true = grind (arith, nat_tests) in sym (ap (λ b. if b then rows_at v k old.trees else []) yes)
 
   within_four : (k : TableNumber) → k.number < 4 → k.number < length o.tables
   within_four k low = let four = has_four o older in omega (arith, four, low)
 
   kept_in : (k : TableNumber) → (k.number == 0) ≡ false → (k.number == 2) ≡ false → k.number < 4 → rows_at (site_of w) k new.trees ≡ rows_in o v k old.trees
-  kept_in k not_meta not_tap low =
-      let inside = within_four k low in
-      let yes_in : nat_lt k.number (length o.tables) ≡ true = grind (arith, nat_tests) in
-      keeps k not_meta not_tap inside ∙ sym (ap (λ b. if b then rows_at v k old.trees else []) yes_in)
+  kept_in k not_meta not_tap low = keeps k not_meta not_tap (within_four k low) ∙ has_rows k (within_four k low)
 
   lanes : ours w new.trees 1 ≡ olders o v old.trees 1
   unfolding ours olders
@@ -119,31 +139,56 @@ module _ (o : OlderParts) (w : Layout) (v : Site) (owner start : ℕ) (old new :
   unfolding ours olders
   statements = kept_in Stated refl refl (omega arith)
 
+  not_filled : (k : TableNumber) → k.number ≢ 5 → raising.IsNotFilled o.moving k
+  not_filled k other = elim (moves o older) [
+    | inl some ↦ subst (λ m. raising.IsNotFilled m k) (sym some) other
+    | inr none ↦ subst (λ m. raising.IsNotFilled m k) (sym none.0) tt
+  ]
+
   retired_rows : (b : Bool) → nat_lt 4 (length o.tables) ≡ b → rows_at (site_of w) Retired new.trees ≡ (if b then rows_at v Retired old.trees else [])
   retired_rows true in_it = keeps Retired refl refl (grind (arith, nat_tests))
-  retired_rows false out = is.empty Retired (grind (arith, nat_tests)) (within w Retired refl) (subst (λ m. raising.IsNotFilled m Retired) (sym (moves o older)) (λ e. omega (arith, e)))
+  retired_rows false out = is.empty Retired (grind (arith, nat_tests)) (within w Retired refl) (not_filled Retired (λ e. omega (arith, e)))
 
   retired : ours w new.trees 6 ≡ olders o v old.trees 6
   unfolding ours olders
   retired = retired_rows (nat_lt 4 (length o.tables)) refl
 
-  moved : raising.HasMoved o (site_of w) old new moving_taps
-  moved = subst (λ m. IfSome m (raising.HasMoved o (site_of w) old new)) (moves o older) is.moved
+  since : ours w new.trees 9 ≡ olders o v old.trees 9
+  unfolding ours olders
+  since =
+      let six = up_to_six o older in
+      let out : nat_lt 6 (length o.tables) ≡ false = grind (arith, nat_tests) in
+      is.empty Since six (within w Since refl) (not_filled Since (λ e. omega (arith, e))) ∙ sym (ap (λ b. if b then rows_at v Since old.trees else []) out)
+
+  -- where the taps move
+  moved : o.moving ≡ Some moving_taps → raising.HasMoved o (site_of w) old new moving_taps
+  moved some = subst (λ m. IfSome m (raising.HasMoved o (site_of w) old new)) some is.moved
 
   tap_rows : rows_at v Tap old.trees ≡ rows_at (site_of w) Tap old.trees
   tap_rows = ap old.trees (there Tap (within_four Tap (omega arith)))
 
-  are_numbered : AreReadable (olders o v old.trees) → AreNumbered (columns_of o.own Tap) (rows_at (site_of w) Tap old.trees)
+  copied_taps : o.moving ≡ Some moving_taps → taps_in o v old.trees ≡ copies (rows_at v Tap old.trees)
+  copied_taps some = ap (λ (m : Option MovingParts). if is_some m then copies (rows_at v Tap old.trees) else rows_in o v Routed old.trees) some
+
+  are_numbered : o.moving ≡ Some moving_taps → AreReadable (olders o v old.trees) → AreNumbered (columns_of o.own Tap) (rows_at (site_of w) Tap old.trees)
   unfolding olders
-  are_numbered readable = subst (λ n. AreNumbered n (rows_at (site_of w) Tap old.trees)) (sym (seven o older)) (subst (AreNumbered 7) tap_rows (numbered (rows_at v Tap old.trees) readable.taps))
+  are_numbered some readable = subst (λ n. AreNumbered n (rows_at (site_of w) Tap old.trees)) (sym (seven o older)) (subst (AreNumbered 7) tap_rows (numbered (rows_at v Tap old.trees) (subst (AreRows IsTap) (copied_taps some) readable.taps)))
 
   taps : AreReadable (olders o v old.trees) → ours w new.trees 7 ≡ olders o v old.trees 7
   unfolding ours olders
-  taps readable = moved.copied (are_numbered readable) ∙ ap copies (sym tap_rows)
+  taps readable = elim (moves o older) [
+    | inl some ↦ (moved some).copied (are_numbered some readable) ∙ ap copies (sym tap_rows) ∙ sym (copied_taps some)
+    | inr none ↦ keeps Routed refl refl none.1 ∙ has_rows Routed none.1 ∙ sym (ap (λ (m : Option MovingParts). if is_some m then copies (rows_at v Tap old.trees) else rows_in o v Routed old.trees) none.0)
+  ]
 
   unused : AreReadable (olders o v old.trees) → ours w new.trees 2 ≡ olders o v old.trees 2
   unfolding ours olders
-  unused readable = moved.emptied (are_numbered readable)
+  unused readable = elim (moves o older) [
+    | inl some ↦ (moved some).emptied (are_numbered some readable) ∙ sym (ap (λ (m : Option MovingParts). if is_some m then [] else rows_in o v Tap old.trees) some)
+    | inr none ↦ (
+        let here = within_four Tap (omega arith) in
+        keeps_at Tap refl here (subst (λ m. raising.IsKept m (site_of w) (tree_at v Tap)) (sym none.0) tt) ∙ has_rows Tap here ∙ sym (ap (λ (m : Option MovingParts). if is_some m then [] else rows_in o v Tap old.trees) none.0))
+  ]
 
   meta : FitInFormat o.format owner start (held_of (olders o v old.trees)) → FitTogether owner start (record (held_of (olders o v old.trees)) { meta = ours w new.trees 0 })
   unfolding ours
@@ -156,6 +201,7 @@ module _ (o : OlderParts) (w : Layout) (v : Site) (owner start : ℕ) (old new :
     taps = map tap_of (sym (taps readable) i);
     statements = map stated_of (sym statements i);
     retired = λ d. is_some (held (sym retired i) d);
+    since = λ d. since_of (held (sym since i) d);
     meta = ours w new.trees 0;
     unused = sym (unused readable) i;
   }
@@ -167,6 +213,7 @@ module _ (o : OlderParts) (w : Layout) (v : Site) (owner start : ℕ) (old new :
       taps = subst (AreRows IsTap) (sym (taps law.readable)) law.readable.taps;
       statements = subst (AreRows IsStated) (sym statements) law.readable.statements;
       retired = subst (AreRows IsRetired) (sym retired) law.readable.retired;
+      since = subst (AreRows IsSince) (sym since) law.readable.since;
     };
     together = subst (FitTogether owner start) (but_meta law.readable) (meta law.together);
   }
@@ -175,8 +222,8 @@ module _ (o : OlderParts) (w : Layout) (v : Site) (owner start : ℕ) (old new :
   raised_value law known = ap (value_in owner start known) (sym (but_meta law.readable))
 
   pub keeps_all_but : KeepsAllButTwo v old new
-  keeps_all_but = subst (λ m. AllByRecursion (λ (t : Table). t.tree ≢ m → t.tree ≢ tree_at v Tap → new.trees t.tree ≡ old.trees t.tree) v.schema.tables) (sym (there Meta (within_four Meta (omega arith))))
-      (subst (λ m. AllByRecursion (λ (t : Table). t.tree ≢ tree_at (site_of w) Meta → t.tree ≢ m → new.trees t.tree ≡ old.trees t.tree) v.schema.tables) (sym (there Tap (within_four Tap (omega arith)))) others)
+  keeps_all_but = each_of (λ (t : Table). t.tree ≢ tree_at (site_of w) Meta → raising.IsKept o.moving (site_of w) t.tree → new.trees t.tree ≡ old.trees t.tree) (λ (t : Table). t.tree ≢ tree_at v Meta → t.tree ≢ tree_at v Tap → new.trees t.tree ≡ old.trees t.tree)
+      (λ t kept not_meta not_tap. kept (subst (λ n. t.tree ≢ n) (there Meta (within_four Meta (omega arith))) not_meta) (stays t.tree (subst (λ n. t.tree ≢ n) (there Tap (within_four Tap (omega arith))) not_tap))) v.schema.tables others
 
 -- ---- what an open finds, and what a stop leaves of it
 

@@ -19,12 +19,12 @@ use Rattle.fare_layout.specs.Layouts.{AreUnderstood}
 use Rattle.fare_opening.specs.Parts.{reads_meta, puts_meta, sets_meta}
 use Rattle.fare_ledger.specs.declared.layout.Layout.{Layout}
 use Rattle.fare_ledger.specs.Layouts.{schema_in, at_tree}
-use Rattle.fare_ledger.specs.Statements.{Retired, Routed, texts}
-use Rattle.fare_ledger.specs.Tables.{ledger_schema, lane_query, stated_query, day_terms, between_query, renew_query, begun_terms, retired_terms, older_query, clear_query}
+use Rattle.fare_ledger.specs.Statements.{Retired, Routed, Since, texts}
+use Rattle.fare_ledger.specs.Tables.{ledger_schema, lane_query, stated_query, day_terms, between_query, renew_query, begun_terms, retired_terms, since_query, renew_since_query, later_terms, kept_query, cut_query, told_query, older_query, clear_query}
 
 -- where the tables stand in a database of a ledger alone
 abbrev pub own_places : Places
-own_places = record { all = record { at = 0; tree = 0 } ∷ record { at = 1; tree = 1 } ∷ record { at = 2; tree = 2 } ∷ record { at = 3; tree = 4 } ∷ record { at = 4; tree = 6 } ∷ record { at = 5; tree = 7 } ∷ [] }
+own_places = record { all = record { at = 0; tree = 0 } ∷ record { at = 1; tree = 1 } ∷ record { at = 2; tree = 2 } ∷ record { at = 3; tree = 4 } ∷ record { at = 4; tree = 6 } ∷ record { at = 5; tree = 7 } ∷ record { at = 6; tree = 9 } ∷ [] }
 
 abbrev pub tap_terms : List Term
 tap_terms = lit Null ∷ col 0 0 ∷ col 0 1 ∷ col 0 2 ∷ col 0 3 ∷ col 0 4 ∷ col 0 5 ∷ col 0 6 ∷ col 0 7 ∷ []
@@ -34,6 +34,9 @@ stated_cells_terms = lit Null ∷ col 0 0 ∷ col 0 1 ∷ col 0 2 ∷ []
 
 abbrev pub lane_terms : List Term
 lane_terms = col 0 0 ∷ lit Null ∷ col 0 1 ∷ col 0 2 ∷ []
+
+abbrev pub since_terms : List Term
+since_terms = col 0 0 ∷ lit Null ∷ col 0 1 ∷ []
 
 abbrev pub retired_cells_terms : List Term
 retired_cells_terms = col 0 0 ∷ lit Null ∷ []
@@ -148,27 +151,27 @@ begun_meant o = meant (schema_in o) begun_text (begun_command o) (begun_means o)
 pub begun_reads : (o : Layout) → Reads (schema_in o) begun_text
 begun_reads o = ((begun_meant o).plain, (begun_meant o).selects)
 
-abbrev pub taps_text : List ℕ
-taps_text = codes "SELECT count(*) FROM tap2"
+abbrev pub later_text : List ℕ
+later_text = codes "SELECT count(*) FROM held WHERE since > 0"
 
-abbrev pub taps_at : Place → Command
-taps_at p = Select (record { lets = []; body = at_tree p.tree (count_query 7 []) }) (codes "count(*)" ∷ [])
+abbrev pub later_at : Place → Command
+later_at p = Select (record { lets = []; body = at_tree p.tree (count_query 9 later_terms) }) (codes "count(*)" ∷ [])
 
-abbrev pub taps_command : Layout → Command
-taps_command o = taps_at (place_of o.places Routed)
+abbrev pub later_command : Layout → Command
+later_command o = later_at (place_of o.places Since)
 
-pub taps_own : IsMeant ledger_schema taps_text (taps_at (place_of own_places Routed))
+pub later_own : IsMeant ledger_schema later_text (later_at (place_of own_places Since))
 unfolding everything ledger_schema
-taps_own = refl
+later_own = refl
 
-taps_means : (o : Layout) → IsMeant (schema_in o) taps_text (taps_command o)
-taps_means o = o.fits.keeps.1.1.1.1.1.0 (taps_at (place_of own_places Routed)) taps_own
+later_means : (o : Layout) → IsMeant (schema_in o) later_text (later_command o)
+later_means o = o.fits.keeps.1.1.1.1.1.0 (later_at (place_of own_places Since)) later_own
 
-pub taps_meant : (o : Layout) → Meant (schema_in o) taps_text (taps_command o)
-taps_meant o = meant (schema_in o) taps_text (taps_command o) (taps_means o)
+pub later_meant : (o : Layout) → Meant (schema_in o) later_text (later_command o)
+later_meant o = meant (schema_in o) later_text (later_command o) (later_means o)
 
-pub taps_reads : (o : Layout) → Reads (schema_in o) taps_text
-taps_reads o = ((taps_meant o).plain, (taps_meant o).selects)
+pub later_reads : (o : Layout) → Reads (schema_in o) later_text
+later_reads o = ((later_meant o).plain, (later_meant o).selects)
 
 abbrev pub statements_text : List ℕ
 statements_text = codes "SELECT count(*) FROM stated"
@@ -382,6 +385,107 @@ pub clear_older_own : IsMeant ledger_schema clear_older_text (clear_older_at (pl
 unfolding everything ledger_schema
 clear_older_own = refl
 
+abbrev pub since_text : List ℕ
+since_text = codes "SELECT since FROM held WHERE device = ?1"
+
+abbrev pub since_at : Place → Command
+since_at p = Select (record { lets = []; body = at_tree p.tree since_query }) (codes "since" ∷ [])
+
+abbrev pub since_command : Layout → Command
+since_command o = since_at (place_of o.places Since)
+
+pub since_own : IsMeant ledger_schema since_text (since_at (place_of own_places Since))
+unfolding everything ledger_schema
+since_own = refl
+
+since_means : (o : Layout) → IsMeant (schema_in o) since_text (since_command o)
+since_means o = o.fits.keeps.1.1.1.1.1.1.1.1.1.1.1.1.1.1.1.1.1.1.1.0 (since_at (place_of own_places Since)) since_own
+
+pub since_meant : (o : Layout) → Meant (schema_in o) since_text (since_command o)
+since_meant o = meant (schema_in o) since_text (since_command o) (since_means o)
+
+pub since_reads : (o : Layout) → Reads (schema_in o) since_text
+since_reads o = ((since_meant o).plain, (since_meant o).selects)
+
+abbrev pub put_since_text : List ℕ
+put_since_text = codes "INSERT INTO held (device, since) VALUES (?1, ?2) ON CONFLICT (device) DO UPDATE SET since = excluded.since"
+
+abbrev pub put_since_at : Place → Command
+put_since_at p = InsertOr p.at Abort (Values since_terms 3) (record { target = Some (0 ∷ []); update = Some (record { lets = []; body = at_tree p.tree renew_since_query }) } ∷ [])
+
+abbrev pub put_since_command : Layout → Command
+put_since_command o = put_since_at (place_of o.places Since)
+
+pub put_since_own : IsMeant ledger_schema put_since_text (put_since_at (place_of own_places Since))
+unfolding everything ledger_schema
+put_since_own = refl
+
+put_since_means : (o : Layout) → IsMeant (schema_in o) put_since_text (put_since_command o)
+put_since_means o = o.fits.keeps.1.1.1.1.1.1.1.1.1.1.1.1.1.1.1.1.1.1.1.1.0 (put_since_at (place_of own_places Since)) put_since_own
+
+pub put_since_meant : (o : Layout) → Meant (schema_in o) put_since_text (put_since_command o)
+put_since_meant o = meant (schema_in o) put_since_text (put_since_command o) (put_since_means o)
+
+abbrev pub kept_text : List ℕ
+kept_text = codes "SELECT lane FROM tap2 WHERE device = ?1 AND day >= ?2 ORDER BY lane LIMIT 1"
+
+abbrev pub kept_at : Place → Command
+kept_at p = Select (record { lets = []; body = at_tree p.tree kept_query }) (codes "lane" ∷ [])
+
+abbrev pub kept_command : Layout → Command
+kept_command o = kept_at (place_of o.places Routed)
+
+pub kept_own : IsMeant ledger_schema kept_text (kept_at (place_of own_places Routed))
+unfolding everything ledger_schema
+kept_own = refl
+
+kept_means : (o : Layout) → IsMeant (schema_in o) kept_text (kept_command o)
+kept_means o = o.fits.keeps.1.1.1.1.1.1.1.1.1.1.1.1.1.1.1.1.1.1.1.1.1.0 (kept_at (place_of own_places Routed)) kept_own
+
+pub kept_meant : (o : Layout) → Meant (schema_in o) kept_text (kept_command o)
+kept_meant o = meant (schema_in o) kept_text (kept_command o) (kept_means o)
+
+pub kept_reads : (o : Layout) → Reads (schema_in o) kept_text
+kept_reads o = ((kept_meant o).plain, (kept_meant o).selects)
+
+abbrev pub cut_text : List ℕ
+cut_text = codes "DELETE FROM tap2 WHERE device = ?1 AND lane <= ?2"
+
+abbrev pub cut_at : Place → Command
+cut_at p = Delete p.at (record { lets = []; body = at_tree p.tree cut_query })
+
+abbrev pub cut_command : Layout → Command
+cut_command o = cut_at (place_of o.places Routed)
+
+pub cut_own : IsMeant ledger_schema cut_text (cut_at (place_of own_places Routed))
+unfolding everything ledger_schema
+cut_own = refl
+
+cut_means : (o : Layout) → IsMeant (schema_in o) cut_text (cut_command o)
+cut_means o = o.fits.keeps.1.1.1.1.1.1.1.1.1.1.1.1.1.1.1.1.1.1.1.1.1.1.0 (cut_at (place_of own_places Routed)) cut_own
+
+pub cut_meant : (o : Layout) → Meant (schema_in o) cut_text (cut_command o)
+cut_meant o = meant (schema_in o) cut_text (cut_command o) (cut_means o)
+
+abbrev pub told_text : List ℕ
+told_text = codes "DELETE FROM stated WHERE device = ?1 AND day < ?2"
+
+abbrev pub told_at : Place → Command
+told_at p = Delete p.at (record { lets = []; body = at_tree p.tree told_query })
+
+abbrev pub told_command : Layout → Command
+told_command o = told_at (place_of o.places Stated)
+
+pub told_own : IsMeant ledger_schema told_text (told_at (place_of own_places Stated))
+unfolding everything ledger_schema
+told_own = refl
+
+told_means : (o : Layout) → IsMeant (schema_in o) told_text (told_command o)
+told_means o = o.fits.keeps.1.1.1.1.1.1.1.1.1.1.1.1.1.1.1.1.1.1.1.1.1.1.1.0 (told_at (place_of own_places Stated)) told_own
+
+pub told_meant : (o : Layout) → Meant (schema_in o) told_text (told_command o)
+told_meant o = meant (schema_in o) told_text (told_command o) (told_means o)
+
 -- each means something of the usual form
 pub lane_simple : IsSimpleCommand (lane_at (place_of own_places Device))
 lane_simple = search
@@ -398,8 +502,8 @@ between_simple = search
 pub begun_simple : IsSimpleCommand (begun_at (place_of own_places Device))
 begun_simple = search
 
-pub taps_simple : IsSimpleCommand (taps_at (place_of own_places Routed))
-taps_simple = search
+pub later_simple : IsSimpleCommand (later_at (place_of own_places Since))
+later_simple = search
 
 pub statements_simple : IsSimpleCommand (statements_at (place_of own_places Stated))
 statements_simple = search
@@ -443,5 +547,20 @@ put_older_simple = search
 pub clear_older_simple : IsSimpleCommand (clear_older_at (place_of own_places Tap))
 clear_older_simple = search
 
+pub since_simple : IsSimpleCommand (since_at (place_of own_places Since))
+since_simple = search
+
+pub put_since_simple : IsSimpleCommand (put_since_at (place_of own_places Since))
+put_since_simple = search
+
+pub kept_simple : IsSimpleCommand (kept_at (place_of own_places Routed))
+kept_simple = search
+
+pub cut_simple : IsSimpleCommand (cut_at (place_of own_places Routed))
+cut_simple = search
+
+pub told_simple : IsSimpleCommand (told_at (place_of own_places Stated))
+told_simple = search
+
 unfoldable pub understood_all : AreUnderstood ledger_schema texts
-understood_all = ((lane_at (place_of own_places Device), lane_own, lane_simple), ((stated_at (place_of own_places Stated), stated_own, stated_simple), ((day_at (place_of own_places Routed), day_own, day_simple), ((between_at (place_of own_places Routed), between_own, between_simple), ((begun_at (place_of own_places Device), begun_own, begun_simple), ((taps_at (place_of own_places Routed), taps_own, taps_simple), ((statements_at (place_of own_places Stated), statements_own, statements_simple), ((meta_at (place_of own_places Meta), meta_own, meta_simple), ((put_meta_at (place_of own_places Meta), put_meta_own, put_meta_simple), ((set_meta_at (place_of own_places Meta), set_meta_own, set_meta_simple), ((put_lane_at (place_of own_places Device), put_lane_own, put_lane_simple), ((put_tap_at (place_of own_places Routed), put_tap_own, put_tap_simple), ((put_stated_at (place_of own_places Stated), put_stated_own, put_stated_simple), ((retired_at (place_of own_places Retired), retired_own, retired_simple), ((put_retired_at (place_of own_places Retired), put_retired_own, put_retired_simple), ((all_retired_at (place_of own_places Retired), all_retired_own, all_retired_simple), ((unused_at (place_of own_places Tap), unused_own, unused_simple), ((put_older_at (place_of own_places Routed), put_older_own, put_older_simple), ((clear_older_at (place_of own_places Tap), clear_older_own, clear_older_simple), tt)))))))))))))))))))
+understood_all = ((lane_at (place_of own_places Device), lane_own, lane_simple), ((stated_at (place_of own_places Stated), stated_own, stated_simple), ((day_at (place_of own_places Routed), day_own, day_simple), ((between_at (place_of own_places Routed), between_own, between_simple), ((begun_at (place_of own_places Device), begun_own, begun_simple), ((later_at (place_of own_places Since), later_own, later_simple), ((statements_at (place_of own_places Stated), statements_own, statements_simple), ((meta_at (place_of own_places Meta), meta_own, meta_simple), ((put_meta_at (place_of own_places Meta), put_meta_own, put_meta_simple), ((set_meta_at (place_of own_places Meta), set_meta_own, set_meta_simple), ((put_lane_at (place_of own_places Device), put_lane_own, put_lane_simple), ((put_tap_at (place_of own_places Routed), put_tap_own, put_tap_simple), ((put_stated_at (place_of own_places Stated), put_stated_own, put_stated_simple), ((retired_at (place_of own_places Retired), retired_own, retired_simple), ((put_retired_at (place_of own_places Retired), put_retired_own, put_retired_simple), ((all_retired_at (place_of own_places Retired), all_retired_own, all_retired_simple), ((unused_at (place_of own_places Tap), unused_own, unused_simple), ((put_older_at (place_of own_places Routed), put_older_own, put_older_simple), ((clear_older_at (place_of own_places Tap), clear_older_own, clear_older_simple), ((since_at (place_of own_places Since), since_own, since_simple), ((put_since_at (place_of own_places Since), put_since_own, put_since_simple), ((kept_at (place_of own_places Routed), kept_own, kept_simple), ((cut_at (place_of own_places Routed), cut_own, cut_simple), ((told_at (place_of own_places Stated), told_own, told_simple), tt))))))))))))))))))))))))

@@ -1,11 +1,13 @@
 -- What the tables of a ledger hold, as lists in the order of storing.
-use Rattle.std.specs.Prelude.{◌≡◌, ℕ, ◌≤◌, nat_lt, nat_le, ◌==◌, ◌&&◌, ◌||◌, ◌⊎◌, pos, Bool, true, if◌then◌else◌, is_some, List, [], ◌∷◌, ◌++◌, map, filter, Option, Some, None, IsPermutation, IsSorted}
+use Rattle.std.specs.Prelude.{◌≡◌, ℕ, ◌≤◌, nat_lt, nat_le, ◌==◌, ◌&&◌, ◌||◌, ◌⊎◌, pos, not, Bool, true, if◌then◌else◌, is_some, List, [], ◌∷◌, ◌++◌, map, filter, Option, Some, None, IsPermutation, IsSorted}
+use Rattle.std.specs.List.{AllByRecursion}
 use Rattle.std.specs.declared.cmp.Ordering.{Ordering}
 use Rattle.std.specs.Ordering.{ordering_then, nat_cmp}
 use Rattle.sqlite.specs.declared.types.Value.TheVariants.{Null, Int}
 use Rattle.sqlite_value.specs.Order.{Row, column}
 use Rattle.sqlite.specs.Tree.{Trees, put_row, without_rowid}
 use Rattle.sqlite_rules.specs.Edit.{next_rowid}
+use Rattle.sqlite_rules.specs.Lists.{Has}
 use Rattle.sqlite.specs.Effect.{Database, IsDatabase}
 use Rattle.sqlite.specs.State.{State}
 use Rattle.fare_record.specs.Limits.{IsCount}
@@ -86,6 +88,18 @@ retired_row device = int device ∷ Null ∷ []
 abbrev pub IsRetired : Row → Type 0
 IsRetired r = r ≡ retired_row (id_of r)
 
+-- so has the row of the day from which on all of a device is held
+abbrev pub since_row : ℕ → ℕ → Row
+since_row device since = int device ∷ Null ∷ int since ∷ []
+
+abbrev pub IsSince : Row → Type 0
+IsSince r = r ≡ since_row (id_of r) (nat_in (column r 2))
+
+-- without one it is day 0
+abbrev pub since_of : Option Row → ℕ
+since_of None = 0
+since_of (Some r) = nat_in (column r 2)
+
 -- LISTS
 pub record Held : Type 0 where
   -- how many taps of each device are taken, and how many of its days closed
@@ -94,6 +108,8 @@ pub record Held : Type 0 where
   pub statements : List StatedRow
   -- the devices whose lane is retired
   pub retired : ℕ → Bool
+  -- the day from which on all of each device is held
+  pub since : ℕ → ℕ
   -- the rows that say whose tables these are
   pub meta : List Row
   -- those of the table in which older formats have the taps
@@ -105,6 +121,7 @@ pub record AreReadable (trees : Trees) : Type 0 where
   pub taps : AreRows IsTap (trees 7)
   pub statements : AreRows IsStated (trees 4)
   pub retired : AreRows IsRetired (trees 6)
+  pub since : AreRows IsSince (trees 9)
 
 abbrev pub held_of : Trees → Held
 held_of trees = record {
@@ -112,6 +129,7 @@ held_of trees = record {
   taps = map tap_of (trees 7);
   statements = map stated_of (trees 4);
   retired = λ device. is_some (held (trees 6) device);
+  since = λ device. since_of (held (trees 9) device);
   meta = trees 0;
   unused = trees 2;
 }
@@ -133,6 +151,19 @@ stated_in (s ∷ more) device day = if is_of device day s then Some s.count else
 -- a tap of a device on a day
 abbrev pub is_on : ℕ → ℕ → TapRow → Bool
 is_on device day t = (t.device == device) && (t.tap.day == day)
+
+-- a tap of a device of a day or a later one
+abbrev pub is_kept : ℕ → ℕ → TapRow → Bool
+is_kept device day t = (t.device == device) && nat_le day t.tap.day
+
+-- the least lane number of these, if there is one
+abbrev pub IsLeastKept : List TapRow → ℕ → ℕ → Option ℕ → Type 0
+IsLeastKept taps device day None = filter (is_kept device day) taps ≡ []
+IsLeastKept taps device day (Some lane) = (t : TapRow) × Has (filter (is_kept device day) taps) t × (t.lane ≡ lane) × AllByRecursion (λ u. t.lane ≤ u.lane) (filter (is_kept device day) taps)
+
+-- a device of which all is held from a later day than day 0 on
+abbrev pub is_later : Row → Bool
+is_later r = nat_lt 0 (nat_in (column r 2))
 
 -- a device of which a tap is taken or a day closed
 abbrev pub is_begun : Row → Bool
@@ -176,6 +207,28 @@ with_numbers device taken closed h = record h { lanes = with_lane device taken c
 abbrev pub with_retired_lane : ℕ → Held → Held
 with_retired_lane device h = record h { retired = λ x. if device == x then true else h.retired x }
 
+-- all of a device is held from another day on
+abbrev pub with_since : ℕ → ℕ → Held → Held
+with_since device since h = record h { since = λ x. if device == x then since else h.since x }
+
+-- a tap of a device up to a lane number, and a statement of a device before a day
+abbrev pub is_cut : ℕ → ℕ → TapRow → Bool
+is_cut device lane t = (t.device == device) && nat_le t.lane lane
+
+abbrev pub is_told : ℕ → ℕ → StatedRow → Bool
+is_told device day s = (s.device == device) && nat_lt s.day day
+
+-- these go
+abbrev pub without_taps : ℕ → ℕ → Held → Held
+without_taps device lane h = record h { taps = filter (λ t. not (is_cut device lane t)) h.taps }
+
+abbrev pub without_statements : ℕ → ℕ → Held → Held
+without_statements device day h = record h { statements = filter (λ s. not (is_told device day s)) h.statements }
+
+-- both, and all of the device is held from another day on
+abbrev pub forgot : ℕ → ℕ → ℕ → ℕ → Held → Held
+forgot device lane day since h = with_since device since (without_statements device day (without_taps device lane h))
+
 -- the database holds this, in rows that can be read
 pub record Becomes (o : Layout) (db : Database) (h : Held) : Type 0 where
   pub schema : db.schema ≡ schema_in o
@@ -195,6 +248,7 @@ pub record PutsTap (o : Layout) (old new : Database) (t : TapRow) : Type 0 where
   pub taps : ours o new.trees 7 ≡ put_row (Int (next_rowid (ours o old.trees 7)) ∷ tap_cells t) (ours o old.trees 7)
   pub statements : ours o new.trees 4 ≡ ours o old.trees 4
   pub retired : ours o new.trees 6 ≡ ours o old.trees 6
+  pub since : ours o new.trees 9 ≡ ours o old.trees 9
   pub meta : ours o new.trees 0 ≡ ours o old.trees 0
   pub unused : ours o new.trees 2 ≡ ours o old.trees 2
 
@@ -205,6 +259,7 @@ pub record PutsStated (o : Layout) (old new : Database) (s : StatedRow) : Type 0
   pub taps : ours o new.trees 7 ≡ ours o old.trees 7
   pub statements : ours o new.trees 4 ≡ put_row (Int (next_rowid (ours o old.trees 4)) ∷ stated_cells s) (ours o old.trees 4)
   pub retired : ours o new.trees 6 ≡ ours o old.trees 6
+  pub since : ours o new.trees 9 ≡ ours o old.trees 9
   pub meta : ours o new.trees 0 ≡ ours o old.trees 0
   pub unused : ours o new.trees 2 ≡ ours o old.trees 2
 
@@ -215,6 +270,7 @@ pub record PutsLane (o : Layout) (old new : Database) (device taken closed : ℕ
   pub taps : ours o new.trees 7 ≡ ours o old.trees 7
   pub statements : ours o new.trees 4 ≡ ours o old.trees 4
   pub retired : ours o new.trees 6 ≡ ours o old.trees 6
+  pub since : ours o new.trees 9 ≡ ours o old.trees 9
   pub meta : ours o new.trees 0 ≡ ours o old.trees 0
   pub unused : ours o new.trees 2 ≡ ours o old.trees 2
 
@@ -225,5 +281,17 @@ pub record PutsRetired (o : Layout) (old new : Database) (device : ℕ) : Type 0
   pub taps : ours o new.trees 7 ≡ ours o old.trees 7
   pub statements : ours o new.trees 4 ≡ ours o old.trees 4
   pub retired : ours o new.trees 6 ≡ put_row (retired_row device) (ours o old.trees 6)
+  pub since : ours o new.trees 9 ≡ ours o old.trees 9
+  pub meta : ours o new.trees 0 ≡ ours o old.trees 0
+  pub unused : ours o new.trees 2 ≡ ours o old.trees 2
+
+pub record PutsSince (o : Layout) (old new : Database) (device day : ℕ) : Type 0 where
+  pub schema : new.schema ≡ schema_in o
+  pub database : IsDatabase new
+  pub lanes : ours o new.trees 1 ≡ ours o old.trees 1
+  pub taps : ours o new.trees 7 ≡ ours o old.trees 7
+  pub statements : ours o new.trees 4 ≡ ours o old.trees 4
+  pub retired : ours o new.trees 6 ≡ ours o old.trees 6
+  pub since : (ours o new.trees 9 ≡ put_row (since_row device day) (ours o old.trees 9)) ⊎ (ours o new.trees 9 ≡ put_row (since_row device day) (without_rowid (pos device) (ours o old.trees 9)))
   pub meta : ours o new.trees 0 ≡ ours o old.trees 0
   pub unused : ours o new.trees 2 ≡ ours o old.trees 2

@@ -7,7 +7,7 @@ use Rattle.fare_layout.specs.declared.place.TableNumber.{TableNumber}
 use Rattle.fare_opening.specs.Numbers.{Meta, Device, Tap, Stated}
 use Rattle.fare_layout.specs.Places.{place_of}
 use Rattle.fare_ledger.specs.declared.layout.Layout.{Layout}
-use Rattle.fare_ledger.specs.Statements.{Retired, Routed}
+use Rattle.fare_ledger.specs.Statements.{Retired, Routed, Since}
 
 abbrev pub schema_in : Layout → Schema
 schema_in w = w.schema
@@ -22,7 +22,7 @@ place_in w table = (place_of w.places table).at
 
 -- the table that has this tree in a database of a ledger alone
 abbrev pub table_at : ℕ → TableNumber
-table_at tree = if tree == 0 then Meta else (if tree == 1 then Device else (if tree == 2 then Tap else (if tree == 4 then Stated else (if tree == 6 then Retired else Routed))))
+table_at tree = if tree == 0 then Meta else (if tree == 1 then Device else (if tree == 2 then Tap else (if tree == 4 then Stated else (if tree == 6 then Retired else (if tree == 7 then Routed else Since)))))
 
 -- the trees of the tables, numbered as in a database of a ledger alone
 unfoldable pub ours : Layout → Trees → Trees

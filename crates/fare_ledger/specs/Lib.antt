@@ -5,6 +5,7 @@ pub mod Held
 pub mod Making
 pub mod Opening
 pub mod Known
+pub mod Fronts
 pub mod Words
 pub mod Older
 pub mod Shown

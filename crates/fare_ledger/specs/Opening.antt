@@ -24,7 +24,7 @@ use Rattle.fare_ledger.specs.Statements.{ledger_parts}
 use Rattle.fare_ledger.specs.Held.{IsReady}
 use Rattle.fare_ledger.specs.Making.{Makes, KeepsOthers, site_of}
 
--- it has a ledger's tables, wherever they stand, with the row of meta of this owner: format 3, and the owner
+-- it has a ledger's tables, wherever they stand, with the row of meta of this owner: format 4, and the owner
 abbrev pub IsLedger : ℕ → State → Type 0
 IsLedger = store.IsStore ledger_parts
 

@@ -1,5 +1,5 @@
 -- The tables of a ledger alone in a database, made in any order.
-use Rattle.std.specs.Prelude.{ℕ, ◌==◌, if◌then◌else◌, [], ◌∷◌, List, map}
+use Rattle.std.specs.Prelude.{ℕ, ◌==◌, if◌then◌else◌, [], ◌∷◌, ◌++◌, List, map}
 use Rattle.std.specs.List.{AllByRecursion, flat_map}
 use Rattle.sqlite.specs.Table.{Table}
 use Rattle.fare_tables.specs.Queries.{meta_table}
@@ -7,12 +7,12 @@ use Rattle.fare_layout.specs.declared.place.Places.{Places}
 use Rattle.fare_opening.specs.declared.site.Site.{Site}
 use Rattle.fare_opening.specs.Orders.{made_of, orders}
 use Rattle.fare_ledger.specs.Opening.{Rises}
-use Rattle.fare_ledger.specs.Statements.{FitsLedger, first_format, second_format}
-use Rattle.fare_ledger.specs.Tables.{lane_table, tap_table, stated_table, retired_table, routed_table}
+use Rattle.fare_ledger.specs.Statements.{FitsLedger, first_format, second_format, third_format}
+use Rattle.fare_ledger.specs.Tables.{lane_table, tap_table, stated_table, retired_table, routed_table, held_table}
 
 abbrev pub table_of : ℕ → ℕ → Table
 table_of number tree =
-    if number == 0 then meta_table tree else (if number == 1 then lane_table tree else (if number == 2 then tap_table tree else (if number == 3 then stated_table tree else (if number == 4 then retired_table tree else routed_table tree))))
+    if number == 0 then meta_table tree else (if number == 1 then lane_table tree else (if number == 2 then tap_table tree else (if number == 3 then stated_table tree else (if number == 4 then retired_table tree else (if number == 5 then routed_table tree else held_table tree)))))
 
 -- a number at each place of a list
 abbrev pub at_each_place : ℕ → List ℕ → List (List ℕ)
@@ -23,19 +23,27 @@ at_each_place x (y ∷ ys) = (x ∷ y ∷ ys) ∷ map (λ zs. y ∷ zs) (at_each
 abbrev pub five_orders : List (List ℕ)
 five_orders = flat_map (at_each_place 4) orders
 
--- and of six
-abbrev pub all_orders : List (List ℕ)
-all_orders = flat_map (at_each_place 5) five_orders
+-- of six
+abbrev pub six_orders : List (List ℕ)
+six_orders = flat_map (at_each_place 5) five_orders
 
--- in each order the tables fit, where they stand
-abbrev pub FitInAnyOrder : Type 0
-FitInAnyOrder = AllByRecursion (λ ks. (p : Places) × FitsLedger (made_of table_of ks) p) all_orders
+-- the orders of seven: the last one at each place of those of the first four with the other two behind them
+abbrev pub all_orders : List (List ℕ)
+all_orders = flat_map (at_each_place 6) (map (λ ks. ks ++ 4 ∷ 5 ∷ []) orders)
+
+-- in each of these the tables fit, where they stand
+abbrev pub FitInTheseOrders : Type 0
+FitInTheseOrders = AllByRecursion (λ ks. (p : Places) × FitsLedger (made_of table_of ks) p) all_orders
 
 -- a ledger of the first format can be raised in whichever order its four tables were made: its tables stand there, and
--- once the other two are made behind them, those of a ledger do
+-- once the other three are made behind them, those of a ledger do
 abbrev pub FirstsRise : Type 0
 FirstsRise = AllByRecursion (λ ks. (v : Site) × (w : Site) × Rises first_format (made_of table_of ks) v w) orders
 
--- and so can one of the second, in whichever order its five tables were
+-- so can one of the second, in whichever order its five tables were
 abbrev pub SecondsRise : Type 0
 SecondsRise = AllByRecursion (λ ks. (v : Site) × (w : Site) × Rises second_format (made_of table_of ks) v w) five_orders
+
+-- and one of the third, in whichever order its six tables were
+abbrev pub ThirdsRise : Type 0
+ThirdsRise = AllByRecursion (λ ks. (v : Site) × (w : Site) × Rises third_format (made_of table_of ks) v w) six_orders

@@ -7,9 +7,10 @@ use Rattle.sqlite.specs.Schema.{Schema}
 use Rattle.sqlite.specs.Term.{Term, lit, col, op2}
 use Rattle.sqlite.specs.Query.{Query}
 use Rattle.sqlite_sql.specs.declared.ops.BinaryOp.TheVariants as by
+use Rattle.sqlite_sql.specs.declared.ops.CompareOp.TheVariants as cmp
 use Rattle.sqlite_value.specs.Keys.{plain, ascending}
 use Rattle.sqlite_catalog.specs.Change.{automatics, created}
-use Rattle.fare_tables.specs.Queries.{number, rowid_column, table, meta_table, not_below_0, is_given, is_from, is_upto, is_positive, query}
+use Rattle.fare_tables.specs.Queries.{number, rowid_column, table, meta_table, not_below_0, is_given, is_from, is_upto, is_positive, query, least_query}
 
 abbrev pub lane_table : ℕ → Table
 lane_table tree =
@@ -32,14 +33,18 @@ stated_table tree =
 abbrev pub retired_table : ℕ → Table
 retired_table tree = table (codes "retired") tree (rowid_column (codes "device") ∷ []) (Some 0) (0 ∷ []) [] [] []
 
--- the taps of the newest format: the routes are its last column
+-- the taps with their routes, which are its last column
 abbrev pub routed_table : ℕ → Table
 routed_table tree =
     table (codes "tap2") tree
     (number (codes "device") ∷ number (codes "lane") ∷ number (codes "link") ∷ number (codes "product") ∷ number (codes "token") ∷ number (codes "moment") ∷ number (codes "day") ∷ number (codes "route") ∷ [])
     None (1 ∷ 2 ∷ []) ((1 ∷ 2 ∷ []) ∷ []) (plain ∷ []) []
 
--- after one, two, three, four, five and all six CREATE TABLE: trees 3, 5 and 8 are the indexes of the tables before them
+-- the days from which on all of a device is held
+abbrev pub held_table : ℕ → Table
+held_table tree = table (codes "held") tree (rowid_column (codes "device") ∷ number (codes "since") ∷ []) (Some 0) (0 ∷ []) [] [] (not_below_0 2 ∷ [])
+
+-- after one, two, three, four, five, six and all seven CREATE TABLE: trees 3, 5 and 8 are the indexes of the tables before them
 abbrev pub one_table : Schema
 one_table = record { tables = meta_table 0 ∷ []; indexes = []; views = [] }
 
@@ -68,9 +73,17 @@ five_tables = record {
 unfoldable pub second_schema : Schema
 second_schema = five_tables
 
+-- of the third
+unfoldable pub third_schema : Schema
+third_schema = record {
+  tables = meta_table 0 ∷ lane_table 1 ∷ tap_table 2 ∷ stated_table 4 ∷ retired_table 6 ∷ routed_table 7 ∷ [];
+  indexes = (created five_tables (routed_table 7)).indexes;
+  views = [];
+}
+
 unfoldable pub ledger_schema : Schema
 ledger_schema = record {
-  tables = meta_table 0 ∷ lane_table 1 ∷ tap_table 2 ∷ stated_table 4 ∷ retired_table 6 ∷ routed_table 7 ∷ [];
+  tables = meta_table 0 ∷ lane_table 1 ∷ tap_table 2 ∷ stated_table 4 ∷ retired_table 6 ∷ routed_table 7 ∷ held_table 9 ∷ [];
   indexes = (created five_tables (routed_table 7)).indexes;
   views = [];
 }
@@ -113,6 +126,43 @@ begun_terms = op2 by.Or (is_positive 2) (is_positive 3) ∷ []
 -- a device's retired lane
 abbrev pub retired_terms : List Term
 retired_terms = is_given 0 0 ∷ []
+
+-- the day from which on all of a device is held
+abbrev pub since_query : Query
+since_query = query 9 (is_given 0 0 ∷ []) (col 1 2 ∷ []) []
+
+-- the device's row that is written anew: the parameters are the two given, the rowid that is taken, and the row that couldn't go in
+abbrev pub renew_since_query : Query
+renew_since_query = query 9 (is_given 0 2 ∷ []) (col 1 0 ∷ col 1 0 ∷ lit Null ∷ col 0 5 ∷ []) []
+
+-- the devices of which all is held from a later day than the first of all on
+abbrev pub later_terms : List Term
+later_terms = is_positive 2 ∷ []
+
+-- the first tap of a device of a day or a later one
+abbrev pub kept_terms : List Term
+kept_terms = is_given 1 0 ∷ is_from 7 1 ∷ []
+
+abbrev pub kept_query : Query
+kept_query = least_query 7 kept_terms (col 1 2 ∷ []) 2
+
+-- the taps of a device up to a lane number
+abbrev pub cut_terms : List Term
+cut_terms = is_given 1 0 ∷ is_upto 2 1 ∷ []
+
+abbrev pub cut_query : Query
+cut_query = query 7 cut_terms (col 1 0 ∷ []) []
+
+-- a column is less than a parameter
+abbrev pub is_below : ℕ → ℕ → Term
+is_below place parameter = op2 (by.Compare cmp.Lt Binary) (col 1 place) (col 0 parameter)
+
+-- the statements of a device before a day
+abbrev pub told_terms : List Term
+told_terms = is_given 1 0 ∷ is_below 2 1 ∷ []
+
+abbrev pub told_query : Query
+told_query = query 4 told_terms (col 1 0 ∷ []) []
 
 -- the taps of an older format, by the numbers of their rows
 abbrev pub older_columns : List Term

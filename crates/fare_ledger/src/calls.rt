@@ -9,9 +9,11 @@ ghost use Rattle.fare_ledger.specs.Words.{IsLawful, value_at, stands};
 use crate::SqlLedger;
 use crate::batching::run_of;
 use crate::finding::are_nothing;
+use crate::lane::count_before;
+use crate::reading::first_day;
 use fare_owner::{CloseFault, RetireFault, StatementFault, TapFault};
 use fare_record::{Day, DeviceId, OwnerId, Record, Statement};
-use fare_store::{Fault, Ledger, Refused};
+use fare_store::{Fault, ForgetFault, Ledger, Refused};
 use sqlite::Alter;
 
 impl<S: Alter> Ledger for SqlLedger<S> {
@@ -26,10 +28,10 @@ impl<S: Alter> Ledger for SqlLedger<S> {
     fn is_empty(&mut self) -> Result<bool, Fault> {
         self.begin()?;
         let unbegun = self.none_begun()?;
-        let untaken = self.no_taps()?;
+        let uncut = self.none_cut()?;
         let unstated = self.no_statements()?;
         let unretired = self.none_retired()?;
-        Ok(are_nothing(unbegun, untaken, unstated, unretired))
+        Ok(are_nothing(unbegun, uncut, unstated, unretired))
     }
 
     fn count(&mut self, device: DeviceId) -> Result<u64, Fault> {
@@ -133,6 +135,29 @@ impl<S: Alter> Ledger for SqlLedger<S> {
                 Err(fault) => Err(Refused::Failed(fault)),
             },
         }
+    }
+
+    fn forget(&mut self, device: DeviceId, day: Day) -> Result<(), Refused<ForgetFault>> {
+        match self.judge_forget(device, day) {
+            Err(fault) => Err(Refused::Failed(fault)),
+            Ok(Err(why)) => Err(Refused::Because(why)),
+            Ok(Ok(cut)) => match self.put_forget(device, day, &cut) {
+                Ok(()) => Ok(()),
+                Err(fault) => Err(Refused::Failed(fault)),
+            },
+        }
+    }
+
+    fn held_from(&mut self, device: DeviceId) -> Result<Day, Fault> {
+        self.begin()?;
+        self.held_since(device)
+    }
+
+    fn gone(&mut self, device: DeviceId) -> Result<u64, Fault> {
+        self.begin()?;
+        let lane = self.numbers_of(device)?;
+        let kept = self.first_kept(device, first_day())?;
+        Ok(count_before(kept, lane.taken))
     }
 
     fn taps_between(&mut self, from: Day, to: Day) -> Result<Vec<Record>, Fault> {

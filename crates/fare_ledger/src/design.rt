@@ -2,7 +2,7 @@ ghost use Rattle.fare_ledger.specs.Statements.{ledger_parts};
 
 use crate::statements::{
     CLEAR_OLDER, COUNT_UNUSED, FIRST_MISSING, FIRST_TABLES, OLDER_TEXTS, PUT_OLDER, READ_OLDER,
-    ROUTED, SECOND_MISSING, SECOND_TABLES, TABLES, TEXTS,
+    ROUTED, SECOND_MISSING, SECOND_TABLES, TABLES, TEXTS, THIRD_MISSING, THIRD_TABLES,
 };
 use fare_layout::TableNumber;
 use fare_opening::{Design, Moving, Older, TAP};
@@ -16,8 +16,9 @@ const MOVED_TAPS: Moving = Moving {
     clear: CLEAR_OLDER,
 };
 
-// The first format, which knew of no retired lanes, and the second, whose taps had no route.
-static OLDER: [Older; 2] = [
+// The first format, which knew of no retired lanes, the second, whose taps had no route, and the third, of which
+// nothing was let go.
+static OLDER: [Older; 3] = [
     Older {
         format: 1,
         tables: &FIRST_TABLES,
@@ -32,9 +33,16 @@ static OLDER: [Older; 2] = [
         texts: &OLDER_TEXTS,
         moving: Some(MOVED_TAPS),
     },
+    Older {
+        format: 3,
+        tables: &THIRD_TABLES,
+        missing: &THIRD_MISSING,
+        texts: &OLDER_TEXTS,
+        moving: None,
+    },
 ];
 
-// What a ledger is made of: an owner's, of format 3.
+// What a ledger is made of: an owner's, of format 4.
 pub(crate) struct LedgerDesign;
 
 impl Design for LedgerDesign {
@@ -49,7 +57,7 @@ impl Design for LedgerDesign {
     }
 
     fn format() -> u8 {
-        3
+        4
     }
 
     fn older() -> &'static [Older] {

@@ -1,18 +1,19 @@
-ghost use Rattle.std.specs.Prelude.{◌≡◌, ◌+◌, ◌≤◌, ◌==◌, ◌&&◌, ◌↔◌, nat_le, nat_lt, IsTrue, IfOk, OnOk};
+ghost use Rattle.std.specs.Prelude.{◌≡◌, ◌+◌, ◌≤◌, ◌==◌, ◌&&◌, ◌↔◌, nat_le, nat_lt, IsTrue, IfOk, IfSome, OnOk};
 ghost use Rattle.sqlite.specs.Held.{state};
 ghost use Rattle.fare_record.specs.Lanes.{day_count};
+ghost use Rattle.fare_record.specs.Limits.{IsCount};
 ghost use Rattle.fare_store.specs.Standing.{Reads};
 ghost use Rattle.fare_store.specs.LedgerWords.{is_mine, closed_through, AreTapsBetween};
 ghost use Rattle.fare_tables.specs.Asking.{IsUp};
 ghost use Rattle.fare_ledger.specs.Held.{IsWithin};
-ghost use Rattle.fare_ledger.specs.Words.{stands, HasNumbers, AreUnbegun, AreUntaken, AreUnstated, AreUnretired};
+ghost use Rattle.fare_ledger.specs.Words.{stands, HasNumbers, IsFront, AreUnbegun, AreUnstated, AreUnretired, AreUncut};
 
 use crate::SqlLedger;
 use crate::lane::Lane;
 use crate::listing::read_between;
 use crate::reading::{
-    count_begun, count_day, count_retired, count_statements, count_taps, read_lane, read_last,
-    read_retired, read_stated,
+    count_begun, count_day, count_later, count_retired, count_statements, read_kept, read_lane,
+    read_last, read_retired, read_since, read_stated,
 };
 use fare_record::{Day, DeviceId, OwnerId, Record};
 use fare_store::Fault;
@@ -36,10 +37,10 @@ pub(crate) fn is_next(start: Day, closed: u64, day: Day) -> bool
 }
 
 // Whether all four are nothing.
-pub(crate) fn are_nothing(unbegun: bool, untaken: bool, unstated: bool, unretired: bool) -> bool
-    ensures { IsTrue result ↔ (IsTrue unbegun × IsTrue untaken × IsTrue unstated × IsTrue unretired) }
+pub(crate) fn are_nothing(unbegun: bool, uncut: bool, unstated: bool, unretired: bool) -> bool
+    ensures { IsTrue result ↔ (IsTrue unbegun × IsTrue uncut × IsTrue unstated × IsTrue unretired) }
 {
-    unbegun && untaken && unstated && unretired
+    unbegun && uncut && unstated && unretired
 }
 
 // Each step but the first asks that the connection is open if its disk is clean, as the one before left it.
@@ -106,12 +107,38 @@ impl<S: Alter> SqlLedger<S> {
         }
     }
 
+    // The day from which on all of a device is held.
+    pub(crate) fn held_since(&mut self, device: DeviceId) -> Result<Day, Fault>
+        requires { IsUp (state S.Store self.old.conn) }
+        ensures does { Reads (stands S.Store self.old) (stands S.Store self.new) (λ day. day ≡ (stands S.Store self.old).value.from device) result }
+        ensures up { OnOk result (IsUp (state S.Store self.new.conn)) }
+    {
+        match read_since(&mut self.conn, &self.layout, device) {
+            Ok(day) => Ok(day),
+            Err(fault) => Err(note(&mut self.failures, fault)),
+        }
+    }
+
+    // The lane number of the first tap of a device of a day or a later one.
+    pub(crate) fn first_kept(&mut self, device: DeviceId, day: Day) -> Result<Option<u64>, Fault>
+        requires { IsUp (state S.Store self.old.conn) }
+        ensures does { Reads (stands S.Store self.old) (stands S.Store self.new) (IsFront (stands S.Store self.old).value device day) result }
+        ensures within { IfOk result (λ kept. IfSome kept IsCount) }
+        ensures up { OnOk result (IsUp (state S.Store self.new.conn)) }
+    {
+        match read_kept(&mut self.conn, &self.layout, device, day) {
+            Ok(kept) => Ok(kept),
+            Err(fault) => Err(note(&mut self.failures, fault)),
+        }
+    }
+
     // How many taps of a device are of a day.
     pub(crate) fn count_of_day(&mut self, device: DeviceId, day: Day) -> Result<u64, Fault>
         requires { IsUp (state S.Store self.old.conn) }
         ensures does { Reads (stands S.Store self.old) (stands S.Store self.new) (λ count. count ≡ day_count ((stands S.Store self.old).value.taken device) day) result }
         ensures up { OnOk result (IsUp (state S.Store self.new.conn)) }
     {
+        prove!(day.get() <= 100_000);
         match count_day(&mut self.conn, &self.layout, device, day) {
             Ok(count) => Ok(count),
             Err(fault) => Err(note(&mut self.failures, fault)),
@@ -142,14 +169,14 @@ impl<S: Alter> SqlLedger<S> {
         }
     }
 
-    // Whether there is no tap.
-    pub(crate) fn no_taps(&mut self) -> Result<bool, Fault>
+    // Whether all is held of every device.
+    pub(crate) fn none_cut(&mut self) -> Result<bool, Fault>
         requires { IsUp (state S.Store self.old.conn) }
-        ensures does { Reads (stands S.Store self.old) (stands S.Store self.new) (λ none. IsTrue none ↔ AreUntaken (stands S.Store self.old).value) result }
+        ensures does { Reads (stands S.Store self.old) (stands S.Store self.new) (λ none. IsTrue none ↔ AreUncut (stands S.Store self.old).value) result }
         ensures up { OnOk result (IsUp (state S.Store self.new.conn)) }
     {
-        match count_taps(&mut self.conn, &self.layout) {
-            Ok(taps) => Ok(taps == 0),
+        match count_later(&mut self.conn, &self.layout) {
+            Ok(later) => Ok(later == 0),
             Err(fault) => Err(note(&mut self.failures, fault)),
         }
     }
@@ -184,6 +211,7 @@ impl<S: Alter> SqlLedger<S> {
         ensures does { Reads (stands S.Store self.old) (stands S.Store self.new) (λ taps. AreTapsBetween (stands S.Store self.old).value from to taps.items) result }
         ensures up { OnOk result (IsUp (state S.Store self.new.conn)) }
     {
+        prove!(to.get() <= 100_000);
         match read_between(
             self.alloc,
             &mut self.conn,

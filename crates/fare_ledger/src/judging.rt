@@ -1,21 +1,43 @@
-ghost use Rattle.std.specs.Prelude.{◌≡◌, ◌≢◌, ◌≤◌, Ok, Err, IfOk, OnOk, IsTrue};
+ghost use Rattle.std.specs.Prelude.{◌≡◌, ◌≢◌, ◌+◌, ◌≤◌, ◌&&◌, nat_lt, not, if◌then◌else◌, Ok, Err, IfOk, OnOk, IsTrue};
 ghost use Rattle.sqlite.specs.Held.{state};
+ghost use Rattle.fare_record.specs.Limits.{IsCount};
 ghost use Rattle.fare_store.specs.Standing.{Reads};
+ghost use Rattle.fare_store.specs.declared.fault.ForgetFault.TheVariants as forget_fault;
 ghost use Rattle.fare_store.specs.LedgerWords.{is_mine, state_judged, retire_of};
 ghost use Rattle.fare_tables.specs.Asking.{IsUp};
 ghost use Rattle.fare_ledger.specs.Held.{IsWithin};
-ghost use Rattle.fare_ledger.specs.Words.{stands, JudgesTap, JudgesDay};
+ghost use Rattle.fare_ledger.specs.Words.{stands, JudgesTap, JudgesDay, JudgesForget};
 
 use crate::SqlLedger;
 use crate::finding::{is_closed, is_next};
-use crate::lane::Lane;
+use crate::lane::{Cut, Lane, cut_of};
 use fare_owner::{
     CloseFault, RetireFault, StatementFault, TapFault, judge_close, judge_retire, judge_statement,
     judge_tap,
 };
 use fare_record::{Day, DeviceId, Record, Statement};
-use fare_store::Fault;
+use fare_store::{Fault, ForgetFault};
 use sqlite::Alter;
+
+// Whether what is of the days before this one may go, where so many days are closed.
+fn judge_days(
+    known: bool,
+    retired: bool,
+    start: Day,
+    closed: u64,
+    day: Day,
+) -> Result<(), ForgetFault>
+    requires { closed ≤ 100001 }
+    ensures { result ≡ (if not known then Err forget_fault.UnknownDevice else (if not retired && nat_lt (start + closed) day then Err forget_fault.NotClosed else Ok tt)) }
+{
+    if !known {
+        return Err(ForgetFault::UnknownDevice);
+    }
+    if !retired && u64::from(start.get()) + closed < u64::from(day.get()) {
+        return Err(ForgetFault::NotClosed);
+    }
+    Ok(())
+}
 
 impl<S: Alter> SqlLedger<S> {
     // What is answered to one of the owner's taps before it is taken; if it may be, how many days of its device
@@ -74,6 +96,29 @@ impl<S: Alter> SqlLedger<S> {
         let next = is_next(start, lane.closed, day);
         match judge_close(stated, closed, next, taken, retired) {
             Ok(()) => Ok(Ok(lane)),
+            Err(why) => Ok(Err(why)),
+        }
+    }
+
+    // What is answered to a day before which all is to go, and what goes.
+    pub(crate) fn judge_forget(
+        &mut self,
+        device: DeviceId,
+        day: Day,
+    ) -> Result<Result<Cut, ForgetFault>, Fault>
+        ensures does { Reads (stands S.Store self.old) (stands S.Store self.new) (JudgesForget (stands S.Store self.old).value device day) result }
+        ensures up { OnOk result (IsUp (state S.Store self.new.conn)) }
+        ensures within { IfOk result (λ judged. IfOk judged (λ cut. IsCount cut.upto)) }
+    {
+        let start = self.start;
+        let known = self.knows(device);
+        self.begin()?;
+        let lane = self.numbers_of(device)?;
+        let retired = self.retired_of(device)?;
+        let since = self.held_since(device)?;
+        let kept = self.first_kept(device, day)?;
+        match judge_days(known, retired, start, lane.closed, day) {
+            Ok(()) => Ok(Ok(cut_of(kept, lane.taken, since, day))),
             Err(why) => Ok(Err(why)),
         }
     }

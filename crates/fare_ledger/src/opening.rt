@@ -93,9 +93,9 @@ fn settle<S: Alter>(
 impl<S: Alter> SqlLedger<S> {
     /// Takes a database for the ledger of an owner of a scheme, which may hold other tables too: one that holds
     /// this owner's ledger as it is, and one in which nothing has a name of the ledger's tables after it made them
-    /// there, past the others, whose rows stay. A ledger of an older format gets the tables that it lacks, its
-    /// taps go to the newest one, each with route 0, and it gets the newest format, all in one transaction: it keeps
-    /// its lists. Where it can't, the connection comes back, with its rows as before. A connection that is inside a
+    /// there, past the others, whose rows stay. A ledger of an older format gets the tables that it lacks, taps
+    /// without a route go to the table that has them, each with route 0, and it gets the newest format, all in one
+    /// transaction: it keeps its lists. Where it can't, the connection comes back, with its rows as before. A connection that is inside a
     /// transaction answers Store.
     ///
     /// Refused by the first case of `LedgerOpenFault` that applies.

@@ -1,23 +1,24 @@
-ghost use Rattle.std.specs.Prelude.{◌≡◌, ◌+◌, ◌-◌, ◌==◌, ◌<◌, ◌≤◌, false, None, Some, if◌then◌else◌, length, filter, IsTrue, IfOk, OnOk};
+ghost use Rattle.std.specs.Prelude.{◌≡◌, ◌+◌, ◌-◌, ◌==◌, ◌<◌, ◌≤◌, false, None, Some, if◌then◌else◌, length, filter, IsTrue, IfOk, IfSome, OnOk};
 ghost use Rattle.sqlite.specs.State.{HasCleanDisk, Survives};
 ghost use Rattle.sqlite.specs.Held.{state};
+ghost use Rattle.fare_record.specs.Limits.{IsCount};
 ghost use Rattle.fare_tables.specs.Asking.{IsLive, IsAtRest, SameRows};
 ghost use Rattle.sqlite_value.specs.Order.{column};
 ghost use Rattle.fare_tables.specs.Cells.{int, counted};
 ghost use Rattle.fare_ledger.specs.Layouts.{schema_in, ours};
-ghost use Rattle.fare_ledger.specs.Held.{held_of, IsReady, stated_in, is_on, is_begun, IsWithin};
+ghost use Rattle.fare_ledger.specs.Held.{held_of, IsReady, stated_in, is_on, is_begun, is_later, IsLeastKept, IsWithin};
 ghost use Rattle.fare_ledger.specs.Words.{AreApart};
 
 use crate::Layout;
 use crate::lane::Lane;
 use crate::statements::{
-    COUNT_ALL_RETIRED, COUNT_BEGUN, COUNT_DAY, COUNT_RETIRED, COUNT_STATEMENTS, COUNT_TAPS,
-    READ_LANE, READ_STATED,
+    COUNT_ALL_RETIRED, COUNT_BEGUN, COUNT_DAY, COUNT_LATER, COUNT_RETIRED, COUNT_STATEMENTS,
+    READ_KEPT, READ_LANE, READ_SINCE, READ_STATED,
 };
 use fare_opening::ask;
 use fare_record::{Day, DeviceId};
 use fare_store::Fault;
-use fare_tables::{cell_count, cell_number, cell_total, parameter};
+use fare_tables::{cell_count, cell_day, cell_number, cell_total, parameter};
 use sqlite::{Alter, Connection, Row};
 
 // As many days as there are may be closed.
@@ -121,6 +122,65 @@ pub(crate) fn read_stated<S: Alter>(
     }
 }
 
+// The day before all others.
+pub(crate) fn first_day() -> Day
+    ensures { result ≡ 0 }
+{
+    let Some(day) = Day::new(0) else {
+        unreachable!()
+    };
+    day
+}
+
+// The day from which on all of a device is held.
+pub(crate) fn read_since<S: Alter>(
+    conn: &mut Connection<S>,
+    layout: &Layout,
+    device: DeviceId,
+) -> Result<Day, Fault>
+    ensures value { IsLive (state S.Store conn.new) → IsReady layout.now (state S.Store conn.old) → IfOk result (λ day. day ≡ (held_of (ours layout.now (state S.Store conn.old).now.trees)).since device) }
+    ensures same { IsLive (state S.Store conn.new) → IsAtRest (schema_in layout.now) (state S.Store conn.old) → SameRows (state S.Store conn.old) (state S.Store conn.new) }
+    ensures crash { Survives (state S.Store conn.old) (state S.Store conn.new) (λ _. ¬ IsAtRest (schema_in layout.now) (state S.Store conn.old)) }
+    ensures live { IsLive (state S.Store conn.new) → IsLive (state S.Store conn.old) }
+    ensures stays { HasCleanDisk (state S.Store conn.new) → OnOk result (IsTrue (state S.Store conn.new).is_open) }
+    ensures mode { conn.old.in_transaction ≡ false → conn.new.in_transaction ≡ false }
+{
+    match ask(
+        conn,
+        &layout.schema,
+        READ_SINCE,
+        &[parameter(u64::from(device.get()))],
+    )? {
+        Some(row) => cell_day(&row, 0),
+        None => Ok(first_day()),
+    }
+}
+
+// The lane number of the first tap of a device of a day or a later one.
+pub(crate) fn read_kept<S: Alter>(
+    conn: &mut Connection<S>,
+    layout: &Layout,
+    device: DeviceId,
+    day: Day,
+) -> Result<Option<u64>, Fault>
+    ensures value { IsLive (state S.Store conn.new) → IsReady layout.now (state S.Store conn.old) → IfOk result (λ kept. IsLeastKept (held_of (ours layout.now (state S.Store conn.old).now.trees)).taps device day kept) }
+    ensures within { IfOk result (λ kept. IfSome kept IsCount) }
+    ensures same { IsLive (state S.Store conn.new) → IsAtRest (schema_in layout.now) (state S.Store conn.old) → SameRows (state S.Store conn.old) (state S.Store conn.new) }
+    ensures crash { Survives (state S.Store conn.old) (state S.Store conn.new) (λ _. ¬ IsAtRest (schema_in layout.now) (state S.Store conn.old)) }
+    ensures live { IsLive (state S.Store conn.new) → IsLive (state S.Store conn.old) }
+    ensures stays { HasCleanDisk (state S.Store conn.new) → OnOk result (IsTrue (state S.Store conn.new).is_open) }
+    ensures mode { conn.old.in_transaction ≡ false → conn.new.in_transaction ≡ false }
+{
+    let asked = [
+        parameter(u64::from(device.get())),
+        parameter(u64::from(day.get())),
+    ];
+    match ask(conn, &layout.schema, READ_KEPT, &asked)? {
+        Some(row) => Ok(Some(cell_count(&row, 0)?)),
+        None => Ok(None),
+    }
+}
+
 // How many taps of a device are of a day.
 pub(crate) fn count_day<S: Alter>(
     conn: &mut Connection<S>,
@@ -180,16 +240,16 @@ pub(crate) fn count_begun<S: Alter>(conn: &mut Connection<S>, layout: &Layout) -
     }
 }
 
-// How many taps there are.
-pub(crate) fn count_taps<S: Alter>(conn: &mut Connection<S>, layout: &Layout) -> Result<u64, Fault>
-    ensures value { IsLive (state S.Store conn.new) → IsReady layout.now (state S.Store conn.old) → IfOk result (λ n. n ≡ counted (length (held_of (ours layout.now (state S.Store conn.old).now.trees)).taps)) }
+// How many devices have all held only from a later day than day 0 on.
+pub(crate) fn count_later<S: Alter>(conn: &mut Connection<S>, layout: &Layout) -> Result<u64, Fault>
+    ensures value { IsLive (state S.Store conn.new) → IsReady layout.now (state S.Store conn.old) → IfOk result (λ n. n ≡ counted (length (filter is_later (ours layout.now (state S.Store conn.old).now.trees 9)))) }
     ensures same { IsLive (state S.Store conn.new) → IsAtRest (schema_in layout.now) (state S.Store conn.old) → SameRows (state S.Store conn.old) (state S.Store conn.new) }
     ensures crash { Survives (state S.Store conn.old) (state S.Store conn.new) (λ _. ¬ IsAtRest (schema_in layout.now) (state S.Store conn.old)) }
     ensures live { IsLive (state S.Store conn.new) → IsLive (state S.Store conn.old) }
     ensures stays { HasCleanDisk (state S.Store conn.new) → OnOk result (IsTrue (state S.Store conn.new).is_open) }
     ensures mode { conn.old.in_transaction ≡ false → conn.new.in_transaction ≡ false }
 {
-    match ask(conn, &layout.schema, COUNT_TAPS, &[])? {
+    match ask(conn, &layout.schema, COUNT_LATER, &[])? {
         Some(row) => cell_number(&row, 0),
         None => Err(Fault::Store),
     }

@@ -7,6 +7,9 @@ pub(crate) const RETIRED: TableNumber = TableNumber { number: 4 };
 /// The table of the taps, each with its route. `TAP`, where older formats have them, holds no row.
 pub(crate) const ROUTED: TableNumber = TableNumber { number: 5 };
 
+/// The table of the days from which on all of a device is held.
+pub(crate) const SINCE: TableNumber = TableNumber { number: 6 };
+
 // The texts that make the tables behind that of `meta`, each with the name of its table.
 const LANE_TABLE: (&str, &str) = (
     "lane",
@@ -33,14 +36,20 @@ const ROUTED_TABLE: (&str, &str) = (
     "CREATE TABLE tap2 (device INTEGER NOT NULL, lane INTEGER NOT NULL, link INTEGER NOT NULL, product INTEGER NOT NULL, token INTEGER NOT NULL, moment INTEGER NOT NULL, day INTEGER NOT NULL, route INTEGER NOT NULL, PRIMARY KEY (device, lane)) STRICT",
 );
 
+const HELD_TABLE: (&str, &str) = (
+    "held",
+    "CREATE TABLE held (device INTEGER PRIMARY KEY, since INTEGER NOT NULL CHECK (since >= 0)) STRICT",
+);
+
 /// The texts that make the tables, each with the name of its table.
-pub(crate) const TABLES: [(&str, &str); 6] = [
+pub(crate) const TABLES: [(&str, &str); 7] = [
     META_TABLE,
     LANE_TABLE,
     TAP_TABLE,
     STATED_TABLE,
     RETIRED_TABLE,
     ROUTED_TABLE,
+    HELD_TABLE,
 ];
 
 /// Those that make the tables of the first format.
@@ -52,7 +61,7 @@ pub(crate) const FIRST_TABLES: [(&str, &str); 4] = [
 ];
 
 /// Those that make the tables which it lacks.
-pub(crate) const FIRST_MISSING: [(&str, &str); 2] = [RETIRED_TABLE, ROUTED_TABLE];
+pub(crate) const FIRST_MISSING: [(&str, &str); 3] = [RETIRED_TABLE, ROUTED_TABLE, HELD_TABLE];
 
 /// Those that make the tables of the second format.
 pub(crate) const SECOND_TABLES: [(&str, &str); 5] = [
@@ -63,8 +72,21 @@ pub(crate) const SECOND_TABLES: [(&str, &str); 5] = [
     RETIRED_TABLE,
 ];
 
+/// Those that make the tables which it lacks.
+pub(crate) const SECOND_MISSING: [(&str, &str); 2] = [ROUTED_TABLE, HELD_TABLE];
+
+/// Those that make the tables of the third format.
+pub(crate) const THIRD_TABLES: [(&str, &str); 6] = [
+    META_TABLE,
+    LANE_TABLE,
+    TAP_TABLE,
+    STATED_TABLE,
+    RETIRED_TABLE,
+    ROUTED_TABLE,
+];
+
 /// The one that makes the table which it lacks.
-pub(crate) const SECOND_MISSING: [(&str, &str); 1] = [ROUTED_TABLE];
+pub(crate) const THIRD_MISSING: [(&str, &str); 1] = [HELD_TABLE];
 
 /// How many taps of a device are taken, and how many of its days closed.
 pub(crate) const READ_LANE: &str = "SELECT taken, closed FROM lane WHERE device = ?1";
@@ -82,8 +104,8 @@ pub(crate) const READ_BETWEEN: &str =
 /// How many devices have a tap taken or a day closed.
 pub(crate) const COUNT_BEGUN: &str = "SELECT count(*) FROM lane WHERE taken > 0 OR closed > 0";
 
-/// How many taps there are.
-pub(crate) const COUNT_TAPS: &str = "SELECT count(*) FROM tap2";
+/// How many devices have all held only from a later day than day 0 on.
+pub(crate) const COUNT_LATER: &str = "SELECT count(*) FROM held WHERE since > 0";
 
 /// How many statements there are.
 pub(crate) const COUNT_STATEMENTS: &str = "SELECT count(*) FROM stated";
@@ -122,14 +144,31 @@ pub(crate) const PUT_OLDER: &str =
 /// No tap is left where older formats have them.
 pub(crate) const CLEAR_OLDER: &str = "DELETE FROM tap";
 
+/// The day from which on all of a device is held.
+pub(crate) const READ_SINCE: &str = "SELECT since FROM held WHERE device = ?1";
+
+/// All of a device is held from this day on.
+pub(crate) const PUT_SINCE: &str =
+    "INSERT INTO held (device, since) VALUES (?1, ?2) ON CONFLICT (device) DO UPDATE SET since = excluded.since";
+
+/// The least lane number of a device's taps of a day or a later one.
+pub(crate) const READ_KEPT: &str =
+    "SELECT lane FROM tap2 WHERE device = ?1 AND day >= ?2 ORDER BY lane LIMIT 1";
+
+/// A device's taps up to a lane number go.
+pub(crate) const CUT_TAPS: &str = "DELETE FROM tap2 WHERE device = ?1 AND lane <= ?2";
+
+/// A device's statements of the days before one go.
+pub(crate) const CUT_STATED: &str = "DELETE FROM stated WHERE device = ?1 AND day < ?2";
+
 /// All statements of a ledger, each with its table: `DEVICE` is `lane` here.
-pub(crate) const TEXTS: [(TableNumber, &str); 19] = [
+pub(crate) const TEXTS: [(TableNumber, &str); 24] = [
     (DEVICE, READ_LANE),
     (STATED, READ_STATED),
     (ROUTED, COUNT_DAY),
     (ROUTED, READ_BETWEEN),
     (DEVICE, COUNT_BEGUN),
-    (ROUTED, COUNT_TAPS),
+    (SINCE, COUNT_LATER),
     (STATED, COUNT_STATEMENTS),
     (META, READ_META),
     (META, PUT_META),
@@ -143,6 +182,11 @@ pub(crate) const TEXTS: [(TableNumber, &str); 19] = [
     (TAP, COUNT_UNUSED),
     (ROUTED, PUT_OLDER),
     (TAP, CLEAR_OLDER),
+    (SINCE, READ_SINCE),
+    (SINCE, PUT_SINCE),
+    (ROUTED, READ_KEPT),
+    (ROUTED, CUT_TAPS),
+    (STATED, CUT_STATED),
 ];
 
 /// Those that an open needs of a ledger of an older format.

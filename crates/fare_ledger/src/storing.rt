@@ -1,16 +1,18 @@
 ghost use Rattle.std.specs.Prelude.{◌≡◌, ◌≤◌, None};
+ghost use Rattle.fare_record.specs.Limits.{IsCount};
 ghost use Rattle.sqlite.specs.Held.{state};
 ghost use Rattle.fare_store.specs.Standing.{Calls, Makes, fault_of};
-ghost use Rattle.fare_store.specs.LedgerWords.{took, with_statement, with_close, with_retired};
+ghost use Rattle.fare_store.specs.LedgerWords.{took, with_statement, with_close, with_retired, forgotten};
 ghost use Rattle.fare_tables.specs.Asking.{IsUp};
 ghost use Rattle.fare_tables.specs.Tabled.{given};
 ghost use Rattle.fare_ledger.specs.Held.{IsWithin};
-ghost use Rattle.fare_ledger.specs.Words.{stands, MayTake, MayClose};
+ghost use Rattle.fare_ledger.specs.Words.{stands, MayTake, MayClose, MayForget};
 
 use crate::SqlLedger;
-use crate::lane::Lane;
+use crate::forgetting::write_cut;
+use crate::lane::{Cut, Lane};
 use crate::writing::{write_numbers, write_retired, write_statement, write_tap};
-use fare_record::{DeviceId, Record, Statement};
+use fare_record::{Day, DeviceId, Record, Statement};
 use fare_store::Fault;
 use fare_tables::note;
 use sqlite::Alter;
@@ -67,6 +69,26 @@ impl<S: Alter> SqlLedger<S> {
             (Makes (stands S.Store self.old).value (stands S.Store self.new).value (with_retired device (stands S.Store self.old).value) result) (λ v. v ≡ with_retired device (stands S.Store self.old).value) }
     {
         match write_retired(&mut self.conn, &self.layout, device) {
+            Ok(()) => Ok(()),
+            Err(fault) => Err(note(&mut self.failures, fault)),
+        }
+    }
+
+    // Lets what is of a device's days before this one go, where it may and this is what goes.
+    pub(crate) fn put_forget(&mut self, device: DeviceId, day: Day, cut: &Cut) -> Result<(), Fault>
+        requires up { IsUp (state S.Store self.old.conn) }
+        requires within { IsCount cut.now.upto }
+        ensures { Calls (given (MayForget (stands S.Store self.old).value device day cut.now) (stands S.Store self.old)) (stands S.Store self.new) (fault_of result)
+            (Makes (stands S.Store self.old).value (stands S.Store self.new).value (forgotten device day (stands S.Store self.old).value) result) (λ v. v ≡ forgotten device day (stands S.Store self.old).value) }
+    {
+        match write_cut(
+            &mut self.conn,
+            &self.layout,
+            device,
+            cut.upto,
+            day,
+            cut.since,
+        ) {
             Ok(()) => Ok(()),
             Err(fault) => Err(note(&mut self.failures, fault)),
         }

@@ -23,10 +23,10 @@ returns-in-Ok g c =
     write_step (schema_in self.layout) value Lawful Lawful Lawful old new self.failures self.failures None (MayTake v c.args.row.now c.args.closed) (value new.now.trees ≡ took c.args.row.now v) (took c.args.row.now v) (λ (trees : Trees). IsReady self.layout old → MayBecome self.layout (with_tap (row_of c.args.row.now) c.args.closed h) trees) c.requires.up
     (λ live given.
     let wrote = c.in-Ok.ensures.value live (ready self.layout self.owner self.start old given.0) in
-    (becomes_lawful self.layout self.owner self.start new (with_tap (row_of c.args.row.now) c.args.closed h) wrote (take_fits self.owner self.start known h c.args.row.now c.args.closed given.1 given.0.fits.together), ap (value_in self.owner self.start known) wrote.0.value ∙ take_value self.owner self.start known h c.args.row.now c.args.closed given.1))
+    (becomes_lawful self.layout self.owner self.start new (with_tap (row_of c.args.row.now) c.args.closed h) wrote (take_fits self.owner self.start known h c.args.row.now c.args.closed given.1 given.0.fits.together), ap (value_in self.owner self.start known) wrote.0.value ∙ take_value self.owner self.start known h c.args.row.now c.args.closed given.1 given.0.fits.together))
     (λ live fit database. (c.in-Ok.ensures.value live (ready self.layout self.owner self.start old fit)).0.database)
     c.write_tap.ensures.crash
-    (λ fit trees wrote may. let it = wrote (ready self.layout self.owner self.start old fit) in (ap (value_in self.owner self.start known) (left_held self.layout (with_tap (row_of c.args.row.now) c.args.closed h) trees it) ∙ take_value self.owner self.start known h c.args.row.now c.args.closed may, becomes_left self.layout self.owner self.start (with_tap (row_of c.args.row.now) c.args.closed h) trees it (take_fits self.owner self.start known h c.args.row.now c.args.closed may fit.fits.together)))
+    (λ fit trees wrote may. let it = wrote (ready self.layout self.owner self.start old fit) in (ap (value_in self.owner self.start known) (left_held self.layout (with_tap (row_of c.args.row.now) c.args.closed h) trees it) ∙ take_value self.owner self.start known h c.args.row.now c.args.closed may fit.fits.together, becomes_left self.layout self.owner self.start (with_tap (row_of c.args.row.now) c.args.closed h) trees it (take_fits self.owner self.start known h c.args.row.now c.args.closed may fit.fits.together)))
     c.write_tap.ensures.live (λ e. c.in-Ok.ensures.stays) refl
 
 pub returns-in-Err : goal.returns-in-Err
@@ -45,5 +45,5 @@ returns-in-Err g c =
     (same_fit (schema_in self.layout) value Lawful old new same given.0, same_at (schema_in self.layout) value old new same))
     (λ live fit database. same_database old new (c.in-Err.ensures.same live (ready self.layout self.owner self.start old fit)) database)
     c.write_tap.ensures.crash
-    (λ fit trees wrote may. let it = wrote (ready self.layout self.owner self.start old fit) in (ap (value_in self.owner self.start known) (left_held self.layout (with_tap (row_of c.args.row.now) c.args.closed h) trees it) ∙ take_value self.owner self.start known h c.args.row.now c.args.closed may, becomes_left self.layout self.owner self.start (with_tap (row_of c.args.row.now) c.args.closed h) trees it (take_fits self.owner self.start known h c.args.row.now c.args.closed may fit.fits.together)))
+    (λ fit trees wrote may. let it = wrote (ready self.layout self.owner self.start old fit) in (ap (value_in self.owner self.start known) (left_held self.layout (with_tap (row_of c.args.row.now) c.args.closed h) trees it) ∙ take_value self.owner self.start known h c.args.row.now c.args.closed may fit.fits.together, becomes_left self.layout self.owner self.start (with_tap (row_of c.args.row.now) c.args.closed h) trees it (take_fits self.owner self.start known h c.args.row.now c.args.closed may fit.fits.together)))
     c.write_tap.ensures.live (λ e. absurd (cc)) c.note.ensures.counted

@@ -26,7 +26,7 @@ returns-in-Ok g c =
     write_step (schema_in self.layout) value Lawful Lawful Lawful old new self.failures self.failures None (AreTakable v c.args.closed c.args.rows.now) (value new.now.trees ≡ done_all took c.args.rows.now v) (done_all took c.args.rows.now v) (λ (trees : Trees). IsReady self.layout old → MayBecome self.layout (with_taps c.args.closed c.args.rows.now h) trees) c.requires.up
     (λ live given.
     let wrote = c.in-Ok.ensures.value live (ready self.layout self.owner self.start old given.0) in
-    (becomes_lawful self.layout self.owner self.start new (with_taps c.args.closed c.args.rows.now h) wrote (all_fits self.owner self.start known c.args.closed c.args.rows.now h given.1 given.0.fits.together), ap (value_in self.owner self.start known) wrote.0.value ∙ all_value self.owner self.start known c.args.closed c.args.rows.now h given.1))
+    (becomes_lawful self.layout self.owner self.start new (with_taps c.args.closed c.args.rows.now h) wrote (all_fits self.owner self.start known c.args.closed c.args.rows.now h given.1 given.0.fits.together), ap (value_in self.owner self.start known) wrote.0.value ∙ all_value self.owner self.start known c.args.closed c.args.rows.now h given.1 given.0.fits.together))
     (λ live fit database. (c.in-Ok.ensures.value live (ready self.layout self.owner self.start old fit)).0.database)
     c.write_taps.ensures.crash
     (λ fit trees wrote may. all_left self.layout self.owner self.start known c.args.closed h c.args.rows.now trees may fit.fits.together (wrote (ready self.layout self.owner self.start old fit)))
