@@ -101,6 +101,14 @@ no_device : fault_of hub_app (codes "retire" ∷ codes "--outbox" ∷ codes "x" 
 unfolding clap_on_literals
 no_device = refl
 
+forget : fault_of hub_app (codes "forget" ∷ codes "--outbox" ∷ codes "x" ∷ codes "--before" ∷ codes "100000" ∷ []) ≡ []
+unfolding clap_on_literals
+forget = refl
+
+no_before : fault_of hub_app (codes "forget" ∷ codes "--outbox" ∷ codes "x" ∷ []) ≡ kind.MissingRequiredArgument ∷ []
+unfolding clap_on_literals
+no_before = refl
+
 no_stores : fault_of hub_app (codes "close" ∷ []) ≡ kind.MissingRequiredArgument ∷ []
 unfolding clap_on_literals
 no_stores = refl

@@ -1,8 +1,8 @@
 -- The command line, in the words of clap: `replay [--store STORE]`;
 -- `serve [--port PORT] [--turns TURNS] --outbox PATH [--scheme FILE] [--read-ms MILLIS] [--write-ms MILLIS] [--rounds N] [--until FILE] [--patience N] [--round-ms MILLIS] [--ask PORT]`;
 -- and of the stores at a path `close --outbox PATH [--scheme FILE]`, `bill --outbox PATH [--scheme FILE] --owner O --day D`,
--- `settle` with the same words, `stand --outbox PATH [--scheme FILE]`, and
--- `retire --outbox PATH [--scheme FILE] --owner O --device D`.
+-- `settle` with the same words, `stand --outbox PATH [--scheme FILE]`,
+-- `retire --outbox PATH [--scheme FILE] --owner O --device D`, and `forget --outbox PATH [--scheme FILE] --before D`.
 use Rattle.std.specs.Prelude.{◌≡◌, Some, false, true, codes, pos}
 use Rattle.clap.specs.Words.{App, Rule, Text, app_of, new_app, new_rule, with_rule, with_subcommand}
 use Rattle.clap.specs.declared.builder.command.Command.{Command}
@@ -61,8 +61,9 @@ round_rule = millis_rule (codes "round-ms")
 abbrev pub owner_rule : Rule
 owner_rule = record (option_rule (codes "owner")) { required = true; parser = Some (vp.Signed (pos 1) (pos 65535)) }
 
-abbrev pub day_rule : Rule
-day_rule = record (option_rule (codes "day")) { required = true; parser = Some (vp.Signed (pos 0) (pos 100000)) }
+-- a day that has to be given
+abbrev pub day_rule : Text → Rule
+day_rule name = record (option_rule name) { required = true; parser = Some (vp.Signed (pos 0) (pos 100000)) }
 
 abbrev pub device_rule : Rule
 device_rule = record (option_rule (codes "device")) { required = true; parser = Some (vp.Signed (pos 1) (pos 4294967295)) }
@@ -95,11 +96,15 @@ stores_app name = with_rule (with_rule (new_app name) outbox_rule) scheme_rule
 
 -- and of an owner's day
 abbrev pub day_app : Text → App
-day_app name = with_rule (with_rule (stores_app name) owner_rule) day_rule
+day_app name = with_rule (with_rule (stores_app name) owner_rule) (day_rule (codes "day"))
 
 -- and of an owner's lane of a device
 abbrev pub lane_app : Text → App
 lane_app name = with_rule (with_rule (stores_app name) owner_rule) device_rule
+
+-- and of the days before one
+abbrev pub days_app : Text → App
+days_app name = with_rule (stores_app name) (day_rule (codes "before"))
 
 -- ALL
 -- the words are those after the program's name, one is a subcommand, and there is a version
@@ -117,5 +122,8 @@ asking_app = with_subcommand (with_subcommand running_app (stores_app (codes "cl
 abbrev pub standing_app : App
 standing_app = with_subcommand (with_subcommand asking_app (day_app (codes "settle")).top) (stores_app (codes "stand")).top
 
+abbrev pub ordering_app : App
+ordering_app = with_subcommand standing_app (lane_app (codes "retire")).top
+
 abbrev pub hub_app : App
-hub_app = with_subcommand standing_app (lane_app (codes "retire")).top
+hub_app = with_subcommand ordering_app (days_app (codes "forget")).top

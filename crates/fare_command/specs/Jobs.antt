@@ -11,7 +11,7 @@ use Rattle.fare_command.specs.CommandLine.{hub_app}
 use Rattle.fare_command.specs.declared.words.Job.{Job}
 use Rattle.fare_command.specs.declared.words.Job.TheVariants.{Replay, Serve, Ask}
 use Rattle.fare_command.specs.declared.words.Question.{Question}
-use Rattle.fare_command.specs.declared.words.Question.TheVariants.{Close, Bill, Settle, Stand, Retire}
+use Rattle.fare_command.specs.declared.words.Question.TheVariants.{Close, Bill, Settle, Stand, Retire, Forget}
 use Rattle.fare_command.specs.declared.words.WordsFault.{WordsFault}
 use Rattle.fare_command.specs.declared.words.WordsFault.TheVariants.{Asked, Refused, Memory}
 
@@ -54,8 +54,8 @@ usual_rounds (Some file) = 4294967295
 abbrev pub IsOwnerIn : List Row → ℕ → Type 0
 IsOwnerIn rows owner = IsNumber 16 (first_of (codes "owner") rows) owner × IsOwnerId owner
 
-abbrev pub IsDayIn : List Row → ℕ → Type 0
-IsDayIn rows day = IsNumber 32 (first_of (codes "day") rows) day × IsDay day
+abbrev pub IsDayIn : Text → List Row → ℕ → Type 0
+IsDayIn option rows day = IsNumber 32 (first_of option rows) day × IsDay day
 
 abbrev pub IsDeviceIn : List Row → ℕ → Type 0
 IsDeviceIn rows device = IsNumber 32 (first_of (codes "device") rows) device × IsDeviceId device
@@ -63,10 +63,11 @@ IsDeviceIn rows device = IsNumber 32 (first_of (codes "device") rows) device × 
 -- the question of a subcommand with these matches
 abbrev pub IsQuestion : Text → List Row → Question → Type 0
 IsQuestion name rows Close = name ≡ codes "close"
-IsQuestion name rows (Bill owner day) = (name ≡ codes "bill") × IsOwnerIn rows owner × IsDayIn rows day
-IsQuestion name rows (Settle owner day) = (name ≡ codes "settle") × IsOwnerIn rows owner × IsDayIn rows day
+IsQuestion name rows (Bill owner day) = (name ≡ codes "bill") × IsOwnerIn rows owner × IsDayIn (codes "day") rows day
+IsQuestion name rows (Settle owner day) = (name ≡ codes "settle") × IsOwnerIn rows owner × IsDayIn (codes "day") rows day
 IsQuestion name rows Stand = name ≡ codes "stand"
 IsQuestion name rows (Retire owner device) = (name ≡ codes "retire") × IsOwnerIn rows owner × IsDeviceIn rows device
+IsQuestion name rows (Forget before) = (name ≡ codes "forget") × IsDayIn (codes "before") rows before
 
 -- the job of a subcommand with these matches
 abbrev pub JobIn : Text → List Row → Job → Type 0

@@ -1,6 +1,6 @@
 ghost use Rattle.std.specs.Prelude.{◌≡◌, IfOk, false, codes};
 ghost use Rattle.clap.specs.Words.{App, app_of, rule_of, with_subcommand};
-ghost use Rattle.fare_command.specs.CommandLine.{IsMade, ask_rule, asking_app, base_app, day_app, day_rule, device_rule, hub_app, lane_app, lasting_serve_app, outbox_rule, owner_rule, patience_rule, plain_serve_app, port_rule, read_rule, replay_app, round_rule, rounds_rule, running_app, scheme_rule, serve_app, standing_app, store_rule, stores_app, turns_rule, until_rule, waiting_serve_app, write_rule};
+ghost use Rattle.fare_command.specs.CommandLine.{IsMade, ask_rule, asking_app, base_app, day_app, day_rule, device_rule, hub_app, days_app, lane_app, ordering_app, lasting_serve_app, outbox_rule, owner_rule, patience_rule, plain_serve_app, port_rule, read_rule, replay_app, round_rule, rounds_rule, running_app, scheme_rule, serve_app, standing_app, store_rule, stores_app, turns_rule, until_rule, waiting_serve_app, write_rule};
 
 use clap::{Arg, ArgAction, Command};
 use std::alloc::{AllocError, Global};
@@ -180,18 +180,18 @@ fn owner_arg<'a>(alloc: Global) -> Arg<'a>
         .help("The owner, 1 to 65,535")
 }
 
-/// `--day D`
-fn day_arg<'a>(alloc: Global) -> Arg<'a>
-    ensures rule { rule_of result ≡ day_rule }
+/// `--NAME D`, a day
+fn day_arg<'a>(alloc: Global, name: &'a str, help: &'a str) -> Arg<'a>
+    ensures rule { rule_of result ≡ day_rule name.now }
     ensures local { result.global ≡ false }
 {
-    Arg::new(alloc, "day")
-        .long("day")
+    Arg::new(alloc, name)
+        .long(name)
         .value_name("D")
         .action(ArgAction::Set)
         .required(true)
         .value_parser(clap::value_parser!(u32).range(0..=100_000))
-        .help("The traffic day, counted from 1970-01-01 = 0, up to 100,000")
+        .help(help)
 }
 
 /// `--device D`
@@ -274,9 +274,10 @@ fn stores_command<'a>(
 fn day_command<'a>(alloc: Global, name: &'a str, about: &'a str) -> Result<Command<'a>, AllocError>
     ensures { IfOk result (IsMade (day_app name.now)) }
 {
+    let help = "The traffic day, counted from 1970-01-01 = 0, up to 100,000";
     stores_command(alloc, name, about)?
         .arg(owner_arg(alloc))?
-        .arg(day_arg(alloc))
+        .arg(day_arg(alloc, "day", help))
 }
 
 /// An order of an owner's lane of a device.
@@ -286,6 +287,15 @@ fn lane_command<'a>(alloc: Global, name: &'a str, about: &'a str) -> Result<Comm
     stores_command(alloc, name, about)?
         .arg(owner_arg(alloc))?
         .arg(device_arg(alloc))
+}
+
+/// An order of the days before one.
+fn days_command<'a>(alloc: Global, name: &'a str, about: &'a str) -> Result<Command<'a>, AllocError>
+    ensures { IfOk result (IsMade (days_app name.now)) }
+{
+    let help =
+        "A day, counted from 1970-01-01 = 0, up to 100,000: its week stays, and so do later ones";
+    stores_command(alloc, name, about)?.arg(day_arg(alloc, "before", help))
 }
 
 /// The program, with no subcommand yet.
@@ -360,10 +370,22 @@ fn with_stand<'a>(alloc: Global) -> Result<Command<'a>, AllocError>
     joined(with_settle(alloc), stores_command(alloc, "stand", about))
 }
 
+/// And with `retire`.
+fn ordering_command<'a>(alloc: Global) -> Result<Command<'a>, AllocError>
+    ensures { IfOk result (IsMade ordering_app) }
+{
+    let about = "Reads a scheme, and ends an owner's lane of a device, for good";
+    joined(with_stand(alloc), lane_command(alloc, "retire", about))
+}
+
 /// The command line of the program.
 pub fn hub_command<'a>(alloc: Global) -> Result<Command<'a>, AllocError>
     ensures { IfOk result (λ c. app_of c ≡ hub_app) }
 {
-    let about = "Reads a scheme, and ends an owner's lane of a device, for good";
-    joined(with_stand(alloc), lane_command(alloc, "retire", about))
+    let about =
+        "Reads a scheme, and lets go what the owners' ledgers hold of closed weeks before a day's";
+    joined(
+        ordering_command(alloc),
+        days_command(alloc, "forget", about),
+    )
 }

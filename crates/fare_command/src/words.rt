@@ -52,6 +52,8 @@ pub enum Question {
     Stand,
     /// End an owner's lane of a device, for good.
     Retire { owner: OwnerId, device: DeviceId },
+    /// Let go what is of days before the week of this one, where they are closed.
+    Forget { before: Day },
 }
 
 /// What the program is asked to do.
@@ -232,13 +234,13 @@ fn owner_of(alloc: Global, matches: &ArgMatches<'_>) -> Result<OwnerId, WordsFau
     }
 }
 
-/// The day that is asked for.
-fn day_of(alloc: Global, matches: &ArgMatches<'_>) -> Result<Day, WordsFault>
-    ensures ok { IfOk result (IsDayIn (rows_of (found_of matches.now))) }
-    ensures err { IfErr result (RefusedFor ((n : ℕ) → IsDayIn (rows_of (found_of matches.now)) n → ⊥)) }
+/// The day that an option gives.
+fn day_of(alloc: Global, matches: &ArgMatches<'_>, option: &str) -> Result<Day, WordsFault>
+    ensures ok { IfOk result (IsDayIn option.now (rows_of (found_of matches.now))) }
+    ensures err { IfErr result (RefusedFor ((n : ℕ) → IsDayIn option.now (rows_of (found_of matches.now)) n → ⊥)) }
 {
     let text = "error: the day is a number from 0 to 100,000\n";
-    let Some(day) = text_of(matches, "day") else {
+    let Some(day) = text_of(matches, option) else {
         return Err(WordsFault::Refused(String::from_str(alloc, text)?));
     };
     let Ok(number) = day.parse::<u32>() else {
@@ -331,7 +333,7 @@ fn bill_job<'a>(alloc: Global, matches: &ArgMatches<'a>) -> Result<Job<'a>, Word
     let path = path_of(alloc, matches)?;
     let scheme = text_of(matches, "scheme");
     let owner = owner_of(alloc, matches)?;
-    let day = day_of(alloc, matches)?;
+    let day = day_of(alloc, matches, "day")?;
     Ok(Job::Ask {
         path,
         scheme,
@@ -347,7 +349,7 @@ fn settle_job<'a>(alloc: Global, matches: &ArgMatches<'a>) -> Result<Job<'a>, Wo
     let path = path_of(alloc, matches)?;
     let scheme = text_of(matches, "scheme");
     let owner = owner_of(alloc, matches)?;
-    let day = day_of(alloc, matches)?;
+    let day = day_of(alloc, matches, "day")?;
     Ok(Job::Ask {
         path,
         scheme,
@@ -399,6 +401,21 @@ fn retire_job<'a>(alloc: Global, matches: &ArgMatches<'a>) -> Result<Job<'a>, Wo
     })
 }
 
+/// The job of `forget`.
+fn forget_job<'a>(alloc: Global, matches: &ArgMatches<'a>) -> Result<Job<'a>, WordsFault>
+    ensures ok { IfOk result (JobIn (codes "forget") (rows_of (found_of matches.now))) }
+    ensures err { IfErr result (RefusedFor ((job : Job) → JobIn (codes "forget") (rows_of (found_of matches.now)) job → ⊥)) }
+{
+    let path = path_of(alloc, matches)?;
+    let scheme = text_of(matches, "scheme");
+    let before = day_of(alloc, matches, "before")?;
+    Ok(Job::Ask {
+        path,
+        scheme,
+        question: Question::Forget { before },
+    })
+}
+
 /// The job that clap's matches ask for.
 fn job_in<'a>(alloc: Global, matches: &ArgMatches<'a>) -> Result<Job<'a>, WordsFault>
     ensures ok { IfOk result (JobOf (subcommand_rows_of matches.now)) }
@@ -412,9 +429,10 @@ fn job_in<'a>(alloc: Global, matches: &ArgMatches<'a>) -> Result<Job<'a>, WordsF
         Some(("settle", inner)) => settle_job(alloc, inner),
         Some(("stand", inner)) => stand_job(alloc, inner),
         Some(("retire", inner)) => retire_job(alloc, inner),
+        Some(("forget", inner)) => forget_job(alloc, inner),
         _ => {
             let text =
-                "error: the command is replay, serve, close, bill, settle, stand or retire\n";
+                "error: the command is replay, serve, close, bill, settle, stand, retire or forget\n";
             Err(WordsFault::Refused(String::from_str(alloc, text)?))
         }
     }

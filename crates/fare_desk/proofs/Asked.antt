@@ -41,6 +41,13 @@ module _ {O L : Type 0} (outbox : O → Standing OutboxValue) (ledger : L → St
   retired_told old owner device (Err f) told = tt
   retired_told old owner device (Ok retired) told = λ h may. sym (told h may).1
 
+  -- what a ledger tells of itself
+  pub value_told : {A : Type 0} (old : Hub O L) (owner : ℕ) (P : LedgerValue → A → Type 0) (result : Result A Fault)
+      → IfOk result (λ a. (h : StoresValue) → MayStandAs outbox ledger old h → ((h.ledgers owner).start ≡ old.scheme.start) × P (h.ledgers owner) a)
+      → IfOk result (λ a. (h : StoresValue) → MayStandAs outbox ledger old h → P (h.ledgers owner) a)
+  value_told old owner P (Err f) told = tt
+  value_told old owner P (Ok a) told = λ h may. (told h may).1
+
   -- THE OUTBOX
   module _ {A : Type 0} (old new : Hub O L) (scheme : new.scheme ≡ old.scheme) (ledgers : new.ledgers ≡ old.ledgers) (sound_outbox : IsSound (outbox old.outbox)) (P : OutboxValue → A → Type 0) (result : Result A Fault) (call : Reads (outbox old.outbox) (outbox new.outbox) (P (outbox old.outbox).value) result) where
     was_of : (owner : ℕ) (x : L) → IsLedgerOf new owner x → IsLedgerOf old owner x

@@ -1,10 +1,12 @@
 pub mod Asked
 pub mod Going
 pub mod Held
+pub mod LetGo
 pub mod Lane
 pub mod Lanes
 pub mod Retires
 pub mod Shown
 pub mod Tried
 pub mod Waits
+pub mod Without
 pub mod Written

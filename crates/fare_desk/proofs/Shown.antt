@@ -59,21 +59,25 @@ module _ {O L : Type 0} (outbox : O → Standing OutboxValue) (ledger : L → St
     shown = λ clean sound h may. (lane, [], tells clean sound h may, sym (append-nil (lane_line owner device lane)), refl);
   }
 
-  -- where a lane stands, by four questions
-  pub lane_is : (a b c d e : Hub O L) (owner device taken rows statements : ℕ) (closed : Option ℕ) (retired : Bool) → OnlyAsks outbox ledger a b → OnlyAsks outbox ledger b c → OnlyAsks outbox ledger c d → OnlyAsks outbox ledger d e
+  -- where a lane stands, by five questions
+  pub lane_is : (a b c d e z : Hub O L) (owner device taken rows statements from : ℕ) (closed : Option ℕ) (retired : Bool) → OnlyAsks outbox ledger a b → OnlyAsks outbox ledger b c → OnlyAsks outbox ledger c d → OnlyAsks outbox ledger d e → OnlyAsks outbox ledger e z
       → (AreClean outbox ledger b → AreSound outbox ledger a → (h : StoresValue) → MayStandAs outbox ledger a h → ((h.ledgers owner).start ≡ a.scheme.start) × ((taken ≡ length ((h.ledgers owner).taken device)) × (closed ≡ closed_through (h.ledgers owner) device)))
       → (AreClean outbox ledger c → AreSound outbox ledger b → (h : StoresValue) → MayStandAs outbox ledger b h → HasFrom (h.outbox.rows owner device) (taken + 1) rows)
       → (AreClean outbox ledger d → AreSound outbox ledger c → (h : StoresValue) → MayStandAs outbox ledger c h → HasFrom (stated_days h.outbox owner device) (day_behind closed c.scheme.start) statements)
-      → (AreClean outbox ledger e → AreSound outbox ledger d → (h : StoresValue) → MayStandAs outbox ledger d h → (h.ledgers owner).retired device ≡ retired)
-      → AreClean outbox ledger e → AreSound outbox ledger a → (h : StoresValue) → MayStandAs outbox ledger e h → IsLane h owner device (record { taken = taken; closed = closed; rows = rows; statements = statements; retired = retired })
-  lane_is a b c d e owner device taken rows statements closed retired f g k l first second third fourth clean sound h may =
+      → (AreClean outbox ledger e → AreSound outbox ledger d → (h : StoresValue) → MayStandAs outbox ledger d h → from ≡ (h.ledgers owner).from device)
+      → (AreClean outbox ledger z → AreSound outbox ledger e → (h : StoresValue) → MayStandAs outbox ledger e h → (h.ledgers owner).retired device ≡ retired)
+      → AreClean outbox ledger z → AreSound outbox ledger a → (h : StoresValue) → MayStandAs outbox ledger z h → IsLane h owner device (record { taken = taken; closed = closed; rows = rows; statements = statements; from = from; retired = retired })
+  lane_is a b c d e z owner device taken rows statements from closed retired f g k l p first second third fourth fifth clean sound h may =
       let sound_b = f.sound sound in
       let sound_c = g.sound sound_b in
       let sound_d = k.sound sound_c in
-      let clean_d = clean_back outbox ledger d e l.follow clean in
+      let sound_e = l.sound sound_d in
+      let clean_e = clean_back outbox ledger e z p.follow clean in
+      let clean_d = clean_back outbox ledger d e l.follow clean_e in
       let clean_c = clean_back outbox ledger c d k.follow clean_d in
       let clean_b = clean_back outbox ledger b c g.follow clean_c in
-      let may_d = l.same clean sound_d h may in
+      let may_e = p.same clean sound_e h may in
+      let may_d = l.same clean_e sound_d h may_e in
       let may_c = k.same clean_d sound_c h may_d in
       let may_b = g.same clean_c sound_b h may_c in
       let may_a = f.same clean_b sound h may_b in
@@ -86,7 +90,8 @@ module _ {O L : Type 0} (outbox : O → Standing OutboxValue) (ledger : L → St
         closed = t.1.1;
         rows = subst (λ n. HasFrom (h.outbox.rows owner device) (n + 1) rows) t.1.0 (second clean_c sound_b h may_b);
         statements = subst (λ n. HasFrom (stated_days h.outbox owner device) n statements) day (third clean_d sound_c h may_c);
-        retired = sym (fourth clean sound_d h may_d);
+        from = fourth clean_e sound_d h may_d;
+        retired = sym (fifth clean sound_e h may_e);
       }
 
   -- DEVICES

@@ -16,7 +16,7 @@ use Rattle.fare_lines.specs.Replies.{reply_text}
 use Rattle.fare_history.specs.Stores.{StoresValue}
 use Rattle.fare_agreement.specs.Agreeing.{AreNumberedLists, Agrees}
 use Rattle.fare_agreement.specs.Parts.{parts_of}
-use Rattle.fare_sessions.specs.Billing.{open_in, short_in}
+use Rattle.fare_sessions.specs.Billing.{gone_in, open_in, short_in}
 use Rattle.fare_sessions.specs.declared.hub.Hub.{Hub}
 use Rattle.fare_sessions.specs.Stores.{AreClean, AreSound, MayStandAs}
 use Rattle.fare_desk.specs.Billing.{IsMadeOf, WritesBill, WritesSettlement}
@@ -25,11 +25,12 @@ use Rattle.fare_desk.specs.declared.fault.DeskFault.{DeskFault}
 module _ {O L : Type 0} (outbox : O → Standing OutboxValue) (ledger : L → Standing LedgerValue) (old new : Hub O L) (owner day : ℕ) (devices : List ℕ) where
   module _ {V : Type 0} (rule : SchemeValue → List RecordValue → ℕ → V) (made : V) (told : List ℕ) (same : devices ≡ told)
       (closed : AreClean outbox ledger new → AreSound outbox ledger old → (h : StoresValue) → MayStandAs outbox ledger old h → open_in old.scheme (h.ledgers owner) day ≡ None)
+      (held : AreClean outbox ledger new → AreSound outbox ledger old → (h : StoresValue) → MayStandAs outbox ledger old h → gone_in old.scheme (h.ledgers owner) day ≡ None)
       (short : AreClean outbox ledger new → AreSound outbox ledger old → (h : StoresValue) → MayStandAs outbox ledger old h → told ≡ short_in old.scheme (h.ledgers owner) day)
       (taken : AreClean outbox ledger new → AreSound outbox ledger old → (rows : List RecordValue) × ((h : StoresValue) → MayStandAs outbox ledger old h → AreTapsBetween (h.ledgers owner) (week_start old.scheme day) day rows) × (made ≡ rule old.scheme rows day))
       (value : AreClean outbox ledger new → AreSound outbox ledger old → (lists : ℕ → List RecordValue) (h : StoresValue) → AreNumberedLists old.scheme lists → MayStandAs outbox ledger old h → Agrees old.scheme lists h → made ≡ rule old.scheme (parts_of old.scheme lists (h.ledgers owner) owner) day) where
     pub made_of : AreClean outbox ledger new → AreSound outbox ledger old → IsMadeOf outbox ledger rule old owner day made devices
-    made_of clean sound = record { closed = closed clean sound; short = λ h may. same ∙ short clean sound h may; taps = taken clean sound; numbered = value clean sound }
+    made_of clean sound = record { closed = closed clean sound; held = held clean sound; short = λ h may. same ∙ short clean sound h may; taps = taken clean sound; numbered = value clean sound }
 
   module _ (before after : Option (List ℕ)) (text : List ℕ) where
     pub bill_written : (bill : BillValue) → text ≡ reply_text (reply.Bill owner day bill devices) → (AreClean outbox ledger new → AreSound outbox ledger old → IsMadeOf outbox ledger bill_of old owner day bill devices)

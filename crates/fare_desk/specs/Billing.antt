@@ -15,16 +15,17 @@ use Rattle.fare_history.specs.Stores.{StoresValue}
 use Rattle.fare_agreement.specs.Agreeing.{AreNumberedLists, Agrees}
 use Rattle.fare_agreement.specs.Parts.{parts_of}
 use Rattle.fare_scheme.specs.Values.{SchemeValue}
-use Rattle.fare_sessions.specs.Billing.{open_in, short_in}
+use Rattle.fare_sessions.specs.Billing.{gone_in, open_in, short_in}
 use Rattle.fare_sessions.specs.declared.hub.Hub.{Hub}
 use Rattle.fare_sessions.specs.Stores.{AreClean, AreSound, MayStandAs}
 
 module _ {O L : Type 0} (outbox : O → Standing OutboxValue) (ledger : L → Standing LedgerValue) where
   -- This is what a rule makes of an owner's taps, for a day that the owner has closed of each device, or retired its lane:
   -- of the taps that its ledger holds from where the day's week begins to the day, and so of what the devices numbered for
-  -- it, but of a retired lane of what was taken, where the rows agree with that. It is short of these devices.
+  -- it, but of a retired lane of what was taken, where the rows agree with that. Nothing of the week was let go. It is short of these devices.
   pub record IsMadeOf {V : Type 0} (rule : SchemeValue → List RecordValue → ℕ → V) (hub : Hub O L) (owner day : ℕ) (made : V) (devices : List ℕ) : Type 0 where
     pub closed : (h : StoresValue) → MayStandAs outbox ledger hub h → open_in hub.scheme (h.ledgers owner) day ≡ None
+    pub held : (h : StoresValue) → MayStandAs outbox ledger hub h → gone_in hub.scheme (h.ledgers owner) day ≡ None
     pub short : (h : StoresValue) → MayStandAs outbox ledger hub h → devices ≡ short_in hub.scheme (h.ledgers owner) day
     pub taps : (rows : List RecordValue) × ((h : StoresValue) → MayStandAs outbox ledger hub h → AreTapsBetween (h.ledgers owner) (week_start hub.scheme day) day rows) × (made ≡ rule hub.scheme rows day)
     pub numbered : (lists : ℕ → List RecordValue) (h : StoresValue) → AreNumberedLists hub.scheme lists → MayStandAs outbox ledger hub h → Agrees hub.scheme lists h → made ≡ rule hub.scheme (parts_of hub.scheme lists (h.ledgers owner) owner) day

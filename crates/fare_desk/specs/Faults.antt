@@ -7,6 +7,8 @@ use Rattle.fare_store.specs.declared.fault.Refused.TheVariants.{Because, Failed}
 use Rattle.fare_owner.specs.declared.retiring.RetireFault.TheVariants as retire
 use Rattle.fare_sessions.specs.declared.retiring.RetiringFault.{RetiringFault}
 use Rattle.fare_sessions.specs.declared.retiring.RetiringFault.TheVariants as retiring
+use Rattle.fare_sessions.specs.declared.billing.BillingFault.{BillingFault}
+use Rattle.fare_sessions.specs.declared.billing.BillingFault.TheVariants as billing
 use Rattle.fare_side.specs.declared.bill_fault.BillFault.{BillFault}
 use Rattle.fare_side.specs.declared.bill_fault.BillFault.TheVariants as bill
 use Rattle.fare_desk.specs.declared.fault.DeskFault.{DeskFault}
@@ -21,8 +23,12 @@ named_fault bill.UnknownOwner = desk.UnknownOwner
 named_fault bill.BeforeStart = desk.BeforeStart
 named_fault (bill.NotClosed device) = desk.NotClosed device
 
-abbrev pub of_bill : Refused BillFault → DeskFault
-of_bill (Because why) = named_fault why
+abbrev pub named_billing : BillingFault → DeskFault
+named_billing (billing.Unbilled why) = named_fault why
+named_billing (billing.Forgotten device) = desk.Forgotten device
+
+abbrev pub of_bill : Refused BillingFault → DeskFault
+of_bill (Because why) = named_billing why
 of_bill (Failed f) = of_store f
 
 -- why a lane was not retired: a ledger that knows no such device, where the scheme does, is none of this scheme's
@@ -47,12 +53,13 @@ is_of_retire desk.Retired = true
 is_of_retire _ = false
 
 -- the refusal of a bill that a fault is, if it is one
-abbrev pub name_of : DeskFault → Option BillFault
-name_of desk.UnknownOwner = Some bill.UnknownOwner
-name_of desk.BeforeStart = Some bill.BeforeStart
-name_of (desk.NotClosed device) = Some (bill.NotClosed device)
+abbrev pub name_of : DeskFault → Option BillingFault
+name_of desk.UnknownOwner = Some (billing.Unbilled bill.UnknownOwner)
+name_of desk.BeforeStart = Some (billing.Unbilled bill.BeforeStart)
+name_of (desk.Forgotten device) = Some (billing.Forgotten device)
+name_of (desk.NotClosed device) = Some (billing.Unbilled (bill.NotClosed device))
 name_of _ = None
 
-abbrev pub refused_of : {V : Type 0} → Result V DeskFault → Option BillFault
+abbrev pub refused_of : {V : Type 0} → Result V DeskFault → Option BillingFault
 refused_of (Ok v) = None
 refused_of (Err f) = name_of f

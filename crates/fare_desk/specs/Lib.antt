@@ -1,6 +1,7 @@
 pub mod Billing
 pub mod Closing
 pub mod Faults
+pub mod Forgetting
 pub mod Retiring
 pub mod Showing
 pub mod Waiting

@@ -1,5 +1,5 @@
 -- Where each device's lanes stand, and what is written of it.
-use Rattle.std.specs.Prelude.{◌≡◌, ℕ, zero, suc, ◌+◌, ◌<◌, ◌≤◌, List, [], ◌∷◌, ◌++◌, length, codes, Bool, true, false, Option, Some, None, is_some}
+use Rattle.std.specs.Prelude.{◌≡◌, ℕ, zero, suc, ◌+◌, ◌<◌, ◌≤◌, ◌==◌, List, [], ◌∷◌, ◌++◌, length, codes, Bool, true, false, Option, Some, None, is_some, if◌then◌else◌}
 use Rattle.std.specs.List.{flat_map}
 use Rattle.std.specs.Fmt.{decimal}
 use Rattle.std.specs.Io.KnownBytes.{Appends}
@@ -30,12 +30,13 @@ stated_days x owner device = of_a_day (x.stated owner device)
 abbrev pub HasStatements : StoresValue → ℕ → ℕ → ℕ → Type 0
 HasStatements h owner device n = HasFrom (stated_days h.outbox owner device) (first_unclosed (h.ledgers owner) device) n
 
--- where an owner's lane of a device stands: how many taps are taken, the last closed day, how many rows and statements wait, and whether it is retired
+-- where an owner's lane of a device stands: how many taps are taken, the last closed day, how many rows and statements wait, from which day on all is held, and whether it is retired
 pub record IsLane (h : StoresValue) (owner device : ℕ) (lane : Lane) : Type 0 where
   pub taken : lane.taken ≡ length ((h.ledgers owner).taken device)
   pub closed : lane.closed ≡ closed_through (h.ledgers owner) device
   pub rows : HasRows h owner device lane.rows
   pub statements : HasStatements h owner device lane.statements
+  pub from : lane.from ≡ (h.ledgers owner).from device
   pub retired : lane.retired ≡ (h.ledgers owner).retired device
 
 -- LINES
@@ -45,6 +46,10 @@ upto_line device upto = codes "upto " ++ (decimal device ++ (codes " " ++ (decim
 abbrev pub closed_word : Option ℕ → List ℕ
 closed_word None = codes "none"
 closed_word (Some day) = decimal day
+
+-- from which day on a lane is held, where something of it was let go
+abbrev pub held_word : ℕ → List ℕ
+held_word day = if day == 0 then [] else codes " from " ++ decimal day
 
 -- what the line of a retired lane ends with
 abbrev pub retired_word : Bool → List ℕ
@@ -56,7 +61,7 @@ lane_line owner device lane =
     (codes "lane " ++ (decimal owner ++ (codes " " ++ (decimal device ++ (codes " taken " ++ (decimal lane.taken ++ codes " closed "))))))
     ++ (closed_word lane.closed
     ++ ((codes " rows " ++ (decimal lane.rows ++ (codes " statements " ++ decimal lane.statements)))
-    ++ (retired_word lane.retired ++ codes "\n")))
+    ++ (held_word lane.from ++ (retired_word lane.retired ++ codes "\n"))))
 
 -- the lines of devices, of each one number
 abbrev pub AreUptoLines : List ℕ → List ℕ → Type 0

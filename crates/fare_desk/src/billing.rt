@@ -20,8 +20,9 @@ use std::io::Write;
 /// Writes an owner's bill of a day: the line `bill OWNER DAY ACCOUNTS TOTAL`, a line for each account, and a line `short
 /// DEVICE` for each device whose lane is retired and whose day was not closed. The stores hold what they held.
 ///
-/// Refused by the first of `UnknownOwner`, `BeforeStart` and `NotClosed` that applies; then `Memory` where there was
-/// none for it, and `Store` where the owner's ledger failed; nothing is written then. `Write` where the writer failed.
+/// Refused by the first of `UnknownOwner`, `BeforeStart`, `Forgotten` and `NotClosed` that applies; then `Memory` where
+/// there was none for it, and `Store` where the owner's ledger failed; nothing is written then. `Write` where the writer
+/// failed.
 pub fn write_bill<O: Outbox, L: Ledger, W: Write>(
     alloc: Global,
     hub: &mut Hub<O, L>,

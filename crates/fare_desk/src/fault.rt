@@ -1,10 +1,10 @@
 ghost use Rattle.std.specs.Prelude.{◌≡◌};
-ghost use Rattle.fare_desk.specs.Faults.{named_fault, of_bill, of_retiring, of_store};
+ghost use Rattle.fare_desk.specs.Faults.{named_billing, named_fault, of_bill, of_retiring, of_store};
 ghost use Rattle.fare_desk.specs.declared.fault.DeskFault.TheVariants.{Memory};
 
 use fare_owner::RetireFault;
 use fare_record::DeviceId;
-use fare_sessions::RetiringFault;
+use fare_sessions::{BillingFault, RetiringFault};
 use fare_store::{Fault, Refused};
 use fare_world::BillFault;
 use std::alloc::{AllocError, AllocFailed};
@@ -23,6 +23,9 @@ pub enum DeskFault {
     /// The day is before the scheme's first one.
     #[error("refused BeforeStart")]
     BeforeStart,
+    /// Of this device not all taps of the day's week are held, the first such one in order of registration.
+    #[error("refused Forgotten {}", .device.get())]
+    Forgotten { device: DeviceId },
     /// The owner has neither closed the day of this device nor retired its lane, the first such one in order of
     /// registration.
     #[error("refused NotClosed {}", .device.get())]
@@ -79,12 +82,22 @@ fn of_name(why: BillFault) -> DeskFault
     }
 }
 
+// The same, and that taps of the week were let go.
+fn of_billing(why: BillingFault) -> DeskFault
+    ensures { result ≡ named_billing why }
+{
+    match why {
+        BillingFault::Unbilled(why) => of_name(why),
+        BillingFault::Forgotten { device } => DeskFault::Forgotten { device },
+    }
+}
+
 // Why there is no bill.
-pub(crate) fn of_refusal(refused: Refused<BillFault>) -> DeskFault
+pub(crate) fn of_refusal(refused: Refused<BillingFault>) -> DeskFault
     ensures { result ≡ of_bill refused }
 {
     match refused {
-        Refused::Because(why) => of_name(why),
+        Refused::Because(why) => of_billing(why),
         Refused::Failed(fault) => DeskFault::from(fault),
     }
 }

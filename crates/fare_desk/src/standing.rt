@@ -1,5 +1,5 @@
 //! Where each device's lanes stand.
-ghost use Rattle.std.specs.Prelude.{◌≡◌, ◌≢◌, ◌+◌, ◌++◌, ◌∷◌, [], None, false, length, string_bytes, IfOk, IfErr, OnOk};
+ghost use Rattle.std.specs.Prelude.{◌≡◌, ◌≢◌, ◌+◌, ◌++◌, ◌∷◌, [], None, false, length, codes, string_bytes, IfOk, IfErr, OnOk};
 ghost use Rattle.std.specs.Io.KnownBytes.{Keeps};
 ghost use Rattle.std.specs.Map.{keys_of};
 ghost use Rattle.fare_history.specs.Stores.{StoresValue};
@@ -9,7 +9,7 @@ ghost use Rattle.fare_store.specs.Standing.{Reads};
 ghost use Rattle.fare_sessions.specs.Billing.{day_behind};
 ghost use Rattle.fare_sessions.specs.Stores.{AreClean, AreSound, HasLedgers, MayStandAs};
 ghost use Rattle.fare_desk.specs.Closing.{lanes_of, lanes_with};
-ghost use Rattle.fare_desk.specs.Showing.{AddsLanes, AddsUptos, HasFrom, IsLane, OnlyAsks, WritesStanding, closed_word, lane_line, retired_word, stated_days, upto_line};
+ghost use Rattle.fare_desk.specs.Showing.{AddsLanes, AddsUptos, HasFrom, IsLane, OnlyAsks, WritesStanding, closed_word, held_word, lane_line, retired_word, stated_days, upto_line};
 ghost use Rattle.fare_desk.specs.Faults.{is_refusal};
 ghost use Rattle.fare_desk.specs.declared.fault.DeskFault.TheVariants.{Write};
 
@@ -22,13 +22,14 @@ use std::alloc::{AllocError, Global};
 use std::io::Write;
 
 /// Where an owner's lane of a device stands: how many taps are taken, the last day that is closed, how many rows and
-/// statements wait, and whether it is retired.
+/// statements wait, from which day on all is held, and whether it is retired.
 #[derive(Clone, Copy)]
 pub(crate) struct Lane {
     taken: u64,
     closed: Option<Day>,
     rows: u64,
     statements: u64,
+    from: Day,
     retired: bool,
 }
 
@@ -155,6 +156,23 @@ pub(crate) fn ask_retired<O: Outbox, L: Ledger>(
     hub.ledgers[at].retired(device)
 }
 
+// From which day on a ledger holds all of an owner's lane of a device.
+pub(crate) fn ask_held_from<O: Outbox, L: Ledger>(
+    hub: &mut Hub<O, L>,
+    owner: OwnerId,
+    device: DeviceId,
+) -> Result<Day, Fault>
+    requires ledgers { HasLedgers hub.old }
+    requires known { position_of_owner hub.old.scheme owner ≢ None }
+    ensures asks { OnlyAsks O.standing L.standing hub.old hub.new }
+    ensures tells { AreClean O.standing L.standing hub.new → AreSound O.standing L.standing hub.old → IfOk result (λ from. (h : StoresValue) → MayStandAs O.standing L.standing hub.old h → from ≡ (h.ledgers owner).from device) }
+{
+    let Some(at) = hub.scheme.owner_position(owner) else {
+        unreachable!()
+    };
+    hub.ledgers[at].held_from(device)
+}
+
 // Where an owner's lane of a device stands.
 fn lane_of<O: Outbox, L: Ledger>(
     hub: &mut Hub<O, L>,
@@ -169,12 +187,14 @@ fn lane_of<O: Outbox, L: Ledger>(
     let told = ask_ledger(hub, owner, device)?;
     let rows = ask_rows(hub, owner, device, told.0)?;
     let statements = ask_statements(hub, owner, device, told.1)?;
+    let from = ask_held_from(hub, owner, device)?;
     let retired = ask_retired(hub, owner, device)?;
     Ok(Lane {
         taken: told.0,
         closed: told.1,
         rows,
         statements,
+        from,
         retired,
     })
 }
@@ -192,11 +212,32 @@ fn closed_text(alloc: Global, closed: Option<Day>) -> Result<String, AllocError>
     }
 }
 
+// From which day on a lane is held, where something of it was let go.
+fn held_text(alloc: Global, from: Day) -> Result<String, AllocError>
+    ensures { IfOk result (λ text. string_bytes text ≡ held_word from) }
+{
+    let day = from.get();
+    if day == 0 {
+        return Ok(String::new(alloc));
+    }
+    format!(in alloc; " from {day}")
+}
+
 // What the line of a retired lane ends with.
 fn retired_text(retired: bool) -> &'static str
     ensures { result.now ≡ retired_word retired }
 {
     if retired { " retired" } else { "" }
+}
+
+// The end of a lane's line.
+fn add_end(alloc: Global, lane: Lane, text: &mut String) -> Result<(), AllocError>
+    ensures { OnOk result (string_bytes text.new ≡ string_bytes text.old ++ (held_word lane.from ++ (retired_word lane.retired ++ codes "\n"))) }
+{
+    text.push_str(&held_text(alloc, lane.from)?)?;
+    text.push_str(retired_text(lane.retired))?;
+    text.push_str("\n")?;
+    Ok(())
 }
 
 // The line of a lane.
@@ -217,9 +258,7 @@ fn add_lane(
     text.push_str(&format!(in alloc; "lane {owner} {device} taken {taken} closed ")?)?;
     text.push_str(&closed_text(alloc, lane.closed)?)?;
     text.push_str(&format!(in alloc; " rows {rows} statements {statements}")?)?;
-    text.push_str(retired_text(lane.retired))?;
-    text.push_str("\n")?;
-    Ok(())
+    add_end(alloc, lane, text)
 }
 
 // Adds the lines of an owner's lanes.
@@ -302,8 +341,9 @@ fn add_uptos<O: Outbox, L: Ledger>(
 /// Writes where each device's lanes stand: for each device the line `upto DEVICE N` with the greatest link that the
 /// outbox has had of it; and for each owner and device `lane OWNER DEVICE taken N closed DAY rows N statements N`: how many
 /// taps the owner has taken, the last day that it has closed, or `none`, and how many rows and statements the outbox holds
-/// that it hasn't taken and of days that it hasn't closed. The line of a lane that the owner has retired ends with one
-/// word more, ` retired`. The stores hold what they held.
+/// that it hasn't taken and of days that it hasn't closed. Where something of a lane was let go, ` from DAY` follows, the
+/// first day of which all is held; and the line of a lane that the owner has retired ends with one word more, ` retired`.
+/// The stores hold what they held.
 ///
 /// `Memory` where there was none for it, and `Store` where a store failed; nothing is written then. `Write` where the
 /// writer failed.

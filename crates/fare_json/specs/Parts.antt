@@ -14,6 +14,7 @@ name_text name.Amount = codes "amount"
 name_text name.Closed = codes "closed"
 name_text name.Day = codes "day"
 name_text name.Device = codes "device"
+name_text name.From = codes "from"
 name_text name.Kind = codes "kind"
 name_text name.Link = codes "link"
 name_text name.Operator = codes "operator"
@@ -37,7 +38,7 @@ name_text name.Why = codes "why"
 abbrev pub table : List (List ℕ × List Part)
 table =
     (codes "upto", part.Value name.Device ∷ part.Value name.Link ∷ [])
-    ∷ (codes "lane", part.Value name.Owner ∷ part.Value name.Device ∷ part.Label ∷ part.Value name.Taken ∷ part.Label ∷ part.Value name.Closed ∷ part.Label ∷ part.Value name.Rows ∷ part.Label ∷ part.Value name.Statements ∷ part.Flag name.Retired ∷ [])
+    ∷ (codes "lane", part.Value name.Owner ∷ part.Value name.Device ∷ part.Label ∷ part.Value name.Taken ∷ part.Label ∷ part.Value name.Closed ∷ part.Label ∷ part.Value name.Rows ∷ part.Label ∷ part.Value name.Statements ∷ part.Flag name.Retired ∷ part.Nothing name.From ∷ [])
     ∷ (codes "bill", part.Value name.Owner ∷ part.Value name.Day ∷ part.Value name.Accounts ∷ part.Value name.Total ∷ [])
     ∷ (codes "account", part.Value name.Product ∷ part.Value name.Token ∷ part.Value name.Rides ∷ part.Value name.Amount ∷ [])
     ∷ (codes "short", part.Value name.Device ∷ [])
@@ -60,6 +61,15 @@ is_refused words = bytes_eq (unwrap_or (slice_get words 3) []) (codes "refused")
 abbrev pub refused_close : List Part
 refused_close = part.Value name.Owner ∷ part.Value name.Device ∷ part.Value name.Day ∷ part.Label ∷ part.Value name.Refused ∷ part.Value name.Stated ∷ part.Value name.Taken ∷ []
 
+-- something of a lane was let go, as these words behind its keyword tell; and what they are then
+abbrev pub is_cut : List (List ℕ) → Bool
+is_cut words = bytes_eq (unwrap_or (slice_get words 10) []) (codes "from")
+
+abbrev pub cut_lane : List Part
+cut_lane = part.Value name.Owner ∷ part.Value name.Device ∷ part.Label ∷ part.Value name.Taken ∷ part.Label ∷ part.Value name.Closed ∷ part.Label ∷ part.Value name.Rows ∷ part.Label ∷ part.Value name.Statements ∷ part.Label ∷ part.Value name.From ∷ part.Flag name.Retired ∷ []
+
 -- what these words behind a keyword are
 abbrev pub parts_of : List ℕ → List (List ℕ) → List Part
-parts_of keyword words = if bytes_eq keyword (codes "close") && is_refused words then refused_close else parts_behind keyword
+parts_of keyword words =
+    if bytes_eq keyword (codes "close") && is_refused words then refused_close else
+    if bytes_eq keyword (codes "lane") && is_cut words then cut_lane else parts_behind keyword

@@ -1,7 +1,7 @@
 //! What the words of a line are.
 ghost use Rattle.std.specs.Prelude.{◌≡◌, map};
 ghost use Rattle.std.specs.Str.{bytes_eq};
-ghost use Rattle.fare_json.specs.Parts.{is_refused, parts_behind, parts_of};
+ghost use Rattle.fare_json.specs.Parts.{is_cut, is_refused, parts_behind, parts_of};
 
 use crate::name::Name;
 
@@ -22,7 +22,7 @@ pub(crate) enum Part {
 const UPTO: [Part; 2] = [Part::Value(Name::Device), Part::Value(Name::Link)];
 
 // Where a lane stands.
-const LANE: [Part; 11] = [
+const LANE: [Part; 12] = [
     Part::Value(Name::Owner),
     Part::Value(Name::Device),
     Part::Label,
@@ -33,6 +33,24 @@ const LANE: [Part; 11] = [
     Part::Value(Name::Rows),
     Part::Label,
     Part::Value(Name::Statements),
+    Part::Flag(Name::Retired),
+    Part::Nothing(Name::From),
+];
+
+// Where a lane stands of which something was let go.
+const CUT_LANE: [Part; 13] = [
+    Part::Value(Name::Owner),
+    Part::Value(Name::Device),
+    Part::Label,
+    Part::Value(Name::Taken),
+    Part::Label,
+    Part::Value(Name::Closed),
+    Part::Label,
+    Part::Value(Name::Rows),
+    Part::Label,
+    Part::Value(Name::Statements),
+    Part::Label,
+    Part::Value(Name::From),
     Part::Flag(Name::Retired),
 ];
 
@@ -146,12 +164,24 @@ fn is_refused(words: &[&[u8]]) -> bool
     }
 }
 
+// Whether these words tell of a lane, behind its keyword, that something of it was let go.
+fn is_cut(words: &[&[u8]]) -> bool
+    ensures { result ≡ is_cut (map (λ w. w.now) words.now) }
+{
+    match words.get(10) {
+        Some(word) => is(word, "from"),
+        None => false,
+    }
+}
+
 /// What the words are that stand behind a keyword.
 pub(crate) fn parts_of(keyword: &[u8], words: &[&[u8]]) -> &'static [Part]
     ensures { result.now ≡ parts_of keyword.now (map (λ w. w.now) words.now) }
 {
     if is(keyword, "close") && is_refused(words) {
         &REFUSED_CLOSE
+    } else if is(keyword, "lane") && is_cut(words) {
+        &CUT_LANE
     } else {
         parts_behind(keyword)
     }

@@ -23,7 +23,8 @@ use Rattle.fare_sessions.specs.declared.hub.Hub.{Hub}
 use Rattle.fare_store.specs.LedgerWords.{LedgerValue}
 use Rattle.fare_store.specs.OutboxWords.{OutboxValue}
 use Rattle.fare_store.specs.Standing.{Standing}
-use Rattle.fare_side.specs.declared.bill_fault.BillFault.{BillFault}
+use Rattle.fare_sessions.specs.declared.billing.BillingFault.{BillingFault}
+use Rattle.fare_sessions.specs.declared.billing.BillingFault.TheVariants as billing
 use Rattle.fare_side.specs.declared.bill_fault.BillFault.TheVariants as bill
 use Rattle.fare_page.specs.Answering.{IsBody, IsDone, IsFault, IsFilled, IsTold, IsToldFault, IsToldPlainly, MayRetireOne, Tells, TellsNotRetired, TellsRefusal, TellsRetireFault, TellsRetired, bill_refusal, form_for, in_form, refusal_in, refused_line}
 
@@ -33,6 +34,7 @@ leaves_same owner device desk.UnknownOwner h k is l = l
 leaves_same owner device desk.UnknownDevice h k is l = l
 leaves_same owner device desk.Retired h k is l = l.1
 leaves_same owner device desk.BeforeStart h k is l = absurd (cc)
+leaves_same owner device (desk.Forgotten d) h k is l = absurd (cc)
 leaves_same owner device (desk.NotClosed d) h k is l = absurd (cc)
 leaves_same owner device desk.Memory h k is l = absurd (cc)
 leaves_same owner device desk.Store h k is l = absurd (cc)
@@ -53,14 +55,15 @@ module _ {O L : Type 0} (outbox : O → Standing OutboxValue) (ledger : L → St
     abbrev Refused : Type 0
     Refused = TellsRefusal outbox ledger old new owner day status after ⊎ IsFault status
 
-    by_name : (why : BillFault) → middle ≡ before → (AreClean outbox ledger new → AreSound outbox ledger old → IsBillRefusal outbox ledger old owner day (Some why)) → IsToldFault (Some (bill_refusal why)) middle after status → Refused
+    by_name : (why : BillingFault) → middle ≡ before → (AreClean outbox ledger new → AreSound outbox ledger old → IsBillRefusal outbox ledger old owner day (Some why)) → IsToldFault (Some (bill_refusal why)) middle after status → Refused
     by_name why same refused (inl out) = inr out
     by_name why same refused (inr named) = inl (record { why = why; told = (named.0, named.1 ∙ ap (λ (l : List ℕ). l ++ refused_line (bill_refusal why)) (same ∙ none)); is = refused })
 
     by_fault : (fault : DeskFault) → is_refusal fault ≡ is_some (name_of fault) → (fault ≢ desk.Write → Keeps (Some before) (Some middle)) → (AreClean outbox ledger new → AreSound outbox ledger old → IsBillRefusal outbox ledger old owner day (name_of fault)) → IsToldFault (refusal_in fault) middle after status → Refused
-    by_fault desk.UnknownOwner is kept refused told = by_name bill.UnknownOwner (kept (λ w. absurd (cc))) refused told
-    by_fault desk.BeforeStart is kept refused told = by_name bill.BeforeStart (kept (λ w. absurd (cc))) refused told
-    by_fault (desk.NotClosed device) is kept refused told = by_name (bill.NotClosed device) (kept (λ w. absurd (cc))) refused told
+    by_fault desk.UnknownOwner is kept refused told = by_name (billing.Unbilled bill.UnknownOwner) (kept (λ w. absurd (cc))) refused told
+    by_fault desk.BeforeStart is kept refused told = by_name (billing.Unbilled bill.BeforeStart) (kept (λ w. absurd (cc))) refused told
+    by_fault (desk.Forgotten device) is kept refused told = by_name (billing.Forgotten device) (kept (λ w. absurd (cc))) refused told
+    by_fault (desk.NotClosed device) is kept refused told = by_name (billing.Unbilled (bill.NotClosed device)) (kept (λ w. absurd (cc))) refused told
     by_fault desk.UnknownDevice is kept refused told = absurd (cc)
     by_fault desk.Retired is kept refused told = absurd (cc)
     by_fault desk.Memory is kept refused told = inr told
@@ -111,6 +114,7 @@ module _ {O L : Type 0} (outbox : O → Standing OutboxValue) (ledger : L → St
     by_retire desk.UnknownDevice o d leaves is kept told = by_refusal desk.UnknownDevice o d leaves refusal.UnknownDevice (refl, refl) (kept (λ w. absurd (cc))) told
     by_retire desk.Retired o d leaves is kept told = by_refusal desk.Retired o d leaves refusal.Retired (refl, refl) (kept (λ w. absurd (cc))) told
     by_retire desk.BeforeStart o d leaves is kept told = absurd (cc)
+    by_retire (desk.Forgotten other) o d leaves is kept told = absurd (cc)
     by_retire (desk.NotClosed other) o d leaves is kept told = absurd (cc)
     by_retire desk.Memory o d leaves is kept told = inr (inr (told, loosen old new (LeavesLane owner device desk.Memory) (MayRetireOne owner device) (λ h k l. l) leaves))
     by_retire desk.Store o d leaves is kept told = inr (inr (told, loosen old new (LeavesLane owner device desk.Store) (MayRetireOne owner device) (λ h k l. l) leaves))

@@ -33,7 +33,8 @@ use Rattle.fare_sessions.specs.declared.hub.Hub.{Hub}
 use Rattle.fare_store.specs.LedgerWords.{LedgerValue}
 use Rattle.fare_store.specs.OutboxWords.{OutboxValue}
 use Rattle.fare_store.specs.Standing.{Standing}
-use Rattle.fare_side.specs.declared.bill_fault.BillFault.{BillFault}
+use Rattle.fare_sessions.specs.declared.billing.BillingFault.{BillingFault}
+use Rattle.fare_sessions.specs.declared.billing.BillingFault.TheVariants as billing
 use Rattle.fare_side.specs.declared.bill_fault.BillFault.TheVariants as bill
 use Rattle.http.specs.declared.request.Parts.{Parts}
 use Rattle.http.specs.Request.{head_of}
@@ -45,16 +46,18 @@ use Rattle.fare_page.specs.Metrics.{metrics_text}
 
 -- REFUSALS
 -- the refusal of a bill, as a trace names it
-abbrev pub bill_refusal : BillFault → Refusal
-bill_refusal bill.UnknownOwner = refusal.UnknownOwner
-bill_refusal bill.BeforeStart = refusal.BeforeStart
-bill_refusal (bill.NotClosed device) = refusal.NotClosed device
+abbrev pub bill_refusal : BillingFault → Refusal
+bill_refusal (billing.Unbilled bill.UnknownOwner) = refusal.UnknownOwner
+bill_refusal (billing.Unbilled bill.BeforeStart) = refusal.BeforeStart
+bill_refusal (billing.Forgotten device) = refusal.Forgotten device
+bill_refusal (billing.Unbilled (bill.NotClosed device)) = refusal.NotClosed device
 
 -- the refusal that a fault is, if it is one
 abbrev pub refusal_in : DeskFault → Option Refusal
 refusal_in desk.UnknownOwner = Some refusal.UnknownOwner
 refusal_in desk.UnknownDevice = Some refusal.UnknownDevice
 refusal_in desk.BeforeStart = Some refusal.BeforeStart
+refusal_in (desk.Forgotten device) = Some (refusal.Forgotten device)
 refusal_in (desk.NotClosed device) = Some (refusal.NotClosed device)
 refusal_in desk.Retired = Some refusal.Retired
 refusal_in _ = None
@@ -154,7 +157,7 @@ MayRetireOne owner device h k = IsLeftBy h (Retires_lane owner device) k
 module _ {O L : Type 0} (outbox : O → Standing OutboxValue) (ledger : L → Standing LedgerValue) where
   -- a bill or a settlement was refused by the first name that applies, whose line is told
   pub record TellsRefusal (old new : Hub O L) (owner day : ℕ) (status : ℕ) (body : List ℕ) : Type 0 where
-    pub why : BillFault
+    pub why : BillingFault
     pub told : (status ≡ 409) × (body ≡ refused_line (bill_refusal why))
     pub is : AreClean outbox ledger new → AreSound outbox ledger old → IsBillRefusal outbox ledger old owner day (Some why)
 

@@ -149,6 +149,11 @@ const make = (tag, text, kind) => {
 const DAY = 86400000;
 const dateOf = day => new Date(day * DAY).toLocaleDateString("en-GB", { timeZone: "UTC", day: "numeric", month: "short", year: "numeric" });
 const dayMark = day => { const e = make("span", dateOf(day)); e.title = "day " + day; return e; };
+const closedMark = l => {
+  const e = dayMark(l.closed);
+  if (l.from) e.title += ", taps are held from " + dateOf(l.from) + " on";
+  return e;
+};
 const pounds = pence => "£" + (pence / 100).toLocaleString("en-GB", { minimumFractionDigits: 2 });
 const get = async (path, options) => {
   const answer = await fetch(path, { cache: "no-store", signal: AbortSignal.timeout(15000), ...options });
@@ -208,7 +213,7 @@ const laneRow = (l, upto, seen) => {
   return [
     l.device, seen.station[l.device] || "–", heardText(seen.lines.get(seen.station[l.device])), number(upto[l.device] || 0), number(l.taken), bar,
     l.rows ? make("span", number(l.rows), "chip") : make("span", "none", "none"),
-    l.closed === "none" ? make("span", "none yet", "none") : dayMark(l.closed),
+    l.closed === "none" ? make("span", "none yet", "none") : closedMark(l),
     l.retired ? make("span", "retired", "chip gone") : l.statements ? make("span", number(l.statements) + (l.statements === 1 ? " day" : " days"), "chip") : make("span", "none", "none"),
   ];
 };
@@ -259,7 +264,7 @@ const show = (stand, metrics) => {
   for (const line of stand) {
     const w = line.split(" ");
     if (w[0] === "upto") upto[w[1]] = Number(w[2]);
-    if (w[0] === "lane") lanes.push({ place: lanes.length, owner: w[1], device: w[2], taken: Number(w[4]), closed: w[6], rows: Number(w[8]), statements: Number(w[10]), retired: w[11] === "retired" });
+    if (w[0] === "lane") lanes.push({ place: lanes.length, owner: w[1], device: w[2], taken: Number(w[4]), closed: w[6], rows: Number(w[8]), statements: Number(w[10]), retired: w.includes("retired", 11), from: w[11] === "from" && w[12] });
   }
   const of = new Map();
   for (const l of lanes) of.set(l.owner, [...(of.get(l.owner) || []), l]);
@@ -317,6 +322,7 @@ const panel = (id, bad, ...parts) => {
 const why = line => {
   const w = (line || "").split(" ");
   if (w[1] === "NotClosed") return "Not closed yet: the day of device " + w[2] + ".";
+  if (w[1] === "Forgotten") return "Taps of that week were let go, of device " + w[2] + " first: a copy of the files has them.";
   if (w[1] === "BeforeStart") return "The day is before the scheme's first one.";
   if (w[1] === "UnknownOwner") return "The owner is not registered.";
   if (w[1] === "UnknownDevice") return "The device is not registered.";

@@ -15,6 +15,7 @@ fn named(fault: DeskFault) -> Option<Refusal>
         DeskFault::UnknownOwner => Some(Refusal::UnknownOwner),
         DeskFault::UnknownDevice => Some(Refusal::UnknownDevice),
         DeskFault::BeforeStart => Some(Refusal::BeforeStart),
+        DeskFault::Forgotten { device } => Some(Refusal::Forgotten { device }),
         DeskFault::NotClosed { device } => Some(Refusal::NotClosed { device }),
         DeskFault::Retired => Some(Refusal::Retired),
         DeskFault::Memory | DeskFault::Store | DeskFault::Write => None,

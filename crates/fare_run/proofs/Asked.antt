@@ -12,8 +12,9 @@ use Rattle.fare_command.specs.Jobs.{JobOf}
 use Rattle.fare_command.specs.declared.words.Job.{Job}
 use Rattle.fare_command.specs.declared.words.Job.TheVariants as job
 use Rattle.fare_command.specs.declared.words.Question.{Question}
-use Rattle.fare_command.specs.declared.words.Question.TheVariants.{Close, Bill, Settle, Stand, Retire}
+use Rattle.fare_command.specs.declared.words.Question.TheVariants.{Close, Bill, Settle, Stand, Retire, Forget}
 use Rattle.fare_desk.specs.Closing.{AreLinesOf, lanes_of}
+use Rattle.fare_desk.specs.Forgetting.{AreGoneLines}
 use Rattle.fare_desk.specs.Showing.{AreLaneLines, AreUptoLines}
 use Rattle.fare_desk.specs.declared.fault.DeskFault.{DeskFault}
 use Rattle.fare_desk.specs.declared.fault.DeskFault.TheVariants as desk
@@ -45,12 +46,18 @@ not_settle e = letters_apart (ap (λ (l : List ℕ). slice_index_or l 0 0) e)
 not_stand : codes "replay" ≡ codes "stand" → ⊥
 not_stand e = absurd (cc)
 
+first_letters_apart : ◌≡◌ {A = ℕ} 114 102 → ⊥
+first_letters_apart e = absurd (omega (arith, e))
+
 -- and their third ones
 third_letters_apart : ◌≡◌ {A = ℕ} 112 116 → ⊥
 third_letters_apart e = absurd (omega (arith, e))
 
 not_retire : codes "replay" ≡ codes "retire" → ⊥
 not_retire e = third_letters_apart (ap (λ (l : List ℕ). slice_index_or l 2 0) e)
+
+not_forget : codes "replay" ≡ codes "forget" → ⊥
+not_forget e = first_letters_apart (ap (λ (l : List ℕ). slice_index_or l 0 0) e)
 
 -- words that ask for a replay ask for nothing else
 pub no_files : (matched : Option (Text × List Row)) (sql : _) (j : Job) → JobOf matched (job.Replay sql) → JobOf matched j → IsOfFiles j → ⊥
@@ -62,6 +69,7 @@ no_files (Some m) sql (job.Ask path scheme (Bill owner day)) replays is files = 
 no_files (Some m) sql (job.Ask path scheme (Settle owner day)) replays is files = not_settle (sym replays.0 ∙ is.2.0)
 no_files (Some m) sql (job.Ask path scheme Stand) replays is files = not_stand (sym replays.0 ∙ is.2)
 no_files (Some m) sql (job.Ask path scheme (Retire owner device)) replays is files = not_retire (sym replays.0 ∙ is.2.0)
+no_files (Some m) sql (job.Ask path scheme (Forget before)) replays is files = not_forget (sym replays.0 ∙ is.2.0)
 
 -- THE STORES
 module _ {O L : Type 0} (outbox : O → Standing OutboxValue) (ledger : L → Standing LedgerValue) where
@@ -78,6 +86,7 @@ module _ {O L : Type 0} (outbox : O → Standing OutboxValue) (ledger : L → St
     a.written,
   )
   answered (Retire owner device) sc old new before after same a = a.written
+  answered (Forget day) sc old new before after same a = (a.text, subst (λ (x : SchemeValue). AreGoneLines (lanes_of x) a.text) same a.lines, a.written)
 
 -- OVER DATABASES
 pub asked_done : (question : Question) (known : Option (List ℕ)) (sc : SchemeValue) (before after : Option (List ℕ)) (r : Result (Unit {0}) AskFailure) → IfSome known (SpellsScheme sc) → OnOk r (IsAnswered sc question before after) → OnOk r (IfSome known (AskEnds question before after))
@@ -99,6 +108,7 @@ asked_of question input sc before after (Err (Desk fault)) spelled done fails = 
 pub keeps_unless : (fault : DeskFault) (before after : Option (List ℕ)) → (fault ≢ desk.Write → Keeps before after) → KeepsUnlessWrite fault before after
 keeps_unless desk.UnknownOwner before after is = is (λ e. absurd (cc))
 keeps_unless desk.BeforeStart before after is = is (λ e. absurd (cc))
+keeps_unless (desk.Forgotten device) before after is = is (λ e. absurd (cc))
 keeps_unless (desk.NotClosed device) before after is = is (λ e. absurd (cc))
 keeps_unless desk.UnknownDevice before after is = is (λ e. absurd (cc))
 keeps_unless desk.Retired before after is = is (λ e. absurd (cc))

@@ -21,7 +21,8 @@ use Rattle.fare_history.specs.Stores.{StoresValue}
 use Rattle.fare_side.specs.declared.bill_fault.BillFault.TheVariants.{UnknownOwner, BeforeStart}
 use Rattle.fare_agreement.specs.Agreeing.{AreNumberedLists, Agrees}
 use Rattle.fare_agreement.specs.Parts.{parts_of}
-use Rattle.fare_sessions.specs.Billing.{open_in, short_in}
+use Rattle.fare_sessions.specs.declared.billing.BillingFault.TheVariants.{Unbilled}
+use Rattle.fare_sessions.specs.Billing.{gone_in, open_in, short_in}
 use Rattle.fare_sessions.specs.Reopening.{AreLasting}
 use Rattle.fare_sessions.specs.Stores.{AreClean, AreLive, AreSound, HasLedgers, MayStandAs}
 use Rattle.fare_sessions.specs.declared.hub.Hub.{Hub}
@@ -41,13 +42,13 @@ use Rattle.fare_serve.proofs.Coming.{come_none}
 use Rattle.fare_serve.proofs.Held.{calls_keep}
 use Rattle.fare_serve.proofs.Rested.{rested_none}
 use Rattle.fare_command.specs.declared.words.Question.{Question}
-use Rattle.fare_command.specs.declared.words.Question.TheVariants.{Close, Bill, Settle, Stand, Retire}
+use Rattle.fare_command.specs.declared.words.Question.TheVariants.{Close, Bill, Settle, Stand, Retire, Forget}
 use Rattle.fare_databases.specs.Closed.{IsHandedBack}
 use Rattle.fare_databases.specs.Held.{AreCleanDisks, Holds, Show, StayStores}
 use Rattle.fare_databases.specs.Holding.{HoldStores, LedgersLook, StoresLook}
 use Rattle.fare_databases.specs.declared.databases.Databases.{Databases}
 use Rattle.fare_databases.proofs.Kept.{agreed_old, clean_new, known, run_keeps, sound_old, stands_ledger, stands_outbox, unopened_keeps}
-use Rattle.fare_databases.proofs.Looks.{ledger_self, open_alike, parts_alike, short_alike, stores_agree}
+use Rattle.fare_databases.proofs.Looks.{gone_alike, ledger_self, open_alike, parts_alike, short_alike, stores_agree}
 use Rattle.fare_databases.proofs.Now.{now_all, stands_now, unknown_now}
 use Rattle.fare_run.specs.Asking.{Answers, FailsBill, FailsOf}
 use Rattle.fare_run.specs.Databases.{AnswersIn, IsBilled, IsMadeOf, IsRefusedBill, IsUnbilled, KeepDatabases, KeepsCalls, KeepsIn, LineCall, RefusesIn, ServesIn, bill_text, settlement_text}
@@ -166,8 +167,11 @@ module _ {S : Type 0} (g : Ghosts S) (sc : SchemeValue) (valid : IsScheme sc) (b
         refused_bill owner day fault fails =
             let is = fails.1 clean_now is_known.1 in
             record {
-              unknown = subst (λ s. (name_of fault ≡ Some UnknownOwner) ↔ (position_of_owner s owner ≡ None)) same is.unknown;
-              early = subst (λ (s : SchemeValue). (name_of fault ≡ Some BeforeStart) ↔ ((position_of_owner s owner ≢ None) × (day < s.start))) same is.early;
+              unknown = subst (λ s. (name_of fault ≡ Some (Unbilled UnknownOwner)) ↔ (position_of_owner s owner ≡ None)) same is.unknown;
+              early = subst (λ (s : SchemeValue). (name_of fault ≡ Some (Unbilled BeforeStart)) ↔ ((position_of_owner s owner ≢ None) × (day < s.start))) same is.early;
+              gone = λ device named.
+                  let found : gone_in sc (k.ledgers owner) day ≡ Some device = ap (λ s. gone_in s (k.ledgers owner) day) (sym same) ∙ is.forgotten_of device named k may in
+                  sym (gone_alike sc (h.ledgers owner) (k.ledgers owner) day (looks owner)) ∙ found;
               not_closed = λ device named.
                   let found : open_in sc (k.ledgers owner) day ≡ Some device = ap (λ s. open_in s (k.ledgers owner) day) (sym same) ∙ is.not_closed device named k may in
                   sym (open_alike sc (h.ledgers owner) (k.ledgers owner) day (looks owner)) ∙ found;
@@ -179,17 +183,19 @@ module _ {S : Type 0} (g : Ghosts S) (sc : SchemeValue) (valid : IsScheme sc) (b
         is_unbilled (Settle owner day) fault fails = refused_bill owner day fault fails
         is_unbilled Stand fault fails = tt
         is_unbilled (Retire owner device) fault fails = tt
+        is_unbilled (Forget before) fault fails = tt
 
         module _ (lists : ℕ → List RecordValue) (numbered : AreNumberedLists sc lists) (agrees : Agrees sc lists h) where
           made_billed : {V : Type 0} (rule : SchemeValue → List RecordValue → ℕ → V) (text : V → List ℕ → List ℕ) (owner day : ℕ) (made : V) (devices : List ℕ) (written_before written_after : Option (List ℕ))
               → desk.IsMadeOf (stands_outbox g) (stands_ledger g) rule old owner day made devices → Appends written_before written_after (text made devices) → IsMadeOf rule text sc lists h owner day written_before written_after
           made_billed rule text owner day made devices written_before written_after m written =
               let closed : open_in sc (k.ledgers owner) day ≡ None = ap (λ s. open_in s (k.ledgers owner) day) (sym same) ∙ m.closed k may in
+              let held : gone_in sc (k.ledgers owner) day ≡ None = ap (λ s. gone_in s (k.ledgers owner) day) (sym same) ∙ m.held k may in
               let short : devices ≡ short_in sc (h.ledgers owner) day = m.short k may ∙ ap (λ s. short_in s (k.ledgers owner) day) same ∙ short_alike sc (h.ledgers owner) (k.ledgers owner) day (looks owner) in
               let now : Agrees old.scheme lists k = subst (λ s. Agrees s lists k) (sym same) (stores_agree sc lists h k (is_known.3 k may).1 agrees) in
               let is : made ≡ rule sc (parts_of sc lists (h.ledgers owner) owner) day =
               m.numbered lists k (numbered_old lists numbered) may now ∙ ap (λ s. rule s (parts_of s lists (k.ledgers owner) owner) day) same ∙ ap (λ taps. rule sc taps day) (parts_alike sc lists (h.ledgers owner) (k.ledgers owner) owner (looks owner)) in
-              (sym (open_alike sc (h.ledgers owner) (k.ledgers owner) day (looks owner)) ∙ closed, subst (λ (z : _ × List ℕ). Appends written_before written_after (text z.0 z.1)) (λ i. (is i, short i)) written)
+              (sym (open_alike sc (h.ledgers owner) (k.ledgers owner) day (looks owner)) ∙ closed, sym (gone_alike sc (h.ledgers owner) (k.ledgers owner) day (looks owner)) ∙ held, subst (λ (z : _ × List ℕ). Appends written_before written_after (text z.0 z.1)) (λ i. (is i, short i)) written)
 
           pub is_billed : (question : Question) (written_before written_after : Option (List ℕ)) → Answers (stands_outbox g) (stands_ledger g) question old new written_before written_after → IsBilled sc lists h question written_before written_after
           is_billed Close written_before written_after a = tt
@@ -197,6 +203,7 @@ module _ {S : Type 0} (g : Ghosts S) (sc : SchemeValue) (valid : IsScheme sc) (b
           is_billed (Settle owner day) written_before written_after a = made_billed settlement_of (settlement_text owner day) owner day a.shares a.short written_before written_after (a.made clean_now is_known.1) a.written
           is_billed Stand written_before written_after a = tt
           is_billed (Retire owner device) written_before written_after a = tt
+          is_billed (Forget day) written_before written_after a = tt
 
       pub answers_opened : (question : Question) (written_before written_after : Option (List ℕ)) → Answers (stands_outbox g) (stands_ledger g) question old new written_before written_after → AnswersIn g sc question before after written_before written_after
       answers_opened question written_before written_after a = record {

@@ -3,6 +3,7 @@ use Rattle.std.specs.Prelude.{◌≡◌, ◌≢◌, ◌↔◌, ◌⊎◌, ℕ, f
 use Rattle.std.specs.Io.KnownBytes.{Appends, Keeps}
 use Rattle.std.specs.Map.{keys_of}
 use Rattle.fare_cap.specs.Bills.{BillValue}
+use Rattle.fare_cap.specs.Fares.{week_start}
 use Rattle.fare_settle.specs.Values.{SettledValue}
 use Rattle.fare_scheme.specs.Values.{SchemeValue}
 use Rattle.fare_scheme.specs.Words.{position_of_device, position_of_owner}
@@ -12,10 +13,11 @@ use Rattle.fare_store.specs.LedgerWords.{LedgerValue}
 use Rattle.fare_event.specs.declared.reply.Reply.TheVariants as reply
 use Rattle.fare_lines.specs.Replies.{reply_text}
 use Rattle.fare_command.specs.declared.words.Question.{Question}
-use Rattle.fare_command.specs.declared.words.Question.TheVariants.{Close, Bill, Settle, Stand, Retire}
+use Rattle.fare_command.specs.declared.words.Question.TheVariants.{Close, Bill, Settle, Stand, Retire, Forget}
 use Rattle.fare_desk.specs.Billing.{WritesBill, WritesSettlement}
 use Rattle.fare_desk.specs.Faults.{is_of_retire, is_refusal, name_of}
 use Rattle.fare_desk.specs.Retiring.{ComesOf, LeavesLane, RetiresLane}
+use Rattle.fare_desk.specs.Forgetting.{AreGoneLines, LeavesSome, LetsGo}
 use Rattle.fare_desk.specs.Closing.{AreLinesOf, HasClosedLanes, lanes_of}
 use Rattle.fare_desk.specs.Showing.{AreLaneLines, AreUptoLines, WritesStanding}
 use Rattle.fare_desk.specs.declared.fault.DeskFault.{DeskFault}
@@ -37,6 +39,7 @@ IsAnsweredAtOnce (Bill owner day) = Unit {0}
 IsAnsweredAtOnce (Settle owner day) = Unit {0}
 IsAnsweredAtOnce Stand = Unit {0}
 IsAnsweredAtOnce (Retire owner device) = Unit {0}
+IsAnsweredAtOnce (Forget day) = ⊥
 
 -- what was written to it, of the stores of a hub
 abbrev pub Answers : {O L : Type 0} → (O → Standing OutboxValue) → (L → Standing LedgerValue) → Question → Hub O L → Hub O L → Option (List ℕ) → Option (List ℕ) → Type 0
@@ -45,6 +48,7 @@ Answers outbox ledger (Bill owner day) old new before after = WritesBill outbox 
 Answers outbox ledger (Settle owner day) old new before after = WritesSettlement outbox ledger old new owner day before after
 Answers outbox ledger Stand old new before after = WritesStanding outbox ledger old new before after
 Answers outbox ledger (Retire owner device) old new before after = RetiresLane outbox ledger owner device old new before after
+Answers outbox ledger (Forget day) old new before after = LetsGo outbox ledger (week_start old.scheme day) (lanes_of old.scheme) old new before after
 
 -- why there is no bill of an owner's day
 abbrev pub FailsBill : {O L : Type 0} → (O → Standing OutboxValue) → (L → Standing LedgerValue) → ℕ → ℕ → Hub O L → Hub O L → DeskFault → Type 0
@@ -58,24 +62,26 @@ FailsRetire outbox ledger owner device old new fault =
     × ((fault ≡ desk.UnknownDevice) ↔ ((position_of_owner old.scheme owner ≢ None) × (position_of_device old.scheme device ≡ None)))
     × ComesOf outbox ledger old new (LeavesLane owner device fault)
 
--- What a fault says of the stores of a hub: to a bill, which refusal applies; to `retire` also what the fault leaves. The
--- other refusals never come.
+-- What a fault says of the stores of a hub: to a bill, which refusal applies; to `retire` and `forget` also what the fault
+-- leaves. The other refusals never come.
 abbrev pub FailsOf : {O L : Type 0} → (O → Standing OutboxValue) → (L → Standing LedgerValue) → Question → Hub O L → Hub O L → DeskFault → Type 0
 FailsOf outbox ledger Close old new fault = is_refusal fault ≡ false
 FailsOf outbox ledger (Bill owner day) old new fault = FailsBill outbox ledger owner day old new fault
 FailsOf outbox ledger (Settle owner day) old new fault = FailsBill outbox ledger owner day old new fault
 FailsOf outbox ledger Stand old new fault = is_refusal fault ≡ false
 FailsOf outbox ledger (Retire owner device) old new fault = FailsRetire outbox ledger owner device old new fault
+FailsOf outbox ledger (Forget day) old new fault = (is_refusal fault ≡ false) × ComesOf outbox ledger old new (LeavesSome (week_start old.scheme day) (lanes_of old.scheme))
 
 -- What was written to it, by the scheme alone. To `close`, for each lane a line for each of some days in a row, all of
 -- which were closed but the last, which may have been refused; to `stand`, a line for each device and for each lane; to
--- `retire`, the line that the lane is.
+-- `retire`, the line that the lane is; to `forget`, a line for each lane.
 abbrev pub IsAnswered : SchemeValue → Question → Option (List ℕ) → Option (List ℕ) → Type 0
 IsAnswered sc Close before after = (text : List ℕ) × AreLinesOf (lanes_of sc) text × Appends before after text
 IsAnswered sc (Bill owner day) before after = (bill : BillValue) × (short : List ℕ) × Appends before after (reply_text (reply.Bill owner day bill short))
 IsAnswered sc (Settle owner day) before after = (shares : List SettledValue) × (short : List ℕ) × Appends before after (reply_text (reply.Settlement owner day shares short))
 IsAnswered sc Stand before after = (uptos : List ℕ) × (lanes : List ℕ) × AreUptoLines (keys_of sc.devices) uptos × AreLaneLines (lanes_of sc) lanes × Appends before after (uptos ++ lanes)
 IsAnswered sc (Retire owner device) before after = Appends before after (reply_text (reply.Retired device))
+IsAnswered sc (Forget day) before after = (text : List ℕ) × AreGoneLines (lanes_of sc) text × Appends before after text
 
 -- answered: the input makes a scheme, and the answer for it was written
 pub record AskEnds (question : Question) (before after : Option (List ℕ)) (input : List ℕ) : Type 0 where

@@ -17,12 +17,13 @@ use Rattle.fare_outbox.specs.declared.tables.SqlOutbox.{SqlOutbox}
 use Rattle.fare_outbox.specs.Words as outbox_words
 use Rattle.fare_ledger.specs.declared.tables.SqlLedger.{SqlLedger}
 use Rattle.fare_ledger.specs.Words as ledger_words
-use Rattle.fare_side.specs.declared.bill_fault.BillFault.{BillFault}
+use Rattle.fare_sessions.specs.declared.billing.BillingFault.{BillingFault}
+use Rattle.fare_sessions.specs.declared.billing.BillingFault.TheVariants.{Unbilled, Forgotten}
 use Rattle.fare_side.specs.declared.bill_fault.BillFault.TheVariants.{UnknownOwner, BeforeStart, NotClosed}
 use Rattle.fare_history.specs.Stores.{StoresValue}
 use Rattle.fare_agreement.specs.Agreeing.{AreNumberedLists, Agrees}
 use Rattle.fare_agreement.specs.Parts.{parts_of}
-use Rattle.fare_sessions.specs.Billing.{open_in, short_in}
+use Rattle.fare_sessions.specs.Billing.{gone_in, open_in, short_in}
 use Rattle.fare_sessions.specs.declared.hub.Hub.{Hub}
 use Rattle.fare_serve.specs.Calls.{AreEndedBy, Call, IsOfScheme}
 use Rattle.fare_serve.specs.Coming.{AreLinesCovered, ComeOfLines}
@@ -104,10 +105,10 @@ abbrev pub KeepsIn : {S : Type 0} → Ghosts S → SchemeValue → Databases S �
 KeepsIn g sc before after = KeepDatabases g sc before after (λ lists. Unit {0}) (λ k. Unit {0})
 
 -- what was written is what a rule makes of just these taps of an owner's day, for a day that the owner has closed of each device
--- whose lane it has not retired, and the devices of which it is short
+-- whose lane it has not retired and of whose week nothing was let go, and the devices of which it is short
 abbrev pub IsMadeOf : {V : Type 0} → (SchemeValue → List RecordValue → ℕ → V) → (V → List ℕ → List ℕ) → SchemeValue → (ℕ → List RecordValue) → StoresValue → ℕ → ℕ → Option (List ℕ) → Option (List ℕ) → Type 0
 IsMadeOf rule text sc lists h owner day before after =
-    (open_in sc (h.ledgers owner) day ≡ None) × Appends before after (text (rule sc (parts_of sc lists (h.ledgers owner) owner) day) (short_in sc (h.ledgers owner) day))
+    (open_in sc (h.ledgers owner) day ≡ None) × (gone_in sc (h.ledgers owner) day ≡ None) × Appends before after (text (rule sc (parts_of sc lists (h.ledgers owner) owner) day) (short_in sc (h.ledgers owner) day))
 
 abbrev pub bill_text : ℕ → ℕ → BillValue → List ℕ → List ℕ
 bill_text owner day bill short = reply_text (reply.Bill owner day bill short)
@@ -134,10 +135,11 @@ pub record AnswersIn {S : Type 0} (g : Ghosts S) (sc : SchemeValue) (question : 
   pub billed : AreCleanDisks g after → (lists : ℕ → List RecordValue) → AreNumberedLists sc lists → (outbox : Trees) (ledgers : ℕ → Trees) → Show g before outbox ledgers → (h : StoresValue) → HoldStores sc outbox ledgers h → Agrees sc lists h → IsBilled sc lists h question written_before written_after
 
 -- Why an owner's day has no bill, of stores that hold this: the first of these refusals that applies.
-pub record IsRefusedBill (sc : SchemeValue) (h : StoresValue) (owner day : ℕ) (refused : Option BillFault) : Type 0 where
-  pub unknown : (refused ≡ Some UnknownOwner) ↔ (position_of_owner sc owner ≡ None)
-  pub early : (refused ≡ Some BeforeStart) ↔ ((position_of_owner sc owner ≢ None) × (day < sc.start))
-  pub not_closed : (device : ℕ) → refused ≡ Some (NotClosed device) → open_in sc (h.ledgers owner) day ≡ Some device
+pub record IsRefusedBill (sc : SchemeValue) (h : StoresValue) (owner day : ℕ) (refused : Option BillingFault) : Type 0 where
+  pub unknown : (refused ≡ Some (Unbilled UnknownOwner)) ↔ (position_of_owner sc owner ≡ None)
+  pub early : (refused ≡ Some (Unbilled BeforeStart)) ↔ ((position_of_owner sc owner ≢ None) × (day < sc.start))
+  pub gone : (device : ℕ) → refused ≡ Some (Forgotten device) → gone_in sc (h.ledgers owner) day ≡ Some device
+  pub not_closed : (device : ℕ) → refused ≡ Some (Unbilled (NotClosed device)) → open_in sc (h.ledgers owner) day ≡ Some device
 
 abbrev pub IsUnbilled : SchemeValue → StoresValue → Question → DeskFault → Type 0
 IsUnbilled sc h (Bill owner day) fault = IsRefusedBill sc h owner day (name_of fault)

@@ -14,8 +14,8 @@ use sqlite::Alter;
 use std::alloc::Global;
 use std::io::{Read, Write};
 
-/// Opens the stores of a scheme in these databases, answers a question of them, closes their days or retires a lane, as
-/// `answer_over` says, and hands the databases back. What the stores held they hold afterwards, whatever came of it.
+/// Opens the stores of a scheme in these databases, answers a question of them, closes their days, retires a lane or lets
+/// days go, as `answer_over` says, and hands the databases back. What the stores held they hold afterwards, whatever came of it.
 ///
 /// `Stores` where the stores can't be opened, and nothing was written then; `Desk` as `answer_over` says, of what the
 /// databases showed.
@@ -46,8 +46,8 @@ pub fn ask_databases<S: Alter + Drop, O: Write>(
     }
 }
 
-/// Answers a question of the stores in files at a path, closes their days or retires a lane, for the scheme that the lines of
-/// an input make, or of a file where the options name one. A store's file that isn't there is not made.
+/// Answers a question of the stores in files at a path, closes their days, retires a lane or lets days go, for the scheme
+/// that the lines of an input make, or of a file where the options name one. A store's file that isn't there is not made.
 ///
 /// `Stores` where the lines can't be read or make no scheme, or where the stores can't be opened: nothing is written then. `Desk` as
 /// `answer_over` says. Where a file is named the input is left as it is, and what is said of the input's bytes holds of some

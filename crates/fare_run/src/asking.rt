@@ -6,14 +6,16 @@ ghost use Rattle.fare_run.specs.Asking.{Answers, FailsOf, IsAnsweredAtOnce};
 ghost use Rattle.fare_desk.specs.declared.fault.DeskFault.TheVariants.{Write};
 
 use fare_command::Question;
-use fare_desk::{DeskFault, close_days, retire_lane, write_bill, write_settlement, write_standing};
+use fare_desk::{
+    DeskFault, close_days, forget_days, retire_lane, write_bill, write_settlement, write_standing,
+};
 use fare_sessions::Hub;
 use fare_store::{Ledger, Outbox};
 use std::alloc::Global;
 use std::io::Write;
 
-/// Answers a question of these stores, closes their days or retires a lane, and writes what comes of it, as `fare_desk` says. Each
-/// failure comes as its call says.
+/// Answers a question of these stores, closes their days, retires a lane or lets days go, and writes what comes of it, as
+/// `fare_desk` says. Each failure comes as its call says.
 pub fn answer_over<Ob: Outbox, L: Ledger, O: Write>(
     alloc: Global,
     hub: &mut Hub<Ob, L>,
@@ -32,5 +34,6 @@ pub fn answer_over<Ob: Outbox, L: Ledger, O: Write>(
         Question::Settle { owner, day } => write_settlement(alloc, hub, owner, day, output),
         Question::Stand => write_standing(alloc, hub, output),
         Question::Retire { owner, device } => retire_lane(alloc, hub, owner, device, output),
+        Question::Forget { before } => forget_days(alloc, hub, before, output),
     }
 }

@@ -38,7 +38,7 @@ fn an_operator_asks_and_closes_in_json(rt: HostRuntime) {
         (
             b"GET /stand HTTP/1.1\r\nHost: localhost\r\nAccept: application/json\r\n\r\n",
             b"200 ",
-            br#"[{"kind":"upto","device":1,"link":0},{"kind":"upto","device":2,"link":0},{"kind":"lane","owner":1,"device":1,"taken":2,"closed":null,"rows":0,"statements":0,"retired":false},{"kind":"lane","owner":1,"device":2,"taken":2,"closed":null,"rows":0,"statements":0,"retired":false}]"#,
+            br#"[{"kind":"upto","device":1,"link":0},{"kind":"upto","device":2,"link":0},{"kind":"lane","owner":1,"device":1,"taken":2,"closed":null,"rows":0,"statements":0,"retired":false,"from":null},{"kind":"lane","owner":1,"device":2,"taken":2,"closed":null,"rows":0,"statements":0,"retired":false,"from":null}]"#,
         ),
         (
             b"GET /bill?owner=1&day=19723 HTTP/1.1\r\nHost: localhost\r\nAccept: application/json\r\n\r\n",
@@ -68,7 +68,7 @@ fn an_operator_asks_and_closes_in_json(rt: HostRuntime) {
         (
             b"GET /stand HTTP/1.1\r\nHost: localhost\r\nAccept: application/json\r\n\r\n",
             b"200 ",
-            br#"[{"kind":"upto","device":1,"link":0},{"kind":"upto","device":2,"link":0},{"kind":"lane","owner":1,"device":1,"taken":2,"closed":19724,"rows":0,"statements":0,"retired":false},{"kind":"lane","owner":1,"device":2,"taken":2,"closed":19724,"rows":0,"statements":0,"retired":false}]"#,
+            br#"[{"kind":"upto","device":1,"link":0},{"kind":"upto","device":2,"link":0},{"kind":"lane","owner":1,"device":1,"taken":2,"closed":19724,"rows":0,"statements":0,"retired":false,"from":null},{"kind":"lane","owner":1,"device":2,"taken":2,"closed":19724,"rows":0,"statements":0,"retired":false,"from":null}]"#,
         ),
     ];
     let mut hub = hub_with(rt.alloc(), WHOLE, WHOLE).expect(&rt, "hub");
@@ -101,7 +101,7 @@ fn an_operator_retires_a_lane_in_json(rt: HostRuntime) {
         (
             b"GET /stand HTTP/1.1\r\nHost: localhost\r\nAccept: application/json\r\n\r\n",
             b"200 ",
-            br#"[{"kind":"upto","device":1,"link":0},{"kind":"upto","device":2,"link":0},{"kind":"lane","owner":1,"device":1,"taken":2,"closed":null,"rows":0,"statements":0,"retired":true},{"kind":"lane","owner":1,"device":2,"taken":2,"closed":19724,"rows":0,"statements":0,"retired":false}]"#,
+            br#"[{"kind":"upto","device":1,"link":0},{"kind":"upto","device":2,"link":0},{"kind":"lane","owner":1,"device":1,"taken":2,"closed":null,"rows":0,"statements":0,"retired":true,"from":null},{"kind":"lane","owner":1,"device":2,"taken":2,"closed":19724,"rows":0,"statements":0,"retired":false,"from":null}]"#,
         ),
     ];
     let mut hub = hub_with(rt.alloc(), WHOLE, WHOLE).expect(&rt, "hub");

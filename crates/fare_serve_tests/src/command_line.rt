@@ -185,7 +185,7 @@ fn reads_questions(rt: HostRuntime) -> Result<(), Fail> {
     let owner = OwnerId::new(65_535).expect(&rt, "owner");
     let day = Day::new(100_000).expect(&rt, "day");
     let device = DeviceId::new(4_294_967_295).expect(&rt, "device");
-    let cases: [(&[&str], Question); 5] = [
+    let cases: [(&[&str], Question); 6] = [
         (&["close", "--outbox", "x"], Question::Close),
         (
             &[
@@ -217,6 +217,10 @@ fn reads_questions(rt: HostRuntime) -> Result<(), Fail> {
             ],
             Question::Retire { owner, device },
         ),
+        (
+            &["forget", "--outbox", "x", "--before", "100000"],
+            Question::Forget { before: day },
+        ),
     ];
     for (words, want) in cases {
         match read_words(rt.alloc(), words)? {
@@ -234,13 +238,14 @@ fn reads_questions(rt: HostRuntime) -> Result<(), Fail> {
 // The words of each job that a file's scheme may be for.
 #[test]
 fn reads_which_file_has_the_scheme(rt: HostRuntime) -> Result<(), Fail> {
-    const CASES: [&[&str]; 6] = [
+    const CASES: [&[&str]; 7] = [
         &["serve"],
         &["close"],
         &["bill", "--owner", "1", "--day", "0"],
         &["settle", "--owner", "1", "--day", "0"],
         &["stand"],
         &["retire", "--owner", "1", "--device", "1"],
+        &["forget", "--before", "0"],
     ];
     for &job in &CASES {
         let mut words = Vec::new(rt.alloc());
@@ -269,7 +274,12 @@ fn reads_empty_names(rt: HostRuntime) -> Result<(), Fail> {
 // Words of a question that lacks something, or has a number out of its range.
 #[test]
 fn refuses_questions(rt: HostRuntime) -> Result<(), Fail> {
-    const CASES: [(&[&str], &str); 7] = [
+    const CASES: [(&[&str], &str); 9] = [
+        (&["forget", "--outbox", "x"], "--before <D>"),
+        (
+            &["forget", "--outbox", "x", "--before", "100001"],
+            "100001 is not in 0..=100000",
+        ),
         (&["retire", "--outbox", "x", "--owner", "1"], "--device <D>"),
         (
             &["retire", "--outbox", "x", "--owner", "1", "--device", "0"],

@@ -4,8 +4,8 @@ ghost use Rattle.fare_sessions.specs.Stores.{HasLedgers};
 use crate::checking::same;
 use fare_command::Question;
 use fare_desk::{
-    DeskFault, Waiting, close_days, retire_lane, what_waits, write_bill, write_settlement,
-    write_standing,
+    DeskFault, Waiting, close_days, forget_days, retire_lane, what_waits, write_bill,
+    write_settlement, write_standing,
 };
 use fare_part_tests::{FIRST, Numbers, record, statement};
 use fare_record::{Day, DeviceId, Moment, OwnerId};
@@ -77,6 +77,7 @@ fn ask<O: Outbox, L: Ledger>(
         Question::Settle { owner, day } => write_settlement(alloc, hub, owner, day, output),
         Question::Stand => write_standing(alloc, hub, output),
         Question::Retire { owner, device } => retire_lane(alloc, hub, owner, device, output),
+        Question::Forget { before } => forget_days(alloc, hub, before, output),
     }
 }
 

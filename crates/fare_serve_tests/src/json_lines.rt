@@ -15,7 +15,7 @@ fn has_json(alloc: Global, lines: &[u8], wanted: &str) -> Option<bool> {
 // Each line that the commands over stores write.
 #[test]
 fn each_line_has_an_object(rt: HostRuntime) {
-    const CASES: [(&[u8], &str); 14] = [
+    const CASES: [(&[u8], &str); 16] = [
         (b"", "[]"),
         (
             b"upto 4294967295 7\n",
@@ -23,11 +23,19 @@ fn each_line_has_an_object(rt: HostRuntime) {
         ),
         (
             b"lane 65535 2 taken 3 closed 100000 rows 4 statements 5\n",
-            r#"[{"kind":"lane","owner":65535,"device":2,"taken":3,"closed":100000,"rows":4,"statements":5,"retired":false}]"#,
+            r#"[{"kind":"lane","owner":65535,"device":2,"taken":3,"closed":100000,"rows":4,"statements":5,"retired":false,"from":null}]"#,
+        ),
+        (
+            b"lane 1 2 taken 6 closed 19744 rows 0 statements 0 from 19737\n",
+            r#"[{"kind":"lane","owner":1,"device":2,"taken":6,"closed":19744,"rows":0,"statements":0,"from":19737,"retired":false}]"#,
+        ),
+        (
+            b"lane 1 2 taken 6 closed 19744 rows 0 statements 0 from 19737 retired\n",
+            r#"[{"kind":"lane","owner":1,"device":2,"taken":6,"closed":19744,"rows":0,"statements":0,"from":19737,"retired":true}]"#,
         ),
         (
             b"lane 1 2 taken 0 closed none rows 0 statements 0 retired\n",
-            r#"[{"kind":"lane","owner":1,"device":2,"taken":0,"closed":null,"rows":0,"statements":0,"retired":true}]"#,
+            r#"[{"kind":"lane","owner":1,"device":2,"taken":0,"closed":null,"rows":0,"statements":0,"retired":true,"from":null}]"#,
         ),
         (
             b"bill 1 19723 2 18446744073709551615\naccount 1 77 4 525\naccount 2 0 1 0\nshort 9\n",

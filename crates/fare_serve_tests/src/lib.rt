@@ -15,6 +15,8 @@ mod desk;
 #[cfg(test)]
 mod json_lines;
 #[cfg(test)]
+mod letting_go;
+#[cfg(test)]
 mod net;
 #[cfg(test)]
 mod page;
