@@ -348,7 +348,7 @@ fn format_of<S: Alter>(conn: &mut Connection<S>) -> Option<(i64, i64)> {
         .ok()?;
     let tables = conn
         .query_row(
-            "SELECT count(*) FROM sqlite_schema WHERE name = 'retired' OR name = 'tap2'",
+            "SELECT count(*) FROM sqlite_schema WHERE name IN ('retired', 'tap2', 'held')",
             &[],
         )
         .ok()?
@@ -380,7 +380,7 @@ fn retired<S: Alter + Reopen + Drop>(alloc: Global, ledger: SqlLedger<S>) -> Opt
         return Some(Ended::Opened);
     }
     let mut conn = reopened(alloc, ledger.into_connection())?;
-    if format_of(&mut conn)? != (3, 2) {
+    if format_of(&mut conn)? != (4, 3) {
         return None;
     }
     let mut ledger = ledger_in(alloc, conn).ok()?;

@@ -1,5 +1,7 @@
 use crate::checking::same;
-use crate::stores::{Answer, Call, RETIRED_ALONE, RETIRING, answer_to};
+use crate::stores::{
+    Answer, Call, FORGETTING, FORGOTTEN_ALONE, RETIRED_ALONE, RETIRING, answer_to,
+};
 use fare_ledger::{LedgerOpenFault, SqlLedger};
 use fare_owner::{CloseFault, StatementFault, TapFault};
 use fare_record::{Day, OwnerId};
@@ -164,10 +166,11 @@ fn a_ledger_takes_its_own_tables(rt: HostRuntime) {
             Answer::Taken(Err(Because(TapFault::AfterClose))),
         ),
     ];
-    const CASES: [&[&str]; 3] = [
+    const CASES: [&[&str]; 4] = [
         &[META, OTHERS, ROWS],
         &[META, OTHERS, RETIRED, SECOND, ROWS],
-        &[META, OTHERS, RETIRED, ROUTED, NEWEST, ROUTED_ROWS],
+        &[META, OTHERS, RETIRED, ROUTED, THIRD, ROUTED_ROWS],
+        &[META, OTHERS, RETIRED, ROUTED, HELD, NEWEST, ROUTED_ROWS],
     ];
     for &sql in &CASES {
         let mut ledger = ledger(rt.alloc(), sql).expect(&rt, "ledger");
@@ -186,11 +189,12 @@ fn routes(alloc: Global, sql: &[&str]) -> Option<(u16, u16)> {
 
 #[test]
 fn a_ledger_in_tables_keeps_routes(rt: HostRuntime) {
-    const CASES: [(&[&str], (u16, u16)); 3] = [
+    const CASES: [(&[&str], (u16, u16)); 4] = [
         (&[META, OTHERS, ROWS], (0, 0)),
         (&[META, OTHERS, RETIRED, SECOND, ROWS], (0, 0)),
+        (&[META, OTHERS, RETIRED, ROUTED, THIRD, ROUTED_ROWS], (7, 0)),
         (
-            &[META, OTHERS, RETIRED, ROUTED, NEWEST, ROUTED_ROWS],
+            &[META, OTHERS, RETIRED, ROUTED, HELD, NEWEST, ROUTED_ROWS],
             (7, 0),
         ),
     ];
@@ -217,19 +221,25 @@ const RETIRED: &str = "CREATE TABLE retired (device INTEGER PRIMARY KEY) STRICT;
 
 const SECOND: &str = "UPDATE meta SET format = 2";
 
-// The one that the newest has besides, and its number.
+// The one that the third has besides, and its number.
 const ROUTED: &str = "CREATE TABLE tap2 (device INTEGER NOT NULL, lane INTEGER NOT NULL,
   link INTEGER NOT NULL, product INTEGER NOT NULL, token INTEGER NOT NULL,
   moment INTEGER NOT NULL, day INTEGER NOT NULL, route INTEGER NOT NULL,
   PRIMARY KEY (device, lane)) STRICT;";
 
-const NEWEST: &str = "UPDATE meta SET format = 3";
+const THIRD: &str = "UPDATE meta SET format = 3";
+
+// The one that the newest has besides, and its number.
+const HELD: &str = "CREATE TABLE held (device INTEGER PRIMARY KEY,
+  since INTEGER NOT NULL CHECK (since >= 0)) STRICT;";
+
+const NEWEST: &str = "UPDATE meta SET format = 4";
 
 // Two taps of the older formats, of device 1, whose first day is closed.
 const ROWS: &str = "INSERT INTO lane VALUES (1, 2, 1); INSERT INTO stated VALUES (1, 19723, 1);
 INSERT INTO tap VALUES (1, 1, 1, 1, 77, 1704100000, 19723), (1, 2, 2, 1, 77, 1704186400, 19724)";
 
-// The same in the newest, the first on route 7.
+// The same in the third and the newest, the first on route 7.
 const ROUTED_ROWS: &str =
     "INSERT INTO lane VALUES (1, 2, 1); INSERT INTO stated VALUES (1, 19723, 1);
 INSERT INTO tap2 VALUES (1, 1, 1, 1, 77, 1704100000, 19723, 7), (1, 2, 2, 1, 77, 1704186400, 19724, 0)";
@@ -256,10 +266,13 @@ fn a_ledger_opens_wherever_its_tables_stand(rt: HostRuntime) {
         (Call::ClosedThrough, Answer::Maybe(Ok(Some(19_723)))),
         (Call::Count, Answer::Number(Ok(3))),
     ];
-    const CASES: [&[&str]; 12] = [
-        &[OTHERS, META, RETIRED, ROUTED, NEWEST],
-        &[ROUTED, RETIRED, META, OTHERS, NEWEST],
-        &[META, ROUTED, RIDERS, RETIRED, OTHERS, NEWEST],
+    const CASES: [&[&str]; 15] = [
+        &[OTHERS, META, RETIRED, ROUTED, HELD, NEWEST],
+        &[HELD, ROUTED, RETIRED, META, OTHERS, NEWEST],
+        &[META, ROUTED, RIDERS, RETIRED, HELD, OTHERS, NEWEST],
+        &[OTHERS, META, RETIRED, ROUTED, THIRD],
+        &[ROUTED, RETIRED, META, OTHERS, THIRD],
+        &[META, ROUTED, RIDERS, RETIRED, OTHERS, THIRD],
         &[OTHERS, META, RETIRED, SECOND],
         &[RETIRED, META, OTHERS, SECOND],
         &[META, RETIRED, RIDERS, OTHERS, SECOND],
@@ -307,13 +320,21 @@ FOREIGN KEY (d, l) REFERENCES tap (device, lane) ON DELETE CASCADE)";
     const INDEX: &str = "CREATE INDEX retired ON tap (day)";
     const TAP: &str = "INSERT INTO tap VALUES (1, 1, 1, 1, 77, 1704100000, 19723)";
     const VIEW_2: &str = "CREATE VIEW tap2 AS SELECT 1";
-    const CASES: [(&[&str], &str, i64); 21] = [
+    const VIEW_3: &str = "CREATE VIEW held AS SELECT 1";
+    const CASES: [(&[&str], &str, i64); 24] = [
         (&[META, OTHERS, RETIRED], METAS, 11),
         (&[META, OTHERS, ROUTED], METAS, 11),
         (&[META, OTHERS, VIEW_2], METAS, 11),
         (&[META, OTHERS, RETIRED, ROUTED, SECOND], METAS, 21),
-        (&[META, OTHERS, RETIRED, NEWEST], METAS, 31),
-        (&[META, OTHERS, RETIRED, ROUTED, NEWEST, TAP], METAS, 31),
+        (&[META, OTHERS, RETIRED, THIRD], METAS, 31),
+        (&[META, OTHERS, RETIRED, ROUTED, HELD, THIRD], METAS, 31),
+        (&[META, OTHERS, RETIRED, ROUTED, VIEW_3, THIRD], METAS, 31),
+        (&[META, OTHERS, RETIRED, ROUTED, NEWEST], METAS, 41),
+        (
+            &[META, OTHERS, RETIRED, ROUTED, HELD, NEWEST, TAP],
+            METAS,
+            41,
+        ),
         (&[META, OTHERS, RETIRED, SECOND, CHILD], METAS, 21),
         (&[META, OTHERS, VIEW], METAS, 11),
         (&[META, OTHERS, INDEX], METAS, 11),
@@ -373,6 +394,16 @@ fn a_ledger_in_tables_takes_nothing_more_of_a_retired_lane(rt: HostRuntime) {
     }
 }
 
+#[test]
+fn a_ledger_in_tables_lets_closed_days_go(rt: HostRuntime) {
+    for sql in [&[] as &[&str], &[META, OTHERS], &[RIDERS]] {
+        let mut forgetting = ledger(rt.alloc(), sql).expect(&rt, "ledger");
+        same(&rt, &says(&mut forgetting, &FORGETTING), &true);
+        let mut alone = ledger(rt.alloc(), sql).expect(&rt, "ledger");
+        same(&rt, &says(&mut alone, &FORGOTTEN_ALONE), &true);
+    }
+}
+
 // What the database of a ledger answers to a question once the ledger was open.
 fn left(alloc: Global, sql: &[&str], question: &str) -> Option<i64> {
     let mut conn = ledger(alloc, sql)?.into_connection();
@@ -388,16 +419,26 @@ fn a_ledger_of_an_older_format_is_raised(rt: HostRuntime) {
     const BESIDE: &str = "SELECT count(*) FROM names";
     const LEFT: &str = "SELECT count(*) FROM tap";
     const TAPS: &str = "SELECT count(*) + 10 * sum(rowid) + 100 * sum(route) FROM tap2";
-    const CASES: [(&[&str], &str, i64); 11] = [
-        (&[], FORMAT, 31),
-        (&[META, OTHERS], FORMAT, 31),
+    const HELDS: &str = "SELECT count(*) FROM held";
+    const CASES: [(&[&str], &str, i64); 16] = [
+        (&[], FORMAT, 41),
+        (&[], HELDS, 0),
+        (&[META, OTHERS, RETIRED, ROUTED, THIRD], FORMAT, 41),
+        (&[META, OTHERS, RETIRED, ROUTED, THIRD], HELDS, 0),
+        (
+            &[META, OTHERS, RETIRED, ROUTED, THIRD, ROUTED_ROWS],
+            TAPS,
+            732,
+        ),
+        (&[META, OTHERS], FORMAT, 41),
+        (&[META, OTHERS], HELDS, 0),
         (&[META, OTHERS], LANES, 0),
         (&[META, OTHERS, ROWS], LEFT, 0),
         (&[META, OTHERS, ROWS], TAPS, 32),
-        (&[META, OTHERS, RETIRED, SECOND], FORMAT, 31),
+        (&[META, OTHERS, RETIRED, SECOND], FORMAT, 41),
         (&[META, OTHERS, RETIRED, SECOND, ROWS], LEFT, 0),
         (&[META, OTHERS, RETIRED, SECOND, ROWS], TAPS, 32),
-        (&[OTHERS, RIDERS, META], FORMAT, 31),
+        (&[OTHERS, RIDERS, META], FORMAT, 41),
         (&[OTHERS, RIDERS, META], BESIDE, 2),
         (&[RIDERS], BESIDE, 2),
     ];

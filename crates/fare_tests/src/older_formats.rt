@@ -58,6 +58,25 @@ INSERT INTO lane VALUES (1, 2, 0); INSERT INTO stated VALUES (1, 19723, 2);
 INSERT INTO tap VALUES (1, 1, 1, 1, 77, 1704100000, 19723), (1, 2, 2, 1, 77, 1704100001, 19723);
 COMMIT";
 
+// The same of the third, whose taps have routes.
+const THIRD_LEDGER: &str =
+    "BEGIN; CREATE TABLE meta (format INTEGER NOT NULL, owner INTEGER NOT NULL) STRICT;
+INSERT INTO meta VALUES (3, 1);
+CREATE TABLE lane (device INTEGER PRIMARY KEY, taken INTEGER NOT NULL CHECK (taken >= 0),
+  closed INTEGER NOT NULL CHECK (closed >= 0)) STRICT;
+CREATE TABLE tap (device INTEGER NOT NULL, lane INTEGER NOT NULL, link INTEGER NOT NULL,
+  product INTEGER NOT NULL, token INTEGER NOT NULL, moment INTEGER NOT NULL,
+  day INTEGER NOT NULL, PRIMARY KEY (device, lane)) STRICT;
+CREATE TABLE stated (device INTEGER NOT NULL, day INTEGER NOT NULL, total INTEGER NOT NULL,
+  PRIMARY KEY (device, day)) STRICT;
+CREATE TABLE retired (device INTEGER PRIMARY KEY) STRICT;
+CREATE TABLE tap2 (device INTEGER NOT NULL, lane INTEGER NOT NULL, link INTEGER NOT NULL,
+  product INTEGER NOT NULL, token INTEGER NOT NULL, moment INTEGER NOT NULL,
+  day INTEGER NOT NULL, route INTEGER NOT NULL, PRIMARY KEY (device, lane)) STRICT;
+INSERT INTO lane VALUES (1, 2, 0); INSERT INTO stated VALUES (1, 19723, 2);
+INSERT INTO tap2 VALUES (1, 1, 1, 1, 77, 1704100000, 19723, 7), (1, 2, 2, 1, 77, 1704100001, 19723, 0);
+COMMIT";
+
 // The format that a database says, and how many taps stand in the table of the older formats. No table is there where
 // the disks failed before the store was made.
 fn format_of<S: Alter>(conn: &mut Connection<S>) -> Option<(i64, i64)> {
@@ -134,11 +153,12 @@ fn ledger_in<S: Alter + Drop>(
     }
 }
 
-// What is left of an older store after a failure: its format, where its taps stand as that format has them.
-fn left<S: Alter>(conn: &mut Connection<S>, older: i64, newest: i64) -> Option<i64> {
-    let (format, taps) = format_of(conn)?;
-    let whole = (format == older && taps == 2) || (format == newest && taps == 0);
-    whole.then_some(format)
+// What is left of an older store after a failure: its format, where as many taps stand in the oldest table as that format
+// has there.
+fn left<S: Alter>(conn: &mut Connection<S>, older: (i64, i64), newest: i64) -> Option<i64> {
+    let found = format_of(conn)?;
+    let whole = found == older || found == (newest, 0);
+    whole.then_some(found.0)
 }
 
 // How an outbox of the first format ended.
@@ -152,7 +172,7 @@ fn outbox_ended<S: Alter + Reopen + Drop>(alloc: Global, conn: Connection<S>) ->
         Err((conn, fault)) => (fault == OpenFault::Store).then_some(conn)?,
     };
     let mut conn = reopened(alloc, conn)?;
-    let format = left(&mut conn, 1, 2)?;
+    let format = left(&mut conn, (1, 2), 2)?;
     let outbox = SqlOutbox::open(alloc, conn).ok()?;
     has_all(outbox)?.then_some(Ended::Stopped(format))
 }
@@ -162,7 +182,7 @@ fn ledger_ended<S: Alter + Reopen + Drop>(
     alloc: Global,
     conn: Connection<S>,
     sql: &str,
-    older: i64,
+    older: (i64, i64),
 ) -> Option<Ended> {
     let mut conn = conn;
     if conn.execute_batch(sql).is_err() {
@@ -176,68 +196,76 @@ fn ledger_ended<S: Alter + Reopen + Drop>(
         }
     };
     let mut conn = reopened(alloc, conn)?;
-    let format = left(&mut conn, older, 3)?;
+    let format = left(&mut conn, older, 4)?;
     let ledger = ledger_in(alloc, conn).ok()?;
     lists_all(ledger)?.then_some(Ended::Stopped(format))
 }
 
-// How the three ended, each in a database of its own, if these are open.
-fn three_ended<S: Alter + Reopen + Drop>(
+// How the four ended, each in a database of its own, if these are open.
+fn four_ended<S: Alter + Reopen + Drop>(
     alloc: Global,
     outbox: Option<Connection<S>>,
     first: Option<Connection<S>>,
     second: Option<Connection<S>>,
-) -> Option<[Ended; 3]> {
-    let (Some(outbox), Some(first), Some(second)) = (outbox, first, second) else {
-        return Some([Ended::Unmade; 3]);
+    third: Option<Connection<S>>,
+) -> Option<[Ended; 4]> {
+    let (Some(outbox), Some(first)) = (outbox, first) else {
+        return Some([Ended::Unmade; 4]);
+    };
+    let (Some(second), Some(third)) = (second, third) else {
+        return Some([Ended::Unmade; 4]);
     };
     Some([
         outbox_ended(alloc, outbox)?,
-        ledger_ended(alloc, first, FIRST_LEDGER, 1)?,
-        ledger_ended(alloc, second, SECOND_LEDGER, 2)?,
+        ledger_ended(alloc, first, FIRST_LEDGER, (1, 2))?,
+        ledger_ended(alloc, second, SECOND_LEDGER, (2, 2))?,
+        ledger_ended(alloc, third, THIRD_LEDGER, (3, 0))?,
     ])
 }
 
 // The same in disks that fail after so many calls. It alone names their kind, since a function that does is slow to
 // prove.
-fn ended_after(alloc: Global, calls: u64) -> Option<[Ended; 3]> {
-    three_ended(
+fn ended_after(alloc: Global, calls: u64) -> Option<[Ended; 4]> {
+    four_ended(
         alloc,
+        burning(alloc, calls),
         burning(alloc, calls),
         burning(alloc, calls),
         burning(alloc, calls),
     )
 }
 
-// The disks fail at each of their calls in turn, from the first on until all three stores are open.
+// The disks fail at each of their calls in turn, from the first on until all four stores are open.
 #[test]
 fn a_failure_at_any_call_leaves_an_older_store_or_the_newest(rt: HostRuntime) {
-    let mut stops = [0u64; 3];
+    let mut stops = [0u64; 4];
     let mut whole = false;
     for calls in 0..1_000 {
         let ends = ended_after(rt.alloc(), calls).expect(&rt, "stores");
         for (place, end) in ends.iter().enumerate() {
-            if matches!(end, Ended::Stopped(_)) && place < 3 {
+            if matches!(end, Ended::Stopped(_)) && place < 4 {
                 stops[place] = stops[place].saturating_add(1);
             }
         }
-        if ends == [Ended::Opened; 3] {
+        if ends == [Ended::Opened; 4] {
             whole = true;
             break;
         }
     }
     let seen = stops.map(|count| count > 0);
-    same(&rt, &(seen, whole), &([true; 3], true));
+    same(&rt, &(seen, whole), &([true; 4], true));
 }
 
 // What makes a ledger, or an outbox, of the newest format one of an older.
 const TO_SECOND: &str = "INSERT INTO tap (rowid, device, lane, link, product, token, moment, day)
   SELECT rowid, device, lane, link, product, token, moment, day FROM tap2 ORDER BY rowid;
-DROP TABLE tap2; UPDATE meta SET format = 2";
+DROP TABLE tap2; DROP TABLE held; UPDATE meta SET format = 2";
+
+const TO_THIRD: &str = "DROP TABLE held; UPDATE meta SET format = 3";
 
 const TO_FIRST: &str = "INSERT INTO tap (rowid, device, lane, link, product, token, moment, day)
   SELECT rowid, device, lane, link, product, token, moment, day FROM tap2 ORDER BY rowid;
-DROP TABLE tap2; DROP TABLE retired; UPDATE meta SET format = 1";
+DROP TABLE tap2; DROP TABLE retired; DROP TABLE held; UPDATE meta SET format = 1";
 
 const OUTBOX_TO_FIRST: &str =
     "INSERT INTO tap (rowid, owner, device, lane, link, product, token, moment, day)
@@ -282,6 +310,7 @@ fn many_taps_go_to_the_newest_format(rt: HostRuntime) {
     let all = Some((Answer::Number(Ok(300)), 300, 0));
     same(&rt, &raised_ledger(rt.alloc(), TO_FIRST), &all);
     same(&rt, &raised_ledger(rt.alloc(), TO_SECOND), &all);
+    same(&rt, &raised_ledger(rt.alloc(), TO_THIRD), &all);
     let ends = [
         Said::Number(Ok(300)),
         Said::Found(Ok(Some(1))),

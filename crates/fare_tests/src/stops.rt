@@ -23,11 +23,12 @@ const STORED: [(Asked, Said); 4] = [
 ];
 
 // What a ledger is asked, and what it answers.
-const TAKEN: [(Call, Answer); 5] = [
+const TAKEN: [(Call, Answer); 6] = [
     (Call::Take(1), Answer::Taken(Ok(()))),
     (Call::Take(2), Answer::Taken(Ok(()))),
     (Call::State(2), Answer::Stated(Ok(()))),
     (Call::Close, Answer::Closed(Ok(()))),
+    (Call::Forget(19_724), Answer::Forgotten(Ok(()))),
     (Call::Retire(1), Answer::Ended(Ok(()))),
 ];
 
@@ -84,7 +85,8 @@ fn taken_in<L: Ledger>(ledger: &mut L) -> Option<u64> {
                 Answer::Taken(Err(Refused::Failed(Fault::Store)))
                 | Answer::Stated(Err(Refused::Failed(Fault::Store)))
                 | Answer::Closed(Err(Refused::Failed(Fault::Store)))
-                | Answer::Ended(Err(Refused::Failed(Fault::Store))) => Some(done),
+                | Answer::Ended(Err(Refused::Failed(Fault::Store)))
+                | Answer::Forgotten(Err(Refused::Failed(Fault::Store))) => Some(done),
                 _ => None,
             };
         }
@@ -102,22 +104,28 @@ fn is_there(answer: Answer, number: u64) -> Option<u64> {
     }
 }
 
-// How many steps a ledger holds, and whether it has as many rows as the device's number says.
+// How many steps a ledger holds, and whether it has as many rows as the device's number says, or, where the day was let
+// go, none of these and no statement.
 fn held_in<L: Ledger>(ledger: &mut L) -> Option<(u64, bool)> {
     let Answer::Number(Ok(count)) = answer_to(ledger, Call::Count)? else {
         return None;
     };
     let day = Day::new(19_723)?;
     let rows = ledger.taps_between(day, day).ok()?.len() as u64;
-    let stated = is_there(answer_to(ledger, Call::Stated)?, 2)?;
+    let held_from = answer_to(ledger, Call::HeldFrom)?;
+    let gone = held_from == Answer::Number(Ok(19_724));
+    let told = is_there(answer_to(ledger, Call::Stated)?, 2)?;
+    let stated = if gone { 1 } else { told };
     let closed = is_there(answer_to(ledger, Call::ClosedThrough)?, 19_723)?;
     let retired = match answer_to(ledger, Call::Retired)? {
         Answer::Holds(Ok(retired)) => u64::from(retired),
         _ => return None,
     };
     let days = stated.saturating_add(closed);
-    let held = count.saturating_add(days).saturating_add(retired);
-    Some((held, rows == count))
+    let ended = retired.saturating_add(u64::from(gone));
+    let held = count.saturating_add(days).saturating_add(ended);
+    let left = if gone { 0 } else { count };
+    Some((held, rows == left && (!gone || told == 0)))
 }
 
 // The database after the machine stopped and came back.
@@ -214,7 +222,7 @@ fn a_failure_at_any_call_leaves_each_step_whole_or_not_at_all(rt: HostRuntime) {
             same(&rt, &(calls, (kept, whole)), &(calls, (true, true)));
         }
         let [(stored, _, _), (taken, _, _)] = stops;
-        if (stored, taken) == (4, 5) {
+        if (stored, taken) == (4, 6) {
             full = true;
             break;
         }

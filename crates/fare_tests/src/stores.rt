@@ -5,8 +5,8 @@ use fare_record::{Day, DeviceId, Moment, OwnerId, Record, Statement};
 use fare_scheme::{DemoSize, Scheme};
 use fare_store::Refused::Because;
 use fare_store::{
-    FailingOutbox, Fault, Ledger, LedgerFault, Outbox, PlainLedger, PlainOutbox, Refused,
-    StatedFault, StoreFault,
+    FailingOutbox, Fault, ForgetFault, Ledger, LedgerFault, Outbox, PlainLedger, PlainOutbox,
+    Refused, StatedFault, StoreFault,
 };
 use std::alloc::Global;
 use std::process::Abort;
@@ -224,6 +224,12 @@ pub(crate) enum Call {
     Retire(u64),
     /// Whether the lane is retired.
     Retired,
+    /// What is of the days before the one with this number goes.
+    Forget(u64),
+    /// The number of the first day of which all is held.
+    HeldFrom,
+    /// How many taps went.
+    Gone,
 }
 
 /// What it answers.
@@ -236,6 +242,7 @@ pub(crate) enum Answer {
     Stated(Result<(), Refused<StatementFault>>),
     Closed(Result<(), Refused<CloseFault>>),
     Ended(Result<(), Refused<RetireFault>>),
+    Forgotten(Result<(), Refused<ForgetFault>>),
 }
 
 // The ledger of an owner of the demonstration scheme with one device.
@@ -278,6 +285,15 @@ fn closed_through<L: Ledger>(ledger: &mut L) -> Option<Answer> {
     Some(Answer::Maybe(closed_day(ledger, device()?)))
 }
 
+fn forget<L: Ledger>(ledger: &mut L, device: DeviceId, day: u64) -> Option<Answer> {
+    Some(Answer::Forgotten(ledger.forget(device, Day::new(day)?)))
+}
+
+// The number of the first day of which a ledger holds all of a device.
+fn first_held<L: Ledger>(ledger: &mut L, device: DeviceId) -> Result<u64, Fault> {
+    Ok(u64::from(ledger.held_from(device)?.get()))
+}
+
 // The first and the last lane number of the taps of some days, in their order, and how many these are.
 fn between(alloc: Global, from: u64, to: u64) -> Option<(Option<u64>, Option<u64>, usize)> {
     let mut ledger = ledger(alloc, 1)?;
@@ -304,6 +320,9 @@ pub(crate) fn answer_to<L: Ledger>(ledger: &mut L, call: Call) -> Option<Answer>
         Call::Close => Some(Answer::Closed(ledger.close(device, day))),
         Call::Retire(device) => Some(Answer::Ended(ledger.retire(DeviceId::new(device)?))),
         Call::Retired => Some(Answer::Holds(ledger.retired(device))),
+        Call::Forget(before) => forget(ledger, device, before),
+        Call::HeldFrom => Some(Answer::Number(first_held(ledger, device))),
+        Call::Gone => Some(Answer::Number(ledger.gone(device))),
     }
 }
 
@@ -484,4 +503,63 @@ pub(crate) const RETIRED_ALONE: [(Call, Answer); 3] = [
 fn a_ledger_takes_nothing_more_of_a_retired_lane(rt: HostRuntime) {
     answers(&rt, rt.alloc(), &RETIRING);
     answers(&rt, rt.alloc(), &RETIRED_ALONE);
+}
+
+const OPEN: Answer = Answer::Forgotten(Err(Because(ForgetFault::NotClosed)));
+
+/// Calls on a new ledger that let a closed day go, with their answers: what it took and closed stays told, and nothing of
+/// the day is taken again. A statement that comes again is taken, since it isn't held, and goes once more.
+pub(crate) const FORGETTING: [(Call, Answer); 25] = [
+    (Call::TakeAll(3), Answer::Taken(Ok(()))),
+    (Call::Forget(19_723), Answer::Forgotten(Ok(()))),
+    (Call::HeldFrom, Answer::Number(Ok(19_723))),
+    (Call::Gone, Answer::Number(Ok(0))),
+    (Call::DayCount, Answer::Number(Ok(3))),
+    (Call::Forget(19_724), OPEN),
+    (Call::State(3), Answer::Stated(Ok(()))),
+    (Call::Close, Answer::Closed(Ok(()))),
+    (Call::Forget(19_725), OPEN),
+    (Call::Stated, Answer::Maybe(Ok(Some(3)))),
+    (Call::Forget(19_724), Answer::Forgotten(Ok(()))),
+    (Call::HeldFrom, Answer::Number(Ok(19_724))),
+    (Call::Gone, Answer::Number(Ok(3))),
+    (Call::Count, Answer::Number(Ok(3))),
+    (Call::DayCount, Answer::Number(Ok(0))),
+    (Call::Stated, Answer::Maybe(Ok(None))),
+    (Call::ClosedThrough, Answer::Maybe(Ok(Some(19_723)))),
+    (
+        Call::Take(3),
+        Answer::Taken(Err(Because(TapFault::Duplicate))),
+    ),
+    (
+        Call::Take(4),
+        Answer::Taken(Err(Because(TapFault::AfterClose))),
+    ),
+    (Call::Take(5), Answer::Taken(Err(Because(TapFault::Gap)))),
+    (Call::State(3), Answer::Stated(Ok(()))),
+    (
+        Call::Close,
+        Answer::Closed(Err(Because(CloseFault::AlreadyClosed))),
+    ),
+    (Call::Forget(19_723), Answer::Forgotten(Ok(()))),
+    (Call::HeldFrom, Answer::Number(Ok(19_724))),
+    (Call::Empty, Answer::Holds(Ok(false))),
+];
+
+/// A day that was let go alone makes a ledger hold something, and what is of a retired lane goes though no day is closed.
+pub(crate) const FORGOTTEN_ALONE: [(Call, Answer); 8] = [
+    (Call::Forget(0), Answer::Forgotten(Ok(()))),
+    (Call::Empty, Answer::Holds(Ok(true))),
+    (Call::Forget(1), Answer::Forgotten(Ok(()))),
+    (Call::Empty, Answer::Holds(Ok(false))),
+    (Call::TakeAll(2), Answer::Taken(Ok(()))),
+    (Call::Retire(1), Answer::Ended(Ok(()))),
+    (Call::Forget(19_730), Answer::Forgotten(Ok(()))),
+    (Call::Gone, Answer::Number(Ok(2))),
+];
+
+#[test]
+fn a_ledger_lets_closed_days_go(rt: HostRuntime) {
+    answers(&rt, rt.alloc(), &FORGETTING);
+    answers(&rt, rt.alloc(), &FORGOTTEN_ALONE);
 }
