@@ -11,6 +11,8 @@ pub mod Lanes
 pub mod Pruned
 pub mod Stored
 pub mod PrunedLanes
+pub mod Told
+pub mod Untold
 pub mod Seen
 pub mod Judged
 pub mod Rising

@@ -102,7 +102,7 @@ cut_is o d n (x ∷ taps) apart =
           ])
     ]
 
-two_parts : (p : RecordValue → Bool) (taps : List RecordValue) → length (filter (λ t. not (p t)) taps) + length (filter p taps) ≡ length taps
+pub two_parts : {T : Type 0} (p : T → Bool) (taps : List T) → length (filter (λ t. not (p t)) taps) + length (filter p taps) ≡ length taps
 two_parts p [] = refl
 two_parts p (x ∷ taps) = let rest = two_parts p taps in elim (cases_Bool (p x)) [
   | inl gone ↦ rw gone (omega (arith, rest))

@@ -33,7 +33,7 @@ use Rattle.fare_outbox.proofs.Found.{device_ids}
 pub tap_ids : (r : Row) → IsTap r → column r 0 ≡ int (id_of r)
 tap_ids r ok = ap (λ x. column x 0) ok
 
-stated_ids : (r : Row) → IsStated r → column r 0 ≡ int (id_of r)
+pub stated_ids : (r : Row) → IsStated r → column r 0 ≡ int (id_of r)
 stated_ids r ok = ap (λ x. column x 0) ok
 
 pub puts_tap : (w : Layout) (old new : State) (t : RecordValue) (count : ℕ) → old.now.schema ≡ schema_in w → Executes put_tap_text (tap_cells t) old new (Ok count) → PutsTap w old.now new.now t

@@ -207,7 +207,7 @@ is_older s it = (first_format, inl refl, it.0, it.1, it.2)
 -- a lawful outbox of the first format is one that an open finds, where it can be raised
 pub lawful_is_first : (v w : Site) (s : State) → Rises s.now.schema v w → IsFit v.schema (IsLawfulFirst v) s → IsFirstOutbox s
 unfolding firsts
-lawful_is_first v w s rises fit = (v, w, record { rises = rises; meta = fit.fits.together.meta })
+lawful_is_first v w s rises fit = (v, w, record { rises = rises; meta = fit.fits.together.meta; unused = tt })
 
 pub left_raised : (old : State) (trees : Trees) → raising.MayRaise outbox_parts 0 old trees → IsLeftRaised old trees
 left_raised old trees it =

@@ -21,7 +21,7 @@ use Rattle.fare_opening.specs.Parts.{reads_meta, puts_meta, sets_meta}
 use Rattle.fare_outbox.specs.declared.layout.Layout.{Layout}
 use Rattle.fare_outbox.specs.Layouts.{schema_in, at_tree}
 use Rattle.fare_outbox.specs.Statements.{Routed, texts}
-use Rattle.fare_outbox.specs.Tables.{outbox_schema, link_query, row_query, day_query, cut_query, renew_query, seen_terms}
+use Rattle.fare_outbox.specs.Tables.{outbox_schema, link_query, row_query, day_query, cut_query, told_query, renew_query, seen_terms}
 
 -- where the tables stand in a database of an outbox alone
 abbrev pub own_places : Places
@@ -312,6 +312,27 @@ pub clear_first_own : IsMeant outbox_schema clear_first_text (clear_first_at (pl
 unfolding everything outbox_schema
 clear_first_own = refl
 
+-- the statements that go
+
+abbrev pub told_text : List ℕ
+told_text = codes "DELETE FROM stated WHERE owner = ?1 AND device = ?2 AND day < ?3"
+
+abbrev pub told_at : Place → Command
+told_at p = Delete p.at (record { lets = []; body = at_tree p.tree told_query })
+
+abbrev pub told_command : Layout → Command
+told_command o = told_at (place_of o.places Stated)
+
+pub told_own : IsMeant outbox_schema told_text (told_at (place_of own_places Stated))
+unfolding everything outbox_schema
+told_own = refl
+
+told_means : (o : Layout) → IsMeant (schema_in o) told_text (told_command o)
+told_means o = o.fits.keeps.1.1.1.1.1.1.1.1.1.1.1.1.1.1.1.1.0 (told_at (place_of own_places Stated)) told_own
+
+pub told_meant : (o : Layout) → Meant (schema_in o) told_text (told_command o)
+told_meant o = meant (schema_in o) told_text (told_command o) (told_means o)
+
 -- each means something of the usual form
 pub link_simple : IsSimpleCommand (link_at (place_of own_places Device))
 link_simple = search
@@ -364,5 +385,8 @@ put_first_simple = search
 pub clear_first_simple : IsSimpleCommand (clear_first_at (place_of own_places Tap))
 clear_first_simple = search
 
+pub told_simple : IsSimpleCommand (told_at (place_of own_places Stated))
+told_simple = search
+
 unfoldable pub understood_all : AreUnderstood outbox_schema texts
-understood_all = ((link_at (place_of own_places Device), link_own, link_simple), ((next_at (place_of own_places Routed), next_own, next_simple), ((next_day_at (place_of own_places Stated), next_day_own, next_day_simple), ((rows_at (place_of own_places Routed), rows_own, rows_simple), ((statements_at (place_of own_places Stated), statements_own, statements_simple), ((seen_at (place_of own_places Device), seen_own, seen_simple), ((meta_at (place_of own_places Meta), meta_own, meta_simple), ((put_meta_at (place_of own_places Meta), put_meta_own, put_meta_simple), ((set_meta_at (place_of own_places Meta), set_meta_own, set_meta_simple), ((put_link_at (place_of own_places Device), put_link_own, put_link_simple), ((put_tap_at (place_of own_places Routed), put_tap_own, put_tap_simple), ((put_statement_at (place_of own_places Stated), put_statement_own, put_statement_simple), ((cut_at (place_of own_places Routed), cut_own, cut_simple), ((unused_at (place_of own_places Tap), unused_own, unused_simple), ((put_first_at (place_of own_places Routed), put_first_own, put_first_simple), ((clear_first_at (place_of own_places Tap), clear_first_own, clear_first_simple), tt))))))))))))))))
+understood_all = ((link_at (place_of own_places Device), link_own, link_simple), ((next_at (place_of own_places Routed), next_own, next_simple), ((next_day_at (place_of own_places Stated), next_day_own, next_day_simple), ((rows_at (place_of own_places Routed), rows_own, rows_simple), ((statements_at (place_of own_places Stated), statements_own, statements_simple), ((seen_at (place_of own_places Device), seen_own, seen_simple), ((meta_at (place_of own_places Meta), meta_own, meta_simple), ((put_meta_at (place_of own_places Meta), put_meta_own, put_meta_simple), ((set_meta_at (place_of own_places Meta), set_meta_own, set_meta_simple), ((put_link_at (place_of own_places Device), put_link_own, put_link_simple), ((put_tap_at (place_of own_places Routed), put_tap_own, put_tap_simple), ((put_statement_at (place_of own_places Stated), put_statement_own, put_statement_simple), ((cut_at (place_of own_places Routed), cut_own, cut_simple), ((unused_at (place_of own_places Tap), unused_own, unused_simple), ((put_first_at (place_of own_places Routed), put_first_own, put_first_simple), ((clear_first_at (place_of own_places Tap), clear_first_own, clear_first_simple), ((told_at (place_of own_places Stated), told_own, told_simple), tt)))))))))))))))))

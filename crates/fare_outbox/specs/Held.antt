@@ -116,6 +116,13 @@ abbrev pub without_lanes : ℕ → List (ℕ × ℕ) → Held → Held
 without_lanes owner [] h = h
 without_lanes owner (lane ∷ more) h = without_lanes owner more (without_lane owner lane.0 (min lane.1 9223372036854775807) h)
 
+-- a statement of a day before one
+abbrev pub is_told : ℕ → ℕ → ℕ → StatementValue → Bool
+is_told owner device day s = (s.owner == owner) && (s.device == device) && nat_lt s.day day
+
+abbrev pub without_told : ℕ → ℕ → ℕ → Held → Held
+without_told owner device day h = record { upto = h.upto; taps = h.taps; statements = filter (λ s. not (is_told owner device day s)) h.statements; meta = h.meta; unused = h.unused }
+
 -- the database holds this, in rows that can be read
 pub record Becomes (o : Layout) (db : Database) (h : Held) : Type 0 where
   pub schema : db.schema ≡ schema_in o

@@ -1,5 +1,5 @@
 -- The statements of an outbox, and the schemas that they are made for.
-use Rattle.std.specs.Prelude.{ℕ, [], ◌∷◌, ◌++◌, codes, List, Some}
+use Rattle.std.specs.Prelude.{ℕ, [], ◌∷◌, ◌++◌, codes, List, Some, None}
 use Rattle.sqlite.specs.Schema.{Schema}
 use Rattle.fare_layout.specs.declared.place.TableNumber.{TableNumber}
 use Rattle.fare_opening.specs.Numbers.{Meta, Device, Tap, Stated}
@@ -58,6 +58,7 @@ texts =
     ∷ (Tap, codes "SELECT count(*) FROM tap")
     ∷ (Routed, codes "INSERT INTO tap2 (rowid, owner, device, lane, link, product, token, moment, day, route) VALUES (?1, ?2, ?3, ?4, ?5, ?6, ?7, ?8, ?9, ?10)")
     ∷ (Tap, codes "DELETE FROM tap")
+    ∷ (Stated, codes "DELETE FROM stated WHERE owner = ?1 AND device = ?2 AND day < ?3")
     ∷ []
 
 -- a schema has the outbox's tables at these places, and its statements mean there what they should
@@ -70,7 +71,7 @@ moving_taps = record { from = Tap; to = Routed; read = codes "SELECT rowid, owne
 
 -- what an outbox of the first format is made of
 abbrev pub first_format : OlderParts
-first_format = record { own = first_schema; tables = first_tables; texts = first_texts; format = 1; missing = later_tables; moving = Some moving_taps }
+first_format = record { own = first_schema; tables = first_tables; texts = first_texts; format = 1; missing = later_tables; moving = Some moving_taps; unused = None }
 
 -- what an outbox is made of
 abbrev pub outbox_parts : Parts

@@ -3,7 +3,10 @@ use Rattle.std.specs.Prelude.{ℕ, [], ◌∷◌, Some, None, codes, List}
 use Rattle.sqlite.specs.declared.types.Value.TheVariants.{Null}
 use Rattle.sqlite.specs.Table.{Table}
 use Rattle.sqlite.specs.Schema.{Schema}
-use Rattle.sqlite.specs.Term.{Term, lit, col}
+use Rattle.sqlite.specs.Term.{Term, lit, col, op2}
+use Rattle.sqlite.specs.Collation.TheVariants.{Binary}
+use Rattle.sqlite_sql.specs.declared.ops.BinaryOp.TheVariants as by
+use Rattle.sqlite_sql.specs.declared.ops.CompareOp.TheVariants as cmp
 use Rattle.sqlite.specs.Query.{Query}
 use Rattle.sqlite_value.specs.Keys.{plain}
 use Rattle.sqlite_catalog.specs.Change.{automatics, created}
@@ -90,6 +93,16 @@ cut_terms = is_given 1 0 ∷ is_given 2 1 ∷ is_upto 3 2 ∷ []
 
 abbrev pub cut_query : Query
 cut_query = query 7 cut_terms (col 1 0 ∷ []) []
+
+-- the statements before a day, which go
+abbrev pub is_below : ℕ → ℕ → Term
+is_below place parameter = op2 (by.Compare cmp.Lt Binary) (col 1 place) (col 0 parameter)
+
+abbrev pub told_terms : List Term
+told_terms = is_given 1 0 ∷ is_given 2 1 ∷ is_below 3 2 ∷ []
+
+abbrev pub told_query : Query
+told_query = query 5 told_terms (col 1 0 ∷ []) []
 
 -- the device's row that is written anew: the parameters are the two given, the rowid that is taken, and the row that couldn't go in
 abbrev pub renew_query : Query

@@ -92,4 +92,15 @@ impl<S: Alter> Outbox for SqlOutbox<S> {
         }
         self.cut_all(owner, lanes)
     }
+
+    // They go all at once: their days stand before this one, and what is answered is how many rows the statement took.
+    fn forget_statements(
+        &mut self,
+        owner: OwnerId,
+        device: DeviceId,
+        day: Day,
+    ) -> Result<u64, Fault> {
+        self.begin()?;
+        self.cut_statements(owner, device, day)
+    }
 }

@@ -20,6 +20,7 @@ static OLDER: [Older; 1] = [Older {
         put: PUT_FIRST,
         clear: CLEAR_FIRST,
     }),
+    unused: None,
 }];
 
 // What an outbox is made of: no owner's, of format 2.

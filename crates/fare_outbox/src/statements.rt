@@ -81,6 +81,10 @@ pub(crate) const PUT_STATEMENT: &str =
 pub(crate) const CUT_ROWS: &str =
     "DELETE FROM tap2 WHERE owner = ?1 AND device = ?2 AND lane <= ?3";
 
+/// The statements of an owner and a device of the days before one go.
+pub(crate) const CUT_STATED: &str =
+    "DELETE FROM stated WHERE owner = ?1 AND device = ?2 AND day < ?3";
+
 /// How many taps stand where the first format has them: none.
 pub(crate) const COUNT_UNUSED: &str = "SELECT count(*) FROM tap";
 
@@ -96,7 +100,7 @@ pub(crate) const PUT_FIRST: &str =
 pub(crate) const CLEAR_FIRST: &str = "DELETE FROM tap";
 
 /// All statements of an outbox, each with its table.
-pub(crate) const TEXTS: [(TableNumber, &str); 16] = [
+pub(crate) const TEXTS: [(TableNumber, &str); 17] = [
     (DEVICE, READ_LINK),
     (ROUTED, READ_NEXT),
     (STATED, READ_STATEMENT),
@@ -113,6 +117,7 @@ pub(crate) const TEXTS: [(TableNumber, &str); 16] = [
     (TAP, COUNT_UNUSED),
     (ROUTED, PUT_FIRST),
     (TAP, CLEAR_FIRST),
+    (STATED, CUT_STATED),
 ];
 
 /// What an open needs of the tables of the first format.

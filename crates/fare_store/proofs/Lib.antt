@@ -12,6 +12,7 @@ pub mod NextRows
 pub mod Pruning
 pub mod Held
 pub mod LettingGo
+pub mod Untold
 pub mod LedgerDays
 pub mod LedgerMaking
 pub mod Noted

@@ -6,6 +6,7 @@ use Rattle.fare_store.specs.declared.fault.StoreFault.TheVariants as store
 use Rattle.fare_store.specs.declared.fault.StatedFault.{StatedFault}
 use Rattle.fare_store.specs.declared.fault.StatedFault.TheVariants as stated
 use Rattle.fare_store.specs.Tables.{put, put2, put3}
+use Rattle.fare_store.specs.LedgerWords.{stated_from}
 
 pub record OutboxValue : Type 0 where
   -- the greatest link that it has had of a device, 0 where it never saw the device
@@ -104,3 +105,15 @@ pruned owner device upto v = record v {
 abbrev pub pruned_all : ℕ → List (ℕ × ℕ) → OutboxValue → OutboxValue
 pruned_all owner [] v = v
 pruned_all owner (lane ∷ more) v = pruned_all owner more (pruned owner lane.0 lane.1 v)
+
+-- LET STATEMENTS GO
+-- how many statements of a lane are of days before this one
+abbrev pub stated_before : ℕ → (ℕ → Option ℕ) → ℕ
+stated_before zero stated = 0
+stated_before (suc n) stated = stated_before n stated + (if is_some (stated n) then 1 else 0)
+
+abbrev pub without_statements : ℕ → ℕ → ℕ → OutboxValue → OutboxValue
+without_statements owner device day v = record v {
+  stated = put2 v.stated owner device (stated_from day (v.stated owner device));
+  stated_count = v.stated_count - stated_before day (v.stated owner device);
+}

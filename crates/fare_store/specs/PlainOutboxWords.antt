@@ -8,13 +8,17 @@ use Rattle.fare_store.specs.Keys.{Key, key_order, same_lane}
 use Rattle.fare_store.specs.PlacedRows.{rows_in}
 use Rattle.fare_store.specs.OutboxWords.{OutboxValue}
 
+-- the counts of the statements, by owner, device and day
+abbrev pub stated_in : tree.BTreeMap Key ℕ → ℕ → ℕ → ℕ → Option ℕ
+stated_in statements owner device day = tree.get key_order statements (owner, device, day)
+
 -- by the greatest links that are kept, the rows, how many these are, and the counts of the statements
 abbrev pub held_in : (ℕ → Option ℕ) → (ℕ → ℕ → ℕ → Option RecordValue) → ℕ → tree.BTreeMap Key ℕ → OutboxValue
 held_in upto rows row_count statements = record {
   upto = λ device. unwrap_or (upto device) 0;
   rows = rows;
   row_count = row_count;
-  stated = λ owner device day. tree.get key_order statements (owner, device, day);
+  stated = stated_in statements;
   stated_count = tree.btree_map_len statements;
 }
 

@@ -113,4 +113,16 @@ impl<O: Outbox> Outbox for FailingOutbox<O> {
         }
         self.outbox.prune_all(owner, lanes)
     }
+
+    fn forget_statements(
+        &mut self,
+        owner: OwnerId,
+        device: DeviceId,
+        day: Day,
+    ) -> Result<u64, Fault> {
+        if fails_now(&mut self.left) {
+            return Err(Fault::Store);
+        }
+        self.outbox.forget_statements(owner, device, day)
+    }
 }

@@ -10,8 +10,8 @@ use fare_owner::{CloseFault, RetireFault, StatementFault, TapFault};
 use fare_record::{Day, DeviceId, OwnerId, Record, Statement};
 
 /// A ledger in memory that fails at one of its calls, for tests: that call answers `Store` and does nothing, and all
-/// others are passed on to the ledger inside. Every call of `Ledger` counts but `owner`, and those of `take`, `state` and
-/// `retire` that are answered `NotMine`, which ask nothing of a store.
+/// others are passed on to the ledger inside. Every call of `Ledger` counts but `owner`, and those that ask nothing of a
+/// store: of `take`, `state` and `retire` that are answered `NotMine`, of `forget` that are answered `UnknownDevice`.
 ///
 /// Its count of failures is one once that call was made.
 #[derive(Drop)]
@@ -128,6 +128,9 @@ impl Ledger for FailingLedger {
     }
 
     fn forget(&mut self, device: DeviceId, day: Day) -> Result<(), Refused<ForgetFault>> {
+        if !self.ledger.knows(device) {
+            return self.ledger.forget(device, day);
+        }
         if fails_now(&mut self.left) {
             return Err(Refused::Failed(Fault::Store));
         }

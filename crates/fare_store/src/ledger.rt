@@ -2,6 +2,7 @@ ghost use Rattle.std.specs.Prelude.{◌≡◌, ◌≤◌, ℕ, ◌↔◌, IsTrue
 ghost use Rattle.fare_owner.specs.declared.tap.TapFault.TheVariants as tap_fault;
 ghost use Rattle.fare_owner.specs.declared.statement.StatementFault.TheVariants as statement_fault;
 ghost use Rattle.fare_owner.specs.declared.retiring.RetireFault.TheVariants as retire_fault;
+ghost use Rattle.fare_store.specs.declared.fault.ForgetFault.TheVariants as forget_fault;
 ghost use Rattle.fare_store.specs.declared.fault.Refused.TheVariants.{Because};
 ghost use Rattle.fare_record.specs.Lanes.{day_count};
 ghost use Rattle.fare_store.specs.Standing.{Standing, IsSound, Reads, Writes};
@@ -90,9 +91,11 @@ pub trait Ledger {
     /// Lets go what is of a device's days before this one: its first taps, up to the first that is of this day or a
     /// later one, and the statements. How many taps it has taken, and which lane number comes next, stays.
     ///
-    /// Refused by the first case of `ForgetFault` that applies.
+    /// Refused by the first case of `ForgetFault` that applies; `UnknownDevice` is decided as `NotMine` is in `take`.
     fn forget(&mut self, device: DeviceId, day: Day) -> Result<(), Refused<ForgetFault>>
-        ensures { Writes (standing self.old) (standing self.new) (forget_judged (standing self.old).value device day) (forgotten device day (standing self.old).value) result };
+        ensures unknown { (result ≡ Err (Because forget_fault.UnknownDevice)) ↔ IsFalse ((standing self.old).value.knows device) }
+        ensures unasked { result ≡ Err (Because forget_fault.UnknownDevice) → self.new ≡ self.old }
+        ensures does { IsTrue ((standing self.old).value.knows device) → Writes (standing self.old) (standing self.new) (forget_judged (standing self.old).value device day) (forgotten device day (standing self.old).value) result };
 
     /// The first day of which a device's taps and statements are all held: nothing of it or of a later day was let go.
     fn held_from(&mut self, device: DeviceId) -> Result<Day, Fault>

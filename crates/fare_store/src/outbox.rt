@@ -2,7 +2,7 @@ ghost use Rattle.std.specs.Prelude.{◌≡◌, ◌≤◌, ℕ, ◌↔◌, IfOk, 
 ghost use Rattle.fare_record.specs.Limits.{IsCount};
 ghost use Rattle.fare_store.specs.Standing.{Standing, IsSound, Reads, Writes, Removes, Changes};
 ghost use Rattle.fare_store.specs.Batches.{WritesFirst};
-ghost use Rattle.fare_store.specs.OutboxWords.{OutboxValue, IsEmptyOutbox, store_judged, stored, stated_judged, stored_statement, IsNextRow, IsNextStatement, pruned, rows_upto, pruned_all};
+ghost use Rattle.fare_store.specs.OutboxWords.{OutboxValue, IsEmptyOutbox, store_judged, stored, stated_judged, stored_statement, IsNextRow, IsNextStatement, pruned, rows_upto, pruned_all, without_statements, stated_before};
 
 use crate::{Fault, Refused, StatedFault, StoreFault};
 use fare_record::{Day, DeviceId, OwnerId, Record, Statement};
@@ -67,6 +67,15 @@ pub trait Outbox {
     /// Removes the rows of an owner's lanes, each of a device up to a lane number, all at once.
     fn prune_all(&mut self, owner: OwnerId, lanes: &[(DeviceId, u64)]) -> Result<(), Fault>
         ensures { Changes (standing self.old) (standing self.new) (pruned_all owner lanes.now (standing self.old).value) result };
+
+    /// Removes the statements of an owner and a device of the days before this one, and answers how many.
+    fn forget_statements(
+        &mut self,
+        owner: OwnerId,
+        device: DeviceId,
+        day: Day,
+    ) -> Result<u64, Fault>
+        ensures { Removes (standing self.old) (standing self.new) (without_statements owner device day (standing self.old).value) (stated_before day ((standing self.old).value.stated owner device)) result };
 
     /// While it is live it is clean, and a stop leaves what it holds, which fits together where it is lawful; while it
     /// is clean, a stop leaves something.

@@ -4,6 +4,7 @@ ghost use Rattle.fare_store.specs.Keys.{same_lane};
 ghost use Rattle.fare_store.specs.PlacedRows.{rows_in, ArePlaced, AreKnown, AreCounts, AreLinks};
 
 mod calls;
+mod forgetting;
 mod holding;
 mod lanes;
 mod reverse;

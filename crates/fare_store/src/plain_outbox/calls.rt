@@ -72,4 +72,13 @@ impl Outbox for PlainOutbox {
         self.drop_all(owner, lanes);
         Ok(())
     }
+
+    fn forget_statements(
+        &mut self,
+        owner: OwnerId,
+        device: DeviceId,
+        day: Day,
+    ) -> Result<u64, Fault> {
+        Ok(self.drop_statements(owner, device, day))
+    }
 }

@@ -5,8 +5,8 @@ use Rattle.fare_store.proofs.PlainLemmas.{plain_call}
 use Rattle.fare_store.proofs.LettingGo.{may_forget}
 use Rattle.fare_store.proofs.plain_ledger.calls.PlainLedgerLedger.forget.Goals as goal
 
-pub returns-in-Ok : goal.returns-in-Ok
-returns-in-Ok c =
+pub returns-in-Ok-clause-does : goal.returns-in-Ok-clause-does
+returns-in-Ok-clause-does c known =
     let v = plain_ledger c.args.self.now in
     let judged : forget_judged v c.args.device c.args.day ≡ Ok tt = may_forget v c.args.device c.args.day (sym c.knows.ensures ∙ c.if-not-knows.false) (sym c.is_over_before.ensures ∙ c.if-not-is_over_before.false) in
     plain_call (plain_ledger c.args.self.now) (plain_ledger c.let_go.new.self) None _ _ (λ e. absurd (cc)) (judged, c.in-Ok.ensures.ok) (inr (judged, c.in-Ok.ensures.ok))

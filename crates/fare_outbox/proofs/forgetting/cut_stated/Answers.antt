@@ -1,0 +1,23 @@
+use Rattle.std.proofs.Common.{Ok}
+use Rattle.sqlite.specs.Held.{state}
+use Rattle.sqlite.specs.State.{Executes}
+use Rattle.fare_outbox.proofs.Texts.{told_text}
+use Rattle.fare_outbox.proofs.Found.{asked}
+use Rattle.fare_outbox.proofs.Told.{unsays}
+use Rattle.fare_outbox.proofs.forgetting.cut_stated.Goals as goal
+
+pub returns-in-Ok-clause-puts : goal.returns-in-Ok-clause-puts
+returns-in-Ok-clause-puts g c clean inside schema readable =
+    let old = state g.S.Store c.args.tx.now.conn.now in
+    let new = state g.S.Store c.change.new.tx.conn.now in
+    let ran = c.in-Ok.ensures.ran clean inside in
+    let h : Executes told_text (asked c.args.owner c.args.device c.args.day) old new (Ok c.in-Ok.count) = rw (c.parameter.ensures, c.parameter-2.ensures, c.parameter-3.ensures, c.from.ensures, c.from-2.ensures, c.from-3.ensures, c.get.ensures.value, c.get-2.ensures.value, c.get-3.ensures.value) at ran.0 in
+    ((unsays c.args.layout.now old new c.args.owner c.args.device c.args.day c.in-Ok.count schema readable h).becomes, ran.1)
+
+pub returns-in-Ok-clause-count : goal.returns-in-Ok-clause-count
+returns-in-Ok-clause-count g c clean inside schema readable =
+    let old = state g.S.Store c.args.tx.now.conn.now in
+    let new = state g.S.Store c.change.new.tx.conn.now in
+    let ran = c.in-Ok.ensures.ran clean inside in
+    let h : Executes told_text (asked c.args.owner c.args.device c.args.day) old new (Ok c.in-Ok.count) = rw (c.parameter.ensures, c.parameter-2.ensures, c.parameter-3.ensures, c.from.ensures, c.from-2.ensures, c.from-3.ensures, c.get.ensures.value, c.get-2.ensures.value, c.get-3.ensures.value) at ran.0 in
+    (unsays c.args.layout.now old new c.args.owner c.args.device c.args.day c.in-Ok.count schema readable h).counted
