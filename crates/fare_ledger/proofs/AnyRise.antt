@@ -24,9 +24,9 @@ use Rattle.fare_ledger.specs.Orders.{table_of, five_orders, FirstsRise, SecondsR
 use Rattle.fare_ledger.specs.Statements.{first_format, second_format, ledger_parts}
 use Rattle.fare_ledger.specs.Tables.{first_schema, second_schema, third_schema, ledger_schema, retired_table, routed_table, held_table}
 use Rattle.fare_ledger.proofs.Own.{make_retired_text, retired_can, make_routed_text, routed_can, make_held_text, held_can}
-use Rattle.fare_ledger.proofs.Texts.{understood_all}
 use Rattle.fare_ledger.proofs.OlderTexts.{understood_first, understood_second}
 use Rattle.fare_ledger.proofs.AnyOrder.{same_head, same_tail, computed, wanted, fit_at}
+use Rattle.fare_ledger.proofs.Ordered.{is_order, all_fit}
 
 -- ---- its tables, and the others behind them
 
@@ -87,7 +87,7 @@ all_of_four ks = with_held (with_routed (with_retired ks))
 abbrev first_names : List ℕ → Names
 first_names ks = (false, false, false, 4, all_of (places_of (parts_of first_format) table_of ks) ++ fifth ∷ sixth ∷ seventh ∷ [])
 
-first_rises : (ks : List ℕ) → computed (parts_of first_format) understood_first ks ≡ wanted (parts_of first_format) understood_first ks → computed ledger_parts understood_all (all_of_four ks) ≡ wanted ledger_parts understood_all (all_of_four ks)
+first_rises : (ks : List ℕ) → computed (parts_of first_format) understood_first ks ≡ wanted (parts_of first_format) understood_first ks → is_order 7 (all_of_four ks) ≡ true
     → made ks 4 make_retired_text ≡ to_be_made first_schema (retired_table 0) ks make_retired_text → made (with_retired ks) 5 make_routed_text ≡ to_be_made second_schema (routed_table 0) (with_retired ks) make_routed_text
     → made (with_routed (with_retired ks)) 6 make_held_text ≡ to_be_made third_schema (held_table 0) (with_routed (with_retired ks)) make_held_text
     → names ks (all_of_four ks) ≡ first_names ks → (v : Site) × (w : Site) × Rises first_format (made_of table_of ks) v w
@@ -101,14 +101,14 @@ first_rises ks first all fifth_made sixth_made seventh_made is =
         from = fit_at (parts_of first_format) understood_first ks first;
         has = refl;
         free = (ap (λ (n : Names). n.0) is, (ap (λ (n : Names). n.1) is, (ap (λ (n : Names). n.2) is, tt)));
-        site = fit_at ledger_parts understood_all (all_of_four ks) all;
+        site = all_fit (all_of_four ks) all;
         grows = (made_of table_of (with_retired ks), retired_made ks fifth_made, (made_of table_of (with_routed (with_retired ks)), routed_made (with_retired ks) sixth_made, (made_of table_of (all_of_four ks), held_made (with_routed (with_retired ks)) seventh_made, refl)));
         places = subst (GoOn s from) (sym (ap (λ (n : Names). n.4) is)) (go_on s from (fifth ∷ sixth ∷ seventh ∷ []) (sym many, (ap (λ n. n + 1) (sym many), (ap (λ n. n + 1 + 1) (sym many), tt))));
       },
     )
 
 firsts_rise : (kss : List (List ℕ)) → map (computed (parts_of first_format) understood_first) kss ≡ map (wanted (parts_of first_format) understood_first) kss
-    → map (λ ks. computed ledger_parts understood_all (all_of_four ks)) kss ≡ map (λ ks. wanted ledger_parts understood_all (all_of_four ks)) kss
+    → map (λ ks. is_order 7 (all_of_four ks)) kss ≡ map (λ ks. true) kss
     → map (λ ks. made ks 4 make_retired_text) kss ≡ map (λ ks. to_be_made first_schema (retired_table 0) ks make_retired_text) kss
     → map (λ ks. made (with_retired ks) 5 make_routed_text) kss ≡ map (λ ks. to_be_made second_schema (routed_table 0) (with_retired ks) make_routed_text) kss
     → map (λ ks. made (with_routed (with_retired ks)) 6 make_held_text) kss ≡ map (λ ks. to_be_made third_schema (held_table 0) (with_routed (with_retired ks)) make_held_text) kss
@@ -117,7 +117,7 @@ firsts_rise [] first all one two three is = tt
 firsts_rise (ks ∷ kss) first all one two three is = (first_rises ks (same_head first) (same_head all) (same_head one) (same_head two) (same_head three) (same_head is), firsts_rise kss (same_tail first) (same_tail all) (same_tail one) (same_tail two) (same_tail three) (same_tail is))
 
 pub any_first_rises : FirstsRise
-unfolding everything first_schema second_schema third_schema ledger_schema same_name understood_first understood_all
+unfolding everything first_schema second_schema third_schema ledger_schema same_name understood_first
 any_first_rises = firsts_rise orders refl refl refl refl refl refl
 
 -- ---- the second
@@ -128,7 +128,7 @@ all_of_five ks = with_held (with_routed ks)
 abbrev second_names : List ℕ → Names
 second_names ks = (true, false, false, 5, all_of (places_of (parts_of second_format) table_of ks) ++ sixth ∷ seventh ∷ [])
 
-second_rises : (ks : List ℕ) → computed (parts_of second_format) understood_second ks ≡ wanted (parts_of second_format) understood_second ks → computed ledger_parts understood_all (all_of_five ks) ≡ wanted ledger_parts understood_all (all_of_five ks)
+second_rises : (ks : List ℕ) → computed (parts_of second_format) understood_second ks ≡ wanted (parts_of second_format) understood_second ks → is_order 7 (all_of_five ks) ≡ true
     → made ks 5 make_routed_text ≡ to_be_made second_schema (routed_table 0) ks make_routed_text → made (with_routed ks) 6 make_held_text ≡ to_be_made third_schema (held_table 0) (with_routed ks) make_held_text
     → names ks (all_of_five ks) ≡ second_names ks → (v : Site) × (w : Site) × Rises second_format (made_of table_of ks) v w
 second_rises ks second all sixth_made seventh_made is =
@@ -141,14 +141,14 @@ second_rises ks second all sixth_made seventh_made is =
         from = fit_at (parts_of second_format) understood_second ks second;
         has = refl;
         free = (ap (λ (n : Names). n.1) is, (ap (λ (n : Names). n.2) is, tt));
-        site = fit_at ledger_parts understood_all (all_of_five ks) all;
+        site = all_fit (all_of_five ks) all;
         grows = (made_of table_of (with_routed ks), routed_made ks sixth_made, (made_of table_of (all_of_five ks), held_made (with_routed ks) seventh_made, refl));
         places = subst (GoOn s from) (sym (ap (λ (n : Names). n.4) is)) (go_on s from (sixth ∷ seventh ∷ []) (sym many, (ap (λ n. n + 1) (sym many), tt)));
       },
     )
 
 seconds_rise : (kss : List (List ℕ)) → map (computed (parts_of second_format) understood_second) kss ≡ map (wanted (parts_of second_format) understood_second) kss
-    → map (λ ks. computed ledger_parts understood_all (all_of_five ks)) kss ≡ map (λ ks. wanted ledger_parts understood_all (all_of_five ks)) kss
+    → map (λ ks. is_order 7 (all_of_five ks)) kss ≡ map (λ ks. true) kss
     → map (λ ks. made ks 5 make_routed_text) kss ≡ map (λ ks. to_be_made second_schema (routed_table 0) ks make_routed_text) kss
     → map (λ ks. made (with_routed ks) 6 make_held_text) kss ≡ map (λ ks. to_be_made third_schema (held_table 0) (with_routed ks) make_held_text) kss
     → map (λ ks. names ks (all_of_five ks)) kss ≡ map second_names kss → AllByRecursion (λ ks. (v : Site) × (w : Site) × Rises second_format (made_of table_of ks) v w) kss
@@ -156,5 +156,5 @@ seconds_rise [] second all one two is = tt
 seconds_rise (ks ∷ kss) second all one two is = (second_rises ks (same_head second) (same_head all) (same_head one) (same_head two) (same_head is), seconds_rise kss (same_tail second) (same_tail all) (same_tail one) (same_tail two) (same_tail is))
 
 pub any_second_rises : SecondsRise
-unfolding everything second_schema third_schema ledger_schema same_name understood_second understood_all
+unfolding everything second_schema third_schema ledger_schema same_name understood_second
 any_second_rises = seconds_rise five_orders refl refl refl refl refl

@@ -1,5 +1,5 @@
 -- What the removal of a device's taps and statements leaves.
-use Rattle.std.proofs.Common.{◌≡◌, ◌≢◌, ℕ, ◌==◌, nat_le, nat_lt, not, List, [], ◌∷◌, map, filter, length, Bool, true, false, Some, None, Ok, refl, sym, ap, subst, ◌∙◌, pos, arith}
+use Rattle.std.proofs.Common.{◌≡◌, ◌≢◌, ℕ, ◌==◌, nat_le, nat_lt, not, List, [], ◌∷◌, map, filter, Bool, true, false, Some, None, Ok, refl, sym, ap, subst, ◌∙◌, pos, arith}
 use Rattle.std.specs.Prelude.{is_some}
 use Rattle.std.specs.Ordering.{is_lt, int_cmp}
 use Rattle.std.specs.List.Sorted.{IsPermutation}
@@ -14,7 +14,7 @@ use Rattle.sqlite_sql.specs.declared.ops.CompareOp.TheVariants as cmp
 use Rattle.sqlite.specs.Tree.{Trees}
 use Rattle.sqlite_rules.specs.Edit.{without_all}
 use Rattle.sqlite_rules.specs.Calls.{ids_of}
-use Rattle.sqlite.specs.Query.{IsAnswer, matches_as, end, output, Output}
+use Rattle.sqlite.specs.Query.{IsAnswer, matches_as, end, output}
 use Rattle.sqlite.specs.Program.{overlay}
 use Rattle.sqlite.specs.Edit.{edit_of}
 use Rattle.sqlite.specs.Rowids.TheVariants.{Given}

@@ -1,5 +1,5 @@
 -- What is left of a device whose first taps and statements go.
-use Rattle.std.proofs.Common.{◌≡◌, inl, inr, ℕ, zero, suc, ◌+◌, ◌-◌, ◌<◌, ◌≤◌, ◌==◌, ◌&&◌, ◌||◌, nat_le, nat_lt, not, cond, if◌then◌else◌, Bool, true, false, List, [], ◌∷◌, drop, map, filter, length, length-drop, Option, Some, None, Ok, Err, Result, refl, sym, ap, subst, ◌∙◌, arith}
+use Rattle.std.proofs.Common.{◌≡◌, inl, inr, ℕ, zero, suc, ◌+◌, ◌-◌, ◌<◌, ◌≤◌, ◌==◌, ◌&&◌, nat_le, nat_lt, not, cond, if◌then◌else◌, Bool, true, false, List, [], ◌∷◌, drop, filter, length, length-drop, Option, Some, None, Ok, Err, Result, refl, sym, ap, subst, ◌∙◌, arith}
 use Rattle.std.specs.Prelude.{max}
 use Rattle.std.specs.List.{AllByRecursion}
 use Rattle.std.proofs.lemmas.Bool.{cases_Bool}
@@ -11,8 +11,7 @@ use Rattle.fare_record.specs.Lanes.{day_count}
 use Rattle.fare_store.specs.declared.fault.ForgetFault.{ForgetFault}
 use Rattle.fare_store.specs.Standing.{Standing, Calls}
 use Rattle.fare_store.specs.Tables.{put}
-use Rattle.fare_store.specs.LedgerWords.{LedgerValue, is_past, front, let_go, stated_from, forget_judged, forgotten}
-use Rattle.fare_store.specs.PlainLedgerWords.{filled}
+use Rattle.fare_store.specs.LedgerWords.{LedgerValue, is_past, front, stated_from, forget_judged, forgotten}
 use Rattle.fare_store.proofs.LettingGo.{AreCut, cut_taken, front_filled, length_filled}
 use Rattle.fare_tables.proofs.Lists.{member, of_filter, all_in_filter}
 use Rattle.fare_tables.proofs.Steps.{says}

@@ -21,7 +21,9 @@ pub mod Olders
 pub mod Rising
 pub mod Opened
 pub mod AnyOrder
+pub mod Anywhere
 pub mod AllOrders
+pub mod Ordered
 pub mod AnyRise
 pub mod ThirdRise
 pub mod Batches

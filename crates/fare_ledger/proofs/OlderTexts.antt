@@ -5,9 +5,9 @@ use Rattle.fare_opening.specs.Numbers.{Meta, Tap}
 use Rattle.fare_layout.specs.Commands.{IsMeant}
 use Rattle.fare_layout.specs.Layouts.{AreUnderstood}
 use Rattle.fare_layout.specs.Places.{place_of}
-use Rattle.fare_ledger.specs.Statements.{older_texts}
+use Rattle.fare_ledger.specs.Statements.{older_texts, third_texts}
 use Rattle.fare_ledger.specs.Tables.{first_schema, second_schema, third_schema}
-use Rattle.fare_ledger.proofs.Texts.{own_places, meta_text, meta_at, meta_simple, put_meta_text, put_meta_at, put_meta_simple, set_meta_text, set_meta_at, set_meta_simple, older_text, older_at, older_simple}
+use Rattle.fare_ledger.proofs.Texts.{own_places, meta_text, meta_at, meta_simple, put_meta_text, put_meta_at, put_meta_simple, set_meta_text, set_meta_at, set_meta_simple, older_text, older_at, older_simple, unused_text, unused_at, unused_simple}
 
 pub meta_first : IsMeant first_schema meta_text (meta_at (place_of own_places Meta))
 unfolding everything first_schema
@@ -59,9 +59,9 @@ pub set_meta_third : IsMeant third_schema set_meta_text (set_meta_at (place_of o
 unfolding everything third_schema
 set_meta_third = refl
 
-pub older_third : IsMeant third_schema older_text (older_at (place_of own_places Tap))
+pub unused_third : IsMeant third_schema unused_text (unused_at (place_of own_places Tap))
 unfolding everything third_schema
-older_third = refl
+unused_third = refl
 
-unfoldable pub understood_third : AreUnderstood third_schema older_texts
-understood_third = ((meta_at (place_of own_places Meta), meta_third, meta_simple), ((put_meta_at (place_of own_places Meta), put_meta_third, put_meta_simple), ((set_meta_at (place_of own_places Meta), set_meta_third, set_meta_simple), ((older_at (place_of own_places Tap), older_third, older_simple), tt))))
+unfoldable pub understood_third : AreUnderstood third_schema third_texts
+understood_third = ((meta_at (place_of own_places Meta), meta_third, meta_simple), ((put_meta_at (place_of own_places Meta), put_meta_third, put_meta_simple), ((set_meta_at (place_of own_places Meta), set_meta_third, set_meta_simple), ((unused_at (place_of own_places Tap), unused_third, unused_simple), tt))))

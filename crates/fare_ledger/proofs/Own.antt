@@ -22,7 +22,7 @@ use Rattle.fare_opening.proofs.Orders.{fit_as}
 use Rattle.fare_ledger.specs.Statements.{tables, texts, FitsLedger, moving_taps, first_format, second_format, third_format, ledger_parts}
 use Rattle.fare_ledger.specs.Tables.{one_table, two_tables, three_tables, first_schema, second_schema, third_schema, ledger_schema, lane_table, tap_table, stated_table, retired_table, routed_table, held_table}
 use Rattle.fare_ledger.proofs.Texts.{own_places, meta_own, put_meta_own, set_meta_own, unused_text, unused_own, put_older_own, clear_older_own, understood_all}
-use Rattle.fare_ledger.proofs.OlderTexts.{meta_first, put_meta_first, set_meta_first, older_first, understood_first, meta_second, put_meta_second, set_meta_second, older_second, understood_second, meta_third, put_meta_third, set_meta_third, understood_third}
+use Rattle.fare_ledger.proofs.OlderTexts.{meta_first, put_meta_first, set_meta_first, older_first, understood_first, meta_second, put_meta_second, set_meta_second, older_second, understood_second, meta_third, put_meta_third, set_meta_third, unused_third, understood_third}
 
 -- TABLES
 abbrev pub make_meta_text : List ℕ
@@ -341,6 +341,10 @@ second_design = record {
   counted = tt;
 }
 
+third_counted : IsCounted (parts_of third_format) (Tap, unused_text)
+unfolding third_schema
+third_counted = record { past = omega arith; within = omega arith; counts = inr (inr (inr (inl refl))); names = codes "count(*)" ∷ []; tree = 2; counts_meant = unused_third }
+
 pub third_design : IsDesign (parts_of third_format)
 unfolding third_schema
 third_design = record {
@@ -362,7 +366,7 @@ third_design = record {
   puts_meant = put_meta_third;
   sets = inr (inr (inl refl));
   sets_meant = set_meta_third;
-  counted = tt;
+  counted = third_counted;
 }
 
 pub ledger_design : IsDesign ledger_parts

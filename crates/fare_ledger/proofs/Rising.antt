@@ -21,7 +21,7 @@ use Rattle.fare_opening.specs.Numbers.{Meta, Device, Tap, Stated}
 use Rattle.fare_opening.specs.Parts.{OlderParts, parts_of}
 use Rattle.fare_opening.specs.Raising as raising
 use Rattle.fare_opening.specs.Moving.{MovingParts, columns_of, IsNumbered, AreNumbered, copies}
-use Rattle.fare_opening.specs.Sites.{tree_at, rows_at}
+use Rattle.fare_opening.specs.Sites.{IsEmptied, tree_at, rows_at}
 use Rattle.fare_opening.proofs.Standing as standing
 use Rattle.fare_ledger.specs.declared.layout.Layout.{Layout}
 use Rattle.fare_ledger.specs.Held.{Held, AreReadable, IsLane, IsTap, IsStated, IsRetired, IsSince, lane_of, tap_of, stated_of, since_of, held_of}
@@ -227,13 +227,21 @@ module _ (o : OlderParts) (w : Layout) (v : Site) (owner start : ℕ) (old new :
 
 -- ---- what an open finds, and what a stop leaves of it
 
+-- the table that an older format doesn't use has no row
+none_unused : (o : OlderParts) (v : Site) (trees : Trees) → Has ledger_parts.older o → olders o v trees 2 ≡ [] → IsEmptied (parts_of o) v trees
+unfolding olders
+none_unused o v trees (inl is) none = subst (λ (x : OlderParts). IsEmptied (parts_of x) v trees) (sym is) tt
+none_unused o v trees (inr (inl is)) none = subst (λ (x : OlderParts). IsEmptied (parts_of x) v trees) (sym is) tt
+none_unused o v trees (inr (inr (inl is))) none = subst (λ (x : OlderParts). IsEmptied (parts_of x) v trees) (sym is) (ap (λ (x : OlderParts). unmoved_in x v trees) (sym is) ∙ none)
+none_unused o v trees (inr (inr (inr past))) none = absurd past
+
 -- a lawful ledger of an older format is one that an open finds, where it can be raised
 pub lawful_is_older : (o : OlderParts) (v w : Site) (owner start : ℕ) (s : State) → Has ledger_parts.older o → Rises o s.now.schema v w → IsFit v.schema (IsLawfulOlder o v owner start) s → IsOlderLedger owner s
 unfolding olders
 lawful_is_older o v w owner start s older rises fit =
     let some : nat_lt 0 (length o.tables) ≡ true = let four = has_four o older in grind (arith, nat_tests) in
     let meta = subst (λ b. IsMeta o.format owner (if b then rows_at v Meta s.now.trees else [])) some fit.fits.together.meta in
-    (o, older, v, w, record { rises = rises; meta = meta })
+    (o, older, v, w, record { rises = rises; meta = meta; unused = none_unused o v s.now.trees older fit.fits.together.unused })
 
 pub left_raised : (owner start : ℕ) (known : ℕ → Bool) (old : State) (trees : Trees) → raising.MayRaise ledger_parts owner old trees → IsLeftRaised owner start known old trees
 left_raised owner start known old trees it =

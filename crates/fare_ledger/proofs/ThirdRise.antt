@@ -15,9 +15,8 @@ use Rattle.fare_ledger.specs.Orders.{table_of, six_orders, ThirdsRise}
 use Rattle.fare_ledger.specs.Statements.{third_format, ledger_parts}
 use Rattle.fare_ledger.specs.Tables.{third_schema, ledger_schema, held_table}
 use Rattle.fare_ledger.proofs.Own.{make_held_text}
-use Rattle.fare_ledger.proofs.Texts.{understood_all}
-use Rattle.fare_ledger.proofs.OlderTexts.{understood_third}
-use Rattle.fare_ledger.proofs.AnyOrder.{same_head, same_tail, computed, wanted, fit_at}
+use Rattle.fare_ledger.proofs.AnyOrder.{same_head, same_tail}
+use Rattle.fare_ledger.proofs.Ordered.{is_order, six_fit, all_fit}
 use Rattle.fare_ledger.proofs.AnyRise.{Names, names, made, to_be_made, held_made, with_held, seventh, go_on}
 
 abbrev third_names : List ℕ → Names
@@ -26,8 +25,7 @@ third_names ks = (true, true, false, 6, all_of (places_of (parts_of third_format
 abbrev RisesIn : List ℕ → Type 0
 RisesIn ks = (v : Site) × (w : Site) × Rises third_format (made_of table_of ks) v w
 
-third_rises : (ks : List ℕ) → computed (parts_of third_format) understood_third ks ≡ wanted (parts_of third_format) understood_third ks → computed ledger_parts understood_all (with_held ks) ≡ wanted ledger_parts understood_all (with_held ks)
-    → made ks 6 make_held_text ≡ to_be_made third_schema (held_table 0) ks make_held_text → names ks (with_held ks) ≡ third_names ks → RisesIn ks
+third_rises : (ks : List ℕ) → is_order 6 ks ≡ true → is_order 7 (with_held ks) ≡ true → made ks 6 make_held_text ≡ to_be_made third_schema (held_table 0) ks make_held_text → names ks (with_held ks) ≡ third_names ks → RisesIn ks
 third_rises ks third all seventh_made is =
     let s = made_of table_of ks in
     let from = all_of (places_of (parts_of third_format) table_of ks) in
@@ -35,17 +33,16 @@ third_rises ks third all seventh_made is =
       record { schema = s; places = places_of (parts_of third_format) table_of ks },
       record { schema = made_of table_of (with_held ks); places = places_of ledger_parts table_of (with_held ks) },
       record {
-        from = fit_at (parts_of third_format) understood_third ks third;
+        from = six_fit ks third;
         has = refl;
         free = (ap (λ (n : Names). n.2) is, tt);
-        site = fit_at ledger_parts understood_all (with_held ks) all;
+        site = all_fit (with_held ks) all;
         grows = (made_of table_of (with_held ks), held_made ks seventh_made, refl);
         places = subst (GoOn s from) (sym (ap (λ (n : Names). n.4) is)) (go_on s from (seventh ∷ []) (sym many, tt));
       },
     )
 
-thirds_rise : (kss : List (List ℕ)) → map (computed (parts_of third_format) understood_third) kss ≡ map (wanted (parts_of third_format) understood_third) kss
-    → map (λ ks. computed ledger_parts understood_all (with_held ks)) kss ≡ map (λ ks. wanted ledger_parts understood_all (with_held ks)) kss
+thirds_rise : (kss : List (List ℕ)) → map (is_order 6) kss ≡ map (λ ks. true) kss → map (λ ks. is_order 7 (with_held ks)) kss ≡ map (λ ks. true) kss
     → map (λ ks. made ks 6 make_held_text) kss ≡ map (λ ks. to_be_made third_schema (held_table 0) ks make_held_text) kss
     → map (λ ks. names ks (with_held ks)) kss ≡ map third_names kss → AllByRecursion RisesIn kss
 thirds_rise [] third all one is = tt
@@ -73,27 +70,27 @@ abbrev from_5 : List (List ℕ)
 from_5 = drop 120 from_4
 
 part_0 : AllByRecursion RisesIn (take 120 six_orders)
-unfolding everything third_schema ledger_schema same_name understood_third understood_all
+unfolding everything third_schema ledger_schema same_name
 part_0 = thirds_rise (take 120 six_orders) refl refl refl refl
 
 part_1 : AllByRecursion RisesIn (take 120 from_1)
-unfolding everything third_schema ledger_schema same_name understood_third understood_all
+unfolding everything third_schema ledger_schema same_name
 part_1 = thirds_rise (take 120 from_1) refl refl refl refl
 
 part_2 : AllByRecursion RisesIn (take 120 from_2)
-unfolding everything third_schema ledger_schema same_name understood_third understood_all
+unfolding everything third_schema ledger_schema same_name
 part_2 = thirds_rise (take 120 from_2) refl refl refl refl
 
 part_3 : AllByRecursion RisesIn (take 120 from_3)
-unfolding everything third_schema ledger_schema same_name understood_third understood_all
+unfolding everything third_schema ledger_schema same_name
 part_3 = thirds_rise (take 120 from_3) refl refl refl refl
 
 part_4 : AllByRecursion RisesIn (take 120 from_4)
-unfolding everything third_schema ledger_schema same_name understood_third understood_all
+unfolding everything third_schema ledger_schema same_name
 part_4 = thirds_rise (take 120 from_4) refl refl refl refl
 
 part_5 : AllByRecursion RisesIn (from_5)
-unfolding everything third_schema ledger_schema same_name understood_third understood_all
+unfolding everything third_schema ledger_schema same_name
 part_5 = thirds_rise (from_5) refl refl refl refl
 
 pub any_third_rises : ThirdsRise

@@ -1,5 +1,5 @@
 -- The tables of a ledger alone in a database, made in any order.
-use Rattle.std.specs.Prelude.{ℕ, ◌==◌, if◌then◌else◌, [], ◌∷◌, ◌++◌, List, map}
+use Rattle.std.specs.Prelude.{ℕ, ◌==◌, if◌then◌else◌, [], ◌∷◌, List, map, IsPermutation}
 use Rattle.std.specs.List.{AllByRecursion, flat_map}
 use Rattle.sqlite.specs.Table.{Table}
 use Rattle.fare_tables.specs.Queries.{meta_table}
@@ -27,13 +27,9 @@ five_orders = flat_map (at_each_place 4) orders
 abbrev pub six_orders : List (List ℕ)
 six_orders = flat_map (at_each_place 5) five_orders
 
--- the orders of seven: the last one at each place of those of the first four with the other two behind them
-abbrev pub all_orders : List (List ℕ)
-all_orders = flat_map (at_each_place 6) (map (λ ks. ks ++ 4 ∷ 5 ∷ []) orders)
-
--- in each of these the tables fit, where they stand
-abbrev pub FitInTheseOrders : Type 0
-FitInTheseOrders = AllByRecursion (λ ks. (p : Places) × FitsLedger (made_of table_of ks) p) all_orders
+-- in each order of all seven the tables fit, where they stand
+abbrev pub FitInAnyOrder : Type 0
+FitInAnyOrder = (ks : List ℕ) → IsPermutation (0 ∷ 1 ∷ 2 ∷ 3 ∷ 4 ∷ 5 ∷ 6 ∷ []) ks → (p : Places) × FitsLedger (made_of table_of ks) p
 
 -- a ledger of the first format can be raised in whichever order its four tables were made: its tables stand there, and
 -- once the other three are made behind them, those of a ledger do

@@ -46,13 +46,22 @@ held_tables = (codes "held", codes "CREATE TABLE held (device INTEGER PRIMARY KE
 abbrev pub tables : List (List ℕ × List ℕ)
 tables = first_tables ++ retired_tables ++ routed_tables ++ held_tables
 
--- what an open needs of the tables of an older format, each text with its table
+-- what an open needs of the tables of an older format that has the taps in Tap, each text with its table
 abbrev pub older_texts : List (TableNumber × List ℕ)
 older_texts =
     (Meta, codes "SELECT rowid, format, owner FROM meta")
     ∷ (Meta, codes "INSERT INTO meta (format, owner) VALUES (?1, ?2)")
     ∷ (Meta, codes "UPDATE meta SET format = ?1")
     ∷ (Tap, codes "SELECT rowid, device, lane, link, product, token, moment, day FROM tap ORDER BY rowid")
+    ∷ []
+
+-- and of those of one that has the taps where the newest has them
+abbrev pub third_texts : List (TableNumber × List ℕ)
+third_texts =
+    (Meta, codes "SELECT rowid, format, owner FROM meta")
+    ∷ (Meta, codes "INSERT INTO meta (format, owner) VALUES (?1, ?2)")
+    ∷ (Meta, codes "UPDATE meta SET format = ?1")
+    ∷ (Tap, codes "SELECT count(*) FROM tap")
     ∷ []
 
 -- what is asked of all tables and written to them, each with its table: Device is lane here
@@ -100,15 +109,15 @@ moving_taps = record {
 
 -- what a ledger of the first format is made of
 abbrev pub first_format : OlderParts
-first_format = record { own = first_schema; tables = first_tables; texts = older_texts; format = 1; missing = retired_tables ++ routed_tables ++ held_tables; moving = Some moving_taps }
+first_format = record { own = first_schema; tables = first_tables; texts = older_texts; format = 1; missing = retired_tables ++ routed_tables ++ held_tables; moving = Some moving_taps; unused = None }
 
 -- one of the second
 abbrev pub second_format : OlderParts
-second_format = record { own = second_schema; tables = first_tables ++ retired_tables; texts = older_texts; format = 2; missing = routed_tables ++ held_tables; moving = Some moving_taps }
+second_format = record { own = second_schema; tables = first_tables ++ retired_tables; texts = older_texts; format = 2; missing = routed_tables ++ held_tables; moving = Some moving_taps; unused = None }
 
--- and one of the third
+-- and one of the third, which doesn't use Tap either
 abbrev pub third_format : OlderParts
-third_format = record { own = third_schema; tables = first_tables ++ retired_tables ++ routed_tables; texts = older_texts; format = 3; missing = held_tables; moving = None }
+third_format = record { own = third_schema; tables = first_tables ++ retired_tables ++ routed_tables; texts = third_texts; format = 3; missing = held_tables; moving = None; unused = Some (Tap, codes "SELECT count(*) FROM tap") }
 
 -- what a ledger is made of
 abbrev pub ledger_parts : Parts

@@ -138,6 +138,9 @@ impl<S: Alter> Ledger for SqlLedger<S> {
     }
 
     fn forget(&mut self, device: DeviceId, day: Day) -> Result<(), Refused<ForgetFault>> {
+        if !self.knows(device) {
+            return Err(Refused::Because(ForgetFault::UnknownDevice));
+        }
         match self.judge_forget(device, day) {
             Err(fault) => Err(Refused::Failed(fault)),
             Ok(Err(why)) => Err(Refused::Because(why)),

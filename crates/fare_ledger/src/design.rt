@@ -2,7 +2,7 @@ ghost use Rattle.fare_ledger.specs.Statements.{ledger_parts};
 
 use crate::statements::{
     CLEAR_OLDER, COUNT_UNUSED, FIRST_MISSING, FIRST_TABLES, OLDER_TEXTS, PUT_OLDER, READ_OLDER,
-    ROUTED, SECOND_MISSING, SECOND_TABLES, TABLES, TEXTS, THIRD_MISSING, THIRD_TABLES,
+    ROUTED, SECOND_MISSING, SECOND_TABLES, TABLES, TEXTS, THIRD_MISSING, THIRD_TABLES, THIRD_TEXTS,
 };
 use fare_layout::TableNumber;
 use fare_opening::{Design, Moving, Older, TAP};
@@ -17,7 +17,7 @@ const MOVED_TAPS: Moving = Moving {
 };
 
 // The first format, which knew of no retired lanes, the second, whose taps had no route, and the third, of which
-// nothing was let go.
+// nothing was let go: as in the newest, the table in which the first two have the taps holds no row.
 static OLDER: [Older; 3] = [
     Older {
         format: 1,
@@ -25,6 +25,7 @@ static OLDER: [Older; 3] = [
         missing: &FIRST_MISSING,
         texts: &OLDER_TEXTS,
         moving: Some(MOVED_TAPS),
+        unused: None,
     },
     Older {
         format: 2,
@@ -32,13 +33,15 @@ static OLDER: [Older; 3] = [
         missing: &SECOND_MISSING,
         texts: &OLDER_TEXTS,
         moving: Some(MOVED_TAPS),
+        unused: None,
     },
     Older {
         format: 3,
         tables: &THIRD_TABLES,
         missing: &THIRD_MISSING,
-        texts: &OLDER_TEXTS,
+        texts: &THIRD_TEXTS,
         moving: None,
+        unused: Some((TAP, COUNT_UNUSED)),
     },
 ];
 

@@ -19,20 +19,12 @@ use fare_record::{Day, DeviceId, Record, Statement};
 use fare_store::{Fault, ForgetFault};
 use sqlite::Alter;
 
-// Whether what is of the days before this one may go, where so many days are closed.
-fn judge_days(
-    known: bool,
-    retired: bool,
-    start: Day,
-    closed: u64,
-    day: Day,
-) -> Result<(), ForgetFault>
+// Whether what is of a known device's days before this one may go, where so many days are closed.
+fn judge_days(retired: bool, start: Day, closed: u64, day: Day) -> Result<(), ForgetFault>
     requires { closed ≤ 100001 }
-    ensures { result ≡ (if not known then Err forget_fault.UnknownDevice else (if not retired && nat_lt (start + closed) day then Err forget_fault.NotClosed else Ok tt)) }
+    ensures judged { result ≡ (if not retired && nat_lt (start + closed) day then Err forget_fault.NotClosed else Ok tt) }
+    ensures known { result ≢ Err forget_fault.UnknownDevice }
 {
-    if !known {
-        return Err(ForgetFault::UnknownDevice);
-    }
     if !retired && u64::from(start.get()) + closed < u64::from(day.get()) {
         return Err(ForgetFault::NotClosed);
     }
@@ -100,24 +92,25 @@ impl<S: Alter> SqlLedger<S> {
         }
     }
 
-    // What is answered to a day before which all is to go, and what goes.
+    // What is answered to a day before which all of one of the scheme's devices is to go, and what goes.
     pub(crate) fn judge_forget(
         &mut self,
         device: DeviceId,
         day: Day,
     ) -> Result<Result<Cut, ForgetFault>, Fault>
+        requires known { IsTrue ((stands S.Store self.old).value.knows device) }
         ensures does { Reads (stands S.Store self.old) (stands S.Store self.new) (JudgesForget (stands S.Store self.old).value device day) result }
         ensures up { OnOk result (IsUp (state S.Store self.new.conn)) }
         ensures within { IfOk result (λ judged. IfOk judged (λ cut. IsCount cut.upto)) }
+        ensures known { result ≢ Ok (Err ForgetFault.UnknownDevice) }
     {
         let start = self.start;
-        let known = self.knows(device);
         self.begin()?;
         let lane = self.numbers_of(device)?;
         let retired = self.retired_of(device)?;
         let since = self.held_since(device)?;
         let kept = self.first_kept(device, day)?;
-        match judge_days(known, retired, start, lane.closed, day) {
+        match judge_days(retired, start, lane.closed, day) {
             Ok(()) => Ok(Ok(cut_of(kept, lane.taken, since, day))),
             Err(why) => Ok(Err(why)),
         }

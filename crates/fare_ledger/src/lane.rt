@@ -31,13 +31,6 @@ pub(crate) fn count_before(kept: Option<u64>, taken: u64) -> u64
     }
 }
 
-// The later of two days.
-fn later(one: Day, other: Day) -> Day
-    ensures { result ≡ max one other }
-{
-    if one < other { other } else { one }
-}
-
 // What goes, where this is the first tap that stays of so many.
 pub(crate) fn cut_of(kept: Option<u64>, taken: u64, since: Day, day: Day) -> Cut
     requires first { IfSome kept IsCount }
@@ -48,6 +41,6 @@ pub(crate) fn cut_of(kept: Option<u64>, taken: u64, since: Day, day: Day) -> Cut
 {
     Cut {
         upto: count_before(kept, taken),
-        since: later(since, day),
+        since: since.max(day),
     }
 }

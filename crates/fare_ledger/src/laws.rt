@@ -1,11 +1,9 @@
 //! Laws of where the tables stand. Each is a function that does nothing, and its contract is the law.
-ghost use Rattle.fare_ledger.specs.Orders.{FitInTheseOrders, FirstsRise, SecondsRise, ThirdsRise};
+ghost use Rattle.fare_ledger.specs.Orders.{FitInAnyOrder, FirstsRise, SecondsRise, ThirdsRise};
 
-/// The tables of a ledger, alone in a database, are such as `open` takes, in whichever of the 24 orders those of the first
-/// format were made, and with the newest at each place among them or behind. Behind the others, in whichever order these
-/// were made, it stands in a ledger of an older format that was raised, as the other laws say.
-pub fn tables_fit_in_these_orders()
-    ensures { FitInTheseOrders }
+/// The tables of a ledger, alone in a database, are such as `open` takes, in whichever order they were made.
+pub fn tables_fit_in_any_order()
+    ensures { FitInAnyOrder }
 {}
 
 /// The tables of a ledger of the first format, alone in a database, are such as `open` raises, in whichever of the 24

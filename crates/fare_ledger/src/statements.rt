@@ -130,7 +130,7 @@ pub(crate) const PUT_RETIRED: &str = "INSERT INTO retired (device) VALUES (?1)";
 /// How many lanes are retired.
 pub(crate) const COUNT_ALL_RETIRED: &str = "SELECT count(*) FROM retired";
 
-/// How many rows the table has in which older formats have the taps: none.
+/// How many rows the table has in which older formats have the taps: none in the newest and in the third.
 pub(crate) const COUNT_UNUSED: &str = "SELECT count(*) FROM tap";
 
 /// The taps of an older format, each with its row's number.
@@ -189,10 +189,18 @@ pub(crate) const TEXTS: [(TableNumber, &str); 24] = [
     (STATED, CUT_STATED),
 ];
 
-/// Those that an open needs of a ledger of an older format.
+/// Those that an open needs of a ledger of an older format that has the taps in `TAP`.
 pub(crate) const OLDER_TEXTS: [(TableNumber, &str); 4] = [
     (META, READ_META),
     (META, PUT_META),
     (META, SET_META),
     (TAP, READ_OLDER),
+];
+
+/// Those that it needs of a ledger of the third format.
+pub(crate) const THIRD_TEXTS: [(TableNumber, &str); 4] = [
+    (META, READ_META),
+    (META, PUT_META),
+    (META, SET_META),
+    (TAP, COUNT_UNUSED),
 ];

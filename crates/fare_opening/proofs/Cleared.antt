@@ -1,6 +1,5 @@
 -- What the removal of all rows of a table leaves.
-use Rattle.std.proofs.Common.{◌≡◌, ◌≢◌, ◌<◌, ℕ, suc, List, [], ◌∷◌, map, filter, length, not, true, false, None, Some, Ok, refl, sym, ap, subst, ◌∙◌, arith}
-use Rattle.std.specs.Prelude.{slice_get}
+use Rattle.std.proofs.Common.{◌≡◌, ◌≢◌, ◌<◌, ℕ, suc, List, [], ◌∷◌, map, filter, length, true, false, None, Ok, refl, sym, ap, subst, ◌∙◌}
 use Rattle.std.specs.List.{AllByRecursion}
 use Rattle.std.specs.List.Sorted.{IsPermutation}
 use Rattle.sqlite.specs.declared.types.Value.TheVariants.{Null}
@@ -8,7 +7,7 @@ use Rattle.sqlite_value.specs.Order.{Row}
 use Rattle.sqlite.specs.Tree.{Trees}
 use Rattle.sqlite_rules.specs.Edit.{without_all}
 use Rattle.sqlite_rules.specs.Calls.{ids_of}
-use Rattle.sqlite.specs.Query.{IsAnswer, output, Output}
+use Rattle.sqlite.specs.Query.{IsAnswer, output}
 use Rattle.sqlite.specs.Program.{overlay}
 use Rattle.sqlite.specs.Edit.{edit_of}
 use Rattle.sqlite.specs.Rowids.TheVariants.{Given}
@@ -30,11 +29,11 @@ use Rattle.fare_layout.proofs.Meant.{Meant, meant}
 use Rattle.fare_opening.specs.declared.site.Site.{Site}
 use Rattle.fare_opening.specs.Moves.{Clears}
 use Rattle.fare_opening.specs.Moving.{MovingParts, ids_query, clears_rows, columns_of, IsNumbered, AreNumbered}
-use Rattle.fare_opening.specs.Parts.{Parts, OlderParts, IsOlder, IsMoving}
-use Rattle.fare_opening.specs.Sites.{IsSite, tree_at, rows_at}
+use Rattle.fare_opening.specs.Parts.{Parts, OlderParts, IsMoving}
+use Rattle.fare_opening.specs.Sites.{IsSite, tree_at}
 use Rattle.fare_opening.proofs.Asked.{all_rows, filter_all, over}
 use Rattle.fare_opening.proofs.Numbered.{numbered_ids}
-use Rattle.fare_opening.proofs.Standing.{all_has, at_found, no_works, low_tree, each_stands, older_within}
+use Rattle.fare_opening.proofs.Standing.{all_has, at_found, no_works, low_tree, each_stands}
 
 shown : (tree : ℕ) (rows : List Row) → map (output (ids_query tree)) (map (λ r. [] ∷ r ∷ []) rows) ≡ map id_shown rows
 shown tree [] = refl

@@ -16,3 +16,6 @@ pub mod Finds
 pub mod Raised
 pub mod Olders
 pub mod Orders
+pub mod Meanings
+pub mod Among
+pub mod InOrder

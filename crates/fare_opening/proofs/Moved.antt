@@ -1,22 +1,18 @@
 -- What a raise makes of the two tables between which rows move.
-use Rattle.std.proofs.Common.{inl, inr, ◌≡◌, ◌≢◌, ◌≤◌, ◌<◌, ◌+◌, ℕ, zero, suc, List, [], ◌∷◌, length, Option, Some, None, Result, OnOk, refl, sym, ap, subst, ◌∙◌, arith}
+use Rattle.std.proofs.Common.{inl, inr, ◌≡◌, ◌≢◌, ◌≤◌, ◌<◌, ℕ, List, [], ◌∷◌, length, Some, sym, ap, subst, ◌∙◌, arith}
 use Rattle.std.specs.Prelude.{slice_get, IfSome}
-use Rattle.std.specs.List.{AllByRecursion}
 use Rattle.sqlite.specs.Change.{next_tree}
 use Rattle.sqlite.specs.Effect.{Database}
 use Rattle.sqlite.specs.Schema.{Schema}
 use Rattle.sqlite.specs.Table.{Table}
 use Rattle.sqlite_trees.proofs.ListLemmas.{all-slice_get}
 use Rattle.sqlite_value.specs.Order.{Row}
-use Rattle.fare_layout.specs.declared.place.TableNumber.{TableNumber}
-use Rattle.fare_layout.specs.Growing.{Grows, GrowsBy}
-use Rattle.fare_layout.specs.Places.{all_of}
+use Rattle.fare_layout.specs.Growing.{GrowsBy}
 use Rattle.fare_layout.proofs.Meant.{same_some}
 use Rattle.fare_layout.proofs.Others.{all_two, all_below, grown_at, new_at, longer}
 use Rattle.fare_opening.specs.declared.site.Site.{Site}
-use Rattle.fare_opening.specs.Moves.{KeepsAllBut, Fills, Clears, Moves, MovesAny}
-use Rattle.fare_opening.specs.Moving.{MovingParts, columns_of, AreNumbered, copies, shaped}
-use Rattle.fare_opening.specs.Numbers.{Meta}
+use Rattle.fare_opening.specs.Moves.{Fills, Clears, Moves}
+use Rattle.fare_opening.specs.Moving.{MovingParts, columns_of, AreNumbered, shaped}
 use Rattle.fare_opening.specs.Parts.{Parts, OlderParts, IsDesign, IsOlder, IsMoving}
 use Rattle.fare_opening.specs.Sites.{IsSite, tree_at, rows_at}
 use Rattle.fare_opening.proofs.Grown.{none_past, here_or_past}

@@ -19,9 +19,9 @@ use Rattle.fare_opening.specs.Moving.{MovingParts, columns_of, AreNumbered}
 use Rattle.fare_opening.specs.Numbers.{Meta}
 use Rattle.fare_opening.specs.Opening.{MayMake, MayOpen}
 use Rattle.fare_opening.specs.Parts.{Parts, OlderParts, IsOlder, IsTold, parts_of}
-use Rattle.fare_opening.specs.Raising.{AreRead, Rises, CanRise, IsRaised, IsRising, RaisesAll, RaisesFrom, Raises, RaisesTo, IsOlderStore, MayRaise, WasRaised}
-use Rattle.fare_opening.specs.Sites.{IsSite, rows_at}
-use Rattle.fare_opening.proofs.Standing.{same_rows}
+use Rattle.fare_opening.specs.Raising.{IsAnOwners, AreRead, Rises, CanRise, IsRaised, IsRising, RaisesAll, RaisesFrom, Raises, RaisesTo, IsOlderStore, MayRaise, WasRaised}
+use Rattle.fare_opening.specs.Sites.{IsSite, HasNoRow, rows_at}
+use Rattle.fare_opening.proofs.Standing.{same_rows, same_emptied}
 
 -- two questions leave no more than one
 pub neither_leaves : (old mid new : State) (schema : Schema) → (HasCleanDisk mid → old.now.schema ≡ schema → SameRows old mid) → Survives old mid (λ _. ¬ (old.now.schema ≡ schema)) → Survives mid new (λ _. ¬ (mid.now.schema ≡ schema)) → Survives old new (λ _. ¬ (old.now.schema ≡ schema))
@@ -33,8 +33,12 @@ module _ (d : Parts) (told : Older) (owner : ℕ) (old mid : State) (from to : S
   abbrev pub AreFound : Type 0
   AreFound = (o : OlderParts) → IsOlder d o → IsTold told o → Rises d o old.now.schema from to
 
-  pub can_rise : AreFound → IsMeta told.format owner (rows_at from Meta old.now.trees) → (o : OlderParts) → IsOlder d o → IsTold told o → CanRise d o owner old.now from to
-  can_rise found meta o older is = record { rises = found o older is; meta = subst (λ f. IsMeta f owner (rows_at from Meta old.now.trees)) is.format meta }
+  pub can_rise : AreFound → IsAnOwners told owner from old.now.trees → (o : OlderParts) → IsOlder d o → IsTold told o → CanRise d o owner old.now from to
+  can_rise found meta o older is = record {
+    rises = found o older is;
+    meta = subst (λ f. IsMeta f owner (rows_at from Meta old.now.trees)) is.format meta.0;
+    unused = subst (λ u. HasNoRow u from old.now.trees) is.unused meta.1;
+  }
 
   -- the rows that were read where its tables stand
   abbrev pub WereRead : Type 0
@@ -50,20 +54,20 @@ module _ (d : Parts) (told : Older) (owner : ℕ) (old mid : State) (from to : S
       let here = found o older is in
       same_read o v old.now.trees o.moving here.from site (sym here.has ∙ has) (read d o older is here.from)
 
-  pub is_rising : AreFound → IsMeta told.format owner (rows_at from Meta old.now.trees) → WereRead → SameRows old mid → (o : OlderParts) → IsOlder d o → IsTold told o → IsRising d told mid.now rows
+  pub is_rising : AreFound → IsAnOwners told owner from old.now.trees → WereRead → SameRows old mid → (o : OlderParts) → IsOlder d o → IsTold told o → IsRising d told mid.now rows
   is_rising found meta read same o older is =
       let can = can_rise found meta o older is in
       let all = read_there found read in
       let it : IsRising d told old.now rows = record { o = o; older = older; is_told = is; owner = owner; from = from; to = to; can = can; read = all } in
       subst (λ db. IsRising d told db rows) (sym same.0) it
 
-  pub raises : AreFound → IsMeta told.format owner (rows_at from Meta old.now.trees) → SameRows old mid → (o : OlderParts) → IsOlder d o → IsTold told o → (e : Database) → RaisesAll d told mid.now e → Raises d o owner old.now e to
+  pub raises : AreFound → IsAnOwners told owner from old.now.trees → SameRows old mid → (o : OlderParts) → IsOlder d o → IsTold told o → (e : Database) → RaisesAll d told mid.now e → Raises d o owner old.now e to
   raises found meta same o older is e all =
       let can = can_rise found meta o older is in
       (from, can, subst (λ db. IsRaised d o owner to db e) same.0 (all.each o older is owner from to (subst (λ db. CanRise d o owner db from to) (sym same.0) can)))
 
   -- a stop leaves it as it was, or raised
-  pub raises_survives : (new : State) → AreFound → (HasCleanDisk mid → IsMeta told.format owner (rows_at from Meta old.now.trees)) → (HasCleanDisk mid → WereRead) → (HasCleanDisk mid → SameRows old mid) → old.now.schema ≡ from.schema → Survives old mid (λ _. ¬ (old.now.schema ≡ from.schema))
+  pub raises_survives : (new : State) → AreFound → (HasCleanDisk mid → IsAnOwners told owner from old.now.trees) → (HasCleanDisk mid → WereRead) → (HasCleanDisk mid → SameRows old mid) → old.now.schema ≡ from.schema → Survives old mid (λ _. ¬ (old.now.schema ≡ from.schema))
       → Survives mid new (λ trees. IsRising d told mid.now rows → RaisesFrom d told mid.now trees) → Survives old new (λ trees. (o : OlderParts) → IsOlder d o → IsTold told o → RaisesTo d o owner old.now trees)
   raises_survives new found meta read same has first second =
       survives_then old mid new _ _ _ (λ clean trees other. absurd (other has))
@@ -73,13 +77,14 @@ module _ (d : Parts) (told : Older) (owner : ℕ) (old mid : State) (from to : S
       (to, it.0, raises found (meta before) (same before) o older is it.0 it.1, it.2)))
       first second
 
--- a row of meta that isn't of this format and owner, wherever the older format's tables are found to stand
-pub none_rises : (d : Parts) (told : Older) (owner : ℕ) (old : State) (from to : Site) → ((o : OlderParts) → IsOlder d o → IsTold told o → Rises d o old.now.schema from to) → ¬ IsMeta told.format owner (rows_at from Meta old.now.trees)
+-- a row of meta that isn't of this format and owner, or one in the unused table, wherever the older format's tables are found to stand
+pub none_rises : (d : Parts) (told : Older) (owner : ℕ) (old : State) (from to : Site) → ((o : OlderParts) → IsOlder d o → IsTold told o → Rises d o old.now.schema from to) → ¬ IsAnOwners told owner from old.now.trees
     → (o : OlderParts) → IsOlder d o → IsTold told o → (v w : Site) → ¬ CanRise d o owner old.now v w
 none_rises d told owner old from to found other o older is v w can =
     let here = found o older is in
     let same = same_rows (parts_of o) v from Meta old.now.trees can.rises.from here.from (sym can.rises.has ∙ here.has) in
-    other (subst (λ f. IsMeta f owner (rows_at from Meta old.now.trees)) (sym is.format) (subst (IsMeta o.format owner) same can.meta))
+    let none = same_emptied (parts_of o) v from old.now.trees can.rises.from here.from (sym can.rises.has ∙ here.has) can.unused in
+    other (subst (λ f. IsMeta f owner (rows_at from Meta old.now.trees)) (sym is.format) (subst (IsMeta o.format owner) same can.meta), subst (λ u. HasNoRow u from old.now.trees) (sym is.unused) none)
 
 -- ---- the first of several formats, and those behind it
 

@@ -74,7 +74,7 @@ apart_all (p ∷ ps) is = (apart_from p.tree ps (grind (arith, nat_tests)), apar
 abbrev pub refer_to_none : List Table → Type 0
 refer_to_none tables = AllByRecursion (λ (t : Table). t.references ≡ []) tables
 
-free_all : (s : Schema) (tree : ℕ) (tables : List Table) → refer_to_none tables → AllByRecursion (λ (t : Table). AllByRecursion (RefersElsewhere s tree) t.references) tables
+pub free_all : (s : Schema) (tree : ℕ) (tables : List Table) → refer_to_none tables → AllByRecursion (λ (t : Table). AllByRecursion (RefersElsewhere s tree) t.references) tables
 free_all s tree [] none = tt
 free_all s tree (t ∷ ts) none = (subst (AllByRecursion (RefersElsewhere s tree)) (sym none.0) tt, free_all s tree ts none.1)
 
@@ -90,7 +90,7 @@ rowid_first (i ∷ is) = is_rowid_first i.columns || rowid_first is
 not_first : (columns : List ℕ) → is_rowid_first columns ≡ false → columns ≢ 0 ∷ []
 not_first columns none is = absurd (let e = sym none ∙ ap is_rowid_first is in cc)
 
-no_rowid : (tree : ℕ) (indexes : List Index) → rowid_first indexes ≡ false → AllByRecursion (λ (i : Index). i.table ≡ tree → i.columns ≢ 0 ∷ []) indexes
+pub no_rowid : (tree : ℕ) (indexes : List Index) → rowid_first indexes ≡ false → AllByRecursion (λ (i : Index). i.table ≡ tree → i.columns ≢ 0 ∷ []) indexes
 no_rowid tree [] none = tt
 no_rowid tree (i ∷ is) none = elim (cases_Bool (is_rowid_first i.columns)) [
   | inl first ↦ absurd (let e : true ≡ false = rw first at none in cc)
@@ -108,7 +108,7 @@ meanings s [] = []
 meanings s (t ∷ ts) = essence (compiled s t.1) ∷ meanings s ts
 
 -- a text has one meaning under the own schema, so it keeps it where that one is kept
-keeps_as : (own s : Schema) (sql : List ℕ) (place : Place) (c : Command) → IsMeant own sql c → IsMeant s sql (moved place c) → KeepsMeaning own s place sql
+pub keeps_as : (own s : Schema) (sql : List ℕ) (place : Place) (c : Command) → IsMeant own sql c → IsMeant s sql (moved place c) → KeepsMeaning own s place sql
 keeps_as own s sql place c is there d means = subst (λ x. IsMeant s sql (moved place x)) (ap (λ (e : Essence). e.0) (same_some (sym is ∙ means))) there
 
 keep_all : (own s : Schema) (p : Places) (texts : List (TableNumber × List ℕ)) (u : AreUnderstood own texts) → meanings s texts ≡ meant_there own p texts u → KeepsMeanings own s p texts
@@ -117,7 +117,7 @@ keep_all own s p (t ∷ ts) u is = (keeps_as own s t.1 (place_of p t.0) u.0.0 u.
 
 -- ---- so they fit
 
-each_place : (P : Place → Type 0) → ((q : Place) → P q) → (ps : List Place) → AllByRecursion P ps
+pub each_place : (P : Place → Type 0) → ((q : Place) → P q) → (ps : List Place) → AllByRecursion P ps
 each_place P all [] = tt
 each_place P all (q ∷ ps) = (all q, each_place P all ps)
 
@@ -136,12 +136,12 @@ fit_as own texts u s p many stands apart none rowids means = record {
 -- ---- in an order
 
 -- where a table comes to stand
-abbrev place_from : Tables → ℕ → ℕ → List ℕ → ℕ → Place
+abbrev pub place_from : Tables → ℕ → ℕ → List ℕ → ℕ → Place
 place_from table_of at tree [] k = record { at = 0; tree = 0 }
 place_from table_of at tree (j ∷ ks) k = if j == k then record { at = at; tree = tree } else place_from table_of (at + 1) (tree + width table_of j) ks k
 
 -- and those from a number on
-abbrev places_from : Tables → List ℕ → ℕ → List Table → List Place
+abbrev pub places_from : Tables → List ℕ → ℕ → List Table → List Place
 places_from table_of ks k [] = []
 places_from table_of ks k (t ∷ tables) = place_from table_of 0 0 ks k ∷ places_from table_of ks (k + 1) tables
 

@@ -1,5 +1,5 @@
 -- The rows of a table, read in the order of their rowids.
-use Rattle.std.proofs.Common.{◌≡◌, ◌≤◌, ◌<◌, ◌+◌, ◌==◌, inl, inr, ℕ, suc, nat_lt, pos, add-one, get_or, List, [], ◌∷◌, map, length, filter, Bool, true, false, Equal, refl, sym, ap, subst, ◌∙◌, arith}
+use Rattle.std.proofs.Common.{◌≡◌, ◌≤◌, ◌<◌, ◌+◌, ◌==◌, inl, inr, ℕ, suc, nat_lt, pos, add-one, get_or, List, [], ◌∷◌, map, length, Bool, true, false, Equal, refl, sym, ap, subst, ◌∙◌, arith}
 use Rattle.std.specs.Ordering.{is_lt, ordering_then}
 use Rattle.std.specs.List.{AllByRecursion, IsDistinct}
 use Rattle.std.specs.List.Sorted.{IsPermutation, IsSorted}
@@ -27,7 +27,7 @@ use Rattle.fare_layout.specs.Commands.{KeepsMeaning}
 use Rattle.fare_layout.specs.Places.{place_of, all_of}
 use Rattle.fare_layout.proofs.Meant.{Meant, meant}
 use Rattle.fare_opening.specs.declared.site.Site.{Site}
-use Rattle.fare_opening.specs.Moving.{MovingParts, cells_from, rows_query, reads_rows, columns_of, IsNumbered, AreNumbered}
+use Rattle.fare_opening.specs.Moving.{MovingParts, cells_from, rows_query, reads_rows, columns_of, AreNumbered}
 use Rattle.fare_opening.specs.Parts.{Parts, OlderParts, IsOlder, IsMoving, parts_of}
 use Rattle.fare_opening.specs.Sites.{IsSite, tree_at, rows_at}
 use Rattle.fare_opening.proofs.Asked.{all_rows, filter_all, over}

@@ -4,7 +4,7 @@ use Rattle.std.specs.Prelude.{IfSome}
 use Rattle.std.specs.List.{flat_map}
 use Rattle.std.proofs.lemmas.Bool.Decides.{nat_tests}
 use Rattle.sqlite.specs.declared.types.Value.TheVariants.{Null}
-use Rattle.sqlite_value.specs.Order.{Row, column}
+use Rattle.sqlite_value.specs.Order.{Row}
 use Rattle.sqlite.specs.Query.{IsAnswer, matches_as, end}
 use Rattle.sqlite.specs.Program.{overlay}
 use Rattle.sqlite.specs.State.{State, Shown}
@@ -12,7 +12,7 @@ use Rattle.sqlite.proofs.Callers.{reads_as}
 use Rattle.fare_tables.specs.Asking.{Reads}
 use Rattle.fare_tables.specs.Cells.{nat_in, int, counted}
 use Rattle.fare_tables.specs.Queries.{count_query}
-use Rattle.fare_tables.proofs.Counting.{found, count_answer}
+use Rattle.fare_tables.proofs.Counting.{count_answer}
 use Rattle.fare_layout.specs.declared.place.TableNumber.{TableNumber}
 use Rattle.fare_layout.specs.Commands.{KeepsMeaning}
 use Rattle.fare_layout.specs.Places.{place_of, all_of}

@@ -1,5 +1,5 @@
 -- What a store in tables is made of.
-use Rattle.std.specs.Prelude.{◌≡◌, ◌<◌, ◌≤◌, ◌++◌, ℕ, suc, codes, List, [], ◌∷◌, map, length, slice_get, Option, Some, None, option_map, IfOk, IfSome}
+use Rattle.std.specs.Prelude.{◌≡◌, ◌<◌, ◌≤◌, ◌++◌, ℕ, suc, codes, List, [], ◌∷◌, map, length, slice_get, Option, Some, option_map, IfOk, IfSome}
 use Rattle.std.specs.List.{AllByRecursion}
 use Rattle.sqlite.specs.declared.types.Value.TheVariants.{Null}
 use Rattle.sqlite.specs.Command.TheVariants.{Insert, Select, Update}
@@ -33,6 +33,8 @@ pub record OlderParts : Type 0 where
   pub missing : List (List ℕ × List ℕ)
   -- how the rows of one of its tables move to one of those
   pub moving : Option MovingParts
+  -- a table that holds no row, and what counts its rows
+  pub unused : Option (TableNumber × List ℕ)
 
 pub record Parts : Type 0 where
   -- its schema in a database of its own
@@ -50,7 +52,7 @@ pub record Parts : Type 0 where
 
 -- what a store of an older format is made of
 abbrev pub parts_of : OlderParts → Parts
-parts_of o = record { own = o.own; tables = o.tables; texts = o.texts; format = o.format; older = []; unused = None }
+parts_of o = record { own = o.own; tables = o.tables; texts = o.texts; format = o.format; older = []; unused = o.unused }
 
 -- META: the table that says whose tables these are, and of what format
 abbrev pub meta_name : List ℕ
@@ -158,3 +160,4 @@ pub record IsTold (told : Older) (o : OlderParts) : Type 0 where
   pub missing : map (λ t. (t.0.now, t.1.now)) told.missing.now ≡ o.missing
   pub texts : map (λ t. (t.0, t.1.now)) told.texts.now ≡ o.texts
   pub moving : option_map moving_told told.moving ≡ o.moving
+  pub unused : option_map (λ u. (u.0, u.1.now)) told.unused ≡ o.unused

@@ -1,5 +1,5 @@
 -- A store of an older format, and what an open makes of it.
-use Rattle.std.specs.Prelude.{◌≡◌, ◌≢◌, ◌≤◌, ◌<◌, ℕ, List, [], length, Option, Some, None, IfSome}
+use Rattle.std.specs.Prelude.{◌≡◌, ◌≢◌, ◌≤◌, ◌<◌, ℕ, List, [], length, Option, Some, None, option_map, IfSome}
 use Rattle.std.specs.List.{AllByRecursion}
 use Rattle.sqlite.specs.Effect.{Database, IsDatabase}
 use Rattle.sqlite.specs.Schema.{Schema}
@@ -18,7 +18,7 @@ use Rattle.fare_opening.specs.Moving.{MovingParts, columns_of, AreNumbered, copi
 use Rattle.fare_opening.specs.Numbers.{Meta}
 use Rattle.fare_opening.specs.Parts.{Parts, OlderParts, IsOlder, IsTold, parts_of}
 use Rattle.fare_opening.specs.Making.{KeepsAllButMeta}
-use Rattle.fare_opening.specs.Sites.{IsSite, tree_at, rows_at}
+use Rattle.fare_opening.specs.Sites.{IsSite, HasNoRow, IsEmptied, tree_at, rows_at}
 
 -- the tables of an older format stand in a schema, nothing has a name of those that it lacks, and once these are made,
 -- past all that are there, the newest's tables stand there
@@ -30,10 +30,15 @@ pub record Rises (d : Parts) (o : OlderParts) (schema : Schema) (v w : Site) : T
   pub grows : GrowsBy schema o.missing w.schema
   pub places : GoOn schema (all_of v.places) (all_of w.places)
 
--- a database has them, with the row of meta of this owner
+-- a database has them, with the row of meta of this owner, and the one that isn't used has no row
 pub record CanRise (d : Parts) (o : OlderParts) (owner : ℕ) (db : Database) (v w : Site) : Type 0 where
   pub rises : Rises d o db.schema v w
   pub meta : IsMeta o.format owner (rows_at v Meta db.trees)
+  pub unused : IsEmptied (parts_of o) v db.trees
+
+-- so it is where the tables of a format that is told so stand
+abbrev pub IsAnOwners : Older → ℕ → Site → Trees → Type 0
+IsAnOwners told owner v trees = IsMeta told.format owner (rows_at v Meta trees) × HasNoRow (option_map (λ u. (u.0, u.1.now)) told.unused) v trees
 
 -- it is this owner's store of one of the older formats
 abbrev pub IsOlderStore : Parts → ℕ → State → Type 0

@@ -1,5 +1,5 @@
 -- Where a store's tables stand.
-use Rattle.std.specs.Prelude.{◌≡◌, ◌<◌, ℕ, List, [], length, IfSome}
+use Rattle.std.specs.Prelude.{◌≡◌, ◌<◌, ℕ, List, [], length, Option, IfSome}
 use Rattle.sqlite_value.specs.Order.{Row}
 use Rattle.sqlite.specs.Tree.{Trees}
 use Rattle.fare_layout.specs.declared.place.TableNumber.{TableNumber}
@@ -24,6 +24,10 @@ rows_at w table trees = trees (tree_at w table)
 abbrev pub IsBare : Site → Trees → Type 0
 IsBare w trees = (k : TableNumber) → 0 < k.number → k.number < length (all_of w.places) → rows_at w k trees ≡ []
 
--- the table that the format doesn't use has no row
+-- a table that a format doesn't use, if there is one, has no row
+abbrev pub HasNoRow : Option (TableNumber × List ℕ) → Site → Trees → Type 0
+HasNoRow unused w trees = IfSome unused (λ u. rows_at w u.0 trees ≡ [])
+
+-- the one that the store's format doesn't use
 abbrev pub IsEmptied : Parts → Site → Trees → Type 0
-IsEmptied d w trees = IfSome d.unused (λ u. rows_at w u.0 trees ≡ [])
+IsEmptied d = HasNoRow d.unused

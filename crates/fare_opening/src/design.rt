@@ -29,10 +29,13 @@ pub struct Older {
     /// Those that make the tables which it lacks.
     pub missing: &'static [(&'static str, &'static str)],
     /// The texts of its statements, each with the table that it is of: `READ_META`, `PUT_META` and `SET_META` among
-    /// them, and the `read` of its moving.
+    /// them, the `read` of its moving, and what counts the rows of the unused table.
     pub texts: &'static [(TableNumber, &'static str)],
     /// How the rows of one of its tables move to one that it lacks, if they do.
     pub moving: Option<Moving>,
+    /// A table that it keeps with no row, since a format before it used it, with the text that counts its rows. A store
+    /// in which that table holds a row isn't of this format.
+    pub unused: Option<(TableNumber, &'static str)>,
 }
 
 /// What a store in tables is made of.

@@ -3,8 +3,8 @@
 //! one row of `meta`, is found and stays as it is; that one in which nothing has a name of theirs gets them in one
 //! transaction, past what it holds, which stays; that a store of an older format gets the tables that it lacks, and the
 //! newest format, in one transaction, and keeps its rows, of which those of one table may move to a new one, each with
-//! one column more; and that anything else is told apart from these and stays, also where a table that the newest
-//! format doesn't use holds a row.
+//! one column more; and that anything else is told apart from these and stays, also where a table that a format, the
+//! newest or an older one, doesn't use holds a row.
 #![tactic(auto)]
 
 mod ascent;

@@ -5,22 +5,20 @@ ghost use Rattle.sqlite.specs.Held.{state};
 ghost use Rattle.sqlite_rules.specs.Lists.{Has};
 ghost use Rattle.fare_tables.specs.Asking.{IsLive, IsAtRest, SameRows};
 ghost use Rattle.fare_opening.specs.declared.site.Site.{Site};
-ghost use Rattle.fare_opening.specs.MetaRow.{IsMeta};
-ghost use Rattle.fare_opening.specs.Numbers.{Meta};
 ghost use Rattle.fare_opening.specs.Parts.{Parts, OlderParts, IsOlder, IsTold, parts_of};
-ghost use Rattle.fare_opening.specs.Sites.{IsSite, rows_at};
-ghost use Rattle.fare_opening.specs.Raising.{AreRead, CanRise, Raises, RaisesTo, IsOlderStore, MayRaise, WasRaised};
+ghost use Rattle.fare_opening.specs.Sites.{IsSite};
+ghost use Rattle.fare_opening.specs.Raising.{IsAnOwners, AreRead, CanRise, Raises, RaisesTo, IsOlderStore, MayRaise, WasRaised};
 
 use crate::ascent::ascent_in;
-use crate::meta::has_meta;
 use crate::moving::rows_to_move;
+use crate::ours::is_an_owners;
 use crate::raising::raise_store;
 use crate::{Design, Older, Site};
 use fare_store::Fault;
 use sqlite::{Alter, Connection, Row};
 use std::alloc::Global;
 
-// The rows that a raise is to move, if the row of meta is that of the format and the owner.
+// The rows that a raise is to move, if the row of meta is that of the format and the owner, and the unused table has none.
 fn look_back<S: Alter>(
     alloc: Global,
     conn: &mut Connection<S>,
@@ -30,8 +28,8 @@ fn look_back<S: Alter>(
 ) -> Result<Option<Vec<Row>>, Fault>
     requires { (d : Parts) × (o : OlderParts) × IsOlder d o × IsTold older.now o × IsSite (parts_of o) from.now }
     ensures meta { HasCleanDisk (state S.Store conn.new) → (state S.Store conn.old).now.schema ≡ from.now.schema → IfOk result (λ found. MatchOption found
-        (¬ IsMeta older.now.format owner (rows_at from.now Meta (state S.Store conn.old).now.trees))
-        (λ rows. IsMeta older.now.format owner (rows_at from.now Meta (state S.Store conn.old).now.trees) × ((d : Parts) (o : OlderParts) → IsOlder d o → IsTold older.now o → IsSite (parts_of o) from.now → AreRead o from.now (state S.Store conn.old).now rows.items))) }
+        (¬ IsAnOwners older.now owner from.now (state S.Store conn.old).now.trees)
+        (λ rows. IsAnOwners older.now owner from.now (state S.Store conn.old).now.trees × ((d : Parts) (o : OlderParts) → IsOlder d o → IsTold older.now o → IsSite (parts_of o) from.now → AreRead o from.now (state S.Store conn.old).now rows.items))) }
     ensures read { HasCleanDisk (state S.Store conn.new) → (state S.Store conn.old).now.schema ≡ from.now.schema → OnOk result (SameRows (state S.Store conn.old) (state S.Store conn.new)) }
     ensures same { IsLive (state S.Store conn.new) → IsAtRest from.now.schema (state S.Store conn.old) → SameRows (state S.Store conn.old) (state S.Store conn.new) }
     ensures crash { Survives (state S.Store conn.old) (state S.Store conn.new) (λ _. ¬ ((state S.Store conn.old).now.schema ≡ from.now.schema)) }
@@ -39,7 +37,7 @@ fn look_back<S: Alter>(
     ensures up { HasCleanDisk (state S.Store conn.new) → IsTrue (state S.Store conn.old).is_open → OnOk result (IsTrue (state S.Store conn.new).is_open) }
     ensures mode { conn.old.in_transaction ≡ false → conn.new.in_transaction ≡ false }
 {
-    if !has_meta(conn, from, older.format, owner)? {
+    if !is_an_owners(conn, from, older.format, older.unused, owner)? {
         return Ok(None);
     }
     Ok(Some(rows_to_move(alloc, conn, from, &older.moving)?))

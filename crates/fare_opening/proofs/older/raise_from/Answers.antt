@@ -3,10 +3,7 @@ use Rattle.sqlite.specs.Held.{state}
 use Rattle.sqlite.specs.State.{HasCleanDisk}
 use Rattle.fare_tables.proofs.Steps.{was_clean}
 use Rattle.fare_opening.specs.Parts.{OlderParts, IsOlder, IsTold}
-use Rattle.fare_opening.specs.Raising.{Rises}
-use Rattle.fare_opening.specs.MetaRow.{IsMeta}
-use Rattle.fare_opening.specs.Numbers.{Meta}
-use Rattle.fare_opening.specs.Sites.{rows_at}
+use Rattle.fare_opening.specs.Raising.{Rises, IsAnOwners}
 use Rattle.fare_opening.proofs.Olders.{AreFound, WereRead, none_rises, is_rising, raises, raises_survives}
 use Rattle.fare_layout.proofs.Creation.{some_is}
 use Rattle.fare_opening.proofs.Standing.{for_err, matched_some, matched_none}
@@ -49,7 +46,7 @@ returns-clause-raised g c live o older is =
     let found : AreFound d told owner old mid from to rows =
     subst (λ s. (o : OlderParts) → IsOlder d o → IsTold told o → Rises d o s from to) c.schema.ensures.value (some_is c.in_ok-ascent.field-0 c.in-Some.ascent (λ it. (o : OlderParts) → IsOlder d o → IsTold told o → Rises d o c.schema.result.now it.from it.to) c.in-Some.is c.in_ok-ascent.ensures.found) in
     let has = sym c.schema.ensures.value ∙ some_is c.in_ok-ascent.field-0 c.in-Some.ascent (λ it. c.schema.result.now ≡ it.from.schema) c.in-Some.is c.in_ok-ascent.ensures.at in
-    let seen : HasCleanDisk mid → IsMeta told.format owner (rows_at from Meta old.now.trees) × WereRead d told owner old mid from to c.in-Some-2.rows.items =
+    let seen : HasCleanDisk mid → IsAnOwners told owner from old.now.trees × WereRead d told owner old mid from to c.in-Some-2.rows.items =
     (λ before. matched_some c.in_ok-rows.field-0 c.in-Some-2.rows _ _ c.in-Some-2.is (c.in_ok-rows.ensures.meta before has)) in
     let read : HasCleanDisk mid → WereRead d told owner old mid from to rows =
     (λ before. subst (WereRead d told owner old mid from to) (sym c.as_slice.ensures.value) (seen before).1) in
@@ -73,7 +70,7 @@ returns-in_err-raise_store-clause-failed g c live rest o older is =
     let found : AreFound d told owner old mid from to rows =
     subst (λ s. (o : OlderParts) → IsOlder d o → IsTold told o → Rises d o s from to) c.schema.ensures.value (some_is c.in_ok-ascent.field-0 c.in-Some.ascent (λ it. (o : OlderParts) → IsOlder d o → IsTold told o → Rises d o c.schema.result.now it.from it.to) c.in-Some.is c.in_ok-ascent.ensures.found) in
     let has = sym c.schema.ensures.value ∙ some_is c.in_ok-ascent.field-0 c.in-Some.ascent (λ it. c.schema.result.now ≡ it.from.schema) c.in-Some.is c.in_ok-ascent.ensures.at in
-    let seen : HasCleanDisk mid → IsMeta told.format owner (rows_at from Meta old.now.trees) × WereRead d told owner old mid from to c.in-Some-2.rows.items =
+    let seen : HasCleanDisk mid → IsAnOwners told owner from old.now.trees × WereRead d told owner old mid from to c.in-Some-2.rows.items =
     (λ before. matched_some c.in_ok-rows.field-0 c.in-Some-2.rows _ _ c.in-Some-2.is (c.in_ok-rows.ensures.meta before has)) in
     let read : HasCleanDisk mid → WereRead d told owner old mid from to rows =
     (λ before. subst (WereRead d told owner old mid from to) (sym c.as_slice.ensures.value) (seen before).1) in
@@ -96,7 +93,7 @@ returns-in_err-raise_store-clause-crash g c =
     let found : AreFound d told owner old mid from to rows =
     subst (λ s. (o : OlderParts) → IsOlder d o → IsTold told o → Rises d o s from to) c.schema.ensures.value (some_is c.in_ok-ascent.field-0 c.in-Some.ascent (λ it. (o : OlderParts) → IsOlder d o → IsTold told o → Rises d o c.schema.result.now it.from it.to) c.in-Some.is c.in_ok-ascent.ensures.found) in
     let has = sym c.schema.ensures.value ∙ some_is c.in_ok-ascent.field-0 c.in-Some.ascent (λ it. c.schema.result.now ≡ it.from.schema) c.in-Some.is c.in_ok-ascent.ensures.at in
-    let seen : HasCleanDisk mid → IsMeta told.format owner (rows_at from Meta old.now.trees) × WereRead d told owner old mid from to c.in-Some-2.rows.items =
+    let seen : HasCleanDisk mid → IsAnOwners told owner from old.now.trees × WereRead d told owner old mid from to c.in-Some-2.rows.items =
     (λ before. matched_some c.in_ok-rows.field-0 c.in-Some-2.rows _ _ c.in-Some-2.is (c.in_ok-rows.ensures.meta before has)) in
     let read : HasCleanDisk mid → WereRead d told owner old mid from to rows =
     (λ before. subst (WereRead d told owner old mid from to) (sym c.as_slice.ensures.value) (seen before).1) in
@@ -116,7 +113,7 @@ returns-clause-crash g c =
     let found : AreFound d told owner old mid from to rows =
     subst (λ s. (o : OlderParts) → IsOlder d o → IsTold told o → Rises d o s from to) c.schema.ensures.value (some_is c.in_ok-ascent.field-0 c.in-Some.ascent (λ it. (o : OlderParts) → IsOlder d o → IsTold told o → Rises d o c.schema.result.now it.from it.to) c.in-Some.is c.in_ok-ascent.ensures.found) in
     let has = sym c.schema.ensures.value ∙ some_is c.in_ok-ascent.field-0 c.in-Some.ascent (λ it. c.schema.result.now ≡ it.from.schema) c.in-Some.is c.in_ok-ascent.ensures.at in
-    let seen : HasCleanDisk mid → IsMeta told.format owner (rows_at from Meta old.now.trees) × WereRead d told owner old mid from to c.in-Some-2.rows.items =
+    let seen : HasCleanDisk mid → IsAnOwners told owner from old.now.trees × WereRead d told owner old mid from to c.in-Some-2.rows.items =
     (λ before. matched_some c.in_ok-rows.field-0 c.in-Some-2.rows _ _ c.in-Some-2.is (c.in_ok-rows.ensures.meta before has)) in
     let read : HasCleanDisk mid → WereRead d told owner old mid from to rows =
     (λ before. subst (WereRead d told owner old mid from to) (sym c.as_slice.ensures.value) (seen before).1) in

@@ -1,4 +1,4 @@
-use Rattle.std.proofs.Common.{◌≡◌, ◌+◌, ◌&&◌, nat_lt, not, if◌then◌else◌, Bool, Some, None, Ok, Err, Result, ℕ, ◌∙◌}
+use Rattle.std.proofs.Common.{◌≡◌, ◌+◌, ◌&&◌, nat_lt, not, if◌then◌else◌, Bool, true, Some, None, Ok, Err, Result, ℕ, sym, ◌∙◌}
 use Rattle.fare_store.specs.declared.fault.ForgetFault.{ForgetFault}
 use Rattle.fare_store.specs.declared.fault.ForgetFault.TheVariants.{UnknownDevice, NotClosed}
 use Rattle.fare_store.specs.Standing.{Calls}
@@ -88,7 +88,7 @@ returns-in-Ok-clause-does g c =
     let fourth : Calls e f None ((f.value ≡ e.value) × (since ≡ e.value.from c.args.device)) (λ v. ⊥) = c.in_ok-since.ensures.does in
     let fifth : Calls f h None ((h.value ≡ f.value) × IsFront f.value c.args.device c.args.day kept) (λ v. ⊥) = c.in_ok-kept.ensures.does in
     forget_ok a h c.args.device c.args.day lane retired since kept c.cut_of.result c.cut_of.ensures.upto c.cut_of.ensures.since
-    (λ found. c.in-Ok.ensures ∙ same_judged a.value c.args.device c.args.day lane.closed c.knows-known.result retired c.knows-known.ensures found.retired_is found.numbers.closed)
+    (λ found. c.in-Ok.ensures.judged ∙ same_judged a.value c.args.device c.args.day lane.closed true retired (sym c.requires.known) found.retired_is found.numbers.closed)
     (device_read a b d e f h c.args.device c.args.day lane retired since kept first second third fourth fifth)
 
 pub returns-in-Err-clause-does : goal.returns-in-Err-clause-does
@@ -109,5 +109,5 @@ returns-in-Err-clause-does g c =
     let fourth : Calls e f None ((f.value ≡ e.value) × (since ≡ e.value.from c.args.device)) (λ v. ⊥) = c.in_ok-since.ensures.does in
     let fifth : Calls f h None ((h.value ≡ f.value) × IsFront f.value c.args.device c.args.day kept) (λ v. ⊥) = c.in_ok-kept.ensures.does in
     forget_err a h c.args.device c.args.day lane retired since kept c.in-Err.why
-    (λ found. c.in-Err.ensures ∙ same_judged a.value c.args.device c.args.day lane.closed c.knows-known.result retired c.knows-known.ensures found.retired_is found.numbers.closed)
+    (λ found. c.in-Err.ensures.judged ∙ same_judged a.value c.args.device c.args.day lane.closed true retired (sym c.requires.known) found.retired_is found.numbers.closed)
     (device_read a b d e f h c.args.device c.args.day lane retired since kept first second third fourth fifth)
