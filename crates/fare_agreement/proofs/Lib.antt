@@ -4,6 +4,8 @@ pub mod LettingGo
 pub mod LaneSteps
 pub mod Collecting
 pub mod Takes
+pub mod Untold
+pub mod Lasting
 pub mod Sessions
 pub mod PlainlyLeft
 pub mod Refusals
@@ -13,4 +15,3 @@ pub mod Fresh
 pub mod WeekTaken
 pub mod DevicesAgree
 pub mod WorkedSteps
-pub mod Untold

@@ -1,31 +1,33 @@
 -- Sessions, whole or stopped, keep agreement.
-use Rattle.std.proofs.Common.{◌≡◌, ℕ, ◌+◌, ◌≤◌, List, [], ◌∷◌, ◌++◌, take, drop, zero, suc, None, Some, true, refl, sym, ap, ◌∙◌, subst, arith, append_assoc, inl, inr}
-use Rattle.std.specs.Prelude.{Option, ◌==◌}
+use Rattle.std.proofs.Common.{◌≡◌, ℕ, ◌+◌, ◌≤◌, List, [], ◌∷◌, ◌++◌, take, drop, zero, suc, None, Some, Bool, true, false, refl, sym, ap, ◌∙◌, subst, arith, append_assoc, inl, inr}
+use Rattle.std.specs.Prelude.{Option, ◌==◌, ◌⊎◌, ◌<◌}
 use Rattle.std.specs.List.{AllByRecursion}
 use Rattle.std.proofs.lemmas.List.{append-nil, take-append-drop}
 use Rattle.fare_record.specs.Values.{RecordValue}
 use Rattle.fare_record.specs.Lanes.{day_count}
 use Rattle.fare_record.specs.declared.item.Item.{Item}
 use Rattle.fare_scheme.specs.Values.{SchemeValue}
-use Rattle.fare_store.specs.Tables.{put}
-use Rattle.fare_store.specs.LedgerWords.{LedgerValue, is_closed, with_close, with_retired, forgotten}
+use Rattle.fare_store.specs.Tables.{put, put2}
+use Rattle.fare_store.specs.LedgerWords.{LedgerValue, is_closed, with_close, with_retired, stated_from, forgotten}
 use Rattle.fare_world.specs.Knowing.{knows_owner}
 use Rattle.fare_side.specs.OpenDays as open_days
 use Rattle.fare_world.proofs.Lanes.{closed_later, closed_within}
 use Rattle.fare_history.specs.Serving.{behind_ledger, AreNextItems, given_all, pruned_to_all, in_hand, taken_behind, Service, IsService}
 use Rattle.fare_history.specs.Gathering.{Gathering, items_of, accepted_by, answers_of, all_answers, storing_all, IsAnswerFrom, IsGathering}
 use Rattle.fare_history.specs.Plainly.{IsCovered}
-use Rattle.fare_history.specs.Stores.{StoresValue, Session, Collects, Serves_owner, Closes_day, Retires_lane, Forgets, MayClose, stores_after, stores_after_all}
+use Rattle.fare_history.specs.Stores.{StoresValue, Session, Collects, Serves_owner, Closes_day, Retires_lane, Forgets, MayClose, MayForget, forgotten_by_ledger, stores_after, stores_after_all}
 use Rattle.fare_store.proofs.Entries.{put_all, put_here, is_one}
 use Rattle.fare_history.proofs.Entries.{all-weaken, all-append, all-left, all-right}
 use Rattle.fare_history.proofs.Growing.{items_first}
 use Rattle.fare_history.proofs.ServedPlainly.{upto_stays, stated_stays}
 use Rattle.fare_agreement.specs.Agreeing.{AreNumberedLists, IsOf, lane_agrees, Agrees}
-use Rattle.fare_agreement.specs.Growing.{OutboxGrew, LedgerGrew, StoresGrew}
-use Rattle.fare_agreement.specs.Stopping.{IsSessionOf, AreSessionsOf, IsBegunOf, IsMaybeCommitted, IsLeftBy, AreLeft, IsStored, IsTaken, AreKept, AreAnswered}
+use Rattle.fare_agreement.specs.Growing.{OutboxGrew, LedgerGrew, LedgerLasts, StoresGrew, IsStatedStill, StoresLast}
+use Rattle.fare_agreement.specs.Stopping.{IsSessionOf, AreSessionsOf, IsBegunOf, IsMaybeCommitted, IsLeftBy, AreLeft, IsStored, IsTaken, AreKept, AreAnswered, lets_go, LetNothingGo, AreKeptStill, AreAnsweredStill}
 use Rattle.fare_agreement.proofs.Collecting.{outbox_self, outbox_trans, covered_still, stored_still, answer_covered, Gathers, entries_gather, links_left, tried_keep}
 use Rattle.fare_agreement.proofs.LaneSteps.{close_right}
-use Rattle.fare_agreement.proofs.Takes.{ledger_self, ledger_trans, taken_still, TakesAll, items_taken, all_pruned, closes, close_grows, retire_agrees, retire_grows, forgets, forget_grows, forgot_from}
+use Rattle.fare_agreement.proofs.Takes.{ledger_self, ledger_trans, ledger_lasts, taken_still, TakesAll, items_taken, all_pruned, closes, close_grows, retire_agrees, retire_grows, forgets, forget_lasts, forgot_from}
+use Rattle.fare_agreement.proofs.Lasting.{stores_last, last_trans, kept_is_still, kept_lasts, answered_is_still, answered_lasts}
+use Rattle.fare_agreement.proofs.Untold.{untold_agrees, went}
 
 -- STORES THAT GREW
 pub stores_self : (h : StoresValue) → StoresGrew h h
@@ -40,7 +42,7 @@ kept_still sc h k grew (Collects g) is = (
   all-weaken (IsStored h.outbox) (IsStored k.outbox) (stored_still h.outbox k.outbox grew.outbox) (items_of g.entries) is.1,
 )
 kept_still sc h k grew (Serves_owner o v) is = all-weaken (IsTaken (h.ledgers o)) (IsTaken (k.ledgers o)) (taken_still (h.ledgers o) (k.ledgers o) (grew.ledgers o)) v.taken is
-kept_still sc h k grew (Forgets o d day) is = omega (arith, is, (grew.ledgers o).from d)
+kept_still sc h k grew (Forgets o d day) is = let same = (grew.ledgers o).from d in omega (arith, is, same)
 kept_still sc h k grew (Closes_day o d day) is = closed_still (h.ledgers o) (k.ledgers o) (grew.ledgers o) d day is
   where
     closed_still : (l m : LedgerValue) → LedgerGrew l m → (d day : ℕ) → is_closed l d day ≡ true → is_closed m d day ≡ true
@@ -54,6 +56,15 @@ module _ (sc : SchemeValue) (lists : ℕ → List RecordValue) (all : AreNumbere
   pub record Keeps (h k : StoresValue) : Type 0 where
     pub agrees : Agrees sc lists k
     pub grew : StoresGrew h k
+
+  -- the same, where something may be let go
+  pub record KeepsOrLetsGo (go : Bool) (h k : StoresValue) : Type 0 where
+    pub agrees : Agrees sc lists k
+    pub lasts : StoresLast h k
+    pub grew : go ≡ false → StoresGrew h k
+
+  kept_all : (go : Bool) (h k : StoresValue) → Keeps h k → KeepsOrLetsGo go h k
+  kept_all go h k one = record { agrees = one.agrees; lasts = stores_last h k one.grew; grew = λ _. one.grew }
 
   -- THE STATIONS AND THE WRITER
   module _ (h : StoresValue) (g : Gathering) (is : Agrees sc lists h) (of : AllByRecursion (IsOf lists) (accepted_by g)) (told : IsGathering sc h.outbox g) where
@@ -109,41 +120,81 @@ module _ (sc : SchemeValue) (lists : ℕ → List RecordValue) (all : AreNumbere
           stated = λ p d day c e. ap (λ (f : ℕ → ℕ → ℕ → Option ℕ). f p d day) (stated_stays h.outbox o (given_all l items) devices) ∙ e;
         }
 
+  -- LETTING GO
+  module _ (h : StoresValue) (o d day : ℕ) (known : knows_owner sc o ≡ true) (is : Agrees sc lists h) (may : MayForget (h.ledgers o) d day) where
+    abbrev alone : StoresValue
+    alone = forgotten_by_ledger o d day h
+
+    -- the ledger alone
+    alone_agrees : Agrees sc lists alone
+    alone_agrees = record {
+      lanes = λ p e known. put_all (λ p m. (e : ℕ) → knows_owner sc p ≡ true → lane_agrees lists h.outbox m p e) h.ledgers o (forgotten d day (h.ledgers o)) (λ p e known. is.lanes p e known)
+          (λ e known. forgets sc lists all o h.outbox (h.ledgers o) (λ e. is.lanes o e known) d day may e) p e known;
+      stated = is.stated;
+    }
+
+    ledgers_last : (p : ℕ) → LedgerLasts (h.ledgers p) (alone.ledgers p)
+    ledgers_last = put_all (λ p m. LedgerLasts (h.ledgers p) m) h.ledgers o (forgotten d day (h.ledgers o)) (λ p. ledger_lasts (h.ledgers p) (h.ledgers p) (ledger_self (h.ledgers p))) (forget_lasts sc lists all o h.outbox (h.ledgers o) (λ e. is.lanes o e known) d day may)
+
+    alone_lasts : StoresLast h alone
+    alone_lasts = record { upto = λ e. omega arith; stated = λ p e k c held. inl held; ledgers = ledgers_last }
+
+    forgot : day ≤ (alone.ledgers o).from d
+    forgot = subst (λ m. day ≤ m.from d) (sym (put_here h.ledgers o (forgotten d day (h.ledgers o)))) (forgot_from sc lists all o h.outbox (h.ledgers o) (λ e. is.lanes o e known) d day may)
+
+    -- and the outbox behind it
+    both_keep : KeepsOrLetsGo true h (stores_after h (Forgets o d day))
+    both_keep = record {
+      agrees = untold_agrees sc lists alone o d day alone_agrees;
+      lasts = record { upto = λ e. omega arith; stated = λ p e k c held. still p e k c (went h.outbox.stated o d day p e k c held); ledgers = ledgers_last };
+      grew = λ f. absurd (cc);
+    }
+      where
+        gone : (p e k : ℕ) → p ≡ o → e ≡ d → k < day → k < (alone.ledgers p).from e
+        gone p e k mine here less = subst (λ a. k < (alone.ledgers a).from e) (sym mine) (subst (λ b. k < (alone.ledgers o).from b) (sym here) (omega (arith, less, forgot)))
+
+        still : (p e k c : ℕ) → (put2 h.outbox.stated o d (stated_from day (h.outbox.stated o d)) p e k ≡ Some c) ⊎ ((p ≡ o) × (e ≡ d) × (k < day)) → IsStatedStill (stores_after h (Forgets o d day)) p e k c
+        still p e k c (inl f) = inl f
+        still p e k c (inr f) = inr (gone p e k f.0 f.1 f.2)
+
   -- ANY SESSION
-  pub session_keeps : (h : StoresValue) (q : Session) → Agrees sc lists h → IsSessionOf sc lists h q → Keeps h (stores_after h q)
-  session_keeps h (Collects g) is of = collects_keep h g is of.0 of.1
-  session_keeps h (Serves_owner o v) is of = serves h o of.0 is v.taken v.pruned (items_first o h.outbox (behind_ledger sc (h.ledgers o)) v.taken (in_hand v.hand ++ v.queue) of.1.items)
-  session_keeps h (Closes_day o d day) is of = record {
+  pub session_keeps : (h : StoresValue) (q : Session) → Agrees sc lists h → IsSessionOf sc lists h q → KeepsOrLetsGo (lets_go q) h (stores_after h q)
+  session_keeps h (Collects g) is of = kept_all false h (stores_after h (Collects g)) (collects_keep h g is of.0 of.1)
+  session_keeps h (Serves_owner o v) is of = kept_all false h (stores_after h (Serves_owner o v)) (serves h o of.0 is v.taken v.pruned (items_first o h.outbox (behind_ledger sc (h.ledgers o)) v.taken (in_hand v.hand ++ v.queue) of.1.items))
+  session_keeps h (Closes_day o d day) is of = kept_all false h (stores_after h (Closes_day o d day)) (record {
     agrees = record {
       lanes = λ p e known. put_all (λ p m. (e : ℕ) → knows_owner sc p ≡ true → lane_agrees lists h.outbox m p e) h.ledgers o (with_close d (h.ledgers o)) (λ p e known. is.lanes p e known)
           (λ e known. closes lists o h.outbox (h.ledgers o) (λ e. is.lanes o e of.0) d day of.1 of.2 e) p e known;
       stated = is.stated;
     };
     grew = record { outbox = outbox_self h.outbox; ledgers = put_all (λ p m. LedgerGrew (h.ledgers p) m) h.ledgers o (with_close d (h.ledgers o)) (λ p. ledger_self (h.ledgers p)) (close_grows lists o h.outbox (h.ledgers o) (λ e. is.lanes o e of.0) d day of.1 of.2) };
-  }
-  session_keeps h (Forgets o d day) is of = record {
-    agrees = record {
-      lanes = λ p e known. put_all (λ p m. (e : ℕ) → knows_owner sc p ≡ true → lane_agrees lists h.outbox m p e) h.ledgers o (forgotten d day (h.ledgers o)) (λ p e known. is.lanes p e known)
-          (λ e known. forgets sc lists all o h.outbox (h.ledgers o) (λ e. is.lanes o e of.0) d day of.1 e) p e known;
-      stated = is.stated;
-    };
-    grew = record { outbox = outbox_self h.outbox; ledgers = put_all (λ p m. LedgerGrew (h.ledgers p) m) h.ledgers o (forgotten d day (h.ledgers o)) (λ p. ledger_self (h.ledgers p)) (forget_grows sc lists all o h.outbox (h.ledgers o) (λ e. is.lanes o e of.0) d day of.1) };
-  }
-  session_keeps h (Retires_lane o d) is of = record {
+  })
+  session_keeps h (Forgets o d day) is of = both_keep h o d day of.0 is of.1
+  session_keeps h (Retires_lane o d) is of = kept_all false h (stores_after h (Retires_lane o d)) (record {
     agrees = record {
       lanes = λ p e known. put_all (λ p m. (e : ℕ) → knows_owner sc p ≡ true → lane_agrees lists h.outbox m p e) h.ledgers o (with_retired d (h.ledgers o)) (λ p e known. is.lanes p e known)
           (λ e known. retire_agrees lists o h.outbox (h.ledgers o) d (λ e. is.lanes o e of.0) e) p e known;
       stated = is.stated;
     };
     grew = record { outbox = outbox_self h.outbox; ledgers = put_all (λ p m. LedgerGrew (h.ledgers p) m) h.ledgers o (with_retired d (h.ledgers o)) (λ p. ledger_self (h.ledgers p)) (retire_grows (h.ledgers o) d) };
-  }
+  })
 
-  pub sessions_keep : (h : StoresValue) (qs : List Session) → Agrees sc lists h → AreSessionsOf sc lists h qs → Keeps h (stores_after_all h qs)
-  sessions_keep h [] is of = record { agrees = is; grew = stores_self h }
+  -- what sessions make of them, one after the other
+  pub record KeepAll (h k : StoresValue) (qs : List Session) : Type 0 where
+    pub agrees : Agrees sc lists k
+    pub lasts : StoresLast h k
+    pub grew : LetNothingGo qs → StoresGrew h k
+
+  pub sessions_keep : (h : StoresValue) (qs : List Session) → Agrees sc lists h → AreSessionsOf sc lists h qs → KeepAll h (stores_after_all h qs) qs
+  sessions_keep h [] is of = record { agrees = is; lasts = stores_last h h (stores_self h); grew = λ _. stores_self h }
   sessions_keep h (q ∷ qs) is of =
       let one = session_keeps h q is of.0 in
       let more = sessions_keep (stores_after h q) qs one.agrees of.1 in
-      record { agrees = more.agrees; grew = stores_trans h (stores_after h q) (stores_after_all (stores_after h q) qs) one.grew more.grew }
+      record {
+        agrees = more.agrees;
+        lasts = last_trans h (stores_after h q) (stores_after_all (stores_after h q) qs) one.lasts more.lasts;
+        grew = λ none. stores_trans h (stores_after h q) (stores_after_all (stores_after h q) qs) (one.grew none.0) (more.grew none.1);
+      }
 
   -- WHAT WAS ANSWERED
   closed_now : (l : LedgerValue) (d day : ℕ) → MayClose l d day → is_closed (with_close d l) d day ≡ true
@@ -158,14 +209,21 @@ module _ (sc : SchemeValue) (lists : ℕ → List RecordValue) (all : AreNumbere
       (items_taken lists o h.outbox (λ d. is.stated o d) (h.ledgers o) (behind_ledger sc (h.ledgers o)) v.taken (λ d. is.lanes o d of.0) (λ d. refl) (items_first o h.outbox (behind_ledger sc (h.ledgers o)) v.taken (in_hand v.hand ++ v.queue) of.1.items)).kept
   session_kept h (Closes_day o d day) is of = subst (λ m. is_closed m d day ≡ true) (sym (put_here h.ledgers o (with_close d (h.ledgers o)))) (closed_now (h.ledgers o) d day of.1)
   session_kept h (Retires_lane o d) is of = ap (λ (m : LedgerValue). m.retired d) (put_here h.ledgers o (with_retired d (h.ledgers o))) ∙ put_here (h.ledgers o).retired d true
-  session_kept h (Forgets o d day) is of = subst (λ m. day ≤ m.from d) (sym (put_here h.ledgers o (forgotten d day (h.ledgers o)))) (forgot_from sc lists all o h.outbox (h.ledgers o) (λ e. is.lanes o e of.0) d day of.1)
+  session_kept h (Forgets o d day) is of = forgot h o d day of.0 is of.1
 
-  pub sessions_kept : (h : StoresValue) (qs : List Session) → Agrees sc lists h → AreSessionsOf sc lists h qs → AllByRecursion (AreKept sc (stores_after_all h qs)) qs
-  sessions_kept h [] is of = tt
-  sessions_kept h (q ∷ qs) is of =
+  pub sessions_kept : (h : StoresValue) (qs : List Session) → Agrees sc lists h → AreSessionsOf sc lists h qs → LetNothingGo qs → AllByRecursion (AreKept sc (stores_after_all h qs)) qs
+  sessions_kept h [] is of none = tt
+  sessions_kept h (q ∷ qs) is of none =
       let one = session_keeps h q is of.0 in
       let more = sessions_keep (stores_after h q) qs one.agrees of.1 in
-      (kept_still sc (stores_after h q) (stores_after_all (stores_after h q) qs) more.grew q (session_kept h q is of.0), sessions_kept (stores_after h q) qs one.agrees of.1)
+      (kept_still sc (stores_after h q) (stores_after_all (stores_after h q) qs) (more.grew none.1) q (session_kept h q is of.0), sessions_kept (stores_after h q) qs one.agrees of.1 none.1)
+
+  pub sessions_last : (h : StoresValue) (qs : List Session) → Agrees sc lists h → AreSessionsOf sc lists h qs → AllByRecursion (AreKeptStill sc (stores_after_all h qs)) qs
+  sessions_last h [] is of = tt
+  sessions_last h (q ∷ qs) is of =
+      let one = session_keeps h q is of.0 in
+      let more = sessions_keep (stores_after h q) qs one.agrees of.1 in
+      (kept_lasts sc (stores_after h q) (stores_after_all (stores_after h q) qs) more.lasts q (kept_is_still sc (stores_after h q) q (session_kept h q is of.0)), sessions_last (stores_after h q) qs one.agrees of.1)
 
   -- A STOP
   answered_of : (h : StoresValue) (q : Session) → AreKept sc h q → AreAnswered sc h q
@@ -185,22 +243,28 @@ module _ (sc : SchemeValue) (lists : ℕ → List RecordValue) (all : AreNumbere
   -- what a stop in a session leaves agrees, and has what the session was answered
   pub record IsSafe (h k : StoresValue) (q : Session) : Type 0 where
     pub agrees : Agrees sc lists k
-    pub grew : StoresGrew h k
+    pub lasts : StoresLast h k
+    pub grew : lets_go q ≡ false → StoresGrew h k
     pub kept : AreAnswered sc k q
 
+  -- nothing happened
+  still_safe : (h : StoresValue) (q : Session) → Agrees sc lists h → AreAnswered sc h q → IsSafe h h q
+  still_safe h q is kept = record { agrees = is; lasts = stores_last h h (stores_self h); grew = λ _. stores_self h; kept = kept }
+
   whole_safe : (h : StoresValue) (q : Session) → Agrees sc lists h → IsSessionOf sc lists h q → IsSafe h (stores_after h q) q
-  whole_safe h q is of = let one = session_keeps h q is of in record { agrees = one.agrees; grew = one.grew; kept = answered_of (stores_after h q) q (session_kept h q is of) }
+  whole_safe h q is of = let one = session_keeps h q is of in record { agrees = one.agrees; lasts = one.lasts; grew = one.grew; kept = answered_of (stores_after h q) q (session_kept h q is of) }
 
   -- one step more
   more_safe : (h k m : StoresValue) (q : Session) → IsSafe h k q → Keeps k m → IsSafe h m q
-  more_safe h k m q safe one = record { agrees = one.agrees; grew = stores_trans h k m safe.grew one.grew; kept = answered_still k m one.grew q safe.kept }
+  more_safe h k m q safe one = record { agrees = one.agrees; lasts = last_trans h k m safe.lasts (stores_last k m one.grew); grew = λ none. stores_trans h k m (safe.grew none) one.grew; kept = answered_still k m one.grew q safe.kept }
 
   -- the ledger took these and maybe more, and lanes were pruned
   served_safe : (h : StoresValue) (o : ℕ) (v : Service) (more : List Item) (devices : List ℕ) → knows_owner sc o ≡ true → Agrees sc lists h → AreNextItems o h.outbox (behind_ledger sc (h.ledgers o)) (v.taken ++ more)
       → IsSafe h (record { outbox = pruned_to_all h.outbox o (given_all (h.ledgers o) (v.taken ++ more)) devices; ledgers = put h.ledgers o (given_all (h.ledgers o) (v.taken ++ more)) }) (Serves_owner o v)
   served_safe h o v more devices known is next = record {
     agrees = one.agrees;
-    grew = one.grew;
+    lasts = stores_last h (record { outbox = pruned_to_all h.outbox o (given_all (h.ledgers o) (v.taken ++ more)) devices; ledgers = put h.ledgers o (given_all (h.ledgers o) (v.taken ++ more)) }) one.grew;
+    grew = λ _. one.grew;
     kept = subst (λ m. AllByRecursion (IsTaken m) v.taken) (sym (put_here h.ledgers o (given_all (h.ledgers o) (v.taken ++ more)))) (all-left (IsTaken (given_all (h.ledgers o) (v.taken ++ more))) v.taken more taken.kept);
   }
     where
@@ -234,25 +298,34 @@ module _ (sc : SchemeValue) (lists : ℕ → List RecordValue) (all : AreNumbere
 
       taken_some : (w : Service) → IsMaybeCommitted v w → (ds : List ℕ) → IsSafe h (stores_after h (Serves_owner o (record w { pruned = ds }))) (Serves_owner o v)
       taken_some w some ds = subst (λ (u : Service). IsSafe h (stores_after h (Serves_owner o (record u { pruned = ds }))) (Serves_owner o v)) (sym some.1) (first_some v.hand some.0 refl ds)
-  stop_safe h k (Closes_day o d day) is of (inl e) = subst (λ m. IsSafe h m (Closes_day o d day)) (sym e) (record { agrees = is; grew = stores_self h; kept = tt })
+  stop_safe h k (Closes_day o d day) is of (inl e) = subst (λ m. IsSafe h m (Closes_day o d day)) (sym e) (still_safe h (Closes_day o d day) is tt)
   stop_safe h k (Closes_day o d day) is of (inr e) = subst (λ m. IsSafe h m (Closes_day o d day)) (sym e.1) (whole_safe h (Closes_day o d day) is (of.0, e.0, of.1))
-  stop_safe h k (Retires_lane o d) is of (inl e) = subst (λ m. IsSafe h m (Retires_lane o d)) (sym e) (record { agrees = is; grew = stores_self h; kept = tt })
+  stop_safe h k (Retires_lane o d) is of (inl e) = subst (λ m. IsSafe h m (Retires_lane o d)) (sym e) (still_safe h (Retires_lane o d) is tt)
   stop_safe h k (Retires_lane o d) is of (inr e) = subst (λ m. IsSafe h m (Retires_lane o d)) (sym e.1) (whole_safe h (Retires_lane o d) is (of, e.0))
-  stop_safe h k (Forgets o d day) is of (inl e) = subst (λ m. IsSafe h m (Forgets o d day)) (sym e) (record { agrees = is; grew = stores_self h; kept = tt })
-  stop_safe h k (Forgets o d day) is of (inr e) = subst (λ m. IsSafe h m (Forgets o d day)) (sym e.1) (whole_safe h (Forgets o d day) is (of, e.0))
+  stop_safe h k (Forgets o d day) is of (inl e) = subst (λ m. IsSafe h m (Forgets o d day)) (sym e) (still_safe h (Forgets o d day) is tt)
+  stop_safe h k (Forgets o d day) is of (inr (may, inl e)) = subst (λ m. IsSafe h m (Forgets o d day)) (sym e) (record { agrees = alone_agrees h o d day of is may; lasts = alone_lasts h o d day of is may; grew = λ f. absurd (cc); kept = tt })
+  stop_safe h k (Forgets o d day) is of (inr (may, inr e)) = subst (λ m. IsSafe h m (Forgets o d day)) (sym e) (whole_safe h (Forgets o d day) is (of, may))
 
   -- ANY LIST OF SESSIONS
   pub record AreSafe (h k : StoresValue) (qs : List Session) : Type 0 where
     pub agrees : Agrees sc lists k
-    pub grew : StoresGrew h k
-    pub kept : AllByRecursion (AreAnswered sc k) qs
+    pub lasts : StoresLast h k
+    pub grew : LetNothingGo qs → StoresGrew h k
+    pub kept : LetNothingGo qs → AllByRecursion (AreAnswered sc k) qs
+    pub last_kept : AllByRecursion (AreAnsweredStill sc k) qs
 
   pub stops_safe : (h k : StoresValue) (qs : List Session) → Agrees sc lists h → AreLeft sc lists h qs k → AreSafe h k qs
-  stops_safe h k [] is left = record { agrees = subst (Agrees sc lists) (sym left) is; grew = subst (StoresGrew h) (sym left) (stores_self h); kept = tt }
+  stops_safe h k [] is left = record { agrees = subst (Agrees sc lists) (sym left) is; lasts = subst (StoresLast h) (sym left) (stores_last h h (stores_self h)); grew = λ _. subst (StoresGrew h) (sym left) (stores_self h); kept = λ _. tt; last_kept = tt }
   stops_safe h k (q ∷ qs) is left =
       let one = stop_safe h left.0 q is left.1 left.2 in
       let more = stops_safe left.0 k qs one.agrees left.3 in
-      record { agrees = more.agrees; grew = stores_trans h left.0 k one.grew more.grew; kept = (answered_still left.0 k more.grew q one.kept, more.kept) }
+      record {
+        agrees = more.agrees;
+        lasts = last_trans h left.0 k one.lasts more.lasts;
+        grew = λ none. stores_trans h left.0 k (one.grew none.0) (more.grew none.1);
+        kept = λ none. (answered_still left.0 k (more.grew none.1) q one.kept, more.kept none.1);
+        last_kept = (answered_lasts sc left.0 k more.lasts q (answered_is_still sc left.0 q one.kept), more.last_kept);
+      }
 
 pub begun_of : (sc : SchemeValue) (lists : ℕ → List RecordValue) (h : StoresValue) (q : Session) → IsSessionOf sc lists h q → IsBegunOf sc lists h q
 begun_of sc lists h (Collects g) is = is

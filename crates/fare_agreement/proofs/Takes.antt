@@ -14,21 +14,43 @@ use Rattle.fare_store.specs.declared.fault.ForgetFault.TheVariants.{UnknownDevic
 use Rattle.fare_store.specs.Tables.{put}
 use Rattle.fare_store.specs.OutboxWords.{OutboxValue, behind}
 use Rattle.fare_store.specs.LedgerWords.{LedgerValue, is_closed, with_close, close_of, with_retired, blank, let_go, front, stated_from, forget_judged, forgotten}
+use Rattle.fare_world.specs.Headline.{IsPrefixOf}
 use Rattle.fare_world.specs.Knowing.{knows_owner}
 use Rattle.fare_world.proofs.Lanes.{closed_more}
-use Rattle.fare_world.proofs.Places.{slice_get-front, slice_get-end}
+use Rattle.fare_world.proofs.Places.{slice_get-end}
 use Rattle.fare_store.proofs.Entries.{put_all, put_both, put_here, is_one}
 use Rattle.fare_history.specs.Serving.{Cursors, IsComingRow, AreNextItems, moved_by, given, given_all, pruned_to, pruned_to_all}
 use Rattle.fare_history.specs.Stores.{StoresValue}
 use Rattle.fare_agreement.specs.Agreeing.{AreNumberedLists, had, AreCountsOf, LaneAgrees, lane_agrees, Agrees}
-use Rattle.fare_agreement.specs.Growing.{IsKept, LedgerGrew}
-use Rattle.fare_agreement.specs.Stopping.{IsTaken}
+use Rattle.fare_agreement.specs.Growing.{IsKept, LedgerGrew, LedgerLasts}
+use Rattle.fare_agreement.specs.Stopping.{IsTaken, IsTakenStill}
 use Rattle.fare_agreement.proofs.LaneSteps.{lane_next, lane_took, lane_stated, lane_pruned, lane_closed, lane_retired, lane_forgotten, close_right}
 use Rattle.fare_agreement.proofs.LettingGo.{held_kept}
 use Rattle.fare_agreement.proofs.Numbers.{lanes_count}
-use Rattle.fare_agreement.proofs.Prefixes.{prefix_at, part_front}
+use Rattle.fare_agreement.proofs.Prefixes.{prefix_self, prefix_trans, prefix_more, prefix_at, part_front}
 
 -- LEDGERS THAT GREW
+pub ledger_self : (l : LedgerValue) → LedgerGrew l l
+ledger_self l = record { owner = refl; start = refl; knows = λ d. refl; taken = λ d. prefix_self (l.taken d); stated = λ d day c e. e; closed = λ d. omega arith; retired = λ d e. e; from = λ d. refl }
+
+pub ledger_trans : (l m n : LedgerValue) → LedgerGrew l m → LedgerGrew m n → LedgerGrew l n
+ledger_trans l m n p q = record {
+  owner = q.owner ∙ p.owner;
+  start = q.start ∙ p.start;
+  knows = λ d. q.knows d ∙ p.knows d;
+  taken = λ d. prefix_trans (l.taken d) (m.taken d) (n.taken d) (p.taken d) (q.taken d);
+  stated = λ d day c e. q.stated d day c (p.stated d day c e);
+  closed = λ d. omega (arith, p.closed d, q.closed d);
+  retired = λ d e. q.retired d (p.retired d e);
+  from = λ d. q.from d ∙ p.from d;
+}
+
+-- what was taken stays taken
+pub taken_still : (l m : LedgerValue) → LedgerGrew l m → (i : Item) → IsTaken l i → IsTaken m i
+taken_still l m grew (item.Tap r) is = prefix_at (l.taken r.device) (m.taken r.device) (r.lane - 1) r (grew.taken r.device) is
+taken_still l m grew (item.Stated v) is = grew.stated v.device v.day v.count is
+
+-- OR WAS LET GO
 -- what was kept is kept on
 kept_on : (taken more : List RecordValue) (from later : ℕ) (k : ℕ) (r : RecordValue) → from ≤ later → ((q : RecordValue) → slice_get taken k ≡ Some q → IsKept more later k q) → IsKept taken from k r → IsKept more later k r
 kept_on taken more from later k r le still (inl e) = still r e
@@ -38,11 +60,20 @@ kept_on taken more from later k r le still (inr e) = inr (blanks (still blank e.
     blanks (inl e) = e
     blanks (inr e) = e.0
 
-pub ledger_self : (l : LedgerValue) → LedgerGrew l l
-ledger_self l = record { owner = refl; start = refl; knows = λ d. refl; taken = λ d k r e. inl e; stated = λ d day c e. inl e; closed = λ d. omega arith; retired = λ d e. e; from = λ d. omega arith }
+pub ledger_lasts : (l m : LedgerValue) → LedgerGrew l m → LedgerLasts l m
+ledger_lasts l m p = record {
+  owner = p.owner;
+  start = p.start;
+  knows = p.knows;
+  taken = λ d k r e. inl (prefix_at (l.taken d) (m.taken d) k r (p.taken d) e);
+  stated = λ d day c e. inl (p.stated d day c e);
+  closed = p.closed;
+  retired = p.retired;
+  from = λ d. omega (arith, p.from d);
+}
 
-pub ledger_trans : (l m n : LedgerValue) → LedgerGrew l m → LedgerGrew m n → LedgerGrew l n
-ledger_trans l m n p q = record {
+pub lasts_trans : (l m n : LedgerValue) → LedgerLasts l m → LedgerLasts m n → LedgerLasts l n
+lasts_trans l m n p q = record {
   owner = q.owner ∙ p.owner;
   start = q.start ∙ p.start;
   knows = λ d. q.knows d ∙ p.knows d;
@@ -56,10 +87,14 @@ ledger_trans l m n p q = record {
   from = λ d. omega (arith, p.from d, q.from d);
 }
 
-pub taken_still : (l m : LedgerValue) → LedgerGrew l m → (i : Item) → IsTaken l i → IsTaken m i
-taken_still l m grew (item.Tap r) is = kept_on (l.taken r.device) (m.taken r.device) (l.from r.device) (m.from r.device) (r.lane - 1) r (grew.from r.device) (grew.taken r.device (r.lane - 1)) is
-taken_still l m grew (item.Stated v) (inl is) = grew.stated v.device v.day v.count is
-taken_still l m grew (item.Stated v) (inr is) = inr (omega (arith, is, grew.from v.device))
+pub taken_lasts : (l m : LedgerValue) → LedgerLasts l m → (i : Item) → IsTakenStill l i → IsTakenStill m i
+taken_lasts l m last (item.Tap r) is = kept_on (l.taken r.device) (m.taken r.device) (l.from r.device) (m.from r.device) (r.lane - 1) r (last.from r.device) (last.taken r.device (r.lane - 1)) is
+taken_lasts l m last (item.Stated v) (inl is) = last.stated v.device v.day v.count is
+taken_lasts l m last (item.Stated v) (inr is) = inr (omega (arith, is, last.from v.device))
+
+pub taken_is_still : (l : LedgerValue) (i : Item) → IsTaken l i → IsTakenStill l i
+taken_is_still l (item.Tap r) is = inl is
+taken_is_still l (item.Stated v) is = inl is
 
 module _ (lists : ℕ → List RecordValue) (owner : ℕ) (x : OutboxValue) (counts : (d : ℕ) → AreCountsOf (part owner (lists d)) (x.stated owner d)) where
   abbrev pub Lanes : LedgerValue → Type 0
@@ -84,13 +119,13 @@ module _ (lists : ℕ → List RecordValue) (owner : ℕ) (x : OutboxValue) (cou
       owner = refl;
       start = refl;
       knows = λ d. refl;
-      taken = put_all (λ d (t : List RecordValue). (k : ℕ) (q : RecordValue) → slice_get (l.taken d) k ≡ Some q → IsKept t (l.from d) k q) l.taken r.device (l.taken r.device ++ r ∷ []) (λ d k q e. inl e) (λ k q e. inl (slice_get-front (l.taken r.device) (r ∷ []) k q e));
-      stated = λ d day k e. inl e;
+      taken = put_all (λ d (t : List RecordValue). IsPrefixOf (l.taken d) t) l.taken r.device (l.taken r.device ++ r ∷ []) (λ d. prefix_self (l.taken d)) (prefix_more (l.taken r.device) (r ∷ []));
+      stated = λ d day k e. e;
       closed = λ d. omega arith;
       retired = λ d e. e;
-      from = λ d. omega arith;
+      from = λ d. refl;
     };
-    kept = inl (ap (λ t. slice_get t (r.lane - 1)) (put_here l.taken r.device (l.taken r.device ++ r ∷ [])) ∙ ap (slice_get (l.taken r.device ++ r ∷ [])) place ∙ slice_get-end (l.taken r.device) r);
+    kept = ap (λ t. slice_get t (r.lane - 1)) (put_here l.taken r.device (l.taken r.device ++ r ∷ [])) ∙ ap (slice_get (l.taken r.device ++ r ∷ [])) place ∙ slice_get-end (l.taken r.device) r;
   }
     where
       lane : r.lane ≡ length (l.taken r.device) + 1
@@ -111,14 +146,14 @@ module _ (lists : ℕ → List RecordValue) (owner : ℕ) (x : OutboxValue) (cou
       owner = refl;
       start = refl;
       knows = λ d. refl;
-      taken = λ d k q e. inl e;
-      stated = put_all (λ d (s : ℕ → Option ℕ). (day k : ℕ) → l.stated d day ≡ Some k → (s day ≡ Some k) ⊎ (day < l.from d)) l.stated v.device (put (l.stated v.device) v.day (Some v.count)) (λ d day k e. inl e)
-          (put_all (λ day (o : Option ℕ). (k : ℕ) → l.stated v.device day ≡ Some k → (o ≡ Some k) ⊎ (day < l.from v.device)) (l.stated v.device) v.day (Some v.count) (λ day k e. inl e) (λ k e. inl (ap Some (right ∙ sym ((is v.device).stated_are.counted v.day k e)))));
+      taken = λ d. prefix_self (l.taken d);
+      stated = put_all (λ d (s : ℕ → Option ℕ). (day k : ℕ) → l.stated d day ≡ Some k → s day ≡ Some k) l.stated v.device (put (l.stated v.device) v.day (Some v.count)) (λ d day k e. e)
+          (put_all (λ day (o : Option ℕ). (k : ℕ) → l.stated v.device day ≡ Some k → o ≡ Some k) (l.stated v.device) v.day (Some v.count) (λ day k e. e) (λ k e. ap Some (right ∙ sym ((is v.device).stated_are.counted v.day k e))));
       closed = λ d. omega arith;
       retired = λ d e. e;
-      from = λ d. omega arith;
+      from = λ d. refl;
     };
-    kept = inl ((λ i. put_here l.stated v.device (put (l.stated v.device) v.day (Some v.count)) i v.day) ∙ put_here (l.stated v.device) v.day (Some v.count));
+    kept = (λ i. put_here l.stated v.device (put (l.stated v.device) v.day (Some v.count)) i v.day) ∙ put_here (l.stated v.device) v.day (Some v.count);
   }
     where
       right : v.count ≡ day_count (part owner (lists v.device)) v.day
@@ -189,11 +224,11 @@ module _ (lists : ℕ → List RecordValue) (owner : ℕ) (x : OutboxValue) (l :
     owner = refl;
     start = refl;
     knows = λ d. refl;
-    taken = λ d k q e. inl e;
-    stated = λ d day c e. inl e;
+    taken = λ d. prefix_self (l.taken d);
+    stated = λ d day c e. e;
     closed = put_all (λ d n. l.closed d ≤ n) l.closed device (l.closed device + 1) (λ d. omega arith) (omega arith);
     retired = λ d e. e;
-    from = λ d. omega arith;
+    from = λ d. refl;
   }
 
 -- A LANE IS RETIRED
@@ -205,10 +240,10 @@ retire_grows l device = record {
   owner = refl;
   start = refl;
   knows = λ d. refl;
-  taken = λ d k r e. inl e;
-  stated = λ d day c e. inl e;
+  taken = λ d. prefix_self (l.taken d);
+  stated = λ d day c e. e;
   closed = λ d. omega arith;
-  from = λ d. omega arith;
+  from = λ d. refl;
   retired = put_all (λ d b. l.retired d ≡ true → b ≡ true) l.retired device true (λ d e. e) (λ e. refl);
 }
 
@@ -241,8 +276,8 @@ module _ (sc : SchemeValue) (lists : ℕ → List RecordValue) (numbered : AreNu
       by true e = subst (λ j. LaneAgrees (part owner (lists j)) (had lists x owner j) (x.rows owner j) gone_on (stated_from day (l.stated device)) (is_closed l j) (max (l.from device) day) (l.start + l.closed j) (l.retired j)) (sym (is_one d device e)) (lane_forgotten _ _ _ _ _ _ _ _ _ (is device) day from_one closed_before)
       by false e = is d
 
-  pub forget_grows : LedgerGrew l (forgotten device day l)
-  forget_grows = record { owner = refl; start = refl; knows = λ d. refl; retired = λ d e. e; taken = λ d. taken d (d == device) refl; stated = λ d. stated d (d == device) refl; closed = λ d. omega arith; from = put_all (λ d n. l.from d ≤ n) l.from device (max (l.from device) day) (λ d. omega arith) (omega arith) }
+  pub forget_lasts : LedgerLasts l (forgotten device day l)
+  forget_lasts = record { owner = refl; start = refl; knows = λ d. refl; retired = λ d e. e; taken = λ d. taken d (d == device) refl; stated = λ d. stated d (d == device) refl; closed = λ d. omega arith; from = put_all (λ d n. l.from d ≤ n) l.from device (max (l.from device) day) (λ d. omega arith) (omega arith) }
     where
       taken : (d : ℕ) (b : Bool) → (d == device) ≡ b → (k : ℕ) (r : RecordValue) → slice_get (l.taken d) k ≡ Some r → IsKept (if b then gone_on else l.taken d) (if b then max (l.from device) day else l.from d) k r
       taken d true e k r at = held_kept (is device).all (l.from device) (l.start + l.closed device) (l.retired device) (l.taken device) (is device).taken_are day closed_before taken_numbered k r (ap (λ j. slice_get (l.taken j) k) (sym (is_one d device e)) ∙ at)

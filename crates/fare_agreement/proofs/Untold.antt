@@ -1,15 +1,15 @@
 -- What holds of an outbox from which statements went.
-use Rattle.std.proofs.Common.{◌≡◌, inl, inr, ℕ, ◌≤◌, ◌==◌, nat_lt, true, false, List, Option, Some, None, refl, sym, ap, ◌∙◌, arith}
+use Rattle.std.proofs.Common.{◌≡◌, inl, inr, ℕ, ◌<◌, ◌≤◌, ◌==◌, nat_lt, true, false, List, Option, Some, None, refl, sym, ap, ◌∙◌, arith}
+use Rattle.std.specs.Prelude.{◌⊎◌}
 use Rattle.std.proofs.lemmas.Bool.{cases_Bool}
 use Rattle.std.proofs.lemmas.Bool.Decides.{nat_tests}
 use Rattle.fare_record.specs.Values.{RecordValue, StatementValue}
 use Rattle.fare_scheme.specs.Values.{SchemeValue}
 use Rattle.fare_store.specs.Tables.{put2}
 use Rattle.fare_store.specs.LedgerWords.{stated_from}
-use Rattle.fare_store.specs.OutboxWords.{OutboxValue, IsNextStatement}
+use Rattle.fare_store.specs.OutboxWords.{OutboxValue, IsNextStatement, without_statements}
 use Rattle.fare_history.specs.Stores.{StoresValue}
 use Rattle.fare_agreement.specs.Agreeing.{Agrees}
-use Rattle.fare_agreement.specs.Untelling.{untold}
 
 equal : (a b : ℕ) → (a == b) ≡ true → a ≡ b
 equal a b is = grind (arith, nat_tests)
@@ -40,13 +40,26 @@ was held owner device day o d e count is = elim (cases_Bool (nat_lt e day)) [
   ]
 ]
 
-pub untold_agrees : (sc : SchemeValue) (lists : ℕ → List RecordValue) (h : StoresValue) (owner device day : ℕ) → Agrees sc lists h → Agrees sc lists (record h { outbox = untold owner device day h.outbox })
+-- what was there is there still, or it went
+pub went : (held : ℕ → ℕ → ℕ → Option ℕ) (owner device day o d e count : ℕ) → held o d e ≡ Some count → (put2 held owner device (stated_from day (held owner device)) o d e ≡ Some count) ⊎ ((o ≡ owner) × (d ≡ device) × (e < day))
+went held owner device day o d e count is = elim (cases_Bool (nat_lt e day)) [
+  | inr late ↦ inl (stays held owner device day o d e late ∙ is)
+  | inl early ↦ elim (cases_Bool (o == owner)) [
+    | inr other ↦ inl (rw other is)
+    | inl mine ↦ elim (cases_Bool (d == device)) [
+      | inr other ↦ inl (rw (mine, other) (ap (λ k. held k d e) (sym (equal o owner mine)) ∙ is))
+      | inl here ↦ inr (equal o owner mine, equal d device here, let less : e < day = grind (arith, nat_tests) in less)
+    ]
+  ]
+]
+
+pub untold_agrees : (sc : SchemeValue) (lists : ℕ → List RecordValue) (h : StoresValue) (owner device day : ℕ) → Agrees sc lists h → Agrees sc lists (record h { outbox = without_statements owner device day h.outbox })
 untold_agrees sc lists h owner device day is = record {
   lanes = is.lanes;
   stated = λ o d. record { counted = λ e count held. (is.stated o d).counted e count (was h.outbox.stated owner device day o d e count held) };
 }
 
-pub untold_asked : (x : OutboxValue) (owner device day from : ℕ) (next : Option StatementValue) → day ≤ from → IsNextStatement x.stated owner device from next → IsNextStatement (untold owner device day x).stated owner device from next
+pub untold_asked : (x : OutboxValue) (owner device day from : ℕ) (next : Option StatementValue) → day ≤ from → IsNextStatement x.stated owner device from next → IsNextStatement (without_statements owner device day x).stated owner device from next
 untold_asked x owner device day from None low none = λ e behind. stays x.stated owner device day owner device e (grind (arith, nat_tests)) ∙ none e behind
 untold_asked x owner device day from (Some s) low it =
     let late : nat_lt s.day day ≡ false = let b = it.not_before in grind (arith, nat_tests) in

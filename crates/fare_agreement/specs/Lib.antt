@@ -6,4 +6,3 @@ pub mod Totals
 pub mod Parts
 pub mod Attempted
 pub mod WorkedStop
-pub mod Untelling

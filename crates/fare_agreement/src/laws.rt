@@ -11,7 +11,7 @@ ghost use Rattle.fare_cap.specs.Fares.{week_start};
 ghost use Rattle.fare_cap.specs.Bills.{bill_of};
 ghost use Rattle.fare_owner.specs.declared.closing.CloseFault.TheVariants.{CountsShort};
 ghost use Rattle.fare_store.specs.Tables.{put};
-ghost use Rattle.fare_store.specs.OutboxWords.{OutboxValue, IsEmptyOutbox, IsNextStatement, pruned};
+ghost use Rattle.fare_store.specs.OutboxWords.{OutboxValue, IsEmptyOutbox, IsNextStatement, pruned, without_statements};
 ghost use Rattle.fare_store.specs.LedgerWords.{LedgerValue, IsOfScheme, IsEmptyLedger, close_of, with_close, AreTapsBetween};
 ghost use Rattle.fare_side.specs.Weeks.{open_of};
 ghost use Rattle.fare_world.specs.Kept.{IsSystem};
@@ -27,25 +27,29 @@ ghost use Rattle.fare_refinement.specs.Sessions.{ShowsStores, AreSessions};
 ghost use Rattle.fare_agreement.specs.Parts.{parts_of, first_forgotten};
 ghost use Rattle.fare_agreement.specs.Totals.{had_by, held_by, stored_new, taken_new};
 ghost use Rattle.fare_agreement.specs.Agreeing.{AreNumberedLists, IsOf, had, Agrees, numbered_by_devices};
-ghost use Rattle.fare_agreement.specs.Growing.{StoresGrew};
-ghost use Rattle.fare_agreement.specs.Stopping.{is_known, with_link_alone, with_row_alone, IsSessionOf, AreSessionsOf, IsBegunOf, AreKept, IsLeftBy, AreAnswered, AreLeft};
+ghost use Rattle.fare_agreement.specs.Growing.{StoresGrew, StoresLast};
+ghost use Rattle.fare_agreement.specs.Stopping.{is_known, with_link_alone, with_row_alone, IsSessionOf, AreSessionsOf, IsBegunOf, AreKept, IsLeftBy, AreAnswered, AreLeft, lets_go, LetNothingGo, AreKeptStill, AreAnsweredStill};
 ghost use Rattle.fare_agreement.specs.Told.{told_sessions};
-ghost use Rattle.fare_agreement.specs.Untelling.{untold};
 
 /// Sessions whose items are those of the lists, one after the other, lead from stores that agree with the lists
-/// to stores that do. No number falls, and no tap, statement, closed day or retired lane goes, but what was let go. What was acknowledged,
-/// stored, taken, closed or retired in any of them is in the stores in the end.
+/// to stores that do. Where none of them lets anything go, no number falls, and no tap, statement, closed day or retired
+/// lane goes, and what was acknowledged, stored, taken, closed or retired in any of them is in the stores in the end. Where
+/// some do, all of that lasts but the taps and statements that were let go, and these are of days before the one from which
+/// on the owner's ledger holds all.
 pub fn sessions_keep_agreement()
     ensures agrees { (sc : SchemeValue) (lists : ℕ → List RecordValue) (h : StoresValue) (qs : List Session) → AreNumberedLists sc lists → Agrees sc lists h → AreSessionsOf sc lists h qs → Agrees sc lists (stores_after_all h qs) }
-    ensures grew { (sc : SchemeValue) (lists : ℕ → List RecordValue) (h : StoresValue) (qs : List Session) → AreNumberedLists sc lists → Agrees sc lists h → AreSessionsOf sc lists h qs → StoresGrew h (stores_after_all h qs) }
-    ensures kept { (sc : SchemeValue) (lists : ℕ → List RecordValue) (h : StoresValue) (qs : List Session) → AreNumberedLists sc lists → Agrees sc lists h → AreSessionsOf sc lists h qs → AllByRecursion (AreKept sc (stores_after_all h qs)) qs }
+    ensures grew { (sc : SchemeValue) (lists : ℕ → List RecordValue) (h : StoresValue) (qs : List Session) → AreNumberedLists sc lists → Agrees sc lists h → AreSessionsOf sc lists h qs → LetNothingGo qs → StoresGrew h (stores_after_all h qs) }
+    ensures kept { (sc : SchemeValue) (lists : ℕ → List RecordValue) (h : StoresValue) (qs : List Session) → AreNumberedLists sc lists → Agrees sc lists h → AreSessionsOf sc lists h qs → LetNothingGo qs → AllByRecursion (AreKept sc (stores_after_all h qs)) qs }
+    ensures lasts { (sc : SchemeValue) (lists : ℕ → List RecordValue) (h : StoresValue) (qs : List Session) → AreNumberedLists sc lists → Agrees sc lists h → AreSessionsOf sc lists h qs → StoresLast h (stores_after_all h qs) }
+    ensures still { (sc : SchemeValue) (lists : ℕ → List RecordValue) (h : StoresValue) (qs : List Session) → AreNumberedLists sc lists → Agrees sc lists h → AreSessionsOf sc lists h qs → AllByRecursion (AreKeptStill sc (stores_after_all h qs)) qs }
 {}
 
 /// The same of what a stop in a session leaves: what the session had made of the stores until then, or also
 /// what the store call that failed commits. What the session was answered is in it.
 pub fn a_stop_keeps_agreement()
     ensures agrees { (sc : SchemeValue) (lists : ℕ → List RecordValue) (h k : StoresValue) (q : Session) → AreNumberedLists sc lists → Agrees sc lists h → IsBegunOf sc lists h q → IsLeftBy h q k → Agrees sc lists k }
-    ensures grew { (sc : SchemeValue) (lists : ℕ → List RecordValue) (h k : StoresValue) (q : Session) → AreNumberedLists sc lists → Agrees sc lists h → IsBegunOf sc lists h q → IsLeftBy h q k → StoresGrew h k }
+    ensures grew { (sc : SchemeValue) (lists : ℕ → List RecordValue) (h k : StoresValue) (q : Session) → AreNumberedLists sc lists → Agrees sc lists h → IsBegunOf sc lists h q → IsLeftBy h q k → lets_go q ≡ false → StoresGrew h k }
+    ensures lasts { (sc : SchemeValue) (lists : ℕ → List RecordValue) (h k : StoresValue) (q : Session) → AreNumberedLists sc lists → Agrees sc lists h → IsBegunOf sc lists h q → IsLeftBy h q k → StoresLast h k }
     ensures kept { (sc : SchemeValue) (lists : ℕ → List RecordValue) (h k : StoresValue) (q : Session) → AreNumberedLists sc lists → Agrees sc lists h → IsBegunOf sc lists h q → IsLeftBy h q k → AreAnswered sc k q }
     ensures begun { (sc : SchemeValue) (lists : ℕ → List RecordValue) (h : StoresValue) (q : Session) → IsSessionOf sc lists h q → IsBegunOf sc lists h q }
 {}
@@ -53,8 +57,10 @@ pub fn a_stop_keeps_agreement()
 /// The same of sessions one after the other, each whole or stopped.
 pub fn stops_keep_agreement()
     ensures agrees { (sc : SchemeValue) (lists : ℕ → List RecordValue) (h k : StoresValue) (qs : List Session) → AreNumberedLists sc lists → Agrees sc lists h → AreLeft sc lists h qs k → Agrees sc lists k }
-    ensures grew { (sc : SchemeValue) (lists : ℕ → List RecordValue) (h k : StoresValue) (qs : List Session) → AreNumberedLists sc lists → Agrees sc lists h → AreLeft sc lists h qs k → StoresGrew h k }
-    ensures kept { (sc : SchemeValue) (lists : ℕ → List RecordValue) (h k : StoresValue) (qs : List Session) → AreNumberedLists sc lists → Agrees sc lists h → AreLeft sc lists h qs k → AllByRecursion (AreAnswered sc k) qs }
+    ensures grew { (sc : SchemeValue) (lists : ℕ → List RecordValue) (h k : StoresValue) (qs : List Session) → AreNumberedLists sc lists → Agrees sc lists h → AreLeft sc lists h qs k → LetNothingGo qs → StoresGrew h k }
+    ensures kept { (sc : SchemeValue) (lists : ℕ → List RecordValue) (h k : StoresValue) (qs : List Session) → AreNumberedLists sc lists → Agrees sc lists h → AreLeft sc lists h qs k → LetNothingGo qs → AllByRecursion (AreAnswered sc k) qs }
+    ensures lasts { (sc : SchemeValue) (lists : ℕ → List RecordValue) (h k : StoresValue) (qs : List Session) → AreNumberedLists sc lists → Agrees sc lists h → AreLeft sc lists h qs k → StoresLast h k }
+    ensures still { (sc : SchemeValue) (lists : ℕ → List RecordValue) (h k : StoresValue) (qs : List Session) → AreNumberedLists sc lists → Agrees sc lists h → AreLeft sc lists h qs k → AllByRecursion (AreAnsweredStill sc k) qs }
 {}
 
 /// What a session says in plain sentences it says also of what a stop in it leaves: what an owner's session did, and
@@ -127,6 +133,6 @@ pub fn the_order_of_commits_matters()
 /// An owner's statements of a device's days before one may go from an outbox: stores that agreed agree, and what is
 /// asked of the lane's statements from that day on, or a later one, is answered as it was.
 pub fn statements_may_go()
-    ensures agrees { (sc : SchemeValue) (lists : ℕ → List RecordValue) (h : StoresValue) (owner device day : ℕ) → Agrees sc lists h → Agrees sc lists (record h { outbox = untold owner device day h.outbox }) }
-    ensures asked { (x : OutboxValue) (owner device day from : ℕ) (next : Option StatementValue) → day ≤ from → IsNextStatement x.stated owner device from next → IsNextStatement (untold owner device day x).stated owner device from next }
+    ensures agrees { (sc : SchemeValue) (lists : ℕ → List RecordValue) (h : StoresValue) (owner device day : ℕ) → Agrees sc lists h → Agrees sc lists (record h { outbox = without_statements owner device day h.outbox }) }
+    ensures asked { (x : OutboxValue) (owner device day from : ℕ) (next : Option StatementValue) → day ≤ from → IsNextStatement x.stated owner device from next → IsNextStatement (without_statements owner device day x).stated owner device from next }
 {}

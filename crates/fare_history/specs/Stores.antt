@@ -1,7 +1,7 @@
 -- The stores of a hub, and what its sessions make of them.
 use Rattle.std.specs.Prelude.{◌≡◌, ℕ, Ok, List, [], ◌∷◌}
 use Rattle.fare_store.specs.Tables.{put}
-use Rattle.fare_store.specs.OutboxWords.{OutboxValue}
+use Rattle.fare_store.specs.OutboxWords.{OutboxValue, without_statements}
 use Rattle.fare_store.specs.LedgerWords.{LedgerValue, with_close, close_of, with_retired, retire_of, forget_judged, forgotten}
 use Rattle.fare_history.specs.Serving.{given_all, pruned_to_all, Service}
 use Rattle.fare_history.specs.Gathering.{Gathering, storing_all}
@@ -23,13 +23,17 @@ MayRetire l device = retire_of l device ≡ Ok tt
 abbrev pub MayForget : LedgerValue → ℕ → ℕ → Type 0
 MayForget l device day = forget_judged l device day ≡ Ok tt
 
--- what a hub does from session to session: a session of the stations and the writer, one of an owner, the close of an owner's day of a device, the end of its lane of one, or the letting go of what is of the device's days before one
+-- what a hub does from session to session: a session of the stations and the writer, one of an owner, the close of an owner's day of a device, the end of its lane of one, or the letting go of what is of the device's days before one, of its ledger and of the outbox's statements
 pub data Session : Type 0 where
   Collects : Gathering → Session
   Serves_owner : ℕ → Service → Session
   Closes_day : ℕ → ℕ → ℕ → Session
   Retires_lane : ℕ → ℕ → Session
   Forgets : ℕ → ℕ → ℕ → Session
+
+-- the stores whose ledger of an owner let go what is of the device's days before this one, and whose outbox did not
+abbrev pub forgotten_by_ledger : ℕ → ℕ → ℕ → StoresValue → StoresValue
+forgotten_by_ledger owner device day h = record h { ledgers = put h.ledgers owner (forgotten device day (h.ledgers owner)) }
 
 -- what a session makes of the stores
 abbrev pub stores_after : StoresValue → Session → StoresValue
@@ -40,7 +44,10 @@ stores_after h (Serves_owner owner v) = record {
 }
 stores_after h (Closes_day owner device day) = record h { ledgers = put h.ledgers owner (with_close device (h.ledgers owner)) }
 stores_after h (Retires_lane owner device) = record h { ledgers = put h.ledgers owner (with_retired device (h.ledgers owner)) }
-stores_after h (Forgets owner device day) = record h { ledgers = put h.ledgers owner (forgotten device day (h.ledgers owner)) }
+stores_after h (Forgets owner device day) = record {
+  outbox = without_statements owner device day h.outbox;
+  ledgers = put h.ledgers owner (forgotten device day (h.ledgers owner));
+}
 
 -- and what sessions do, one after the other
 abbrev pub stores_after_all : StoresValue → List Session → StoresValue

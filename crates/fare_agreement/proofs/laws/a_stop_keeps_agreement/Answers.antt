@@ -12,3 +12,6 @@ returns-clause-kept c = λ sc lists h k q all is of left. (stop_safe sc lists al
 
 pub returns-clause-begun : goal.returns-clause-begun
 returns-clause-begun c = begun_of
+
+pub returns-clause-lasts : goal.returns-clause-lasts
+returns-clause-lasts c = λ sc lists h k q all is of left. (stop_safe sc lists all h k q is of left).lasts

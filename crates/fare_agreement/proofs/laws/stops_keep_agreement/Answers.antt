@@ -9,3 +9,9 @@ returns-clause-grew c = λ sc lists h k qs all is left. (stops_safe sc lists all
 
 pub returns-clause-kept : goal.returns-clause-kept
 returns-clause-kept c = λ sc lists h k qs all is left. (stops_safe sc lists all h k qs is left).kept
+
+pub returns-clause-lasts : goal.returns-clause-lasts
+returns-clause-lasts c = λ sc lists h k qs all is left. (stops_safe sc lists all h k qs is left).lasts
+
+pub returns-clause-still : goal.returns-clause-still
+returns-clause-still c = λ sc lists h k qs all is left. (stops_safe sc lists all h k qs is left).last_kept
