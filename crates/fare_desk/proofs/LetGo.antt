@@ -9,100 +9,37 @@ use Rattle.std.proofs.lemmas.Grind.{flat_map-append}
 use Rattle.std.proofs.lemmas.List.{map-append, take-append-drop}
 use Rattle.fare_scheme.specs.Values.{SchemeValue}
 use Rattle.fare_scheme.specs.Words.{id_at}
-use Rattle.fare_store.specs.declared.fault.ForgetFault.{ForgetFault}
 use Rattle.fare_store.specs.declared.fault.Fault.{Fault}
-use Rattle.fare_store.specs.declared.fault.Refused.{Refused}
-use Rattle.fare_store.specs.declared.fault.Refused.TheVariants.{Because, Failed}
-use Rattle.fare_store.specs.Standing.{Standing, IsSound, Writes}
-use Rattle.fare_store.specs.Tables.{put}
+use Rattle.fare_store.specs.Standing.{Standing}
 use Rattle.fare_store.specs.OutboxWords.{OutboxValue}
-use Rattle.fare_store.specs.LedgerWords.{LedgerValue, closed_through, forget_judged, forgotten, gone_of}
-use Rattle.fare_store.proofs.Entries.{put_here}
-use Rattle.fare_history.specs.Holding.{MayHold, Leads, IsFit}
-use Rattle.fare_history.specs.Stores.{StoresValue, MayForget, Forgets, stores_after}
-use Rattle.fare_history.proofs.Holds.{done_leads, write_leads}
-use Rattle.fare_agreement.specs.Attempted.{IsForgottenFrom}
+use Rattle.fare_store.specs.LedgerWords.{LedgerValue, closed_through, gone_of}
+use Rattle.fare_history.specs.Stores.{StoresValue, Forgets}
 use Rattle.fare_agreement.specs.Stopping.{IsLeftBy}
 use Rattle.fare_sessions.specs.declared.hub.Hub.{Hub}
-use Rattle.fare_sessions.specs.declared.forgetting.ForgettingFault.{ForgettingFault}
-use Rattle.fare_sessions.specs.Billing.{HasForgotten, as_forgetting, day_behind, first_unclosed}
-use Rattle.fare_sessions.specs.Stores.{AreClean, AreSound, StoresFollow, MayStandAs}
-use Rattle.fare_sessions.proofs.Billed.{put_self}
+use Rattle.fare_sessions.specs.Billing.{day_behind, first_unclosed}
+use Rattle.fare_sessions.specs.Stores.{AreClean, AreSound, MayStandAs, ComesOf}
 use Rattle.fare_sessions.proofs.Follow.{clean_back}
 use Rattle.fare_sessions.proofs.NextClose.{behind_last}
-use Rattle.fare_sessions.proofs.Steps.{put_back, stood_before, own_stands}
-use Rattle.fare_desk.specs.Closing.{GoesOn, lanes_with}
-use Rattle.fare_desk.specs.Forgetting.{AreGoneLines, HasRest, LeavesSome, LetsGo, gone_line, gone_lines, is_over, lane_gone, let_lane_go, let_lanes_go, went, without}
-use Rattle.fare_desk.specs.Retiring.{ComesOf}
+use Rattle.fare_desk.specs.Closing.{GoesOnLettingGo, lanes_with}
+use Rattle.fare_desk.specs.Forgetting.{AreGoneLines, HasRest, LeavesSome, LetsGo, LetsSomeGo, gone_line, gone_lines, is_over, lane_gone, let_lane_go, let_lanes_go, went, without}
 use Rattle.fare_desk.specs.Showing.{OnlyAsks}
 use Rattle.fare_desk.specs.declared.fault.DeskFault.{DeskFault}
 use Rattle.fare_desk.specs.declared.forgetting.LaneGone.{LaneGone}
-use Rattle.fare_desk.proofs.Going.{goes_self, goes_join, goes_asks}
+use Rattle.fare_desk.proofs.Going.{letting_self, letting_join, letting_asks}
 use Rattle.fare_desk.proofs.Lanes.{keys_more, lanes_over}
-use Rattle.fare_desk.proofs.Retires.{with_ledger}
-use Rattle.fare_desk.proofs.Without.{gone_rest, left_rest, without_twice}
-
--- ONE LEDGER
-answered_ok : (a : Result Unit (Refused ForgetFault)) → Ok tt ≡ as_forgetting a → a ≡ Ok tt
-answered_ok (Ok u) e = refl
-answered_ok (Err (Because why)) e = absurd (cc)
-answered_ok (Err (Failed f)) e = absurd (cc)
-
-module _ (owner device day : ℕ) (k : StoresValue) (l : LedgerValue) where
-  here : put k.ledgers owner l owner ≡ l
-  here = put_here k.ledgers owner l
-
-  one_gone : k.ledgers owner ≡ forgotten device day l → k ≡ without day owner device (with_ledger owner k l)
-  one_gone is =
-      let done : k.ledgers owner ≡ forgotten device day (put k.ledgers owner l owner) = is ∙ ap (forgotten device day) (sym here) in
-      λ i. record { outbox = k.outbox; ledgers = sym (put_back k.ledgers owner l (forgotten device day (put k.ledgers owner l owner)) done) i }
-
-  may_be_gone : IsForgottenFrom device day l (k.ledgers owner) → IsLeftBy (with_ledger owner k l) (Forgets owner device day) k
-  may_be_gone (inl e) = let same = sym (put_self k.ledgers owner) ∙ ap (put k.ledgers owner) e in inl (λ i. record { outbox = k.outbox; ledgers = same i })
-  may_be_gone (inr is) = inr (subst (λ x. MayForget x device day) (sym here) is.0, one_gone is.1)
+use Rattle.fare_desk.proofs.Without.{left_rest}
 
 -- A HUB
 module _ {O L : Type 0} (outbox : O → Standing OutboxValue) (ledger : L → Standing LedgerValue) where
-  module _ (old new : Hub O L) (owner device day : ℕ) (result : Result Unit (Refused ForgettingFault)) (h : HasForgotten ledger old new owner device day result) (sound_old : IsSound (ledger h.one.own_old)) (sound_new : IsSound (ledger h.one.own_new)) where
-    abbrev v : LedgerValue
-    v = (ledger h.one.own_old).value
-
-    -- what one ledger leads to, of the stores
-    step : (R : LedgerValue → LedgerValue → Type 0) (S : StoresValue → StoresValue → Type 0) → (AreClean outbox ledger new → AreSound outbox ledger old → Leads R (ledger h.one.own_old) (ledger h.one.own_new)) → ((k : StoresValue) (l : LedgerValue) → R l (k.ledgers owner) → S (with_ledger owner k l) k)
-        → ComesOf outbox ledger old new S
-    step R S leads makes = record {
-      came = λ clean sound k may.
-          let l = (leads clean sound).leads (k.ledgers owner) (own_stands outbox ledger old new owner h.one k may) in
-          let stood = stood_before outbox ledger old new owner h.one k may k.outbox (subst (λ z. MayHold (outbox z) k.outbox) h.outbox_same may.outbox_may) l.0 l.1 in
-          (with_ledger owner k l.0, stood, makes k l.0 l.2);
-    }
-
-    fit : AreSound outbox ledger old → IsFit (ledger h.one.own_old)
-    fit sound = record { sound = sound_old; lawful = sound.lawful.ledgers_are h.one.place h.one.own_old h.one.was }
-
-    own_clean : AreClean outbox ledger new → (ledger h.one.own_new).clean
-    own_clean clean = clean.ledgers_are h.one.place h.one.own_new h.one.is
-
-    pub once_gone : result ≡ Ok tt → ComesOf outbox ledger old new (λ h k. k ≡ without day owner device h)
-    once_gone ok =
-        step (λ l m. (forget_judged l device day ≡ Ok tt) × (m ≡ forgotten device day l)) (λ h k. k ≡ without day owner device h)
-        (λ clean sound. done_leads (λ l. forget_judged l device day) (forgotten device day) (ledger h.one.own_old) (ledger h.one.own_new) (subst (Writes (ledger h.one.own_old) (ledger h.one.own_new) (forget_judged v device day) (forgotten device day v)) (answered_ok h.answer (sym ok ∙ h.told)) h.writes) (fit sound) sound_new (own_clean clean))
-        (λ k l is. one_gone owner device day k l is.1)
-
-    pub once_left : ComesOf outbox ledger old new (λ h k. IsLeftBy h (Forgets owner device day) k)
-    once_left =
-        step (IsForgottenFrom device day) (λ h k. IsLeftBy h (Forgets owner device day) k)
-        (λ clean sound. write_leads (λ l. forget_judged l device day) (forgotten device day) (ledger h.one.own_old) (ledger h.one.own_new) h.answer h.writes (fit sound) (own_clean clean))
-        (λ k l may. may_be_gone owner device day k l may)
-
   -- CALL AFTER CALL
+  -- what comes of stores by one relation comes of them by a weaker one
   pub comes_loosened : (old new : Hub O L) (R S : StoresValue → StoresValue → Type 0) → ((h k : StoresValue) → R h k → S h k) → ComesOf outbox ledger old new R → ComesOf outbox ledger old new S
   comes_loosened old new R S weaker comes = record { came = λ clean sound k may. (let was = comes.came clean sound k may in (was.0, was.1, weaker was.0 k was.2)) }
 
   pub comes_same : (old new : Hub O L) → OnlyAsks outbox ledger old new → ComesOf outbox ledger old new (λ h k. k ≡ h)
   comes_same old new asks = record { came = λ clean sound k may. (k, asks.same clean sound k may, refl) }
 
-  pub comes_then : (a b c : Hub O L) (R S T : StoresValue → StoresValue → Type 0) → GoesOn outbox ledger a b → GoesOn outbox ledger b c → ComesOf outbox ledger a b R → ComesOf outbox ledger b c S → ((h m k : StoresValue) → R h m → S m k → T h k) → ComesOf outbox ledger a c T
+  pub comes_then : (a b c : Hub O L) (R S T : StoresValue → StoresValue → Type 0) → GoesOnLettingGo outbox ledger a b → GoesOnLettingGo outbox ledger b c → ComesOf outbox ledger a b R → ComesOf outbox ledger b c S → ((h m k : StoresValue) → R h m → S m k → T h k) → ComesOf outbox ledger a c T
   comes_then a b c R S T f g first second joins = record {
     came = λ clean sound k may.
         let late = second.came clean (f.sound sound) k may in
@@ -110,45 +47,34 @@ module _ {O L : Type 0} (outbox : O → Standing OutboxValue) (ledger : L → St
         (early.0, early.1, joins early.0 late.0 k early.2 late.2);
   }
 
-  -- REST
-  pub rest_asked : (old new : Hub O L) (day owner device : ℕ) → OnlyAsks outbox ledger old new → ComesOf outbox ledger old new (HasRest day owner device)
-  rest_asked old new day owner device asks = comes_loosened old new (λ h k. k ≡ h) (HasRest day owner device) (λ h k same. ap (without day owner device) same) (comes_same old new asks)
+  -- SOME DAYS OF A LANE
+  module _ (day owner device : ℕ) where
+    abbrev LetsSome : Hub O L → Hub O L → Type 0
+    LetsSome = LetsSomeGo outbox ledger day owner device
 
-  pub rest_then : (a b c : Hub O L) (day owner device : ℕ) → GoesOn outbox ledger a b → GoesOn outbox ledger b c → ComesOf outbox ledger a b (HasRest day owner device) → ComesOf outbox ledger b c (HasRest day owner device) → ComesOf outbox ledger a c (HasRest day owner device)
-  rest_then a b c day owner device f g first second = comes_then a b c (HasRest day owner device) (HasRest day owner device) (HasRest day owner device) f g first second (λ h m k one two. two ∙ one)
+    pub some_self : (a : Hub O L) → LetsSome a a
+    some_self a = record { goes = letting_self outbox ledger a; rest = record { came = λ clean sound k may. (k, may, refl) } }
 
-  -- the weeks before a day that went, one more
-  pub record StandsAt (day owner device : ℕ) (old now : Hub O L) : Type 0 where
-    pub goes : GoesOn outbox ledger old now
-    pub rest : ComesOf outbox ledger old now (HasRest day owner device)
+    pub some_asked : (a b : Hub O L) → OnlyAsks outbox ledger a b → LetsSome a b
+    some_asked a b asks = record { goes = letting_asks outbox ledger a b asks; rest = comes_loosened a b (λ h k. k ≡ h) (HasRest day owner device) (λ h k same. ap (without day owner device) same) (comes_same a b asks) }
 
-  pub weeks_none : (old : Hub O L) (day owner device : ℕ) → StandsAt day owner device old old
-  weeks_none old day owner device = record { goes = goes_self outbox ledger old; rest = record { came = λ clean sound k may. (k, may, refl) } }
+    pub some_then : (a b c : Hub O L) → LetsSome a b → LetsSome b c → LetsSome a c
+    some_then a b c f g = record {
+      goes = letting_join outbox ledger a b c f.goes g.goes;
+      rest = comes_then a b c (HasRest day owner device) (HasRest day owner device) (HasRest day owner device) f.goes g.goes f.rest g.rest (λ h m k one two. two ∙ one);
+    }
 
-  pub weeks_more : (old now next : Hub O L) (day week owner device : ℕ) → week ≤ day → StandsAt day owner device old now → GoesOn outbox ledger now next → ComesOf outbox ledger now next (λ h k. IsLeftBy h (Forgets owner device week) k) → StandsAt day owner device old next
-  weeks_more old now next day week owner device le s g left = record {
-    goes = goes_join outbox ledger old now next s.goes g;
-    rest = rest_then old now next day owner device s.goes g s.rest (comes_loosened now next (λ h k. IsLeftBy h (Forgets owner device week) k) (HasRest day owner device) (λ h k l. left_rest device week day le owner h k l) left);
-  }
+    -- the days before an earlier one, once
+    pub some_once : (a b : Hub O L) (week : ℕ) → week ≤ day → GoesOnLettingGo outbox ledger a b → ComesOf outbox ledger a b (λ h k. IsLeftBy h (Forgets owner device week) k) → LetsSome a b
+    some_once a b week le goes left = record { goes = goes; rest = comes_loosened a b (λ h k. IsLeftBy h (Forgets owner device week) k) (HasRest day owner device) (λ h k l. left_rest device week day le owner h k l) left }
 
-  -- ALL DAYS OF A LANE
-  pub days_rest : (a b c d : Hub O L) (day owner device : ℕ) → OnlyAsks outbox ledger a b → GoesOn outbox ledger b c → GoesOn outbox ledger c d → ComesOf outbox ledger b c (HasRest day owner device) → ComesOf outbox ledger c d (λ h k. IsLeftBy h (Forgets owner device day) k) → ComesOf outbox ledger a d (HasRest day owner device)
-  days_rest a b c d day owner device asks f g weeks left =
-      let before = goes_asks outbox ledger a b asks in
-      rest_then a c d day owner device (goes_join outbox ledger a b c before f) g
-      (rest_then a b c day owner device before f (rest_asked a b day owner device asks) weeks)
-      (comes_loosened c d (λ h k. IsLeftBy h (Forgets owner device day) k) (HasRest day owner device) (λ h k l. left_rest device day day (omega arith) owner h k l) left)
-
-  pub days_gone : (a b c d : Hub O L) (day owner device : ℕ) → OnlyAsks outbox ledger a b → GoesOn outbox ledger b c → GoesOn outbox ledger c d → ComesOf outbox ledger b c (HasRest day owner device) → (r : Result (Unit {0}) Fault) → OnOk r (ComesOf outbox ledger c d (λ h k. k ≡ without day owner device h)) → OnOk r (ComesOf outbox ledger a d (λ h k. k ≡ without day owner device h))
-  days_gone a b c d day owner device asks f g weeks (Err e) last = tt
-  days_gone a b c d day owner device asks f g weeks (Ok u) last =
-      let before = goes_asks outbox ledger a b asks in
-      comes_then a c d (HasRest day owner device) (λ h k. k ≡ without day owner device h) (λ h k. k ≡ without day owner device h) (goes_join outbox ledger a b c before f) g
-      (rest_then a b c day owner device before f (rest_asked a b day owner device asks) weeks) last
-      (λ h m k rest is. is ∙ rest)
+    -- some of these days, and then all that is left of them
+    pub days_gone : (a b c : Hub O L) → LetsSome a b → GoesOnLettingGo outbox ledger b c → (r : Result (Unit {0}) Fault) → OnOk r (ComesOf outbox ledger b c (λ h k. k ≡ without day owner device h)) → OnOk r (ComesOf outbox ledger a c (λ h k. k ≡ without day owner device h))
+    days_gone a b c f g (Err e) last = tt
+    days_gone a b c f g (Ok u) last = comes_then a b c (HasRest day owner device) (λ h k. k ≡ without day owner device h) (λ h k. k ≡ without day owner device h) f.goes g f.rest last (λ h m k rest is. is ∙ rest)
 
   -- where they are over
-  pub over_gone : (a b c : Hub O L) (day owner device : ℕ) → OnlyAsks outbox ledger a b → GoesOn outbox ledger b c → (AreClean outbox ledger b → AreSound outbox ledger a → (h : StoresValue) → MayStandAs outbox ledger b h → true ≡ is_over (h.ledgers owner) device day) → ComesOf outbox ledger b c (λ h k. k ≡ without day owner device h)
+  pub over_gone : (a b c : Hub O L) (day owner device : ℕ) → OnlyAsks outbox ledger a b → GoesOnLettingGo outbox ledger b c → (AreClean outbox ledger b → AreSound outbox ledger a → (h : StoresValue) → MayStandAs outbox ledger b h → true ≡ is_over (h.ledgers owner) device day) → ComesOf outbox ledger b c (λ h k. k ≡ without day owner device h)
       → ComesOf outbox ledger a c (λ h k. (true ≡ is_over (h.ledgers owner) device day) × (k ≡ let_lane_go day owner device h))
   over_gone a b c day owner device asks g over gone = record {
     came = λ clean sound k may.
@@ -185,17 +111,7 @@ module _ {O L : Type 0} (outbox : O → Standing OutboxValue) (ledger : L → St
       is ∙ (λ i. sym (second clean sound_b h may_b) i || nat_le day (open_day i))
 
   -- A LANE, AND WHAT CAME OF IT
-  pub lane_rest : (a b c d e : Hub O L) (day owner device : ℕ) → OnlyAsks outbox ledger a b → GoesOn outbox ledger b c → OnlyAsks outbox ledger c d → OnlyAsks outbox ledger d e → ComesOf outbox ledger b c (HasRest day owner device) → ComesOf outbox ledger a e (HasRest day owner device)
-  lane_rest a b c d e day owner device p g q r rest =
-      let one = goes_asks outbox ledger a b p in
-      let three = goes_asks outbox ledger c d q in
-      let ab = rest_asked a b day owner device p in
-      let ac = rest_then a b c day owner device one g ab rest in
-      let goes_ac = goes_join outbox ledger a b c one g in
-      let ad = rest_then a c d day owner device goes_ac three ac (rest_asked c d day owner device q) in
-      rest_then a d e day owner device (goes_join outbox ledger a c d goes_ac three) (goes_asks outbox ledger d e r) ad (rest_asked d e day owner device r)
-
-  pub lane_is_gone : (a b c d e : Hub O L) (day owner device before after from : ℕ) (over : Bool) → OnlyAsks outbox ledger a b → GoesOn outbox ledger b c → OnlyAsks outbox ledger c d → OnlyAsks outbox ledger d e
+  pub lane_is_gone : (a b c d e : Hub O L) (day owner device before after from : ℕ) (over : Bool) → OnlyAsks outbox ledger a b → GoesOnLettingGo outbox ledger b c → OnlyAsks outbox ledger c d → OnlyAsks outbox ledger d e
       → (AreClean outbox ledger b → AreSound outbox ledger a → (h : StoresValue) → MayStandAs outbox ledger a h → before ≡ gone_of ((h.ledgers owner).taken device))
       → ComesOf outbox ledger b c (λ h k. (over ≡ is_over (h.ledgers owner) device day) × (k ≡ let_lane_go day owner device h))
       → (AreClean outbox ledger d → AreSound outbox ledger c → (h : StoresValue) → MayStandAs outbox ledger c h → after ≡ gone_of ((h.ledgers owner).taken device))
@@ -285,7 +201,7 @@ module _ {O L : Type 0} (outbox : O → Standing OutboxValue) (ledger : L → St
   one_rest old new day owner device rest = comes_loosened outbox ledger old new (HasRest day owner device) (LeavesSome day ((owner, device) ∷ [])) (λ h k r. inl r) rest
 
   -- SEVERAL
-  pub gone_then : (a b c : Hub O L) (day : ℕ) (ls ms : List (ℕ × ℕ)) (x y z : Option (List ℕ)) → GoesOn outbox ledger a b → GoesOn outbox ledger b c → LetsGo outbox ledger day ls a b x y → LetsGo outbox ledger day ms b c y z → LetsGo outbox ledger day (ls ++ ms) a c x z
+  pub gone_then : (a b c : Hub O L) (day : ℕ) (ls ms : List (ℕ × ℕ)) (x y z : Option (List ℕ)) → GoesOnLettingGo outbox ledger a b → GoesOnLettingGo outbox ledger b c → LetsGo outbox ledger day ls a b x y → LetsGo outbox ledger day ms b c y z → LetsGo outbox ledger day (ls ++ ms) a c x z
   gone_then a b c day ls ms x y z f g first second = record {
     text = first.text ++ second.text;
     written = Appends-trans x y z first.text second.text first.written second.written;
@@ -301,18 +217,18 @@ module _ {O L : Type 0} (outbox : O → Standing OutboxValue) (ledger : L → St
   }
 
   pub record StandsOver (day : ℕ) (lanes : List (ℕ × ℕ)) (old now : Hub O L) (before after : Option (List ℕ)) : Type 0 where
-    pub goes : GoesOn outbox ledger old now
+    pub goes : GoesOnLettingGo outbox ledger old now
     pub gone : LetsGo outbox ledger day lanes old now before after
 
   pub over_none : (old : Hub O L) (day : ℕ) (before : Option (List ℕ)) → StandsOver day [] old old before before
-  over_none old day before = record { goes = goes_self outbox ledger old; gone = record { text = []; written = Appends-nil before; lines = refl; came = λ clean sound k may. (k, may, refl, refl) } }
+  over_none old day before = record { goes = letting_self outbox ledger old; gone = record { text = []; written = Appends-nil before; lines = refl; came = λ clean sound k may. (k, may, refl, refl) } }
 
-  pub over_more : (old now next : Hub O L) (day : ℕ) (lanes more all : List (ℕ × ℕ)) (x y z : Option (List ℕ)) → StandsOver day lanes old now x y → GoesOn outbox ledger now next → LetsGo outbox ledger day more now next y z → lanes ++ more ≡ all → StandsOver day all old next x z
+  pub over_more : (old now next : Hub O L) (day : ℕ) (lanes more all : List (ℕ × ℕ)) (x y z : Option (List ℕ)) → StandsOver day lanes old now x y → GoesOnLettingGo outbox ledger now next → LetsGo outbox ledger day more now next y z → lanes ++ more ≡ all → StandsOver day all old next x z
   over_more old now next day lanes more all x y z s g c is =
-      subst (λ l. StandsOver day l old next x z) is (record { goes = goes_join outbox ledger old now next s.goes g; gone = gone_then old now next day lanes more x y z s.goes g s.gone c })
+      subst (λ l. StandsOver day l old next x z) is (record { goes = letting_join outbox ledger old now next s.goes g; gone = gone_then old now next day lanes more x y z s.goes g s.gone c })
 
   -- and some of the next ones
-  pub over_some : (old now next : Hub O L) (day : ℕ) (lanes more others all : List (ℕ × ℕ)) (x y : Option (List ℕ)) → StandsOver day lanes old now x y → GoesOn outbox ledger now next → ComesOf outbox ledger now next (LeavesSome day more) → (lanes ++ more) ++ others ≡ all → ComesOf outbox ledger old next (LeavesSome day all)
+  pub over_some : (old now next : Hub O L) (day : ℕ) (lanes more others all : List (ℕ × ℕ)) (x y : Option (List ℕ)) → StandsOver day lanes old now x y → GoesOnLettingGo outbox ledger now next → ComesOf outbox ledger now next (LeavesSome day more) → (lanes ++ more) ++ others ≡ all → ComesOf outbox ledger old next (LeavesSome day all)
   over_some old now next day lanes more others all x y s g some is = record {
     came = λ clean sound k may.
         let late = some.came clean (s.goes.sound sound) k may in

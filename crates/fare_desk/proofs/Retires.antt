@@ -27,12 +27,12 @@ use Rattle.fare_sessions.specs.declared.hub.Hub.{Hub}
 use Rattle.fare_sessions.specs.declared.retiring.RetiringFault.{RetiringFault}
 use Rattle.fare_sessions.specs.declared.retiring.RetiringFault.TheVariants as retiring
 use Rattle.fare_sessions.specs.Retiring.{HasRetired, retire_as_hub}
-use Rattle.fare_sessions.specs.Stores.{AreClean, AreSound, StoresFollow, MayStandAs}
+use Rattle.fare_sessions.specs.Stores.{ComesOf, AreClean, AreSound, StoresFollow, MayStandAs}
 use Rattle.fare_sessions.proofs.Billed.{put_self}
 use Rattle.fare_sessions.proofs.Follow.{clean_back}
 use Rattle.fare_sessions.proofs.Steps.{put_back, stood_before, own_stands}
 use Rattle.fare_desk.specs.Faults.{of_retiring, of_store}
-use Rattle.fare_desk.specs.Retiring.{ComesOf, LeavesLane, RetiresLane, RetiresOne}
+use Rattle.fare_desk.specs.Retiring.{LeavesLane, RetiresLane, RetiresOne}
 use Rattle.fare_desk.specs.Showing.{OnlyAsks}
 use Rattle.fare_desk.specs.declared.fault.DeskFault.{DeskFault}
 use Rattle.fare_desk.specs.declared.fault.DeskFault.TheVariants as desk

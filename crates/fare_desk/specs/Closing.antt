@@ -23,7 +23,7 @@ use Rattle.fare_history.specs.Stores.{StoresValue}
 use Rattle.fare_agreement.specs.Agreeing.{AreNumberedLists}
 use Rattle.fare_sessions.specs.declared.hub.Hub.{Hub}
 use Rattle.fare_sessions.specs.Billing.{first_unclosed, stated_of}
-use Rattle.fare_sessions.specs.Stores.{AreClean, AreSound, StoresFollow, MayStandAs, IsAgreed, HasGrown}
+use Rattle.fare_sessions.specs.Stores.{AreClean, AreSound, StoresFollow, MayStandAs, IsAgreed, HasGrown, HasLasted}
 
 -- A LANE
 -- the first day of a device that is not closed behind so many further closes
@@ -136,13 +136,21 @@ after_close owner device (Err why) h = h
 
 -- HUBS
 module _ {O L : Type 0} (outbox : O → Standing OutboxValue) (ledger : L → Standing LedgerValue) where
-  -- the stores go on: what fits together stays so, and rows that agree with what the devices numbered stay so and lose nothing
-  pub record GoesOn (old new : Hub O L) : Type 0 where
+  -- the stores go on: what fits together stays so, and rows that agree with what the devices numbered stay so and stay as this says
+  pub record GoesOnAs (Stays : Hub O L → Hub O L → Type 0) (old new : Hub O L) : Type 0 where
     pub scheme : new.scheme ≡ old.scheme
     pub follow : StoresFollow outbox ledger old new
     pub sound : AreSound outbox ledger old → AreSound outbox ledger new
     pub agrees : AreClean outbox ledger new → AreSound outbox ledger old → (lists : ℕ → List RecordValue) → AreNumberedLists old.scheme lists → IsAgreed outbox ledger lists old → IsAgreed outbox ledger lists new
-    pub grows : AreClean outbox ledger new → AreSound outbox ledger old → (lists : ℕ → List RecordValue) → AreNumberedLists old.scheme lists → IsAgreed outbox ledger lists old → HasGrown outbox ledger old new
+    pub stays : AreClean outbox ledger new → AreSound outbox ledger old → (lists : ℕ → List RecordValue) → AreNumberedLists old.scheme lists → IsAgreed outbox ledger lists old → Stays old new
+
+  -- and they lose nothing
+  abbrev pub GoesOn : Hub O L → Hub O L → Type 0
+  GoesOn = GoesOnAs (HasGrown outbox ledger)
+
+  -- or nothing but what is let go
+  abbrev pub GoesOnLettingGo : Hub O L → Hub O L → Type 0
+  GoesOnLettingGo = GoesOnAs (HasLasted outbox ledger)
 
   -- a close was answered this
   pub record HasAnswered (owner device day : ℕ) (old new : Hub O L) (answer : Result Unit CloseFault) : Type 0 where

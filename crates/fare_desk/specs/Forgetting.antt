@@ -8,7 +8,8 @@ use Rattle.fare_store.specs.LedgerWords.{LedgerValue, gone_of}
 use Rattle.fare_history.specs.Stores.{StoresValue, Forgets, stores_after}
 use Rattle.fare_sessions.specs.declared.hub.Hub.{Hub}
 use Rattle.fare_sessions.specs.Billing.{first_unclosed}
-use Rattle.fare_sessions.specs.Stores.{AreClean, AreSound, MayStandAs}
+use Rattle.fare_sessions.specs.Stores.{AreClean, AreSound, MayStandAs, ComesOf}
+use Rattle.fare_desk.specs.Closing.{GoesOnLettingGo}
 use Rattle.fare_desk.specs.declared.forgetting.LaneGone.{LaneGone}
 
 -- A LANE
@@ -73,6 +74,11 @@ LeavesSome day [] h k = k ≡ h
 LeavesSome day (l ∷ ls) h k = HasRest day l.0 l.1 h k ⊎ LeavesSome day ls (let_lane_go day l.0 l.1 h) k
 
 module _ {O L : Type 0} (outbox : O → Standing OutboxValue) (ledger : L → Standing LedgerValue) where
+  -- the stores went on, and of an owner's lane of a device some of the days before one may have gone
+  pub record LetsSomeGo (day owner device : ℕ) (old new : Hub O L) : Type 0 where
+    pub goes : GoesOnLettingGo outbox ledger old new
+    pub rest : ComesOf outbox ledger old new (HasRest day owner device)
+
   -- these lanes were let go, and the lines of it written
   pub record LetsGo (day : ℕ) (lanes : List (ℕ × ℕ)) (old new : Hub O L) (before after : Option (List ℕ)) : Type 0 where
     pub text : List ℕ

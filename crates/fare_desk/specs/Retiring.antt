@@ -9,7 +9,7 @@ use Rattle.fare_lines.specs.Replies.{reply_text}
 use Rattle.fare_history.specs.Stores.{StoresValue, MayRetire, Retires_lane, stores_after}
 use Rattle.fare_agreement.specs.Stopping.{IsLeftBy}
 use Rattle.fare_sessions.specs.declared.hub.Hub.{Hub}
-use Rattle.fare_sessions.specs.Stores.{AreClean, AreSound, MayStandAs}
+use Rattle.fare_sessions.specs.Stores.{ComesOf}
 use Rattle.fare_desk.specs.declared.fault.DeskFault.{DeskFault}
 use Rattle.fare_desk.specs.declared.fault.DeskFault.TheVariants as desk
 
@@ -26,11 +26,7 @@ LeavesLane owner device desk.Write h k = RetiresOne owner device h k
 LeavesLane owner device _ h k = k ≡ h
 
 module _ {O L : Type 0} (outbox : O → Standing OutboxValue) (ledger : L → Standing LedgerValue) where
-  -- whatever may stand now came so of what might have stood before
-  pub record ComesOf (old new : Hub O L) (R : StoresValue → StoresValue → Type 0) : Type 0 where
-    pub came : AreClean outbox ledger new → AreSound outbox ledger old → (k : StoresValue) → MayStandAs outbox ledger new k → (h : StoresValue) × MayStandAs outbox ledger old h × R h k
-
   -- an owner's lane of a device was retired, and the reply that a trace has for it was written
   pub record RetiresLane (owner device : ℕ) (old new : Hub O L) (before after : Option (List ℕ)) : Type 0 where
-    pub retired : ComesOf old new (RetiresOne owner device)
+    pub retired : ComesOf outbox ledger old new (RetiresOne owner device)
     pub written : Appends before after (reply_text (reply.Retired device))

@@ -1,4 +1,4 @@
-//! What is of days that are over goes from the owners' ledgers, lane by lane.
+//! What is of days that are over goes from the owners' ledgers and the outbox, lane by lane.
 ghost use Rattle.std.specs.Prelude.{◌≡◌, ◌≢◌, ◌||◌, ◌-◌, [], ◌∷◌, ◌++◌, None, false, nat_le, string_bytes, OnOk, IfErr, IfOk};
 ghost use Rattle.std.specs.Map.{keys_of};
 ghost use Rattle.fare_cap.specs.Fares.{week_start as start_of_week};
@@ -7,11 +7,10 @@ ghost use Rattle.fare_store.specs.LedgerWords.{gone_of};
 ghost use Rattle.fare_history.specs.Stores.{StoresValue, Forgets};
 ghost use Rattle.fare_agreement.specs.Stopping.{IsLeftBy};
 ghost use Rattle.fare_sessions.specs.Billing.{day_behind};
-ghost use Rattle.fare_sessions.specs.Stores.{AreClean, AreSound, HasLedgers, MayStandAs};
-ghost use Rattle.fare_desk.specs.Closing.{GoesOn, lanes_of, lanes_with};
+ghost use Rattle.fare_sessions.specs.Stores.{AreClean, AreSound, ComesOf, HasLedgers, MayStandAs};
+ghost use Rattle.fare_desk.specs.Closing.{GoesOnLettingGo, lanes_of, lanes_with};
 ghost use Rattle.fare_desk.specs.Faults.{is_refusal};
-ghost use Rattle.fare_desk.specs.Forgetting.{HasRest, LeavesSome, LetsGo, gone_line, is_over, lane_gone, let_lane_go, open_word, without};
-ghost use Rattle.fare_desk.specs.Retiring.{ComesOf};
+ghost use Rattle.fare_desk.specs.Forgetting.{LeavesSome, LetsGo, LetsSomeGo, gone_line, is_over, lane_gone, let_lane_go, open_word, without};
 ghost use Rattle.fare_desk.specs.Showing.{OnlyAsks};
 
 use crate::fault::DeskFault;
@@ -91,7 +90,7 @@ fn let_go_once<O: Outbox, L: Ledger>(
 ) -> Result<(), Fault>
     requires ledgers { HasLedgers hub.old }
     requires known { position_of_owner hub.old.scheme owner ≢ None }
-    ensures goes { GoesOn O.standing L.standing hub.old hub.new }
+    ensures goes { GoesOnLettingGo O.standing L.standing hub.old hub.new }
     ensures left { ComesOf O.standing L.standing hub.old hub.new (λ h k. IsLeftBy h (Forgets owner device day) k) }
     ensures gone { OnOk result (ComesOf O.standing L.standing hub.old hub.new (λ h k. k ≡ without day owner device h)) }
 {
@@ -113,8 +112,7 @@ fn let_go_weeks<O: Outbox, L: Ledger>(
 ) -> Result<(), Fault>
     requires ledgers { HasLedgers hub.old }
     requires known { position_of_owner hub.old.scheme owner ≢ None }
-    ensures goes { GoesOn O.standing L.standing hub.old hub.new }
-    ensures rest { ComesOf O.standing L.standing hub.old hub.new (HasRest day owner device) }
+    ensures { LetsSomeGo O.standing L.standing day owner device hub.old hub.new }
 {
     let mut week = from.get() + WEEK;
     while week < day.get() {
@@ -136,8 +134,7 @@ fn let_go_days<O: Outbox, L: Ledger>(
 ) -> Result<(), Fault>
     requires ledgers { HasLedgers hub.old }
     requires known { position_of_owner hub.old.scheme owner ≢ None }
-    ensures goes { GoesOn O.standing L.standing hub.old hub.new }
-    ensures rest { ComesOf O.standing L.standing hub.old hub.new (HasRest day owner device) }
+    ensures some { LetsSomeGo O.standing L.standing day owner device hub.old hub.new }
     ensures gone { OnOk result (ComesOf O.standing L.standing hub.old hub.new (λ h k. k ≡ without day owner device h)) }
 {
     let held = ask_held_from(hub, owner, device)?;
@@ -155,8 +152,7 @@ fn let_go_over<O: Outbox, L: Ledger>(
 ) -> Result<bool, Fault>
     requires ledgers { HasLedgers hub.old }
     requires known { position_of_owner hub.old.scheme owner ≢ None }
-    ensures goes { GoesOn O.standing L.standing hub.old hub.new }
-    ensures rest { ComesOf O.standing L.standing hub.old hub.new (HasRest day owner device) }
+    ensures some { LetsSomeGo O.standing L.standing day owner device hub.old hub.new }
     ensures gone { IfOk result (λ over. ComesOf O.standing L.standing hub.old hub.new (λ h k. (over ≡ is_over (h.ledgers owner) device day) × (k ≡ let_lane_go day owner device h))) }
 {
     let over = ask_over(hub, owner, device, day)?;
@@ -175,8 +171,7 @@ fn let_lane<O: Outbox, L: Ledger>(
 ) -> Result<LaneGone, Fault>
     requires ledgers { HasLedgers hub.old }
     requires known { position_of_owner hub.old.scheme owner ≢ None }
-    ensures goes { GoesOn O.standing L.standing hub.old hub.new }
-    ensures rest { ComesOf O.standing L.standing hub.old hub.new (HasRest day owner device) }
+    ensures some { LetsSomeGo O.standing L.standing day owner device hub.old hub.new }
     ensures gone { IfOk result (λ lane. ComesOf O.standing L.standing hub.old hub.new (λ h k. (lane ≡ lane_gone day owner device h) × (k ≡ let_lane_go day owner device h))) }
 {
     let before = ask_gone(hub, owner, device)?;
@@ -228,7 +223,7 @@ fn forget_lane<O: Outbox, L: Ledger, W: Write>(
 ) -> Result<(), DeskFault>
     requires ledgers { HasLedgers hub.old }
     requires known { position_of_owner hub.old.scheme owner ≢ None }
-    ensures goes { GoesOn O.standing L.standing hub.old hub.new }
+    ensures goes { GoesOnLettingGo O.standing L.standing hub.old hub.new }
     ensures gone { OnOk result (LetsGo O.standing L.standing day ((owner, device) ∷ []) hub.old hub.new (W.contents output.old) (W.contents output.new)) }
     ensures rest { ComesOf O.standing L.standing hub.old hub.new (LeavesSome day ((owner, device) ∷ [])) }
     ensures unnamed { IfErr result (λ fault. is_refusal fault ≡ false) }
@@ -248,7 +243,7 @@ fn forget_owner<O: Outbox, L: Ledger, W: Write>(
 ) -> Result<(), DeskFault>
     requires ledgers { HasLedgers hub.old }
     requires known { position_of_owner hub.old.scheme owner ≢ None }
-    ensures goes { GoesOn O.standing L.standing hub.old hub.new }
+    ensures goes { GoesOnLettingGo O.standing L.standing hub.old hub.new }
     ensures gone { OnOk result (LetsGo O.standing L.standing day (lanes_with owner (keys_of hub.old.scheme.devices)) hub.old hub.new (W.contents output.old) (W.contents output.new)) }
     ensures rest { IfErr result (λ _. ComesOf O.standing L.standing hub.old hub.new (LeavesSome day (lanes_with owner (keys_of hub.old.scheme.devices)))) }
     ensures unnamed { IfErr result (λ fault. is_refusal fault ≡ false) }
@@ -262,13 +257,13 @@ fn forget_owner<O: Outbox, L: Ledger, W: Write>(
     Ok(())
 }
 
-/// Lets go what the owners' ledgers hold of the days before the week of this day: for each owner and each device, in the
-/// scheme's orders, the taps and the statements of these days, where all of them are closed or the lane is retired, and
-/// nothing of it where they aren't. Writes a line for each, `forgot OWNER DEVICE taps N from DAY`: how many taps went, and
+/// Lets go what the owners' ledgers hold of the days before the week of this day, and behind each the outbox's statements:
+/// for each owner and each device, in the scheme's orders, the taps and the statements of these days, where all of them are
+/// closed or the lane is retired, and nothing of it where they aren't. Writes a line for each, `forgot OWNER DEVICE taps N from DAY`: how many taps went, and
 /// from which day on all is held; it ends with one word more, ` open`, where the days aren't closed. Each week of a lane
 /// goes in a commit of its own. The bills of the day's week and of later ones stay what they are.
 ///
-/// `Memory` where there was none for it, `Store` where a ledger failed or has lost a close, `Write` where the writer
+/// `Memory` where there was none for it, `Store` where a store failed or a ledger has lost a close, `Write` where the writer
 /// failed: then of the lanes in their order the first ones are let go, and of one behind them some weeks may be.
 pub fn forget_days<O: Outbox, L: Ledger, W: Write>(
     alloc: Global,
@@ -277,7 +272,7 @@ pub fn forget_days<O: Outbox, L: Ledger, W: Write>(
     output: &mut W,
 ) -> Result<(), DeskFault>
     requires ledgers { HasLedgers hub.old }
-    ensures goes { GoesOn O.standing L.standing hub.old hub.new }
+    ensures goes { GoesOnLettingGo O.standing L.standing hub.old hub.new }
     ensures gone { OnOk result (LetsGo O.standing L.standing (start_of_week hub.old.scheme day) (lanes_of hub.old.scheme) hub.old hub.new (W.contents output.old) (W.contents output.new)) }
     ensures rest { IfErr result (λ _. ComesOf O.standing L.standing hub.old hub.new (LeavesSome (start_of_week hub.old.scheme day) (lanes_of hub.old.scheme))) }
     ensures unnamed { IfErr result (λ fault. is_refusal fault ≡ false) }

@@ -2,10 +2,10 @@
 ghost use Rattle.std.specs.Prelude.{◌≡◌, ◌≢◌, ◌↔◌, None, Err, IfErr, OnOk};
 ghost use Rattle.std.specs.Io.KnownBytes.{Keeps};
 ghost use Rattle.fare_scheme.specs.Words.{position_of_device, position_of_owner};
-ghost use Rattle.fare_sessions.specs.Stores.{HasLedgers};
+ghost use Rattle.fare_sessions.specs.Stores.{ComesOf, HasLedgers};
 ghost use Rattle.fare_desk.specs.Closing.{GoesOn};
 ghost use Rattle.fare_desk.specs.Faults.{is_of_retire, is_refusal};
-ghost use Rattle.fare_desk.specs.Retiring.{ComesOf, LeavesLane, RetiresLane};
+ghost use Rattle.fare_desk.specs.Retiring.{LeavesLane, RetiresLane};
 
 use crate::fault::{DeskFault, of_retire};
 use crate::standing::ask_retired;

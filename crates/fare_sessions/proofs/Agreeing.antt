@@ -1,5 +1,5 @@
 -- Agreement through a list of sessions, by way of the stores at each boundary.
-use Rattle.std.proofs.Common.{◌≡◌, ℕ, zero, suc, ◌<◌, ◌≤◌, List, [], ◌∷◌, ◌++◌, length, slice_index_or, Some, sym, ap, ◌∙◌, subst, arith, inl, inr}
+use Rattle.std.proofs.Common.{◌≡◌, ℕ, zero, suc, ◌<◌, ◌≤◌, List, [], ◌∷◌, ◌++◌, length, slice_index_or, Some, false, refl, sym, ap, ◌∙◌, subst, arith, inl, inr}
 use Rattle.std.specs.Prelude.{◌⊎◌, slice_get, Option, Vec, is_some}
 use Rattle.std.specs.Global.{Global}
 use Rattle.std.specs.List.{AllByRecursion}
@@ -26,7 +26,7 @@ use Rattle.fare_collect.specs.declared.station.Station.{Station}
 use Rattle.fare_collect.proofs.Opens.{here_or_not}
 use Rattle.fare_agreement.specs.Agreeing.{AreNumberedLists, IsOf, Agrees}
 use Rattle.fare_agreement.specs.Growing.{OutboxGrew, StoresGrew}
-use Rattle.fare_agreement.specs.Stopping.{AreAnswered}
+use Rattle.fare_agreement.specs.Stopping.{AreAnswered, lets_go}
 use Rattle.fare_agreement.proofs.Collecting.{covered_still}
 use Rattle.fare_agreement.proofs.Sessions.{stores_self, stores_trans, kept_still, IsSafe, stop_safe}
 use Rattle.fare_sessions.specs.declared.session.Session.{Session}
@@ -97,8 +97,8 @@ module _ {S : Type 0} (sc : SchemeValue) (talks : S → Talk) (lists : ℕ → L
     answered = subst (AllByRecursion (AreAnswered sc k)) (sym none) tt;
   }
 
-  kept_one : (h k : StoresValue) (q : history.Session) (qs : List history.Session) → IsSafe sc lists numbered h k q → qs ≡ q ∷ [] → IsKept h k qs
-  kept_one h k q qs safe one = record { agrees = safe.agrees; grew = safe.grew; answered = subst (AllByRecursion (AreAnswered sc k)) (sym one) (safe.kept, tt) }
+  kept_one : (h k : StoresValue) (q : history.Session) (qs : List history.Session) → IsSafe sc lists numbered h k q → lets_go q ≡ false → qs ≡ q ∷ [] → IsKept h k qs
+  kept_one h k q qs safe none one = record { agrees = safe.agrees; grew = safe.grew none; answered = subst (AllByRecursion (AreAnswered sc k)) (sym one) (safe.kept, tt) }
 
   abbrev GaveIn : Session S → Session S → Type 0
   GaveIn (Collect before) (Collect after) = (place : ℕ) (d : Station S) → place < length before.items → Gave (source_of (slice_index_or before.items place d)) (source_of (slice_index_or after.items place d))
@@ -107,13 +107,13 @@ module _ {S : Type 0} (sc : SchemeValue) (talks : S → Talk) (lists : ℕ → L
 
   step_kept : (s r : Session S) (h k : StoresValue) (c : Counts) (qs : List history.Session) → LedBetween sc talks s r h k c qs → IsRunnable sc s → GaveIn s r → Agrees sc lists h → IsKept h k qs
   step_kept (Collect before) (Collect after) h k c qs (inl s) can gave is =
-      kept_one h k (history.Collects s.g) qs (stop_safe sc lists numbered h k (history.Collects s.g) is (accepted_are h k before.items after.items c qs s can.1 gave, s.came.1.gathering) s.left) s.session
+      kept_one h k (history.Collects s.g) qs (stop_safe sc lists numbered h k (history.Collects s.g) is (accepted_are h k before.items after.items c qs s can.1 gave, s.came.1.gathering) s.left) refl s.session
   step_kept (Collect before) (Collect after) h k c qs (inr n) can gave is = kept_none h k qs is n.stores n.none
   step_kept (Collect before) (Serve owner) h k c qs led can gave is = absurd led
   step_kept (Serve owner) (Collect after) h k c qs led can gave is = absurd led
   step_kept (Serve owner) (Serve other) h k c qs led can gave is =
       let s = led.1 in
-      kept_one h k (history.Serves_owner owner s.v) qs (stop_safe sc lists numbered h k (history.Serves_owner owner s.v) is (ap is_some can.1, s.says.service) s.left) s.session
+      kept_one h k (history.Serves_owner owner s.v) qs (stop_safe sc lists numbered h k (history.Serves_owner owner s.v) is (ap is_some can.1, s.says.service) s.left) refl s.session
 
   -- and what its sources were answered
   step_covered : (before after : Vec (Station S) Global) (h k : StoresValue) (c : Counts) (qs : List history.Session) → LedBetween sc talks (Collect before) (Collect after) h k c qs → AllByRecursion (AreAnswered sc k) qs

@@ -1,5 +1,5 @@
 -- A close keeps agreement.
-use Rattle.std.proofs.Common.{◌≡◌, ℕ, List, sym, ap, ◌∙◌, subst, inl, inr}
+use Rattle.std.proofs.Common.{◌≡◌, ℕ, List, refl, sym, ap, ◌∙◌, subst, inl, inr}
 use Rattle.std.specs.Prelude.{Result, Ok, Err, is_some}
 use Rattle.fare_owner.specs.declared.closing.CloseFault.{CloseFault}
 use Rattle.fare_record.specs.Limits.{IsDay}
@@ -82,5 +82,5 @@ module _ {O L : Type 0} (outbox : O → Standing OutboxValue) (ledger : L → St
     closed_grows = record {
       grown = λ k may.
           let was = step k may in
-          (was.0, was.1, was.2.grew.outbox, λ other known. was.2.grew.ledgers other);
+          (was.0, was.1, was.2.grew refl);
     }

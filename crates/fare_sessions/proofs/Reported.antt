@@ -148,7 +148,7 @@ module _ {S O L : Type 0} (talks : S → Talk) (outbox : O → Standing OutboxVa
         grown = λ k may.
             let was = from k may in
             let grew = (list_kept old.scheme talks lists numbered_lists olds news a.count was.0 k a.tally was.1 was.3 can gave (is.agreed was.0 was.2)).kept.grew in
-            (was.0, was.2, grew.outbox, λ owner known. grew.ledgers owner);
+            (was.0, was.2, grew);
       }
 
       pub covered : (lists : ℕ → List RecordValue) → AreNumberedLists old.scheme lists → GaveOf talks old.scheme lists olds news → IsAgreed outbox ledger lists old → (k : StoresValue) → MayStandAs outbox ledger new k → AreCovered talks old.scheme k.outbox olds news

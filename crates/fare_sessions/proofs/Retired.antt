@@ -98,5 +98,5 @@ module _ {O L : Type 0} (outbox : O → Standing OutboxValue) (ledger : L → St
     retired_grows = record {
       grown = λ k may.
           let was = step k may in
-          (was.0, was.1, was.2.grew.outbox, λ other known. was.2.grew.ledgers other);
+          (was.0, was.1, was.2.grew refl);
     }

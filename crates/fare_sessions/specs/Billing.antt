@@ -7,13 +7,12 @@ use Rattle.fare_scheme.specs.Values.{SchemeValue}
 use Rattle.fare_scheme.specs.Words.{position_of_owner}
 use Rattle.fare_cap.specs.Fares.{week_start}
 use Rattle.fare_owner.specs.declared.closing.CloseFault.{CloseFault}
-use Rattle.fare_store.specs.declared.fault.ForgetFault.{ForgetFault}
 use Rattle.fare_store.specs.declared.fault.Refused.{Refused}
 use Rattle.fare_store.specs.declared.fault.Refused.TheVariants.{Because, Failed}
 use Rattle.fare_store.specs.declared.fault.Fault.{Fault}
 use Rattle.fare_store.specs.Standing.{Standing, Counted, Writes}
 use Rattle.fare_store.specs.OutboxWords.{OutboxValue}
-use Rattle.fare_store.specs.LedgerWords.{LedgerValue, AreTapsBetween, close_of, with_close, forget_judged, forgotten}
+use Rattle.fare_store.specs.LedgerWords.{LedgerValue, AreTapsBetween, close_of, with_close}
 use Rattle.fare_side.specs.declared.bill_fault.BillFault.{BillFault}
 use Rattle.fare_side.specs.declared.bill_fault.BillFault.TheVariants.{UnknownOwner, BeforeStart, NotClosed}
 use Rattle.fare_side.specs.OpenDays.{first_open, short_devices}
@@ -23,8 +22,6 @@ use Rattle.fare_history.specs.Stores.{StoresValue}
 use Rattle.fare_agreement.specs.Parts.{first_forgotten}
 use Rattle.fare_sessions.specs.declared.billing.BillingFault.{BillingFault}
 use Rattle.fare_sessions.specs.declared.billing.BillingFault.TheVariants.{Unbilled, Forgotten}
-use Rattle.fare_sessions.specs.declared.forgetting.ForgettingFault.{ForgettingFault}
-use Rattle.fare_sessions.specs.declared.forgetting.ForgettingFault.TheVariants as forgetting
 use Rattle.fare_sessions.specs.declared.closing.ClosingFault.{ClosingFault}
 use Rattle.fare_sessions.specs.declared.closing.ClosingFault.TheVariants as closing
 use Rattle.fare_sessions.specs.declared.hub.Hub.{Hub}
@@ -108,21 +105,6 @@ pub record HasClosed {O L : Type 0} (ledger : L → Standing LedgerValue) (old n
 pub record HasAsked {O L : Type 0} (ledger : L → Standing LedgerValue) (old new : Hub O L) (owner : ℕ) (faulted : Option Fault) : Type 0 where
   pub one : ReplacesLedger old new owner
   pub cause : Counted (ledger one.own_old).failures (ledger one.own_new).failures faulted
-
--- LETTING GO
--- the refusal of a letting go
-abbrev pub as_forgetting : Result Unit (Refused ForgetFault) → Result Unit (Refused ForgettingFault)
-as_forgetting (Ok _) = Ok tt
-as_forgetting (Err (Because why)) = Err (Because (forgetting.Ledger why))
-as_forgetting (Err (Failed f)) = Err (Failed f)
-
--- the owner's ledger was asked to let go of what is of a device's days before one
-pub record HasForgotten {O L : Type 0} (ledger : L → Standing LedgerValue) (old new : Hub O L) (owner device day : ℕ) (result : Result Unit (Refused ForgettingFault)) : Type 0 where
-  pub one : ReplacesLedger old new owner
-  pub outbox_same : new.outbox ≡ old.outbox
-  pub answer : Result Unit (Refused ForgetFault)
-  pub writes : Writes (ledger one.own_old) (ledger one.own_new) (forget_judged (ledger one.own_old).value device day) (forgotten device day (ledger one.own_old).value) answer
-  pub told : result ≡ as_forgetting answer
 
 module _ {O L : Type 0} (outbox : O → Standing OutboxValue) (ledger : L → Standing LedgerValue) where
   -- one ledger was read, at most: what may stand now might have stood before

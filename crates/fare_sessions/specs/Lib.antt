@@ -6,3 +6,4 @@ pub mod Boundaries
 pub mod Promises
 pub mod Billing
 pub mod Retiring
+pub mod Forgetting

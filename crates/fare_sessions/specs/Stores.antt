@@ -6,12 +6,11 @@ use Rattle.fare_scheme.specs.Words.{position_of_owner}
 use Rattle.fare_store.specs.Standing.{Standing}
 use Rattle.fare_store.specs.OutboxWords.{OutboxValue}
 use Rattle.fare_store.specs.LedgerWords.{LedgerValue, IsOfScheme}
-use Rattle.fare_world.specs.Knowing.{knows_owner}
 use Rattle.fare_history.specs.Holding.{MayHold}
 use Rattle.fare_history.specs.Stores.{StoresValue}
 use Rattle.fare_session.specs.Stores.{Follows}
 use Rattle.fare_agreement.specs.Agreeing.{Agrees}
-use Rattle.fare_agreement.specs.Growing.{OutboxGrew, LedgerGrew}
+use Rattle.fare_agreement.specs.Growing.{StoresGrew, StoresLast}
 use Rattle.fare_agreement.specs.Totals.{held_by}
 use Rattle.fare_sessions.specs.declared.hub.Hub.{Hub}
 
@@ -74,6 +73,14 @@ module _ {O L : Type 0} (outbox : O → Standing OutboxValue) (ledger : L → St
   pub record IsAgreed (lists : ℕ → List RecordValue) (hub : Hub O L) : Type 0 where
     pub agreed : (h : StoresValue) → MayStandAs hub h → Agrees hub.scheme lists h
 
-  -- whatever may stand now has all of something that might have stood before: no number fell, and no taken tap, statement or closed day went
+  -- whatever may stand now has all of something that might have stood before: no number fell, and no taken tap, statement, closed day or retired lane went
   pub record HasGrown (old new : Hub O L) : Type 0 where
-    pub grown : (k : StoresValue) → MayStandAs new k → (h : StoresValue) × MayStandAs old h × OutboxGrew h.outbox k.outbox × ((owner : ℕ) → knows_owner old.scheme owner ≡ true → LedgerGrew (h.ledgers owner) (k.ledgers owner))
+    pub grown : (k : StoresValue) → MayStandAs new k → (h : StoresValue) × MayStandAs old h × StoresGrew h k
+
+  -- the same, but for what was let go of days before the one from which on an owner's ledger holds all
+  pub record HasLasted (old new : Hub O L) : Type 0 where
+    pub lasted : (k : StoresValue) → MayStandAs new k → (h : StoresValue) × MayStandAs old h × StoresLast h k
+
+  -- whatever may stand now came so of what might have stood before
+  pub record ComesOf (old new : Hub O L) (R : StoresValue → StoresValue → Type 0) : Type 0 where
+    pub came : AreClean new → AreSound old → (k : StoresValue) → MayStandAs new k → (h : StoresValue) × MayStandAs old h × R h k

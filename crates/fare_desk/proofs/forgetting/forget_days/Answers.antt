@@ -3,14 +3,14 @@ use Rattle.std.specs.Map.{keys_of}
 use Rattle.fare_scheme.specs.Words.{id_at}
 use Rattle.fare_desk.specs.Closing.{lanes_with}
 use Rattle.fare_desk.specs.Forgetting.{LeavesSome, LetsGo}
-use Rattle.fare_desk.specs.Retiring.{ComesOf}
-use Rattle.fare_desk.proofs.Going.{goes_join}
+use Rattle.fare_sessions.specs.Stores.{ComesOf}
+use Rattle.fare_desk.proofs.Going.{letting_join}
 use Rattle.fare_desk.proofs.Lanes.{owners_more, keys_all, lanes_over}
 use Rattle.fare_desk.proofs.LetGo.{if_err, owners_split, over_more, over_some}
 use Rattle.fare_desk.proofs.forgetting.forget_days.Goals as goal
 
 pub returns-in_err-forget_owner-clause-goes : goal.returns-in_err-forget_owner-clause-goes
-returns-in_err-forget_owner-clause-goes g c = goes_join g.O.Outbox.standing g.L.Ledger.standing c.args.hub.now c.loop-place.hub c.forget_owner.new.hub c.loop-place.invariant.goes c.forget_owner.ensures.goes
+returns-in_err-forget_owner-clause-goes g c = letting_join g.O.Outbox.standing g.L.Ledger.standing c.args.hub.now c.loop-place.hub c.forget_owner.new.hub c.loop-place.invariant.goes c.forget_owner.ensures.goes
 
 pub returns-in_err-forget_owner-clause-rest : goal.returns-in_err-forget_owner-clause-rest
 returns-in_err-forget_owner-clause-rest g c =

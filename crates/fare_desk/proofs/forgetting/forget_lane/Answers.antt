@@ -4,15 +4,15 @@ use Rattle.fare_desk.proofs.forgetting.forget_lane.Goals as goal
 
 pub returns-in_err-lane-clause-rest : goal.returns-in_err-lane-clause-rest
 returns-in_err-lane-clause-rest g c =
-    one_rest g.O.Outbox.standing g.L.Ledger.standing c.args.hub.now c.let_lane.new.hub c.args.day c.args.owner c.args.device c.let_lane.ensures.rest
+    one_rest g.O.Outbox.standing g.L.Ledger.standing c.args.hub.now c.let_lane.new.hub c.args.day c.args.owner c.args.device c.let_lane.ensures.some.rest
 
 pub returns-in_err-line-clause-rest : goal.returns-in_err-line-clause-rest
 returns-in_err-line-clause-rest g c =
-    one_rest g.O.Outbox.standing g.L.Ledger.standing c.args.hub.now c.let_lane.new.hub c.args.day c.args.owner c.args.device c.let_lane.ensures.rest
+    one_rest g.O.Outbox.standing g.L.Ledger.standing c.args.hub.now c.let_lane.new.hub c.args.day c.args.owner c.args.device c.let_lane.ensures.some.rest
 
 pub returns-clause-rest : goal.returns-clause-rest
 returns-clause-rest g c =
-    one_rest g.O.Outbox.standing g.L.Ledger.standing c.args.hub.now c.let_lane.new.hub c.args.day c.args.owner c.args.device c.let_lane.ensures.rest
+    one_rest g.O.Outbox.standing g.L.Ledger.standing c.args.hub.now c.let_lane.new.hub c.args.day c.args.owner c.args.device c.let_lane.ensures.some.rest
 
 pub returns-clause-gone : goal.returns-clause-gone
 returns-clause-gone g c =

@@ -4,7 +4,7 @@ use Rattle.fare_scheme.specs.Words.{id_at}
 use Rattle.fare_collect.proofs.Last.{at_known}
 use Rattle.fare_desk.specs.Closing.{lanes_with}
 use Rattle.fare_desk.specs.Forgetting.{LetsGo}
-use Rattle.fare_desk.proofs.Going.{goes_join}
+use Rattle.fare_desk.proofs.Going.{letting_join}
 use Rattle.fare_desk.proofs.Lanes.{devices_more, keys_all}
 use Rattle.fare_desk.proofs.LetGo.{devices_split, if_err, over_none, over_more, over_some}
 use Rattle.fare_desk.proofs.forgetting.forget_owner.Goals as goal
@@ -21,7 +21,7 @@ unreachable-requires g c =
     at_known c.loop-place.hub.scheme.devices c.loop-place.place (omega (arith, lt, all, n)) (sym c.device_at.ensures.value ∙ c.in_default.is)
 
 pub returns-in_err-forget_lane-clause-goes : goal.returns-in_err-forget_lane-clause-goes
-returns-in_err-forget_lane-clause-goes g c = goes_join g.O.Outbox.standing g.L.Ledger.standing c.args.hub.now c.loop-place.hub c.forget_lane.new.hub c.loop-place.invariant.goes c.forget_lane.ensures.goes
+returns-in_err-forget_lane-clause-goes g c = letting_join g.O.Outbox.standing g.L.Ledger.standing c.args.hub.now c.loop-place.hub c.forget_lane.new.hub c.loop-place.invariant.goes c.forget_lane.ensures.goes
 
 pub returns-in_err-forget_lane-clause-rest : goal.returns-in_err-forget_lane-clause-rest
 returns-in_err-forget_lane-clause-rest g c =

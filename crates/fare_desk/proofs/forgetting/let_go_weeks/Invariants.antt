@@ -1,9 +1,9 @@
 use Rattle.std.proofs.Common.{◌-◌}
-use Rattle.fare_desk.proofs.LetGo.{StandsAt}
+use Rattle.fare_desk.specs.Forgetting.{LetsSomeGo}
 use Rattle.fare_desk.proofs.forgetting.let_go_weeks.Given as goal
 
 abbrev pub invariant-loop-week : goal.invariant-loop-week
-invariant-loop-week g l = StandsAt g.O.Outbox.standing g.L.Ledger.standing l.day l.owner l.device l.fn.hub l.hub
+invariant-loop-week g l = LetsSomeGo g.O.Outbox.standing g.L.Ledger.standing l.day l.owner l.device l.fn.hub l.hub
 
 abbrev pub decreases-loop-week : goal.decreases-loop-week
 decreases-loop-week g l = l.day - l.week

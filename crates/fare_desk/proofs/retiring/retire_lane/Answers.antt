@@ -4,7 +4,8 @@ use Rattle.fare_event.specs.declared.reply.Reply.TheVariants as reply
 use Rattle.fare_lines.specs.Replies.{reply_text}
 use Rattle.fare_scheme.specs.Words.{position_of_owner}
 use Rattle.fare_store.specs.declared.fault.Fault.TheVariants as fault
-use Rattle.fare_desk.specs.Retiring.{ComesOf, LeavesLane}
+use Rattle.fare_sessions.specs.Stores.{ComesOf}
+use Rattle.fare_desk.specs.Retiring.{LeavesLane}
 use Rattle.fare_desk.specs.declared.fault.DeskFault.TheVariants as desk
 use Rattle.fare_desk.proofs.Going.{goes_asks, goes_join}
 use Rattle.fare_desk.proofs.Retires.{asked_failed, comes_asked, comes_done, comes_refused, lane_retired, line_lost, still_there}
@@ -31,7 +32,7 @@ returns-in_err-print_reply-clause-failed g c = asked_failed g.O.Outbox.standing 
 pub returns-in-Ok-clause-goes : goal.returns-in-Ok-clause-goes
 returns-in-Ok-clause-goes g c =
     let r = c.retire.ensures in
-    goes_join g.O.Outbox.standing g.L.Ledger.standing c.args.hub.now c.ask_retired.new.hub c.retire.new.self (goes_asks g.O.Outbox.standing g.L.Ledger.standing c.args.hub.now c.ask_retired.new.hub c.ask_retired.ensures.asks) (record { scheme = r.scheme; follow = r.follow; sound = r.sound; agrees = r.agrees; grows = r.grows })
+    goes_join g.O.Outbox.standing g.L.Ledger.standing c.args.hub.now c.ask_retired.new.hub c.retire.new.self (goes_asks g.O.Outbox.standing g.L.Ledger.standing c.args.hub.now c.ask_retired.new.hub c.ask_retired.ensures.asks) (record { scheme = r.scheme; follow = r.follow; sound = r.sound; agrees = r.agrees; stays = r.grows })
 
 pub returns-in-Ok-clause-retired : goal.returns-in-Ok-clause-retired
 returns-in-Ok-clause-retired g c =
@@ -50,7 +51,7 @@ returns-in-Ok-clause-failed g c =
 pub returns-clause-goes : goal.returns-clause-goes
 returns-clause-goes g c =
     let r = c.retire.ensures in
-    goes_join g.O.Outbox.standing g.L.Ledger.standing c.args.hub.now c.ask_retired.new.hub c.retire.new.self (goes_asks g.O.Outbox.standing g.L.Ledger.standing c.args.hub.now c.ask_retired.new.hub c.ask_retired.ensures.asks) (record { scheme = r.scheme; follow = r.follow; sound = r.sound; agrees = r.agrees; grows = r.grows })
+    goes_join g.O.Outbox.standing g.L.Ledger.standing c.args.hub.now c.ask_retired.new.hub c.retire.new.self (goes_asks g.O.Outbox.standing g.L.Ledger.standing c.args.hub.now c.ask_retired.new.hub c.ask_retired.ensures.asks) (record { scheme = r.scheme; follow = r.follow; sound = r.sound; agrees = r.agrees; stays = r.grows })
 
 pub returns-clause-failed : goal.returns-clause-failed
 returns-clause-failed g c =
