@@ -23,20 +23,21 @@ use Rattle.fare_world.specs.Headline.{IsPrefixOf}
 use Rattle.fare_history.specs.Stores.{StoresValue}
 use Rattle.fare_history.proofs.Entries.{element_at}
 use Rattle.fare_agreement.specs.Agreeing.{Agrees}
-use Rattle.fare_agreement.specs.Growing.{OutboxGrew, LedgerGrew}
+use Rattle.fare_agreement.specs.Growing.{OutboxGrew, LedgerGrew, StoresLast}
+use Rattle.fare_agreement.proofs.Takes.{ledger_self}
 use Rattle.fare_agreement.proofs.Prefixes.{prefix_self}
 use Rattle.fare_sessions.specs.declared.hub.Hub.{Hub}
 use Rattle.fare_sessions.specs.Reopening.{AreLasting}
-use Rattle.fare_sessions.specs.Stores.{AreClean, AreLive, AreSound, HasGrown, HasLedgers, IsAgreed, IsLedgerOf, MayStandAs, StoresFollow}
+use Rattle.fare_sessions.specs.Stores.{AreClean, AreLive, AreSound, HasLedgers, IsAgreed, IsLedgerOf, MayStandAs, StoresFollow}
 use Rattle.fare_sessions.proofs.Follow.{clean_back, has_place, same_at}
 use Rattle.fare_sessions.proofs.Lasting.{lasting_on}
 use Rattle.fare_databases.specs.Closed.{IsBack, IsHandedBack}
 use Rattle.fare_databases.specs.Held.{AreCleanDisks, Holds, Leave, Show, StayStores}
-use Rattle.fare_databases.specs.Holding.{HoldsLedger, HoldsOutbox, HoldStores, LedgersLook, OutboxesLook, StayAgreed, StoresLook}
+use Rattle.fare_databases.specs.Holding.{HoldsLedger, HoldsOutbox, HoldStores, LedgersLook, OutboxesLook, StayAgreed, StayAgreedAs, StoresLook}
 use Rattle.fare_databases.specs.declared.databases.Databases.{Databases}
 use Rattle.fare_databases.proofs.Held.{clean_was, element_of, ledger_left, left_was, place_of_known}
 use Rattle.fare_databases.proofs.Looks.{stores_agree}
-use Rattle.fare_databases.proofs.Owners.{by_owner, by_owner_is, place_within}
+use Rattle.fare_databases.proofs.Owners.{by_owner, by_owner_is, by_owner_none, place_within}
 
 module _ {S : Type 0} (g : Ghosts S) where
   abbrev pub stands_outbox : SqlOutbox S g → Standing OutboxValue
@@ -145,24 +146,24 @@ module _ {S : Type 0} (g : Ghosts S) where
       lasting_new : AreLasting stands_outbox stands_ledger new
       lasting_new = lasting_on stands_outbox stands_ledger old new follow clean_new sound_old known.2
 
-      module _ (lists : ℕ → List RecordValue) (agreed : IsAgreed stands_outbox stands_ledger lists new) (grown : HasGrown stands_outbox stands_ledger old new) (outbox_left : Trees) (ledgers_left : ℕ → Trees) (leave : Leave g after outbox_left ledgers_left) where
+      module _ (Stays : StoresValue → StoresValue → Type 0) (last : (w k : StoresValue) → Stays w k → StoresLast w k) (lists : ℕ → List RecordValue) (agreed : IsAgreed stands_outbox stands_ledger lists new) (stayed : (k : StoresValue) → MayStandAs stands_outbox stands_ledger new k → (w : StoresValue) × MayStandAs stands_outbox stands_ledger old w × Stays w k) (outbox_left : Trees) (ledgers_left : ℕ → Trees) (leave : Leave g after outbox_left ledgers_left) where
         abbrev k : StoresValue
         k = left_all sc valid new same_new count_new after back clean h outbox_left ledgers_left leave
 
         may : MayStandAs stands_outbox stands_ledger new k
         may = may_stand sc valid new same_new count_new after back clean h outbox_left ledgers_left leave
 
-        it : (w : StoresValue) × MayStandAs stands_outbox stands_ledger old w × OutboxGrew w.outbox k.outbox × ((owner : ℕ) → knows_owner old.scheme owner ≡ true → LedgerGrew (w.ledgers owner) (k.ledgers owner))
-        it = grown.grown k may
+        it : (w : StoresValue) × MayStandAs stands_outbox stands_ledger old w × Stays w k
+        it = stayed k may
 
         owned : (owner : ℕ) → knows_owner sc owner ≡ true → ((k.ledgers owner).owner ≡ owner) × IsOfScheme sc (k.ledgers owner)
         owned owner is =
             let place = place_of_known sc valid owner is in
             let was = (known.3 it.0 it.1).0.ledgers_hold place.0 owner place.1 in
-            let grew = it.3 owner (ap (λ s. knows_owner s owner) same ∙ is) in
+            let grew = (last it.0 k it.2).ledgers owner in
             (grew.owner ∙ was.own, record { start = grew.start ∙ was.made.start; knows = λ device. grew.knows device ∙ was.made.knows device })
 
-        pub run_keeps : (kept : StayAgreed sc lists outbox ledgers outbox_left ledgers_left) × MayStandAs stands_outbox stands_ledger new kept.is
+        pub run_keeps : (kept : StayAgreedAs Stays sc lists outbox ledgers outbox_left ledgers_left) × MayStandAs stands_outbox stands_ledger new kept.is
         run_keeps = (
           record {
             was = it.0;
@@ -170,8 +171,7 @@ module _ {S : Type 0} (g : Ghosts S) where
             is = k;
             is_held = holds_left sc valid new same_new count_new after back clean h outbox_left ledgers_left leave lasting_new owned;
             agrees = subst (λ s. Agrees s lists k) same_new (agreed.agreed k may);
-            outbox_grew = it.2;
-            ledgers_grew = λ owner is. it.3 owner (ap (λ s. knows_owner s owner) same ∙ is);
+            stays = it.2;
           },
           may,
         )
@@ -185,11 +185,11 @@ module _ {S : Type 0} (g : Ghosts S) where
     owner = yours ∙ sym mine;
     start = two.start ∙ sym one.start;
     knows = λ d. two.knows d ∙ sym (one.knows d);
-    taken = λ d k r e. inl (ap (λ (l : List RecordValue). slice_get l k) (looks.taken d) ∙ e);
-    stated = λ d day count e. inl (ap (λ (f : ℕ → Option ℕ). f day) (looks.stated d) ∙ e);
+    taken = λ d. subst (IsPrefixOf (v.taken d)) (sym (looks.taken d)) (prefix_self (v.taken d));
+    stated = λ d day count e. ap (λ (f : ℕ → Option ℕ). f day) (looks.stated d) ∙ e;
     closed = λ d. let e = looks.closed d in omega (arith, e);
     retired = λ d e. looks.retired d ∙ e;
-    from = λ d. let e = looks.from d in omega (arith, e);
+    from = looks.from;
   }
 
   module _ (sc : SchemeValue) (valid : IsScheme sc) (before after : Databases S) (count : length before.ledgers.items ≡ length sc.owners) (stay : StayStores g sc before after) (clean : AreCleanDisks g after)
@@ -217,6 +217,16 @@ module _ {S : Type 0} (g : Ghosts S) where
     unfolding still_all
     still_there place owner at = by_owner_is sc valid h.ledgers (λ place owner at. (still_at place owner at).0) Still (λ place owner at. (still_at place owner at).1) place owner at
 
+    -- of an owner who isn't registered nothing else is said
+    still_grew : (owner : ℕ) (at : Option ℕ) → position_of_owner sc owner ≡ at → LedgerGrew (h.ledgers owner) (still_all.ledgers owner)
+    unfolding still_all
+    still_grew owner None unknown = subst (LedgerGrew (h.ledgers owner)) (sym (by_owner_none sc valid h.ledgers (λ place owner at. (still_at place owner at).0) owner unknown)) (ledger_self (h.ledgers owner))
+    still_grew owner (Some place) known =
+        let at = place_of_known sc valid owner (ap is_some known) in
+        let now = still_there at.0 owner at.1 in
+        let was = held.ledgers_hold at.0 owner at.1 in
+        ledger_grew sc owner (h.ledgers owner) (still_all.ledgers owner) was.own now.0.own was.made now.0.made now.1
+
     -- what they held is held still
     pub unopened_keeps : (lists : ℕ → List RecordValue) → Agrees sc lists h → StayAgreed sc lists outbox ledgers outbox_left ledgers_left
     unfolding still_all still_outbox
@@ -226,10 +236,5 @@ module _ {S : Type 0} (g : Ghosts S) where
       is = still_all;
       is_held = record { outbox_holds = still_outbox.1; ledgers_hold = λ place owner at. (still_there place owner at).0 };
       agrees = stores_agree sc lists h still_all (record { outbox_looks = still_outbox.2; ledgers_look = λ owner known. let at = place_of_known sc valid owner known in (still_there at.0 owner at.1).1 }) agrees;
-      outbox_grew = looks_grew h.outbox still_outbox.0 still_outbox.2;
-      ledgers_grew = λ owner known.
-          let at = place_of_known sc valid owner known in
-          let now = still_there at.0 owner at.1 in
-          let was = held.ledgers_hold at.0 owner at.1 in
-          ledger_grew sc owner (h.ledgers owner) (still_all.ledgers owner) was.own now.0.own was.made now.0.made now.1;
+      stays = record { outbox = looks_grew h.outbox still_outbox.0 still_outbox.2; ledgers = λ owner. still_grew owner (position_of_owner sc owner) refl };
     }

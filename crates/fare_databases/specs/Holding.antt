@@ -27,7 +27,7 @@ use Rattle.fare_ledger.specs.declared.layout.Layout as ledger_layout
 use Rattle.fare_world.specs.Knowing.{knows_owner}
 use Rattle.fare_history.specs.Stores.{StoresValue}
 use Rattle.fare_agreement.specs.Agreeing.{Agrees}
-use Rattle.fare_agreement.specs.Growing.{OutboxGrew, LedgerGrew}
+use Rattle.fare_agreement.specs.Growing.{StoresGrew, StoresLast}
 
 -- TREES
 -- whatever schema the trees list, nothing in it has the name of one of a store's tables
@@ -121,13 +121,19 @@ module _ {D : Type 0} (state : D → State) (outbox : D) (ledgers : List D) wher
     pub ledgers_clean : (place : ℕ) (d : D) → slice_get ledgers place ≡ Some d → HasCleanDisk (state d)
 
 -- ONE RUN
--- what a stop would leave of databases agrees with the lists, and has all of what they showed before: no count fell, and no
--- taken tap, statement, closed day or retired lane went
-pub record StayAgreed (sc : SchemeValue) (lists : ℕ → List RecordValue) (outbox : Trees) (ledgers : ℕ → Trees) (outbox_left : Trees) (ledgers_left : ℕ → Trees) : Type 0 where
+-- what a stop would leave of databases agrees with the lists, and what they showed before stays in it as this says
+pub record StayAgreedAs (Stays : StoresValue → StoresValue → Type 0) (sc : SchemeValue) (lists : ℕ → List RecordValue) (outbox : Trees) (ledgers : ℕ → Trees) (outbox_left : Trees) (ledgers_left : ℕ → Trees) : Type 0 where
   pub was : StoresValue
   pub was_held : HoldStores sc outbox ledgers was
   pub is : StoresValue
   pub is_held : HoldStores sc outbox_left ledgers_left is
   pub agrees : Agrees sc lists is
-  pub outbox_grew : OutboxGrew was.outbox is.outbox
-  pub ledgers_grew : (owner : ℕ) → knows_owner sc owner ≡ true → LedgerGrew (was.ledgers owner) (is.ledgers owner)
+  pub stays : Stays was is
+
+-- it has all of that: no count fell, and no taken tap, statement, closed day or retired lane went
+abbrev pub StayAgreed : SchemeValue → (ℕ → List RecordValue) → Trees → (ℕ → Trees) → Trees → (ℕ → Trees) → Type 0
+StayAgreed = StayAgreedAs StoresGrew
+
+-- or all but what was let go
+abbrev pub StayAgreedLettingGo : SchemeValue → (ℕ → List RecordValue) → Trees → (ℕ → Trees) → Trees → (ℕ → Trees) → Type 0
+StayAgreedLettingGo = StayAgreedAs StoresLast

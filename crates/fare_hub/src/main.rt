@@ -1,7 +1,8 @@
 //! The program of the fare hub. `replay` reads a trace from standard input and writes the replies to its lines
 //! to standard output; `serve` reads a scheme from there or from a file, collects what its stations send over sockets into
-//! stores in files, and serves the owners; `close`, `bill`, `settle`, `stand` and `retire` work on these. What it promises are the contracts of
-//! `fare_run::run`, `fare_run::serve` and `fare_run::ask`, for the words after its name, standard input and standard output.
+//! stores in files, and serves the owners; `close`, `bill`, `settle`, `stand`, `retire` and `forget` work on these. What it
+//! promises are the contracts of `fare_run::run`, `fare_run::serve` and `fare_run::ask`, for the words after its name,
+//! standard input and standard output.
 //!
 //! Its status is 0 where the job was done or help was asked for, 1 with one line on standard error where the
 //! job failed, and 2 with a text on standard error where the words were refused.

@@ -5,9 +5,10 @@ use Rattle.std.specs.Io.KnownBytes.{Keeps}
 use Rattle.fare_desk.specs.Billing.{WritesBill, WritesSettlement}
 use Rattle.fare_desk.specs.Closing.{HasClosedLanes, lanes_of}
 use Rattle.fare_desk.specs.Faults.{is_of_retire, is_refusal, name_of, refused_of}
-use Rattle.fare_desk.specs.Retiring.{ComesOf, LeavesLane, RetiresLane}
+use Rattle.fare_desk.specs.Retiring.{LeavesLane, RetiresLane}
 use Rattle.fare_desk.specs.declared.fault.DeskFault.{DeskFault}
 use Rattle.fare_desk.specs.declared.fault.DeskFault.TheVariants as desk
+use Rattle.fare_desk.proofs.LetGo.{comes_loosened}
 use Rattle.fare_desk.proofs.Retires.{comes_self}
 use Rattle.fare_event.specs.declared.reply.Refusal.{Refusal}
 use Rattle.fare_event.specs.declared.reply.Refusal.TheVariants as refusal
@@ -18,7 +19,7 @@ use Rattle.fare_request.specs.declared.form.Form.{Form}
 use Rattle.fare_scheme.specs.Words.{position_of_device, position_of_owner}
 use Rattle.fare_serve.specs.declared.progress.Progress.{Progress}
 use Rattle.fare_sessions.specs.Billing.{IsBillRefusal}
-use Rattle.fare_sessions.specs.Stores.{AreClean, AreSound}
+use Rattle.fare_sessions.specs.Stores.{ComesOf, AreClean, AreSound}
 use Rattle.fare_sessions.specs.declared.hub.Hub.{Hub}
 use Rattle.fare_store.specs.LedgerWords.{LedgerValue}
 use Rattle.fare_store.specs.OutboxWords.{OutboxValue}
@@ -87,10 +88,6 @@ module _ {O L : Type 0} (outbox : O → Standing OutboxValue) (ledger : L → St
   tells_settlement progress a old new owner day before middle after status ended is none written refused named kept told =
       subst (λ (x : Ask). Tells outbox ledger progress x old new status after) (sym is) (tells_day (WritesSettlement outbox ledger old new owner day) old new owner day before middle after status none ended written refused named kept told)
 
-  -- what comes of stores by one relation comes of them by a weaker one
-  loosen : (old new : Hub O L) (R S : StoresValue → StoresValue → Type 0) → ((h k : StoresValue) → R h k → S h k) → ComesOf outbox ledger old new R → ComesOf outbox ledger old new S
-  loosen old new R S weaker comes = record { came = λ clean sound k may. (let was = comes.came clean sound k may in (was.0, was.1, weaker was.0 k was.2)) }
-
   -- the end of a lane
   module _ (old new : Hub O L) (owner device : ℕ) (before middle after : List ℕ) (status : ℕ) (none : before ≡ []) where
     abbrev Told : Type 0
@@ -98,7 +95,7 @@ module _ {O L : Type 0} (outbox : O → Standing OutboxValue) (ledger : L → St
 
     module _ (fault : DeskFault) (owner_is : (fault ≡ desk.UnknownOwner) ↔ (position_of_owner old.scheme owner ≡ None)) (device_is : (fault ≡ desk.UnknownDevice) ↔ ((position_of_owner old.scheme owner ≢ None) × (position_of_device old.scheme device ≡ None))) (leaves : ComesOf outbox ledger old new (LeavesLane owner device fault)) where
       by_refusal : (why : Refusal) → (is_of_retire fault ≡ true) × (refusal_in fault ≡ Some why) → middle ≡ before → IsToldFault (Some why) middle after status → Told
-      by_refusal why is same (inl out) = inr (inr (out, loosen old new (LeavesLane owner device fault) (MayRetireOne owner device) (λ h k l. inl (leaves_same owner device fault h k is.0 l)) leaves))
+      by_refusal why is same (inl out) = inr (inr (out, comes_loosened outbox ledger old new (LeavesLane owner device fault) (MayRetireOne owner device) (λ h k l. inl (leaves_same owner device fault h k is.0 l)) leaves))
       by_refusal why is same (inr named) = inr (inl (record {
         fault = fault;
         why = why;
@@ -116,9 +113,9 @@ module _ {O L : Type 0} (outbox : O → Standing OutboxValue) (ledger : L → St
     by_retire desk.BeforeStart o d leaves is kept told = absurd (cc)
     by_retire (desk.Forgotten other) o d leaves is kept told = absurd (cc)
     by_retire (desk.NotClosed other) o d leaves is kept told = absurd (cc)
-    by_retire desk.Memory o d leaves is kept told = inr (inr (told, loosen old new (LeavesLane owner device desk.Memory) (MayRetireOne owner device) (λ h k l. l) leaves))
-    by_retire desk.Store o d leaves is kept told = inr (inr (told, loosen old new (LeavesLane owner device desk.Store) (MayRetireOne owner device) (λ h k l. l) leaves))
-    by_retire desk.Write o d leaves is kept told = inr (inr (told, loosen old new (LeavesLane owner device desk.Write) (MayRetireOne owner device) (λ h k l. inr l) leaves))
+    by_retire desk.Memory o d leaves is kept told = inr (inr (told, comes_loosened outbox ledger old new (LeavesLane owner device desk.Memory) (MayRetireOne owner device) (λ h k l. l) leaves))
+    by_retire desk.Store o d leaves is kept told = inr (inr (told, comes_loosened outbox ledger old new (LeavesLane owner device desk.Store) (MayRetireOne owner device) (λ h k l. l) leaves))
+    by_retire desk.Write o d leaves is kept told = inr (inr (told, comes_loosened outbox ledger old new (LeavesLane owner device desk.Write) (MayRetireOne owner device) (λ h k l. inr l) leaves))
 
     pub tells_lane : (ended : Result (Unit {0}) DeskFault) → ((ended ≡ Err desk.UnknownOwner) ↔ (position_of_owner old.scheme owner ≡ None)) → ((ended ≡ Err desk.UnknownDevice) ↔ ((position_of_owner old.scheme owner ≢ None) × (position_of_device old.scheme device ≡ None)))
         → OnOk ended (RetiresLane outbox ledger owner device old new (Some before) (Some middle)) → IfErr ended (λ fault. ComesOf outbox ledger old new (LeavesLane owner device fault)) → IfErr ended (λ fault. is_refusal fault ≡ is_of_retire fault) → IfErr ended (λ fault. fault ≢ desk.Write → Keeps (Some before) (Some middle)) → IsTold ended middle after status → Told
@@ -152,8 +149,8 @@ module _ {O L : Type 0} (outbox : O → Standing OutboxValue) (ledger : L → St
 
   -- what was told of a lane tells what may have come of it
   may_retire : (old new : Hub O L) (owner device status : ℕ) (body : List ℕ) → TellsRetired outbox ledger old new owner device status body ⊎ (TellsNotRetired outbox ledger old new owner device status body ⊎ TellsRetireFault outbox ledger old new owner device status) → ComesOf outbox ledger old new (MayRetireOne owner device)
-  may_retire old new owner device status body (inl done) = loosen old new (λ h k. LeavesLane owner device desk.Write h k) (MayRetireOne owner device) (λ h k l. inr l) (record { came = done.retires.retired.came })
-  may_retire old new owner device status body (inr (inl refused)) = loosen old new (LeavesLane owner device refused.fault) (MayRetireOne owner device) (λ h k l. inl (leaves_same owner device refused.fault h k refused.named.0 l)) refused.leaves
+  may_retire old new owner device status body (inl done) = comes_loosened outbox ledger old new (λ h k. LeavesLane owner device desk.Write h k) (MayRetireOne owner device) (λ h k l. inr l) (record { came = done.retires.retired.came })
+  may_retire old new owner device status body (inr (inl refused)) = comes_loosened outbox ledger old new (LeavesLane owner device refused.fault) (MayRetireOne owner device) (λ h k l. inl (leaves_same owner device refused.fault h k refused.named.0 l)) refused.leaves
   may_retire old new owner device status body (inr (inr failed)) = failed.1
 
   -- that there was no memory may be told in place of anything

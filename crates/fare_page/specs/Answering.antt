@@ -3,7 +3,7 @@ use Rattle.std.specs.Prelude.{◌≡◌, ◌≢◌, ◌↔◌, ◌⊎◌, ℕ, t
 use Rattle.fare_desk.specs.Billing.{WritesBill, WritesSettlement}
 use Rattle.fare_desk.specs.Closing.{GoesOn, HasClosedLanes, lanes_of}
 use Rattle.fare_desk.specs.Faults.{is_of_retire}
-use Rattle.fare_desk.specs.Retiring.{ComesOf, LeavesLane, RetiresLane}
+use Rattle.fare_desk.specs.Retiring.{LeavesLane, RetiresLane}
 use Rattle.fare_desk.specs.Showing.{OnlyAsks, WritesStanding}
 use Rattle.fare_desk.specs.Waiting.{TellsOwners}
 use Rattle.fare_desk.specs.declared.fault.DeskFault.{DeskFault}
@@ -28,7 +28,7 @@ use Rattle.fare_scheme.specs.Values.{SchemeValue}
 use Rattle.fare_scheme.specs.Words.{position_of_device, position_of_owner}
 use Rattle.fare_serve.specs.declared.progress.Progress.{Progress}
 use Rattle.fare_sessions.specs.Billing.{IsBillRefusal}
-use Rattle.fare_sessions.specs.Stores.{AreClean, AreSound}
+use Rattle.fare_sessions.specs.Stores.{ComesOf, AreClean, AreSound}
 use Rattle.fare_sessions.specs.declared.hub.Hub.{Hub}
 use Rattle.fare_store.specs.LedgerWords.{LedgerValue}
 use Rattle.fare_store.specs.OutboxWords.{OutboxValue}

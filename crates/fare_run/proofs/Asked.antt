@@ -1,10 +1,11 @@
 -- How a question ends, by how its parts do.
 use Rattle.std.proofs.Common.{◌≡◌, ◌≢◌, ℕ, List, Option, Some, None, IfSome, sym, ap, ◌∙◌, subst, codes, slice_index_or, arith, inr}
-use Rattle.std.specs.Prelude.{Result, Ok, Err, OnOk, IfErr}
+use Rattle.std.specs.Prelude.{◌↔◌, Result, Ok, Err, OnOk, IfErr, length}
 use Rattle.std.specs.Io.KnownBytes.{Keeps}
 use Rattle.std.specs.Map.{keys_of}
 use Rattle.clap.specs.Words.{Row, Text}
 use Rattle.fare_scheme.specs.Values.{SchemeValue}
+use Rattle.fare_scheme.specs.Words.{position_of_device, position_of_owner}
 use Rattle.fare_store.specs.Standing.{Standing}
 use Rattle.fare_store.specs.OutboxWords.{OutboxValue}
 use Rattle.fare_store.specs.LedgerWords.{LedgerValue}
@@ -14,17 +15,43 @@ use Rattle.fare_command.specs.declared.words.Job.TheVariants as job
 use Rattle.fare_command.specs.declared.words.Question.{Question}
 use Rattle.fare_command.specs.declared.words.Question.TheVariants.{Close, Bill, Settle, Stand, Retire, Forget}
 use Rattle.fare_desk.specs.Closing.{AreLinesOf, lanes_of}
+use Rattle.fare_desk.specs.Faults.{is_of_retire, is_refusal}
 use Rattle.fare_desk.specs.Forgetting.{AreGoneLines}
+use Rattle.fare_desk.specs.Retiring.{LeavesLane}
 use Rattle.fare_desk.specs.Showing.{AreLaneLines, AreUptoLines}
 use Rattle.fare_desk.specs.declared.fault.DeskFault.{DeskFault}
 use Rattle.fare_desk.specs.declared.fault.DeskFault.TheVariants as desk
 use Rattle.fare_sessions.specs.declared.hub.Hub.{Hub}
-use Rattle.fare_run.specs.Asking.{Answers, AskEnds, AskFails, FailsIn, IsAnswered, IsAskedOf, KeepsUnlessWrite}
+use Rattle.fare_sessions.specs.Stores.{ComesOf}
+use Rattle.fare_run.specs.Asking.{Answers, AskEnds, AskFails, FailsIn, FailsRetire, GoesOnAsked, IsAnswered, IsAskedOf, KeepsUnlessWrite}
 use Rattle.fare_run.specs.Runs.{IsOfFiles}
 use Rattle.fare_run.specs.Scheming.{SpellsScheme}
 use Rattle.fare_run.specs.declared.ask_failure.AskFailure.{AskFailure}
 use Rattle.fare_run.specs.declared.ask_failure.AskFailure.TheVariants.{Stores, Desk}
 use Rattle.fare_run.proofs.Served.{has_scheme}
+
+-- A RETIRE
+-- what it says of its result it says of its fault
+module _ {O L : Type 0} (outbox : O → Standing OutboxValue) (ledger : L → Standing LedgerValue) (owner device : ℕ) (old new : Hub O L) where
+  pub retire_fails : (r : Result (Unit {0}) DeskFault) → ((r ≡ Err desk.UnknownOwner) ↔ (position_of_owner old.scheme owner ≡ None)) → ((r ≡ Err desk.UnknownDevice) ↔ ((position_of_owner old.scheme owner ≢ None) × (position_of_device old.scheme device ≡ None)))
+      → IfErr r (λ fault. ComesOf outbox ledger old new (LeavesLane owner device fault)) → IfErr r (λ fault. is_refusal fault ≡ is_of_retire fault) → IfErr r (λ fault. FailsRetire outbox ledger owner device old new fault)
+  retire_fails (Ok u) of_owner of_device failed named = tt
+  retire_fails (Err fault) of_owner of_device failed named = (
+    named,
+    ((λ is. of_owner.0 (ap Err is)), (λ none. let both = of_owner.1 none in cc)),
+    ((λ is. of_device.0 (ap Err is)), (λ none. let both = of_device.1 none in cc)),
+    failed,
+  )
+
+-- LEDGERS
+-- whatever was asked, there are as many as before
+pub asked_count : {O L : Type 0} (outbox : O → Standing OutboxValue) (ledger : L → Standing LedgerValue) (question : Question) (old new : Hub O L) → GoesOnAsked outbox ledger question old new → length new.ledgers.items ≡ length old.ledgers.items
+asked_count outbox ledger Close old new goes = goes.follow.count
+asked_count outbox ledger (Bill owner day) old new goes = goes.follow.count
+asked_count outbox ledger (Settle owner day) old new goes = goes.follow.count
+asked_count outbox ledger Stand old new goes = goes.follow.count
+asked_count outbox ledger (Retire owner device) old new goes = goes.follow.count
+asked_count outbox ledger (Forget day) old new goes = goes.follow.count
 
 -- THE JOB
 -- the first letters of two words

@@ -20,15 +20,18 @@ use Rattle.fare_ledger.specs.declared.tables.SqlLedger.{SqlLedger}
 use Rattle.fare_history.specs.Stores.{StoresValue}
 use Rattle.fare_side.specs.declared.bill_fault.BillFault.TheVariants.{UnknownOwner, BeforeStart}
 use Rattle.fare_agreement.specs.Agreeing.{AreNumberedLists, Agrees}
+use Rattle.fare_agreement.specs.Growing.{StoresGrew, StoresLast}
 use Rattle.fare_agreement.specs.Parts.{parts_of}
+use Rattle.fare_agreement.proofs.Lasting.{stores_last}
 use Rattle.fare_sessions.specs.declared.billing.BillingFault.TheVariants.{Unbilled}
 use Rattle.fare_sessions.specs.Billing.{gone_in, open_in, short_in}
 use Rattle.fare_sessions.specs.Reopening.{AreLasting}
-use Rattle.fare_sessions.specs.Stores.{AreClean, AreLive, AreSound, HasLedgers, MayStandAs}
+use Rattle.fare_sessions.specs.Stores.{AreClean, AreLive, AreSound, HasLedgers, IsAgreed, MayStandAs}
 use Rattle.fare_sessions.specs.declared.hub.Hub.{Hub}
 use Rattle.fare_sessions.proofs.Follow.{clean_back}
 use Rattle.fare_desk.specs.Billing as desk
-use Rattle.fare_desk.specs.Closing.{GoesOn}
+use Rattle.fare_desk.specs.Closing.{GoesOn, GoesOnLettingGo}
+use Rattle.fare_desk.proofs.Going.{letting_goes}
 use Rattle.fare_desk.specs.Faults.{name_of}
 use Rattle.fare_desk.specs.declared.fault.DeskFault.{DeskFault}
 use Rattle.fare_serve.specs.Calls.{IsOfScheme}
@@ -50,18 +53,18 @@ use Rattle.fare_databases.specs.declared.databases.Databases.{Databases}
 use Rattle.fare_databases.proofs.Kept.{agreed_old, clean_new, known, run_keeps, sound_old, stands_ledger, stands_outbox, unopened_keeps}
 use Rattle.fare_databases.proofs.Looks.{gone_alike, ledger_self, open_alike, parts_alike, short_alike, stores_agree}
 use Rattle.fare_databases.proofs.Now.{now_all, stands_now, unknown_now}
-use Rattle.fare_run.specs.Asking.{Answers, FailsBill, FailsOf}
-use Rattle.fare_run.specs.Databases.{AnswersIn, IsBilled, IsMadeOf, IsRefusedBill, IsUnbilled, KeepDatabases, KeepsCalls, KeepsIn, LineCall, RefusesIn, ServesIn, bill_text, settlement_text}
+use Rattle.fare_run.specs.Asking.{Answers, FailsBill, FailsOf, GoesOnAsked}
+use Rattle.fare_run.specs.Databases.{AnswersIn, IsBilled, IsMadeOf, IsRefusedBill, IsUnbilled, KeepDatabases, KeepsCalls, KeepsIn, LineCall, RefusesIn, ServesIn, StaysAsked, bill_text, settlement_text}
 use Rattle.fare_run.specs.Serving.{LeavesStores, ServesOver}
 use Rattle.fare_run.specs.declared.serve_failure.ServeFailure.{ServeFailure}
 
 module _ {S : Type 0} (g : Ghosts S) (sc : SchemeValue) (valid : IsScheme sc) (before after : Databases S) where
   -- NOT OPENED
-  pub keeps_unopened : (AreGiven : (ℕ → List RecordValue) → Type 0) (IsSo : StoresValue → Type 0) → ((k : StoresValue) → IsSo k) → length before.ledgers.items ≡ length sc.owners → StayStores g sc before after → KeepDatabases g sc before after AreGiven IsSo
-  keeps_unopened AreGiven IsSo so count stay = record {
+  pub keeps_unopened : (AreGiven : (ℕ → List RecordValue) → Type 0) (IsSo : StoresValue → Type 0) → ((k : StoresValue) → IsSo k) → length before.ledgers.items ≡ length sc.owners → StayStores g sc before after → (Stays : StoresValue → StoresValue → Type 0) → ((h k : StoresValue) → StoresGrew h k → Stays h k) → KeepDatabases g Stays sc before after AreGiven IsSo
+  keeps_unopened AreGiven IsSo so count stay Stays weaker = record {
     keeps = λ clean lists numbered given outbox ledgers shows agreed outbox_left ledgers_left leave.
         let kept = unopened_keeps g sc valid before after count stay clean outbox ledgers shows agreed.0 agreed.1 outbox_left ledgers_left leave lists agreed.2 in
-        (kept, so kept.is);
+        (record { was = kept.was; was_held = kept.was_held; is = kept.is; is_held = kept.is_held; agrees = kept.agrees; stays = weaker kept.was kept.is kept.stays }, so kept.is);
   }
 
   pub serves_unopened : (most : ℕ) (untold asks : Bool) (written : Option (List ℕ)) (failure : ServeFailure) → length before.ledgers.items ≡ length sc.owners → StayStores g sc before after → ServesIn g sc most untold asks before after written written (Err failure)
@@ -69,7 +72,7 @@ module _ {S : Type 0} (g : Ghosts S) (sc : SchemeValue) (valid : IsScheme sc) (b
     calls = [];
     came = inl refl;
     lines = come_none sc;
-    keeps = keeps_unopened (λ lists. HaveTold sc lists []) (λ k. AreAllCovered sc k.outbox [] × AreLinesCovered sc k.outbox []) (λ k. (tt, tt)) count stay;
+    keeps = keeps_unopened (λ lists. HaveTold sc lists []) (λ k. AreAllCovered sc k.outbox [] × AreLinesCovered sc k.outbox []) (λ k. (tt, tt)) count stay StoresGrew (λ h k grew. grew);
   }
 
   -- OPENED
@@ -87,7 +90,7 @@ module _ {S : Type 0} (g : Ghosts S) (sc : SchemeValue) (valid : IsScheme sc) (b
           let sound = sound_old g sc valid before after old new same count holds k.scheme k.follow back clean outbox ledgers shows h agreed.1 in
           let is = agreed_old g sc valid before after old new same count holds k.scheme k.follow back clean outbox ledgers shows h agreed.1 lists agreed.2 in
           let both = k.agrees clean_now sound lists (numbered_old lists numbered) told is in
-          let kept = run_keeps g sc valid before after old new same count holds k.scheme k.follow back clean outbox ledgers shows h agreed.1 lists both.0 both.1 outbox_left ledgers_left leave in
+          let kept = run_keeps g sc valid before after old new same count holds k.scheme k.follow back clean outbox ledgers shows h agreed.1 StoresGrew stores_last lists both.0 both.1.grown outbox_left ledgers_left leave in
           let covered = subst (λ s. AreAllCovered s kept.0.is.outbox calls) same (k.covered clean_now sound lists (numbered_old lists numbered) told is kept.0.is kept.1) in
           let answered = subst (λ s. AreLinesCovered s kept.0.is.outbox calls) same (k.answered clean_now sound lists (numbered_old lists numbered) told is kept.0.is kept.1) in
           (kept.0, (covered, answered));
@@ -130,15 +133,19 @@ module _ {S : Type 0} (g : Ghosts S) (sc : SchemeValue) (valid : IsScheme sc) (b
         }
 
     -- ASKING
-    module _ (goes : GoesOn (stands_outbox g) (stands_ledger g) old new) where
-      pub keeps_asked : KeepsIn g sc before after
-      keeps_asked = record {
+    module _ (goes : GoesOnLettingGo (stands_outbox g) (stands_ledger g) old new) where
+      -- however what they held stays
+      keeps_as : (Stays : StoresValue → StoresValue → Type 0) → ((w k : StoresValue) → Stays w k → StoresLast w k)
+          → (AreClean (stands_outbox g) (stands_ledger g) new → AreSound (stands_outbox g) (stands_ledger g) old → (lists : ℕ → List RecordValue) → AreNumberedLists old.scheme lists → IsAgreed (stands_outbox g) (stands_ledger g) lists old
+          → (k : StoresValue) → MayStandAs (stands_outbox g) (stands_ledger g) new k → (w : StoresValue) × MayStandAs (stands_outbox g) (stands_ledger g) old w × Stays w k)
+          → KeepDatabases g Stays sc before after (λ lists. Unit {0}) (λ k. Unit {0})
+      keeps_as Stays last stayed = record {
         keeps = λ clean lists numbered given outbox ledgers shows agreed outbox_left ledgers_left leave.
             let h = agreed.0 in
             let clean_now = clean_new g sc valid before after old new same count holds goes.scheme goes.follow back clean in
             let sound = sound_old g sc valid before after old new same count holds goes.scheme goes.follow back clean outbox ledgers shows h agreed.1 in
             let is = agreed_old g sc valid before after old new same count holds goes.scheme goes.follow back clean outbox ledgers shows h agreed.1 lists agreed.2 in
-            let kept = run_keeps g sc valid before after old new same count holds goes.scheme goes.follow back clean outbox ledgers shows h agreed.1 lists (goes.agrees clean_now sound lists (numbered_old lists numbered) is) (goes.grows clean_now sound lists (numbered_old lists numbered) is) outbox_left ledgers_left leave in
+            let kept = run_keeps g sc valid before after old new same count holds goes.scheme goes.follow back clean outbox ledgers shows h agreed.1 Stays last lists (goes.agrees clean_now sound lists (numbered_old lists numbered) is) (stayed clean_now sound lists (numbered_old lists numbered) is) outbox_left ledgers_left leave in
             (kept.0, tt);
       }
 
@@ -205,8 +212,8 @@ module _ {S : Type 0} (g : Ghosts S) (sc : SchemeValue) (valid : IsScheme sc) (b
           is_billed (Retire owner device) written_before written_after a = tt
           is_billed (Forget day) written_before written_after a = tt
 
-      pub answers_opened : (question : Question) (written_before written_after : Option (List ℕ)) → Answers (stands_outbox g) (stands_ledger g) question old new written_before written_after → AnswersIn g sc question before after written_before written_after
-      answers_opened question written_before written_after a = record {
+      answers_as : (question : Question) (written_before written_after : Option (List ℕ)) → Answers (stands_outbox g) (stands_ledger g) question old new written_before written_after → AnswersIn g sc question before after written_before written_after
+      answers_as question written_before written_after a = record {
         old = old;
         new = new;
         scheme = same;
@@ -216,8 +223,8 @@ module _ {S : Type 0} (g : Ghosts S) (sc : SchemeValue) (valid : IsScheme sc) (b
         billed = λ clean lists numbered outbox ledgers shows h held agrees. is_billed clean outbox ledgers shows h held lists numbered agrees question written_before written_after a;
       }
 
-      pub refuses_opened : (question : Question) (fault : DeskFault) → FailsOf (stands_outbox g) (stands_ledger g) question old new fault → RefusesIn g sc question before after fault
-      refuses_opened question fault fails = record {
+      refuses_as : (question : Question) (fault : DeskFault) → FailsOf (stands_outbox g) (stands_ledger g) question old new fault → RefusesIn g sc question before after fault
+      refuses_as question fault fails = record {
         old = old;
         new = new;
         scheme = same;
@@ -226,3 +233,38 @@ module _ {S : Type 0} (g : Ghosts S) (sc : SchemeValue) (valid : IsScheme sc) (b
         holds = λ clean. holds (clean_back (stands_outbox g) (stands_ledger g) old new goes.follow (clean_new g sc valid before after old new same count holds goes.scheme goes.follow back clean));
         unbilled = λ clean outbox ledgers shows h held. is_unbilled clean outbox ledgers shows h held question fault fails;
       }
+
+    -- by the question
+    asked_goes : (question : Question) → GoesOnAsked (stands_outbox g) (stands_ledger g) question old new → GoesOnLettingGo (stands_outbox g) (stands_ledger g) old new
+    asked_goes Close goes = letting_goes (stands_outbox g) (stands_ledger g) old new goes
+    asked_goes (Bill owner day) goes = letting_goes (stands_outbox g) (stands_ledger g) old new goes
+    asked_goes (Settle owner day) goes = letting_goes (stands_outbox g) (stands_ledger g) old new goes
+    asked_goes Stand goes = letting_goes (stands_outbox g) (stands_ledger g) old new goes
+    asked_goes (Retire owner device) goes = letting_goes (stands_outbox g) (stands_ledger g) old new goes
+    asked_goes (Forget day) goes = goes
+
+    keeps_grown : GoesOn (stands_outbox g) (stands_ledger g) old new → KeepDatabases g StoresGrew sc before after (λ lists. Unit {0}) (λ k. Unit {0})
+    keeps_grown goes = keeps_as (letting_goes (stands_outbox g) (stands_ledger g) old new goes) StoresGrew stores_last (λ clean sound lists numbered is. (goes.stays clean sound lists numbered is).grown)
+
+    pub keeps_asked : (question : Question) → GoesOnAsked (stands_outbox g) (stands_ledger g) question old new → KeepsIn g sc question before after
+    keeps_asked Close goes = keeps_grown goes
+    keeps_asked (Bill owner day) goes = keeps_grown goes
+    keeps_asked (Settle owner day) goes = keeps_grown goes
+    keeps_asked Stand goes = keeps_grown goes
+    keeps_asked (Retire owner device) goes = keeps_grown goes
+    keeps_asked (Forget day) goes = keeps_as goes StoresLast (λ w k last. last) (λ clean sound lists numbered is. (goes.stays clean sound lists numbered is).lasted)
+
+    pub answers_opened : (question : Question) → GoesOnAsked (stands_outbox g) (stands_ledger g) question old new → (written_before written_after : Option (List ℕ)) → Answers (stands_outbox g) (stands_ledger g) question old new written_before written_after → AnswersIn g sc question before after written_before written_after
+    answers_opened question goes written_before written_after a = answers_as (asked_goes question goes) question written_before written_after a
+
+    pub refuses_opened : (question : Question) → GoesOnAsked (stands_outbox g) (stands_ledger g) question old new → (fault : DeskFault) → FailsOf (stands_outbox g) (stands_ledger g) question old new fault → RefusesIn g sc question before after fault
+    refuses_opened question goes fault fails = refuses_as (asked_goes question goes) question fault fails
+
+-- what was not opened stays as it was, whatever was asked
+pub stays_asked : (question : Question) (h k : StoresValue) → StoresGrew h k → StaysAsked question h k
+stays_asked Close h k grew = grew
+stays_asked (Bill owner day) h k grew = grew
+stays_asked (Settle owner day) h k grew = grew
+stays_asked Stand h k grew = grew
+stays_asked (Retire owner device) h k grew = grew
+stays_asked (Forget day) h k grew = stores_last h k grew

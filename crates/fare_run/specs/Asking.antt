@@ -16,15 +16,15 @@ use Rattle.fare_command.specs.declared.words.Question.{Question}
 use Rattle.fare_command.specs.declared.words.Question.TheVariants.{Close, Bill, Settle, Stand, Retire, Forget}
 use Rattle.fare_desk.specs.Billing.{WritesBill, WritesSettlement}
 use Rattle.fare_desk.specs.Faults.{is_of_retire, is_refusal, name_of}
-use Rattle.fare_desk.specs.Retiring.{ComesOf, LeavesLane, RetiresLane}
+use Rattle.fare_desk.specs.Retiring.{LeavesLane, RetiresLane}
 use Rattle.fare_desk.specs.Forgetting.{AreGoneLines, LeavesSome, LetsGo}
-use Rattle.fare_desk.specs.Closing.{AreLinesOf, HasClosedLanes, lanes_of}
+use Rattle.fare_desk.specs.Closing.{AreLinesOf, GoesOn, GoesOnLettingGo, HasClosedLanes, lanes_of}
 use Rattle.fare_desk.specs.Showing.{AreLaneLines, AreUptoLines, WritesStanding}
 use Rattle.fare_desk.specs.declared.fault.DeskFault.{DeskFault}
 use Rattle.fare_desk.specs.declared.fault.DeskFault.TheVariants as desk
 use Rattle.fare_sessions.specs.declared.hub.Hub.{Hub}
 use Rattle.fare_sessions.specs.Billing.{IsBillRefusal}
-use Rattle.fare_sessions.specs.Stores.{AreClean, AreSound}
+use Rattle.fare_sessions.specs.Stores.{AreClean, AreSound, ComesOf}
 use Rattle.fare_run.specs.Scheming.{MakesNoScheme, SpellsScheme}
 use Rattle.fare_run.specs.Serving.{HasScheme}
 use Rattle.fare_run.specs.Stores.{IsOfStores}
@@ -40,6 +40,11 @@ IsAnsweredAtOnce (Settle owner day) = Unit {0}
 IsAnsweredAtOnce Stand = Unit {0}
 IsAnsweredAtOnce (Retire owner device) = Unit {0}
 IsAnsweredAtOnce (Forget day) = ⊥
+
+-- the stores of a hub go on: they lose nothing, but that `forget` lets go what is of closed days
+abbrev pub GoesOnAsked : {O L : Type 0} → (O → Standing OutboxValue) → (L → Standing LedgerValue) → Question → Hub O L → Hub O L → Type 0
+GoesOnAsked outbox ledger (Forget day) = GoesOnLettingGo outbox ledger
+GoesOnAsked outbox ledger _ = GoesOn outbox ledger
 
 -- what was written to it, of the stores of a hub
 abbrev pub Answers : {O L : Type 0} → (O → Standing OutboxValue) → (L → Standing LedgerValue) → Question → Hub O L → Hub O L → Option (List ℕ) → Option (List ℕ) → Type 0

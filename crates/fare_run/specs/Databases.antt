@@ -22,6 +22,7 @@ use Rattle.fare_sessions.specs.declared.billing.BillingFault.TheVariants.{Unbill
 use Rattle.fare_side.specs.declared.bill_fault.BillFault.TheVariants.{UnknownOwner, BeforeStart, NotClosed}
 use Rattle.fare_history.specs.Stores.{StoresValue}
 use Rattle.fare_agreement.specs.Agreeing.{AreNumberedLists, Agrees}
+use Rattle.fare_agreement.specs.Growing.{StoresGrew, StoresLast}
 use Rattle.fare_agreement.specs.Parts.{parts_of}
 use Rattle.fare_sessions.specs.Billing.{gone_in, open_in, short_in}
 use Rattle.fare_sessions.specs.declared.hub.Hub.{Hub}
@@ -33,12 +34,12 @@ use Rattle.fare_serve.specs.Serving.{AreAllCovered, HaveTold, IsReadToEnds, read
 use Rattle.fare_serve.specs.declared.counts.Counts.{Counts}
 use Rattle.fare_serve.specs.declared.fault.ServeFault.{ServeFault}
 use Rattle.fare_command.specs.declared.words.Question.{Question}
-use Rattle.fare_command.specs.declared.words.Question.TheVariants.{Bill, Settle}
+use Rattle.fare_command.specs.declared.words.Question.TheVariants.{Bill, Settle, Forget}
 use Rattle.fare_event.specs.declared.reply.Reply.TheVariants as reply
 use Rattle.fare_lines.specs.Replies.{reply_text}
 use Rattle.fare_databases.specs.Closed.{IsHandedBack}
 use Rattle.fare_databases.specs.Held.{AreCleanDisks, Holds, Leave, Show}
-use Rattle.fare_databases.specs.Holding.{HoldAgreed, HoldStores, StayAgreed}
+use Rattle.fare_databases.specs.Holding.{HoldAgreed, HoldStores, StayAgreedAs}
 use Rattle.fare_databases.specs.declared.databases.Databases.{Databases}
 use Rattle.fare_desk.specs.Faults.{name_of}
 use Rattle.fare_desk.specs.declared.fault.DeskFault.{DeskFault}
@@ -49,13 +50,13 @@ use Rattle.fare_run.specs.declared.ask_failure.AskFailure.TheVariants.{Stores, D
 use Rattle.fare_run.specs.declared.serve_failure.ServeFailure.{ServeFailure}
 
 -- ONE RUN
--- Where databases show stores that agree with lists of taps, whatever a stop would leave of them behind the run does, and has
--- all of what they showed, and this is so of it.
-pub record KeepDatabases {S : Type 0} (g : Ghosts S) (sc : SchemeValue) (before after : Databases S) (AreGiven : (ℕ → List RecordValue) → Type 0) (IsSo : StoresValue → Type 0) : Type 0 where
+-- Where databases show stores that agree with lists of taps, whatever a stop would leave of them behind the run does, and what
+-- they showed stays in it as the first says, and this is so of it.
+pub record KeepDatabases {S : Type 0} (g : Ghosts S) (Stays : StoresValue → StoresValue → Type 0) (sc : SchemeValue) (before after : Databases S) (AreGiven : (ℕ → List RecordValue) → Type 0) (IsSo : StoresValue → Type 0) : Type 0 where
   pub keeps : AreCleanDisks g after → (lists : ℕ → List RecordValue) → AreNumberedLists sc lists → AreGiven lists
       → (outbox : Trees) (ledgers : ℕ → Trees) → Show g before outbox ledgers → HoldAgreed sc lists outbox ledgers
       → (outbox_left : Trees) (ledgers_left : ℕ → Trees) → Leave g after outbox_left ledgers_left
-      → (kept : StayAgreed sc lists outbox ledgers outbox_left ledgers_left) × IsSo kept.is
+      → (kept : StayAgreedAs Stays sc lists outbox ledgers outbox_left ledgers_left) × IsSo kept.is
 
 -- SERVING
 -- the lines' calls of sessions
@@ -89,7 +90,7 @@ CameOf sc most untold asks calls before after (Err failure) = (calls ≡ []) ⊎
 -- agree, they agree with them behind it; nothing that they held is missing; and each acknowledgement that a line was answered
 -- in one of them is covered by the outbox, and so are all that it was answered from its greeting on.
 abbrev pub KeepsCalls : {S : Type 0} → Ghosts S → SchemeValue → Databases S → Databases S → List LineCall → Type 0
-KeepsCalls g sc before after calls = KeepDatabases g sc before after (λ lists. HaveTold sc lists calls) (λ k. AreAllCovered sc k.outbox calls × AreLinesCovered sc k.outbox calls)
+KeepsCalls g sc before after calls = KeepDatabases g StoresGrew sc before after (λ lists. HaveTold sc lists calls) (λ k. AreAllCovered sc k.outbox calls × AreLinesCovered sc k.outbox calls)
 
 -- What serving over databases does, by the most rounds, whether no file may end them and whether an operator is answered
 -- between them: these calls, where their lines came from, and what they keep, however it ended.
@@ -100,9 +101,14 @@ pub record ServesIn {S : Type 0} (g : Ghosts S) (sc : SchemeValue) (most : ℕ) 
   pub keeps : KeepsCalls g sc before after calls
 
 -- ASKING
+-- how what the stores held stays: all of it, but that `forget` lets go what is of closed days
+abbrev pub StaysAsked : Question → StoresValue → StoresValue → Type 0
+StaysAsked (Forget day) = StoresLast
+StaysAsked _ = StoresGrew
+
 -- databases keep what they held
-abbrev pub KeepsIn : {S : Type 0} → Ghosts S → SchemeValue → Databases S → Databases S → Type 0
-KeepsIn g sc before after = KeepDatabases g sc before after (λ lists. Unit {0}) (λ k. Unit {0})
+abbrev pub KeepsIn : {S : Type 0} → Ghosts S → SchemeValue → Question → Databases S → Databases S → Type 0
+KeepsIn g sc question before after = KeepDatabases g (StaysAsked question) sc before after (λ lists. Unit {0}) (λ k. Unit {0})
 
 -- what was written is what a rule makes of just these taps of an owner's day, for a day that the owner has closed of each device
 -- whose lane it has not retired and of whose week nothing was let go, and the devices of which it is short

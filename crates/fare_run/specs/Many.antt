@@ -8,12 +8,13 @@ use Rattle.fare_agreement.specs.Agreeing.{AreNumberedLists}
 use Rattle.fare_databases.specs.Held.{AreCleanDisks, Leave, Show}
 use Rattle.fare_databases.specs.Holding.{HoldAgreed}
 use Rattle.fare_databases.specs.declared.databases.Databases.{Databases}
+use Rattle.fare_command.specs.declared.words.Question.{Question}
 use Rattle.fare_serve.specs.Serving.{HaveTold}
 use Rattle.fare_run.specs.Databases.{KeepsCalls, KeepsIn, LineCall}
 
 -- Serving, in which all frames that the lines gave are of the lists, or asking.
 abbrev pub IsServedOrAsked : {S : Type 0} → Ghosts S → SchemeValue → (ℕ → List RecordValue) → Databases S → Databases S → Type 0
-IsServedOrAsked g sc lists before after = ((calls : List LineCall) × KeepsCalls g sc before after calls × HaveTold sc lists calls) ⊎ KeepsIn g sc before after
+IsServedOrAsked g sc lists before after = ((calls : List LineCall) × KeepsCalls g sc before after calls × HaveTold sc lists calls) ⊎ ((question : Question) × KeepsIn g sc question before after)
 
 -- A run over databases that show these trees, whose disks kept what was committed, and of which these were left.
 pub record IsRunOf {S : Type 0} (g : Ghosts S) (sc : SchemeValue) (lists : ℕ → List RecordValue) (outbox : Trees) (ledgers : ℕ → Trees) (outbox_left : Trees) (ledgers_left : ℕ → Trees) : Type 0 where

@@ -31,7 +31,7 @@ pub fn ask_databases<S: Alter + Drop, O: Write>(
     ensures fails { IfErr result.1 (FailsIn question (O.contents output.old) (O.contents output.new)) }
     ensures answers { OnOk result.1 (AnswersIn S.Store scheme question databases result.0 (O.contents output.old) (O.contents output.new)) }
     ensures refuses { IfErr result.1 (Refuses S.Store scheme question databases result.0) }
-    ensures keeps { KeepsIn S.Store scheme databases result.0 }
+    ensures keeps { KeepsIn S.Store scheme question databases result.0 }
 {
     match open_hub(alloc, scheme, databases) {
         Ok(mut opened) => {

@@ -1,8 +1,7 @@
 ghost use Rattle.std.specs.Prelude.{◌≡◌, ◌≢◌, OnOk, IfErr};
 ghost use Rattle.std.specs.Io.KnownBytes.{Keeps};
-ghost use Rattle.fare_desk.specs.Closing.{GoesOn};
 ghost use Rattle.fare_sessions.specs.Stores.{HasLedgers};
-ghost use Rattle.fare_run.specs.Asking.{Answers, FailsOf, IsAnsweredAtOnce};
+ghost use Rattle.fare_run.specs.Asking.{Answers, FailsOf, GoesOnAsked, IsAnsweredAtOnce};
 ghost use Rattle.fare_desk.specs.declared.fault.DeskFault.TheVariants.{Write};
 
 use fare_command::Question;
@@ -23,7 +22,7 @@ pub fn answer_over<Ob: Outbox, L: Ledger, O: Write>(
     output: &mut O,
 ) -> Result<(), DeskFault>
     requires ledgers { HasLedgers hub.old }
-    ensures goes { GoesOn Ob.standing L.standing hub.old hub.new }
+    ensures goes { GoesOnAsked Ob.standing L.standing question hub.old hub.new }
     ensures answers { OnOk result (Answers Ob.standing L.standing question hub.old hub.new (O.contents output.old) (O.contents output.new)) }
     ensures fails { IfErr result (FailsOf Ob.standing L.standing question hub.old hub.new) }
     ensures kept { IsAnsweredAtOnce question → IfErr result (λ fault. fault ≢ Write → Keeps (O.contents output.old) (O.contents output.new)) }

@@ -13,7 +13,6 @@ use Rattle.fare_store.specs.OutboxWords.{OutboxValue}
 use Rattle.fare_store.specs.LedgerWords.{LedgerValue}
 use Rattle.fare_source.specs.Talking.{Talk}
 use Rattle.fare_collect.specs.declared.station.Station.{Station}
-use Rattle.fare_world.specs.Knowing.{knows_owner}
 use Rattle.fare_frame.specs.declared.frame.Frame.{Frame}
 use Rattle.fare_frame.specs.declared.frame.Frame.TheVariants as frame
 use Rattle.fare_record.specs.declared.ack_item.AckItem.TheVariants as ack
@@ -21,8 +20,7 @@ use Rattle.fare_history.specs.Stores.{StoresValue}
 use Rattle.fare_history.proofs.Entries.{all-append, all-weaken}
 use Rattle.fare_agreement.specs.Agreeing.{AreNumberedLists}
 use Rattle.fare_agreement.specs.Growing.{OutboxGrew}
-use Rattle.fare_agreement.proofs.Collecting.{covered_still, outbox_self, outbox_trans}
-use Rattle.fare_agreement.proofs.Takes.{ledger_self, ledger_trans}
+use Rattle.fare_agreement.proofs.Collecting.{covered_still}
 use Rattle.fare_sessions.specs.declared.hub.Hub.{Hub}
 use Rattle.fare_sessions.specs.declared.session.Session.{Session}
 use Rattle.fare_sessions.specs.declared.session.Session.TheVariants.{Collect}
@@ -32,7 +30,7 @@ use Rattle.fare_sessions.specs.Reopening.{AreLasting, AreOwned}
 use Rattle.fare_sessions.proofs.Follow.{clean_back, follow_join, follow_self}
 use Rattle.fare_sessions.proofs.Lasting.{lasting_on}
 use Rattle.fare_desk.specs.Closing.{GoesOn}
-use Rattle.fare_desk.proofs.Going.{goes_self}
+use Rattle.fare_desk.proofs.Going.{goes_self, grown_same, grown_join}
 use Rattle.fare_serve.specs.Calls.{AreHeld, AreUnended, Call, IsCollecting, IsHeld, IsServing, ended_by}
 use Rattle.fare_serve.specs.Pausing.{HasPausedOnly, HasPausedSome, KeepOwners, PauseOf, does_nothing}
 use Rattle.fare_serve.specs.Spacing.{AreSpaced, HaveStopped, IsBehind}
@@ -69,21 +67,6 @@ module _ {S O L : Type 0} (talks : S → Talk) (does : PauseOf O L) (outbox : O 
   behind_owned keep c a b (inr is) clean sound owned = subst (AreOwned outbox ledger) (sym is.1) owned
 
   -- what agreed goes on to, and what then grows, through a rest and a call
-  grown_self : (a : Hub O L) → HasGrown outbox ledger a a
-  grown_self a = record { grown = λ k may. (k, may, outbox_self k.outbox, λ owner known. ledger_self (k.ledgers owner)) }
-
-  grown_then : (a b c : Hub O L) → b.scheme ≡ a.scheme → HasGrown outbox ledger a b → HasGrown outbox ledger b c → HasGrown outbox ledger a c
-  grown_then a b c same first next = record {
-    grown = λ k may.
-        let m = next.grown k may in
-        let h = first.grown m.0 m.1 in (
-          h.0,
-          h.1,
-          outbox_trans h.0.outbox m.0.outbox k.outbox h.2 m.2,
-          λ owner known. ledger_trans (h.0.ledgers owner) (m.0.ledgers owner) (k.ledgers owner) (h.3 owner known) (m.3 owner (ap (λ sc. knows_owner sc owner) same ∙ known)),
-        );
-  }
-
   abbrev KeepsLists : (ℕ → List RecordValue) → Hub O L → Hub O L → Type 0
   KeepsLists lists a b = IsAgreed outbox ledger lists b × HasGrown outbox ledger a b
 
@@ -118,7 +101,7 @@ module _ {S O L : Type 0} (talks : S → Talk) (does : PauseOf O L) (outbox : O 
         }
 
         step_keeps : KeepsLists lists a e
-        step_keeps = (held.agrees lists asked, grown_then a m e goes.scheme (goes.grows clean_m sound lists numbered agreed) (held.grows lists asked))
+        step_keeps = (held.agrees lists asked, grown_join outbox ledger a m e (goes.stays clean_m sound lists numbered agreed) (held.grows lists asked))
 
         step_covers : (k : StoresValue) → MayStandAs outbox ledger e k → AreCovered talks a.scheme k.outbox x.olds x.news
         step_covers k may = subst (λ sc. AreCovered talks sc k.outbox x.olds x.news) goes.scheme (held.covered lists asked k may)
@@ -163,13 +146,13 @@ module _ {S O L : Type 0} (talks : S → Talk) (does : PauseOf O L) (outbox : O 
 
   pub spaced_keeps : (a b : Hub O L) (xs : List (Call S)) → Spaced a b xs → AreClean outbox ledger b → AreSound outbox ledger a
       → (lists : ℕ → List RecordValue) → AreNumberedLists a.scheme lists → Gave a.scheme lists xs → IsAgreed outbox ledger lists a → KeepsLists lists a b
-  spaced_keeps a b [] h clean sound lists numbered gave agreed = (subst (IsAgreed outbox ledger lists) (sym h) agreed, subst (HasGrown outbox ledger a) (sym h) (grown_self a))
+  spaced_keeps a b [] h clean sound lists numbered gave agreed = (subst (IsAgreed outbox ledger lists) (sym h) agreed, subst (HasGrown outbox ledger a) (sym h) (grown_same outbox ledger a a (λ k may. may)))
   spaced_keeps a b (x ∷ xs) h clean sound lists numbered gave agreed =
       let clean_e = clean_back outbox ledger h.1 b (spaced_follow h.1 b xs h.4) clean in
       let same = step_scheme x a h.0 h.1 h.2 h.3 in
       let one = step_keeps x a h.0 h.1 h.2 h.3 clean_e sound lists numbered gave.0 agreed in
       let rest = spaced_keeps h.1 b xs h.4 clean (step_sound x a h.0 h.1 h.2 h.3 clean_e sound) lists (subst (λ sc. AreNumberedLists sc lists) (sym same) numbered) (subst (λ sc. Gave sc lists xs) (sym same) gave.1) one.0 in
-      (rest.0, grown_then a h.1 b same one.1 rest.1)
+      (rest.0, grown_join outbox ledger a h.1 b one.1 rest.1)
 
   -- what is covered stays so
   covered_more : (sc : SchemeValue) (x y : OutboxValue) → OutboxGrew x y → (c : Call S) → AreCovered talks sc x c.olds c.news → AreCovered talks sc y c.olds c.news
@@ -196,7 +179,7 @@ module _ {S O L : Type 0} (talks : S → Talk) (does : PauseOf O L) (outbox : O 
       let gave_e = subst (λ sc. Gave sc lists xs) (sym same) gave.1 in
       let agreed_e = (step_keeps x a h.0 e h.2 h.3 clean_e sound lists numbered gave.0 agreed).0 in
       let stood = (spaced_keeps e b xs h.4 clean sound_e lists numbered_e gave_e agreed_e).1.grown k may in (
-        covered_more a.scheme stood.0.outbox k.outbox stood.2 x (step_covers x a h.0 e h.2 h.3 clean_e sound lists numbered gave.0 agreed stood.0 stood.1),
+        covered_more a.scheme stood.0.outbox k.outbox stood.2.outbox x (step_covers x a h.0 e h.2 h.3 clean_e sound lists numbered gave.0 agreed stood.0 stood.1),
         subst (λ sc. AllByRecursion (λ y. AreCovered talks sc k.outbox y.olds y.news) xs) same (spaced_covers e b xs h.4 clean sound_e lists numbered_e gave_e agreed_e k may),
       )
 
@@ -235,15 +218,15 @@ module _ {S O L : Type 0} (talks : S → Talk) (does : PauseOf O L) (outbox : O 
         numbered_last = subst (λ sc. AreNumberedLists sc lists) (sym (spaced_scheme a m xs held)) numbered
 
         grown_last : HasGrown outbox ledger m b
-        grown_last = last_goes.grows clean sound_last lists numbered_last kept.0
+        grown_last = last_goes.stays clean sound_last lists numbered_last kept.0
 
         pub all_keep : KeepsLists lists a b
-        all_keep = (last_goes.agrees clean sound_last lists numbered_last kept.0, grown_then a m b (spaced_scheme a m xs held) kept.1 grown_last)
+        all_keep = (last_goes.agrees clean sound_last lists numbered_last kept.0, grown_join outbox ledger a m b kept.1 grown_last)
 
         pub all_covered : (k : StoresValue) → MayStandAs outbox ledger b k → AllByRecursion (λ x. AreCovered talks a.scheme k.outbox x.olds x.news) xs
         all_covered k may =
             let stood = grown_last.grown k may in
-            all_covered_more a.scheme stood.0.outbox k.outbox stood.2 xs (spaced_covers a m xs held clean_last sound lists numbered gave agreed stood.0 stood.1)
+            all_covered_more a.scheme stood.0.outbox k.outbox stood.2.outbox xs (spaced_covers a m xs held clean_last sound lists numbered gave agreed stood.0 stood.1)
 
   -- FRAMES THAT WERE GIVEN
   -- a session of an owner has no source

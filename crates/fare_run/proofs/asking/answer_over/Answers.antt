@@ -1,11 +1,26 @@
 use Rattle.fare_desk.proofs.Going.{goes_asks, goes_read}
+use Rattle.fare_run.proofs.Asked.{retire_fails}
 use Rattle.fare_run.proofs.asking.answer_over.Goals as goal
 
+pub returns-in-Close-clause-goes : goal.returns-in-Close-clause-goes
+returns-in-Close-clause-goes g c = rw c.in-Close.is c.close_days.ensures.goes
+
 pub returns-in-Bill-clause-goes : goal.returns-in-Bill-clause-goes
-returns-in-Bill-clause-goes g c = goes_read g.Ob.Outbox.standing g.L.Ledger.standing c.args.hub.now c.write_bill.new.hub c.write_bill.ensures.reads
+returns-in-Bill-clause-goes g c = rw c.in-Bill.is (goes_read g.Ob.Outbox.standing g.L.Ledger.standing c.args.hub.now c.write_bill.new.hub c.write_bill.ensures.reads)
 
 pub returns-in-Settle-clause-goes : goal.returns-in-Settle-clause-goes
-returns-in-Settle-clause-goes g c = goes_read g.Ob.Outbox.standing g.L.Ledger.standing c.args.hub.now c.write_settlement.new.hub c.write_settlement.ensures.reads
+returns-in-Settle-clause-goes g c = rw c.in-Settle.is (goes_read g.Ob.Outbox.standing g.L.Ledger.standing c.args.hub.now c.write_settlement.new.hub c.write_settlement.ensures.reads)
 
 pub returns-in-Stand-clause-goes : goal.returns-in-Stand-clause-goes
-returns-in-Stand-clause-goes g c = goes_asks g.Ob.Outbox.standing g.L.Ledger.standing c.args.hub.now c.write_standing.new.hub c.write_standing.ensures.asks
+returns-in-Stand-clause-goes g c = rw c.in-Stand.is (goes_asks g.Ob.Outbox.standing g.L.Ledger.standing c.args.hub.now c.write_standing.new.hub c.write_standing.ensures.asks)
+
+pub returns-in-Retire-clause-goes : goal.returns-in-Retire-clause-goes
+returns-in-Retire-clause-goes g c = rw c.in-Retire.is c.retire_lane.ensures.goes
+
+pub returns-in-Retire-clause-fails : goal.returns-in-Retire-clause-fails
+returns-in-Retire-clause-fails g c =
+    let r = c.retire_lane.ensures in
+    rw c.in-Retire.is (retire_fails g.Ob.Outbox.standing g.L.Ledger.standing c.in-Retire.owner c.in-Retire.device c.args.hub.now c.retire_lane.new.hub c.retire_lane.result r.unknown_owner r.unknown_device r.failed r.named)
+
+pub returns-in-Forget-clause-goes : goal.returns-in-Forget-clause-goes
+returns-in-Forget-clause-goes g c = rw c.in-Forget.is c.forget_days.ensures.goes
