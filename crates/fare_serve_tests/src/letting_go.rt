@@ -7,8 +7,9 @@ use fare_part_tests::{FIRST, Numbers, record, statement};
 use fare_record::{Day, DeviceId, OwnerId};
 use fare_scheme::{DemoSize, Scheme};
 use fare_sessions::Hub;
-use fare_store::{FailingLedger, Ledger, Outbox, PlainLedger, PlainOutbox};
+use fare_store::{FailingLedger, FailingOutbox, Ledger, Outbox, PlainLedger, PlainOutbox};
 use std::alloc::Global;
+use std::process::Abort;
 
 // A tap of a device on the Monday of each of three weeks; of these days so many are closed, from the first on.
 fn fill_weeks<L: Ledger>(ledger: &mut L, device: u64, days: u64) -> Option<()> {
@@ -34,6 +35,17 @@ fn fill_weeks<L: Ledger>(ledger: &mut L, device: u64, days: u64) -> Option<()> {
     Some(())
 }
 
+// The outbox, which has the statements of device 1.
+fn weeks_outbox(alloc: Global) -> Option<PlainOutbox> {
+    let mut outbox = PlainOutbox::new(alloc);
+    for day in 0..21 {
+        let count = if day % 7 == 0 { 1 } else { 0 };
+        let stated = statement(1, DAY.saturating_add(day), 1, count)?;
+        outbox.store_statement(&stated).ok()?;
+    }
+    Some(outbox)
+}
+
 // A hub of an owner that has closed three weeks of device 1, and ten days of device 2.
 fn weeks_hub(alloc: Global) -> Option<Hub<PlainOutbox, PlainLedger>> {
     let scheme = Scheme::demo(alloc, DemoSize::TwoDevices, 4, 1, 4).ok()?;
@@ -42,22 +54,26 @@ fn weeks_hub(alloc: Global) -> Option<Hub<PlainOutbox, PlainLedger>> {
     fill_weeks(&mut ledger, 2, 10)?;
     Some(Hub {
         scheme,
-        outbox: PlainOutbox::new(alloc),
+        outbox: weeks_outbox(alloc)?,
         ledgers: Vec::from_array(alloc, [ledger]).ok()?,
     })
 }
 
-// The same, whose ledger fails at its k-th call.
-fn failing_hub(alloc: Global, calls: u64) -> Option<Hub<PlainOutbox, FailingLedger>> {
+// The same, whose outbox fails at a call, and whose ledger at one.
+fn failing_hub(
+    alloc: Global,
+    outbox_call: u64,
+    ledger_call: u64,
+) -> Option<Hub<FailingOutbox<PlainOutbox>, FailingLedger>> {
     let Hub {
         scheme,
         outbox,
         mut ledgers,
     } = weeks_hub(alloc)?;
-    let failing = FailingLedger::new(ledgers.pop()?, calls.max(1));
+    let failing = FailingLedger::new(ledgers.pop()?, ledger_call.max(1));
     Some(Hub {
         scheme,
-        outbox,
+        outbox: FailingOutbox::new(outbox, outbox_call.max(1)),
         ledgers: Vec::from_array(alloc, [failing]).ok()?,
     })
 }
@@ -133,33 +149,42 @@ fn closed_weeks_go_lane_by_lane(rt: HostRuntime) {
     }
 }
 
-/// How an order ended whose ledger fails, how the next one did, and how many taps of device 1 are gone then.
-type Orders = (Result<(), DeskFault>, Result<(), DeskFault>, u64);
+/// How an order ended of which a store call fails, how the next one did, how many taps of device 1 are gone then, and the
+/// first day of which the outbox has a statement of it.
+type Orders = (Result<(), DeskFault>, Result<(), DeskFault>, u64, u64);
 
-fn orders(alloc: Global, calls: u64) -> Option<Orders> {
-    let mut hub = failing_hub(alloc, calls)?;
+fn orders(alloc: Global, outbox_call: u64, ledger_call: u64) -> Option<Orders> {
+    let mut hub = failing_hub(alloc, outbox_call, ledger_call)?;
     let (first, _) = answered(alloc, &mut hub, before(DAY + 14)?)?;
     let (second, _) = answered(alloc, &mut hub, before(DAY + 14)?)?;
+    let (owner, device, day) = (OwnerId::new(1)?, DeviceId::new(1)?, Day::new(0)?);
     let ledger = hub.ledgers.first_mut()?;
-    let gone = ledger.gone(DeviceId::new(1)?).ok()?;
-    Some((first, second, gone))
+    let gone = ledger.gone(device).ok()?;
+    let stated = hub.outbox.next_statement(owner, device, day).ok()??;
+    Some((first, second, gone, u64::from(stated.day().get())))
 }
 
-// Where the ledger fails at any of its calls, the next order lets go what is left.
+// How many of these calls come before one that an order doesn't make. Where one of those fails, the next order lets go
+// what is left, in the ledger and in the outbox.
+fn calls_of(rt: &impl Abort, alloc: Global, in_outbox: bool) -> u64 {
+    for call in 1..60 {
+        let (outbox_call, ledger_call) = if in_outbox {
+            (call, 1_000)
+        } else {
+            (1_000, call)
+        };
+        let ended = orders(alloc, outbox_call, ledger_call).expect(rt, "orders");
+        if ended.0 == Ok(()) {
+            return call.saturating_sub(1);
+        }
+        same(rt, &ended, &(Err(DeskFault::Store), Ok(()), 2, DAY + 14));
+    }
+    0
+}
+
+// The outbox is asked once for each week of a lane that goes, and the ledger more often.
 #[test]
 fn an_order_that_failed_is_given_again(rt: HostRuntime) {
-    let mut whole = false;
-    for calls in 1..60 {
-        let (first, second, gone) = orders(rt.alloc(), calls).expect(&rt, "orders");
-        if first == Ok(()) {
-            whole = true;
-            break;
-        }
-        same(
-            &rt,
-            &(first, second, gone),
-            &(Err(DeskFault::Store), Ok(()), 2),
-        );
-    }
-    assert!(rt; whole);
+    same(&rt, &calls_of(&rt, rt.alloc(), true), &2);
+    assert!(rt; calls_of(&rt, rt.alloc(), false) > 2);
 }

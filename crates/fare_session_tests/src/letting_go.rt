@@ -1,4 +1,4 @@
-//! What is of closed weeks goes from the ledgers between sessions.
+//! What is of closed weeks goes from the ledgers and the outbox between sessions.
 use crate::checking::same;
 use crate::hubs::{collected_and_served, hub_of, whole};
 use crate::scripts::{narrow, scripts_of};
@@ -7,7 +7,8 @@ use fare_record::{Day, DeviceId, OwnerId, Record};
 use fare_sessions::{BillingFault, ForgettingFault, Hub};
 use fare_store::Refused::{Because, Failed};
 use fare_store::{
-    FailingLedger, Fault, ForgetFault, Ledger, Outbox, PlainLedger, PlainOutbox, Refused,
+    FailingLedger, FailingOutbox, Fault, ForgetFault, Ledger, Outbox, PlainLedger, PlainOutbox,
+    Refused,
 };
 use fare_world::BillFault;
 use std::alloc::Global;
@@ -59,11 +60,19 @@ fn weeks_ledger(alloc: Global) -> Option<PlainLedger> {
     Some(ledger)
 }
 
-// The outbox that had these taps, and the next one of device 1.
+// The outbox that had these taps and statements, and the next tap of device 1.
 fn weeks_outbox(alloc: Global) -> Option<PlainOutbox> {
     let mut outbox = PlainOutbox::new(alloc);
     for number in 1..=TAPS.saturating_add(1) {
         outbox.store(&tap_of(1, number)?).ok()?;
+    }
+    for device in 1..=2 {
+        for day in 0..DAYS {
+            let count = if day % 7 < 3 { 1 } else { 0 };
+            let number = MONDAY.saturating_add(day);
+            let stated = statement(device, number, 1, count)?;
+            outbox.store_statement(&stated).ok()?;
+        }
     }
     Some(outbox)
 }
@@ -141,6 +150,18 @@ fn held<O: Outbox, L: Ledger>(hub: &mut Hub<O, L>, device: u64) -> Option<(u64, 
     let gone = ledger.gone(device).ok()?;
     let from = ledger.held_from(device).ok()?;
     Some((taken, gone, u64::from(from.get())))
+}
+
+// The first day of which the outbox holds a statement of each of the two devices.
+fn first_stated<O: Outbox, L: Ledger>(hub: &mut Hub<O, L>) -> Option<[Option<u32>; 2]> {
+    let (owner, day) = (OwnerId::new(1)?, Day::new(0)?);
+    let mut first = [None; 2];
+    for place in 0..2 {
+        let device = DeviceId::new(place as u64 + 1)?;
+        let next = hub.outbox.next_statement(owner, device, day).ok()?;
+        first[place] = next.map(|statement| statement.day().get());
+    }
+    Some(first)
 }
 
 // What the bills of the five weeks say, in their order.
@@ -226,4 +247,33 @@ fn a_letting_go_may_fail_and_be_tried_again(rt: HostRuntime) {
     same(&rt, &held(&mut hub, 1), &Some((15, 0, 0)));
     same(&rt, &forget(&mut hub, 1, 1, 3), &Some(Ok(())));
     same(&rt, &held(&mut hub, 1), &Some((15, 9, MONDAY + 21)));
+}
+
+// The statements of a lane go with what its ledger lets go, also where the outbox failed behind the ledger, and where
+// nothing of the ledger is left to go.
+#[test]
+fn statements_go_behind_what_a_ledger_lets_go(rt: HostRuntime) {
+    let alloc = rt.alloc();
+    let ledger = weeks_ledger(alloc).expect(&rt, "ledger");
+    let outbox = weeks_outbox(alloc).expect(&rt, "outbox");
+    let scheme = narrow(alloc).expect(&rt, "scheme");
+    let failing = FailingOutbox::new(outbox, 2);
+    let mut hub = hub_of(alloc, scheme, failing, ledger).expect(&rt, "hub");
+    same(
+        &rt,
+        &forget(&mut hub, 1, 1, 6),
+        &Some(Err(Because(ForgettingFault::Ledger(ForgetFault::NotClosed)))),
+    );
+    same(&rt, &forget(&mut hub, 1, 2, 1), &Some(Ok(())));
+    let cases = [
+        (Err(Failed(Fault::Store)), 19_723),
+        (Ok(()), 19_744),
+        (Ok(()), 19_744),
+    ];
+    for (want, day) in cases {
+        same(&rt, &forget(&mut hub, 1, 1, 3), &Some(want));
+        same(&rt, &held(&mut hub, 1), &Some((15, 9, MONDAY + 21)));
+        let first = [Some(day), Some(19_730)];
+        same(&rt, &first_stated(&mut hub), &Some(first));
+    }
 }

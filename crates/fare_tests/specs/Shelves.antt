@@ -46,7 +46,7 @@ abbrev pub old_parts : Parts
 old_parts = record { own = old_schema; tables = old_tables; texts = shelf_texts; format = 1; older = []; unused = None }
 
 abbrev pub first_format : OlderParts
-first_format = record { own = old_schema; tables = old_tables; texts = shelf_texts; format = 1; missing = missing_tables; moving = None }
+first_format = record { own = old_schema; tables = old_tables; texts = shelf_texts; format = 1; missing = missing_tables; moving = None; unused = None }
 
 abbrev pub new_parts : Parts
 new_parts = record { own = new_schema; tables = new_tables; texts = shelf_texts; format = 2; older = first_format ∷ []; unused = None }

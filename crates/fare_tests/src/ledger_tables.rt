@@ -321,7 +321,7 @@ FOREIGN KEY (d, l) REFERENCES tap (device, lane) ON DELETE CASCADE)";
     const TAP: &str = "INSERT INTO tap VALUES (1, 1, 1, 1, 77, 1704100000, 19723)";
     const VIEW_2: &str = "CREATE VIEW tap2 AS SELECT 1";
     const VIEW_3: &str = "CREATE VIEW held AS SELECT 1";
-    const CASES: [(&[&str], &str, i64); 24] = [
+    const CASES: [(&[&str], &str, i64); 25] = [
         (&[META, OTHERS, RETIRED], METAS, 11),
         (&[META, OTHERS, ROUTED], METAS, 11),
         (&[META, OTHERS, VIEW_2], METAS, 11),
@@ -329,6 +329,7 @@ FOREIGN KEY (d, l) REFERENCES tap (device, lane) ON DELETE CASCADE)";
         (&[META, OTHERS, RETIRED, THIRD], METAS, 31),
         (&[META, OTHERS, RETIRED, ROUTED, HELD, THIRD], METAS, 31),
         (&[META, OTHERS, RETIRED, ROUTED, VIEW_3, THIRD], METAS, 31),
+        (&[META, OTHERS, RETIRED, ROUTED, THIRD, TAP], METAS, 31),
         (&[META, OTHERS, RETIRED, ROUTED, NEWEST], METAS, 41),
         (
             &[META, OTHERS, RETIRED, ROUTED, HELD, NEWEST, TAP],

@@ -1,5 +1,5 @@
 use crate::checking::same;
-use crate::stores::{Asked, Said, ask, says};
+use crate::stores::{Asked, FORGETS, Said, ask, forgets_one_lane, says};
 use fare_outbox::SqlOutbox;
 use fare_record::{DeviceId, OwnerId};
 use fare_store::Refused::Because;
@@ -71,6 +71,15 @@ fn an_outbox_in_tables_stores_each_next_tap(rt: HostRuntime) {
     ];
     let mut outbox = outbox(rt.alloc(), &[]).expect(&rt, "outbox");
     says(&rt, &mut outbox, &CALLS);
+}
+
+#[test]
+fn an_outbox_in_tables_removes_statements_of_earlier_days(rt: HostRuntime) {
+    let alloc = rt.alloc();
+    let mut tables = outbox(alloc, &[]).expect(&rt, "outbox");
+    says(&rt, &mut tables, &FORGETS);
+    let mut other = outbox(alloc, &[]).expect(&rt, "another outbox");
+    forgets_one_lane(&rt, &mut other);
 }
 
 #[test]

@@ -25,6 +25,7 @@ static OLDER: [Older; 1] = [Older {
     missing: &MISSING,
     texts: &TEXTS,
     moving: None,
+    unused: None,
 }];
 
 /// A store of books, of format 1.

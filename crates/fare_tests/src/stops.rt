@@ -15,11 +15,12 @@ use std::alloc::Global;
 type Stopped = (u64, u64, bool);
 
 // What an outbox is asked, and what it answers.
-const STORED: [(Asked, Said); 4] = [
+const STORED: [(Asked, Said); 5] = [
     (Asked::Store(1, 1), Said::Stored(Ok(()))),
     (Asked::Store(2, 2), Said::Stored(Ok(()))),
     (Asked::State(2), Said::Stated(Ok(()))),
     (Asked::Prune(1), Said::Number(Ok(1))),
+    (Asked::Forget(19_724), Said::Number(Ok(1))),
 ];
 
 // What a ledger is asked, and what it answers.
@@ -50,8 +51,8 @@ fn stored_in<O: Outbox>(outbox: &mut O) -> Option<u64> {
     Some(done)
 }
 
-// How many steps an outbox holds, and whether the rows from the first that isn't pruned to that of the greatest link,
-// and no later one, are there.
+// How many steps an outbox holds, of which a statement that is missing where rows were pruned went at the last one, and
+// whether the rows from the first that isn't pruned to that of the greatest link, and no later one, are there.
 fn found_in<O: Outbox>(outbox: &mut O) -> Option<(u64, bool)> {
     let Said::Number(Ok(upto)) = ask(outbox, Asked::Upto)? else {
         return None;
@@ -65,9 +66,10 @@ fn found_in<O: Outbox>(outbox: &mut O) -> Option<(u64, bool)> {
         (2, Said::Found(Ok(Some(2)))) => (1, Some(upto)),
         _ => return None,
     };
-    let stated = match ask(outbox, Asked::NextStatement(0))? {
-        Said::Found(Ok(None)) => 0,
-        Said::Found(Ok(Some(2))) => 1,
+    let stated = match (pruned, ask(outbox, Asked::NextStatement(0))?) {
+        (0, Said::Found(Ok(None))) => 0,
+        (_, Said::Found(Ok(Some(2)))) => 1,
+        (_, Said::Found(Ok(None))) => 2,
         _ => return None,
     };
     let found = upto.saturating_add(stated).saturating_add(pruned);
@@ -222,7 +224,7 @@ fn a_failure_at_any_call_leaves_each_step_whole_or_not_at_all(rt: HostRuntime) {
             same(&rt, &(calls, (kept, whole)), &(calls, (true, true)));
         }
         let [(stored, _, _), (taken, _, _)] = stops;
-        if (stored, taken) == (4, 6) {
+        if (stored, taken) == (5, 6) {
             full = true;
             break;
         }

@@ -32,12 +32,18 @@ pub(crate) enum Asked {
     StoreAll(u64),
     /// A statement of day 19723 with this count is stored.
     State(u64),
+    /// A statement of this day with this count is stored.
+    StateOf(u64, u64),
+    /// Statements of the days from 1 to this are stored.
+    StateAll(u64),
     /// The lane number of the next row after this one.
     NextRow(u64),
     /// The count of the next statement from this day on.
     NextStatement(u64),
     /// The rows up to this lane number are removed.
     Prune(u64),
+    /// The statements of the days before this one are removed.
+    Forget(u64),
 }
 
 /// What it answers.
@@ -67,9 +73,22 @@ fn store_all<O: Outbox>(outbox: &mut O, last: u64) -> Option<Said> {
     said
 }
 
-fn state<O: Outbox>(outbox: &mut O, count: u64) -> Option<Said> {
-    let statement = statement(1, 19_723, 1, count)?;
+fn state<O: Outbox>(outbox: &mut O, day: u64, count: u64) -> Option<Said> {
+    let statement = statement(1, day, 1, count)?;
     Some(Said::Stated(outbox.store_statement(&statement)))
+}
+
+fn state_all<O: Outbox>(outbox: &mut O, last: u64) -> Option<Said> {
+    let mut said = None;
+    for day in 1..=last {
+        said = state(outbox, day, 1);
+    }
+    said
+}
+
+fn forget_statements<O: Outbox>(outbox: &mut O, day: u64) -> Option<Said> {
+    let removed = outbox.forget_statements(owner()?, device()?, Day::new(day)?);
+    Some(Said::Number(removed))
 }
 
 // The lane number of the next row.
@@ -109,10 +128,13 @@ pub(crate) fn ask<O: Outbox>(outbox: &mut O, asked: Asked) -> Option<Said> {
         Asked::Upto => Some(Said::Number(outbox.upto(device()?))),
         Asked::Store(link, lane) => store(outbox, link, lane),
         Asked::StoreAll(last) => store_all(outbox, last),
-        Asked::State(count) => state(outbox, count),
+        Asked::State(count) => state(outbox, 19_723, count),
+        Asked::StateOf(day, count) => state(outbox, day, count),
+        Asked::StateAll(last) => state_all(outbox, last),
         Asked::NextRow(after) => next_row(outbox, after),
         Asked::NextStatement(from) => next_statement(outbox, from),
         Asked::Prune(upto) => Some(Said::Number(outbox.prune(owner()?, device()?, upto))),
+        Asked::Forget(day) => forget_statements(outbox, day),
     }
 }
 
@@ -183,6 +205,57 @@ fn an_outbox_holds_a_statement_once(rt: HostRuntime) {
     says(&rt, &mut PlainOutbox::new(rt.alloc()), &CALLS);
 }
 
+/// Statements that go, and one of a day that went, which is a new one.
+pub(crate) const FORGETS: [(Asked, Said); 13] = [
+    (Asked::StateAll(400), Said::Stated(Ok(()))),
+    (Asked::Forget(1), Said::Number(Ok(0))),
+    (Asked::Forget(400), Said::Number(Ok(399))),
+    (Asked::NextStatement(0), Said::Found(Ok(Some(1)))),
+    (Asked::StateOf(401, 4), Said::Stated(Ok(()))),
+    (Asked::StateOf(403, 5), Said::Stated(Ok(()))),
+    (Asked::Forget(403), Said::Number(Ok(2))),
+    (Asked::NextStatement(0), Said::Found(Ok(Some(5)))),
+    (Asked::Forget(403), Said::Number(Ok(0))),
+    (Asked::StateOf(401, 7), Said::Stated(Ok(()))),
+    (Asked::NextStatement(0), Said::Found(Ok(Some(7)))),
+    (Asked::Forget(100_000), Said::Number(Ok(2))),
+    (Asked::Empty, Said::Empty(Ok(true))),
+];
+
+// The first counts that are stated for two owners of two devices, once those of owner 1 and device 1 were removed.
+fn counts_beside<O: Outbox>(outbox: &mut O) -> Option<[Result<Option<u64>, Fault>; 4]> {
+    let lanes = [(1, 1), (1, 2), (2, 1), (2, 2)];
+    for (owner, device) in lanes {
+        let stated = statement(device, 19_723, owner, 3)?;
+        outbox.store_statement(&stated).ok()?;
+    }
+    let day = Day::new(20_000)?;
+    outbox.forget_statements(owner()?, device()?, day).ok()?;
+    let mut counts = [Ok(None); 4];
+    for place in 0..4 {
+        let (owner, device) = lanes[place];
+        let (owner, device) = (OwnerId::new(owner)?, DeviceId::new(device)?);
+        counts[place] = next_count(outbox, owner, device, Day::new(0)?);
+    }
+    Some(counts)
+}
+
+/// Statements of another device or for another owner stay where one lane's go.
+pub(crate) fn forgets_one_lane<O: Outbox>(rt: &impl Abort, outbox: &mut O) {
+    let left = Ok(Some(3));
+    same(
+        rt,
+        &counts_beside(outbox),
+        &Some([Ok(None), left, left, left]),
+    );
+}
+
+#[test]
+fn an_outbox_removes_statements_of_earlier_days(rt: HostRuntime) {
+    says(&rt, &mut PlainOutbox::new(rt.alloc()), &FORGETS);
+    forgets_one_lane(&rt, &mut PlainOutbox::new(rt.alloc()));
+}
+
 #[test]
 fn an_outbox_fails_at_one_call(rt: HostRuntime) {
     const CALLS: [(Asked, Said); 5] = [
@@ -195,8 +268,16 @@ fn an_outbox_fails_at_one_call(rt: HostRuntime) {
         (Asked::Store(1, 1), Said::Stored(Ok(()))),
         (Asked::Upto, Said::Number(Ok(1))),
     ];
-    let outbox = PlainOutbox::new(rt.alloc());
-    says(&rt, &mut FailingOutbox::new(outbox, 2), &CALLS);
+    const LETS_GO: [(Asked, Said); 4] = [
+        (Asked::State(3), Said::Stated(Ok(()))),
+        (Asked::Forget(19_724), Said::Number(Err(Fault::Store))),
+        (Asked::NextStatement(0), Said::Found(Ok(Some(3)))),
+        (Asked::Forget(19_724), Said::Number(Ok(1))),
+    ];
+    for calls in [&CALLS[..], &LETS_GO[..]] {
+        let outbox = PlainOutbox::new(rt.alloc());
+        says(&rt, &mut FailingOutbox::new(outbox, 2), calls);
+    }
 }
 
 /// A call on a ledger, for device 1 and day 19723.
