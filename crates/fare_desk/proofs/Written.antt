@@ -1,5 +1,5 @@
 -- A bill or a settlement that was written.
-use Rattle.std.proofs.Common.{◌≡◌, ℕ, List, None, ◌∙◌, subst}
+use Rattle.std.proofs.Common.{◌≡◌, ℕ, List, None, refl, sym, ap, ◌∙◌, subst}
 use Rattle.std.specs.Prelude.{Option, Result, Ok, Err, OnOk}
 use Rattle.std.specs.Io.KnownBytes.{Appends}
 use Rattle.fare_record.specs.Values.{RecordValue}
@@ -8,18 +8,25 @@ use Rattle.fare_cap.specs.Fares.{week_start}
 use Rattle.fare_scheme.specs.Values.{SchemeValue}
 use Rattle.fare_settle.specs.Values.{SettledValue}
 use Rattle.fare_settle.specs.Settling.{settlement_of}
+use Rattle.fare_store.specs.declared.fault.Fault.TheVariants as fault
+use Rattle.fare_store.specs.declared.fault.Refused.{Refused}
+use Rattle.fare_store.specs.declared.fault.Refused.TheVariants.{Because, Failed}
 use Rattle.fare_store.specs.Standing.{Standing}
 use Rattle.fare_store.specs.OutboxWords.{OutboxValue}
 use Rattle.fare_store.specs.LedgerWords.{LedgerValue, AreTapsBetween}
 use Rattle.fare_event.specs.declared.reply.Reply.TheVariants as reply
+use Rattle.fare_side.specs.declared.bill_fault.BillFault.TheVariants as bill
 use Rattle.fare_lines.specs.Replies.{reply_text}
 use Rattle.fare_history.specs.Stores.{StoresValue}
 use Rattle.fare_agreement.specs.Agreeing.{AreNumberedLists, Agrees}
 use Rattle.fare_agreement.specs.Parts.{parts_of}
-use Rattle.fare_sessions.specs.Billing.{gone_in, open_in, short_in}
+use Rattle.fare_sessions.specs.declared.billing.BillingFault.{BillingFault}
+use Rattle.fare_sessions.specs.declared.billing.BillingFault.TheVariants as billing
+use Rattle.fare_sessions.specs.Billing.{gone_in, open_in, short_in, refusal_of}
 use Rattle.fare_sessions.specs.declared.hub.Hub.{Hub}
 use Rattle.fare_sessions.specs.Stores.{AreClean, AreSound, MayStandAs}
 use Rattle.fare_desk.specs.Billing.{IsMadeOf, WritesBill, WritesSettlement}
+use Rattle.fare_desk.specs.Faults.{name_of, of_bill}
 use Rattle.fare_desk.specs.declared.fault.DeskFault.{DeskFault}
 
 module _ {O L : Type 0} (outbox : O → Standing OutboxValue) (ledger : L → Standing LedgerValue) (old new : Hub O L) (owner day : ℕ) (devices : List ℕ) where
@@ -42,3 +49,16 @@ module _ {O L : Type 0} (outbox : O → Standing OutboxValue) (ledger : L → St
         → (r : Result (Unit {0}) DeskFault) → OnOk r (Appends before after text) → OnOk r (WritesSettlement outbox ledger old new owner day before after)
     settlement_written shares is made (Err f) w = tt
     settlement_written shares is made (Ok u) w = record { shares = shares; short = devices; written = subst (Appends before after) is w; made = made }
+
+-- a fault is named as the refusal of a bill that it was made of
+name_is : (V : Type 0) (why : Refused BillingFault) → name_of (of_bill why) ≡ refusal_of {V = V} (Err why)
+name_is V (Because (billing.Unbilled bill.UnknownOwner)) = refl
+name_is V (Because (billing.Unbilled bill.BeforeStart)) = refl
+name_is V (Because (billing.Unbilled (bill.NotClosed device))) = refl
+name_is V (Because (billing.Forgotten device)) = refl
+name_is V (Failed fault.Memory) = refl
+name_is V (Failed fault.Store) = refl
+
+-- so it refuses for the same reason
+pub fault_refused : (V : Type 0) (r : Result V (Refused BillingFault)) (P : Option BillingFault → Type 0) (why : Refused BillingFault) (f : DeskFault) → f ≡ of_bill why → P (refusal_of {V = V} (Err why)) → P (name_of f)
+fault_refused V r P why f made is = subst P (sym (ap name_of made ∙ name_is V why)) is

@@ -180,8 +180,10 @@ module _ {S : Type 0} (g : Ghosts S) (sc : SchemeValue) (valid : IsScheme sc) (b
                   let found : gone_in sc (k.ledgers owner) day ≡ Some device = ap (λ s. gone_in s (k.ledgers owner) day) (sym same) ∙ is.forgotten_of device named k may in
                   sym (gone_alike sc (h.ledgers owner) (k.ledgers owner) day (looks owner)) ∙ found;
               not_closed = λ device named.
-                  let found : open_in sc (k.ledgers owner) day ≡ Some device = ap (λ s. open_in s (k.ledgers owner) day) (sym same) ∙ is.not_closed device named k may in
-                  sym (open_alike sc (h.ledgers owner) (k.ledgers owner) day (looks owner)) ∙ found;
+                  let here = is.not_closed device named k may in
+                  let held : gone_in sc (k.ledgers owner) day ≡ None = ap (λ s. gone_in s (k.ledgers owner) day) (sym same) ∙ here.0 in
+                  let found : open_in sc (k.ledgers owner) day ≡ Some device = ap (λ s. open_in s (k.ledgers owner) day) (sym same) ∙ here.1 in
+                  (sym (gone_alike sc (h.ledgers owner) (k.ledgers owner) day (looks owner)) ∙ held, sym (open_alike sc (h.ledgers owner) (k.ledgers owner) day (looks owner)) ∙ found);
             }
 
         is_unbilled : (question : Question) (fault : DeskFault) → FailsOf (stands_outbox g) (stands_ledger g) question old new fault → IsUnbilled sc h question fault

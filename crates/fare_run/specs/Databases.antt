@@ -145,7 +145,7 @@ pub record IsRefusedBill (sc : SchemeValue) (h : StoresValue) (owner day : ℕ) 
   pub unknown : (refused ≡ Some (Unbilled UnknownOwner)) ↔ (position_of_owner sc owner ≡ None)
   pub early : (refused ≡ Some (Unbilled BeforeStart)) ↔ ((position_of_owner sc owner ≢ None) × (day < sc.start))
   pub gone : (device : ℕ) → refused ≡ Some (Forgotten device) → gone_in sc (h.ledgers owner) day ≡ Some device
-  pub not_closed : (device : ℕ) → refused ≡ Some (Unbilled (NotClosed device)) → open_in sc (h.ledgers owner) day ≡ Some device
+  pub not_closed : (device : ℕ) → refused ≡ Some (Unbilled (NotClosed device)) → (gone_in sc (h.ledgers owner) day ≡ None) × (open_in sc (h.ledgers owner) day ≡ Some device)
 
 abbrev pub IsUnbilled : SchemeValue → StoresValue → Question → DeskFault → Type 0
 IsUnbilled sc h (Bill owner day) fault = IsRefusedBill sc h owner day (name_of fault)

@@ -180,7 +180,7 @@ module _ {O L : Type 0} (outbox : O → Standing OutboxValue) (ledger : L → St
 
   -- refused by neither of the first two names
   later_refusal : (refused : Option BillingFault) → (refused ≡ Some (Unbilled UnknownOwner) → ⊥) → (refused ≡ Some (Unbilled BeforeStart) → ⊥)
-      → ((device : ℕ) → refused ≡ Some (Unbilled (NotClosed device)) → (h : StoresValue) → MayStandAs outbox ledger old h → open_in old.scheme (h.ledgers owner) day ≡ Some device)
+      → ((device : ℕ) → refused ≡ Some (Unbilled (NotClosed device)) → (h : StoresValue) → MayStandAs outbox ledger old h → (first_forgotten (h.ledgers owner).from (week_start old.scheme day) old.scheme.devices ≡ None) × (open_in old.scheme (h.ledgers owner) day ≡ Some device))
       → ((device : ℕ) → refused ≡ Some (Forgotten device) → (h : StoresValue) → MayStandAs outbox ledger old h → first_forgotten (h.ledgers owner).from (week_start old.scheme day) old.scheme.devices ≡ Some device) → IsBillRefusal outbox ledger old owner day refused
   later_refusal refused unknown early open_is gone_is = record {
     unknown = ((λ e. absurd (unknown e)), (λ none. absurd (known_place none)));
@@ -212,11 +212,12 @@ module _ {O L : Type 0} (outbox : O → Standing OutboxValue) (ledger : L → St
           (λ device f h may.
           let here = week_told clean sound none h may in
           let l = h.ledgers owner in
-          let found : where_open (open_of l day old.scheme) ≡ Err why = (subst (Answered (TellsWeek old.scheme day l)) e here.1).1 in
+          let tells = subst (Answered (TellsWeek old.scheme day l)) e here.1 in
+          let found : where_open (open_of l day old.scheme) ≡ Err why = tells.1 in
           let there = is_open (open_of l day old.scheme) why found in
           let same : ◌≡◌ {A = Option BillingFault} (Some (Unbilled (NotClosed there.0))) (Some (Unbilled (NotClosed device))) = ap (λ w. Some (Unbilled w)) (sym there.2) ∙ f in
           let one : there.0 ≡ device = cc in
-          ap (λ start. first_open start l.closed l.retired day old.scheme.devices) (sym here.0) ∙ (there.1 ∙ ap Some one))
+          (tells.0, ap (λ start. first_open start l.closed l.retired day old.scheme.devices) (sym here.0) ∙ (there.1 ∙ ap Some one)))
           (λ device f. absurd (cc))
 
   pub week_basis : IsScheme old.scheme → day ≤ 100000 → AreClean outbox ledger new → AreSound outbox ledger old → IfOk result (λ v. (h : StoresValue) → MayStandAs outbox ledger old h → HasBasis old.scheme (h.ledgers owner) day v.taps.items v.short.items)

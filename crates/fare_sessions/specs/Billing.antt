@@ -115,9 +115,9 @@ module _ {O L : Type 0} (outbox : O → Standing OutboxValue) (ledger : L → St
     pub sound : AreSound outbox ledger old → AreSound outbox ledger new
     pub same : AreClean outbox ledger new → AreSound outbox ledger old → (k : StoresValue) → MayStandAs outbox ledger new k → MayStandAs outbox ledger old k
 
-  -- the first of these refusals that applies: the owner is not registered, the day is before the first one, or of this device not all of its week is held, or it is not closed and the lane not retired, each time of the first such one
+  -- the first of these refusals that applies: the owner is not registered, the day is before the first one, of this device not all of its week is held, or all of it of each and this one's day is not closed and its lane not retired, each time the first such one
   pub record IsBillRefusal (old : Hub O L) (owner day : ℕ) (refused : Option BillingFault) : Type 0 where
     pub unknown : (refused ≡ Some (Unbilled UnknownOwner)) ↔ (position_of_owner old.scheme owner ≡ None)
     pub early : (refused ≡ Some (Unbilled BeforeStart)) ↔ ((position_of_owner old.scheme owner ≢ None) × (day < old.scheme.start))
-    pub not_closed : (device : ℕ) → refused ≡ Some (Unbilled (NotClosed device)) → (h : StoresValue) → MayStandAs outbox ledger old h → open_in old.scheme (h.ledgers owner) day ≡ Some device
+    pub not_closed : (device : ℕ) → refused ≡ Some (Unbilled (NotClosed device)) → (h : StoresValue) → MayStandAs outbox ledger old h → (gone_in old.scheme (h.ledgers owner) day ≡ None) × (open_in old.scheme (h.ledgers owner) day ≡ Some device)
     pub forgotten_of : (device : ℕ) → refused ≡ Some (Forgotten device) → (h : StoresValue) → MayStandAs outbox ledger old h → gone_in old.scheme (h.ledgers owner) day ≡ Some device
