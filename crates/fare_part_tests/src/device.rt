@@ -3,7 +3,7 @@ ghost use Rattle.std.specs.Prelude.{◌≡◌, length, IfSome};
 use crate::checking::same;
 use fare_day::Zone;
 use fare_device::{Device, DeviceFault, NumbersFault, TapRefusal, TurnRefusal};
-use fare_record::{Day, DeviceId, LAST_NUMBER, Moment, OwnerId, ProductId, Token};
+use fare_record::{Day, DeviceId, LAST_NUMBER, Moment, OwnerId, ProductId, Record, Token};
 use fare_scheme::{DemoSize, Draft, Scheme};
 use std::alloc::Global;
 use std::process::Abort;
@@ -81,16 +81,29 @@ struct Stand {
 }
 
 impl Stand {
-    fn tap(&mut self, product: u64, day: u64) -> Option<Answer> {
+    // What a tap on a route is answered.
+    fn tap_on(&mut self, product: u64, day: u64, route: u16) -> Option<Result<Record, TapRefusal>> {
         let moment = Moment::new(1_704_100_000)?;
         let (product, token) = (ProductId::new(product)?, Token::new(77)?);
-        let tapped = self
-            .device
-            .tap(&self.scheme, product, token, moment, Day::new(day)?, 0);
-        Some(match tapped {
+        let day = Day::new(day)?;
+        Some(
+            self.device
+                .tap(&self.scheme, product, token, moment, day, route),
+        )
+    }
+
+    fn tap(&mut self, product: u64, day: u64) -> Option<Answer> {
+        Some(match self.tap_on(product, day, 0)? {
             Ok(record) => Answer::Numbered(record.link(), record.lane()),
             Err(refusal) => Answer::Refused(refusal),
         })
+    }
+
+    // The routes of the record that a tap on a route is answered with, and of the one that is sent.
+    fn routes(&mut self, route: u16) -> Option<(u16, u16)> {
+        let numbered = self.tap_on(1, 19_723, route)?.ok()?;
+        let sent = self.device.next_frame()?.tapped()?;
+        Some((numbered.tap().route(), sent.tap().route()))
     }
 
     // The link of the tap that is sent next.
@@ -146,23 +159,11 @@ fn small_device(alloc: Global, last: u64) -> Option<Stand> {
     Some(Stand { scheme, device })
 }
 
-// The routes of the record that a tap on a route is answered with, and of the one that is sent.
-fn routes(alloc: Global, route: u16) -> Option<(u16, u16)> {
-    let scheme = small_scheme(alloc)?;
-    let mut device = new_device(alloc, &scheme)?;
-    let (product, token) = (ProductId::new(1)?, Token::new(77)?);
-    let (moment, day) = (Moment::new(1_704_100_000)?, Day::new(19_723)?);
-    let numbered = device
-        .tap(&scheme, product, token, moment, day, route)
-        .ok()?;
-    let sent = device.next_frame()?.tapped()?;
-    Some((numbered.tap().route(), sent.tap().route()))
-}
-
 #[test]
 fn a_tap_keeps_its_route(rt: HostRuntime) {
     for route in [0, 7, 65_535] {
-        same(&rt, &routes(rt.alloc(), route), &Some((route, route)));
+        let mut stand = small_device(rt.alloc(), 0).expect(&rt, "device");
+        same(&rt, &stand.routes(route), &Some((route, route)));
     }
 }
 

@@ -1,11 +1,11 @@
 //! Sessions whose queues hold many items, which the writer stores and the owner takes several at once.
 use crate::checking::same;
-use crate::given::{ack, day_ack};
+use crate::given::{ack, close_day, day_ack, ledger_of};
 use crate::scripts::{Script, source_of, sources_of};
 use fare_collect::{CollectReport, collect, stations_of};
 use fare_frame::Frame;
 use fare_part_tests::{FIRST, Numbers, record, statement};
-use fare_record::{Day, DeviceId, OwnerId, Record};
+use fare_record::{DeviceId, OwnerId, Record};
 use fare_scheme::{DemoSize, Scheme};
 use fare_session::{Gate, OwnerReport, Point, SessionFault, serve_owner};
 use fare_source::Shift;
@@ -59,15 +59,18 @@ fn add_taps(source: &mut Script, first: u64, last: u64, day: u64) -> Option<()> 
     Some(())
 }
 
-// A source that gives 300 taps, the statement of their day, and 300 taps of the next day.
+// Adds 300 taps, the statement of their day, and 300 taps of the next day.
+fn add_days(source: &mut Script) -> Option<()> {
+    add_taps(source, 301, 600, NEXT_DAY)?;
+    let stated = Frame::Stated(statement(1, FIRST_DAY, 1, 300)?);
+    source.frames.push(stated).ok()?;
+    add_taps(source, 1, 300, FIRST_DAY)
+}
+
+// A source that gives them.
 fn two_days(alloc: Global) -> Option<Script> {
     let mut source = source_of(alloc, 1, &[])?;
-    add_taps(&mut source, 301, 600, NEXT_DAY)?;
-    source
-        .frames
-        .push(Frame::Stated(statement(1, FIRST_DAY, 1, 300)?))
-        .ok()?;
-    add_taps(&mut source, 1, 300, FIRST_DAY)?;
+    add_days(&mut source)?;
     Some(source)
 }
 
@@ -337,15 +340,20 @@ fn an_outbox_may_fail_at_any_call_behind_the_joins(rt: HostRuntime) {
     assert!(rt; false, "each call failed");
 }
 
-// An outbox with so many rows of each of two days, and the statement of the first.
-fn two_days_stored(alloc: Global, each: u64) -> Option<PlainOutbox> {
-    let mut outbox = PlainOutbox::new(alloc);
+// Stores so many rows of each of two days, and the statement of the first.
+fn store_days<O: Outbox>(outbox: &mut O, each: u64) -> Option<()> {
     for link in 1..=each.saturating_mul(2) {
         let day = if link <= each { FIRST_DAY } else { NEXT_DAY };
         outbox.store(&tap(link, day)?).ok()?;
     }
     let first = statement(1, FIRST_DAY, 1, each)?;
-    outbox.store_statement(&first).ok()?;
+    outbox.store_statement(&first).ok()
+}
+
+// An outbox with so many rows of each of two days, and the statement of the first.
+fn two_days_stored(alloc: Global, each: u64) -> Option<PlainOutbox> {
+    let mut outbox = PlainOutbox::new(alloc);
+    store_days(&mut outbox, each)?;
     Some(outbox)
 }
 
@@ -370,7 +378,7 @@ fn served<O: Outbox + Send, L: Ledger + Send, R: Threads + Wait + Clock + Sync>(
 
 fn ledger(alloc: Global) -> Option<PlainLedger> {
     let scheme = Scheme::demo(alloc, DemoSize::OneDevice, 4, 4, 4).ok()?;
-    PlainLedger::new(alloc, &scheme, OwnerId::new(1)?).ok()
+    ledger_of(alloc, &scheme)
 }
 
 fn reported(taken: u64, left: u64, fault: Option<SessionFault>) -> OwnerReport {
@@ -400,8 +408,7 @@ fn late(alloc: Global) -> Option<PlainOutbox> {
 
 fn closed(alloc: Global) -> Option<PlainLedger> {
     let mut ledger = ledger(alloc)?;
-    ledger.state(&statement(1, FIRST_DAY, 1, 0)?).ok()?;
-    ledger.close(DeviceId::new(1)?, Day::new(FIRST_DAY)?).ok()?;
+    close_day(&mut ledger, 1, FIRST_DAY, 0)?;
     Some(ledger)
 }
 

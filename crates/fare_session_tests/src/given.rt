@@ -1,8 +1,10 @@
-//! Frames and a scheme that the tests of sessions are given.
+//! Frames, a scheme and a ledger that the tests of sessions are given.
 use fare_day::Zone;
 use fare_frame::Frame;
-use fare_record::{Ack, Day, DayAck, DeviceId, LAST_NUMBER};
+use fare_part_tests::statement;
+use fare_record::{Ack, Day, DayAck, DeviceId, LAST_NUMBER, OwnerId};
 use fare_scheme::{Draft, Scheme};
+use fare_store::{Ledger, PlainLedger};
 use std::alloc::Global;
 
 pub(crate) fn ack(device: u64, upto: u64) -> Option<Frame> {
@@ -14,6 +16,22 @@ pub(crate) fn ack(device: u64, upto: u64) -> Option<Frame> {
 
 pub(crate) fn day_ack(device: u64, day: u64) -> Option<Frame> {
     Some(Frame::DayAcked(DayAck::new(DeviceId::new(device)?, Day::new(day)?)))
+}
+
+// A new ledger of owner 1.
+pub(crate) fn ledger_of(alloc: Global, scheme: &Scheme) -> Option<PlainLedger> {
+    PlainLedger::new(alloc, scheme, OwnerId::new(1)?).ok()
+}
+
+// States to owner 1 how many taps a device had on a day, and closes the day.
+pub(crate) fn close_day<L: Ledger>(
+    ledger: &mut L,
+    device: u64,
+    day: u64,
+    count: u64,
+) -> Option<()> {
+    ledger.state(&statement(device, day, 1, count)?).ok()?;
+    ledger.close(DeviceId::new(device)?, Day::new(day)?).ok()
 }
 
 // Registers sixteen stations, each with one device.

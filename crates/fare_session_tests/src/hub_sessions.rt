@@ -1,6 +1,6 @@
 //! Lists of sessions on a hub, and its bills and closes.
 use crate::checking::same;
-use crate::given::{ack, day_ack, sixteen};
+use crate::given::{ack, day_ack, ledger_of, sixteen};
 use crate::hubs::{Open, Placed, Seen, collected_and_served, hub_of, seen_in, sources_in, whole};
 use crate::scripts::{Script, narrow, scripts_of, sources_of};
 use fare_cap::Bill;
@@ -22,11 +22,6 @@ use std::alloc::Global;
 use std::sync::Wait;
 use std::thread::Threads;
 use std::time::Clock;
-
-// The ledger of owner 1.
-fn ledger_of(alloc: Global, scheme: &Scheme) -> Option<PlainLedger> {
-    PlainLedger::new(alloc, scheme, OwnerId::new(1)?).ok()
-}
 
 // The same over stores in memory.
 fn plain_hub(alloc: Global, scheme: Scheme) -> Option<Hub<PlainOutbox, PlainLedger>> {

@@ -1,5 +1,6 @@
 //! What is of closed weeks goes from the ledgers and the outbox between sessions.
 use crate::checking::same;
+use crate::given::{close_day, ledger_of};
 use crate::hubs::{collected_and_served, hub_of, whole};
 use crate::scripts::{narrow, scripts_of};
 use fare_part_tests::{FIRST, Numbers, record, statement};
@@ -40,40 +41,51 @@ fn close_days<L: Ledger>(ledger: &mut L, device: u64) -> Option<()> {
     for day in 0..DAYS {
         let count = if day % 7 < 3 { 1 } else { 0 };
         let number = MONDAY.saturating_add(day);
-        ledger.state(&statement(device, number, 1, count)?).ok()?;
-        ledger
-            .close(DeviceId::new(device)?, Day::new(number)?)
-            .ok()?;
+        close_day(ledger, device, number, count)?;
     }
     Some(())
 }
 
+// Takes a device's taps of five weeks, and closes its days.
+fn take_weeks<L: Ledger>(ledger: &mut L, device: u64) -> Option<()> {
+    for number in 1..=TAPS {
+        ledger.take(&tap_of(device, number)?).ok()?;
+    }
+    close_days(ledger, device)
+}
+
 // The ledger of an owner that has taken five weeks of two devices, and closed them.
 fn weeks_ledger(alloc: Global) -> Option<PlainLedger> {
-    let mut ledger = PlainLedger::new(alloc, &narrow(alloc)?, OwnerId::new(1)?).ok()?;
-    for device in 1..=2 {
-        for number in 1..=TAPS {
-            ledger.take(&tap_of(device, number)?).ok()?;
-        }
-        close_days(&mut ledger, device)?;
-    }
+    let mut ledger = ledger_of(alloc, &narrow(alloc)?)?;
+    take_weeks(&mut ledger, 1)?;
+    take_weeks(&mut ledger, 2)?;
     Some(ledger)
+}
+
+// Stores the statements of a device's days.
+fn state_days<O: Outbox>(outbox: &mut O, device: u64) -> Option<()> {
+    for day in 0..DAYS {
+        let count = if day % 7 < 3 { 1 } else { 0 };
+        let number = MONDAY.saturating_add(day);
+        let stated = statement(device, number, 1, count)?;
+        outbox.store_statement(&stated).ok()?;
+    }
+    Some(())
+}
+
+// Stores the taps of device 1, the next one too, and the statements of both devices.
+fn store_weeks<O: Outbox>(outbox: &mut O) -> Option<()> {
+    for number in 1..=TAPS.saturating_add(1) {
+        outbox.store(&tap_of(1, number)?).ok()?;
+    }
+    state_days(outbox, 1)?;
+    state_days(outbox, 2)
 }
 
 // The outbox that had these taps and statements, and the next tap of device 1.
 fn weeks_outbox(alloc: Global) -> Option<PlainOutbox> {
     let mut outbox = PlainOutbox::new(alloc);
-    for number in 1..=TAPS.saturating_add(1) {
-        outbox.store(&tap_of(1, number)?).ok()?;
-    }
-    for device in 1..=2 {
-        for day in 0..DAYS {
-            let count = if day % 7 < 3 { 1 } else { 0 };
-            let number = MONDAY.saturating_add(day);
-            let stated = statement(device, number, 1, count)?;
-            outbox.store_statement(&stated).ok()?;
-        }
-    }
+    store_weeks(&mut outbox)?;
     Some(outbox)
 }
 

@@ -1,9 +1,10 @@
 //! Lanes of devices that are retired between sessions.
 use crate::checking::same;
+use crate::given::{close_day, ledger_of};
 use crate::hubs::{collected_and_served, hub_of, whole};
 use crate::scripts::{narrow, scripts_of};
 use fare_owner::RetireFault;
-use fare_part_tests::{FIRST, Numbers, record, statement};
+use fare_part_tests::{FIRST, Numbers, record};
 use fare_record::{Day, DeviceId, OwnerId, Record};
 use fare_sessions::{Hub, RetiringFault};
 use fare_store::Refused::Because;
@@ -15,17 +16,14 @@ const DAY: u64 = 19_723;
 
 // The ledger of an owner that has taken the first tap of device 1, and has closed the day of device 2.
 fn waiting_ledger(alloc: Global, first: &Record) -> Option<PlainLedger> {
-    let mut ledger = PlainLedger::new(alloc, &narrow(alloc)?, OwnerId::new(1)?).ok()?;
+    let mut ledger = ledger_of(alloc, &narrow(alloc)?)?;
     ledger.take(first).ok()?;
-    ledger.state(&statement(2, DAY, 1, 0)?).ok()?;
-    ledger.close(DeviceId::new(2)?, Day::new(DAY)?).ok()?;
+    close_day(&mut ledger, 2, DAY, 0)?;
     Some(ledger)
 }
 
-// A hub with that ledger, in whose outbox lie three taps of device 1.
-fn waiting_hub(alloc: Global) -> Option<Hub<PlainOutbox, PlainLedger>> {
-    let ledger = waiting_ledger(alloc, &record(FIRST)?)?;
-    let mut outbox = PlainOutbox::new(alloc);
+// Stores three taps of device 1.
+fn store_three<O: Outbox>(outbox: &mut O) -> Option<()> {
     for number in 1..=3 {
         let row = record(Numbers {
             link: number,
@@ -34,7 +32,17 @@ fn waiting_hub(alloc: Global) -> Option<Hub<PlainOutbox, PlainLedger>> {
         })?;
         outbox.store(&row).ok()?;
     }
-    hub_of(alloc, narrow(alloc)?, outbox, ledger)
+    Some(())
+}
+
+// A hub with that ledger, in whose outbox lie three taps of device 1.
+fn waiting_hub(alloc: Global) -> Option<Hub<PlainOutbox, PlainLedger>> {
+    let first = record(FIRST)?;
+    let scheme = narrow(alloc)?;
+    let ledger = waiting_ledger(alloc, &first)?;
+    let mut hub = hub_of(alloc, scheme, PlainOutbox::new(alloc), ledger)?;
+    store_three(&mut hub.outbox)?;
+    Some(hub)
 }
 
 // How an owner's lane of a device is retired.

@@ -106,30 +106,41 @@ fn tapped(link: u64, lane: u64) -> Option<Record> {
     })
 }
 
-fn filled(alloc: Global, opening: Opening) -> Option<PlainOutbox> {
-    let mut outbox = PlainOutbox::new(alloc);
+// Stores what an outbox opens with.
+fn store_all<O: Outbox>(outbox: &mut O, opening: Opening) -> Option<()> {
     for link in 1..=opening.last {
         let behind = opening.gap != 0 && link >= opening.gap;
         let lane = if behind { link.saturating_add(1) } else { link };
         outbox.store(&tapped(link, lane)?).ok()?;
     }
     if let Some(count) = opening.stated {
-        outbox
-            .store_statement(&statement(1, 19_723, 1, count)?)
-            .ok()?;
+        let stated = statement(1, 19_723, 1, count)?;
+        outbox.store_statement(&stated).ok()?;
     }
+    Some(())
+}
+
+fn filled(alloc: Global, opening: Opening) -> Option<PlainOutbox> {
+    let mut outbox = PlainOutbox::new(alloc);
+    store_all(&mut outbox, opening)?;
     Some(outbox)
 }
 
-fn kept(alloc: Global, scheme: &Scheme, opening: Opening) -> Option<PlainLedger> {
-    let (owner, device, day) = names()?;
-    let mut ledger = PlainLedger::new(alloc, scheme, owner).ok()?;
+// States and closes what a ledger opens with.
+fn state_and_close<L: Ledger>(ledger: &mut L, opening: Opening) -> Option<()> {
+    let (_, device, day) = names()?;
     if let Some(count) = opening.held {
         ledger.state(&statement(1, 19_723, 1, count)?).ok()?;
     }
     if opening.closed {
         ledger.close(device, day).ok()?;
     }
+    Some(())
+}
+
+fn kept(alloc: Global, scheme: &Scheme, opening: Opening) -> Option<PlainLedger> {
+    let mut ledger = PlainLedger::new(alloc, scheme, OwnerId::new(1)?).ok()?;
+    state_and_close(&mut ledger, opening)?;
     Some(ledger)
 }
 

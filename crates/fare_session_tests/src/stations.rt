@@ -243,13 +243,14 @@ fn strange(place: u64) -> Option<Frame> {
 
 // A source of two taps with such a frame between them, and one of the other device's taps.
 fn strange_sources(alloc: Global, place: u64) -> Option<Vec<Script>> {
-    let mut source = source_of(alloc, 1, &[])?;
-    for frame in [tapped(1, 2)?, strange(place)?, tapped(1, 1)?] {
-        source.frames.push(frame).ok()?;
-    }
-    let mut sources = Vec::new(alloc);
-    sources.push(source).ok()?;
-    sources.push(source_of(alloc, 2, &[1, 2])?).ok()?;
+    let frames = [tapped(1, 2)?, strange(place)?, tapped(1, 1)?];
+    let mut sources = scripts(alloc, &[])?;
+    let [first, second] = sources.as_mut_slice() else {
+        return None;
+    };
+    first.frames.extend_from_slice(&frames).ok()?;
+    let taps = [tapped(2, 2)?, tapped(2, 1)?];
+    second.frames.extend_from_slice(&taps).ok()?;
     Some(sources)
 }
 

@@ -2,8 +2,7 @@
 use crate::checking::same;
 use crate::ledger_tables::{ledger as ledger_in_tables, scheme};
 use crate::outbox_tables::outbox as outbox_in_tables;
-use crate::stops::{burning, reopened};
-use fare_ledger::SqlLedger;
+use crate::stops::{burning, ledger_in, reopened};
 use fare_outbox::SqlOutbox;
 use fare_part_tests::{FIRST, Numbers, record};
 use fare_record::{Day, DeviceId, OwnerId, Record};
@@ -209,6 +208,34 @@ fn holds_from<O: Outbox>(outbox: &mut O, from: u64) -> Option<bool> {
     Some(behind.is_none() && first.map_or(upto < from, |row| row.lane() == from))
 }
 
+/// What storing several taps answered, and removing the rows of several lanes.
+type Answers = (Result<usize, Fault>, Result<(), Fault>);
+
+// Stores forty taps at once and lets thirty rows go at once.
+fn store_and_prune<O: Outbox>(alloc: Global, outbox: &mut O) -> Option<Answers> {
+    let taps = first_taps(alloc, 40)?;
+    let (owner, device) = (OwnerId::new(1)?, DeviceId::new(1)?);
+    let stored = outbox.store_all(&taps);
+    Some((stored, outbox.prune_all(owner, &[(device, 30)])))
+}
+
+// Whether an outbox has what it answered so.
+fn has_stored<O: Outbox>(
+    outbox: &mut O,
+    stored: Result<usize, Fault>,
+    pruned: Result<(), Fault>,
+) -> Option<bool> {
+    let upto = outbox.upto(DeviceId::new(1)?).ok()?;
+    let whole = holds_from(outbox, 1)?;
+    let cut = holds_from(outbox, 31)?;
+    Some(match (stored, pruned) {
+        (Ok(count), Ok(())) => count == 40 && upto == 40 && cut,
+        (Ok(count), Err(Fault::Store)) => count == 40 && upto == 40 && (whole || cut),
+        (Err(Fault::Store), _) => upto <= 40 && (whole || upto == 0 && cut),
+        _ => false,
+    })
+}
+
 // Forty taps are stored at once and thirty rows go at once; then the machine stops and comes back. Whether the outbox
 // has what it answered: the first of the taps, and of the rows all that went or none.
 fn outbox_stopped<S: Alter + Reopen + Drop>(
@@ -221,20 +248,30 @@ fn outbox_stopped<S: Alter + Reopen + Drop>(
     let Ok(mut outbox) = SqlOutbox::open(alloc, conn) else {
         return Some((Stage::Unopened, true));
     };
-    let (owner, device) = (OwnerId::new(1)?, DeviceId::new(1)?);
-    let stored = outbox.store_all(&first_taps(alloc, 40)?);
-    let pruned = outbox.prune_all(owner, &[(device, 30)]);
-    let mut again = SqlOutbox::open(alloc, reopened(alloc, outbox.into_connection())?).ok()?;
-    let upto = again.upto(device).ok()?;
-    let whole = holds_from(&mut again, 1)?;
-    let cut = holds_from(&mut again, 31)?;
-    let kept = match (stored, pruned) {
-        (Ok(count), Ok(())) => count == 40 && upto == 40 && cut,
-        (Ok(count), Err(Fault::Store)) => count == 40 && upto == 40 && (whole || cut),
-        (Err(Fault::Store), _) => upto <= 40 && (whole || upto == 0 && cut),
-        _ => false,
-    };
+    let (stored, pruned) = store_and_prune(alloc, &mut outbox)?;
+    let conn = reopened(alloc, outbox.into_connection())?;
+    let mut again = SqlOutbox::open(alloc, conn).ok()?;
+    let kept = has_stored(&mut again, stored, pruned)?;
     Some((reached(stored.is_ok() && pruned.is_ok()), kept))
+}
+
+// Takes forty taps at once.
+fn take_forty<L: Ledger>(alloc: Global, ledger: &mut L) -> Option<Result<usize, Fault>> {
+    let taps = first_taps(alloc, 40)?;
+    Some(ledger.take_all(&taps))
+}
+
+// Whether a ledger has what it answered so, and as many rows of it.
+fn has_taken<L: Ledger>(ledger: &mut L, taken: Result<usize, Fault>) -> Option<bool> {
+    let (device, day) = (DeviceId::new(1)?, Day::new(FIRST.day)?);
+    let count = ledger.count(device).ok()?;
+    let rows = ledger.taps_between(day, day).ok()?.len() as u64;
+    let kept = match taken {
+        Ok(all) => all == 40 && count == 40,
+        Err(Fault::Store) => count <= 40,
+        Err(Fault::Memory) => false,
+    };
+    Some(kept && rows == count)
 }
 
 // Forty taps are taken at once, and then the machine stops and comes back. Whether the ledger has what it answered.
@@ -245,24 +282,14 @@ fn ledger_stopped<S: Alter + Reopen + Drop>(
     let Some(conn) = conn else {
         return Some((Stage::Unopened, true));
     };
-    let (owner, device) = (OwnerId::new(1)?, DeviceId::new(1)?);
-    let Ok(mut ledger) = SqlLedger::open(alloc, &scheme(alloc)?, owner, conn) else {
+    let Some(mut ledger) = ledger_in(alloc, conn) else {
         return Some((Stage::Unopened, true));
     };
-    let taken = ledger.take_all(&first_taps(alloc, 40)?);
+    let taken = take_forty(alloc, &mut ledger)?;
     let conn = reopened(alloc, ledger.into_connection())?;
-    let mut again = SqlLedger::open(alloc, &scheme(alloc)?, owner, conn).ok()?;
-    let count = again.count(device).ok()?;
-    let rows = again
-        .taps_between(Day::new(FIRST.day)?, Day::new(FIRST.day)?)
-        .ok()?
-        .len() as u64;
-    let kept = match taken {
-        Ok(all) => all == 40 && count == 40,
-        Err(Fault::Store) => count <= 40,
-        Err(Fault::Memory) => false,
-    };
-    Some((reached(taken.is_ok()), kept && rows == count))
+    let mut again = ledger_in(alloc, conn)?;
+    let kept = has_taken(&mut again, taken)?;
+    Some((reached(taken.is_ok()), kept))
 }
 
 // Over disks in memory that fail after so many calls. It alone names their kind, since a function that does is slow to

@@ -1,7 +1,8 @@
 //! Serving, closing and billing over databases that stop, and over the same once they are opened again: a bill is of all
 //! taps, or there is none.
 use crate::databases::asked_of;
-use crate::hub_stops::{Over, Step, reopened, walk};
+use crate::hub_stops::{Over, Step, walk};
+use crate::stops::reopened;
 use fare_command::Question;
 use fare_databases::{Databases, close_hub, open_hub};
 use fare_desk::DeskFault;

@@ -370,6 +370,16 @@ enum Ended {
     Retired,
 }
 
+// How it went on behind the retiring of a lane, once the machine stopped and came back.
+fn retired_again<S: Alter + Reopen + Drop>(alloc: Global, conn: Connection<S>) -> Option<Ended> {
+    let mut conn = reopened(alloc, conn)?;
+    if format_of(&mut conn)? != (4, 3) {
+        return None;
+    }
+    let mut ledger = ledger_in(alloc, conn).ok()?;
+    (listed(&mut ledger)? == lists(true)).then_some(Ended::Retired)
+}
+
 // How it went on with a ledger that is open.
 fn retired<S: Alter + Reopen + Drop>(alloc: Global, ledger: SqlLedger<S>) -> Option<Ended> {
     let mut ledger = ledger;
@@ -379,12 +389,7 @@ fn retired<S: Alter + Reopen + Drop>(alloc: Global, ledger: SqlLedger<S>) -> Opt
     if ledger.retire(DeviceId::new(2)?).is_err() {
         return Some(Ended::Opened);
     }
-    let mut conn = reopened(alloc, ledger.into_connection())?;
-    if format_of(&mut conn)? != (4, 3) {
-        return None;
-    }
-    let mut ledger = ledger_in(alloc, conn).ok()?;
-    (listed(&mut ledger)? == lists(true)).then_some(Ended::Retired)
+    retired_again(alloc, ledger.into_connection())
 }
 
 // How it went on behind a failure, if what is left is a ledger of one of the two formats with the same lists.

@@ -1,5 +1,6 @@
 //! Lists of sessions over stores in files that stop, and over the same stores once they are opened again.
 use crate::bills_after_stops::billed;
+use crate::stops::reopened;
 use fare_frame::Frame;
 use fare_ledger::SqlLedger;
 use fare_outbox::SqlOutbox;
@@ -121,16 +122,6 @@ fn go_on<O: Outbox + Send + Drop, L: Ledger + Send + Drop, R: Threads + Wait + C
     })
 }
 
-// The database after the machine stopped and came back.
-pub(crate) fn reopened<S: Alter + Reopen + Drop>(
-    alloc: Global,
-    conn: Connection<S>,
-) -> Option<Connection<S>> {
-    let mut store = conn.into_store();
-    store.crash_and_reopen().ok()?;
-    Connection::over(alloc, store).ok()
-}
-
 // An outbox in a database, and whether it was opened before its disks failed; else it is opened once they are back.
 fn outbox_in<S: Alter + Reopen + Drop>(
     alloc: Global,
@@ -161,6 +152,32 @@ fn ledger_in<S: Alter + Reopen + Drop>(
     }
 }
 
+// The two stores in their databases, and whether both were opened before their disks failed.
+fn both_in<S: Alter + Reopen + Drop>(
+    alloc: Global,
+    outbox: Connection<S>,
+    ledger: Connection<S>,
+) -> Option<(SqlOutbox<S>, SqlLedger<S>, bool)> {
+    let (outbox, at_once) = outbox_in(alloc, outbox)?;
+    let (ledger, ledger_at_once) = ledger_in(alloc, ledger)?;
+    Some((outbox, ledger, at_once && ledger_at_once))
+}
+
+// The two stores after the machine stopped and came back, which have to be opened at once.
+fn both_again<S: Alter + Reopen + Drop>(
+    alloc: Global,
+    outbox: SqlOutbox<S>,
+    ledger: SqlLedger<S>,
+) -> Option<(SqlOutbox<S>, SqlLedger<S>)> {
+    let outbox = reopened(alloc, outbox.into_connection())?;
+    let ledger = reopened(alloc, ledger.into_connection())?;
+    let (outbox, ledger, at_once) = both_in(alloc, outbox, ledger)?;
+    if !at_once {
+        return None;
+    }
+    Some((outbox, ledger))
+}
+
 /// How sessions over databases ended of which one may fail.
 #[derive(Clone, Copy)]
 enum Ended {
@@ -181,19 +198,11 @@ fn stopped<S: Alter + Reopen + Drop + Send, R: Threads + Wait + Clock + Sync>(
     let (Some(outbox), Some(ledger)) = (outbox, ledger) else {
         return Some(Ended::Unopened);
     };
-    let (outbox, outbox_opened) = outbox_in(alloc, outbox)?;
-    let (ledger, ledger_opened) = ledger_in(alloc, ledger)?;
+    let (outbox, ledger, opened) = both_in(alloc, outbox, ledger)?;
     let (first, sources, outbox, ledger) = run(rt, alloc, outbox, ledger)?;
-    let (outbox, outbox_again) = outbox_in(alloc, reopened(alloc, outbox.into_connection())?)?;
-    let (ledger, ledger_again) = ledger_in(alloc, reopened(alloc, ledger.into_connection())?)?;
-    if !outbox_again || !ledger_again {
-        return None;
-    }
+    let (outbox, ledger) = both_again(alloc, outbox, ledger)?;
     let course = go_on(rt, alloc, first, &sources, outbox, ledger)?;
-    Some(Ended::Ran(Course {
-        opened: outbox_opened && ledger_opened,
-        ..course
-    }))
+    Some(Ended::Ran(Course { opened, ..course }))
 }
 
 // Whether a count is another one or up to a batch more.

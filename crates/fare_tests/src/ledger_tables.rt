@@ -1,6 +1,7 @@
 use crate::checking::same;
+use crate::raising::number;
 use crate::stores::{
-    Answer, Call, FORGETTING, FORGOTTEN_ALONE, RETIRED_ALONE, RETIRING, answer_to,
+    Answer, Call, FORGETTING, FORGOTTEN_ALONE, RETIRED_ALONE, RETIRING, answer_to, ends_between,
 };
 use fare_ledger::{LedgerOpenFault, SqlLedger};
 use fare_owner::{CloseFault, StatementFault, TapFault};
@@ -52,11 +53,9 @@ fn refusal(
     sql: &[&str],
     question: &str,
 ) -> Option<(LedgerOpenFault, i64)> {
-    let conn = database(alloc, sql)?;
-    let opened = SqlLedger::open(alloc, &scheme(alloc)?, OwnerId::new(owner)?, conn);
-    let (mut conn, fault) = opened.err()?;
-    let rows = conn.query_row(question, &[]).ok()?.get(0).ok()?;
-    Some((fault, rows))
+    let (scheme, owner) = (scheme(alloc)?, OwnerId::new(owner)?);
+    let (mut conn, fault) = SqlLedger::open(alloc, &scheme, owner, database(alloc, sql)?).err()?;
+    Some((fault, number(&mut conn, question)?))
 }
 
 // Whether the ledger answers these calls so, one after the other.
@@ -129,13 +128,7 @@ fn a_ledger_in_tables_closes_a_day_where_the_counts_agree(rt: HostRuntime) {
 fn between(alloc: Global, from: u64, to: u64) -> Option<(Option<u64>, Option<u64>, usize)> {
     let mut ledger = ledger(alloc, &[])?;
     answer_to(&mut ledger, Call::TakeAll(3))?;
-    let taps = ledger.taps_between(Day::new(from)?, Day::new(to)?).ok()?;
-    let (first, last) = (taps.first().copied(), taps.last().copied());
-    Some((
-        first.map(|tap| tap.lane()),
-        last.map(|tap| tap.lane()),
-        taps.len(),
-    ))
+    ends_between(&mut ledger, from, to)
 }
 
 #[test]
@@ -179,12 +172,16 @@ fn a_ledger_takes_its_own_tables(rt: HostRuntime) {
 }
 
 // The routes of the first and the last tap of a ledger.
+fn routes_of<L: Ledger>(ledger: &mut L) -> Option<(u16, u16)> {
+    let (from, to) = (Day::new(19_723)?, Day::new(19_724)?);
+    let taps = ledger.taps_between(from, to).ok()?;
+    Some((taps.first()?.tap().route(), taps.last()?.tap().route()))
+}
+
+// The same of the ledger that these statements make.
 fn routes(alloc: Global, sql: &[&str]) -> Option<(u16, u16)> {
     let mut ledger = ledger(alloc, sql)?;
-    let taps = ledger
-        .taps_between(Day::new(19_723)?, Day::new(19_724)?)
-        .ok()?;
-    Some((taps.first()?.tap().route(), taps.last()?.tap().route()))
+    routes_of(&mut ledger)
 }
 
 #[test]

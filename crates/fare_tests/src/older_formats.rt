@@ -161,20 +161,37 @@ fn left<S: Alter>(conn: &mut Connection<S>, older: (i64, i64), newest: i64) -> O
     whole.then_some(found.0)
 }
 
+// How an outbox of the first format ended that failed while it was opened.
+fn outbox_again<S: Alter + Reopen + Drop>(alloc: Global, conn: Connection<S>) -> Option<Ended> {
+    let mut conn = reopened(alloc, conn)?;
+    let format = left(&mut conn, (1, 2), 2)?;
+    let outbox = SqlOutbox::open(alloc, conn).ok()?;
+    has_all(outbox)?.then_some(Ended::Stopped(format))
+}
+
 // How an outbox of the first format ended.
 fn outbox_ended<S: Alter + Reopen + Drop>(alloc: Global, conn: Connection<S>) -> Option<Ended> {
     let mut conn = conn;
     if conn.execute_batch(FIRST_OUTBOX).is_err() {
         return Some(Ended::Unmade);
     }
-    let conn = match SqlOutbox::open(alloc, conn) {
-        Ok(outbox) => return has_all(outbox)?.then_some(Ended::Opened),
-        Err((conn, fault)) => (fault == OpenFault::Store).then_some(conn)?,
-    };
+    match SqlOutbox::open(alloc, conn) {
+        Ok(outbox) => has_all(outbox)?.then_some(Ended::Opened),
+        Err((conn, OpenFault::Store)) => outbox_again(alloc, conn),
+        Err(_) => None,
+    }
+}
+
+// How a ledger of an older format ended that failed while it was opened.
+fn ledger_again<S: Alter + Reopen + Drop>(
+    alloc: Global,
+    conn: Connection<S>,
+    older: (i64, i64),
+) -> Option<Ended> {
     let mut conn = reopened(alloc, conn)?;
-    let format = left(&mut conn, (1, 2), 2)?;
-    let outbox = SqlOutbox::open(alloc, conn).ok()?;
-    has_all(outbox)?.then_some(Ended::Stopped(format))
+    let format = left(&mut conn, older, 4)?;
+    let ledger = ledger_in(alloc, conn).ok()?;
+    lists_all(ledger)?.then_some(Ended::Stopped(format))
 }
 
 // How a ledger of a format ended that these statements make.
@@ -188,17 +205,11 @@ fn ledger_ended<S: Alter + Reopen + Drop>(
     if conn.execute_batch(sql).is_err() {
         return Some(Ended::Unmade);
     }
-    let conn = match ledger_in(alloc, conn) {
-        Ok(ledger) => return lists_all(ledger)?.then_some(Ended::Opened),
-        Err(refused) => {
-            let (conn, fault) = refused?;
-            (fault == LedgerOpenFault::Store).then_some(conn)?
-        }
-    };
-    let mut conn = reopened(alloc, conn)?;
-    let format = left(&mut conn, older, 4)?;
-    let ledger = ledger_in(alloc, conn).ok()?;
-    lists_all(ledger)?.then_some(Ended::Stopped(format))
+    match ledger_in(alloc, conn) {
+        Ok(ledger) => lists_all(ledger)?.then_some(Ended::Opened),
+        Err(Some((conn, LedgerOpenFault::Store))) => ledger_again(alloc, conn, older),
+        Err(_) => None,
+    }
 }
 
 // How the four ended, each in a database of its own, if these are open.
@@ -272,8 +283,18 @@ const OUTBOX_TO_FIRST: &str =
   SELECT rowid, owner, device, lane, link, product, token, moment, day FROM tap2 ORDER BY rowid;
 DROP TABLE tap2; UPDATE meta SET format = 1";
 
-// How many taps a ledger of 300 has that was of an older format, how many of them it lists, and the greatest of their
-// routes.
+// How many taps a ledger has, how many of a day it lists, and the greatest of their routes.
+fn told_by<L: Ledger>(ledger: &mut L) -> Option<(Answer, usize, u16)> {
+    let day = Day::new(19_723)?;
+    let taps = ledger.taps_between(day, day).ok()?;
+    let mut greatest = 0;
+    for tap in &taps {
+        greatest = tap.tap().route().max(greatest);
+    }
+    Some((answer_to(ledger, Call::Count)?, taps.len(), greatest))
+}
+
+// What a ledger of 300 taps tells that was of an older format.
 fn raised_ledger(alloc: Global, older: &str) -> Option<(Answer, usize, u16)> {
     let conn: Connection<MemStore> = Connection::open_in_memory(alloc).ok()?;
     let mut ledger = ledger_in(alloc, conn).ok()?;
@@ -281,13 +302,7 @@ fn raised_ledger(alloc: Global, older: &str) -> Option<(Answer, usize, u16)> {
     let mut conn = ledger.into_connection();
     conn.execute_batch(older).ok()?;
     let mut ledger = ledger_in(alloc, conn).ok()?;
-    let day = Day::new(19_723)?;
-    let taps = ledger.taps_between(day, day).ok()?;
-    let mut greatest = 0;
-    for tap in &taps {
-        greatest = tap.tap().route().max(greatest);
-    }
-    Some((answer_to(&mut ledger, Call::Count)?, taps.len(), greatest))
+    told_by(&mut ledger)
 }
 
 // The same of an outbox: its greatest link, and the lane numbers of its first and its last row.

@@ -1,4 +1,5 @@
 use crate::checking::same;
+use crate::raising::number;
 use crate::stores::{Asked, FORGETS, Said, ask, forgets_one_lane, says};
 use fare_outbox::SqlOutbox;
 use fare_record::{DeviceId, OwnerId};
@@ -34,8 +35,7 @@ pub(crate) fn outbox(alloc: Global, sql: &[&str]) -> Option<SqlOutbox<MemStore>>
 // Why the database isn't opened, and what this question then answers.
 fn refusal(alloc: Global, sql: &[&str], question: &str) -> Option<(OpenFault, i64)> {
     let (mut conn, fault) = SqlOutbox::open(alloc, database(alloc, sql)?).err()?;
-    let rows = conn.query_row(question, &[]).ok()?.get(0).ok()?;
-    Some((fault, rows))
+    Some((fault, number(&mut conn, question)?))
 }
 
 #[test]
@@ -233,11 +233,7 @@ fn beside(alloc: Global) -> Option<(i64, Said)> {
     let mut first = outbox(alloc, &[RIDERS])?;
     ask(&mut first, Asked::StoreAll(3))?;
     let mut conn = first.into_connection();
-    let others = conn
-        .query_row("SELECT sum(day) FROM pass", &[])
-        .ok()?
-        .get(0)
-        .ok()?;
+    let others = number(&mut conn, "SELECT sum(day) FROM pass")?;
     let mut again = SqlOutbox::open(alloc, conn).ok()?;
     Some((others, ask(&mut again, Asked::Upto)?))
 }

@@ -39,7 +39,7 @@ fn found_as<D: Design, S: Alter>(alloc: Global, conn: &mut Connection<S>) -> Opt
 }
 
 // The number that a question answers.
-fn number<S: Alter>(conn: &mut Connection<S>, question: &str) -> Option<i64> {
+pub(crate) fn number<S: Alter>(conn: &mut Connection<S>, question: &str) -> Option<i64> {
     conn.query_row(question, &[]).ok()?.get(0).ok()
 }
 
@@ -87,18 +87,22 @@ fn an_older_format_is_raised_and_keeps_its_rows(rt: HostRuntime) {
     }
 }
 
-// What a store of the first format is found to be once a statement was run in it, how many tables, indexes and views
-// its database has then, and the sum of its formats.
-fn changed(alloc: Global, statement: &str) -> Option<(Found, bool)> {
+// What is found in a database, and whether it has as many tables, indexes and views then, and no row of the newest format.
+fn found_there<S: Alter>(alloc: Global, conn: &mut Connection<S>) -> Option<(Found, bool)> {
     const OBJECTS: &str = "SELECT count(*) FROM sqlite_schema";
     const FORMATS: &str = "SELECT count(*) FROM meta WHERE format = 2";
+    let before = number(conn, OBJECTS)?;
+    let seen = found_as::<Shelf, S>(alloc, conn)?;
+    let after = number(conn, OBJECTS)?;
+    let raised = number(conn, FORMATS)?;
+    Some((seen, after == before && raised == 0))
+}
+
+// The same of a store of the first format in which a statement was run.
+fn changed(alloc: Global, statement: &str) -> Option<(Found, bool)> {
     let mut conn = old_store(alloc)?;
     conn.execute_batch(statement).ok()?;
-    let before = number(&mut conn, OBJECTS)?;
-    let seen = found_as::<Shelf, MemStore>(alloc, &mut conn)?;
-    let after = number(&mut conn, OBJECTS)?;
-    let raised = number(&mut conn, FORMATS)?;
-    Some((seen, after == before && raised == 0))
+    found_there(alloc, &mut conn)
 }
 
 #[test]

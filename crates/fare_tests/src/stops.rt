@@ -153,7 +153,10 @@ fn outbox_stopped<S: Alter + Reopen + Drop>(alloc: Global, conn: Connection<S>) 
 }
 
 // Owner 1's ledger in a database, by the demonstration scheme.
-fn ledger_in<S: Alter + Drop>(alloc: Global, conn: Connection<S>) -> Option<SqlLedger<S>> {
+pub(crate) fn ledger_in<S: Alter + Drop>(
+    alloc: Global,
+    conn: Connection<S>,
+) -> Option<SqlLedger<S>> {
     let scheme = Scheme::demo(alloc, DemoSize::OneDevice, 4, 4, 4).ok()?;
     SqlLedger::open(alloc, &scheme, OwnerId::new(1)?, conn).ok()
 }

@@ -375,13 +375,23 @@ fn first_held<L: Ledger>(ledger: &mut L, device: DeviceId) -> Result<u64, Fault>
     Ok(u64::from(ledger.held_from(device)?.get()))
 }
 
-// The first and the last lane number of the taps of some days, in their order, and how many these are.
+// The first and the last lane number of a ledger's taps of some days, in their order, and how many these are.
+pub(crate) fn ends_between<L: Ledger>(
+    ledger: &mut L,
+    from: u64,
+    to: u64,
+) -> Option<(Option<u64>, Option<u64>, usize)> {
+    let (from, to) = (Day::new(from)?, Day::new(to)?);
+    let taps = ledger.taps_between(from, to).ok()?;
+    let (first, last) = (taps.first().copied(), taps.last().copied());
+    Some((first.map(Record::lane), last.map(Record::lane), taps.len()))
+}
+
+// The same of a ledger with three taps.
 fn between(alloc: Global, from: u64, to: u64) -> Option<(Option<u64>, Option<u64>, usize)> {
     let mut ledger = ledger(alloc, 1)?;
     take_all(&mut ledger, 3)?;
-    let taps = ledger.taps_between(Day::new(from)?, Day::new(to)?).ok()?;
-    let (first, last) = (taps.first().copied(), taps.last().copied());
-    Some((first.map(Record::lane), last.map(Record::lane), taps.len()))
+    ends_between(&mut ledger, from, to)
 }
 
 pub(crate) fn answer_to<L: Ledger>(ledger: &mut L, call: Call) -> Option<Answer> {
@@ -481,17 +491,23 @@ fn take_scattered(ledger: &mut PlainLedger) -> Option<()> {
     Some(())
 }
 
-// How many of these taps are of some days, and whether each comes after the one before it.
-fn scattered(alloc: Global, from: u64, to: u64) -> Option<(usize, bool)> {
-    let scheme = Scheme::demo(alloc, DemoSize::TwoDevices, 4, 4, 4).ok()?;
-    let mut ledger = PlainLedger::new(alloc, &scheme, owner()?).ok()?;
-    take_scattered(&mut ledger)?;
-    let taps = ledger.taps_between(Day::new(from)?, Day::new(to)?).ok()?;
+// How many taps a ledger has of some days, and whether each comes after the one before it.
+fn rising_between<L: Ledger>(ledger: &mut L, from: u64, to: u64) -> Option<(usize, bool)> {
+    let (from, to) = (Day::new(from)?, Day::new(to)?);
+    let taps = ledger.taps_between(from, to).ok()?;
     let rising = taps
         .iter()
         .zip(taps.iter().skip(1))
         .all(|(a, b)| place(a) < place(b));
     Some((taps.len(), rising))
+}
+
+// The same of a ledger with these taps.
+fn scattered(alloc: Global, from: u64, to: u64) -> Option<(usize, bool)> {
+    let scheme = Scheme::demo(alloc, DemoSize::TwoDevices, 4, 4, 4).ok()?;
+    let mut ledger = PlainLedger::new(alloc, &scheme, owner()?).ok()?;
+    take_scattered(&mut ledger)?;
+    rising_between(&mut ledger, from, to)
 }
 
 #[test]
