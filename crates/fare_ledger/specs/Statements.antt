@@ -6,7 +6,7 @@ use Rattle.fare_opening.specs.Numbers.{Meta, Device, Tap, Stated}
 use Rattle.fare_layout.specs.declared.place.Places.{Places}
 use Rattle.fare_layout.specs.Layouts.{Fits}
 use Rattle.fare_opening.specs.Moving.{MovingParts}
-use Rattle.fare_opening.specs.Parts.{Parts, OlderParts}
+use Rattle.fare_opening.specs.Parts.{Parts, OlderParts, plain_meta}
 use Rattle.fare_ledger.specs.Tables.{first_schema, second_schema, third_schema, ledger_schema}
 
 -- the table of the retired lanes
@@ -109,16 +109,16 @@ moving_taps = record {
 
 -- what a ledger of the first format is made of
 abbrev pub first_format : OlderParts
-first_format = record { own = first_schema; tables = first_tables; texts = older_texts; format = 1; missing = retired_tables ++ routed_tables ++ held_tables; moving = Some moving_taps; unused = None }
+first_format = record { own = first_schema; meta = plain_meta; tables = first_tables; texts = older_texts; format = 1; missing = retired_tables ++ routed_tables ++ held_tables; moving = Some moving_taps; unused = None }
 
 -- one of the second
 abbrev pub second_format : OlderParts
-second_format = record { own = second_schema; tables = first_tables ++ retired_tables; texts = older_texts; format = 2; missing = routed_tables ++ held_tables; moving = Some moving_taps; unused = None }
+second_format = record { own = second_schema; meta = plain_meta; tables = first_tables ++ retired_tables; texts = older_texts; format = 2; missing = routed_tables ++ held_tables; moving = Some moving_taps; unused = None }
 
 -- and one of the third, which doesn't use Tap either
 abbrev pub third_format : OlderParts
-third_format = record { own = third_schema; tables = first_tables ++ retired_tables ++ routed_tables; texts = third_texts; format = 3; missing = held_tables; moving = None; unused = Some (Tap, codes "SELECT count(*) FROM tap") }
+third_format = record { own = third_schema; meta = plain_meta; tables = first_tables ++ retired_tables ++ routed_tables; texts = third_texts; format = 3; missing = held_tables; moving = None; unused = Some (Tap, codes "SELECT count(*) FROM tap") }
 
 -- what a ledger is made of
 abbrev pub ledger_parts : Parts
-ledger_parts = record { own = ledger_schema; tables = tables; texts = texts; format = 4; older = first_format ∷ second_format ∷ third_format ∷ []; unused = Some (Tap, codes "SELECT count(*) FROM tap") }
+ledger_parts = record { own = ledger_schema; meta = plain_meta; tables = tables; texts = texts; format = 4; older = first_format ∷ second_format ∷ third_format ∷ []; unused = Some (Tap, codes "SELECT count(*) FROM tap") }

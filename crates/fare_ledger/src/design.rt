@@ -5,7 +5,7 @@ use crate::statements::{
     ROUTED, SECOND_MISSING, SECOND_TABLES, TABLES, TEXTS, THIRD_MISSING, THIRD_TABLES, THIRD_TEXTS,
 };
 use fare_layout::TableNumber;
-use fare_opening::{Design, Moving, Older, TAP};
+use fare_opening::{Design, META_TEXTS, MetaTexts, Moving, Older, TAP};
 
 // How the taps of an older format move to the table that has their routes, each with route 0.
 const MOVED_TAPS: Moving = Moving {
@@ -16,10 +16,14 @@ const MOVED_TAPS: Moving = Moving {
     clear: CLEAR_OLDER,
 };
 
+// What is asked of `meta`, and written to it.
+static TEXTS_OF_META: MetaTexts = META_TEXTS;
+
 // The first format, which knew of no retired lanes, the second, whose taps had no route, and the third, of which
 // nothing was let go: as in the newest, the table in which the first two have the taps holds no row.
 static OLDER: [Older; 3] = [
     Older {
+        meta: META_TEXTS,
         format: 1,
         tables: &FIRST_TABLES,
         missing: &FIRST_MISSING,
@@ -28,6 +32,7 @@ static OLDER: [Older; 3] = [
         unused: None,
     },
     Older {
+        meta: META_TEXTS,
         format: 2,
         tables: &SECOND_TABLES,
         missing: &SECOND_MISSING,
@@ -36,6 +41,7 @@ static OLDER: [Older; 3] = [
         unused: None,
     },
     Older {
+        meta: META_TEXTS,
         format: 3,
         tables: &THIRD_TABLES,
         missing: &THIRD_MISSING,
@@ -50,6 +56,10 @@ pub(crate) struct LedgerDesign;
 
 impl Design for LedgerDesign {
     ghost parts = { ledger_parts };
+
+    fn meta() -> &'static MetaTexts {
+        &TEXTS_OF_META
+    }
 
     fn tables() -> &'static [(&'static str, &'static str)] {
         &TABLES

@@ -18,7 +18,7 @@ use Rattle.fare_layout.specs.declared.place.TableNumber.{TableNumber}
 use Rattle.fare_layout.specs.Commands.{moved_query}
 use Rattle.fare_layout.specs.Places.{all_of}
 use Rattle.fare_opening.specs.declared.site.Site.{Site}
-use Rattle.fare_opening.specs.Parts.{Parts, IsDesign, read_meta, meta_query}
+use Rattle.fare_opening.specs.Parts.{Parts, IsDesign, meta_query}
 use Rattle.fare_opening.specs.Numbers.{Meta}
 use Rattle.fare_opening.specs.Sites.{IsSite, tree_at, rows_at}
 use Rattle.fare_opening.specs.MetaRow.{AreMeta, IsMeta}
@@ -89,10 +89,10 @@ one_row format owner stored (o ∷ []) same are = by stored (one_permutation o (
     by (r ∷ s ∷ rows) is = absurd cc
 
 -- what is kept of the rows of meta is each row's format and owner
-kept_rows : (d : Parts) (w : Site) (old new : State) (rows : List Row) → IsDesign d → IsSite d w → old.now.schema ≡ w.schema → Shown read_meta [] old new rows → (a : IsAnswer (meta_query (tree_at w Meta)) (overlay old.now.trees []) [] rows) × (a.kept ≡ map shown (rows_at w Meta old.now.trees))
+kept_rows : (d : Parts) (w : Site) (old new : State) (rows : List Row) → IsDesign d → IsSite d w → old.now.schema ≡ w.schema → Shown d.meta.read [] old new rows → (a : IsAnswer (meta_query (tree_at w Meta)) (overlay old.now.trees []) [] rows) × (a.kept ≡ map shown (rows_at w Meta old.now.trees))
 kept_rows d w old new rows design site has shows =
     let meant = asks_meant d w design site in
-    let read = reads_as read_meta [] old new w.schema has _ meant.command_is meant.plain meant.unlisted rows shows in
+    let read = reads_as d.meta.read [] old new w.schema has _ meant.command_is meant.plain meant.unlisted rows shows in
     let tree = tree_at w Meta in
     let a : IsAnswer (meta_query tree) (overlay old.now.trees []) [] rows = read.answer Null in
     let stored = overlay old.now.trees [] tree in
@@ -100,7 +100,7 @@ kept_rows d w old new rows design site has shows =
     let kept : a.kept ≡ map shown stored = a.distinct ∙ ap (map (output (meta_query tree))) staged ∙ shown_all tree stored in
     (a, kept ∙ ap (map shown) (over old.now.trees tree (meta_stands d w design site).low))
 
-pub meta_is : (d : Parts) (format owner : ℕ) (w : Site) (old new : State) (rows : List Row) → IsDesign d → IsSite d w → old.now.schema ≡ w.schema → Shown read_meta [] old new rows → AreMeta format owner rows → IsMeta format owner (rows_at w Meta old.now.trees)
+pub meta_is : (d : Parts) (format owner : ℕ) (w : Site) (old new : State) (rows : List Row) → IsDesign d → IsSite d w → old.now.schema ≡ w.schema → Shown d.meta.read [] old new rows → AreMeta format owner rows → IsMeta format owner (rows_at w Meta old.now.trees)
 meta_is d format owner w old new rows design site has shows are =
     let k = kept_rows d w old new rows design site has shows in
     let a = k.0 in
@@ -108,7 +108,7 @@ meta_is d format owner w old new rows design site has shows are =
     record { row = it.0; only = it.1; is = record { id_is = it.2.id_is; format_is = it.2.format_is; owner_is = it.2.owner_is } }
 
 -- and where meta holds the row, the answer is that row
-pub meta_found : (d : Parts) (format owner : ℕ) (w : Site) (old new : State) (rows : List Row) → IsDesign d → IsSite d w → old.now.schema ≡ w.schema → Shown read_meta [] old new rows → IsMeta format owner (rows_at w Meta old.now.trees) → AreMeta format owner rows
+pub meta_found : (d : Parts) (format owner : ℕ) (w : Site) (old new : State) (rows : List Row) → IsDesign d → IsSite d w → old.now.schema ≡ w.schema → Shown d.meta.read [] old new rows → IsMeta format owner (rows_at w Meta old.now.trees) → AreMeta format owner rows
 meta_found d format owner w old new rows design site has shows it =
     let k = kept_rows d w old new rows design site has shows in
     let a = k.0 in

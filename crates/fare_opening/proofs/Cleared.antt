@@ -1,6 +1,7 @@
 -- What the removal of all rows of a table leaves.
-use Rattle.std.proofs.Common.{◌≡◌, ◌≢◌, ◌<◌, ℕ, suc, List, [], ◌∷◌, map, filter, length, true, false, None, Ok, refl, sym, ap, subst, ◌∙◌}
+use Rattle.std.proofs.Common.{◌≡◌, ◌≢◌, ◌<◌, ◌+◌, arith, ℕ, suc, List, [], ◌∷◌, map, filter, length, true, false, None, Ok, refl, sym, ap, subst, ◌∙◌}
 use Rattle.std.specs.List.{AllByRecursion}
+use Rattle.std.proofs.lemmas.List.{length-append}
 use Rattle.std.specs.List.Sorted.{IsPermutation}
 use Rattle.sqlite.specs.declared.types.Value.TheVariants.{Null}
 use Rattle.sqlite_value.specs.Order.{Row}
@@ -27,13 +28,14 @@ use Rattle.fare_layout.specs.Commands.{KeepsMeaning}
 use Rattle.fare_layout.specs.Places.{place_of, all_of}
 use Rattle.fare_layout.proofs.Meant.{Meant, meant}
 use Rattle.fare_opening.specs.declared.site.Site.{Site}
+use Rattle.fare_opening.specs.Listed.{IsClearing}
 use Rattle.fare_opening.specs.Moves.{Clears}
-use Rattle.fare_opening.specs.Moving.{MovingParts, ids_query, clears_rows, columns_of, IsNumbered, AreNumbered}
-use Rattle.fare_opening.specs.Parts.{Parts, OlderParts, IsMoving}
+use Rattle.fare_opening.specs.Moving.{MovingParts, ids_query, clears_rows, IsNumbered, AreNumbered}
+use Rattle.fare_opening.specs.Parts.{Parts, OlderParts, IsDesign, IsOlder, IsMoving}
 use Rattle.fare_opening.specs.Sites.{IsSite, tree_at}
 use Rattle.fare_opening.proofs.Asked.{all_rows, filter_all, over}
 use Rattle.fare_opening.proofs.Numbered.{numbered_ids}
-use Rattle.fare_opening.proofs.Standing.{all_has, at_found, no_works, low_tree, each_stands}
+use Rattle.fare_opening.proofs.Standing.{all_has, at_found, no_works, low_tree, each_stands, place_count}
 
 shown : (tree : ℕ) (rows : List Row) → map (output (ids_query tree)) (map (λ r. [] ∷ r ∷ []) rows) ≡ map id_shown rows
 shown tree [] = refl
@@ -51,31 +53,47 @@ left columns tree db out same ok a =
     let kept : a.kept ≡ map id_shown (filter (λ r. true) (db tree)) = a.distinct ∙ ap (map (output (ids_query tree))) staged ∙ shown tree stored ∙ ap (map id_shown) (same ∙ sym (filter_all (db tree))) in
     ap (λ rows. without_all (db tree) (ids_of rows)) a.shown ∙ left_over (IsNumbered (suc columns)) (numbered_ids columns) (λ r. true) (db tree) a.ordered ok (subst (λ k. IsPermutation k a.ordered) kept a.same) ∙ none_left (db tree)
 
-pub clears_meant : (d : Parts) (o : OlderParts) (m : MovingParts) (w : Site) → IsMoving d o m → IsSite d w → Meant w.schema m.clear (clears_rows (place_of w.places m.from).at (tree_at w m.from))
-clears_meant d o m w it site =
-    let keeps = all_has (λ (t : TableNumber × List ℕ). KeepsMeaning d.own w.schema (place_of w.places t.0) t.1) d.texts (m.from, m.clear) site.keeps it.clears in
-    meant w.schema m.clear (clears_rows (place_of w.places m.from).at (tree_at w m.from)) (keeps (clears_rows it.clear_at it.clear_tree) it.clears_meant)
+module _ (p : Parts) (k : TableNumber) (text : List ℕ) (w : Site) (it : IsClearing p k text) (site : IsSite p w) where
+  in_site : k.number < length (all_of w.places)
+  in_site = subst (λ n. k.number < n) (place_count w.schema p.own.tables (all_of w.places) site.stands) it.within
 
-pub clears_all : (d : Parts) (o : OlderParts) (m : MovingParts) (w : Site) (old new : State) (count : ℕ) → IsMoving d o m → IsSite d w → m.from.number < length (all_of w.places) → old.now.schema ≡ w.schema → Executes m.clear [] old new (Ok count)
-    → Clears w m.from (columns_of o.own m.from) old.now new.now
-clears_all d o m w old new count it site within has h =
-    let db = old.now.trees in
-    let tree = tree_at w m.from in
-    let stands = each_stands w.schema d.own.tables w.places site.stands m.from within in
-    let table : Table = record stands.0 { tree = tree } in
-    let command = clears_rows (place_of w.places m.from).at tree in
-    let means = clears_meant d o m w it site in
-    let run = runs_as m.clear [] old new w.schema has command means.command_is means.plain count h in
-    let text = statement_of m.clear (understood w.schema m.clear) in
-    let task : Task = record { limit = old.step_limit; keys = Enforced; schema = w.schema; table = table; params = [] } in
-    let done = made task (mode_of old) command db run.tally new.now (at_found task (mode_of old) command db _ (run.tally, new.now) stands.1.there (subst (λ s. Does old.step_limit (mode_of old) [] (record old.now { schema = s }) text None command (Ok (run.tally, new.now))) has run.changed)) in
-    let given = went done.wrote in
-    let step = went given.2 in
-    let trees : new.now.trees ≡ step.0 = ap (λ (d : Database). d.trees) done.after_is ∙ ap (λ (x : Written). x.trees) (same_value step.2) in
-    let edit = edit_of db table (ids_of given.0) Given 0 [] in
-    let one = one_step w.schema Enforced db step.0 edit (no_works d w site m.from within Enforced db edit refl) step.1 in
-    record {
-      schema = ap (λ (d : Database). d.schema) done.after_is;
-      others = subst (λ (t : Trees). AllByRecursion (λ (x : Table). x.tree ≢ tree → t x.tree ≡ db x.tree) w.schema.tables) (sym trees) one.tables;
-      cleared = λ ok. ap (λ (t : Trees). t tree) trees ∙ one.rows ∙ left (columns_of o.own m.from) tree db given.0 (over db tree (low_tree d w site m.from within)) ok (given.1.answer Null);
-    }
+  clears_meant : Meant w.schema text (clears_rows (place_of w.places k).at (tree_at w k))
+  clears_meant =
+      let keeps = all_has (λ (t : TableNumber × List ℕ). KeepsMeaning p.own w.schema (place_of w.places t.0) t.1) p.texts (k, text) site.keeps it.has in
+      meant w.schema text (clears_rows (place_of w.places k).at (tree_at w k)) (keeps (clears_rows it.at it.tree) it.meant)
+
+  pub clears_all : (columns : ℕ) (old new : State) (count : ℕ) → old.now.schema ≡ w.schema → Executes text [] old new (Ok count) → Clears w k columns old.now new.now
+  clears_all columns old new count has h =
+      let db = old.now.trees in
+      let tree = tree_at w k in
+      let stands = each_stands w.schema p.own.tables w.places site.stands k in_site in
+      let table : Table = record stands.0 { tree = tree } in
+      let command = clears_rows (place_of w.places k).at tree in
+      let run = runs_as text [] old new w.schema has command clears_meant.command_is clears_meant.plain count h in
+      let read = statement_of text (understood w.schema text) in
+      let task : Task = record { limit = old.step_limit; keys = Enforced; schema = w.schema; table = table; params = [] } in
+      let done = made task (mode_of old) command db run.tally new.now (at_found task (mode_of old) command db _ (run.tally, new.now) stands.1.there (subst (λ s. Does old.step_limit (mode_of old) [] (record old.now { schema = s }) read None command (Ok (run.tally, new.now))) has run.changed)) in
+      let given = went done.wrote in
+      let step = went given.2 in
+      let trees : new.now.trees ≡ step.0 = ap (λ (d : Database). d.trees) done.after_is ∙ ap (λ (x : Written). x.trees) (same_value step.2) in
+      let edit = edit_of db table (ids_of given.0) Given 0 [] in
+      let one = one_step w.schema Enforced db step.0 edit (no_works p w site k in_site Enforced db edit refl) step.1 in
+      record {
+        schema = ap (λ (d : Database). d.schema) done.after_is;
+        others = subst (λ (t : Trees). AllByRecursion (λ (x : Table). x.tree ≢ tree → t x.tree ≡ db x.tree) w.schema.tables) (sym trees) one.tables;
+        cleared = λ ok. ap (λ (t : Trees). t tree) trees ∙ one.rows ∙ left columns tree db given.0 (over db tree (low_tree p w site k in_site)) ok (given.1.answer Null);
+      }
+
+-- what a raise removes of the table whose rows move
+pub clears_moving : (d : Parts) (o : OlderParts) (m : MovingParts) → IsDesign d → IsOlder d o → IsMoving d o m → IsClearing d m.from m.clear
+clears_moving d o m design older it = record {
+  within = (
+      let has = it.has in
+      let many = design.many in
+      let long : length d.tables ≡ length o.tables + length o.missing = ap length older.tables_are ∙ length-append o.tables o.missing in
+      omega (arith, has, many, long));
+  has = it.clears;
+  at = it.clear_at;
+  tree = it.clear_tree;
+  meant = it.clears_meant;
+}

@@ -31,6 +31,7 @@ use Rattle.fare_layout.specs.Places.{place_of}
 use Rattle.fare_layout.proofs.Meant.{Meant, meant}
 use Rattle.fare_layout.proofs.Others.{all_two}
 use Rattle.fare_opening.specs.declared.site.Site.{Site}
+use Rattle.fare_opening.specs.Listed.{IsPutting, Puts}
 use Rattle.fare_opening.specs.Moves.{Fills}
 use Rattle.fare_opening.specs.Moving.{MovingParts, cells_from, puts_cells, columns_of, AreIntegers, Shape, shaped, IsNumbered, AreNumbered, copy_of, copies}
 use Rattle.fare_opening.specs.Parts.{Parts, OlderParts, IsMoving}
@@ -78,65 +79,90 @@ put_as s tree n db (v ∷ row) integers ok =
     let id : cast Integer v ≡ int (nat_in v) = number_cast v ok.0 ∙ ok.0 in
     rw (id, cells) (ap (λ x. put_row (x ∷ row) (db tree)) (sym ok.0))
 
--- ---- one copy
+-- ---- one row
 
-pub puts_meant : (d : Parts) (o : OlderParts) (m : MovingParts) (w : Site) → IsMoving d o m → IsSite d w → Meant w.schema m.put (puts_cells (suc (suc (columns_of o.own m.from))) (place_of w.places m.to).at)
-puts_meant d o m w it site =
-    let keeps = all_has (λ (t : TableNumber × List ℕ). KeepsMeaning d.own w.schema (place_of w.places t.0) t.1) d.texts (m.to, m.put) site.keeps it.puts in
-    meant w.schema m.put (puts_cells (suc (suc (columns_of o.own m.from))) (place_of w.places m.to).at) (keeps (puts_cells (suc (suc (columns_of o.own m.from))) it.put_at) it.puts_meant)
+module _ (p : Parts) (k : TableNumber) (columns : ℕ) (text : List ℕ) (w : Site) (it : IsPutting p k columns text) (site : IsSite p w) where
+  puts_meant : Meant w.schema text (puts_cells (suc columns) (place_of w.places k).at)
+  puts_meant =
+      let keeps = all_has (λ (t : TableNumber × List ℕ). KeepsMeaning p.own w.schema (place_of w.places t.0) t.1) p.texts (k, text) site.keeps it.has in
+      meant w.schema text (puts_cells (suc columns) (place_of w.places k).at) (keeps (puts_cells (suc columns) it.at) it.meant)
 
-pub puts_copy : (d : Parts) (o : OlderParts) (m : MovingParts) (w : Site) (old new : State) (row params : Row) (count : ℕ) → IsMoving d o m → IsSite d w → old.now.schema ≡ w.schema → ((n : ℕ) → IsNumbered n row → params ≡ copy_of row) → Executes m.put params old new (Ok count)
-    → Fills w m.to (columns_of o.own m.from) (row ∷ []) old.now new.now
-puts_copy d o m w old new row params count it site has cells h =
-    let columns = columns_of o.own m.from in
-    let db = old.now.trees in
-    let tree = tree_at w m.to in
-    let table = shaped it.shape tree in
-    let command = puts_cells (suc (suc columns)) (place_of w.places m.to).at in
-    let means = puts_meant d o m w it site in
-    let run = runs_as m.put params old new w.schema has command means.command_is means.plain count h in
-    let text = statement_of m.put (understood w.schema m.put) in
-    let task : Task = record { limit = old.step_limit; keys = Enforced; schema = w.schema; table = table; params = params } in
-    let placed : slice_get w.schema.tables (place_of w.places m.to).at ≡ Some table = (this_stands d w site m.to (shaped it.shape it.tree) it.shape_is).there in
-    let done = made task (mode_of old) command db run.tally new.now (at_found task (mode_of old) command db _ (run.tally, new.now) placed (subst (λ s. Does old.step_limit (mode_of old) params (record old.now { schema = s }) text None command (Ok (run.tally, new.now))) has run.changed)) in
-    let given = went done.wrote in
-    let written = went (went given.2).2 in
-    let counted = went written.2 in
-    let trees : new.now.trees ≡ written.0 = ap (λ (d : Database). d.trees) done.after_is ∙ ap (λ (it : Written). it.trees) (same_value counted.2) ∙ same_value counted.1 in
-    let step = one_step w.schema Enforced db written.0 (edit_of db table [] Chosen 0 given.0) (no_works d w site m.to (is_within d w site m.to (shaped it.shape it.tree) it.shape_is) Enforced db (edit_of db table [] Chosen 0 given.0) refl) written.1 in
-    record {
-      schema = ap (λ (d : Database). d.schema) done.after_is;
-      others = subst (λ (t : Trees). AllByRecursion (λ (x : Table). x.tree ≢ tree → t x.tree ≡ db x.tree) w.schema.tables) (sym trees) step.tables;
-      filled = λ before ok is. (
-          let numbered = (rows_last (IsNumbered (suc (suc columns))) before (copy_of row) ok).0 in
-          let from = copied_numbered (suc (suc columns)) row numbered in
-          let params_are : params ≡ copy_of row = cells from.0 from.1 in
-          let all : IsNumbered (suc (suc columns)) params = subst (IsNumbered (suc (suc columns))) (sym params_are) numbered in
-          let rows : given.0 ≡ params ∷ [] = given.1.1 ∙ one_row (suc columns) params (numbered_long (suc (suc columns)) params all) in
-          let edit : edited db (edit_of db table [] Chosen 0 given.0) ≡ put_row params (db tree) = ap (λ all. edited db (edit_of db table [] Chosen 0 all)) rows ∙ put_as it.shape tree (suc columns) db params it.integers all in
-          ap (λ (t : Trees). t tree) trees ∙ step.rows ∙ edit ∙ ap (λ p. put_row p (db tree)) params_are ∙ ap (put_row (copy_of row)) is ∙ put_last (suc columns) before (copy_of row) ok);
-    }
+  pub puts_row : (old new : State) (params : Row) (count : ℕ) → old.now.schema ≡ w.schema → Executes text params old new (Ok count) → Puts w k columns (params ∷ []) old.now new.now
+  puts_row old new params count has h =
+      let db = old.now.trees in
+      let tree = tree_at w k in
+      let table = shaped it.shape tree in
+      let command = puts_cells (suc columns) (place_of w.places k).at in
+      let run = runs_as text params old new w.schema has command puts_meant.command_is puts_meant.plain count h in
+      let read = statement_of text (understood w.schema text) in
+      let task : Task = record { limit = old.step_limit; keys = Enforced; schema = w.schema; table = table; params = params } in
+      let placed : slice_get w.schema.tables (place_of w.places k).at ≡ Some table = (this_stands p w site k (shaped it.shape it.tree) it.shape_is).there in
+      let done = made task (mode_of old) command db run.tally new.now (at_found task (mode_of old) command db _ (run.tally, new.now) placed (subst (λ s. Does old.step_limit (mode_of old) params (record old.now { schema = s }) read None command (Ok (run.tally, new.now))) has run.changed)) in
+      let given = went done.wrote in
+      let written = went (went given.2).2 in
+      let counted = went written.2 in
+      let trees : new.now.trees ≡ written.0 = ap (λ (d : Database). d.trees) done.after_is ∙ ap (λ (it : Written). it.trees) (same_value counted.2) ∙ same_value counted.1 in
+      let step = one_step w.schema Enforced db written.0 (edit_of db table [] Chosen 0 given.0) (no_works p w site k (is_within p w site k (shaped it.shape it.tree) it.shape_is) Enforced db (edit_of db table [] Chosen 0 given.0) refl) written.1 in
+      record {
+        schema = ap (λ (d : Database). d.schema) done.after_is;
+        others = subst (λ (t : Trees). AllByRecursion (λ (x : Table). x.tree ≢ tree → t x.tree ≡ db x.tree) w.schema.tables) (sym trees) step.tables;
+        put = λ before ok is. (
+            let all = (rows_last (IsNumbered (suc columns)) before params ok).0 in
+            let rows : given.0 ≡ params ∷ [] = given.1.1 ∙ one_row columns params (numbered_long (suc columns) params all) in
+            let edit : edited db (edit_of db table [] Chosen 0 given.0) ≡ put_row params (db tree) = ap (λ all. edited db (edit_of db table [] Chosen 0 all)) rows ∙ put_as it.shape tree columns db params it.integers all in
+            ap (λ (t : Trees). t tree) trees ∙ step.rows ∙ edit ∙ ap (put_row params) is ∙ put_last columns before params ok);
+      }
 
--- ---- several copies
+-- ---- several rows
 
-pub none_filled : (w : Site) (k : TableNumber) (columns : ℕ) (a : Database) → a.schema ≡ w.schema → Fills w k columns [] a a
-none_filled w k columns a has = record {
+pub none_put : (w : Site) (k : TableNumber) (columns : ℕ) (a : Database) → a.schema ≡ w.schema → Puts w k columns [] a a
+none_put w k columns a has = record {
   schema = has;
   others = all_same w.schema.tables;
-  filled = λ done ok is. is ∙ sym (append-nil done);
+  put = λ done ok is. is ∙ sym (append-nil done);
 }
   where
     all_same : (tables : List Table) → AllByRecursion (λ (t : Table). t.tree ≢ tree_at w k → a.trees t.tree ≡ a.trees t.tree) tables
     all_same [] = tt
     all_same (t ∷ tables) = ((λ not. refl), all_same tables)
 
-pub filled_behind : (w : Site) (k : TableNumber) (columns : ℕ) (rows : List Row) (r : Row) (a b e : Database) → Fills w k columns rows a b → Fills w k columns (r ∷ []) b e → Fills w k columns (rows ++ r ∷ []) a e
-filled_behind w k columns rows r a b e first one = record {
+pub put_behind : (w : Site) (k : TableNumber) (columns : ℕ) (rows : List Row) (r : Row) (a b e : Database) → Puts w k columns rows a b → Puts w k columns (r ∷ []) b e → Puts w k columns (rows ++ r ∷ []) a e
+put_behind w k columns rows r a b e first one = record {
   schema = one.schema;
   others = all_two (λ (t : Table). t.tree ≢ tree_at w k → b.trees t.tree ≡ a.trees t.tree) (λ (t : Table). t.tree ≢ tree_at w k → e.trees t.tree ≡ b.trees t.tree) (λ (t : Table). t.tree ≢ tree_at w k → e.trees t.tree ≡ a.trees t.tree) (λ t early late not. late not ∙ early not) w.schema.tables first.others one.others;
+  put = λ done ok is. (
+      let same : done ++ (rows ++ r ∷ []) ≡ (done ++ rows) ++ r ∷ [] = sym (append_assoc done rows (r ∷ [])) in
+      let all : AreNumbered columns ((done ++ rows) ++ r ∷ []) = subst (AreNumbered columns) same ok in
+      let early = first.put done (rows_front (IsNumbered (suc columns)) (done ++ rows) (r ∷ []) all) is in
+      one.put (done ++ rows) all early ∙ sym same);
+}
+
+-- ---- copies, with a 0 behind each row
+
+pub puts_moving : (d : Parts) (o : OlderParts) (m : MovingParts) → IsMoving d o m → IsPutting d m.to (suc (columns_of o.own m.from)) m.put
+puts_moving d o m it = record { has = it.puts; at = it.put_at; meant = it.puts_meant; shape = it.shape; tree = it.tree; shape_is = it.shape_is; integers = it.integers }
+
+-- that is what a table gets to which rows move
+pub fills : (w : Site) (k : TableNumber) (columns : ℕ) (rows : List Row) (a b : Database) → Puts w k (suc columns) (copies rows) a b → Fills w k columns rows a b
+fills w k columns rows a b it = record { schema = it.schema; others = it.others; filled = it.put }
+
+pub filled : (w : Site) (k : TableNumber) (columns : ℕ) (rows : List Row) (a b : Database) → Fills w k columns rows a b → Puts w k (suc columns) (copies rows) a b
+filled w k columns rows a b it = record { schema = it.schema; others = it.others; put = it.filled }
+
+pub none_filled : (w : Site) (k : TableNumber) (columns : ℕ) (a : Database) → a.schema ≡ w.schema → Fills w k columns [] a a
+none_filled w k columns a has = fills w k columns [] a a (none_put w k (suc columns) a has)
+
+pub filled_behind : (w : Site) (k : TableNumber) (columns : ℕ) (rows : List Row) (r : Row) (a b e : Database) → Fills w k columns rows a b → Fills w k columns (r ∷ []) b e → Fills w k columns (rows ++ r ∷ []) a e
+filled_behind w k columns rows r a b e first one =
+    fills w k columns (rows ++ r ∷ []) a e (subst (λ all. Puts w k (suc columns) all a e) (sym (map-append copy_of rows (r ∷ []))) (put_behind w k (suc columns) (copies rows) (copy_of r) a b e (filled w k columns rows a b first) (filled w k columns (r ∷ []) b e one)))
+
+-- the row that was put is a copy, where it can be one
+pub fills_with : (w : Site) (k : TableNumber) (columns : ℕ) (row params : Row) (a b : Database) → ((n : ℕ) → IsNumbered n row → params ≡ copy_of row) → Puts w k (suc columns) (params ∷ []) a b → Fills w k columns (row ∷ []) a b
+fills_with w k columns row params a b cells it = record {
+  schema = it.schema;
+  others = it.others;
   filled = λ done ok is. (
-      let same : done ++ copies (rows ++ r ∷ []) ≡ (done ++ copies rows) ++ copy_of r ∷ [] = ap (λ (l : List Row). done ++ l) (map-append copy_of rows (r ∷ [])) ∙ sym (append_assoc done (copies rows) (copy_of r ∷ [])) in
-      let all : AreNumbered (suc columns) ((done ++ copies rows) ++ copy_of r ∷ []) = subst (AreNumbered (suc columns)) same ok in
-      let early = first.filled done (rows_front (IsNumbered (suc (suc columns))) (done ++ copies rows) (copy_of r ∷ []) all) is in
-      one.filled (done ++ copies rows) all early ∙ sym same);
+      let from = copied_numbered (suc (suc columns)) row (rows_last (IsNumbered (suc (suc columns))) done (copy_of row) ok).0 in
+      let same : params ≡ copy_of row = cells from.0 from.1 in
+      it.put done (subst (λ r. AreNumbered (suc columns) (done ++ r ∷ [])) (sym same) ok) is ∙ ap (λ r. done ++ r ∷ []) same);
 }

@@ -122,6 +122,18 @@ module _ (d : Parts) (ts : List Older) (owner : ℕ) (old mid new : State) (some
       let one = later it.rest it.olders it.are in
       (one.0, subst (λ all. Has all one.0) (sym it.all) (inr one.1), subst (λ db. Raises d one.0 owner db new.now w) same.0 one.2, one.3)
 
+  -- none of the formats is there
+  abbrev pub NoneCanRise : Database → List Older → Type 0
+  NoneCanRise from all = (os : List OlderParts) → AllByRecursion (IsOlder d) os → AllZip IsTold all os → (o : OlderParts) → Has os o → (v w : Site) → ¬ CanRise d o owner from v w
+
+  pub later_lacks : (x : Older) → SameRows old mid → ((o : OlderParts) → IsOlder d o → IsTold (slice_index_or ts 0 x) o → (v w : Site) → ¬ CanRise d o owner old.now v w) → NoneCanRise mid.now behind → NoneCanRise old.now ts
+  later_lacks x same first later os olders are o has v w can =
+      let it = are_first d ts os some olders are in
+      elim (subst (λ all. Has all o) it.all has) [
+        | inl is ↦ first it.o it.older (first_told ts x it.o it.rest some (subst (AllZip IsTold ts) it.all are)) v w (subst (λ (y : OlderParts). CanRise d y owner old.now v w) is can)
+        | inr there ↦ later it.rest it.olders it.are o there v w (subst (λ db. CanRise d o owner db v w) (sym same.0) can)
+      ]
+
   -- what a stop leaves
   abbrev pub OneMayRaise : Database → List Older → Trees → Type 0
   OneMayRaise from all trees = (os : List OlderParts) → AllByRecursion (IsOlder d) os → AllZip IsTold all os → (o : OlderParts) × Has os o × RaisesTo d o owner from trees

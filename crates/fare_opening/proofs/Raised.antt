@@ -25,7 +25,6 @@ use Rattle.sqlite.specs.Effect.{Database}
 use Rattle.sqlite.specs.State.{State, mode_of, Executes}
 use Rattle.sqlite.proofs.Callers.{statement_of, runs_as, one_step, one_permutation}
 use Rattle.fare_tables.specs.Cells.{int}
-use Rattle.fare_tables.specs.Queries.{meta_table}
 use Rattle.fare_tables.proofs.Statements.{made, cast_int, went, same_value}
 use Rattle.fare_tables.proofs.Terms.{matched}
 use Rattle.fare_layout.specs.declared.place.TableNumber.{TableNumber}
@@ -37,7 +36,7 @@ use Rattle.fare_opening.specs.MetaRow.{IsNumber, IsMeta}
 use Rattle.fare_opening.specs.Moves.{MovesAny}
 use Rattle.fare_opening.specs.Moving.{MovingParts, columns_of, AreNumbered, copies, shaped}
 use Rattle.fare_opening.specs.Numbers.{Meta}
-use Rattle.fare_opening.specs.Parts.{Parts, OlderParts, IsDesign, IsOlder, IsMoving, IsTold, set_meta, sets_meta, set_query, parts_of}
+use Rattle.fare_opening.specs.Parts.{Parts, OlderParts, IsDesign, IsOlder, IsMoving, IsTold, meta_named, sets_meta, set_query, parts_of}
 use Rattle.fare_opening.specs.Raising.{IsKept, IsNotFilled, HasMoved, AreRead, CanRise, SetsMeta, IsRaised, IsRising, RaisesAll}
 use Rattle.fare_opening.specs.Making.{HasGrown}
 use Rattle.fare_opening.specs.Sites.{IsSite, tree_at, rows_at}
@@ -52,13 +51,13 @@ same_id : (n : ℤ) → is_eq (value_cmp (Int n) (Int n)) ≡ true
 same_id n = ap is_eq (tied_itself value_cmp_total (Int n))
 
 -- the row takes the place of the one that has its number
-replaced : (format owner : ℕ) (row : Row) (v : Value) (db : Trees) (tree : ℕ) → IsNumber v → column row 0 ≡ v → db tree ≡ row ∷ []
-    → edited db (edit_of db (meta_table tree) (ids_of ((v ∷ v ∷ int format ∷ int owner ∷ []) ∷ [])) Given 1 ((v ∷ v ∷ int format ∷ int owner ∷ []) ∷ [])) ≡ (v ∷ int format ∷ int owner ∷ []) ∷ []
-replaced format owner row Null db tree number is one = absurd number
-replaced format owner row (Real x) db tree number is one = absurd number
-replaced format owner row (Text t) db tree number is one = absurd number
-replaced format owner row (Blob b) db tree number is one = absurd number
-replaced format owner row (Int n) db tree number is one = rw one (rw is (simp (cast_int, same_id n)))
+replaced : (name : List ℕ) (format owner : ℕ) (row : Row) (v : Value) (db : Trees) (tree : ℕ) → IsNumber v → column row 0 ≡ v → db tree ≡ row ∷ []
+    → edited db (edit_of db (meta_named name tree) (ids_of ((v ∷ v ∷ int format ∷ int owner ∷ []) ∷ [])) Given 1 ((v ∷ v ∷ int format ∷ int owner ∷ []) ∷ [])) ≡ (v ∷ int format ∷ int owner ∷ []) ∷ []
+replaced name format owner row Null db tree number is one = absurd number
+replaced name format owner row (Real x) db tree number is one = absurd number
+replaced name format owner row (Text t) db tree number is one = absurd number
+replaced name format owner row (Blob b) db tree number is one = absurd number
+replaced name format owner row (Int n) db tree number is one = rw one (rw is (simp (cast_int, same_id n)))
 
 -- what the statement reads of the one row
 reads_row : (d : Parts) (w : Site) (db : Trees) (format owner : ℕ) (params : Row) (rows : List Row) → IsDesign d → IsSite d w → (it : IsMeta format owner (rows_at w Meta db)) → params ≡ int d.format ∷ [] → IsAnswer (set_query (tree_at w Meta)) (overlay db []) params rows
@@ -73,16 +72,16 @@ reads_row d w db format owner params rows design site it given a =
     let ordered : a.ordered ≡ shown ∷ [] = one_permutation shown a.ordered (subst (λ k. IsPermutation k a.ordered) kept a.same) in
     a.shown ∙ ap (map (λ (p : Output). p.1)) ordered ∙ (λ i. (column it.row 0 ∷ column it.row 0 ∷ column (given i) 0 ∷ it.is.owner_is i ∷ []) ∷ [])
 
-pub sets_row : (d : Parts) (w : Site) (old new : State) (format owner count : ℕ) → IsDesign d → IsSite d w → old.now.schema ≡ w.schema → IsMeta format owner (rows_at w Meta old.now.trees) → Executes set_meta (int d.format ∷ []) old new (Ok count) → SetsMeta d owner w old.now new.now
+pub sets_row : (d : Parts) (w : Site) (old new : State) (format owner count : ℕ) → IsDesign d → IsSite d w → old.now.schema ≡ w.schema → IsMeta format owner (rows_at w Meta old.now.trees) → Executes d.meta.set (int d.format ∷ []) old new (Ok count) → SetsMeta d owner w old.now new.now
 sets_row d w old new format owner count design site has meta h =
     let params = int d.format ∷ [] in
     let db = old.now.trees in
     let tree = tree_at w Meta in
-    let table = meta_table tree in
+    let table = meta_named d.meta.table.0 tree in
     let command = sets_meta (place_of w.places Meta).at tree in
     let means = sets_means d w design site in
-    let run = runs_as set_meta params old new w.schema has command means.command_is means.plain count h in
-    let text = statement_of set_meta (understood w.schema set_meta) in
+    let run = runs_as d.meta.set params old new w.schema has command means.command_is means.plain count h in
+    let text = statement_of d.meta.set (understood w.schema d.meta.set) in
     let task : Task = record { limit = old.step_limit; keys = Enforced; schema = w.schema; table = table; params = params } in
     let done = made task (mode_of old) command db run.tally new.now (at_found task (mode_of old) command db _ (run.tally, new.now) (meta_placed d w design site) (subst (λ s. Does old.step_limit (mode_of old) params (record old.now { schema = s }) text None command (Ok (run.tally, new.now))) has run.changed)) in
     let it = went done.wrote in
@@ -92,7 +91,7 @@ sets_row d w old new format owner count design site has meta h =
     let trees : new.now.trees ≡ step.0 = ap (λ (d : Database). d.trees) done.after_is ∙ ap (λ (x : Written). x.trees) (same_value step.2) in
     let edit = edit_of db table (ids_of it.0) Given 1 it.0 in
     let one = one_step w.schema Enforced db step.0 edit (no_works d w site Meta (meta_within d w design site) Enforced db edit refl) step.1 in
-    let is : edited db edit ≡ (v ∷ int d.format ∷ int owner ∷ []) ∷ [] = ap (λ all. edited db (edit_of db table (ids_of all) Given 1 all)) rows ∙ replaced d.format owner meta.row v db tree meta.is.id_is refl meta.only in
+    let is : edited db edit ≡ (v ∷ int d.format ∷ int owner ∷ []) ∷ [] = ap (λ all. edited db (edit_of db table (ids_of all) Given 1 all)) rows ∙ replaced d.meta.table.0 d.format owner meta.row v db tree meta.is.id_is refl meta.only in
     record {
       schema = ap (λ (d : Database). d.schema) done.after_is;
       meta = record { row = v ∷ int d.format ∷ int owner ∷ []; only = ap (λ (t : Trees). t tree) trees ∙ one.rows ∙ is; is = record { id_is = meta.is.id_is; format_is = refl; owner_is = refl } };

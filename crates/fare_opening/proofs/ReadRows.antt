@@ -27,6 +27,7 @@ use Rattle.fare_layout.specs.Commands.{KeepsMeaning}
 use Rattle.fare_layout.specs.Places.{place_of, all_of}
 use Rattle.fare_layout.proofs.Meant.{Meant, meant}
 use Rattle.fare_opening.specs.declared.site.Site.{Site}
+use Rattle.fare_opening.specs.Listed.{IsReading}
 use Rattle.fare_opening.specs.Moving.{MovingParts, cells_from, rows_query, reads_rows, columns_of, AreNumbered}
 use Rattle.fare_opening.specs.Parts.{Parts, OlderParts, IsOlder, IsMoving, parts_of}
 use Rattle.fare_opening.specs.Sites.{IsSite, tree_at, rows_at}
@@ -166,23 +167,21 @@ rows_shown columns tree db rows same ok a =
     let is : a.ordered ≡ all = same_up a.ordered all rise (up columns (db tree) ok) from back in
     a.shown ∙ ap (map (λ (o : Output). o.1)) is ∙ cells_of (db tree)
 
-module _ (d : Parts) (o : OlderParts) (m : MovingParts) (v : Site) (it : IsMoving d o m) (site : IsSite (parts_of o) v) where
-  pub read_meant : Meant v.schema m.read (reads_rows (suc (columns_of o.own m.from)) it.names (tree_at v m.from))
+module _ (p : Parts) (k : TableNumber) (columns : ℕ) (text : List ℕ) (w : Site) (it : IsReading p k columns text) (site : IsSite p w) where
+  pub read_meant : Meant w.schema text (reads_rows (suc columns) it.names (tree_at w k))
   read_meant =
-      let keeps = all_has (λ (t : TableNumber × List ℕ). KeepsMeaning o.own v.schema (place_of v.places t.0) t.1) o.texts (m.from, m.read) site.keeps it.reads in
-      meant v.schema m.read (reads_rows (suc (columns_of o.own m.from)) it.names (tree_at v m.from)) (keeps (reads_rows (suc (columns_of o.own m.from)) it.names it.read_tree) it.reads_meant)
+      let keeps = all_has (λ (t : TableNumber × List ℕ). KeepsMeaning p.own w.schema (place_of w.places t.0) t.1) p.texts (k, text) site.keeps it.has in
+      meant w.schema text (reads_rows (suc columns) it.names (tree_at w k)) (keeps (reads_rows (suc columns) it.names it.tree) it.meant)
 
-  pub read_only : Reads v.schema m.read
+  pub read_only : Reads w.schema text
   read_only = (read_meant.plain, read_meant.selects)
 
-  pub from_within : IsOlder d o → m.from.number < length (all_of v.places)
-  from_within older =
-      let has = it.has in
-      let many = older.design.many in
-      let placed = place_count v.schema o.own.tables (all_of v.places) site.stands in
-      omega (arith, has, many, placed)
+  pub read_is : (old new : State) (rows : List Row) → old.now.schema ≡ w.schema → Shown text [] old new rows → AreNumbered columns (rows_at w k old.now.trees) → rows ≡ rows_at w k old.now.trees
+  read_is old new rows has shows ok =
+      let read = reads_as text [] old new w.schema has _ read_meant.command_is read_meant.plain read_meant.unlisted rows shows in
+      let in_site : k.number < length (all_of w.places) = subst (λ n. k.number < n) (place_count w.schema p.own.tables (all_of w.places) site.stands) it.within in
+      rows_shown columns (tree_at w k) old.now.trees rows (over old.now.trees (tree_at w k) (low_tree p w site k in_site)) ok (read.answer Null)
 
-  pub read_is : IsOlder d o → (old new : State) (rows : List Row) → old.now.schema ≡ v.schema → Shown m.read [] old new rows → AreNumbered (columns_of o.own m.from) (rows_at v m.from old.now.trees) → rows ≡ rows_at v m.from old.now.trees
-  read_is older old new rows has shows ok =
-      let read = reads_as m.read [] old new v.schema has _ read_meant.command_is read_meant.plain read_meant.unlisted rows shows in
-      rows_shown (columns_of o.own m.from) (tree_at v m.from) old.now.trees rows (over old.now.trees (tree_at v m.from) (low_tree (parts_of o) v site m.from (from_within older))) ok (read.answer Null)
+-- what a raise reads of the table whose rows move
+pub reads_moving : (d : Parts) (o : OlderParts) (m : MovingParts) → IsOlder d o → IsMoving d o m → IsReading (parts_of o) m.from (columns_of o.own m.from) m.read
+reads_moving d o m older it = record { within = (let has = it.has in let many = older.design.many in omega (arith, has, many)); has = it.reads; names = it.names; tree = it.read_tree; meant = it.reads_meant }

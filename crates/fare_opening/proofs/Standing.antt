@@ -18,7 +18,6 @@ use Rattle.sqlite_rules.specs.Edit.{Edit, taken_by}
 use Rattle.sqlite_rules.specs.Lists.{Has}
 use Rattle.sqlite_trees.proofs.ListLemmas.{all-slice_get}
 use Rattle.fare_tables.specs.Asking.{Reads}
-use Rattle.fare_tables.specs.Queries.{meta_table}
 use Rattle.fare_layout.specs.declared.place.Place.{Place}
 use Rattle.fare_layout.specs.declared.place.Places.{Places}
 use Rattle.fare_layout.specs.declared.place.TableNumber.{TableNumber}
@@ -30,7 +29,7 @@ use Rattle.fare_layout.proofs.Untouched as untouched
 use Rattle.fare_layout.proofs.Grown.{same_places}
 use Rattle.fare_layout.proofs.Meant.{Meant, meant, same_some}
 use Rattle.fare_opening.specs.declared.site.Site.{Site}
-use Rattle.fare_opening.specs.Parts.{Parts, OlderParts, IsDesign, IsOlder, HasFewKeys, read_meta, put_meta, set_meta, reads_meta, puts_meta, sets_meta}
+use Rattle.fare_opening.specs.Parts.{Parts, OlderParts, IsDesign, IsOlder, HasFewKeys, meta_named, reads_meta, puts_meta, sets_meta}
 use Rattle.fare_opening.specs.Numbers.{Meta}
 use Rattle.fare_opening.specs.Sites.{IsSite, IsEmptied, tree_at, rows_at}
 
@@ -116,12 +115,12 @@ this_stands d w site k t is =
     subst (λ x. Stands w.schema x (place_of w.places k)) (same_some (sym it.1 ∙ is)) it.2
 
 pub meta_within : (d : Parts) (w : Site) → IsDesign d → IsSite d w → 0 < length (all_of w.places)
-meta_within d w design site = subst (λ n. 0 < n) (place_count w.schema d.own.tables (all_of w.places) site.stands) (within d.own.tables 0 (meta_table 0) design.meta_is)
+meta_within d w design site = subst (λ n. 0 < n) (place_count w.schema d.own.tables (all_of w.places) site.stands) (within d.own.tables 0 (meta_named d.meta.table.0 0) design.meta_is)
 
-pub meta_stands : (d : Parts) (w : Site) → IsDesign d → IsSite d w → Stands w.schema (meta_table 0) (place_of w.places Meta)
-meta_stands d w design site = this_stands d w site Meta (meta_table 0) design.meta_is
+pub meta_stands : (d : Parts) (w : Site) → IsDesign d → IsSite d w → Stands w.schema (meta_named d.meta.table.0 0) (place_of w.places Meta)
+meta_stands d w design site = this_stands d w site Meta (meta_named d.meta.table.0 0) design.meta_is
 
-pub meta_placed : (d : Parts) (w : Site) → IsDesign d → IsSite d w → slice_get w.schema.tables (place_of w.places Meta).at ≡ Some (meta_table (tree_at w Meta))
+pub meta_placed : (d : Parts) (w : Site) → IsDesign d → IsSite d w → slice_get w.schema.tables (place_of w.places Meta).at ≡ Some (meta_named d.meta.table.0 (tree_at w Meta))
 meta_placed d w design site = (meta_stands d w design site).there
 
 -- what holds of the tree of each table of the schema
@@ -203,23 +202,23 @@ all_has P [] x all has = absurd has
 all_has P (y ∷ ys) x all (inl is) = subst P (sym is) all.0
 all_has P (y ∷ ys) x all (inr has) = all_has P ys x all.1 has
 
-pub asks_meant : (d : Parts) (w : Site) → IsDesign d → IsSite d w → Meant w.schema read_meta (reads_meta (tree_at w Meta))
+pub asks_meant : (d : Parts) (w : Site) → IsDesign d → IsSite d w → Meant w.schema d.meta.read (reads_meta (tree_at w Meta))
 asks_meant d w design site =
-    let keeps = all_has (λ (t : TableNumber × List ℕ). KeepsMeaning d.own w.schema (place_of w.places t.0) t.1) d.texts (Meta, read_meta) site.keeps design.asks in
-    meant w.schema read_meta (reads_meta (tree_at w Meta)) (keeps (reads_meta 0) design.asks_meant)
+    let keeps = all_has (λ (t : TableNumber × List ℕ). KeepsMeaning d.own w.schema (place_of w.places t.0) t.1) d.texts (Meta, d.meta.read) site.keeps design.asks in
+    meant w.schema d.meta.read (reads_meta (tree_at w Meta)) (keeps (reads_meta 0) design.asks_meant)
 
-pub meta_reads : (d : Parts) (w : Site) → IsDesign d → IsSite d w → Reads w.schema read_meta
+pub meta_reads : (d : Parts) (w : Site) → IsDesign d → IsSite d w → Reads w.schema d.meta.read
 meta_reads d w design site = let m = asks_meant d w design site in (m.plain, m.selects)
 
-pub puts_meant : (d : Parts) (w : Site) → IsDesign d → IsSite d w → Meant w.schema put_meta (puts_meta (place_of w.places Meta).at)
+pub puts_meant : (d : Parts) (w : Site) → IsDesign d → IsSite d w → Meant w.schema d.meta.put (puts_meta (place_of w.places Meta).at)
 puts_meant d w design site =
-    let keeps = all_has (λ (t : TableNumber × List ℕ). KeepsMeaning d.own w.schema (place_of w.places t.0) t.1) d.texts (Meta, put_meta) site.keeps design.puts in
-    meant w.schema put_meta (puts_meta (place_of w.places Meta).at) (keeps (puts_meta 0) design.puts_meant)
+    let keeps = all_has (λ (t : TableNumber × List ℕ). KeepsMeaning d.own w.schema (place_of w.places t.0) t.1) d.texts (Meta, d.meta.put) site.keeps design.puts in
+    meant w.schema d.meta.put (puts_meta (place_of w.places Meta).at) (keeps (puts_meta 0) design.puts_meant)
 
-pub sets_means : (d : Parts) (w : Site) → IsDesign d → IsSite d w → Meant w.schema set_meta (sets_meta (place_of w.places Meta).at (tree_at w Meta))
+pub sets_means : (d : Parts) (w : Site) → IsDesign d → IsSite d w → Meant w.schema d.meta.set (sets_meta (place_of w.places Meta).at (tree_at w Meta))
 sets_means d w design site =
-    let keeps = all_has (λ (t : TableNumber × List ℕ). KeepsMeaning d.own w.schema (place_of w.places t.0) t.1) d.texts (Meta, set_meta) site.keeps design.sets in
-    meant w.schema set_meta (sets_meta (place_of w.places Meta).at (tree_at w Meta)) (keeps (sets_meta 0 0) design.sets_meant)
+    let keeps = all_has (λ (t : TableNumber × List ℕ). KeepsMeaning d.own w.schema (place_of w.places t.0) t.1) d.texts (Meta, d.meta.set) site.keeps design.sets in
+    meant w.schema d.meta.set (sets_meta (place_of w.places Meta).at (tree_at w Meta)) (keeps (sets_meta 0 0) design.sets_meant)
 
 -- ---- where no place is found, the tables stand nowhere
 

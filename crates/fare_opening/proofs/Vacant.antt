@@ -16,7 +16,7 @@ use Rattle.fare_layout.specs.Layouts.{Stands}
 use Rattle.fare_layout.proofs.Again.{can_again, same_grown}
 use Rattle.fare_layout.proofs.Others.{tree_next, longer}
 use Rattle.fare_opening.specs.declared.site.Site.{Site}
-use Rattle.fare_opening.specs.Parts.{Parts, IsDesign, HasFewKeys, meta_name}
+use Rattle.fare_opening.specs.Parts.{Parts, IsDesign, HasFewKeys}
 use Rattle.fare_opening.specs.Numbers.{Meta}
 use Rattle.fare_opening.specs.Sites.{IsSite}
 use Rattle.fare_opening.specs.Making.{Makes}
@@ -89,10 +89,10 @@ vacant_of d s blank = subst (HasNone d.tables) (sym blank) (all_free d.tables)
 -- where the tables stand, their names are taken
 pub not_vacant : (d : Parts) (w : Site) (s : Schema) → IsDesign d → IsSite d w → HasNone d.tables s → s ≡ w.schema → ⊥
 not_vacant d w s design site none is =
-    let named : table_named w.schema meta_name ≡ Some (place_of w.places Meta).at = (meta_stands d w design site).named in
+    let named : table_named w.schema d.meta.table.0 ≡ Some (place_of w.places Meta).at = (meta_stands d w design site).named in
     let names = subst (λ tables. HasNone tables s) design.tables_are none in
-    let free : is_used w.schema meta_name ≡ false = subst (λ x. is_used x meta_name ≡ false) is names.0 in
-    let used : is_used w.schema meta_name ≡ true = rw named refl in
+    let free : is_used w.schema d.meta.table.0 ≡ false = subst (λ x. is_used x d.meta.table.0 ≡ false) is names.0 in
+    let used : is_used w.schema d.meta.table.0 ≡ true = rw named refl in
     absurd (let e = sym used ∙ free in cc)
 
 pub not_blank : (d : Parts) (w : Site) (s : Schema) → IsDesign d → IsSite d w → s ≡ w.schema → ¬ (s ≡ no_schema)

@@ -6,5 +6,6 @@ pub mod Making
 pub mod MetaRow
 pub mod Raising
 pub mod Moves
+pub mod Listed
 pub mod Opening
 pub mod Orders

@@ -1,5 +1,5 @@
 -- What a store in tables is made of.
-use Rattle.std.specs.Prelude.{◌≡◌, ◌<◌, ◌≤◌, ◌++◌, ℕ, suc, codes, List, [], ◌∷◌, map, length, slice_get, Option, Some, option_map, IfOk, IfSome}
+use Rattle.std.specs.Prelude.{◌≡◌, ◌<◌, ◌≤◌, ◌++◌, ℕ, suc, codes, List, [], ◌∷◌, map, length, slice_get, Option, Some, None, option_map, IfOk, IfSome}
 use Rattle.std.specs.List.{AllByRecursion}
 use Rattle.sqlite.specs.declared.types.Value.TheVariants.{Null}
 use Rattle.sqlite.specs.Command.TheVariants.{Insert, Select, Update}
@@ -7,12 +7,14 @@ use Rattle.sqlite.specs.Compile.{table_defined_by}
 use Rattle.sqlite.specs.Query.{Query}
 use Rattle.sqlite.specs.Schema.{Schema}
 use Rattle.sqlite.specs.Source.TheVariants.{Values}
+use Rattle.sqlite.specs.Table.{Table}
 use Rattle.sqlite.specs.Term.{lit, col}
 use Rattle.sqlite_rules.specs.Lists.{Has}
 use Rattle.sqlite_schema.specs.declared.command.Command.{Command}
 use Rattle.fare_tables.specs.Making.{no_schema}
-use Rattle.fare_tables.specs.Queries.{query, meta_table}
+use Rattle.fare_tables.specs.Queries.{number, query, table}
 use Rattle.fare_layout.specs.declared.place.TableNumber.{TableNumber}
+use Rattle.fare_opening.specs.declared.design.MetaTexts.{MetaTexts}
 use Rattle.fare_opening.specs.declared.design.Older.{Older}
 use Rattle.fare_opening.specs.Moving.{MovingParts, moving_told, reads_rows, puts_cells, clears_rows, counts_rows, columns_of, AreIntegers, Shape, shaped}
 use Rattle.fare_opening.specs.Numbers.{Meta}
@@ -23,9 +25,22 @@ use Rattle.fare_layout.specs.Layouts.{Fits, AreUnderstood}
 use Rattle.fare_layout.specs.Places.{all_of}
 use Rattle.fare_layout.specs.Schemas.{IsSimpleTable}
 
+-- the table that says whose tables these are: its name with what makes it, and what reads its rows, writes one and sets
+-- the format of each
+pub record MetaParts : Type 0 where
+  pub table : List ℕ × List ℕ
+  pub read : List ℕ
+  pub put : List ℕ
+  pub set : List ℕ
+
+-- and it is told so
+abbrev pub meta_told : MetaTexts → MetaParts
+meta_told m = record { table = (m.table.0.now, m.table.1.now); read = m.read.now; put = m.put.now; set = m.set.now }
+
 -- an older format
 pub record OlderParts : Type 0 where
   pub own : Schema
+  pub meta : MetaParts
   pub tables : List (List ℕ × List ℕ)
   pub texts : List (TableNumber × List ℕ)
   pub format : ℕ
@@ -39,6 +54,8 @@ pub record OlderParts : Type 0 where
 pub record Parts : Type 0 where
   -- its schema in a database of its own
   pub own : Schema
+  -- the first of its tables
+  pub meta : MetaParts
   -- what makes its tables, each with its name
   pub tables : List (List ℕ × List ℕ)
   -- what is asked of them and written to them, each with its table
@@ -52,9 +69,13 @@ pub record Parts : Type 0 where
 
 -- what a store of an older format is made of
 abbrev pub parts_of : OlderParts → Parts
-parts_of o = record { own = o.own; tables = o.tables; texts = o.texts; format = o.format; older = []; unused = o.unused }
+parts_of o = record { own = o.own; meta = o.meta; tables = o.tables; texts = o.texts; format = o.format; older = []; unused = o.unused }
 
--- META: the table that says whose tables these are, and of what format
+-- META: the table that says whose tables these are, and of what format, by its name
+abbrev pub meta_named : List ℕ → ℕ → Table
+meta_named name tree = table name tree (number (codes "format") ∷ number (codes "owner") ∷ []) None [] [] [] []
+
+-- the one of a store that is the first in its database
 abbrev pub meta_name : List ℕ
 meta_name = codes "meta"
 
@@ -69,6 +90,9 @@ put_meta = codes "INSERT INTO meta (format, owner) VALUES (?1, ?2)"
 
 abbrev pub set_meta : List ℕ
 set_meta = codes "UPDATE meta SET format = ?1"
+
+abbrev pub plain_meta : MetaParts
+plain_meta = record { table = (meta_name, meta_text); read = read_meta; put = put_meta; set = set_meta }
 
 abbrev pub meta_query : ℕ → Query
 meta_query tree = query tree [] (col 1 0 ∷ col 1 1 ∷ col 1 2 ∷ []) []
@@ -104,8 +128,8 @@ pub record IsCounted (d : Parts) (u : TableNumber × List ℕ) : Type 0 where
 -- its tables can be made, its statements mean what they should where they are, and none needs another table
 pub record IsDesign (d : Parts) : Type 0 where
   pub rest : List (List ℕ × List ℕ)
-  pub tables_are : d.tables ≡ (meta_name, meta_text) ∷ rest
-  pub meta_is : slice_get d.own.tables 0 ≡ Some (meta_table 0)
+  pub tables_are : d.tables ≡ d.meta.table ∷ rest
+  pub meta_is : slice_get d.own.tables 0 ≡ Some (meta_named d.meta.table.0 0)
   pub many : length d.own.tables ≡ length d.tables
   pub can : CanMakeAll no_schema d.tables
   pub grows : GrowsBy no_schema d.tables d.own
@@ -115,12 +139,12 @@ pub record IsDesign (d : Parts) : Type 0 where
   pub home : Places
   pub at_home : Fits d.own d.texts d.own home
   pub last : AreLast no_schema (all_of home)
-  pub asks : Has d.texts (Meta, read_meta)
-  pub asks_meant : IsMeant d.own read_meta (reads_meta 0)
-  pub puts : Has d.texts (Meta, put_meta)
-  pub puts_meant : IsMeant d.own put_meta (puts_meta 0)
-  pub sets : Has d.texts (Meta, set_meta)
-  pub sets_meant : IsMeant d.own set_meta (sets_meta 0 0)
+  pub asks : Has d.texts (Meta, d.meta.read)
+  pub asks_meant : IsMeant d.own d.meta.read (reads_meta 0)
+  pub puts : Has d.texts (Meta, d.meta.put)
+  pub puts_meant : IsMeant d.own d.meta.put (puts_meta 0)
+  pub sets : Has d.texts (Meta, d.meta.set)
+  pub sets_meant : IsMeant d.own d.meta.set (sets_meta 0 0)
   pub counted : IfSome d.unused (IsCounted d)
 
 -- Rows move from a table of an older format, which isn't meta, to one that it lacks and that has one column more, all
@@ -155,6 +179,7 @@ pub record IsOlder (d : Parts) (o : OlderParts) : Type 0 where
 
 -- and it is told so
 pub record IsTold (told : Older) (o : OlderParts) : Type 0 where
+  pub meta : meta_told told.meta ≡ o.meta
   pub format : told.format ≡ o.format
   pub tables : map (λ t. (t.0.now, t.1.now)) told.tables.now ≡ o.tables
   pub missing : map (λ t. (t.0.now, t.1.now)) told.missing.now ≡ o.missing

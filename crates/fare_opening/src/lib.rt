@@ -10,6 +10,7 @@
 mod ascent;
 mod asking;
 mod design;
+mod listing;
 mod looking;
 mod making;
 mod meta;
@@ -22,7 +23,9 @@ mod raising;
 mod site;
 
 pub use asking::{ask, ask_rows};
-pub use design::{Design, META_TABLE, Older, PUT_META, READ_META, SET_META};
+pub use design::{Design, META_TABLE, META_TEXTS, MetaTexts, Older, PUT_META, READ_META, SET_META};
+pub use listing::{clear_rows, put_row, read_rows};
+pub use making::commit;
 pub use moving::Moving;
 pub use numbers::{DEVICE, META, STATED, TAP};
 pub use opening::{Opened, open_tables};

@@ -10,7 +10,7 @@ ghost use Rattle.fare_opening.specs.declared.site.Site.{Site};
 ghost use Rattle.fare_opening.specs.Sites.{IsSite};
 ghost use Rattle.fare_opening.specs.Making.{MayGrow, KeepsAllButMeta, HasGrown, IsBlank, IsNew, MakesNew, MadeFrom};
 
-use crate::{Design, PUT_META};
+use crate::Design;
 use fare_store::Fault;
 use fare_tables::{change, fault_of, make_table, parameter};
 use sqlite::{Alter, Connection, Transaction};
@@ -48,7 +48,7 @@ fn put_meta<D: Design, S: Alter>(tx: &mut Transaction<'_, S>, owner: u16) -> Res
         parameter(u64::from(D::format())),
         parameter(u64::from(owner)),
     ];
-    match change(tx, PUT_META, &cells) {
+    match change(tx, D::meta().put, &cells) {
         Ok(_) => Ok(()),
         Err(fault) => Err(fault),
     }
@@ -67,8 +67,8 @@ fn make_all<D: Design, S: Alter>(tx: &mut Transaction<'_, S>, owner: u16) -> Res
     put_meta::<D, S>(tx, owner)
 }
 
-// The end of a transaction.
-pub(crate) fn commit<S: Alter>(tx: Transaction<'_, S>) -> Result<(), Fault>
+/// Ends a transaction by committing it. The error is that of SQLite, told as a fault.
+pub fn commit<S: Alter>(tx: Transaction<'_, S>) -> Result<(), Fault>
     ensures ended { tx.exit.0.now.in_transaction ≡ false }
     ensures ok { HasCleanDisk (state S.Store tx.exit.0.now) → OnOk result (IsTrue (state S.Store tx.entry.conn.now).in_transaction
         × Shows (state S.Store tx.entry.conn.now) (state S.Store tx.exit.0.now) (state S.Store tx.entry.conn.now).now (state S.Store tx.entry.conn.now).now false) }

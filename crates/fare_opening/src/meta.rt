@@ -7,7 +7,7 @@ ghost use Rattle.fare_opening.specs.Parts.{Parts, IsDesign};
 ghost use Rattle.fare_opening.specs.Sites.{IsSite, rows_at};
 ghost use Rattle.fare_opening.specs.MetaRow.{IsMetaRow, AreMeta, IsMeta};
 
-use crate::{READ_META, Site, ask_rows};
+use crate::{Site, ask_rows};
 use fare_store::Fault;
 use sqlite::types::ValueRef;
 use sqlite::{Alter, Connection, Row};
@@ -34,14 +34,15 @@ fn are_meta(rows: &[Row], format: u8, owner: u16) -> bool
     }
 }
 
-// Whether `meta` holds its one row, of this format.
+// Whether `meta`, which this text reads, holds its one row, of this format.
 pub(crate) fn has_meta<S: Alter>(
     conn: &mut Connection<S>,
     site: &Site,
+    read: &str,
     format: u8,
     owner: u16,
 ) -> Result<bool, Fault>
-    requires { (p : Parts) × IsDesign p × IsSite p site.now }
+    requires { (p : Parts) × IsDesign p × IsSite p site.now × (read.now ≡ p.meta.read) }
     ensures meta { HasCleanDisk (state S.Store conn.new) → (state S.Store conn.old).now.schema ≡ site.now.schema → IfOk result (λ right. IsTrue right ↔ IsMeta format owner (rows_at site.now Meta (state S.Store conn.old).now.trees)) }
     ensures read { HasCleanDisk (state S.Store conn.new) → (state S.Store conn.old).now.schema ≡ site.now.schema → OnOk result (SameRows (state S.Store conn.old) (state S.Store conn.new)) }
     ensures same { IsLive (state S.Store conn.new) → IsAtRest site.now.schema (state S.Store conn.old) → SameRows (state S.Store conn.old) (state S.Store conn.new) }
@@ -50,6 +51,6 @@ pub(crate) fn has_meta<S: Alter>(
     ensures stays { HasCleanDisk (state S.Store conn.new) → OnOk result (IsTrue (state S.Store conn.new).is_open) }
     ensures mode { conn.old.in_transaction ≡ false → conn.new.in_transaction ≡ false }
 {
-    let rows = ask_rows(conn, &site.schema, READ_META, &[])?;
+    let rows = ask_rows(conn, &site.schema, read, &[])?;
     Ok(are_meta(rows.as_slice(), format, owner))
 }

@@ -4,16 +4,16 @@ ghost use Rattle.sqlite.specs.Held.{state};
 ghost use Rattle.sqlite.specs.Values.{bound};
 ghost use Rattle.fare_tables.specs.Asking.{IsLive, IsAtRest, SameRows, Inside};
 ghost use Rattle.fare_opening.specs.declared.site.Site.{Site};
-ghost use Rattle.fare_opening.specs.Moves.{Fills, Clears, Moves, MovesAny};
+ghost use Rattle.fare_opening.specs.Moves.{Fills, Moves, MovesAny};
 ghost use Rattle.fare_opening.specs.Moving.{MovingParts, moving_told, columns_of, IsNumbered, copy_of};
 ghost use Rattle.fare_opening.specs.Parts.{Parts, OlderParts, IsDesign, IsOlder, IsMoving, parts_of};
 ghost use Rattle.fare_opening.specs.Raising.{AreRead};
 ghost use Rattle.fare_opening.specs.Sites.{IsSite};
 
-use crate::{Site, ask_rows};
+use crate::{Site, clear_rows, put_row, read_rows};
 use fare_layout::TableNumber;
 use fare_store::Fault;
-use fare_tables::{change, parameter};
+use fare_tables::parameter;
 use sqlite::types::ValueRef;
 use sqlite::{Alter, Connection, Row, Transaction};
 use std::alloc::Global;
@@ -73,10 +73,7 @@ fn put_copy<S: Alter>(
     ensures survives { Survives (state S.Store tx.old.conn.now) (state S.Store tx.new.conn.now) (λ _. ⊥) }
 {
     let cells = copied(alloc, row)?;
-    match change(tx, put, cells.as_slice()) {
-        Ok(_) => Ok(()),
-        Err(fault) => Err(fault),
-    }
+    put_row(tx, put, cells.as_slice())
 }
 
 // A copy of each row, one after the other.
@@ -96,20 +93,6 @@ fn put_copies<S: Alter>(
         put_copy(alloc, tx, put, row)?;
     }
     Ok(())
-}
-
-// No row stays in the table.
-fn clear_rows<S: Alter>(tx: &mut Transaction<'_, S>, clear: &str) -> Result<(), Fault>
-    ensures same_reference { tx.new.conn.ghost_name ≡ tx.old.conn.ghost_name }
-    ensures cleared { HasCleanDisk (state S.Store tx.new.conn.now) → IsTrue (state S.Store tx.old.conn.now).in_transaction → (d : Parts) (o : OlderParts) (m : MovingParts) (w : Site) → IsMoving d o m → IsDesign d → IsOlder d o → m.clear ≡ clear.now → IsSite d w → (state S.Store tx.old.conn.now).now.schema ≡ w.schema
-        → OnOk result (Clears w m.from (columns_of o.own m.from) (state S.Store tx.old.conn.now).now (state S.Store tx.new.conn.now).now × IsTrue (state S.Store tx.new.conn.now).in_transaction) }
-    ensures inside { HasCleanDisk (state S.Store tx.new.conn.now) → Inside (state S.Store tx.old.conn.now) (state S.Store tx.new.conn.now) }
-    ensures survives { Survives (state S.Store tx.old.conn.now) (state S.Store tx.new.conn.now) (λ _. ⊥) }
-{
-    match change(tx, clear, &[]) {
-        Ok(_) => Ok(()),
-        Err(fault) => Err(fault),
-    }
 }
 
 // The rows that were read go to the other table.
@@ -165,7 +148,7 @@ pub(crate) fn rows_to_move<S: Alter>(
     ensures mode { conn.old.in_transaction ≡ false → conn.new.in_transaction ≡ false }
 {
     match moving {
-        Some(moving) => ask_rows(conn, &site.schema, moving.read, &[]),
+        Some(moving) => read_rows(conn, site, moving.read),
         None => Ok(Vec::new(alloc)),
     }
 }

@@ -37,7 +37,14 @@ fn look_back<S: Alter>(
     ensures up { HasCleanDisk (state S.Store conn.new) → IsTrue (state S.Store conn.old).is_open → OnOk result (IsTrue (state S.Store conn.new).is_open) }
     ensures mode { conn.old.in_transaction ≡ false → conn.new.in_transaction ≡ false }
 {
-    if !is_an_owners(conn, from, older.format, older.unused, owner)? {
+    if !is_an_owners(
+        conn,
+        from,
+        older.meta.read,
+        older.format,
+        older.unused,
+        owner,
+    )? {
         return Ok(None);
     }
     Ok(Some(rows_to_move(alloc, conn, from, &older.moving)?))

@@ -54,11 +54,12 @@ fn is_emptied<S: Alter>(
 pub(crate) fn is_an_owners<S: Alter>(
     conn: &mut Connection<S>,
     site: &Site,
+    read: &str,
     format: u8,
     unused: Option<(TableNumber, &str)>,
     owner: u16,
 ) -> Result<bool, Fault>
-    requires { (p : Parts) × IsDesign p × IsSite p site.now × (option_map (λ u. (u.0, u.1.now)) unused ≡ p.unused) }
+    requires { (p : Parts) × IsDesign p × IsSite p site.now × (option_map (λ u. (u.0, u.1.now)) unused ≡ p.unused) × (read.now ≡ p.meta.read) }
     ensures ours { HasCleanDisk (state S.Store conn.new) → (state S.Store conn.old).now.schema ≡ site.now.schema → IfOk result (λ right. IsTrue right ↔ (IsMeta format owner (rows_at site.now Meta (state S.Store conn.old).now.trees) × HasNoRow (option_map (λ u. (u.0, u.1.now)) unused.entry) site.now (state S.Store conn.old).now.trees)) }
     ensures read { HasCleanDisk (state S.Store conn.new) → (state S.Store conn.old).now.schema ≡ site.now.schema → OnOk result (SameRows (state S.Store conn.old) (state S.Store conn.new)) }
     ensures same { IsLive (state S.Store conn.new) → IsAtRest site.now.schema (state S.Store conn.old) → SameRows (state S.Store conn.old) (state S.Store conn.new) }
@@ -67,7 +68,7 @@ pub(crate) fn is_an_owners<S: Alter>(
     ensures stays { HasCleanDisk (state S.Store conn.new) → OnOk result (IsTrue (state S.Store conn.new).is_open) }
     ensures mode { conn.old.in_transaction ≡ false → conn.new.in_transaction ≡ false }
 {
-    if !has_meta(conn, site, format, owner)? {
+    if !has_meta(conn, site, read, format, owner)? {
         return Ok(false);
     }
     is_emptied(conn, site, unused)
@@ -89,5 +90,5 @@ pub(crate) fn has_store<D: Design, S: Alter>(
     ensures mode { conn.old.in_transaction ≡ false → conn.new.in_transaction ≡ false }
 {
     D::sound();
-    is_an_owners(conn, site, D::format(), D::unused(), owner)
+    is_an_owners(conn, site, D::meta().read, D::format(), D::unused(), owner)
 }

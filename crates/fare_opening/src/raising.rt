@@ -10,7 +10,7 @@ ghost use Rattle.fare_opening.specs.Sites.{IsSite, rows_at};
 
 use crate::making::{commit, make_tables};
 use crate::moving::move_rows;
-use crate::{Design, Older, SET_META};
+use crate::{Design, Older};
 use fare_store::Fault;
 use fare_tables::{change, parameter};
 use sqlite::{Alter, Connection, Row, Transaction};
@@ -26,7 +26,8 @@ fn put_format<D: Design, S: Alter>(tx: &mut Transaction<'_, S>) -> Result<(), Fa
     ensures survives { Survives (state S.Store tx.old.conn.now) (state S.Store tx.new.conn.now) (λ _. ⊥) }
 {
     D::sound();
-    match change(tx, SET_META, &[parameter(u64::from(D::format()))]) {
+    let cells = [parameter(u64::from(D::format()))];
+    match change(tx, D::meta().set, &cells) {
         Ok(_) => Ok(()),
         Err(fault) => Err(fault),
     }

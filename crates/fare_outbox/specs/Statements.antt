@@ -6,7 +6,7 @@ use Rattle.fare_opening.specs.Numbers.{Meta, Device, Tap, Stated}
 use Rattle.fare_layout.specs.declared.place.Places.{Places}
 use Rattle.fare_layout.specs.Layouts.{Fits}
 use Rattle.fare_opening.specs.Moving.{MovingParts}
-use Rattle.fare_opening.specs.Parts.{Parts, OlderParts}
+use Rattle.fare_opening.specs.Parts.{Parts, OlderParts, plain_meta}
 use Rattle.fare_outbox.specs.Tables.{first_schema, outbox_schema}
 
 -- the table of the taps, each with its route; Tap, where the first format has them, holds no row
@@ -71,8 +71,8 @@ moving_taps = record { from = Tap; to = Routed; read = codes "SELECT rowid, owne
 
 -- what an outbox of the first format is made of
 abbrev pub first_format : OlderParts
-first_format = record { own = first_schema; tables = first_tables; texts = first_texts; format = 1; missing = later_tables; moving = Some moving_taps; unused = None }
+first_format = record { own = first_schema; meta = plain_meta; tables = first_tables; texts = first_texts; format = 1; missing = later_tables; moving = Some moving_taps; unused = None }
 
 -- what an outbox is made of
 abbrev pub outbox_parts : Parts
-outbox_parts = record { own = outbox_schema; tables = tables; texts = texts; format = 2; older = first_format ∷ []; unused = Some (Tap, codes "SELECT count(*) FROM tap") }
+outbox_parts = record { own = outbox_schema; meta = plain_meta; tables = tables; texts = texts; format = 2; older = first_format ∷ []; unused = Some (Tap, codes "SELECT count(*) FROM tap") }

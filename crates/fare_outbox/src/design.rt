@@ -5,10 +5,14 @@ use crate::statements::{
     ROUTED, TABLES, TEXTS,
 };
 use fare_layout::TableNumber;
-use fare_opening::{Design, Moving, Older, TAP};
+use fare_opening::{Design, META_TEXTS, MetaTexts, Moving, Older, TAP};
+
+// What is asked of `meta`, and written to it.
+static TEXTS_OF_META: MetaTexts = META_TEXTS;
 
 // The first format, whose taps had no route: they move to the table that has them, each with route 0.
 static OLDER: [Older; 1] = [Older {
+    meta: META_TEXTS,
     format: 1,
     tables: &FIRST_TABLES,
     missing: &FIRST_MISSING,
@@ -28,6 +32,10 @@ pub(crate) struct OutboxDesign;
 
 impl Design for OutboxDesign {
     ghost parts = { outbox_parts };
+
+    fn meta() -> &'static MetaTexts {
+        &TEXTS_OF_META
+    }
 
     fn tables() -> &'static [(&'static str, &'static str)] {
         &TABLES

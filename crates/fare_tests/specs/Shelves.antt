@@ -4,7 +4,7 @@ use Rattle.sqlite.specs.Schema.{Schema}
 use Rattle.sqlite.specs.Table.{Table}
 use Rattle.fare_layout.specs.declared.place.TableNumber.{TableNumber}
 use Rattle.fare_opening.specs.Numbers.{Meta}
-use Rattle.fare_opening.specs.Parts.{Parts, OlderParts, meta_name, meta_text, read_meta, put_meta, set_meta}
+use Rattle.fare_opening.specs.Parts.{Parts, OlderParts, meta_name, meta_text, read_meta, put_meta, set_meta, plain_meta}
 use Rattle.fare_tables.specs.Queries.{number, table, meta_table}
 
 abbrev pub book_table : ℕ → Table
@@ -43,10 +43,10 @@ abbrev pub shelf_texts : List (TableNumber × List ℕ)
 shelf_texts = (Meta, read_meta) ∷ (Meta, put_meta) ∷ (Meta, set_meta) ∷ []
 
 abbrev pub old_parts : Parts
-old_parts = record { own = old_schema; tables = old_tables; texts = shelf_texts; format = 1; older = []; unused = None }
+old_parts = record { own = old_schema; meta = plain_meta; tables = old_tables; texts = shelf_texts; format = 1; older = []; unused = None }
 
 abbrev pub first_format : OlderParts
-first_format = record { own = old_schema; tables = old_tables; texts = shelf_texts; format = 1; missing = missing_tables; moving = None; unused = None }
+first_format = record { own = old_schema; meta = plain_meta; tables = old_tables; texts = shelf_texts; format = 1; missing = missing_tables; moving = None; unused = None }
 
 abbrev pub new_parts : Parts
-new_parts = record { own = new_schema; tables = new_tables; texts = shelf_texts; format = 2; older = first_format ∷ []; unused = None }
+new_parts = record { own = new_schema; meta = plain_meta; tables = new_tables; texts = shelf_texts; format = 2; older = first_format ∷ []; unused = None }

@@ -1,7 +1,9 @@
 ghost use Rattle.fare_tests.specs.Shelves.{old_parts, new_parts};
 
 use fare_layout::TableNumber;
-use fare_opening::{Design, META, META_TABLE, Older, PUT_META, READ_META, SET_META};
+use fare_opening::{
+    Design, META, META_TABLE, META_TEXTS, MetaTexts, Older, PUT_META, READ_META, SET_META,
+};
 
 // The table of books, with its name, and that of loans.
 const BOOKS: (&str, &str) = ("book", "CREATE TABLE book (number INTEGER NOT NULL) STRICT");
@@ -19,7 +21,10 @@ const TABLES: [(&str, &str); 3] = [META_TABLE, BOOKS, LOANS];
 
 const TEXTS: [(TableNumber, &str); 3] = [(META, READ_META), (META, PUT_META), (META, SET_META)];
 
+static TEXTS_OF_META: MetaTexts = META_TEXTS;
+
 static OLDER: [Older; 1] = [Older {
+    meta: META_TEXTS,
     format: 1,
     tables: &OLD_TABLES,
     missing: &MISSING,
@@ -33,6 +38,10 @@ pub struct OldShelf;
 
 impl Design for OldShelf {
     ghost parts = { old_parts };
+
+    fn meta() -> &'static MetaTexts {
+        &TEXTS_OF_META
+    }
 
     fn tables() -> &'static [(&'static str, &'static str)] {
         &OLD_TABLES
@@ -62,6 +71,10 @@ pub struct Shelf;
 
 impl Design for Shelf {
     ghost parts = { new_parts };
+
+    fn meta() -> &'static MetaTexts {
+        &TEXTS_OF_META
+    }
 
     fn tables() -> &'static [(&'static str, &'static str)] {
         &TABLES

@@ -1,4 +1,4 @@
-use Rattle.std.proofs.Common.{◌≡◌, None, Some, Option, option_map, refl, sym, ap, subst, ◌∙◌}
+use Rattle.std.proofs.Common.{◌≡◌, None, Some, option_map, refl, sym, ap, subst, ◌∙◌}
 use Rattle.sqlite.specs.Held.{state}
 use Rattle.fare_tables.proofs.Making.{on_ok}
 use Rattle.fare_opening.specs.Moves.{Moves, MovesAny}

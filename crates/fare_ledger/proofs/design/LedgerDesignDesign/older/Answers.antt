@@ -2,4 +2,4 @@ use Rattle.std.proofs.Common.{refl}
 use Rattle.fare_ledger.proofs.design.LedgerDesignDesign.older.Goals as goal
 
 pub returns : goal.returns
-returns c = (record { format = refl; tables = refl; missing = refl; texts = refl; moving = refl; unused = refl }, (record { format = refl; tables = refl; missing = refl; texts = refl; moving = refl; unused = refl }, (record { format = refl; tables = refl; missing = refl; texts = refl; moving = refl; unused = refl }, tt)))
+returns c = (record { meta = refl; format = refl; tables = refl; missing = refl; texts = refl; moving = refl; unused = refl }, (record { meta = refl; format = refl; tables = refl; missing = refl; texts = refl; moving = refl; unused = refl }, (record { meta = refl; format = refl; tables = refl; missing = refl; texts = refl; moving = refl; unused = refl }, tt)))
