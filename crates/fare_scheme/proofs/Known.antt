@@ -19,7 +19,7 @@ use Rattle.fare_scheme.specs.Values.{SchemeValue}
 use Rattle.fare_scheme.specs.Ranges.{IsCapacity, IsBuffer}
 use Rattle.fare_scheme.specs.Facts.{IsScheme, IsRegistered, IsTariff}
 use Rattle.fare_scheme.specs.Positions.{ArePositions, AreParentsKnown}
-use Rattle.fare_scheme.specs.Words.{owner_of, tariff_of, station_of, operator_of, buffer_of, lane_capacity_of, id_at, place_of, position_of_owner, position_of_operator, position_of_station, position_of_device}
+use Rattle.fare_scheme.specs.Words.{owner_of, tariff_of, station_of, operator_of_station, operator_of, buffer_of, lane_capacity_of, id_at, place_of, position_of_owner, position_of_operator, position_of_station, position_of_device}
 
 -- IDS IN A LIST
 pub id_at_position : (ids : List ℕ) (id k : ℕ) → position (nat_eq id) ids ≡ Some k → slice_get ids k ≡ Some id
@@ -121,16 +121,16 @@ station_is_known sc is device =
     IfSome-map (λ (d : Placement). d.station) (λ (d : Placement). IsRegistered sc.stations d.station) (λ station. IsSome (position_of_station sc station))
     (λ d there. some_place sc.stations d.station ∙ there) (lookup (nat_eq device) sc.devices) parents
 
-pub operator_is_known : (sc : SchemeValue) → IsScheme sc → (device : ℕ) → IfSome (operator_of sc device) (λ operator. IsSome (position_of_operator sc operator))
-operator_is_known sc is device =
-    IfSome-then (λ station. lookup (nat_eq station) sc.stations) (λ operator. IsSome (position_of_operator sc operator)) registered (station_of sc device)
+pub station_operator_is_known : (sc : SchemeValue) → IsScheme sc → (station : ℕ) → IfSome (operator_of_station sc station) (λ operator. IsSome (position_of_operator sc operator))
+station_operator_is_known sc is station = within (lookup (nat_eq station) sc.stations) (All-lookup (Contains sc.operators) (nat_eq station) sc.stations is.stations.parents)
   where
     within : (o : Option ℕ) → IfSome o (Contains sc.operators) → IfSome o (λ operator. IsSome (position_of_operator sc operator))
     within None h = tt
     within (Some operator) h = some_position (nat_eq operator) sc.operators ∙ list_any-from_Contains nat_eq_equiv operator sc.operators h
 
-    registered : (station : ℕ) → IfSome (lookup (nat_eq station) sc.stations) (λ operator. IsSome (position_of_operator sc operator))
-    registered station = within (lookup (nat_eq station) sc.stations) (All-lookup (Contains sc.operators) (nat_eq station) sc.stations is.stations.parents)
+pub operator_is_known : (sc : SchemeValue) → IsScheme sc → (device : ℕ) → IfSome (operator_of sc device) (λ operator. IsSome (position_of_operator sc operator))
+operator_is_known sc is device =
+    IfSome-then (λ station. lookup (nat_eq station) sc.stations) (λ operator. IsSome (position_of_operator sc operator)) (station_operator_is_known sc is) (station_of sc device)
 
 -- a device has an operator exactly where it is registered
 pub operator_found : (sc : SchemeValue) → IsScheme sc → (device : ℕ) → IsSome (operator_of sc device) ↔ IsSome (position_of_device sc device)

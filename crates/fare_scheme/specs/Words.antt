@@ -20,6 +20,10 @@ station_of scheme device = option_map (λ d. d.station) (lookup (nat_eq device) 
 abbrev pub buffer_of : SchemeValue → ℕ → Option ℕ
 buffer_of scheme device = option_map (λ d. d.buffer) (lookup (nat_eq device) scheme.devices)
 
+-- the operator of a station
+abbrev pub operator_of_station : SchemeValue → ℕ → Option ℕ
+operator_of_station scheme station = lookup (nat_eq station) scheme.stations
+
 -- the operator of a device: that of its station
 abbrev pub operator_of : SchemeValue → ℕ → Option ℕ
 operator_of scheme device = option_and_then (λ station. lookup (nat_eq station) scheme.stations) (station_of scheme device)

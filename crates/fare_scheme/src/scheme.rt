@@ -1,7 +1,7 @@
 ghost use Rattle.std.specs.Prelude.{◌≡◌, ◌↔◌, ◌<◌, Some, IsSome, IfSome, length, slice_get};
 ghost use Rattle.fare_scheme.specs.Facts.{IsScheme, IsTariff};
 ghost use Rattle.fare_scheme.specs.Ranges.{IsBuffer, IsCapacity};
-ghost use Rattle.fare_scheme.specs.Words.{owner_of, tariff_of, station_of, operator_of, buffer_of, lane_capacity_of, id_at, position_of_owner, position_of_operator, position_of_station, position_of_product, position_of_device};
+ghost use Rattle.fare_scheme.specs.Words.{owner_of, tariff_of, station_of, operator_of_station, operator_of, buffer_of, lane_capacity_of, id_at, position_of_owner, position_of_operator, position_of_station, position_of_product, position_of_device};
 
 use crate::{Placement, Product, Tariff};
 use fare_day::Zone;
@@ -97,6 +97,15 @@ impl Scheme {
         ensures known { IfSome result (λ station. IsSome (position_of_station self.now station)) }
     {
         self.devices.get(&device).map(|placement| placement.station)
+    }
+
+    /// The operator of a station.
+    pub fn operator_of_station(&self, station: StationId) -> Option<OperatorId>
+        ensures value { result ≡ operator_of_station self.now station }
+        ensures found { IsSome result ↔ IsSome (position_of_station self.now station) }
+        ensures known { IfSome result (λ operator. IsSome (position_of_operator self.now operator)) }
+    {
+        self.stations.get(&station).copied()
     }
 
     /// The operator of a device's station.

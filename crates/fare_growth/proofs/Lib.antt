@@ -1,0 +1,11 @@
+mod Lists
+mod Same
+mod Parts
+mod EachKind
+mod Adding
+mod Keeping
+mod Named
+mod Looked
+mod Found
+mod Searching
+mod OneRule
