@@ -1,0 +1,6 @@
+use Rattle.std.proofs.Common.{◌≡◌, map, take}
+use Rattle.fare_register.specs.Registers.{told_list, pair_numbers}
+use Rattle.fare_register.proofs.listing.owner_rows.Given as goal
+
+abbrev pub invariant-loop-position : goal.invariant-loop-position
+invariant-loop-position l = told_list l.rows.items ≡ map pair_numbers (take l.position l.scheme.owners)

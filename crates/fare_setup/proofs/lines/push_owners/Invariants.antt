@@ -1,0 +1,6 @@
+use Rattle.std.proofs.Common.{◌≡◌, ◌++◌, take, map}
+use Rattle.fare_setup.specs.SchemeLines.{owner_line}
+use Rattle.fare_setup.proofs.lines.push_owners.Given as goal
+
+abbrev pub invariant-loop-position : goal.invariant-loop-position
+invariant-loop-position l = l.lines.items ≡ l.fn.lines.items ++ map owner_line (take l.position l.scheme.owners)

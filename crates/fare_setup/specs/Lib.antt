@@ -1,0 +1,3 @@
+pub mod SchemeLines
+pub mod ReadAgain
+pub mod Making
