@@ -1,0 +1,4 @@
+pub mod Texts
+pub mod Own
+pub mod Listed
+pub mod Placed
