@@ -1,5 +1,5 @@
-//! The tests of the core's public calls: bills and settlements, a world over stores in memory, the forwarder over a store, and
-//! the lines of traces and replies. They need neither databases nor threads. It promises nothing.
+//! The tests of the core's public calls: bills and settlements, a world over stores in memory, the forwarder over a store, the lines
+//! of traces and replies, a scheme as its lines and as lists, and what a later scheme contradicts. They need neither databases nor threads. It promises nothing.
 #![tactic(auto)]
 
 #[cfg(test)]
@@ -7,11 +7,17 @@ mod bills;
 #[cfg(test)]
 mod checking;
 #[cfg(test)]
+mod growth;
+#[cfg(test)]
 mod lines;
+#[cfg(test)]
+mod registers;
 #[cfg(test)]
 mod route;
 #[cfg(test)]
 mod routes;
+#[cfg(test)]
+mod setting_up;
 #[cfg(test)]
 mod settlements;
 #[cfg(test)]
