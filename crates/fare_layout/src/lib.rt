@@ -17,4 +17,4 @@ mod statement;
 
 pub use growing::{grow_by, has_none};
 pub use layout::{are_last, find_places, go_on};
-pub use place::{Place, Places, TableNumber};
+pub use place::{Place, Places, TableNumber, is_apart};

@@ -38,8 +38,8 @@ impl Places {
     }
 }
 
-// Whether none of the places has this tree.
-fn is_apart(tree: u32, places: &[Place]) -> bool
+/// Whether none of the places has this tree.
+pub fn is_apart(tree: u32, places: &[Place]) -> bool
     ensures { IsTrue result ↔ IsApartFrom tree places.now }
 {
     match places {

@@ -20,11 +20,12 @@ use Rattle.fare_lists.specs.Lists.{rows_from, AreWide, AreAllWide, IsListed, Are
 use Rattle.fare_lists.proofs.Rows.{rows_numbered}
 
 -- one table: its rows go, and then those of the list come
-pub replaced : (w : Site) (t : ListTable) (list : List (List ℕ)) (a b e : Database) → AreNumbered t.columns (rows_at w t.number a.trees) → AreWide t.columns list → Clears w t.number t.columns a b → Puts w t.number t.columns (rows_from 1 list) b e → IsReplaced w t list a e
-replaced w t list a b e lawful wide clears puts = record {
+pub replaced : (w : Site) (t : ListTable) (list : List (List ℕ)) (a b e : Database) → AreWide t.columns list → Clears w t.number t.columns a b → Puts w t.number t.columns (rows_from 1 list) b e → IsReplaced w t list a e
+replaced w t list a b e wide clears puts = record {
   schema = puts.schema;
   others = all_two (λ (u : Table). u.tree ≢ tree_at w t.number → b.trees u.tree ≡ a.trees u.tree) (λ (u : Table). u.tree ≢ tree_at w t.number → e.trees u.tree ≡ b.trees u.tree) (λ (u : Table). u.tree ≢ tree_at w t.number → e.trees u.tree ≡ a.trees u.tree) (λ u early late not. late not ∙ early not) w.schema.tables clears.others puts.others;
-  rows = puts.put [] (rows_numbered t.columns 1 list wide) (clears.cleared lawful);
+  rows = λ lawful. puts.put [] (rows_numbered t.columns 1 list wide) (clears.cleared lawful);
+  database = λ sound. puts.database (clears.database sound);
 }
 
 -- ---- the first of several, and then the others
@@ -47,18 +48,18 @@ still_lawful p w t (u ∷ ts) a b list site it higher listed one lawful =
     let stays : rows_at w u.number b.trees ≡ rows_at w u.number a.trees = each_tree (λ n. n ≢ tree_at w t.number → b.trees n ≡ a.trees n) p w site one.others u.number (within p w u site listed.0) (two_trees p w site u.number t.number (λ same. (let less = higher.0 in omega (arith, less, same))) (within p w u site listed.0) (within p w t site it)) in
     (subst (AreNumbered u.columns) (sym stays) lawful.0, still_lawful p w t ts a b list site it higher.1 listed.2 one lawful.1)
 
-pub replaced_first : (p : Parts) (w : Site) (t : ListTable) (ts : List ListTable) (list : List (List ℕ)) (lists : List (List (List ℕ))) (a b e : Database) → IsSite p w → AreListed p (t ∷ ts) → IsReplaced w t list a b → (AreLawful w b.trees ts → AreReplaced w ts lists b e) → AreLawful w a.trees (t ∷ ts) → AreReplaced w (t ∷ ts) (list ∷ lists) a e
-replaced_first p w t ts list lists a b e site listed one rest lawful =
-    let more = rest (still_lawful p w t ts a b list site listed.0 listed.1 listed.2 one lawful.1) in
+pub replaced_first : (p : Parts) (w : Site) (t : ListTable) (ts : List ListTable) (list : List (List ℕ)) (lists : List (List (List ℕ))) (a b e : Database) → IsSite p w → AreListed p (t ∷ ts) → IsReplaced w t list a b → AreReplaced w ts lists b e → AreReplaced w (t ∷ ts) (list ∷ lists) a e
+replaced_first p w t ts list lists a b e site listed one more =
     let stays : rows_at w t.number e.trees ≡ rows_at w t.number b.trees = each_tree (λ n. IsOfNone w ts n → e.trees n ≡ b.trees n) p w site more.others t.number (within p w t site listed.0) (of_none p w t ts site listed.0 listed.1 listed.2) in
     record {
       schema = more.schema;
       others = all_two (λ (u : Table). u.tree ≢ tree_at w t.number → b.trees u.tree ≡ a.trees u.tree) (λ (u : Table). IsOfNone w ts u.tree → e.trees u.tree ≡ b.trees u.tree) (λ (u : Table). IsOfNone w (t ∷ ts) u.tree → e.trees u.tree ≡ a.trees u.tree) (λ u early late none. late none.1 ∙ early none.0) w.schema.tables one.others more.others;
-      rows = (stays ∙ one.rows, more.rows);
+      rows = λ lawful. (stays ∙ one.rows lawful.0, more.rows (still_lawful p w t ts a b list site listed.0 listed.1 listed.2 one lawful.1));
+      database = λ sound. more.database (one.database sound);
     }
 
 pub replaced_none : (w : Site) (a : Database) → a.schema ≡ w.schema → AreReplaced w [] [] a a
-replaced_none w a has = record { schema = has; others = all w.schema.tables; rows = tt }
+replaced_none w a has = record { schema = has; others = all w.schema.tables; rows = λ lawful. tt; database = λ sound. sound }
   where
     all : (tables : List Table) → AllByRecursion (λ (t : Table). IsOfNone w [] t.tree → a.trees t.tree ≡ a.trees t.tree) tables
     all [] = tt
@@ -73,9 +74,9 @@ pub behind_is : {X : Type 0} (x : X) (xs : List X) → behind (x ∷ xs) ≡ xs
 behind_is x xs = ap (λ n. take n xs) (let e : length (x ∷ xs) - 1 ≡ length xs = omega arith in e) ∙ take-length xs
 
 -- what is asked of the first table and its list
-pub first_listed : (p : Parts) (w : Site) (ts : List ListTable) (x : ListTable) (a : Database) → 1 ≤ length ts → CanReplace p w ts a → IsListed p (slice_index_or ts 0 x) × AreNumbered (slice_index_or ts 0 x).columns (rows_at w (slice_index_or ts 0 x).number a.trees)
+pub first_listed : (p : Parts) (w : Site) (ts : List ListTable) (x : ListTable) (a : Database) → 1 ≤ length ts → CanReplace p w ts a → IsListed p (slice_index_or ts 0 x)
 first_listed p w [] x a some can = absurd (omega (arith, some))
-first_listed p w (t ∷ ts) x a some can = (can.listed.0, can.lawful.0)
+first_listed p w (t ∷ ts) x a some can = can.listed.0
 
 pub first_wide : (ts : List ListTable) (ls : List (Vec (Vec ℕ Global) Global)) (x : ListTable) (y : Vec (Vec ℕ Global) Global) (list : List (List ℕ)) → 1 ≤ length ts → 1 ≤ length ls → list ≡ told_list (slice_index_or ls 0 y).items → AreAllWide ts (told ls) → AreWide (slice_index_or ts 0 x).columns list
 first_wide [] ls x y list some more is wide = absurd (omega (arith, some))
@@ -94,7 +95,6 @@ more_can p w (t ∷ ts) x list a b some can one = subst (λ xs. CanReplace p w x
   listed = can.listed.2;
   site = can.site;
   schema = one.schema;
-  lawful = still_lawful p w t ts a b list can.site can.listed.0 can.listed.1 can.listed.2 one can.lawful.1;
 })
 
 pub all_replaced : (p : Parts) (w : Site) (ts : List ListTable) (ls : List (Vec (Vec ℕ Global) Global)) (x : ListTable) (y : Vec (Vec ℕ Global) Global) (list : List (List ℕ)) (a b e : Database) → 1 ≤ length ts → 1 ≤ length ls → CanReplace p w ts a
@@ -103,7 +103,7 @@ all_replaced p w [] ls x y list a b e some more can is one rest = absurd (omega 
 all_replaced p w (t ∷ ts) [] x y list a b e some more can is one rest = absurd (omega (arith, more))
 all_replaced p w (t ∷ ts) (l ∷ ls) x y list a b e some more can is one rest =
     let later : AreReplaced w ts (told ls) b e = subst (λ xs. AreReplaced w ts (told xs) b e) (behind_is l ls) (subst (λ xs. AreReplaced w xs (told (behind (l ∷ ls))) b e) (behind_is t ts) rest) in
-    replaced_first p w t ts (told_list l.items) (told ls) a b e can.site can.listed (subst (λ xs. IsReplaced w t xs a b) is one) (λ lawful. later) can.lawful
+    replaced_first p w t ts (told_list l.items) (told ls) a b e can.site can.listed (subst (λ xs. IsReplaced w t xs a b) is one) later
 
 -- where a list is missing there is none
 pub none_replaced : (p : Parts) (w : Site) (ts : List ListTable) (ls : List (Vec (Vec ℕ Global) Global)) (a : Database) → (1 ≤ length ts → 1 ≤ length ls → ⊥) → AreAllWide ts (told ls) → CanReplace p w ts a → AreReplaced w ts (told ls) a a

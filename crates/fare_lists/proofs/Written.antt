@@ -22,8 +22,8 @@ hold_written w trees [] (l ∷ lists) rows = absurd rows
 hold_written w trees (t ∷ tables) [] rows = absurd rows
 hold_written w trees (t ∷ tables) (l ∷ lists) rows = (ap behind_ids rows.0 ∙ behind_rows 1 l, hold_written w trees tables lists rows.1)
 
-pub held : (w : Site) (tables : List ListTable) (lists : List (List (List ℕ))) (old new : Database) → AreReplaced w tables lists old new → HoldAll w new.trees tables lists
-held w tables lists old new it = hold_written w new.trees tables lists it.rows
+pub held : (w : Site) (tables : List ListTable) (lists : List (List (List ℕ))) (old new : Database) → AreLawful w old.trees tables → AreReplaced w tables lists old new → HoldAll w new.trees tables lists
+held w tables lists old new was it = hold_written w new.trees tables lists (it.rows was)
 
 lawful_written : (w : Site) (trees : Trees) (tables : List ListTable) (lists : List (List (List ℕ))) → AreAllWide tables lists → AllZip (λ (t : ListTable) (list : List (List ℕ)). rows_at w t.number trees ≡ rows_from 1 list) tables lists → AreLawful w trees tables
 lawful_written w trees [] [] wide rows = tt
@@ -31,8 +31,8 @@ lawful_written w trees [] (l ∷ lists) wide rows = absurd rows
 lawful_written w trees (t ∷ tables) [] wide rows = absurd rows
 lawful_written w trees (t ∷ tables) (l ∷ lists) wide rows = (subst (AreNumbered t.columns) (sym rows.0) (rows_numbered t.columns 1 l wide.0), lawful_written w trees tables lists wide.1 rows.1)
 
-pub lawful : (w : Site) (tables : List ListTable) (lists : List (List (List ℕ))) (old new : Database) → AreAllWide tables lists → AreReplaced w tables lists old new → AreLawful w new.trees tables
-lawful w tables lists old new wide it = lawful_written w new.trees tables lists wide it.rows
+pub lawful : (w : Site) (tables : List ListTable) (lists : List (List (List ℕ))) (old new : Database) → AreLawful w old.trees tables → AreAllWide tables lists → AreReplaced w tables lists old new → AreLawful w new.trees tables
+lawful w tables lists old new was wide it = lawful_written w new.trees tables lists wide (it.rows was)
 
 -- numbers are told by their cells
 abbrev numbers_in : Row → List ℕ

@@ -2,7 +2,7 @@
 use Rattle.std.specs.Prelude.{◌≡◌, ◌≢◌, ◌<◌, ◌^◌, ◌++◌, ℕ, suc, Bool, true, false, List, [], ◌∷◌, length, map, drop, Vec}
 use Rattle.std.specs.Global.{Global}
 use Rattle.std.specs.List.{AllByRecursion, AllZip}
-use Rattle.sqlite.specs.Effect.{Database}
+use Rattle.sqlite.specs.Effect.{Database, IsDatabase}
 use Rattle.sqlite.specs.Table.{Table}
 use Rattle.sqlite.specs.Tree.{Trees}
 use Rattle.sqlite_value.specs.Order.{Row}
@@ -58,7 +58,7 @@ abbrev pub AreNumbers : List Row → Type 0
 AreNumbers rows = AllByRecursion HasNumbers rows
 
 -- TABLES
--- the texts of a table mean in a store what they say, and the table is not the first, which is `meta`
+-- the texts of a table mean in a store what they say
 pub record IsListed (p : Parts) (t : ListTable) : Type 0 where
   pub reads : IsReading p t.number t.columns t.read.now
   pub puts : IsPutting p t.number t.columns t.put.now
@@ -91,28 +91,29 @@ HasRead w trees tables old new false = ¬ CanTell w trees tables
 abbrev pub IsOfNone : Site → List ListTable → ℕ → Type 0
 IsOfNone w tables tree = AllByRecursion (λ (t : ListTable). tree ≢ tree_at w t.number) tables
 
--- a table holds its list, with rowids from 1 on, and each other table keeps its rows
+-- a table holds its list, with rowids from 1 on, if its rows were lawful, and each other table keeps its rows
 pub record IsReplaced (w : Site) (t : ListTable) (list : List (List ℕ)) (old new : Database) : Type 0 where
   pub schema : new.schema ≡ w.schema
   pub others : AllByRecursion (λ (u : Table). u.tree ≢ tree_at w t.number → new.trees u.tree ≡ old.trees u.tree) w.schema.tables
-  pub rows : rows_at w t.number new.trees ≡ rows_from 1 list
+  pub rows : AreNumbered t.columns (rows_at w t.number old.trees) → rows_at w t.number new.trees ≡ rows_from 1 list
+  pub database : IsDatabase old → IsDatabase new
 
 -- each list is as wide as its table
 abbrev pub AreAllWide : List ListTable → List (List (List ℕ)) → Type 0
 AreAllWide tables lists = AllZip (λ (t : ListTable) (list : List (List ℕ)). AreWide t.columns list) tables lists
 
--- each table holds its list, with rowids from 1 on, and the others keep their rows
+-- each table holds its list, with rowids from 1 on, if its rows were lawful, and the others keep their rows
 pub record AreReplaced (w : Site) (tables : List ListTable) (lists : List (List (List ℕ))) (old new : Database) : Type 0 where
   pub schema : new.schema ≡ w.schema
   pub others : AllByRecursion (λ (t : Table). IsOfNone w tables t.tree → new.trees t.tree ≡ old.trees t.tree) w.schema.tables
-  pub rows : AllZip (λ (t : ListTable) (list : List (List ℕ)). rows_at w t.number new.trees ≡ rows_from 1 list) tables lists
+  pub rows : AreLawful w old.trees tables → AllZip (λ (t : ListTable) (list : List (List ℕ)). rows_at w t.number new.trees ≡ rows_from 1 list) tables lists
+  pub database : IsDatabase old → IsDatabase new
 
--- the tables stand there, and their rows are lawful
+-- the tables stand there
 pub record CanReplace (p : Parts) (w : Site) (tables : List ListTable) (db : Database) : Type 0 where
   pub listed : AreListed p tables
   pub site : IsSite p w
   pub schema : db.schema ≡ w.schema
-  pub lawful : AreLawful w db.trees tables
 
 -- these are the trees of a database in which each table holds its list, wherever the tables stand
 abbrev pub ReplacedFrom : List ListTable → List (List (List ℕ)) → Database → Trees → Type 0

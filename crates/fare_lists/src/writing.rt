@@ -7,8 +7,7 @@ ghost use Rattle.fare_tables.specs.Asking.{IsLive, SameRows, Inside};
 ghost use Rattle.fare_opening.specs.declared.site.Site.{Site};
 ghost use Rattle.fare_opening.specs.Listed.{IsPutting, Puts};
 ghost use Rattle.fare_opening.specs.Parts.{Parts};
-ghost use Rattle.fare_opening.specs.Moving.{AreNumbered};
-ghost use Rattle.fare_opening.specs.Sites.{IsSite, rows_at};
+ghost use Rattle.fare_opening.specs.Sites.{IsSite};
 ghost use Rattle.fare_lists.specs.Lists.{told, told_list, row_at, rows_from, AreWide, AreAllWide, IsListed, IsReplaced, AreReplaced, CanReplace, ReplacedFrom};
 
 use crate::{List, ListTable};
@@ -62,7 +61,7 @@ fn write_list<S: Alter>(
 ) -> Result<(), Fault>
     requires { length list.now < 2 ^ 63 }
     ensures same_reference { tx.new.conn.ghost_name ≡ tx.old.conn.ghost_name }
-    ensures written { HasCleanDisk (state S.Store tx.new.conn.now) → IsTrue (state S.Store tx.old.conn.now).in_transaction → (p : Parts) (w : Site) → IsListed p table.now → IsSite p w → (state S.Store tx.old.conn.now).now.schema ≡ w.schema → AreNumbered table.now.columns (rows_at w table.now.number (state S.Store tx.old.conn.now).now.trees) → AreWide table.now.columns (told_list list.now)
+    ensures written { HasCleanDisk (state S.Store tx.new.conn.now) → IsTrue (state S.Store tx.old.conn.now).in_transaction → (p : Parts) (w : Site) → IsListed p table.now → IsSite p w → (state S.Store tx.old.conn.now).now.schema ≡ w.schema → AreWide table.now.columns (told_list list.now)
         → OnOk result (IsReplaced w table.now (told_list list.now) (state S.Store tx.old.conn.now).now (state S.Store tx.new.conn.now).now × IsTrue (state S.Store tx.new.conn.now).in_transaction) }
     ensures inside { HasCleanDisk (state S.Store tx.new.conn.now) → Inside (state S.Store tx.old.conn.now) (state S.Store tx.new.conn.now) }
     ensures survives { Survives (state S.Store tx.old.conn.now) (state S.Store tx.new.conn.now) (λ _. ⊥) }

@@ -82,6 +82,7 @@ module _ (p : Parts) (k : TableNumber) (text : List ℕ) (w : Site) (it : IsClea
         schema = ap (λ (d : Database). d.schema) done.after_is;
         others = subst (λ (t : Trees). AllByRecursion (λ (x : Table). x.tree ≢ tree → t x.tree ≡ db x.tree) w.schema.tables) (sym trees) one.tables;
         cleared = λ ok. ap (λ (t : Trees). t tree) trees ∙ one.rows ∙ left columns tree db given.0 (over db tree (low_tree p w site k in_site)) ok (given.1.answer Null);
+        database = λ sound. run.sound;
       }
 
 -- what a raise removes of the table whose rows move

@@ -111,6 +111,7 @@ module _ (p : Parts) (k : TableNumber) (columns : ℕ) (text : List ℕ) (w : Si
             let rows : given.0 ≡ params ∷ [] = given.1.1 ∙ one_row columns params (numbered_long (suc columns) params all) in
             let edit : edited db (edit_of db table [] Chosen 0 given.0) ≡ put_row params (db tree) = ap (λ all. edited db (edit_of db table [] Chosen 0 all)) rows ∙ put_as it.shape tree columns db params it.integers all in
             ap (λ (t : Trees). t tree) trees ∙ step.rows ∙ edit ∙ ap (put_row params) is ∙ put_last columns before params ok);
+        database = λ sound. run.sound;
       }
 
 -- ---- several rows
@@ -120,6 +121,7 @@ none_put w k columns a has = record {
   schema = has;
   others = all_same w.schema.tables;
   put = λ done ok is. is ∙ sym (append-nil done);
+  database = λ sound. sound;
 }
   where
     all_same : (tables : List Table) → AllByRecursion (λ (t : Table). t.tree ≢ tree_at w k → a.trees t.tree ≡ a.trees t.tree) tables
@@ -135,6 +137,7 @@ put_behind w k columns rows r a b e first one = record {
       let all : AreNumbered columns ((done ++ rows) ++ r ∷ []) = subst (AreNumbered columns) same ok in
       let early = first.put done (rows_front (IsNumbered (suc columns)) (done ++ rows) (r ∷ []) all) is in
       one.put (done ++ rows) all early ∙ sym same);
+  database = λ sound. one.database (first.database sound);
 }
 
 -- ---- copies, with a 0 behind each row
@@ -144,10 +147,10 @@ puts_moving d o m it = record { has = it.puts; at = it.put_at; meant = it.puts_m
 
 -- that is what a table gets to which rows move
 pub fills : (w : Site) (k : TableNumber) (columns : ℕ) (rows : List Row) (a b : Database) → Puts w k (suc columns) (copies rows) a b → Fills w k columns rows a b
-fills w k columns rows a b it = record { schema = it.schema; others = it.others; filled = it.put }
+fills w k columns rows a b it = record { schema = it.schema; others = it.others; filled = it.put; database = it.database }
 
 pub filled : (w : Site) (k : TableNumber) (columns : ℕ) (rows : List Row) (a b : Database) → Fills w k columns rows a b → Puts w k (suc columns) (copies rows) a b
-filled w k columns rows a b it = record { schema = it.schema; others = it.others; put = it.filled }
+filled w k columns rows a b it = record { schema = it.schema; others = it.others; put = it.filled; database = it.database }
 
 pub none_filled : (w : Site) (k : TableNumber) (columns : ℕ) (a : Database) → a.schema ≡ w.schema → Fills w k columns [] a a
 none_filled w k columns a has = fills w k columns [] a a (none_put w k (suc columns) a has)
@@ -165,4 +168,5 @@ fills_with w k columns row params a b cells it = record {
       let from = copied_numbered (suc (suc columns)) row (rows_last (IsNumbered (suc (suc columns))) done (copy_of row) ok).0 in
       let same : params ≡ copy_of row = cells from.0 from.1 in
       it.put done (subst (λ r. AreNumbered (suc columns) (done ++ r ∷ [])) (sym same) ok) is ∙ ap (λ r. done ++ r ∷ []) same);
+  database = it.database;
 }

@@ -19,3 +19,4 @@ pub mod Orders
 pub mod Meanings
 pub mod Among
 pub mod InOrder
+pub mod Neighbors

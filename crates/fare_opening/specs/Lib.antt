@@ -9,3 +9,4 @@ pub mod Moves
 pub mod Listed
 pub mod Opening
 pub mod Orders
+pub mod Beside

@@ -1,6 +1,6 @@
 -- A table of natural numbers as a list of rows: the texts that read it, put a row behind its last and remove all.
 use Rattle.std.specs.Prelude.{◌≡◌, ◌<◌, ◌++◌, ℕ, suc, List, length, slice_get, Some}
-use Rattle.sqlite.specs.Effect.{Database}
+use Rattle.sqlite.specs.Effect.{Database, IsDatabase}
 use Rattle.sqlite_rules.specs.Lists.{Has}
 use Rattle.sqlite_value.specs.Order.{Row}
 use Rattle.fare_layout.specs.Commands.{IsMeant}
@@ -42,3 +42,4 @@ pub record Puts (w : Site) (k : TableNumber) (columns : ℕ) (rows : List Row) (
   pub schema : new.schema ≡ w.schema
   pub others : KeepsAllBut (tree_at w k) w old new
   pub put : (done : List Row) → AreNumbered columns (done ++ rows) → rows_at w k old.trees ≡ done → rows_at w k new.trees ≡ done ++ rows
+  pub database : IsDatabase old → IsDatabase new

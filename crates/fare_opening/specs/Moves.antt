@@ -1,7 +1,7 @@
 -- What a raise does to the two tables between which rows move.
 use Rattle.std.specs.Prelude.{◌≡◌, ◌≢◌, ◌++◌, ℕ, suc, List, [], Option, Some, None}
 use Rattle.std.specs.List.{AllByRecursion}
-use Rattle.sqlite.specs.Effect.{Database}
+use Rattle.sqlite.specs.Effect.{Database, IsDatabase}
 use Rattle.sqlite.specs.Table.{Table}
 use Rattle.sqlite_value.specs.Order.{Row}
 use Rattle.fare_layout.specs.declared.place.TableNumber.{TableNumber}
@@ -19,12 +19,14 @@ pub record Fills (w : Site) (k : TableNumber) (columns : ℕ) (rows : List Row) 
   pub schema : new.schema ≡ w.schema
   pub others : KeepsAllBut (tree_at w k) w old new
   pub filled : (done : List Row) → AreNumbered (suc columns) (done ++ copies rows) → rows_at w k old.trees ≡ done → rows_at w k new.trees ≡ done ++ copies rows
+  pub database : IsDatabase old → IsDatabase new
 
 -- a table lost its rows
 pub record Clears (w : Site) (k : TableNumber) (columns : ℕ) (old new : Database) : Type 0 where
   pub schema : new.schema ≡ w.schema
   pub others : KeepsAllBut (tree_at w k) w old new
   pub cleared : AreNumbered columns (rows_at w k old.trees) → rows_at w k new.trees ≡ []
+  pub database : IsDatabase old → IsDatabase new
 
 -- these rows went to a table that had none, and the other table lost its own
 pub record Moves (o : OlderParts) (w : Site) (rows : List Row) (old new : Database) (m : MovingParts) : Type 0 where

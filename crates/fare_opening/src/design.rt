@@ -18,7 +18,8 @@ pub struct MetaTexts {
     pub set: &'static str,
 }
 
-/// The text that makes the table of that kind of a store that is the first in its database, behind its name.
+/// The text that makes the table `meta`, which says whose tables these are, behind its name. A store that stands beside
+/// another one has such a table by another name.
 pub const META_TABLE: (&str, &str) = (
     "meta",
     "CREATE TABLE meta (format INTEGER NOT NULL, owner INTEGER NOT NULL) STRICT",
@@ -33,7 +34,7 @@ pub const PUT_META: &str = "INSERT INTO meta (format, owner) VALUES (?1, ?2)";
 /// They are of this format now.
 pub const SET_META: &str = "UPDATE meta SET format = ?1";
 
-/// These four.
+/// What is asked of a table named `meta`, and written to it.
 pub const META_TEXTS: MetaTexts = MetaTexts {
     table: META_TABLE,
     read: READ_META,

@@ -4,12 +4,15 @@
 //! transaction, past what it holds, which stays; that a store of an older format gets the tables that it lacks, and the
 //! newest format, in one transaction, and keeps its rows, of which those of one table may move to a new one, each with
 //! one column more; and that anything else is told apart from these and stays, also where a table that a format, the
-//! newest or an older one, doesn't use holds a row.
+//! newest or an older one, doesn't use holds a row. A store can be opened beside another one, which stays where it stands,
+//! and shares no table with it; and it can be looked for, which makes nothing.
 #![tactic(auto)]
 
 mod ascent;
 mod asking;
+mod beside;
 mod design;
+mod finding;
 mod listing;
 mod looking;
 mod making;
@@ -23,7 +26,9 @@ mod raising;
 mod site;
 
 pub use asking::{ask, ask_rows};
+pub use beside::open_beside;
 pub use design::{Design, META_TABLE, META_TEXTS, MetaTexts, Older, PUT_META, READ_META, SET_META};
+pub use finding::find_tables;
 pub use listing::{clear_rows, put_row, read_rows};
 pub use making::commit;
 pub use moving::Moving;

@@ -56,7 +56,7 @@ pub(crate) fn find_site(
 }
 
 // Where the store's tables stand in a schema, if they do.
-fn site_in<D: Design>(alloc: Global, schema: &Schema) -> Result<Option<Site>, Fault>
+pub(crate) fn site_in<D: Design>(alloc: Global, schema: &Schema) -> Result<Option<Site>, Fault>
     ensures found { IfOk result (λ found. IfSome found (λ site. IsSite D.parts site × (schema.now ≡ site.schema))) }
     ensures lacks { IfOk result (λ found. found ≡ None → (w : Site) → IsSite D.parts w → schema.now ≢ w.schema) }
 {

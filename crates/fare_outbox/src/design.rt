@@ -27,8 +27,8 @@ static OLDER: [Older; 1] = [Older {
     unused: None,
 }];
 
-// What an outbox is made of: no owner's, of format 2.
-pub(crate) struct OutboxDesign;
+/// What an outbox is made of: no owner's, of format 2.
+pub struct OutboxDesign;
 
 impl Design for OutboxDesign {
     ghost parts = { outbox_parts };

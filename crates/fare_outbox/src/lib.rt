@@ -19,5 +19,6 @@ mod storing;
 mod tables;
 mod writing;
 
+pub use design::OutboxDesign;
 pub use layout::Layout;
 pub use tables::SqlOutbox;

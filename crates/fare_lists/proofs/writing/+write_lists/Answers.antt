@@ -24,7 +24,7 @@ returns-clause-written g t c clean inside wide p w can =
     let more = c.in-len1-up-lists.len_at_least in
     let it = first_listed p w ts _ a some can in
     let is = ap told_list c.as_slice.ensures.value ∙ ap (λ (l : Vec (Vec ℕ Global) Global). told_list l.items) c.list-item.is in
-    let one = c.in_ok-write_list.ensures.written before inside p w it.0 can.site can.schema it.1 (first_wide ts ls _ _ _ some more is wide) in
+    let one = c.in_ok-write_list.ensures.written before inside p w it can.site can.schema (first_wide ts ls _ _ _ some more is wide) in
     let rest = c.write_lists.ensures.written clean one.1 (more_wide ts ls some more wide) p w (more_can p w ts _ _ a b some can one.0) in
     let all = all_replaced p w ts ls _ _ _ a b e some more can is one.0 in
     on_ok c.write_lists.result (λ (two : AreReplaced w (behind ts) (told (behind ls)) b e × _). (all two.0, two.1)) rest
