@@ -9,5 +9,5 @@ mod lines;
 mod print;
 
 pub use entry::{line_of_device, line_of_owner, line_of_station, product_entry};
-pub use lines::setup_lines;
+pub use lines::{copy_zone, setup_lines};
 pub use print::{append_setup, print_setup};

@@ -95,8 +95,8 @@ fn push_devices(scheme: &Scheme, lines: &mut Vec<SchemeLine>) -> Result<(), Allo
     Ok(())
 }
 
-/// A text of its own of the same bytes.
-fn copy_of(alloc: Global, zone: &ZoneText) -> Result<ZoneText, AllocError>
+/// A text of its own of the same rule. The error is want of memory.
+pub fn copy_zone(alloc: Global, zone: &ZoneText) -> Result<ZoneText, AllocError>
     ensures { IfOk result (λ copy. copy ≡ zone.now) }
 {
     match ZoneText::read(alloc, zone.as_str().as_bytes())? {
@@ -118,7 +118,7 @@ fn push_closing(
         capacity: scheme.inbox_capacity(),
     })?;
     lines.push(SchemeLine::Zone {
-        rule: copy_of(alloc, zone)?,
+        rule: copy_zone(alloc, zone)?,
     })?;
     lines.push(SchemeLine::Start {
         day: scheme.start().get(),

@@ -1,5 +1,5 @@
 -- Two clocks that tell the same days give the same replies, so a trace has one answer.
-use Rattle.std.proofs.Common.{◌≡◌, ◌∙◌, ◌++◌, ℕ, List, [], ◌∷◌, Bool, true, false, Option, Some, None, inl, inr, if◌then◌else◌, ap, sym, refl, subst, unwrap_or}
+use Rattle.std.proofs.Common.{◌≡◌, ◌∙◌, ◌++◌, ℕ, List, [], ◌∷◌, map, Bool, true, false, Option, Some, None, inl, inr, if◌then◌else◌, ap, sym, refl, subst, unwrap_or}
 use Rattle.std.specs.Prelude.{is_none, unwrap_or}
 use Rattle.fare_day.specs.declared.zone.Zone.{Zone}
 use Rattle.fare_day.specs.TrafficDay.{traffic_day_in_range}
@@ -16,10 +16,10 @@ use Rattle.fare_scheme.specs.declared.fault.SealFault.TheVariants.{NothingRegist
 use Rattle.fare_event.specs.declared.event.Event.{Event}
 use Rattle.fare_event.specs.declared.event.Event.TheVariants as event
 use Rattle.fare_event.specs.declared.reply.Reply.{Reply}
-use Rattle.fare_event.specs.declared.reply.Reply.TheVariants.{Refused}
+use Rattle.fare_event.specs.declared.reply.Reply.TheVariants.{Done, Refused}
 use Rattle.fare_event.specs.declared.reply.Refusal.{Refusal}
 use Rattle.fare_event.specs.declared.reply.Refusal.TheVariants.{UnknownDevice}
-use Rattle.fare_world.specs.System.{System}
+use Rattle.fare_world.specs.System.{System, start}
 use Rattle.fare_world.specs.Knowing.{knows_device}
 use Rattle.fare_world.specs.Steps.{step}
 use Rattle.fare_world.specs.Tapping.{tap_on, tap}
@@ -29,6 +29,9 @@ use Rattle.fare_lines.specs.declared.line.SchemeLine.{SchemeLine}
 use Rattle.fare_lines.specs.declared.line.SchemeLine.TheVariants as scheme
 use Rattle.fare_lines.specs.Replies.{replies_text}
 use Rattle.fare_trace.specs.Answers.{Answers, AnswersAll, Demonstrates, Drafting, IsOutput, Running, Seals, Sets, SetsUp, SetsZone, Stage, accepted, begun, entered, first_stage, refused}
+use Rattle.fare_trace.specs.Schemes.{HaveDrafted, IsNoSetup, LeadTo, Makes, MakesNone}
+use Rattle.fare_trace.specs.declared.schemes.SchemeFault.{SchemeFault}
+use Rattle.fare_trace.specs.declared.schemes.SchemeFault.TheVariants as scheme_fault
 
 -- EVENTS
 -- two clocks tell one traffic day at each moment
@@ -218,3 +221,91 @@ one_output lines first second one other =
 pub one_text : (lines more : List Line) (first second : List ℕ) → lines ≡ more → IsOutput lines first → IsOutput more second → first ≡ second
 one_text lines more first second same one other =
     one_output more first second (subst (λ ls. IsOutput ls first) same one) other
+
+-- SCHEMES
+lines_same : (f m : SchemeLine) (front more : List SchemeLine) (rest after : List Line) → map Setup (f ∷ front) ++ rest ≡ map Setup (m ∷ more) ++ after → (f ≡ m) × (map Setup front ++ rest ≡ map Setup more ++ after)
+lines_same f m front more rest after e = (let one : Setup f ≡ Setup m = cc in cc, cc)
+
+no_run : (draft : DraftValue) (used : Bool) (sc : SchemeValue) → Drafting draft used ≡ Running sc (start sc) → ⊥
+no_run draft used sc e = absurd (let x = e in cc)
+
+same_scheme : (sc other : SchemeValue) (s t : System) → Running sc s ≡ Running other t → sc ≡ other
+same_scheme sc other s t e = cc
+
+-- once a scheme has begun no line is left
+none_behind : (sc made : SchemeValue) (s : System) (front : List SchemeLine) → LeadTo (Running sc s) front (Running made (start made)) → sc ≡ made
+none_behind sc made s [] is = same_scheme sc made s (start made) is
+none_behind sc made s (line ∷ front) lead = absurd lead
+
+mutual_begun : (sc one other : SchemeValue) (s : System) (next : Stage) (front more : List SchemeLine) → AgreesOn (Running sc s) next → LeadTo (Running sc s) front (Running one (start one)) → LeadTo next more (Running other (start other)) → other ≡ on_clock one other.zone
+mutual_begun sc one other s next front more agrees first second =
+    let mine : sc ≡ one = none_behind sc one s front first in
+    let theirs : on_clock sc agrees.0 ≡ other = none_behind (on_clock sc agrees.0) other s more (subst (λ t. LeadTo t more (Running other (start other))) agrees.2 second) in
+    rw (← theirs, mine) refl
+
+-- two leads of the same lines, from stages that agree, lead to one scheme, but for the clock
+lead_alike : (front more : List SchemeLine) (rest after : List Line) (stage other : Stage) (sc made : SchemeValue) → AgreesOn stage other → map Setup front ++ rest ≡ map Setup more ++ after → LeadTo stage front (Running sc (start sc)) → LeadTo other more (Running made (start made)) → made ≡ on_clock sc made.zone
+lead_alike front more rest after (Running begun s) other sc made agrees same first second = mutual_begun begun sc made s other front more agrees first second
+lead_alike [] more rest after (Drafting draft used) other sc made agrees same first second = absurd (no_run draft used sc first)
+lead_alike (f ∷ front) [] rest after (Drafting draft used) other sc made agrees same first second = absurd (no_run (record draft { zone = agrees.0 }) used made (sym agrees.2 ∙ second))
+lead_alike (f ∷ front) (m ∷ more) rest after (Drafting draft used) other sc made agrees same first second =
+    let lines = lines_same f m front more rest after same in
+    let theirs = subst (λ t. LeadTo t (m ∷ more) (Running made (start made))) agrees.2 second in
+    let agree : Agree (first.0, Done) (theirs.0, Done) = both_set_up draft used agrees.0 f (first.0, Done) (theirs.0, Done) agrees.1 first.1 (subst (λ l. SetsUp (record draft { zone = agrees.0 }) used l (theirs.0, Done)) (sym lines.0) theirs.1) in
+    lead_alike front more rest after first.0 theirs.0 sc made agree.0 lines.1 first.2 theirs.2
+
+-- the lines of a scheme make no other one
+pub one_scheme : (lines : List Line) (one other : SchemeValue) → Makes lines one → Makes lines other → one ≡ record other { zone = one.zone }
+one_scheme lines one other first second = lead_alike second.front first.front second.rest first.rest first_stage first_stage other one (None, tt, refl) (sym second.split ∙ first.split) second.lead first.lead
+
+-- a draft and a scheme are no one stage
+no_stage : (draft : DraftValue) (used : Bool) (sc : SchemeValue) (s : System) → Drafting draft used ≡ Running sc s → ⊥
+no_stage draft used sc s e = absurd (let x = e in cc)
+
+-- where one lead of lines comes to a draft, and another to a scheme, the other goes on from a draft that agrees
+pub record GoesBehind (draft : DraftValue) (used : Bool) (left after : List Line) (sc : SchemeValue) : Type 0 where
+  pub rest : List SchemeLine
+  pub clock : Option Zone
+  pub same : SameZones draft.zone clock
+  pub left_is : left ≡ map Setup rest ++ after
+  pub lead : LeadTo (Drafting (record draft { zone = clock }) used) rest (Running sc (start sc))
+
+goes_behind : (front more : List SchemeLine) (left after : List Line) (stage other : Stage) (draft : DraftValue) (used : Bool) (sc : SchemeValue) → AgreesOn stage other → map Setup front ++ left ≡ map Setup more ++ after → LeadTo stage front (Drafting draft used) → LeadTo other more (Running sc (start sc)) → GoesBehind draft used left after sc
+goes_behind [] more left after (Running begun s) other draft used sc agrees same first second = absurd (no_stage draft used begun s (sym first))
+goes_behind (f ∷ front) more left after (Running begun s) other draft used sc agrees same first second = absurd first
+goes_behind [] more left after (Drafting was before) other draft used sc agrees same first second =
+    let there : AgreesOn (Drafting draft used) other = subst (λ t. AgreesOn t other) first agrees in
+    record { rest = more; clock = there.0; same = there.1; left_is = same; lead = subst (λ t. LeadTo t more (Running sc (start sc))) there.2 second }
+goes_behind (f ∷ front) [] left after (Drafting was before) other draft used sc agrees same first second = absurd (no_stage (record was { zone = agrees.0 }) before sc (start sc) (sym agrees.2 ∙ second))
+goes_behind (f ∷ front) (m ∷ more) left after (Drafting was before) other draft used sc agrees same first second =
+    let lines = lines_same f m front more left after same in
+    let theirs = subst (λ t. LeadTo t (m ∷ more) (Running sc (start sc))) agrees.2 second in
+    let agree : Agree (first.0, Done) (theirs.0, Done) = both_set_up was before agrees.0 f (first.0, Done) (theirs.0, Done) agrees.1 first.1 (subst (λ l. SetsUp (record was { zone = agrees.0 }) before l (theirs.0, Done)) (sym lines.0) theirs.1) in
+    goes_behind front more left after first.0 theirs.0 draft used sc agree.0 lines.1 first.2 theirs.2
+
+behind_drafted : (lines left : List Line) (draft : DraftValue) (used : Bool) (sc : SchemeValue) → HaveDrafted lines left draft used → (made : Makes lines sc) → GoesBehind draft used left made.rest sc
+behind_drafted lines left draft used sc drafted made = goes_behind drafted.front made.front left made.rest first_stage first_stage draft used sc (None, tt, refl) (sym drafted.split ∙ made.split) drafted.lead made.lead
+
+first_line : (line m : SchemeLine) (rest more : List Line) → Setup line ∷ rest ≡ Setup m ∷ more → line ≡ m
+first_line line m rest more e = (let one : Setup line ≡ Setup m = cc in cc)
+
+refused_never : (draft : DraftValue) (used : Bool) (clock : Option Zone) (line : SchemeLine) (rest : List Line) (next : Stage) (why : Refusal) (front : List SchemeLine) (after : List Line) (sc : SchemeValue) → SameZones draft.zone clock → SetsUp draft used line (next, Refused why) → Setup line ∷ rest ≡ map Setup front ++ after → LeadTo (Drafting (record draft { zone = clock }) used) front (Running sc (start sc)) → ⊥
+refused_never draft used clock line rest next why [] after sc same refused is lead = no_run (record draft { zone = clock }) used sc lead
+refused_never draft used clock line rest next why (m ∷ front) after sc same refused is lead =
+    let one : line ≡ m = first_line line m rest (map Setup front ++ after) is in
+    let agree : Agree (next, Refused why) (lead.0, Done) = both_set_up draft used clock line (next, Refused why) (lead.0, Done) same refused (subst (λ l. SetsUp (record draft { zone = clock }) used l (lead.0, Done)) (sym one) lead.1) in
+    absurd (let e = agree.1 in cc)
+
+lacks_never : (draft : DraftValue) (used : Bool) (left after : List Line) (front : List SchemeLine) (sc : SchemeValue) → IsNoSetup left → left ≡ map Setup front ++ after → LeadTo (Drafting draft used) front (Running sc (start sc)) → ⊥
+lacks_never draft used left after [] sc none is lead = no_run draft used sc lead
+lacks_never draft used left after (m ∷ front) sc none is lead = subst IsNoSetup is none
+
+-- lines that make no scheme make none
+pub none_made : (lines : List Line) (sc : SchemeValue) (fault : SchemeFault) → MakesNone lines fault → ¬ (fault ≡ scheme_fault.Memory) → ¬ Makes lines sc
+none_made lines sc (scheme_fault.Refused why) none known made =
+    let behind = behind_drafted lines (Setup none.line ∷ none.rest) none.draft none.used sc none.drafted made in
+    refused_never none.draft none.used behind.clock none.line none.rest none.next why behind.rest made.rest sc behind.same none.refused behind.left_is behind.lead
+none_made lines sc scheme_fault.NoScheme none known made =
+    let behind = behind_drafted lines none.rest none.draft none.used sc none.drafted made in
+    lacks_never (record none.draft { zone = behind.clock }) none.used none.rest made.rest behind.rest sc none.no_setup behind.left_is behind.lead
+none_made lines sc scheme_fault.Memory none known made = known refl

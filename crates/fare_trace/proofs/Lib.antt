@@ -3,3 +3,5 @@ pub mod Clocks
 pub mod Stores
 pub mod Progress
 pub mod SchemeLines
+pub mod Zones
+pub mod Drafted

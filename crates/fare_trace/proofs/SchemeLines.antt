@@ -22,7 +22,7 @@ use Rattle.fare_trace.specs.Answers.{Stage, Drafting, Running, SetsUp, Sets, Set
 use Rattle.fare_trace.specs.Schemes.{HaveDrafted, IsNoSetup, Lacks, LeadTo, Makes, Refuses}
 
 -- WHAT IS NOT REFUSED IS DONE
-abbrev NotRefused : Reply → Type 0
+abbrev pub NotRefused : Reply → Type 0
 NotRefused said = (why : Refusal) → said ≡ reply.Refused why → ⊥
 
 said_is : (next : Stage) (said : Reply) (answer : Stage × Reply) → (let answered : Stage × Reply = (next, said) in answered ≡ answer) → said ≡ answer.1
@@ -49,7 +49,7 @@ demo_done draft true r demo next said h never = absurd (never Taken (said_is nex
 demo_done draft false (Some fault) demo next said h never = absurd (never Range (said_is next said _ h))
 demo_done draft false None demo next said h never = said_is next said _ h.2
 
-said_done : (draft : DraftValue) (used : Bool) (line : SchemeLine) (next : Stage) (said : Reply) → SetsUp draft used line (next, said) → NotRefused said → said ≡ reply.Done
+pub said_done : (draft : DraftValue) (used : Bool) (line : SchemeLine) (next : Stage) (said : Reply) → SetsUp draft used line (next, said) → NotRefused said → said ≡ reply.Done
 said_done draft used (scheme.Owner owner lane) next said h never = entered_done draft _ used _ next said h never
 said_done draft used (scheme.Operator operator) next said h never = entered_done draft _ used _ next said h never
 said_done draft used (scheme.Station station operator) next said h never = entered_done draft _ used _ next said h never

@@ -1,5 +1,7 @@
 -- The scheme that lines make.
-use Rattle.std.specs.Prelude.{◌≡◌, Bool, List, [], ◌∷◌, ◌++◌, map}
+use Rattle.std.specs.Prelude.{◌≡◌, ℕ, Bool, List, [], ◌∷◌, ◌++◌, map, Option, Some, None}
+use Rattle.fare_day.specs.declared.zone.Zone.{Zone}
+use Rattle.fare_day.specs.Clock.{HasRule}
 use Rattle.fare_scheme.specs.Values.{DraftValue, SchemeValue}
 use Rattle.fare_world.specs.System.{start}
 use Rattle.fare_event.specs.declared.reply.Reply.TheVariants as reply
@@ -7,6 +9,7 @@ use Rattle.fare_event.specs.declared.reply.Refusal.{Refusal}
 use Rattle.fare_lines.specs.declared.line.Line.{Line}
 use Rattle.fare_lines.specs.declared.line.Line.TheVariants.{Setup, Step}
 use Rattle.fare_lines.specs.declared.line.SchemeLine.{SchemeLine}
+use Rattle.fare_lines.specs.declared.line.SchemeLine.TheVariants as scheme
 use Rattle.fare_trace.specs.Answers.{Stage, Drafting, Running, first_stage, SetsUp}
 use Rattle.fare_trace.specs.declared.schemes.SchemeFault.{SchemeFault}
 use Rattle.fare_trace.specs.declared.schemes.SchemeFault.TheVariants.{Refused, NoScheme, Memory}
@@ -58,3 +61,16 @@ abbrev pub MakesNone : List Line → SchemeFault → Type 0
 MakesNone lines (Refused why) = Refuses lines why
 MakesNone lines NoScheme = Lacks lines
 MakesNone lines Memory = Unit {0}
+
+-- CLOCKS
+-- a draft has a clock that goes by the rule, or it has neither
+abbrev pub HasZone : Option Zone → Option (List ℕ) → Type 0
+HasZone None None = Unit {0}
+HasZone (Some clock) (Some rule) = HasRule clock rule
+HasZone None (Some rule) = ⊥
+HasZone (Some clock) None = ⊥
+
+-- the rule of a draft's clock after a line was taken
+abbrev pub zone_after : SchemeLine → Option (List ℕ) → Option (List ℕ)
+zone_after (scheme.Zone rule) before = Some rule
+zone_after line before = before

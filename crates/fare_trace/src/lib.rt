@@ -13,4 +13,4 @@ mod sql_run;
 
 pub use answers::{StoreKind, answer_text};
 pub use running::RunFault;
-pub use schemes::{SchemeFault, scheme_of};
+pub use schemes::{SchemeFault, ZonedScheme, scheme_of, zoned_scheme_of};

@@ -1,6 +1,0 @@
-use Rattle.std.proofs.Common.{drop}
-use Rattle.fare_trace.specs.Schemes.{HaveDrafted}
-use Rattle.fare_trace.proofs.schemes.scheme_of.Given as goal
-
-abbrev pub invariant-loop-line : goal.invariant-loop-line
-invariant-loop-line l = HaveDrafted l.lines (drop l.line-index l.lines) l.draft l.used
