@@ -1,0 +1,3 @@
+pub mod Names
+pub mod Moved
+pub mod Holds
