@@ -23,8 +23,6 @@ mod first_format;
 #[cfg(test)]
 mod hub_stops;
 #[cfg(test)]
-mod kept;
-#[cfg(test)]
 mod layout;
 #[cfg(test)]
 mod ledger_tables;

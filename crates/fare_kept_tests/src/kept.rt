@@ -1,20 +1,24 @@
 use crate::checking::same;
-use crate::raising::number;
-use crate::stops::{burning, reopened};
+use crate::disks::{burning, reopened};
 use fare_kept::{kept_lists, open_kept};
 use fare_lists::{List, lists_fit, read_lists, replace_lists};
-use fare_outbox::SqlOutbox;
+use fare_outbox::{OutboxDesign, SqlOutbox};
 use fare_store::Fault;
 use sqlite::{Alter, Connection, MemStore};
 use sqlite_trees::store::Reopen;
 use std::alloc::Global;
+
+/// The number that a question answers.
+pub(crate) fn number<S: Alter>(conn: &mut Connection<S>, question: &str) -> Option<i64> {
+    conn.query_row(question, &[]).ok()?.get(0).ok()
+}
 
 // The lists that the tables hold, where they can be told as numbers, of a database in which they stand or are made.
 fn kept_in<S: Alter>(alloc: Global, conn: &mut Connection<S>) -> Option<Option<Vec<List>>> {
     if !conn.is_autocommit() {
         return None;
     }
-    let Ok(Some(opened)) = open_kept(alloc, conn) else {
+    let Ok(Some(opened)) = open_kept::<OutboxDesign, S>(alloc, conn) else {
         return None;
     };
     let site = opened.into_site();
