@@ -49,8 +49,8 @@ fn lines_at<S: Alter>(
     }
 }
 
-/// The lines of the scheme that is kept in a database, if one is. They are those that `fare_setup::setup_lines` gives of it.
-/// Nothing is made.
+/// The lines that are kept in a database, if something is. Where a scheme is kept they are those that `fare_setup::setup_lines`
+/// gives of it; that the lines make a scheme isn't asked. Nothing is made.
 ///
 /// `Unreadable` where what is kept is not of lines; `Memory` where there was none, and `Store` where the database failed.
 pub fn kept_lines<S: Alter>(
