@@ -3,11 +3,15 @@ use Rattle.std.specs.Prelude.{◌≡◌, ◌≢◌, ◌<◌, ◌⊎◌, ℕ, len
 use Rattle.std.specs.List.{AllByRecursion}
 use Rattle.sqlite.specs.Effect.{Database, IsDatabase}
 use Rattle.sqlite.specs.Table.{Table}
+use Rattle.sqlite.specs.State.{State}
 use Rattle.sqlite.specs.Tree.{Trees}
 use Rattle.fare_layout.specs.declared.place.TableNumber.{TableNumber}
 use Rattle.fare_layout.specs.Growing.{GrowsBy, HasNone}
 use Rattle.fare_layout.specs.Places.{all_of}
 use Rattle.fare_opening.specs.declared.site.Site.{Site}
+use Rattle.fare_opening.specs.Beside.{IsBeside}
+use Rattle.fare_opening.specs.Making.{Makes}
+use Rattle.fare_opening.specs.Opening.{IsVacant, StandsAt}
 use Rattle.fare_opening.specs.Parts.{Parts, OlderParts, parts_of}
 use Rattle.fare_opening.specs.Sites.{IsSite, tree_at, rows_at}
 use Rattle.fare_kept.specs.Statements.{kept_parts}
@@ -30,6 +34,10 @@ pub record LeavesStore (d : Parts) (old new : Database) : Type 0 where
 -- these are the trees of such a database
 abbrev pub LeavesIn : Parts → Database → Trees → Type 0
 LeavesIn d old trees = (db : Database) × LeavesStore d old db × (trees ≡ db.trees)
+
+-- the kept tables don't stand in a database, nor could they be made there, beside this store as it is
+abbrev pub HasNoRoom : Parts → State → Type 0
+HasNoRoom d old = ((w : Site) → StandsAt kept_parts 0 old w → ¬ IsBeside d old.now.schema w) × (IsVacant kept_parts old → (w : Site) → Makes kept_parts old.now.schema w → ¬ IsBeside d old.now.schema w)
 
 -- TABLES
 -- a tree is of none of the kept tables that hold entries

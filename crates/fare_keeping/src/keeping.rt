@@ -1,4 +1,4 @@
-ghost use Rattle.std.specs.Prelude.{◌≡◌, ◌↔◌, ℕ, List, Err, true, false, IsTrue, IfErr, OnOk, OnErr};
+ghost use Rattle.std.specs.Prelude.{◌≡◌, ◌≢◌, ◌↔◌, ℕ, List, Err, true, false, IsTrue, IfErr, OnOk, OnErr};
 ghost use Rattle.std.specs.List.{AllZip};
 ghost use Rattle.sqlite.specs.State.{HasCleanDisk, Survives};
 ghost use Rattle.sqlite.specs.Held.{state};
@@ -8,7 +8,7 @@ ghost use Rattle.fare_opening.specs.Sites.{IsSite};
 ghost use Rattle.fare_lists.specs.Lists.{told};
 ghost use Rattle.fare_kept.specs.Statements.{kept_parts};
 ghost use Rattle.fare_keeping.specs.Keeping.{AreEmpty, AreLawfulRows, AreWideLists, HoldLists, HoldThoseThatMayFollow, IsLawful, IsRefusal, KeepsJust, ListsMayFollow, ListsSay, MayFollow, SaysAt, SaysOf};
-ghost use Rattle.fare_keeping.specs.Leaving.{LeavesIn, LeavesOthers, LeavesOthersIn, LeavesStore};
+ghost use Rattle.fare_keeping.specs.Leaving.{HasNoRoom, LeavesIn, LeavesOthers, LeavesOthersIn, LeavesStore};
 
 use crate::KeepFault;
 use crate::telling::scheme_in;
@@ -86,6 +86,7 @@ fn keep_at<S: Alter>(
     ensures put { IsLive (state S.Store conn.new) → IsAtRest site.now.schema (state S.Store conn.old) → AreLawfulRows site.now (state S.Store conn.old).now.trees → OnOk result (HoldLists site.now (state S.Store conn.new).now.trees (told given.now) × AreLawfulRows site.now (state S.Store conn.new).now.trees) }
     ensures follows { IsLive (state S.Store conn.new) → IsAtRest site.now.schema (state S.Store conn.old) → AreLawfulRows site.now (state S.Store conn.old).now.trees → OnOk result (HoldThoseThatMayFollow site.now (state S.Store conn.old).now.trees scheme.now) }
     ensures says { IsLive (state S.Store conn.new) → IsAtRest site.now.schema (state S.Store conn.old) → AreLawfulRows site.now (state S.Store conn.old).now.trees → IfErr result (SaysAt site.now (state S.Store conn.old).now.trees scheme.now) }
+    ensures ours { IfErr result (λ fault. fault ≢ KeepFault.Foreign) }
     ensures leaves { IsLive (state S.Store conn.new) → IsAtRest site.now.schema (state S.Store conn.old) → OnOk result (LeavesOthers site.now (state S.Store conn.old).now (state S.Store conn.new).now × ((state S.Store conn.new).now ≡ (state S.Store conn.new).committed)) }
     ensures same { IsLive (state S.Store conn.new) → IsAtRest site.now.schema (state S.Store conn.old) → OnErr result (SameRows (state S.Store conn.old) (state S.Store conn.new)) }
     ensures crash { Survives (state S.Store conn.old) (state S.Store conn.new) (λ trees. IsAtRest site.now.schema (state S.Store conn.old) → LeavesOthersIn site.now (state S.Store conn.old).now trees) }
@@ -113,6 +114,7 @@ fn keep_settled<E: Design, S: Alter>(
     ensures follows { IsLive (state S.Store conn.new) → IsLawful (state S.Store conn.old).now → OnOk result (MayFollow (state S.Store conn.old).now scheme.now) }
     ensures says { IsLive (state S.Store conn.new) → IsLawful (state S.Store conn.old).now → IfErr result (SaysOf (state S.Store conn.old).now scheme.now) }
     ensures refused { IsLive (state S.Store conn.new) → IsLawful (state S.Store conn.old).now → IfErr result (λ fault. IsRefusal fault → SameRows (state S.Store conn.old) (state S.Store conn.new)) }
+    ensures foreign { HasCleanDisk (state S.Store conn.new) → IfErr result (λ fault. fault ≡ KeepFault.Foreign → HasNoRoom E.parts (state S.Store conn.old)) }
     ensures leaves { IsLive (state S.Store conn.new) → LeavesStore E.parts (state S.Store conn.old).now (state S.Store conn.new).now }
     ensures settled { IsLive (state S.Store conn.new) → (state S.Store conn.new).now ≡ (state S.Store conn.new).committed }
     ensures crash { Survives (state S.Store conn.old) (state S.Store conn.new) (LeavesIn E.parts (state S.Store conn.old).now) }
@@ -146,6 +148,7 @@ pub fn keep_scheme<E: Design, S: Alter>(
     ensures follows { IsLive (state S.Store conn.new) → IsLawful (state S.Store conn.old).now → OnOk result (MayFollow (state S.Store conn.old).now scheme.now) }
     ensures says { IsLive (state S.Store conn.new) → IsLawful (state S.Store conn.old).now → IfErr result (SaysOf (state S.Store conn.old).now scheme.now) }
     ensures refused { IsLive (state S.Store conn.new) → IsLawful (state S.Store conn.old).now → IfErr result (λ fault. IsRefusal fault → SameRows (state S.Store conn.old) (state S.Store conn.new)) }
+    ensures foreign { HasCleanDisk (state S.Store conn.new) → IfErr result (λ fault. fault ≡ KeepFault.Foreign → HasNoRoom E.parts (state S.Store conn.old)) }
     ensures leaves { IsLive (state S.Store conn.new) → LeavesStore E.parts (state S.Store conn.old).now (state S.Store conn.new).now }
     ensures settled { IsLive (state S.Store conn.new) → conn.old.in_transaction ≡ false → (state S.Store conn.new).now ≡ (state S.Store conn.new).committed }
     ensures crash { Survives (state S.Store conn.old) (state S.Store conn.new) (LeavesIn E.parts (state S.Store conn.old).now) }

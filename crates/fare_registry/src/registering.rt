@@ -2,7 +2,9 @@ ghost use Rattle.std.specs.Prelude.{◌≡◌, Err, true, false, IsTrue, IfErr, 
 ghost use Rattle.sqlite.specs.State.{HasCleanDisk};
 ghost use Rattle.sqlite.specs.Held.{state};
 ghost use Rattle.fare_tables.specs.Asking.{IsLive, SameRows};
+ghost use Rattle.fare_outbox.specs.Statements.{outbox_parts};
 ghost use Rattle.fare_keeping.specs.Keeping.{IsLawful, IsRefusal, KeepsJust, MayFollow, SaysOf};
+ghost use Rattle.fare_keeping.specs.Leaving.{HasNoRoom};
 ghost use Rattle.fare_registry.specs.Still.{HoldsStill};
 
 use fare_keeping::{KeepFault, keep_scheme};
@@ -25,6 +27,7 @@ pub fn register_scheme<S: Alter>(
     ensures follows { IsLive (state S.Store conn.new) → IsLawful (state S.Store conn.old).now → OnOk result (MayFollow (state S.Store conn.old).now scheme.now) }
     ensures says { IsLive (state S.Store conn.new) → IsLawful (state S.Store conn.old).now → IfErr result (SaysOf (state S.Store conn.old).now scheme.now) }
     ensures refused { IsLive (state S.Store conn.new) → IsLawful (state S.Store conn.old).now → IfErr result (λ fault. IsRefusal fault → SameRows (state S.Store conn.old) (state S.Store conn.new)) }
+    ensures foreign { HasCleanDisk (state S.Store conn.new) → IfErr result (λ fault. fault ≡ KeepFault.Foreign → HasNoRoom outbox_parts (state S.Store conn.old)) }
     ensures still { HoldsStill (state S.Store conn.old) (state S.Store conn.new) }
     ensures live { IsLive (state S.Store conn.new) → IsLive (state S.Store conn.old) }
     ensures up { HasCleanDisk (state S.Store conn.new) → IsTrue (state S.Store conn.old).is_open → OnOk result (IsTrue (state S.Store conn.new).is_open) }
