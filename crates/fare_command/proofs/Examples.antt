@@ -81,6 +81,10 @@ scheme_of_stores : fault_of hub_app (codes "stand" ∷ codes "--outbox" ∷ code
 unfolding clap_on_literals
 scheme_of_stores = refl
 
+scheme_of_input : fault_of hub_app (codes "stand" ∷ codes "--outbox" ∷ codes "x" ∷ codes "--scheme" ∷ codes "-" ∷ []) ≡ []
+unfolding clap_on_literals
+scheme_of_input = refl
+
 bill : fault_of hub_app (codes "bill" ∷ codes "--outbox" ∷ codes "x" ∷ codes "--owner" ∷ codes "65535" ∷ codes "--day" ∷ codes "0" ∷ []) ≡ []
 unfolding clap_on_literals
 bill = refl
@@ -112,3 +116,15 @@ no_before = refl
 no_stores : fault_of hub_app (codes "close" ∷ []) ≡ kind.MissingRequiredArgument ∷ []
 unfolding clap_on_literals
 no_stores = refl
+
+kept : fault_of hub_app (codes "scheme" ∷ codes "--outbox" ∷ codes "x" ∷ []) ≡ []
+unfolding clap_on_literals
+kept = refl
+
+kept_nowhere : fault_of hub_app (codes "scheme" ∷ []) ≡ kind.MissingRequiredArgument ∷ []
+unfolding clap_on_literals
+kept_nowhere = refl
+
+kept_with_scheme : fault_of hub_app (codes "scheme" ∷ codes "--outbox" ∷ codes "x" ∷ codes "--scheme" ∷ codes "y" ∷ []) ≡ kind.UnknownArgument ∷ []
+unfolding clap_on_literals
+kept_with_scheme = refl

@@ -2,7 +2,8 @@
 -- `serve [--port PORT] [--turns TURNS] --outbox PATH [--scheme FILE] [--read-ms MILLIS] [--write-ms MILLIS] [--rounds N] [--until FILE] [--patience N] [--round-ms MILLIS] [--ask PORT]`;
 -- and of the stores at a path `close --outbox PATH [--scheme FILE]`, `bill --outbox PATH [--scheme FILE] --owner O --day D`,
 -- `settle` with the same words, `stand --outbox PATH [--scheme FILE]`,
--- `retire --outbox PATH [--scheme FILE] --owner O --device D`, and `forget --outbox PATH [--scheme FILE] --before D`.
+-- `retire --outbox PATH [--scheme FILE] --owner O --device D`, and `forget --outbox PATH [--scheme FILE] --before D`;
+-- and of what is kept beside an outbox `scheme --outbox PATH`.
 use Rattle.std.specs.Prelude.{◌≡◌, Some, false, true, codes, pos}
 use Rattle.clap.specs.Words.{App, Rule, Text, app_of, new_app, new_rule, with_rule, with_subcommand}
 use Rattle.clap.specs.declared.builder.command.Command.{Command}
@@ -106,6 +107,11 @@ lane_app name = with_rule (with_rule (stores_app name) owner_rule) device_rule
 abbrev pub days_app : Text → App
 days_app name = with_rule (stores_app name) (day_rule (codes "before"))
 
+-- A KEPT SCHEME
+-- beside an outbox
+abbrev pub scheme_app : App
+scheme_app = with_rule (new_app (codes "scheme")) outbox_rule
+
 -- ALL
 -- the words are those after the program's name, one is a subcommand, and there is a version
 abbrev pub base_app : App
@@ -125,5 +131,8 @@ standing_app = with_subcommand (with_subcommand asking_app (day_app (codes "sett
 abbrev pub ordering_app : App
 ordering_app = with_subcommand standing_app (lane_app (codes "retire")).top
 
+abbrev pub letting_app : App
+letting_app = with_subcommand ordering_app (days_app (codes "forget")).top
+
 abbrev pub hub_app : App
-hub_app = with_subcommand ordering_app (days_app (codes "forget")).top
+hub_app = with_subcommand letting_app scheme_app.top

@@ -1,5 +1,5 @@
 -- The job that clap's matches of the words say, and why there is none.
-use Rattle.std.specs.Prelude.{◌≡◌, ℕ, ◌≤◌, List, [], Option, Some, None, true, false, codes, Bool, ◌⊎◌, Ok, option_map}
+use Rattle.std.specs.Prelude.{◌≡◌, ◌≢◌, ℕ, ◌≤◌, List, [], Option, Some, None, true, false, codes, Bool, ◌⊎◌, Ok, option_map}
 use Rattle.std.specs.Str.Parse.{ParsesUnsigned}
 use Rattle.clap.specs.Faults.{fault_of}
 use Rattle.clap.specs.Kinds.{IsAmong}
@@ -9,9 +9,11 @@ use Rattle.clap.specs.declared.error.kind.ErrorKind.TheVariants.{DisplayHelp, Di
 use Rattle.fare_record.specs.Limits.{IsDay, IsDeviceId, IsOwnerId}
 use Rattle.fare_command.specs.CommandLine.{hub_app}
 use Rattle.fare_command.specs.declared.words.Job.{Job}
-use Rattle.fare_command.specs.declared.words.Job.TheVariants.{Replay, Serve, Ask}
+use Rattle.fare_command.specs.declared.words.Job.TheVariants.{Replay, Serve, Ask, Scheme}
 use Rattle.fare_command.specs.declared.words.Question.{Question}
 use Rattle.fare_command.specs.declared.words.Question.TheVariants.{Close, Bill, Settle, Stand, Retire, Forget}
+use Rattle.fare_command.specs.declared.words.SchemeSource.{SchemeSource}
+use Rattle.fare_command.specs.declared.words.SchemeSource.TheVariants.{Unsaid, Input, File}
 use Rattle.fare_command.specs.declared.words.WordsFault.{WordsFault}
 use Rattle.fare_command.specs.declared.words.WordsFault.TheVariants.{Asked, Refused, Memory}
 
@@ -50,6 +52,12 @@ abbrev pub usual_rounds : Option Text → ℕ
 usual_rounds None = 1
 usual_rounds (Some file) = 4294967295
 
+-- what an option's text says of where the scheme comes from
+abbrev pub IsSource : Option Text → SchemeSource → Type 0
+IsSource given Unsaid = given ≡ None
+IsSource given Input = given ≡ Some (codes "-")
+IsSource given (File path) = (given ≡ Some path.now) × (path.now ≢ codes "-")
+
 -- an owner, a day and a device that the texts of options say
 abbrev pub IsOwnerIn : List Row → ℕ → Type 0
 IsOwnerIn rows owner = IsNumber 16 (first_of (codes "owner") rows) owner × IsOwnerId owner
@@ -75,7 +83,7 @@ JobIn name rows (Replay sql) = (name ≡ codes "replay") × IsStore (first_of (c
 JobIn name rows (Serve port turns path scheme read_millis write_millis rounds until patience round_millis ask) = (name ≡ codes "serve")
     × IsPort (first_of (codes "port") rows) port × IsGiven 1000000000 2000 (first_of (codes "turns") rows) turns
     × (first_of (codes "outbox") rows ≡ Some path.now)
-    × (option_map (λ file. file.now) scheme ≡ first_of (codes "scheme") rows)
+    × IsSource (first_of (codes "scheme") rows) scheme
     × IsMillis 5 (first_of (codes "read-ms") rows) read_millis × IsMillis 1000 (first_of (codes "write-ms") rows) write_millis
     × IsGiven 4294967295 (usual_rounds (first_of (codes "until") rows)) (first_of (codes "rounds") rows) rounds
     × (option_map (λ file. file.now) until ≡ first_of (codes "until") rows)
@@ -83,7 +91,8 @@ JobIn name rows (Serve port turns path scheme read_millis write_millis rounds un
     × IsMillis 1000 (first_of (codes "round-ms") rows) round_millis
     × IsAskPort (first_of (codes "ask") rows) ask
 JobIn name rows (Ask path scheme question) = (first_of (codes "outbox") rows ≡ Some path.now)
-    × (option_map (λ file. file.now) scheme ≡ first_of (codes "scheme") rows) × IsQuestion name rows question
+    × IsSource (first_of (codes "scheme") rows) scheme × IsQuestion name rows question
+JobIn name rows (Scheme path) = (name ≡ codes "scheme") × (first_of (codes "outbox") rows ≡ Some path.now)
 
 -- the job of the matches of the words
 abbrev pub JobOf : Option (Text × List Row) → Job → Type 0

@@ -1,6 +1,6 @@
 ghost use Rattle.std.specs.Prelude.{◌≡◌, IfOk, false, codes};
 ghost use Rattle.clap.specs.Words.{App, app_of, rule_of, with_subcommand};
-ghost use Rattle.fare_command.specs.CommandLine.{IsMade, ask_rule, asking_app, base_app, day_app, day_rule, device_rule, hub_app, days_app, lane_app, ordering_app, lasting_serve_app, outbox_rule, owner_rule, patience_rule, plain_serve_app, port_rule, read_rule, replay_app, round_rule, rounds_rule, running_app, scheme_rule, serve_app, standing_app, store_rule, stores_app, turns_rule, until_rule, waiting_serve_app, write_rule};
+ghost use Rattle.fare_command.specs.CommandLine.{IsMade, ask_rule, asking_app, base_app, day_app, day_rule, device_rule, hub_app, days_app, lane_app, letting_app, ordering_app, lasting_serve_app, outbox_rule, owner_rule, patience_rule, plain_serve_app, port_rule, read_rule, replay_app, round_rule, rounds_rule, running_app, scheme_app, scheme_rule, serve_app, standing_app, store_rule, stores_app, turns_rule, until_rule, waiting_serve_app, write_rule};
 
 use clap::{Arg, ArgAction, Command};
 use std::alloc::{AllocError, Global};
@@ -69,7 +69,9 @@ fn scheme_arg<'a>(alloc: Global) -> Arg<'a>
         .long("scheme")
         .value_name("FILE")
         .action(ArgAction::Set)
-        .help("The file of the scheme's lines (standard input if not given)")
+        .help(
+            "The file of the scheme's lines, or - for standard input (if not given: standard input, or the kept scheme where that is empty)",
+        )
 }
 
 /// `--read-ms MILLIS`
@@ -221,9 +223,7 @@ fn plain_serve_command<'a>(alloc: Global) -> Result<Command<'a>, AllocError>
     ensures { IfOk result (IsMade plain_serve_app) }
 {
     Command::new(alloc, "serve")
-        .about(
-            "Reads a scheme, collects what its stations send over sockets, and serves the owners",
-        )
+        .about("Collects what the stations of a scheme send over sockets, and serves the owners")
         .arg(port_arg(alloc))?
         .arg(turns_arg(alloc))?
         .arg(outbox_arg(alloc))?
@@ -298,6 +298,15 @@ fn days_command<'a>(alloc: Global, name: &'a str, about: &'a str) -> Result<Comm
     stores_command(alloc, name, about)?.arg(day_arg(alloc, "before", help))
 }
 
+/// What is kept of a scheme beside an outbox.
+fn scheme_command<'a>(alloc: Global) -> Result<Command<'a>, AllocError>
+    ensures { IfOk result (IsMade scheme_app) }
+{
+    Command::new(alloc, "scheme")
+        .about("Writes the scheme that is kept beside an outbox, as the lines that make it")
+        .arg(outbox_arg(alloc))
+}
+
 /// The program, with no subcommand yet.
 fn base_command<'a>(alloc: Global) -> Result<Command<'a>, AllocError>
     ensures { IfOk result (IsMade base_app) }
@@ -339,7 +348,7 @@ fn running_command<'a>(alloc: Global) -> Result<Command<'a>, AllocError>
 fn with_close<'a>(alloc: Global) -> Result<Command<'a>, AllocError>
     ensures { IfOk result (IsMade (with_subcommand running_app (stores_app (codes "close")).top)) }
 {
-    let about = "Reads a scheme, and closes all days of its owners' ledgers that can be closed";
+    let about = "Closes all days of the owners' ledgers that can be closed";
     joined(
         running_command(alloc),
         stores_command(alloc, "close", about),
@@ -350,7 +359,7 @@ fn with_close<'a>(alloc: Global) -> Result<Command<'a>, AllocError>
 fn asking_command<'a>(alloc: Global) -> Result<Command<'a>, AllocError>
     ensures { IfOk result (IsMade asking_app) }
 {
-    let about = "Reads a scheme, and writes an owner's bill of a day";
+    let about = "Writes an owner's bill of a day";
     joined(with_close(alloc), day_command(alloc, "bill", about))
 }
 
@@ -358,7 +367,7 @@ fn asking_command<'a>(alloc: Global) -> Result<Command<'a>, AllocError>
 fn with_settle<'a>(alloc: Global) -> Result<Command<'a>, AllocError>
     ensures { IfOk result (IsMade (with_subcommand asking_app (day_app (codes "settle")).top)) }
 {
-    let about = "Reads a scheme, and writes what each operator gets of an owner's bill of a day";
+    let about = "Writes what each operator gets of an owner's bill of a day";
     joined(asking_command(alloc), day_command(alloc, "settle", about))
 }
 
@@ -366,7 +375,7 @@ fn with_settle<'a>(alloc: Global) -> Result<Command<'a>, AllocError>
 fn with_stand<'a>(alloc: Global) -> Result<Command<'a>, AllocError>
     ensures { IfOk result (IsMade standing_app) }
 {
-    let about = "Reads a scheme, and writes where each device's lanes stand";
+    let about = "Writes where each device's lanes stand";
     joined(with_settle(alloc), stores_command(alloc, "stand", about))
 }
 
@@ -374,18 +383,24 @@ fn with_stand<'a>(alloc: Global) -> Result<Command<'a>, AllocError>
 fn ordering_command<'a>(alloc: Global) -> Result<Command<'a>, AllocError>
     ensures { IfOk result (IsMade ordering_app) }
 {
-    let about = "Reads a scheme, and ends an owner's lane of a device, for good";
+    let about = "Ends an owner's lane of a device, for good";
     joined(with_stand(alloc), lane_command(alloc, "retire", about))
 }
 
-/// The command line of the program.
-pub fn hub_command<'a>(alloc: Global) -> Result<Command<'a>, AllocError>
-    ensures { IfOk result (λ c. app_of c ≡ hub_app) }
+/// And with `forget`.
+fn letting_command<'a>(alloc: Global) -> Result<Command<'a>, AllocError>
+    ensures { IfOk result (IsMade letting_app) }
 {
-    let about =
-        "Reads a scheme, and lets go what the owners' ledgers hold of closed weeks before a day's";
+    let about = "Lets go what the owners' ledgers hold of closed weeks before a day's";
     joined(
         ordering_command(alloc),
         days_command(alloc, "forget", about),
     )
+}
+
+/// The command line of the program: and with `scheme`.
+pub fn hub_command<'a>(alloc: Global) -> Result<Command<'a>, AllocError>
+    ensures { IfOk result (λ c. app_of c ≡ hub_app) }
+{
+    joined(letting_command(alloc), scheme_command(alloc))
 }

@@ -6,4 +6,4 @@
 mod command;
 mod words;
 
-pub use words::{Job, Question, WordsFault, read_words};
+pub use words::{Job, Question, SchemeSource, WordsFault, read_words};

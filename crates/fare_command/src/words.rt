@@ -2,7 +2,7 @@ ghost use Rattle.std.specs.Prelude.{◌≡◌, ℕ, Bool, None, Option, IfOk, If
 ghost use Rattle.clap.specs.Words.{rows_of, found_of, first_of, subcommand_of, subcommand_rows_of};
 ghost use Rattle.clap.specs.Values.{kind_of};
 ghost use Rattle.fare_command.specs.CommandLine.{hub_app};
-ghost use Rattle.fare_command.specs.Jobs.{IsAskPort, IsDayIn, IsDeviceIn, IsGiven, IsOwnerIn, IsPort, IsStore, JobIn, JobOf, RefusedFor, FailsOn, IsSound, Tells};
+ghost use Rattle.fare_command.specs.Jobs.{IsAskPort, IsDayIn, IsDeviceIn, IsGiven, IsOwnerIn, IsPort, IsSource, IsStore, JobIn, JobOf, RefusedFor, FailsOn, IsSound, Tells};
 ghost use Rattle.fare_command.specs.declared.words.WordsFault.TheVariants.{Memory};
 
 use crate::command::hub_command;
@@ -56,6 +56,17 @@ pub enum Question {
     Forget { before: Day },
 }
 
+/// Where a run takes its scheme from.
+#[derive(Clone, Copy, PartialEq, Eq, Debug)]
+pub enum SchemeSource<'a> {
+    /// Nothing is said: from standard input, or, where that is empty, what is kept beside the outbox.
+    Unsaid,
+    /// `-`: from standard input.
+    Input,
+    /// From a file at this path.
+    File(&'a str),
+}
+
 /// What the program is asked to do.
 #[derive(Debug, Drop)]
 pub enum Job<'a> {
@@ -64,15 +75,15 @@ pub enum Job<'a> {
         sql: bool,
     },
     /// Serve stations on a port of 127.0.0.1, for a number of turns, with the outbox's database at a path, for the scheme
-    /// whose lines are in a file, or else on standard input; a read of a line and a write wait so many milliseconds. So
-    /// many rounds, or up to the one in which a file is there; in each the lines are read until none has brought anything
-    /// for so many reads, or so many milliseconds of the round have passed. An operator is answered over HTTP at another
-    /// port of 127.0.0.1, if one is given.
+    /// of a source; a read of a line and a write wait so many milliseconds. So many rounds, or up to the one in which a
+    /// file is there; in each the lines are read until none has brought anything for so many reads, or so many
+    /// milliseconds of the round have passed. An operator is answered over HTTP at another port of 127.0.0.1, if one is
+    /// given.
     Serve {
         port: u16,
         turns: u32,
         path: &'a str,
-        scheme: Option<&'a str>,
+        scheme: SchemeSource<'a>,
         read_millis: u32,
         write_millis: u32,
         rounds: u32,
@@ -81,12 +92,15 @@ pub enum Job<'a> {
         round_millis: u32,
         ask: Option<u16>,
     },
-    /// Ask something of the stores, the outbox's database of which lies at a path, for the scheme whose lines are in a
-    /// file, or else on standard input.
+    /// Ask something of the stores, the outbox's database of which lies at a path, for the scheme of a source.
     Ask {
         path: &'a str,
-        scheme: Option<&'a str>,
+        scheme: SchemeSource<'a>,
         question: Question,
+    },
+    /// Write the scheme that is kept beside the outbox whose database lies at a path, as the lines that make it.
+    Scheme {
+        path: &'a str,
     },
 }
 
@@ -284,6 +298,17 @@ fn path_of<'a>(alloc: Global, matches: &ArgMatches<'a>) -> Result<&'a str, Words
     }
 }
 
+/// Where the scheme comes from.
+fn source_of<'a>(matches: &ArgMatches<'a>) -> SchemeSource<'a>
+    ensures { IsSource (first_of (codes "scheme") (rows_of (found_of matches.now))) result }
+{
+    match text_of(matches, "scheme") {
+        None => SchemeSource::Unsaid,
+        Some("-") => SchemeSource::Input,
+        Some(path) => SchemeSource::File(path),
+    }
+}
+
 /// The job of `replay`.
 fn replay_job<'a>(alloc: Global, matches: &ArgMatches<'a>) -> Result<Job<'a>, WordsFault>
     ensures ok { IfOk result (JobIn (codes "replay") (rows_of (found_of matches.now))) }
@@ -301,7 +326,7 @@ fn serve_job<'a>(alloc: Global, matches: &ArgMatches<'a>) -> Result<Job<'a>, Wor
     let port = port_of(alloc, matches)?;
     let turns = given_of(alloc, matches, "turns", MOST_TURNS, TURNS)?;
     let path = path_of(alloc, matches)?;
-    let scheme = text_of(matches, "scheme");
+    let scheme = source_of(matches);
     let read_millis = given_of(alloc, matches, "read-ms", MOST_MILLIS, READ_MILLIS)?;
     let write_millis = given_of(alloc, matches, "write-ms", MOST_MILLIS, WRITE_MILLIS)?;
     let until = text_of(matches, "until");
@@ -331,7 +356,7 @@ fn bill_job<'a>(alloc: Global, matches: &ArgMatches<'a>) -> Result<Job<'a>, Word
     ensures err { IfErr result (RefusedFor ((job : Job) → JobIn (codes "bill") (rows_of (found_of matches.now)) job → ⊥)) }
 {
     let path = path_of(alloc, matches)?;
-    let scheme = text_of(matches, "scheme");
+    let scheme = source_of(matches);
     let owner = owner_of(alloc, matches)?;
     let day = day_of(alloc, matches, "day")?;
     Ok(Job::Ask {
@@ -347,7 +372,7 @@ fn settle_job<'a>(alloc: Global, matches: &ArgMatches<'a>) -> Result<Job<'a>, Wo
     ensures err { IfErr result (RefusedFor ((job : Job) → JobIn (codes "settle") (rows_of (found_of matches.now)) job → ⊥)) }
 {
     let path = path_of(alloc, matches)?;
-    let scheme = text_of(matches, "scheme");
+    let scheme = source_of(matches);
     let owner = owner_of(alloc, matches)?;
     let day = day_of(alloc, matches, "day")?;
     Ok(Job::Ask {
@@ -363,7 +388,7 @@ fn close_job<'a>(alloc: Global, matches: &ArgMatches<'a>) -> Result<Job<'a>, Wor
     ensures err { IfErr result (RefusedFor ((job : Job) → JobIn (codes "close") (rows_of (found_of matches.now)) job → ⊥)) }
 {
     let path = path_of(alloc, matches)?;
-    let scheme = text_of(matches, "scheme");
+    let scheme = source_of(matches);
     Ok(Job::Ask {
         path,
         scheme,
@@ -377,7 +402,7 @@ fn stand_job<'a>(alloc: Global, matches: &ArgMatches<'a>) -> Result<Job<'a>, Wor
     ensures err { IfErr result (RefusedFor ((job : Job) → JobIn (codes "stand") (rows_of (found_of matches.now)) job → ⊥)) }
 {
     let path = path_of(alloc, matches)?;
-    let scheme = text_of(matches, "scheme");
+    let scheme = source_of(matches);
     Ok(Job::Ask {
         path,
         scheme,
@@ -391,7 +416,7 @@ fn retire_job<'a>(alloc: Global, matches: &ArgMatches<'a>) -> Result<Job<'a>, Wo
     ensures err { IfErr result (RefusedFor ((job : Job) → JobIn (codes "retire") (rows_of (found_of matches.now)) job → ⊥)) }
 {
     let path = path_of(alloc, matches)?;
-    let scheme = text_of(matches, "scheme");
+    let scheme = source_of(matches);
     let owner = owner_of(alloc, matches)?;
     let device = device_of(alloc, matches)?;
     Ok(Job::Ask {
@@ -407,13 +432,22 @@ fn forget_job<'a>(alloc: Global, matches: &ArgMatches<'a>) -> Result<Job<'a>, Wo
     ensures err { IfErr result (RefusedFor ((job : Job) → JobIn (codes "forget") (rows_of (found_of matches.now)) job → ⊥)) }
 {
     let path = path_of(alloc, matches)?;
-    let scheme = text_of(matches, "scheme");
+    let scheme = source_of(matches);
     let before = day_of(alloc, matches, "before")?;
     Ok(Job::Ask {
         path,
         scheme,
         question: Question::Forget { before },
     })
+}
+
+/// The job of `scheme`.
+fn scheme_job<'a>(alloc: Global, matches: &ArgMatches<'a>) -> Result<Job<'a>, WordsFault>
+    ensures ok { IfOk result (JobIn (codes "scheme") (rows_of (found_of matches.now))) }
+    ensures err { IfErr result (RefusedFor ((job : Job) → JobIn (codes "scheme") (rows_of (found_of matches.now)) job → ⊥)) }
+{
+    let path = path_of(alloc, matches)?;
+    Ok(Job::Scheme { path })
 }
 
 /// The job that clap's matches ask for.
@@ -430,9 +464,10 @@ fn job_in<'a>(alloc: Global, matches: &ArgMatches<'a>) -> Result<Job<'a>, WordsF
         Some(("stand", inner)) => stand_job(alloc, inner),
         Some(("retire", inner)) => retire_job(alloc, inner),
         Some(("forget", inner)) => forget_job(alloc, inner),
+        Some(("scheme", inner)) => scheme_job(alloc, inner),
         _ => {
             let text =
-                "error: the command is replay, serve, close, bill, settle, stand, retire or forget\n";
+                "error: the command is replay, serve, close, bill, settle, stand, retire, forget or scheme\n";
             Err(WordsFault::Refused(String::from_str(alloc, text)?))
         }
     }

@@ -1,9 +1,9 @@
-use Rattle.std.proofs.Common.{◌≡◌, codes}
+use Rattle.std.proofs.Common.{◌≡◌}
 use Rattle.std.specs.Prelude.{Result, Ok, Err, IfOk}
 use Rattle.std.specs.declared.alloc.AllocError.{AllocError}
 use Rattle.clap.specs.Words.{App, app_of, with_subcommand}
 use Rattle.clap.specs.declared.builder.command.Command.{Command}
-use Rattle.fare_command.specs.CommandLine.{IsMade, days_app, ordering_app}
+use Rattle.fare_command.specs.CommandLine.{IsMade, letting_app, scheme_app}
 use Rattle.fare_command.proofs.command.hub_command.Goals as goal
 
 -- the command alone
@@ -12,6 +12,4 @@ is_app app (Ok c) made = made.0
 is_app app (Err error) made = tt
 
 pub returns : goal.returns
-returns c =
-    let inner : App = days_app (codes "forget") in
-    is_app (with_subcommand ordering_app inner.top) c.joined.result (c.joined.ensures ordering_app inner c.ordering_command.ensures c.days_command.ensures)
+returns c = is_app (with_subcommand letting_app scheme_app.top) c.joined.result (c.joined.ensures letting_app scheme_app c.letting_command.ensures c.scheme_command.ensures)
