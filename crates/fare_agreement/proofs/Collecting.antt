@@ -1,5 +1,5 @@
 -- What the writer stores keeps agreement.
-use Rattle.std.proofs.Common.{◌≡◌, ℕ, ◌+◌, ◌-◌, ◌≤◌, List, [], ◌∷◌, ◌++◌, take, zero, suc, Some, None, Bool, true, false, refl, sym, ap, ◌∙◌, subst, arith, inl, inr}
+use Rattle.std.proofs.Common.{◌≡◌, ℕ, ◌+◌, ◌-◌, ◌≤◌, List, [], ◌∷◌, ◌++◌, length, take, zero, suc, Some, None, Bool, true, false, refl, sym, ap, ◌∙◌, subst, arith, inl, inr}
 use Rattle.std.specs.Prelude.{slice_get, Option, ◌==◌, if◌then◌else◌, is_some}
 use Rattle.std.specs.List.{AllByRecursion}
 use Rattle.fare_record.specs.Values.{RecordValue, StatementValue}
@@ -9,7 +9,7 @@ use Rattle.fare_record.specs.declared.ack_item.AckItem.TheVariants as ack_item
 use Rattle.fare_record.specs.declared.item.Item.{Item}
 use Rattle.fare_record.specs.declared.item.Item.TheVariants as item
 use Rattle.fare_scheme.specs.Values.{SchemeValue}
-use Rattle.fare_store.specs.Tables.{put, put2}
+use Rattle.fare_store.specs.Tables.{put, put2, put3}
 use Rattle.fare_store.specs.OutboxWords.{OutboxValue, stored, stored_statement}
 use Rattle.fare_store.specs.LedgerWords.{LedgerValue, is_closed}
 use Rattle.fare_world.specs.Knowing.{knows_owner}
@@ -22,11 +22,12 @@ use Rattle.fare_store.proofs.Entries.{if_all, put_all, put_here, put3_here, is_o
 use Rattle.fare_history.proofs.Entries.{list_all-weaken, all-weaken, all-append}
 use Rattle.fare_history.proofs.Judged.{stored_new, stored_old, repeated_is_old, tap_is_new, new_statement, statement_again}
 use Rattle.fare_history.proofs.Counting.{due, counted_on, follows, same_upto}
-use Rattle.fare_agreement.specs.Agreeing.{AreNumberedLists, IsOf, AreCountsOf, LaneAgrees, Agrees}
+use Rattle.fare_agreement.specs.Agreeing.{AreNumberedLists, IsOf, had, AreRowsOf, AreCountsOf, LaneAgrees, IsStranger, Agrees}
 use Rattle.fare_agreement.specs.Growing.{OutboxGrew}
 use Rattle.fare_agreement.specs.Stopping.{IsStored}
-use Rattle.fare_agreement.proofs.LaneSteps.{lane_stored, lane_still}
+use Rattle.fare_agreement.proofs.LaneSteps.{lane_stored}
 use Rattle.fare_agreement.proofs.Numbers.{part_take_next}
+use Rattle.fare_agreement.proofs.Unregistered.{rows_pushed}
 
 -- OUTBOXES THAT GREW
 pub outbox_self : (x : OutboxValue) → OutboxGrew x x
@@ -81,55 +82,70 @@ none_and_some c o none some =
     absurd (cc)
 
 -- ONE ITEM
-module _ (sc : SchemeValue) (lists : ℕ → List RecordValue) (all : AreNumberedLists sc lists) (ls : ℕ → LedgerValue) where
+module _ (sc : SchemeValue) (lists : ℕ → List RecordValue) (all : AreNumberedLists lists) (ls : ℕ → LedgerValue) where
   abbrev with_outbox : OutboxValue → StoresValue
   with_outbox x = record { outbox = x; ledgers = ls }
 
-  -- a lane, by the greatest link of its device and its rows
-  abbrev Lane : ℕ → ℕ → ℕ → (ℕ → Option RecordValue) → Type 0
-  Lane o d upto rows = LaneAgrees (part o (lists d)) (part o (take upto (lists d))) rows ((ls o).taken d) ((ls o).stated d) (is_closed (ls o) d) ((ls o).from d) ((ls o).start + (ls o).closed d) ((ls o).retired d)
+  -- What holds of each lane of some owners, by what the outbox has had of it and its rows, and stays where the lane's next tap is
+  -- stored, stays where any device's next tap is.
+  module _ (Of : ℕ → ℕ → List RecordValue → (ℕ → Option RecordValue) → Type 0) (Among : ℕ → Type 0) (pushed : (o d : ℕ) (arrived : List RecordValue) (rows : ℕ → Option RecordValue) → Of o d arrived rows → (r : RecordValue) → r.lane ≡ length arrived + 1 → Of o d (arrived ++ r ∷ []) (put rows r.lane (Some r)))
+      (x : OutboxValue) (r : RecordValue) (at : IsAt (lists r.device) r.link r) (next : r.link ≡ x.upto r.device + 1) (is : (o d : ℕ) → Among o → Of o d (had lists x o d) (x.rows o d)) where
+    abbrev n : ℕ
+    n = x.upto r.device
+
+    -- a lane, by the greatest link of its device and its rows
+    abbrev Lane : ℕ → ℕ → ℕ → (ℕ → Option RecordValue) → Type 0
+    Lane o d upto rows = Of o d (part o (take upto (lists d))) rows
+
+    here : slice_get (lists r.device) n ≡ Some r
+    here = let place : n ≡ r.link - 1 = omega (arith, next) in ap (slice_get (lists r.device)) place ∙ at.here
+
+    more : (o : ℕ) (b : Bool) → (r.owner == o) ≡ b → part o (take r.link (lists r.device)) ≡ (if b then part o (take n (lists r.device)) ++ r ∷ [] else part o (take n (lists r.device)))
+    more o b e =
+        ap (λ k. part o (take k (lists r.device))) next ∙ part_take_next o n (lists r.device) r here
+        ∙ ap (λ t. if t then part o (take n (lists r.device)) ++ r ∷ [] else part o (take n (lists r.device))) e
+
+    -- its own lane
+    own : Among r.owner → Lane r.owner r.device r.link (put (x.rows r.owner r.device) r.lane (Some r))
+    own among =
+        subst (λ (l : List RecordValue). Of r.owner r.device l (put (x.rows r.owner r.device) r.lane (Some r)))
+        (sym (more r.owner true (is_self r.owner)))
+        (pushed r.owner r.device (part r.owner (take n (lists r.device))) (x.rows r.owner r.device) (is r.owner r.device among) r (all.numbered r.device n r here).lane)
+
+    own_device : Among r.owner → (d : ℕ) (b : Bool) → (d == r.device) ≡ b → Lane r.owner d (if b then r.link else x.upto d) (if b then put (x.rows r.owner r.device) r.lane (Some r) else x.rows r.owner d)
+    own_device among d true e = subst (λ j. Lane r.owner j r.link (put (x.rows r.owner r.device) r.lane (Some r))) (sym (is_one d r.device e)) (own among)
+    own_device among d false e = is r.owner d among
+
+    -- other owners' lanes
+    beside : (o : ℕ) → Among o → (o == r.owner) ≡ false → (d : ℕ) (b : Bool) → (d == r.device) ≡ b → Lane o d (if b then r.link else x.upto d) (x.rows o d)
+    beside o among other d true e = subst (λ j. Lane o j r.link (x.rows o j)) (sym (is_one d r.device e)) (subst (λ (l : List RecordValue). Of o r.device l (x.rows o r.device)) (sym (more o false (other_way o r.owner other))) (is o r.device among))
+    beside o among other d false e = is o d among
+
+    of_owner : (o d : ℕ) → Among o → (b : Bool) → (o == r.owner) ≡ b → Lane o d (put x.upto r.device r.link d) ((if b then put2 (x.rows r.owner) r.device r.lane (Some r) else x.rows o) d)
+    of_owner o d among true e =
+        let same : o ≡ r.owner = is_one o r.owner e in
+        subst (λ j. Lane j d (put x.upto r.device r.link d) (put2 (x.rows r.owner) r.device r.lane (Some r) d)) (sym same) (own_device (subst Among same among) d (d == r.device) refl)
+    of_owner o d among false e = beside o among e d (d == r.device) refl
+
+    lanes_stored : (o d : ℕ) → Among o → Lane o d (put x.upto r.device r.link d) (put3 x.rows r.owner r.device r.lane (Some r) o d)
+    lanes_stored o d among = of_owner o d among (o == r.owner) refl
 
   pub tap_agrees : (x : OutboxValue) (r : RecordValue) → IsAt (lists r.device) r.link r → r.link ≡ x.upto r.device + 1 → Agrees sc lists (record { outbox = x; ledgers = ls }) → Agrees sc lists (record { outbox = stored r x; ledgers = ls })
-  tap_agrees x r at next is = record { lanes = λ o d known. of_owner o d known (o == r.owner) refl; stated = is.stated }
-    where
-      n : ℕ
-      n = x.upto r.device
-
-      here : slice_get (lists r.device) n ≡ Some r
-      here = let place : n ≡ r.link - 1 = omega (arith, next) in ap (slice_get (lists r.device)) place ∙ at.here
-
-      more : (o : ℕ) (b : Bool) → (r.owner == o) ≡ b → part o (take r.link (lists r.device)) ≡ (if b then part o (take n (lists r.device)) ++ r ∷ [] else part o (take n (lists r.device)))
-      more o b e =
-          ap (λ k. part o (take k (lists r.device))) next ∙ part_take_next o n (lists r.device) r here
-          ∙ ap (λ t. if t then part o (take n (lists r.device)) ++ r ∷ [] else part o (take n (lists r.device))) e
-
-      -- its own lane
-      own : knows_owner sc r.owner ≡ true → Lane r.owner r.device r.link (put (x.rows r.owner r.device) r.lane (Some r))
-      own known =
-          subst (λ (l : List RecordValue). LaneAgrees (part r.owner (lists r.device)) l (put (x.rows r.owner r.device) r.lane (Some r)) ((ls r.owner).taken r.device) ((ls r.owner).stated r.device) (is_closed (ls r.owner) r.device) ((ls r.owner).from r.device) ((ls r.owner).start + (ls r.owner).closed r.device) ((ls r.owner).retired r.device))
-          (sym (more r.owner true (is_self r.owner)))
-          (lane_stored _ _ _ _ _ _ _ _ _ (is.lanes r.owner r.device known) r r.lane (all.numbered r.device n r here).lane)
-
-      own_device : knows_owner sc r.owner ≡ true → (d : ℕ) (b : Bool) → (d == r.device) ≡ b → Lane r.owner d (if b then r.link else x.upto d) (if b then put (x.rows r.owner r.device) r.lane (Some r) else x.rows r.owner d)
-      own_device known d true e = subst (λ j. Lane r.owner j r.link (put (x.rows r.owner r.device) r.lane (Some r))) (sym (is_one d r.device e)) (own known)
-      own_device known d false e = is.lanes r.owner d known
-
-      -- other owners' lanes
-      beside : (o : ℕ) → knows_owner sc o ≡ true → (o == r.owner) ≡ false → (d : ℕ) (b : Bool) → (d == r.device) ≡ b → Lane o d (if b then r.link else x.upto d) (x.rows o d)
-      beside o known other d true e = subst (λ j. Lane o j r.link (x.rows o j)) (sym (is_one d r.device e)) (lane_still _ _ _ _ _ _ _ _ _ (is.lanes o r.device known) _ (more o false (other_way o r.owner other)))
-      beside o known other d false e = is.lanes o d known
-
-      of_owner : (o d : ℕ) → knows_owner sc o ≡ true → (b : Bool) → (o == r.owner) ≡ b → Lane o d (put x.upto r.device r.link d) ((if b then put2 (x.rows r.owner) r.device r.lane (Some r) else x.rows o) d)
-      of_owner o d known true e =
-          let same : o ≡ r.owner = is_one o r.owner e in
-          subst (λ j. Lane j d (put x.upto r.device r.link d) (put2 (x.rows r.owner) r.device r.lane (Some r) d)) (sym same) (own_device (sym (ap (knows_owner sc) same) ∙ known) d (d == r.device) refl)
-      of_owner o d known false e = beside o known e d (d == r.device) refl
+  tap_agrees x r at next is = record {
+    lanes = lanes_stored (λ o d arrived rows. LaneAgrees (part o (lists d)) arrived rows ((ls o).taken d) ((ls o).stated d) (is_closed (ls o) d) ((ls o).from d) ((ls o).start + (ls o).closed d) ((ls o).retired d)) (λ o. knows_owner sc o ≡ true)
+        (λ o d arrived rows lane r next. lane_stored _ _ _ _ _ _ _ _ _ lane r r.lane next) x r at next is.lanes;
+    stated = is.stated;
+    untaken = is.untaken;
+    waiting = lanes_stored (λ o d arrived rows. AreRowsOf arrived 0 rows) (IsStranger sc) (λ o d. rows_pushed) x r at next is.waiting;
+  }
 
   statement_agrees : (x : OutboxValue) (v : StatementValue) → IsOf lists (item.Stated v) → Agrees sc lists (with_outbox x) → Agrees sc lists (with_outbox (stored_statement v x))
   statement_agrees x v right is = record {
     lanes = is.lanes;
     stated = put_all (λ o (f : ℕ → ℕ → Option ℕ). (d : ℕ) → AreCountsOf (part o (lists d)) (f d)) x.stated v.owner (put2 (x.stated v.owner) v.device v.day (Some v.count)) is.stated
         (put_all (λ d (f : ℕ → Option ℕ). AreCountsOf (part v.owner (lists d)) f) (x.stated v.owner) v.device (put (x.stated v.owner v.device) v.day (Some v.count)) (is.stated v.owner) one);
+    untaken = is.untaken;
+    waiting = is.waiting;
   }
     where
       one : AreCountsOf (part v.owner (lists v.device)) (put (x.stated v.owner v.device) v.day (Some v.count))

@@ -1,5 +1,5 @@
 -- The stores that a system shows agree with what its devices numbered.
-use Rattle.std.proofs.Common.{◌≡◌, ℕ, ◌-◌, ◌≤◌, List, [], ◌∷◌, ◌++◌, length, take, drop, Some, None, Bool, true, false, refl, sym, ap, ◌∙◌, subst, arith}
+use Rattle.std.proofs.Common.{◌≡◌, ℕ, ◌-◌, ◌≤◌, List, [], ◌∷◌, ◌++◌, length, take, drop, zero, suc, Some, None, Bool, true, false, refl, sym, ap, ◌∙◌, subst, arith}
 use Rattle.std.specs.Prelude.{◌==◌, Option}
 use Rattle.std.specs.List.{AllByRecursion}
 use Rattle.std.proofs.lemmas.List.{length-take-le, take-append-le, take-append-drop}
@@ -25,14 +25,15 @@ use Rattle.fare_refinement.specs.Gathered.{Given, items, SentEntry, givens_of, h
 use Rattle.fare_refinement.specs.Sessions as sent
 use Rattle.fare_refinement.specs.Sessions.{ShowsStores}
 use Rattle.fare_refinement.specs.ShownStores.{ShowsOutbox, ShowsLedger}
-use Rattle.fare_agreement.specs.Agreeing.{AreNumberedLists, IsOf, AreCountsOf, lane_agrees, Agrees, numbered_by_devices}
+use Rattle.fare_agreement.specs.Agreeing.{AreNumberedLists, IsOf, AreCountsOf, lane_agrees, IsStranger, Agrees, numbered_by_devices}
 use Rattle.fare_agreement.specs.Stopping.{IsSessionOf, AreSessionsOf}
 use Rattle.fare_agreement.specs.Told.{told_session, told_sessions}
+use Rattle.fare_agreement.proofs.Prefixes.{part_front}
+use Rattle.fare_agreement.proofs.Unregistered.{part_none, prefix_none, row_of_none, sold_by_another}
 
-pub devices_numbered : (sc : SchemeValue) (s : System) → IsSystem sc s → AreNumberedLists sc (numbered_by_devices s)
+pub devices_numbered : (sc : SchemeValue) (s : System) → IsSystem sc s → AreNumberedLists (numbered_by_devices s)
 devices_numbered sc s is = record {
   numbered = λ d place r at. let one = (is.devices d).numbered place r at in record { of_device = one.of_device; link = one.link; lane = one.lane };
-  known = λ d none. (is.devices d).known none;
 }
 
 -- what has arrived is what its number names in the device's list
@@ -100,7 +101,25 @@ pub system_agrees : (sc : SchemeValue) (s : System) (h : StoresValue) → IsSyst
 system_agrees sc s h system shown = record {
   lanes = λ o d known. lane_shown sc s system h.outbox shown.outbox o d (h.ledgers o) (shown.ledgers o known);
   stated = λ o d. counts_of (part o (s.devices d).taps) (h.outbox.stated o d) (s.held o d) (shown.outbox.stated o d);
+  untaken = λ o d known none. (shown.ledgers o known).taken d ∙ ap (λ l. take (s.lanes o d).took (part o l)) ((system.devices d).known none) ∙ take_none (s.lanes o d).took;
+  waiting = λ o d stranger. record {
+    gone = 0;
+    few = omega arith;
+    are = λ k.
+        shown.outbox.rows o d k ∙ ap (λ l. row_at (s.lanes o d).gone l k) (none_arrived o d (s.devices d).upto stranger) ∙ row_of_none (s.lanes o d).gone k
+        ∙ sym (ap (λ l. row_at 0 l k) (none_arrived o d (h.outbox.upto d) stranger) ∙ row_of_none 0 k);
+  };
 }
+  where
+    take_none : (n : ℕ) → ◌≡◌ {A = List RecordValue} (take n []) []
+    take_none zero = refl
+    take_none (suc n) = refl
+
+    -- no device numbered a tap for a stranger
+    none_arrived : (o d n : ℕ) → IsStranger sc o → part o (take n (s.devices d).taps) ≡ []
+    none_arrived o d n stranger =
+        prefix_none (part o (take n (s.devices d).taps)) (part o (s.devices d).taps) (part_front o n (s.devices d).taps)
+        (part_none o (s.devices d).taps (λ k r at. sold_by_another sc o r.owner r.tap.product stranger ((system.devices d).numbered k r at).owned))
 
 -- SESSIONS
 -- items of packets are of the lists, told one by one

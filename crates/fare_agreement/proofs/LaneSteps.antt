@@ -154,10 +154,6 @@ module _ (numbered arrived : List RecordValue) (rows : ℕ → Option RecordValu
     closed_are = is.closed_are;
   }
 
-  -- more has arrived in another lane alone
-  pub lane_still : (others : List RecordValue) → others ≡ arrived → LaneAgrees numbered others rows taken stated closed from open_day retired
-  lane_still others same = subst (λ l. LaneAgrees numbered l rows taken stated closed from open_day retired) (sym same) is
-
 -- a close that is judged right
 abbrev pub by_tests : ℕ → ℕ → Bool → Bool → Result Unit CloseFault
 by_tests stated taken short over = if short then Err (CountsShort stated taken) else (if over then Err (CountsOver stated taken) else Ok tt)

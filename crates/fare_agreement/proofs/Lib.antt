@@ -1,5 +1,6 @@
 pub mod Prefixes
 pub mod Numbers
+pub mod Unregistered
 pub mod LettingGo
 pub mod LaneSteps
 pub mod Collecting
@@ -12,6 +13,7 @@ pub mod Refusals
 pub mod Orders
 pub mod Sums
 pub mod Fresh
+pub mod Growing
 pub mod WeekTaken
 pub mod DevicesAgree
 pub mod WorkedSteps

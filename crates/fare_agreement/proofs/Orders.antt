@@ -78,7 +78,7 @@ closed_short sc lists h owner device day s t known judged held is =
     last start n day e = grind (arith, nat_tests)
 
 -- A TAP STORED IN TWO PARTS
-module _ (sc : SchemeValue) (lists : ℕ → List RecordValue) (h : StoresValue) (r : RecordValue) (all : AreNumberedLists sc lists) (is : Agrees sc lists h) (known : knows_owner sc r.owner ≡ true) (at : IsAt (lists r.device) r.link r) (next : r.link ≡ h.outbox.upto r.device + 1) where
+module _ (sc : SchemeValue) (lists : ℕ → List RecordValue) (h : StoresValue) (r : RecordValue) (all : AreNumberedLists lists) (is : Agrees sc lists h) (known : knows_owner sc r.owner ≡ true) (at : IsAt (lists r.device) r.link r) (next : r.link ≡ h.outbox.upto r.device + 1) where
   here : slice_get (lists r.device) (h.outbox.upto r.device) ≡ Some r
   here = let place : h.outbox.upto r.device ≡ r.link - 1 = omega (arith, next) in ap (slice_get (lists r.device)) place ∙ at.here
 

@@ -79,7 +79,7 @@ module _ (sc : SchemeValue) (lists : ℕ → List RecordValue) (owner : ℕ) (x 
       own_still l (item.Stated v) own = record { of_owner = own.of_owner; made = record { start = own.made.start; knows = own.made.knows } }
 
 -- BY THE OUTBOX
-module _ (sc : SchemeValue) (lists : ℕ → List RecordValue) (all : AreNumberedLists sc lists) (ls : ℕ → LedgerValue) where
+module _ (sc : SchemeValue) (lists : ℕ → List RecordValue) (all : AreNumberedLists lists) (ls : ℕ → LedgerValue) where
   item_free : (x : OutboxValue) (i : Item) (is : List Item) → is_known sc i ≡ true → IsOf lists i → GoOn x (i ∷ is) → Agrees sc lists (record { outbox = x; ledgers = ls }) → IsFree x i
   item_free x (item.Tap r) is known of counted agrees = (next, below)
     where

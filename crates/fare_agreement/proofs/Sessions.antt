@@ -7,12 +7,13 @@ use Rattle.fare_record.specs.Values.{RecordValue}
 use Rattle.fare_record.specs.Lanes.{day_count}
 use Rattle.fare_record.specs.declared.item.Item.{Item}
 use Rattle.fare_scheme.specs.Values.{SchemeValue}
+use Rattle.fare_scheme.specs.Words.{station_of}
 use Rattle.fare_store.specs.Tables.{put, put2}
-use Rattle.fare_store.specs.LedgerWords.{LedgerValue, is_closed, with_close, with_retired, stated_from, forgotten}
+use Rattle.fare_store.specs.LedgerWords.{LedgerValue, is_closed, with_close, with_retired, let_go, front, stated_from, forgotten}
 use Rattle.fare_world.specs.Knowing.{knows_owner}
 use Rattle.fare_side.specs.OpenDays as open_days
 use Rattle.fare_world.proofs.Lanes.{closed_later, closed_within}
-use Rattle.fare_history.specs.Serving.{behind_ledger, AreNextItems, given_all, pruned_to_all, in_hand, taken_behind, Service, IsService}
+use Rattle.fare_history.specs.Serving.{behind_ledger, AreNextItems, given_all, pruned_to_all, in_hand, taken_behind, device_of, IsOfDevice, Service, IsService}
 use Rattle.fare_history.specs.Gathering.{Gathering, items_of, accepted_by, answers_of, all_answers, storing_all, IsAnswerFrom, IsGathering}
 use Rattle.fare_history.specs.Plainly.{IsCovered}
 use Rattle.fare_history.specs.Stores.{StoresValue, Session, Collects, Serves_owner, Closes_day, Retires_lane, Forgets, MayClose, MayForget, forgotten_by_ledger, stores_after, stores_after_all}
@@ -27,6 +28,7 @@ use Rattle.fare_agreement.proofs.Collecting.{outbox_self, outbox_trans, covered_
 use Rattle.fare_agreement.proofs.LaneSteps.{close_right}
 use Rattle.fare_agreement.proofs.Takes.{ledger_self, ledger_trans, ledger_lasts, taken_still, TakesAll, items_taken, all_pruned, closes, close_grows, retire_agrees, retire_grows, forgets, forget_lasts, forgot_from}
 use Rattle.fare_agreement.proofs.Lasting.{stores_last, last_trans, kept_is_still, kept_lasts, answered_is_still, answered_lasts}
+use Rattle.fare_agreement.proofs.Unregistered.{none_taken, none_forgotten}
 use Rattle.fare_agreement.proofs.Untold.{untold_agrees, went}
 
 -- STORES THAT GREW
@@ -51,7 +53,7 @@ kept_still sc h k grew (Closes_day o d day) is = closed_still (h.ledgers o) (k.l
         ap (λ n. open_days.is_closed n (m.closed d) day) grew.start ∙ late
 kept_still sc h k grew (Retires_lane o d) is = (grew.ledgers o).retired d is
 
-module _ (sc : SchemeValue) (lists : ℕ → List RecordValue) (all : AreNumberedLists sc lists) where
+module _ (sc : SchemeValue) (lists : ℕ → List RecordValue) (all : AreNumberedLists lists) where
   -- what a session, or what is left of it, makes of the stores
   pub record Keeps (h k : StoresValue) : Type 0 where
     pub agrees : Agrees sc lists k
@@ -96,8 +98,8 @@ module _ (sc : SchemeValue) (lists : ℕ → List RecordValue) (all : AreNumbere
     l = h.ledgers o
 
     -- the ledger takes these, and then the lanes of some devices are pruned
-    serves : (items : List Item) (devices : List ℕ) → AreNextItems o h.outbox (behind_ledger sc l) items → Keeps h (record { outbox = pruned_to_all h.outbox o (given_all l items) devices; ledgers = put h.ledgers o (given_all l items) })
-    serves items devices next = record { agrees = cut; grew = record { outbox = still; ledgers = put_all (λ p m. LedgerGrew (h.ledgers p) m) h.ledgers o l2 (λ p. ledger_self (h.ledgers p)) taken.grew } }
+    serves : (items : List Item) (devices : List ℕ) → AllByRecursion (λ i. IsOfDevice sc (device_of i)) items → AreNextItems o h.outbox (behind_ledger sc l) items → Keeps h (record { outbox = pruned_to_all h.outbox o (given_all l items) devices; ledgers = put h.ledgers o (given_all l items) })
+    serves items devices registered next = record { agrees = cut; grew = record { outbox = still; ledgers = put_all (λ p m. LedgerGrew (h.ledgers p) m) h.ledgers o l2 (λ p. ledger_self (h.ledgers p)) taken.grew } }
       where
         taken : TakesAll lists o h.outbox (λ d. is.stated o d) l items
         taken = items_taken lists o h.outbox (λ d. is.stated o d) l (behind_ledger sc l) items (λ d. is.lanes o d known) (λ d. refl) next
@@ -108,11 +110,15 @@ module _ (sc : SchemeValue) (lists : ℕ → List RecordValue) (all : AreNumbere
         ls : ℕ → LedgerValue
         ls = put h.ledgers o l2
 
+        -- of other devices it takes nothing
+        untaken : (p d : ℕ) → knows_owner sc p ≡ true → station_of sc d ≡ None → (put h.ledgers o (given_all l items) p).taken d ≡ []
+        untaken = put_all (λ p (m : LedgerValue). (d : ℕ) → knows_owner sc p ≡ true → station_of sc d ≡ None → m.taken d ≡ []) h.ledgers o (given_all l items) is.untaken (λ d known none. none_taken sc d none l items registered ∙ is.untaken o d known none)
+
         before : Agrees sc lists (record { outbox = h.outbox; ledgers = put h.ledgers o (given_all l items) })
-        before = record { lanes = λ p d. put_all (λ p m. (d : ℕ) → knows_owner sc p ≡ true → lane_agrees lists h.outbox m p d) h.ledgers o (given_all l items) (λ p d. is.lanes p d) (λ d known. taken.agrees d) p d; stated = is.stated }
+        before = record { lanes = λ p d. put_all (λ p m. (d : ℕ) → knows_owner sc p ≡ true → lane_agrees lists h.outbox m p d) h.ledgers o (given_all l items) (λ p d. is.lanes p d) (λ d known. taken.agrees d) p d; stated = is.stated; untaken = untaken; waiting = is.waiting }
 
         cut : Agrees sc lists (record { outbox = pruned_to_all h.outbox o (given_all l items) devices; ledgers = put h.ledgers o (given_all l items) })
-        cut = subst (λ m. Agrees sc lists (record { outbox = pruned_to_all h.outbox o m devices; ledgers = put h.ledgers o (given_all l items) })) (put_here h.ledgers o (given_all l items)) (all_pruned sc lists (put h.ledgers o (given_all l items)) o h.outbox devices before)
+        cut = subst (λ m. Agrees sc lists (record { outbox = pruned_to_all h.outbox o m devices; ledgers = put h.ledgers o (given_all l items) })) (put_here h.ledgers o (given_all l items)) (all_pruned sc lists (put h.ledgers o (given_all l items)) o known h.outbox devices before)
 
         still : OutboxGrew h.outbox (pruned_to_all h.outbox o (given_all l items) devices)
         still = record {
@@ -131,6 +137,9 @@ module _ (sc : SchemeValue) (lists : ℕ → List RecordValue) (all : AreNumbere
       lanes = λ p e known. put_all (λ p m. (e : ℕ) → knows_owner sc p ≡ true → lane_agrees lists h.outbox m p e) h.ledgers o (forgotten d day (h.ledgers o)) (λ p e known. is.lanes p e known)
           (λ e known. forgets sc lists all o h.outbox (h.ledgers o) (λ e. is.lanes o e known) d day may e) p e known;
       stated = is.stated;
+      untaken = put_all (λ p (m : LedgerValue). (e : ℕ) → knows_owner sc p ≡ true → station_of sc e ≡ None → m.taken e ≡ []) h.ledgers o (forgotten d day (h.ledgers o)) is.untaken
+          (λ e known. put_all (λ e (t : List RecordValue). station_of sc e ≡ None → t ≡ []) (h.ledgers o).taken d (let_go (front day ((h.ledgers o).taken d)) ((h.ledgers o).taken d)) (λ e none. is.untaken o e known none) (λ none. none_forgotten day ((h.ledgers o).taken d) (is.untaken o d known none)) e);
+      waiting = is.waiting;
     }
 
     ledgers_last : (p : ℕ) → LedgerLasts (h.ledgers p) (alone.ledgers p)
@@ -157,15 +166,21 @@ module _ (sc : SchemeValue) (lists : ℕ → List RecordValue) (all : AreNumbere
         still p e k c (inl f) = inl f
         still p e k c (inr f) = inr (gone p e k f.0 f.1 f.2)
 
+  -- a ledger that takes nothing
+  untaken_by : (h : StoresValue) (o : ℕ) (m : LedgerValue) → Agrees sc lists h → ((e : ℕ) → m.taken e ≡ (h.ledgers o).taken e) → (p e : ℕ) → knows_owner sc p ≡ true → station_of sc e ≡ None → (put h.ledgers o m p).taken e ≡ []
+  untaken_by h o m is same = put_all (λ p (m : LedgerValue). (e : ℕ) → knows_owner sc p ≡ true → station_of sc e ≡ None → m.taken e ≡ []) h.ledgers o m is.untaken (λ e known none. same e ∙ is.untaken o e known none)
+
   -- ANY SESSION
   pub session_keeps : (h : StoresValue) (q : Session) → Agrees sc lists h → IsSessionOf sc lists h q → KeepsOrLetsGo (lets_go q) h (stores_after h q)
   session_keeps h (Collects g) is of = kept_all false h (stores_after h (Collects g)) (collects_keep h g is of.0 of.1)
-  session_keeps h (Serves_owner o v) is of = kept_all false h (stores_after h (Serves_owner o v)) (serves h o of.0 is v.taken v.pruned (items_first o h.outbox (behind_ledger sc (h.ledgers o)) v.taken (in_hand v.hand ++ v.queue) of.1.items))
+  session_keeps h (Serves_owner o v) is of = kept_all false h (stores_after h (Serves_owner o v)) (serves h o of.0 is v.taken v.pruned (all-left (λ i. IsOfDevice sc (device_of i)) v.taken (in_hand v.hand ++ v.queue) of.1.known) (items_first o h.outbox (behind_ledger sc (h.ledgers o)) v.taken (in_hand v.hand ++ v.queue) of.1.items))
   session_keeps h (Closes_day o d day) is of = kept_all false h (stores_after h (Closes_day o d day)) (record {
     agrees = record {
       lanes = λ p e known. put_all (λ p m. (e : ℕ) → knows_owner sc p ≡ true → lane_agrees lists h.outbox m p e) h.ledgers o (with_close d (h.ledgers o)) (λ p e known. is.lanes p e known)
           (λ e known. closes lists o h.outbox (h.ledgers o) (λ e. is.lanes o e of.0) d day of.1 of.2 e) p e known;
       stated = is.stated;
+      untaken = untaken_by h o (with_close d (h.ledgers o)) is (λ e. refl);
+      waiting = is.waiting;
     };
     grew = record { outbox = outbox_self h.outbox; ledgers = put_all (λ p m. LedgerGrew (h.ledgers p) m) h.ledgers o (with_close d (h.ledgers o)) (λ p. ledger_self (h.ledgers p)) (close_grows lists o h.outbox (h.ledgers o) (λ e. is.lanes o e of.0) d day of.1 of.2) };
   })
@@ -175,6 +190,8 @@ module _ (sc : SchemeValue) (lists : ℕ → List RecordValue) (all : AreNumbere
       lanes = λ p e known. put_all (λ p m. (e : ℕ) → knows_owner sc p ≡ true → lane_agrees lists h.outbox m p e) h.ledgers o (with_retired d (h.ledgers o)) (λ p e known. is.lanes p e known)
           (λ e known. retire_agrees lists o h.outbox (h.ledgers o) d (λ e. is.lanes o e of.0) e) p e known;
       stated = is.stated;
+      untaken = untaken_by h o (with_retired d (h.ledgers o)) is (λ e. refl);
+      waiting = is.waiting;
     };
     grew = record { outbox = outbox_self h.outbox; ledgers = put_all (λ p m. LedgerGrew (h.ledgers p) m) h.ledgers o (with_retired d (h.ledgers o)) (λ p. ledger_self (h.ledgers p)) (retire_grows (h.ledgers o) d) };
   })
@@ -259,9 +276,9 @@ module _ (sc : SchemeValue) (lists : ℕ → List RecordValue) (all : AreNumbere
   more_safe h k m q safe one = record { agrees = one.agrees; lasts = last_trans h k m safe.lasts (stores_last k m one.grew); grew = λ none. stores_trans h k m (safe.grew none) one.grew; kept = answered_still k m one.grew q safe.kept }
 
   -- the ledger took these and maybe more, and lanes were pruned
-  served_safe : (h : StoresValue) (o : ℕ) (v : Service) (more : List Item) (devices : List ℕ) → knows_owner sc o ≡ true → Agrees sc lists h → AreNextItems o h.outbox (behind_ledger sc (h.ledgers o)) (v.taken ++ more)
+  served_safe : (h : StoresValue) (o : ℕ) (v : Service) (more : List Item) (devices : List ℕ) → knows_owner sc o ≡ true → Agrees sc lists h → AllByRecursion (λ i. IsOfDevice sc (device_of i)) (v.taken ++ more) → AreNextItems o h.outbox (behind_ledger sc (h.ledgers o)) (v.taken ++ more)
       → IsSafe h (record { outbox = pruned_to_all h.outbox o (given_all (h.ledgers o) (v.taken ++ more)) devices; ledgers = put h.ledgers o (given_all (h.ledgers o) (v.taken ++ more)) }) (Serves_owner o v)
-  served_safe h o v more devices known is next = record {
+  served_safe h o v more devices known is registered next = record {
     agrees = one.agrees;
     lasts = stores_last h (record { outbox = pruned_to_all h.outbox o (given_all (h.ledgers o) (v.taken ++ more)) devices; ledgers = put h.ledgers o (given_all (h.ledgers o) (v.taken ++ more)) }) one.grew;
     grew = λ _. one.grew;
@@ -269,7 +286,7 @@ module _ (sc : SchemeValue) (lists : ℕ → List RecordValue) (all : AreNumbere
   }
     where
       one : Keeps h (record { outbox = pruned_to_all h.outbox o (given_all (h.ledgers o) (v.taken ++ more)) devices; ledgers = put h.ledgers o (given_all (h.ledgers o) (v.taken ++ more)) })
-      one = serves h o known is (v.taken ++ more) devices next
+      one = serves h o known is (v.taken ++ more) devices registered next
 
       taken : TakesAll lists o h.outbox (λ d. is.stated o d) (h.ledgers o) (v.taken ++ more)
       taken = items_taken lists o h.outbox (λ d. is.stated o d) (h.ledgers o) (behind_ledger sc (h.ledgers o)) (v.taken ++ more) (λ d. is.lanes o d known) (λ d. refl) next
@@ -278,7 +295,7 @@ module _ (sc : SchemeValue) (lists : ℕ → List RecordValue) (all : AreNumbere
   pruned_safe : (h : StoresValue) (o : ℕ) (v : Service) (devices : List ℕ) → knows_owner sc o ≡ true → Agrees sc lists h → IsService sc o h.outbox (h.ledgers o) v → IsSafe h (stores_after h (Serves_owner o (record v { pruned = devices }))) (Serves_owner o v)
   pruned_safe h o v devices known is of =
       subst (λ (items : List Item). IsSafe h (record { outbox = pruned_to_all h.outbox o (given_all (h.ledgers o) items) devices; ledgers = put h.ledgers o (given_all (h.ledgers o) items) }) (Serves_owner o v)) (append-nil v.taken)
-      (served_safe h o v [] devices known is (subst (AreNextItems o h.outbox (behind_ledger sc (h.ledgers o))) (sym (append-nil v.taken)) (items_first o h.outbox (behind_ledger sc (h.ledgers o)) v.taken (in_hand v.hand ++ v.queue) of.items)))
+      (served_safe h o v [] devices known is (subst (AllByRecursion (λ i. IsOfDevice sc (device_of i))) (sym (append-nil v.taken)) (all-left (λ i. IsOfDevice sc (device_of i)) v.taken (in_hand v.hand ++ v.queue) of.known)) (subst (AreNextItems o h.outbox (behind_ledger sc (h.ledgers o))) (sym (append-nil v.taken)) (items_first o h.outbox (behind_ledger sc (h.ledgers o)) v.taken (in_hand v.hand ++ v.queue) of.items)))
 
   pub stop_safe : (h k : StoresValue) (q : Session) → Agrees sc lists h → IsBegunOf sc lists h q → IsLeftBy h q k → IsSafe h k q
   stop_safe h k (Collects g) is of left = more_safe h (stores_after h (Collects g)) k (Collects g) (whole_safe h (Collects g) is of) (tried_stored h g is of.0 of.1 k left)
@@ -294,7 +311,7 @@ module _ (sc : SchemeValue) (lists : ℕ → List RecordValue) (all : AreNumbere
       first_some (Some i) (suc n) e ds =
           let first = i ∷ take n v.queue in
           let put : v.taken ++ (in_hand v.hand ++ v.queue) ≡ (v.taken ++ first) ++ drop n v.queue = ap (λ a. v.taken ++ (in_hand a ++ v.queue)) e ∙ sym (append_assoc v.taken first (drop n v.queue) ∙ ap (λ q. v.taken ++ (i ∷ q)) (take-append-drop n v.queue)) in
-          served_safe h o v first ds of.0 is (items_first o h.outbox (behind_ledger sc (h.ledgers o)) (v.taken ++ first) (drop n v.queue) (subst all_taken put of.1.items))
+          served_safe h o v first ds of.0 is (all-left (λ i. IsOfDevice sc (device_of i)) (v.taken ++ first) (drop n v.queue) (subst (AllByRecursion (λ i. IsOfDevice sc (device_of i))) put of.1.known)) (items_first o h.outbox (behind_ledger sc (h.ledgers o)) (v.taken ++ first) (drop n v.queue) (subst all_taken put of.1.items))
 
       taken_some : (w : Service) → IsMaybeCommitted v w → (ds : List ℕ) → IsSafe h (stores_after h (Serves_owner o (record w { pruned = ds }))) (Serves_owner o v)
       taken_some w some ds = subst (λ (u : Service). IsSafe h (stores_after h (Serves_owner o (record u { pruned = ds }))) (Serves_owner o v)) (sym some.1) (first_some v.hand some.0 refl ds)

@@ -21,7 +21,7 @@ use Rattle.fare_world.proofs.Places.{slice_get-end}
 use Rattle.fare_store.proofs.Entries.{put_all, put_both, put_here, is_one}
 use Rattle.fare_history.specs.Serving.{Cursors, IsComingRow, AreNextItems, moved_by, given, given_all, pruned_to, pruned_to_all}
 use Rattle.fare_history.specs.Stores.{StoresValue}
-use Rattle.fare_agreement.specs.Agreeing.{AreNumberedLists, had, AreCountsOf, LaneAgrees, lane_agrees, Agrees}
+use Rattle.fare_agreement.specs.Agreeing.{AreNumberedLists, had, AreRowsOf, AreCountsOf, LaneAgrees, lane_agrees, IsStranger, Agrees}
 use Rattle.fare_agreement.specs.Growing.{IsKept, LedgerGrew, LedgerLasts}
 use Rattle.fare_agreement.specs.Stopping.{IsTaken, IsTakenStill}
 use Rattle.fare_agreement.proofs.LaneSteps.{lane_next, lane_took, lane_stated, lane_pruned, lane_closed, lane_retired, lane_forgotten, close_right}
@@ -177,7 +177,7 @@ module _ (lists : ℕ → List RecordValue) (owner : ℕ) (x : OutboxValue) (cou
       record { agrees = more.agrees; grew = ledger_trans l (given l i) (given_all (given l i) items) one.grew more.grew; kept = (taken_still (given l i) (given_all (given l i) items) more.grew i one.kept, more.kept) }
 
 -- PRUNES
-module _ (sc : SchemeValue) (lists : ℕ → List RecordValue) (ls : ℕ → LedgerValue) (owner : ℕ) where
+module _ (sc : SchemeValue) (lists : ℕ → List RecordValue) (ls : ℕ → LedgerValue) (owner : ℕ) (registered : knows_owner sc owner ≡ true) where
   abbrev outbox_with : OutboxValue → StoresValue
   outbox_with x = record { outbox = x; ledgers = ls }
 
@@ -190,6 +190,12 @@ module _ (sc : SchemeValue) (lists : ℕ → List RecordValue) (ls : ℕ → Led
         (λ d. is.lanes owner d known) (lane_pruned _ _ _ _ _ _ _ _ _ (is.lanes owner device known)))
         o known d;
     stated = is.stated;
+    untaken = is.untaken;
+    waiting = λ o d stranger. put_all (λ o (f : ℕ → ℕ → Option RecordValue). IsStranger sc o → (d : ℕ) → AreRowsOf (had lists x o d) 0 (f d)) x.rows owner
+        (put (x.rows owner) device (behind (length ((ls owner).taken device)) (x.rows owner device)))
+        (λ o stranger d. is.waiting o d stranger)
+        (λ stranger. absurd (let both : true ≡ false = sym registered ∙ stranger.unknown in cc))
+        o stranger d;
   }
 
   pub all_pruned : (x : OutboxValue) (devices : List ℕ) → Agrees sc lists (record { outbox = x; ledgers = ls }) → Agrees sc lists (record { outbox = pruned_to_all x owner (ls owner) devices; ledgers = ls })
@@ -248,7 +254,7 @@ retire_grows l device = record {
 }
 
 -- LETTING GO
-module _ (sc : SchemeValue) (lists : ℕ → List RecordValue) (numbered : AreNumberedLists sc lists) (owner : ℕ) (x : OutboxValue) (l : LedgerValue) (is : (d : ℕ) → lane_agrees lists x l owner d) (device day : ℕ) (judged : forget_judged l device day ≡ Ok tt) where
+module _ (sc : SchemeValue) (lists : ℕ → List RecordValue) (numbered : AreNumberedLists lists) (owner : ℕ) (x : OutboxValue) (l : LedgerValue) (is : (d : ℕ) → lane_agrees lists x l owner d) (device day : ℕ) (judged : forget_judged l device day ≡ Ok tt) where
   -- the days before it are closed, where the lane is not retired
   closed_before : l.retired device ≡ false → day ≤ l.start + l.closed device
   closed_before working = by (l.knows device) (nat_lt (l.start + l.closed device) day) refl (ap (λ c. if◌then◌else◌ {A = Result Unit ForgetFault} (not (l.knows device)) (Err UnknownDevice) (if◌then◌else◌ {A = Result Unit ForgetFault} (not c && nat_lt (l.start + l.closed device) day) (Err NotClosed) (Ok tt))) (sym working) ∙ judged)

@@ -57,6 +57,8 @@ pub untold_agrees : (sc : SchemeValue) (lists : ℕ → List RecordValue) (h : S
 untold_agrees sc lists h owner device day is = record {
   lanes = is.lanes;
   stated = λ o d. record { counted = λ e count held. (is.stated o d).counted e count (was h.outbox.stated owner device day o d e count held) };
+  untaken = is.untaken;
+  waiting = is.waiting;
 }
 
 pub untold_asked : (x : OutboxValue) (owner device day from : ℕ) (next : Option StatementValue) → day ≤ from → IsNextStatement x.stated owner device from next → IsNextStatement (without_statements owner device day x).stated owner device from next

@@ -1,7 +1,8 @@
 -- What a ledger that agrees with lists holds of a week, where it has closed the day of each device or retired its lane, stands in the order of the lists' taps of it; and a bill is of the same.
 use Rattle.std.proofs.Common.{◌≡◌, ℕ, zero, suc, ◌+◌, ◌<◌, ◌≤◌, Bool, true, false, List, [], ◌∷◌, ◌++◌, length, take, filter, Some, None, refl, sym, ap, ◌∙◌, subst, arith, inl, inr}
-use Rattle.std.specs.Prelude.{◌&&◌, ◌||◌, slice_get, nat_le, max, replicate, if◌then◌else◌}
+use Rattle.std.specs.Prelude.{◌&&◌, ◌||◌, not, is_some, option_map, slice_get, nat_eq, nat_le, max, replicate, Option, if◌then◌else◌}
 use Rattle.std.specs.List.{flat_map}
+use Rattle.std.specs.Map.{lookup}
 use Rattle.std.proofs.Math.Seq.{take-length}
 use Rattle.std.proofs.lemmas.Bool.{and_from}
 use Rattle.std.proofs.lemmas.Bool.Decides.{nat_tests}
@@ -13,6 +14,7 @@ use Rattle.fare_day.specs.Week.{monday_on_or_before}
 use Rattle.fare_scheme.specs.declared.entry.Placement.{Placement}
 use Rattle.fare_scheme.specs.Facts.{IsScheme}
 use Rattle.fare_scheme.specs.Values.{SchemeValue}
+use Rattle.fare_scheme.specs.Words.{station_of}
 use Rattle.fare_cap.specs.Fares.{week_start}
 use Rattle.fare_cap.specs.Order.{in_order}
 use Rattle.fare_cap.specs.Bills.{BillValue, bill_of, bill_rows, total_of}
@@ -83,8 +85,18 @@ filter_flat : {X : Type 0} (p : RecordValue → Bool) (f : X → List RecordValu
 filter_flat p f [] = refl
 filter_flat p f (x ∷ xs) = filter-append p (f x) (flat_map f xs) ∙ ap (λ l. filter p (f x) ++ l) (filter_flat p f xs)
 
+-- a device in the list has a station
+has_station : (ds : List (ℕ × Placement)) (d : ℕ × Placement) → In d ds → is_some (option_map (λ (p : Placement). p.station) (lookup (nat_eq d.0) ds)) ≡ true
+has_station [] d there = absurd there
+has_station (e ∷ ds) d there = by (has_station ds d) (nat_eq d.0 e.0) refl there
+  where
+    by : (In d ds → is_some (option_map (λ (p : Placement). p.station) (lookup (nat_eq d.0) ds)) ≡ true) → (t : Bool) → nat_eq d.0 e.0 ≡ t → In d (e ∷ ds) → is_some (option_map (λ (p : Placement). p.station) (if t then Some e.1 else lookup (nat_eq d.0) ds)) ≡ true
+    by rest true same there = refl
+    by rest false other (inl same) = absurd (let itself : nat_eq d.0 d.0 ≡ false = ap (λ (x : ℕ × Placement). nat_eq d.0 x.0) (sym same) ∙ other in let not_itself : ⊥ = grind (arith, nat_tests) in not_itself)
+    by rest false other (inr there) = rest there
+
 -- NUMBERED TAPS
-module _ (sc : SchemeValue) (lists : ℕ → List RecordValue) (all : AreNumberedLists sc lists) (o : ℕ) where
+module _ (sc : SchemeValue) (lists : ℕ → List RecordValue) (all : AreNumberedLists lists) (o : ℕ) where
   -- its place tells a tap's lane number, and it is of the device
   placed : (d k : ℕ) (r : RecordValue) → slice_get (part o (lists d)) k ≡ Some r → (r.lane ≡ k + 1) × (r.device ≡ d)
   placed d k r at =
@@ -96,7 +108,7 @@ module _ (sc : SchemeValue) (lists : ℕ → List RecordValue) (all : AreNumbere
       )
 
   -- A LEDGER
-  module _ (v : ledger.LedgerValue) (records : ℕ → List RecordValue) (taken : (d : ℕ) → IsPrefixOf (records d) (part o (lists d))) (held : (d : ℕ) → AreHeldOf (records d) (v.from d) (v.start + v.closed d) (v.retired d) (v.taken d)) (closed : (d : ℕ) → AreClosedOf (part o (lists d)) (records d) (v.stated d) (ledger.is_closed v d) (v.from d)) where
+  module _ (v : ledger.LedgerValue) (records : ℕ → List RecordValue) (taken : (d : ℕ) → IsPrefixOf (records d) (part o (lists d))) (held : (d : ℕ) → AreHeldOf (records d) (v.from d) (v.start + v.closed d) (v.retired d) (v.taken d)) (closed : (d : ℕ) → AreClosedOf (part o (lists d)) (records d) (v.stated d) (ledger.is_closed v d) (v.from d)) (untaken : (d : ℕ) → station_of sc d ≡ None → v.taken d ≡ []) where
     -- what is shown of a day was numbered
     taken_at : (d k : ℕ) (r : RecordValue) → slice_get (v.taken d) k ≡ Some r → r.tap.day ≤ 100000 → slice_get (part o (lists d)) k ≡ Some r
     taken_at d k r at dated = elim (held_at (held d).gone k (records d) r (ap (λ l. slice_get l k) (sym (held d).are) ∙ at)) [
@@ -123,17 +135,21 @@ module _ (sc : SchemeValue) (lists : ℕ → List RecordValue) (all : AreNumbere
     shown d from to le dated = ap (of_days from to) (held d).are ∙ days_held (held d).gone from to (records d) (λ k r less at. let past = ((held d).past k r less at).0 in omega (arith, past, le)) dated
 
     -- WHAT COUNTS
-    -- as it was numbered, or, where the lane is retired, as it was taken
+    -- as it was taken, where the lane is retired or the device isn't registered
+    as_taken : ℕ → Bool
+    as_taken d = v.retired d || not (is_some (station_of sc d))
+
+    -- or as it was numbered
     counted : ℕ → List RecordValue
-    counted d = if v.retired d then records d else part o (lists d)
+    counted d = if as_taken d then records d else part o (lists d)
 
     in_list : (d k : ℕ) (r : RecordValue) → slice_get (counted d) k ≡ Some r → slice_get (part o (lists d)) k ≡ Some r
     unfolding counted
-    in_list d k r = if_all (v.retired d) (λ l. slice_get l k ≡ Some r → slice_get (part o (lists d)) k ≡ Some r) (records d) (part o (lists d)) (λ _ at. prefix_at (records d) (part o (lists d)) k r (taken d) at) (λ _ at. at)
+    in_list d k r = if_all (as_taken d) (λ l. slice_get l k ≡ Some r → slice_get (part o (lists d)) k ≡ Some r) (records d) (part o (lists d)) (λ _ at. prefix_at (records d) (part o (lists d)) k r (taken d) at) (λ _ at. at)
 
     counts : (d k : ℕ) (r : RecordValue) → slice_get (v.taken d) k ≡ Some r → r.tap.day ≤ 100000 → slice_get (counted d) k ≡ Some r
     unfolding counted
-    counts d k r at dated = if_all (v.retired d) (λ l. slice_get l k ≡ Some r) (records d) (part o (lists d)) (λ _. there) (λ _. taken_at d k r at dated)
+    counts d k r at dated = if_all (as_taken d) (λ l. slice_get l k ≡ Some r) (records d) (part o (lists d)) (λ _. there) (λ _. taken_at d k r at dated)
       where
         there : slice_get (records d) k ≡ Some r
         there = elim (held_at (held d).gone k (records d) r (ap (λ l. slice_get l k) (sym (held d).are) ∙ at)) [
@@ -141,18 +157,26 @@ module _ (sc : SchemeValue) (lists : ℕ → List RecordValue) (all : AreNumbere
           | inr found ↦ found
         ]
 
-    none_counts : (d : ℕ) → part o (lists d) ≡ [] → counted d ≡ []
-    unfolding counted
-    none_counts d none = if_all (v.retired d) (λ l. l ≡ []) (records d) (part o (lists d)) (λ _. first_none (records d) (taken d).0 ((taken d).1 ∙ none)) (λ _. none)
+    none_counts : (d : ℕ) → station_of sc d ≡ None → counted d ≡ []
+    unfolding counted as_taken
+    none_counts d unknown =
+        if_all (v.retired d || not (is_some (station_of sc d))) (λ l. l ≡ []) (records d) (part o (lists d)) (λ _. was_none (held d).gone (records d) (sym (held d).are ∙ untaken d unknown) (held d).few)
+        (λ other. absurd (let both : true ≡ false = sym (either (v.retired d)) ∙ ap (λ (s : Option ℕ). v.retired d || not (is_some s)) (sym unknown) ∙ other in cc))
       where
-        first_none : (xs ys : List RecordValue) → xs ++ ys ≡ [] → xs ≡ []
-        first_none [] ys e = refl
-        first_none (x ∷ xs) ys e = absurd (cc)
+        either : (a : Bool) → (a || true) ≡ true
+        either true = refl
+        either false = refl
+
+        was_none : (g : ℕ) (xs : List RecordValue) → ledger.let_go g xs ≡ [] → g ≤ length xs → xs ≡ []
+        was_none g [] none few = refl
+        was_none zero (x ∷ xs) none few = none
+        was_none (suc g) (x ∷ xs) none few = absurd (cc)
 
     counts_whole : (d from to : ℕ) → v.start ≤ from → v.from d ≤ from → to ≤ 100000 → (ledger.is_closed v d to || v.retired d) ≡ true → of_days from to (v.taken d) ≡ of_days from to (counted d)
-    unfolding counted
+    unfolding counted as_taken
     counts_whole d from to first le dated done =
-        shown d from to le dated ∙ if_all (v.retired d) (λ l. of_days from to (records d) ≡ of_days from to l) (records d) (part o (lists d)) (λ _. refl) (λ works. whole d from to first (the_first (ledger.is_closed v d to) (v.retired d) done works))
+        shown d from to le dated
+        ∙ if_all (v.retired d || not (is_some (station_of sc d))) (λ l. of_days from to (records d) ≡ of_days from to l) (records d) (part o (lists d)) (λ _. refl) (λ works. whole d from to first (the_first (ledger.is_closed v d to) (v.retired d) done (neither (v.retired d) (not (is_some (station_of sc d))) works)))
       where
         the_first : (a b : Bool) → (a || b) ≡ true → b ≡ false → a ≡ true
         the_first true b either other = refl
@@ -160,21 +184,26 @@ module _ (sc : SchemeValue) (lists : ℕ → List RecordValue) (all : AreNumbere
             let both : false ≡ true = sym other ∙ either in
             absurd (cc)
 
+        neither : (a b : Bool) → (a || b) ≡ false → a ≡ false
+        neither true b e = e
+        neither false b e = refl
+
     -- what is shown of what counts
-    counts_shown : (d from to : ℕ) → v.from d ≤ from → to ≤ 100000 → of_days from to (counted d) ≡ of_days from to (part_counted lists v o d)
-    unfolding counted
-    counts_shown d from to le dated = by (v.retired d)
+    counts_shown : (d from to : ℕ) → is_some (station_of sc d) ≡ true → v.from d ≤ from → to ≤ 100000 → of_days from to (counted d) ≡ of_days from to (part_counted lists v o d)
+    unfolding counted as_taken
+    counts_shown d from to known le dated = by (v.retired d) (is_some (station_of sc d)) known
       where
-        by : (b : Bool) → of_days from to (if b then records d else part o (lists d)) ≡ of_days from to (if b then v.taken d else part o (lists d))
-        by true = sym (shown d from to le dated)
-        by false = refl
+        by : (b k : Bool) → k ≡ true → of_days from to (if b || not k then records d else part o (lists d)) ≡ of_days from to (if b then v.taken d else part o (lists d))
+        by true k e = sym (shown d from to le dated)
+        by false true e = refl
+        by false false e = absurd (cc)
 
     module _ (from to : ℕ) (rows : List RecordValue) (dated : to ≤ 100000) (between : ledger.AreTapsBetween v from to rows) where
       pub week_in_order : IsScheme sc → v.start ≤ from → open_of v to sc ≡ None → first_forgotten v.from from sc.devices ≡ None → in_order rows ≡ in_order (flat_map (λ (d : ℕ × Placement). of_days from to (part_counted lists v o d.0)) sc.devices)
       week_in_order valid first none kept =
-          world.week_in_order sc counted (λ d k r at. placed d k r (in_list d k r at)) (λ d unknown. none_counts d (ap (part o) (all.known d unknown))) v from to rows between (λ d k r at le. counts d k r at (omega (arith, le, dated))) v.start v.closed v.retired valid
+          world.week_in_order sc counted (λ d k r at. placed d k r (in_list d k r at)) none_counts v from to rows between (λ d k r at le. counts d k r at (omega (arith, le, dated))) v.start v.closed v.retired valid
           (λ d i done. counts_whole d.0 from to first (held_all v.from from sc.devices kept d i) dated done) none
-          ∙ ap in_order (flat_same (λ d. of_days from to (counted d.0)) (λ d. of_days from to (part_counted lists v o d.0)) sc.devices (λ d i. counts_shown d.0 from to (held_all v.from from sc.devices kept d i) dated))
+          ∙ ap in_order (flat_same (λ d. of_days from to (counted d.0)) (λ d. of_days from to (part_counted lists v o d.0)) sc.devices (λ d i. counts_shown d.0 from to (has_station sc.devices d i) (held_all v.from from sc.devices kept d i) dated))
 
     -- THE BILL
     pub bill_is : (day : ℕ) (rows : List RecordValue) → day ≤ 100000 → IsScheme sc → v.start ≡ sc.start → open_of v day sc ≡ None → first_forgotten v.from (week_start sc day) sc.devices ≡ None → ledger.AreTapsBetween v (week_start sc day) day rows → bill_of sc rows day ≡ bill_of sc (parts_of sc lists v o) day

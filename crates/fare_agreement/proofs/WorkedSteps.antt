@@ -1,12 +1,10 @@
 -- The worked stop: its lists are numbered, and its stores agree with them.
-use Rattle.std.proofs.Common.{◌≡◌, ℕ, zero, suc, [], ◌∷◌, Some, None, Bool, true, false, refl, sym, ap, ◌∙◌, subst, arith}
-use Rattle.std.specs.Prelude.{slice_get, ◌==◌, is_some, if◌then◌else◌}
+use Rattle.std.proofs.Common.{◌≡◌, ℕ, zero, suc, [], ◌∷◌, Some, Bool, true, false, refl, sym, subst, arith}
+use Rattle.std.specs.Prelude.{slice_get, ◌==◌, if◌then◌else◌}
 use Rattle.fare_record.specs.Values.{RecordValue}
 use Rattle.fare_scheme.specs.Values.{SchemeValue}
-use Rattle.fare_scheme.specs.Words.{station_of}
 use Rattle.fare_store.specs.OutboxWords.{stored, pruned}
 use Rattle.fare_world.specs.Knowing.{knows_owner}
-use Rattle.fare_world.proofs.Known.{station_where_placed}
 use Rattle.fare_history.specs.Serving.{IsOfDevice}
 use Rattle.fare_history.specs.Stores.{Serves_owner, stores_after}
 use Rattle.fare_store.proofs.Entries.{is_one}
@@ -34,28 +32,20 @@ taps_numbered device place r e = by (device == 7) refl e
 takes_left : IsLeftBy both_stored (Serves_owner 4 takes_both) (stores_after both_stored (Serves_owner 4 takes_both))
 takes_left = (takes_both, (0, refl), ([], refl))
 
-module _ (sc : SchemeValue) where
-  pub lists_numbered : IsOfDevice sc 7 → AreNumberedLists sc two_taps
-  lists_numbered known = record { numbered = taps_numbered; known = λ device none. by device none (device == 7) refl }
-    where
-      by : (device : ℕ) → station_of sc device ≡ None → (b : Bool) → (device == 7) ≡ b → (if b then first_tap ∷ second_tap ∷ [] else []) ≡ []
-      by device none false other = refl
-      by device none true same =
-          let stands : is_some (station_of sc 7) ≡ true = sym (station_where_placed sc 7) ∙ known in
-          let never : false ≡ true = sym (ap is_some none) ∙ ap (λ d. is_some (station_of sc d)) (is_one device 7 same) ∙ stands in
-          absurd (cc)
+pub lists_numbered : AreNumberedLists two_taps
+lists_numbered = record { numbered = taps_numbered }
 
+module _ (sc : SchemeValue) where
   -- THE STORES
   emptiness : Agrees sc two_taps (record { outbox = empty_outbox; ledgers = empty_ledger })
   emptiness =
       empty_agrees sc two_taps (record { outbox = empty_outbox; ledgers = empty_ledger }) (record { upto = λ d. refl; rows = λ o d k. refl; row_count = refl; stated = λ o d day. refl; stated_count = refl })
       (λ o known. record { taken = λ d. refl; stated = λ d day. refl; closed = λ d. refl; retired = λ d. refl; from = λ d. refl })
 
-  pub opening_agrees : IsOfDevice sc 7 → Agrees sc two_taps both_stored
-  opening_agrees known =
-      let all = lists_numbered known in
-      tap_agrees sc two_taps all empty_ledger (stored first_tap empty_outbox) second_tap (record { positive = omega arith; here = refl }) refl
-      (tap_agrees sc two_taps all empty_ledger empty_outbox first_tap (record { positive = omega arith; here = refl }) refl emptiness)
+  pub opening_agrees : Agrees sc two_taps both_stored
+  opening_agrees =
+      tap_agrees sc two_taps lists_numbered empty_ledger (stored first_tap empty_outbox) second_tap (record { positive = omega arith; here = refl }) refl
+      (tap_agrees sc two_taps lists_numbered empty_ledger empty_outbox first_tap (record { positive = omega arith; here = refl }) refl emptiness)
 
   -- THE SESSIONS
   pub takes_begun : knows_owner sc 4 ≡ true → IsOfDevice sc 7 → IsBegunOf sc two_taps both_stored (Serves_owner 4 takes_both)
@@ -72,7 +62,7 @@ module _ (sc : SchemeValue) where
 
   pub taken_agrees : knows_owner sc 4 ≡ true → IsOfDevice sc 7 → Agrees sc two_taps (stores_after both_stored (Serves_owner 4 takes_both))
   taken_agrees own known =
-      (stop_safe sc two_taps (lists_numbered known) both_stored (stores_after both_stored (Serves_owner 4 takes_both)) (Serves_owner 4 takes_both) (opening_agrees known) (takes_begun own known) takes_left).agrees
+      (stop_safe sc two_taps lists_numbered both_stored (stores_after both_stored (Serves_owner 4 takes_both)) (Serves_owner 4 takes_both) opening_agrees (takes_begun own known) takes_left).agrees
 
   pub goes_on : knows_owner sc 4 ≡ true → IsOfDevice sc 7 → AreLeft sc two_taps both_stored (Serves_owner 4 takes_both ∷ Serves_owner 4 prunes_alone ∷ []) (stores_after (stores_after both_stored (Serves_owner 4 takes_both)) (Serves_owner 4 prunes_alone))
   goes_on own known = (

@@ -1,11 +1,11 @@
 -- When the rows of a hub's stores agree with the lists of taps that the devices numbered.
-use Rattle.std.specs.Prelude.{◌≡◌, ℕ, ◌+◌, ◌<◌, ◌≤◌, Bool, true, false, List, [], length, take, Option, None, Some, slice_get}
+use Rattle.std.specs.Prelude.{◌≡◌, ◌≢◌, ℕ, ◌+◌, ◌<◌, ◌≤◌, Bool, true, false, List, [], length, take, Option, None, Some, slice_get}
 use Rattle.fare_record.specs.Values.{RecordValue}
 use Rattle.fare_record.specs.Lanes.{part, day_count}
 use Rattle.fare_record.specs.declared.item.Item.{Item}
 use Rattle.fare_record.specs.declared.item.Item.TheVariants as item
 use Rattle.fare_scheme.specs.Values.{SchemeValue}
-use Rattle.fare_scheme.specs.Words.{station_of}
+use Rattle.fare_scheme.specs.Words.{owner_of, station_of}
 use Rattle.fare_store.specs.OutboxWords.{OutboxValue}
 use Rattle.fare_store.specs.LedgerWords.{LedgerValue, let_go, is_closed}
 use Rattle.fare_world.specs.Headline.{IsPrefixOf}
@@ -21,10 +21,9 @@ pub record IsNumberedAt (device : ℕ) (taps : List RecordValue) (place : ℕ) (
   pub link : r.link ≡ place + 1
   pub lane : r.lane ≡ length (part r.owner (take place taps)) + 1
 
--- one list for each device of the scheme, numbered as a device numbers its taps: links 1, 2, 3 and so on, and likewise the lane of each owner
-pub record AreNumberedLists (sc : SchemeValue) (lists : ℕ → List RecordValue) : Type 0 where
+-- one list for each device, numbered as a device numbers its taps: links 1, 2, 3 and so on, and likewise the lane of each owner
+pub record AreNumberedLists (lists : ℕ → List RecordValue) : Type 0 where
   pub numbered : (device place : ℕ) (r : RecordValue) → slice_get (lists device) place ≡ Some r → IsNumberedAt device (lists device) place r
-  pub known : (device : ℕ) → station_of sc device ≡ None → lists device ≡ []
 
 -- an item says what the lists say: a tap is the one of its link, and a statement has its day's count
 abbrev pub IsOf : (ℕ → List RecordValue) → Item → Type 0
@@ -72,10 +71,18 @@ pub record LaneAgrees (numbered arrived : List RecordValue) (rows : ℕ → Opti
 abbrev pub lane_agrees : (ℕ → List RecordValue) → OutboxValue → LedgerValue → ℕ → ℕ → Type 0
 lane_agrees lists x l owner device = LaneAgrees (part owner (lists device)) (had lists x owner device) (x.rows owner device) (l.taken device) (l.stated device) (is_closed l device) (l.from device) (l.start + l.closed device) (l.retired device)
 
--- the rows agree with the lists: each lane of each registered owner does, and so do the outbox's statements
+-- an owner that isn't registered, and that no registered product is of
+pub record IsStranger (sc : SchemeValue) (owner : ℕ) : Type 0 where
+  pub unknown : knows_owner sc owner ≡ false
+  pub sells_none : (product : ℕ) → owner_of sc product ≢ Some owner
+
+-- The rows agree with the lists: each lane of each registered owner does, and so do the outbox's statements. A registered owner
+-- has taken nothing of a device that isn't registered, and of an owner that isn't, what the outbox has had waits in it, all of it.
 pub record Agrees (sc : SchemeValue) (lists : ℕ → List RecordValue) (h : StoresValue) : Type 0 where
   pub lanes : (owner device : ℕ) → knows_owner sc owner ≡ true → lane_agrees lists h.outbox (h.ledgers owner) owner device
   pub stated : (owner device : ℕ) → AreCountsOf (part owner (lists device)) (h.outbox.stated owner device)
+  pub untaken : (owner device : ℕ) → knows_owner sc owner ≡ true → station_of sc device ≡ None → (h.ledgers owner).taken device ≡ []
+  pub waiting : (owner device : ℕ) → IsStranger sc owner → AreRowsOf (had lists h.outbox owner device) 0 (h.outbox.rows owner device)
 
 -- A SYSTEM
 -- what the devices of a system numbered

@@ -7,6 +7,7 @@ ghost use Rattle.fare_record.specs.declared.item.Item.{Item};
 ghost use Rattle.fare_record.specs.declared.item.Item.TheVariants.{Tap};
 ghost use Rattle.fare_scheme.specs.Values.{SchemeValue};
 ghost use Rattle.fare_scheme.specs.Facts.{IsScheme};
+ghost use Rattle.fare_growth.specs.Growth.{AddsTo};
 ghost use Rattle.fare_cap.specs.Fares.{week_start};
 ghost use Rattle.fare_cap.specs.Bills.{bill_of};
 ghost use Rattle.fare_owner.specs.declared.closing.CloseFault.TheVariants.{CountsShort};
@@ -37,30 +38,30 @@ ghost use Rattle.fare_agreement.specs.Told.{told_sessions};
 /// some do, all of that lasts but the taps and statements that were let go, and these are of days before the one from which
 /// on the owner's ledger holds all.
 pub fn sessions_keep_agreement()
-    ensures agrees { (sc : SchemeValue) (lists : ℕ → List RecordValue) (h : StoresValue) (qs : List Session) → AreNumberedLists sc lists → Agrees sc lists h → AreSessionsOf sc lists h qs → Agrees sc lists (stores_after_all h qs) }
-    ensures grew { (sc : SchemeValue) (lists : ℕ → List RecordValue) (h : StoresValue) (qs : List Session) → AreNumberedLists sc lists → Agrees sc lists h → AreSessionsOf sc lists h qs → LetNothingGo qs → StoresGrew h (stores_after_all h qs) }
-    ensures kept { (sc : SchemeValue) (lists : ℕ → List RecordValue) (h : StoresValue) (qs : List Session) → AreNumberedLists sc lists → Agrees sc lists h → AreSessionsOf sc lists h qs → LetNothingGo qs → AllByRecursion (AreKept sc (stores_after_all h qs)) qs }
-    ensures lasts { (sc : SchemeValue) (lists : ℕ → List RecordValue) (h : StoresValue) (qs : List Session) → AreNumberedLists sc lists → Agrees sc lists h → AreSessionsOf sc lists h qs → StoresLast h (stores_after_all h qs) }
-    ensures still { (sc : SchemeValue) (lists : ℕ → List RecordValue) (h : StoresValue) (qs : List Session) → AreNumberedLists sc lists → Agrees sc lists h → AreSessionsOf sc lists h qs → AllByRecursion (AreKeptStill sc (stores_after_all h qs)) qs }
+    ensures agrees { (sc : SchemeValue) (lists : ℕ → List RecordValue) (h : StoresValue) (qs : List Session) → AreNumberedLists lists → Agrees sc lists h → AreSessionsOf sc lists h qs → Agrees sc lists (stores_after_all h qs) }
+    ensures grew { (sc : SchemeValue) (lists : ℕ → List RecordValue) (h : StoresValue) (qs : List Session) → AreNumberedLists lists → Agrees sc lists h → AreSessionsOf sc lists h qs → LetNothingGo qs → StoresGrew h (stores_after_all h qs) }
+    ensures kept { (sc : SchemeValue) (lists : ℕ → List RecordValue) (h : StoresValue) (qs : List Session) → AreNumberedLists lists → Agrees sc lists h → AreSessionsOf sc lists h qs → LetNothingGo qs → AllByRecursion (AreKept sc (stores_after_all h qs)) qs }
+    ensures lasts { (sc : SchemeValue) (lists : ℕ → List RecordValue) (h : StoresValue) (qs : List Session) → AreNumberedLists lists → Agrees sc lists h → AreSessionsOf sc lists h qs → StoresLast h (stores_after_all h qs) }
+    ensures still { (sc : SchemeValue) (lists : ℕ → List RecordValue) (h : StoresValue) (qs : List Session) → AreNumberedLists lists → Agrees sc lists h → AreSessionsOf sc lists h qs → AllByRecursion (AreKeptStill sc (stores_after_all h qs)) qs }
 {}
 
 /// The same of what a stop in a session leaves: what the session had made of the stores until then, or also
 /// what the store call that failed commits. What the session was answered is in it.
 pub fn a_stop_keeps_agreement()
-    ensures agrees { (sc : SchemeValue) (lists : ℕ → List RecordValue) (h k : StoresValue) (q : Session) → AreNumberedLists sc lists → Agrees sc lists h → IsBegunOf sc lists h q → IsLeftBy h q k → Agrees sc lists k }
-    ensures grew { (sc : SchemeValue) (lists : ℕ → List RecordValue) (h k : StoresValue) (q : Session) → AreNumberedLists sc lists → Agrees sc lists h → IsBegunOf sc lists h q → IsLeftBy h q k → lets_go q ≡ false → StoresGrew h k }
-    ensures lasts { (sc : SchemeValue) (lists : ℕ → List RecordValue) (h k : StoresValue) (q : Session) → AreNumberedLists sc lists → Agrees sc lists h → IsBegunOf sc lists h q → IsLeftBy h q k → StoresLast h k }
-    ensures kept { (sc : SchemeValue) (lists : ℕ → List RecordValue) (h k : StoresValue) (q : Session) → AreNumberedLists sc lists → Agrees sc lists h → IsBegunOf sc lists h q → IsLeftBy h q k → AreAnswered sc k q }
+    ensures agrees { (sc : SchemeValue) (lists : ℕ → List RecordValue) (h k : StoresValue) (q : Session) → AreNumberedLists lists → Agrees sc lists h → IsBegunOf sc lists h q → IsLeftBy h q k → Agrees sc lists k }
+    ensures grew { (sc : SchemeValue) (lists : ℕ → List RecordValue) (h k : StoresValue) (q : Session) → AreNumberedLists lists → Agrees sc lists h → IsBegunOf sc lists h q → IsLeftBy h q k → lets_go q ≡ false → StoresGrew h k }
+    ensures lasts { (sc : SchemeValue) (lists : ℕ → List RecordValue) (h k : StoresValue) (q : Session) → AreNumberedLists lists → Agrees sc lists h → IsBegunOf sc lists h q → IsLeftBy h q k → StoresLast h k }
+    ensures kept { (sc : SchemeValue) (lists : ℕ → List RecordValue) (h k : StoresValue) (q : Session) → AreNumberedLists lists → Agrees sc lists h → IsBegunOf sc lists h q → IsLeftBy h q k → AreAnswered sc k q }
     ensures begun { (sc : SchemeValue) (lists : ℕ → List RecordValue) (h : StoresValue) (q : Session) → IsSessionOf sc lists h q → IsBegunOf sc lists h q }
 {}
 
 /// The same of sessions one after the other, each whole or stopped.
 pub fn stops_keep_agreement()
-    ensures agrees { (sc : SchemeValue) (lists : ℕ → List RecordValue) (h k : StoresValue) (qs : List Session) → AreNumberedLists sc lists → Agrees sc lists h → AreLeft sc lists h qs k → Agrees sc lists k }
-    ensures grew { (sc : SchemeValue) (lists : ℕ → List RecordValue) (h k : StoresValue) (qs : List Session) → AreNumberedLists sc lists → Agrees sc lists h → AreLeft sc lists h qs k → LetNothingGo qs → StoresGrew h k }
-    ensures kept { (sc : SchemeValue) (lists : ℕ → List RecordValue) (h k : StoresValue) (qs : List Session) → AreNumberedLists sc lists → Agrees sc lists h → AreLeft sc lists h qs k → LetNothingGo qs → AllByRecursion (AreAnswered sc k) qs }
-    ensures lasts { (sc : SchemeValue) (lists : ℕ → List RecordValue) (h k : StoresValue) (qs : List Session) → AreNumberedLists sc lists → Agrees sc lists h → AreLeft sc lists h qs k → StoresLast h k }
-    ensures still { (sc : SchemeValue) (lists : ℕ → List RecordValue) (h k : StoresValue) (qs : List Session) → AreNumberedLists sc lists → Agrees sc lists h → AreLeft sc lists h qs k → AllByRecursion (AreAnsweredStill sc k) qs }
+    ensures agrees { (sc : SchemeValue) (lists : ℕ → List RecordValue) (h k : StoresValue) (qs : List Session) → AreNumberedLists lists → Agrees sc lists h → AreLeft sc lists h qs k → Agrees sc lists k }
+    ensures grew { (sc : SchemeValue) (lists : ℕ → List RecordValue) (h k : StoresValue) (qs : List Session) → AreNumberedLists lists → Agrees sc lists h → AreLeft sc lists h qs k → LetNothingGo qs → StoresGrew h k }
+    ensures kept { (sc : SchemeValue) (lists : ℕ → List RecordValue) (h k : StoresValue) (qs : List Session) → AreNumberedLists lists → Agrees sc lists h → AreLeft sc lists h qs k → LetNothingGo qs → AllByRecursion (AreAnswered sc k) qs }
+    ensures lasts { (sc : SchemeValue) (lists : ℕ → List RecordValue) (h k : StoresValue) (qs : List Session) → AreNumberedLists lists → Agrees sc lists h → AreLeft sc lists h qs k → StoresLast h k }
+    ensures still { (sc : SchemeValue) (lists : ℕ → List RecordValue) (h k : StoresValue) (qs : List Session) → AreNumberedLists lists → Agrees sc lists h → AreLeft sc lists h qs k → AllByRecursion (AreAnsweredStill sc k) qs }
 {}
 
 /// What a session says in plain sentences it says also of what a stop in it leaves: what an owner's session did, and
@@ -78,11 +79,17 @@ pub fn empty_stores_agree()
     ensures { (sc : SchemeValue) (lists : ℕ → List RecordValue) (h : StoresValue) → IsEmptyOutbox h.outbox → ((owner : ℕ) → knows_owner sc owner ≡ true → IsEmptyLedger (h.ledgers owner)) → Agrees sc lists h }
 {}
 
+/// Stores that agree under a scheme agree with the same lists under a later one that adds to it, where the ledgers of the owners
+/// that it adds are empty: what the outbox has had for such an owner, if anything, waits there.
+pub fn added_schemes_keep_agreement()
+    ensures { (kept later : SchemeValue) (lists : ℕ → List RecordValue) (h : StoresValue) → IsScheme kept → AddsTo kept later → ((owner : ℕ) → knows_owner kept owner ≡ false → knows_owner later owner ≡ true → IsEmptyLedger (h.ledgers owner)) → Agrees kept lists h → Agrees later lists h }
+{}
+
 /// The stores that a system shows, as those of a world that stands there, agree with what its devices numbered,
 /// whatever events led to it. What has arrived there is of these lists, and so is the item of each packet; and
 /// sessions whose frames are packets of the system are sessions of items of these lists.
 pub fn stores_of_a_system_agree()
-    ensures numbered { (sc : SchemeValue) (s : System) → IsSystem sc s → AreNumberedLists sc (numbered_by_devices s) }
+    ensures numbered { (sc : SchemeValue) (s : System) → IsSystem sc s → AreNumberedLists (numbered_by_devices s) }
     ensures agrees { (sc : SchemeValue) (s : System) (h : StoresValue) → IsSystem sc s → ShowsStores sc s h → Agrees sc (numbered_by_devices s) h }
     ensures arrived { (sc : SchemeValue) (s : System) (x : Arrived) (i : Item) → IsSystem sc s → IsArrivedOf s.devices x i → IsOf (numbered_by_devices s) i }
     ensures sessions { (sc : SchemeValue) (s : System) (h : StoresValue) (qs : List sent.Session) → IsSystem sc s → AreSessions sc s h qs → AreSessionsOf sc (numbered_by_devices s) h (told_sessions qs) }
@@ -101,7 +108,7 @@ pub fn no_tap_is_lost()
 pub fn no_item_of_the_lists_is_refused()
     ensures served { (sc : SchemeValue) (lists : ℕ → List RecordValue) (h : StoresValue) (owner : ℕ) (v : Service) → Agrees sc lists h → knows_owner sc owner ≡ true → (h.ledgers owner).owner ≡ owner → IsOfScheme sc (h.ledgers owner) → IsService sc owner h.outbox (h.ledgers owner) v
         → AreUnrefused (h.ledgers owner) (put_by v) }
-    ensures gathered { (sc : SchemeValue) (lists : ℕ → List RecordValue) (h : StoresValue) (g : Gathering) → AreNumberedLists sc lists → Agrees sc lists h → AllByRecursion (λ i. is_known sc i ≡ true) (accepted_by g) → AllByRecursion (IsOf lists) (accepted_by g) → IsGathering sc h.outbox g
+    ensures gathered { (sc : SchemeValue) (lists : ℕ → List RecordValue) (h : StoresValue) (g : Gathering) → AreNumberedLists lists → Agrees sc lists h → AllByRecursion (λ i. is_known sc i ≡ true) (accepted_by g) → AllByRecursion (IsOf lists) (accepted_by g) → IsGathering sc h.outbox g
         → AreFree h.outbox g.entries × IfSome g.hand (IsFree (storing_all h.outbox g.entries)) }
 {}
 
@@ -116,7 +123,7 @@ pub fn sessions_add_what_was_new()
 /// the taps that its ledger holds of the week is the bill of the owner's parts of the lists, but that of a retired lane
 /// it has what was taken; if nothing of the week was let go.
 pub fn bills_are_of_the_lists()
-    ensures { (sc : SchemeValue) (lists : ℕ → List RecordValue) (h : StoresValue) (owner day : ℕ) (rows : List RecordValue) → IsDay day → IsScheme sc → AreNumberedLists sc lists → Agrees sc lists h → knows_owner sc owner ≡ true → (h.ledgers owner).start ≡ sc.start → open_of (h.ledgers owner) day sc ≡ None → first_forgotten (h.ledgers owner).from (week_start sc day) sc.devices ≡ None → AreTapsBetween (h.ledgers owner) (week_start sc day) day rows
+    ensures { (sc : SchemeValue) (lists : ℕ → List RecordValue) (h : StoresValue) (owner day : ℕ) (rows : List RecordValue) → IsDay day → IsScheme sc → AreNumberedLists lists → Agrees sc lists h → knows_owner sc owner ≡ true → (h.ledgers owner).start ≡ sc.start → open_of (h.ledgers owner) day sc ≡ None → first_forgotten (h.ledgers owner).from (week_start sc day) sc.devices ≡ None → AreTapsBetween (h.ledgers owner) (week_start sc day) day rows
         → bill_of sc rows day ≡ bill_of sc (parts_of sc lists (h.ledgers owner) owner) day }
 {}
 
@@ -126,8 +133,8 @@ pub fn bills_are_of_the_lists()
 pub fn the_order_of_commits_matters()
     ensures pruned { (sc : SchemeValue) (lists : ℕ → List RecordValue) (h : StoresValue) (owner device : ℕ) (r : RecordValue) → knows_owner sc owner ≡ true → slice_get (had lists h.outbox owner device) (length ((h.ledgers owner).taken device)) ≡ Some r → Agrees sc lists (record h { outbox = pruned owner device (length ((h.ledgers owner).taken device) + 1) h.outbox }) → ⊥ }
     ensures closed { (sc : SchemeValue) (lists : ℕ → List RecordValue) (h : StoresValue) (owner device day stated taken : ℕ) → knows_owner sc owner ≡ true → close_of (h.ledgers owner) device day ≡ Err (CountsShort stated taken) → (h.ledgers owner).from device ≤ day → Agrees sc lists (record h { ledgers = put h.ledgers owner (with_close device (h.ledgers owner)) }) → ⊥ }
-    ensures link_alone { (sc : SchemeValue) (lists : ℕ → List RecordValue) (h : StoresValue) (r : RecordValue) → AreNumberedLists sc lists → Agrees sc lists h → knows_owner sc r.owner ≡ true → IsOf lists (Tap r) → r.link ≡ h.outbox.upto r.device + 1 → Agrees sc lists (record h { outbox = with_link_alone r h.outbox }) → ⊥ }
-    ensures row_alone { (sc : SchemeValue) (lists : ℕ → List RecordValue) (h : StoresValue) (r : RecordValue) → AreNumberedLists sc lists → Agrees sc lists h → knows_owner sc r.owner ≡ true → IsOf lists (Tap r) → r.link ≡ h.outbox.upto r.device + 1 → Agrees sc lists (record h { outbox = with_row_alone r h.outbox }) → ⊥ }
+    ensures link_alone { (sc : SchemeValue) (lists : ℕ → List RecordValue) (h : StoresValue) (r : RecordValue) → AreNumberedLists lists → Agrees sc lists h → knows_owner sc r.owner ≡ true → IsOf lists (Tap r) → r.link ≡ h.outbox.upto r.device + 1 → Agrees sc lists (record h { outbox = with_link_alone r h.outbox }) → ⊥ }
+    ensures row_alone { (sc : SchemeValue) (lists : ℕ → List RecordValue) (h : StoresValue) (r : RecordValue) → AreNumberedLists lists → Agrees sc lists h → knows_owner sc r.owner ≡ true → IsOf lists (Tap r) → r.link ≡ h.outbox.upto r.device + 1 → Agrees sc lists (record h { outbox = with_row_alone r h.outbox }) → ⊥ }
 {}
 
 /// An owner's statements of a device's days before one may go from an outbox: stores that agreed agree, and what is

@@ -13,8 +13,8 @@ ghost use Rattle.fare_agreement.specs.WorkedStop.{first_tap, second_tap, two_tap
 /// both taken and both rows still there; it agrees with the lists, and the owner's next session prunes the rows.
 /// Had its first row been pruned before the take was committed, the rows would agree no more.
 pub fn a_stop_between_take_and_prune()
-    ensures numbered { (sc : SchemeValue) → IsOfDevice sc 7 → AreNumberedLists sc two_taps }
-    ensures opening { (sc : SchemeValue) → IsOfDevice sc 7 → Agrees sc two_taps both_stored }
+    ensures numbered { AreNumberedLists two_taps }
+    ensures opening { (sc : SchemeValue) → Agrees sc two_taps both_stored }
     ensures begun { (sc : SchemeValue) → knows_owner sc 4 ≡ true → IsOfDevice sc 7 → IsBegunOf sc two_taps both_stored (Serves_owner 4 takes_both) }
     ensures left { IsLeftBy both_stored (Serves_owner 4 takes_both) (stores_after both_stored (Serves_owner 4 takes_both)) }
     ensures taken { ((stores_after both_stored (Serves_owner 4 takes_both)).ledgers 4).taken 7 ≡ first_tap ∷ second_tap ∷ [] }

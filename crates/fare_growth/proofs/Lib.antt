@@ -3,7 +3,7 @@ mod Same
 mod Parts
 mod EachKind
 mod Adding
-mod Keeping
+pub mod Keeping
 mod Named
 mod Looked
 mod Found
