@@ -1,12 +1,11 @@
 -- Stores that go on, from call to call.
-use Rattle.std.proofs.Common.{ℕ, List, sym, ap, ◌∙◌, subst}
-use Rattle.fare_record.specs.Values.{RecordValue}
+use Rattle.std.proofs.Common.{sym, ◌∙◌, subst}
 use Rattle.fare_scheme.specs.Values.{SchemeValue}
 use Rattle.fare_store.specs.Standing.{Standing}
 use Rattle.fare_store.specs.OutboxWords.{OutboxValue}
 use Rattle.fare_store.specs.LedgerWords.{LedgerValue}
 use Rattle.fare_history.specs.Stores.{StoresValue}
-use Rattle.fare_agreement.specs.Agreeing.{AreNumberedLists, Agrees}
+use Rattle.fare_agreement.specs.Agreeing.{Agrees}
 use Rattle.fare_agreement.proofs.Lasting.{stores_last, last_trans}
 use Rattle.fare_agreement.proofs.Sessions.{stores_self, stores_trans}
 use Rattle.fare_sessions.specs.declared.hub.Hub.{Hub}
@@ -43,15 +42,12 @@ module _ {O L : Type 0} (outbox : O → Standing OutboxValue) (ledger : L → St
     scheme = g.scheme ∙ f.scheme;
     follow = follow_join outbox ledger a b c f.follow g.follow;
     sound = λ sound. g.sound (f.sound sound);
-    agrees = λ clean sound lists numbered is. g.agrees clean (f.sound sound) lists (still lists numbered) (f.agrees (before clean) sound lists numbered is);
-    stays = λ clean sound lists numbered is. join a b c (f.stays (before clean) sound lists numbered is) (g.stays clean (f.sound sound) lists (still lists numbered) (f.agrees (before clean) sound lists numbered is));
+    agrees = λ clean sound lists numbered is. g.agrees clean (f.sound sound) lists numbered (f.agrees (before clean) sound lists numbered is);
+    stays = λ clean sound lists numbered is. join a b c (f.stays (before clean) sound lists numbered is) (g.stays clean (f.sound sound) lists numbered (f.agrees (before clean) sound lists numbered is));
   }
     where
       before : AreClean outbox ledger c → AreClean outbox ledger b
       before clean = clean_back outbox ledger b c g.follow clean
-
-      still : (lists : ℕ → List RecordValue) → AreNumberedLists a.scheme lists → AreNumberedLists b.scheme lists
-      still lists numbered = subst (λ (sc : SchemeValue). AreNumberedLists sc lists) (sym f.scheme) numbered
 
   -- LOSING NOTHING
   pub grown_same : (old new : Hub O L) → ((k : StoresValue) → MayStandAs outbox ledger new k → MayStandAs outbox ledger old k) → HasGrown outbox ledger old new

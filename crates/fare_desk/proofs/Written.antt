@@ -35,7 +35,7 @@ module _ {O L : Type 0} (outbox : O → Standing OutboxValue) (ledger : L → St
       (held : AreClean outbox ledger new → AreSound outbox ledger old → (h : StoresValue) → MayStandAs outbox ledger old h → gone_in old.scheme (h.ledgers owner) day ≡ None)
       (short : AreClean outbox ledger new → AreSound outbox ledger old → (h : StoresValue) → MayStandAs outbox ledger old h → told ≡ short_in old.scheme (h.ledgers owner) day)
       (taken : AreClean outbox ledger new → AreSound outbox ledger old → (rows : List RecordValue) × ((h : StoresValue) → MayStandAs outbox ledger old h → AreTapsBetween (h.ledgers owner) (week_start old.scheme day) day rows) × (made ≡ rule old.scheme rows day))
-      (value : AreClean outbox ledger new → AreSound outbox ledger old → (lists : ℕ → List RecordValue) (h : StoresValue) → AreNumberedLists old.scheme lists → MayStandAs outbox ledger old h → Agrees old.scheme lists h → made ≡ rule old.scheme (parts_of old.scheme lists (h.ledgers owner) owner) day) where
+      (value : AreClean outbox ledger new → AreSound outbox ledger old → (lists : ℕ → List RecordValue) (h : StoresValue) → AreNumberedLists lists → MayStandAs outbox ledger old h → Agrees old.scheme lists h → made ≡ rule old.scheme (parts_of old.scheme lists (h.ledgers owner) owner) day) where
     pub made_of : AreClean outbox ledger new → AreSound outbox ledger old → IsMadeOf outbox ledger rule old owner day made devices
     made_of clean sound = record { closed = closed clean sound; held = held clean sound; short = λ h may. same ∙ short clean sound h may; taps = taken clean sound; numbered = value clean sound }
 

@@ -28,7 +28,7 @@ module _ {O L : Type 0} (outbox : O → Standing OutboxValue) (ledger : L → St
     pub held : (h : StoresValue) → MayStandAs outbox ledger hub h → gone_in hub.scheme (h.ledgers owner) day ≡ None
     pub short : (h : StoresValue) → MayStandAs outbox ledger hub h → devices ≡ short_in hub.scheme (h.ledgers owner) day
     pub taps : (rows : List RecordValue) × ((h : StoresValue) → MayStandAs outbox ledger hub h → AreTapsBetween (h.ledgers owner) (week_start hub.scheme day) day rows) × (made ≡ rule hub.scheme rows day)
-    pub numbered : (lists : ℕ → List RecordValue) (h : StoresValue) → AreNumberedLists hub.scheme lists → MayStandAs outbox ledger hub h → Agrees hub.scheme lists h → made ≡ rule hub.scheme (parts_of hub.scheme lists (h.ledgers owner) owner) day
+    pub numbered : (lists : ℕ → List RecordValue) (h : StoresValue) → AreNumberedLists lists → MayStandAs outbox ledger hub h → Agrees hub.scheme lists h → made ≡ rule hub.scheme (parts_of hub.scheme lists (h.ledgers owner) owner) day
 
   -- an owner's bill of a day was written
   pub record WritesBill (old new : Hub O L) (owner day : ℕ) (before after : Option (List ℕ)) : Type 0 where

@@ -141,8 +141,8 @@ module _ {O L : Type 0} (outbox : O → Standing OutboxValue) (ledger : L → St
     pub scheme : new.scheme ≡ old.scheme
     pub follow : StoresFollow outbox ledger old new
     pub sound : AreSound outbox ledger old → AreSound outbox ledger new
-    pub agrees : AreClean outbox ledger new → AreSound outbox ledger old → (lists : ℕ → List RecordValue) → AreNumberedLists old.scheme lists → IsAgreed outbox ledger lists old → IsAgreed outbox ledger lists new
-    pub stays : AreClean outbox ledger new → AreSound outbox ledger old → (lists : ℕ → List RecordValue) → AreNumberedLists old.scheme lists → IsAgreed outbox ledger lists old → Stays old new
+    pub agrees : AreClean outbox ledger new → AreSound outbox ledger old → (lists : ℕ → List RecordValue) → AreNumberedLists lists → IsAgreed outbox ledger lists old → IsAgreed outbox ledger lists new
+    pub stays : AreClean outbox ledger new → AreSound outbox ledger old → (lists : ℕ → List RecordValue) → AreNumberedLists lists → IsAgreed outbox ledger lists old → Stays old new
 
   -- and they lose nothing
   abbrev pub GoesOn : Hub O L → Hub O L → Type 0

@@ -90,12 +90,12 @@ module _ {S O L : Type 0} (talks : S → Talk) (does : PauseOf O L) (outbox : O 
       step_owned : KeepOwners does outbox ledger → AreOwned outbox ledger a → AreOwned outbox ledger e
       step_owned keep owned = held.owned clean (goes.sound sound) (behind_owned keep x a m behind clean_m sound owned)
 
-      module _ (lists : ℕ → List RecordValue) (numbered : AreNumberedLists a.scheme lists) (gave : GaveOf talks a.scheme lists x.olds x.news) (agreed : IsAgreed outbox ledger lists a) where
+      module _ (lists : ℕ → List RecordValue) (numbered : AreNumberedLists lists) (gave : GaveOf talks a.scheme lists x.olds x.news) (agreed : IsAgreed outbox ledger lists a) where
         asked : Trusted talks outbox ledger m e x.olds x.news lists
         asked = record {
           clean = clean;
           sound = goes.sound sound;
-          numbered = subst (λ sc. AreNumberedLists sc lists) (sym goes.scheme) numbered;
+          numbered = numbered;
           gave = subst (λ sc. GaveOf talks sc lists x.olds x.news) (sym goes.scheme) gave;
           agreed = goes.agrees clean_m sound lists numbered agreed;
         }
@@ -145,13 +145,13 @@ module _ {S O L : Type 0} (talks : S → Talk) (does : PauseOf O L) (outbox : O 
   Gave sc lists xs = AllByRecursion (λ x. GaveOf talks sc lists x.olds x.news) xs
 
   pub spaced_keeps : (a b : Hub O L) (xs : List (Call S)) → Spaced a b xs → AreClean outbox ledger b → AreSound outbox ledger a
-      → (lists : ℕ → List RecordValue) → AreNumberedLists a.scheme lists → Gave a.scheme lists xs → IsAgreed outbox ledger lists a → KeepsLists lists a b
+      → (lists : ℕ → List RecordValue) → AreNumberedLists lists → Gave a.scheme lists xs → IsAgreed outbox ledger lists a → KeepsLists lists a b
   spaced_keeps a b [] h clean sound lists numbered gave agreed = (subst (IsAgreed outbox ledger lists) (sym h) agreed, subst (HasGrown outbox ledger a) (sym h) (grown_same outbox ledger a a (λ k may. may)))
   spaced_keeps a b (x ∷ xs) h clean sound lists numbered gave agreed =
       let clean_e = clean_back outbox ledger h.1 b (spaced_follow h.1 b xs h.4) clean in
       let same = step_scheme x a h.0 h.1 h.2 h.3 in
       let one = step_keeps x a h.0 h.1 h.2 h.3 clean_e sound lists numbered gave.0 agreed in
-      let rest = spaced_keeps h.1 b xs h.4 clean (step_sound x a h.0 h.1 h.2 h.3 clean_e sound) lists (subst (λ sc. AreNumberedLists sc lists) (sym same) numbered) (subst (λ sc. Gave sc lists xs) (sym same) gave.1) one.0 in
+      let rest = spaced_keeps h.1 b xs h.4 clean (step_sound x a h.0 h.1 h.2 h.3 clean_e sound) lists numbered (subst (λ sc. Gave sc lists xs) (sym same) gave.1) one.0 in
       (rest.0, grown_join outbox ledger a h.1 b one.1 rest.1)
 
   -- what is covered stays so
@@ -167,7 +167,7 @@ module _ {S O L : Type 0} (talks : S → Talk) (does : PauseOf O L) (outbox : O 
   all_covered_more sc x y grew (c ∷ cs) are = (covered_more sc x y grew c are.0, all_covered_more sc x y grew cs are.1)
 
   spaced_covers : (a b : Hub O L) (xs : List (Call S)) → Spaced a b xs → AreClean outbox ledger b → AreSound outbox ledger a
-      → (lists : ℕ → List RecordValue) → AreNumberedLists a.scheme lists → Gave a.scheme lists xs → IsAgreed outbox ledger lists a
+      → (lists : ℕ → List RecordValue) → AreNumberedLists lists → Gave a.scheme lists xs → IsAgreed outbox ledger lists a
       → (k : StoresValue) → MayStandAs outbox ledger b k → AllByRecursion (λ x. AreCovered talks a.scheme k.outbox x.olds x.news) xs
   spaced_covers a b [] h clean sound lists numbered gave agreed k may = tt
   spaced_covers a b (x ∷ xs) h clean sound lists numbered gave agreed k may =
@@ -175,12 +175,11 @@ module _ {S O L : Type 0} (talks : S → Talk) (does : PauseOf O L) (outbox : O 
       let clean_e = clean_back outbox ledger e b (spaced_follow e b xs h.4) clean in
       let same = step_scheme x a h.0 e h.2 h.3 in
       let sound_e = step_sound x a h.0 e h.2 h.3 clean_e sound in
-      let numbered_e = subst (λ sc. AreNumberedLists sc lists) (sym same) numbered in
       let gave_e = subst (λ sc. Gave sc lists xs) (sym same) gave.1 in
       let agreed_e = (step_keeps x a h.0 e h.2 h.3 clean_e sound lists numbered gave.0 agreed).0 in
-      let stood = (spaced_keeps e b xs h.4 clean sound_e lists numbered_e gave_e agreed_e).1.grown k may in (
+      let stood = (spaced_keeps e b xs h.4 clean sound_e lists numbered gave_e agreed_e).1.grown k may in (
         covered_more a.scheme stood.0.outbox k.outbox stood.2.outbox x (step_covers x a h.0 e h.2 h.3 clean_e sound lists numbered gave.0 agreed stood.0 stood.1),
-        subst (λ sc. AllByRecursion (λ y. AreCovered talks sc k.outbox y.olds y.news) xs) same (spaced_covers e b xs h.4 clean sound_e lists numbered_e gave_e agreed_e k may),
+        subst (λ sc. AllByRecursion (λ y. AreCovered talks sc k.outbox y.olds y.news) xs) same (spaced_covers e b xs h.4 clean sound_e lists numbered gave_e agreed_e k may),
       )
 
   -- WITH A REST BEHIND THE LAST CALL
@@ -210,18 +209,15 @@ module _ {S O L : Type 0} (talks : S → Talk) (does : PauseOf O L) (outbox : O 
       pub all_owned : KeepOwners does outbox ledger → AreOwned outbox ledger a → AreOwned outbox ledger b
       all_owned keep owned = rested_owned does outbox ledger keep m b rested clean sound_last (spaced_owned keep a m xs held clean_last sound owned)
 
-      module _ (lists : ℕ → List RecordValue) (numbered : AreNumberedLists a.scheme lists) (gave : Gave a.scheme lists xs) (agreed : IsAgreed outbox ledger lists a) where
+      module _ (lists : ℕ → List RecordValue) (numbered : AreNumberedLists lists) (gave : Gave a.scheme lists xs) (agreed : IsAgreed outbox ledger lists a) where
         kept : KeepsLists lists a m
         kept = spaced_keeps a m xs held clean_last sound lists numbered gave agreed
 
-        numbered_last : AreNumberedLists m.scheme lists
-        numbered_last = subst (λ sc. AreNumberedLists sc lists) (sym (spaced_scheme a m xs held)) numbered
-
         grown_last : HasGrown outbox ledger m b
-        grown_last = last_goes.stays clean sound_last lists numbered_last kept.0
+        grown_last = last_goes.stays clean sound_last lists numbered kept.0
 
         pub all_keep : KeepsLists lists a b
-        all_keep = (last_goes.agrees clean sound_last lists numbered_last kept.0, grown_join outbox ledger a m b kept.1 grown_last)
+        all_keep = (last_goes.agrees clean sound_last lists numbered kept.0, grown_join outbox ledger a m b kept.1 grown_last)
 
         pub all_covered : (k : StoresValue) → MayStandAs outbox ledger b k → AllByRecursion (λ x. AreCovered talks a.scheme k.outbox x.olds x.news) xs
         all_covered k may =

@@ -103,9 +103,9 @@ pub record KeepsStores {O L : Type 0} (does : PauseOf O L) (outbox : O → Stand
   pub scheme : new.scheme ≡ old.scheme
   pub follow : StoresFollow outbox ledger old new
   pub sound : AreClean outbox ledger new → AreSound outbox ledger old → AreSound outbox ledger new
-  pub agrees : AreClean outbox ledger new → AreSound outbox ledger old → (lists : ℕ → List RecordValue) → AreNumberedLists old.scheme lists → AreGiven lists → IsAgreed outbox ledger lists old → IsAgreed outbox ledger lists new × HasGrown outbox ledger old new
-  pub covered : AreClean outbox ledger new → AreSound outbox ledger old → (lists : ℕ → List RecordValue) → AreNumberedLists old.scheme lists → AreGiven lists → IsAgreed outbox ledger lists old → (k : StoresValue) → MayStandAs outbox ledger new k → AreAllCovered old.scheme k.outbox calls
-  pub answered : AreClean outbox ledger new → AreSound outbox ledger old → (lists : ℕ → List RecordValue) → AreNumberedLists old.scheme lists → AreGiven lists → IsAgreed outbox ledger lists old → (k : StoresValue) → MayStandAs outbox ledger new k → AreLinesCovered old.scheme k.outbox calls
+  pub agrees : AreClean outbox ledger new → AreSound outbox ledger old → (lists : ℕ → List RecordValue) → AreNumberedLists lists → AreGiven lists → IsAgreed outbox ledger lists old → IsAgreed outbox ledger lists new × HasGrown outbox ledger old new
+  pub covered : AreClean outbox ledger new → AreSound outbox ledger old → (lists : ℕ → List RecordValue) → AreNumberedLists lists → AreGiven lists → IsAgreed outbox ledger lists old → (k : StoresValue) → MayStandAs outbox ledger new k → AreAllCovered old.scheme k.outbox calls
+  pub answered : AreClean outbox ledger new → AreSound outbox ledger old → (lists : ℕ → List RecordValue) → AreNumberedLists lists → AreGiven lists → IsAgreed outbox ledger lists old → (k : StoresValue) → MayStandAs outbox ledger new k → AreLinesCovered old.scheme k.outbox calls
   pub lasts : AreClean outbox ledger new → AreSound outbox ledger old → AreLasting outbox ledger old → AreLasting outbox ledger new
   pub owned : KeepOwners does outbox ledger → AreClean outbox ledger new → AreSound outbox ledger old → AreOwned outbox ledger old → AreOwned outbox ledger new
 

@@ -53,7 +53,7 @@ answered_still sc h k grew (history.Closes_day o d day) is = tt
 answered_still sc h k grew (history.Retires_lane o d) is = tt
 answered_still sc h k grew (history.Forgets o d day) is = tt
 
-module _ {S : Type 0} (sc : SchemeValue) (talks : S → Talk) (lists : ℕ → List RecordValue) (numbered : AreNumberedLists sc lists) where
+module _ {S : Type 0} (sc : SchemeValue) (talks : S → Talk) (lists : ℕ → List RecordValue) (numbered : AreNumberedLists lists) where
   -- each frame that a source gave is of the lists
   abbrev Gave : S → S → Type 0
   Gave old new = (more : List Frame) → (talks new).given ≡ (talks old).given ++ more → AllByRecursion (IsFrameOf sc lists) more

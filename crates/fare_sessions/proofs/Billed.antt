@@ -80,20 +80,20 @@ filter_flat p f (x ∷ xs) = filter-append p (f x) (flat_map f xs) ∙ ap (λ l.
 not_before : (a b : ℕ) → b ≤ max a b
 not_before a b = omega arith
 
-module _ (sc : SchemeValue) (lists : ℕ → List RecordValue) (all : AreNumberedLists sc lists) (h : StoresValue) (is : Agrees sc lists h) (owner : ℕ) (known : knows_owner sc owner ≡ true) (day : ℕ) (rows : List RecordValue) (short : List ℕ) (b : HasBasis sc (h.ledgers owner) day rows short) where
+module _ (sc : SchemeValue) (lists : ℕ → List RecordValue) (all : AreNumberedLists lists) (h : StoresValue) (is : Agrees sc lists h) (owner : ℕ) (known : knows_owner sc owner ≡ true) (day : ℕ) (rows : List RecordValue) (short : List ℕ) (b : HasBasis sc (h.ledgers owner) day rows short) where
   none_open : open_of (h.ledgers owner) day sc ≡ None
   none_open = ap (λ start. first_open start (h.ledgers owner).closed (h.ledgers owner).retired day sc.devices) b.start ∙ b.closed
 
   pub bill_of_lists : bill_of sc rows day ≡ bill_of sc (parts_of sc lists (h.ledgers owner) owner) day
   bill_of_lists = bill_is sc lists all owner (h.ledgers owner) (λ d. (is.lanes owner d known).all)
       (λ d. prefix_trans (is.lanes owner d known).all (had lists h.outbox owner d) (part owner (lists d)) (is.lanes owner d known).all_are (part_front owner (h.outbox.upto d) (lists d)))
-      (λ d. (is.lanes owner d known).taken_are) (λ d. (is.lanes owner d known).closed_are) day rows b.dated b.valid b.start none_open b.held b.taps
+      (λ d. (is.lanes owner d known).taken_are) (λ d. (is.lanes owner d known).closed_are) (λ d unknown. is.untaken owner d known unknown) day rows b.dated b.valid b.start none_open b.held b.taps
 
   pub settlement_of_lists : settlement_of sc rows day ≡ settlement_of sc (parts_of sc lists (h.ledgers owner) owner) day
   settlement_of_lists =
       ap (λ ordered. map_shares ordered) (week_in_order sc lists all owner (h.ledgers owner) (λ d. (is.lanes owner d known).all)
       (λ d. prefix_trans (is.lanes owner d known).all (had lists h.outbox owner d) (part owner (lists d)) (is.lanes owner d known).all_are (part_front owner (h.outbox.upto d) (lists d)))
-      (λ d. (is.lanes owner d known).taken_are) (λ d. (is.lanes owner d known).closed_are) (week_start sc day) day rows b.dated b.taps b.valid
+      (λ d. (is.lanes owner d known).taken_are) (λ d. (is.lanes owner d known).closed_are) (λ d unknown. is.untaken owner d known unknown) (week_start sc day) day rows b.dated b.taps b.valid
       (subst (λ n. n ≤ week_start sc day) (sym b.start) (not_before (monday_on_or_before day) sc.start)) none_open b.held)
       ∙ (ap (λ (records : List RecordValue). settlement_of sc records day) (sym (filter_flat among (λ (d : ℕ × Placement). part_counted lists (h.ledgers owner) owner d.0) sc.devices))
       ∙ other_days_settle_nothing sc day among (parts_of sc lists (h.ledgers owner) owner) (record { kept = λ r first last. and_from (nat_le (week_start sc day) r.tap.day) (nat_le r.tap.day day) (within first) (within last) }))

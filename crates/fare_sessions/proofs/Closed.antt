@@ -49,7 +49,7 @@ module _ {O L : Type 0} (outbox : O → Standing OutboxValue) (ledger : L → St
       by other was (Err (refused.Because why)) does = subst (IsOwn old.scheme other) (sym does.1) was
       by other was (Err (refused.Failed f)) does = subst (IsOwn old.scheme other) (sym does) was
 
-  module _ (dated : IsDay day) (sound_ledger : IsSound (ledger h.one.own_old)) (clean : AreClean outbox ledger new) (sound : AreSound outbox ledger old) (lists : ℕ → List RecordValue) (numbered : AreNumberedLists old.scheme lists) (is : IsAgreed outbox ledger lists old) where
+  module _ (dated : IsDay day) (sound_ledger : IsSound (ledger h.one.own_old)) (clean : AreClean outbox ledger new) (sound : AreSound outbox ledger old) (lists : ℕ → List RecordValue) (numbered : AreNumberedLists lists) (is : IsAgreed outbox ledger lists old) where
     leads : Leads (IsClosedFrom device day) (ledger h.one.own_old) (ledger h.one.own_new)
     leads = write_leads (λ l. close_of l device day) (with_close device) (ledger h.one.own_old) (ledger h.one.own_new) h.answer h.writes (record { sound = sound_ledger; lawful = sound.lawful.ledgers_are h.one.place h.one.own_old h.one.was }) (clean.ledgers_are h.one.place h.one.own_new h.one.is)
 

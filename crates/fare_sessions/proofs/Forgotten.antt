@@ -179,7 +179,7 @@ module _ {O L : Type 0} (outbox : O → Standing OutboxValue) (ledger : L → St
           by (Err e) ok asks = no_refusal e (sym done ∙ asks.1)
 
     -- AGREEMENT
-    module _ (lists : ℕ → List RecordValue) (numbered : AreNumberedLists old.scheme lists) (is : IsAgreed outbox ledger lists old) where
+    module _ (lists : ℕ → List RecordValue) (numbered : AreNumberedLists lists) (is : IsAgreed outbox ledger lists old) where
       safe : (k : StoresValue) (may : MayStandAs outbox ledger new k) → IsSafe old.scheme lists numbered (forgotten_left k may).0 k (history.Forgets owner device day)
       safe k may = let was = forgotten_left k may in stop_safe old.scheme lists numbered was.0 k (history.Forgets owner device day) (is.agreed was.0 was.1) (ap is_some h.one.at) was.2
 

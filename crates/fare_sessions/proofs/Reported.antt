@@ -135,7 +135,7 @@ module _ {S O L : Type 0} (talks : S → Talk) (outbox : O → Standing OutboxVa
       from : (k : StoresValue) → MayStandAs outbox ledger new k → (h : StoresValue) × (qs : List history.Session) × MayStandAs outbox ledger old h × HaveLed old.scheme talks olds news a.count h k a.tally qs
       from k may = run_led talks outbox ledger old olds news a.count new a.tally a.ran clean sound k may
 
-      pub agrees : (lists : ℕ → List RecordValue) → AreNumberedLists old.scheme lists → GaveOf talks old.scheme lists olds news → IsAgreed outbox ledger lists old → IsAgreed outbox ledger lists new
+      pub agrees : (lists : ℕ → List RecordValue) → AreNumberedLists lists → GaveOf talks old.scheme lists olds news → IsAgreed outbox ledger lists old → IsAgreed outbox ledger lists new
       agrees lists numbered_lists gave is = record {
         agreed = λ k may.
             let was = from k may in
@@ -143,7 +143,7 @@ module _ {S O L : Type 0} (talks : S → Talk) (outbox : O → Standing OutboxVa
             (list_kept old.scheme talks lists numbered_lists olds news a.count was.0 k a.tally was.1 was.3 can gave (is.agreed was.0 was.2)).kept.agrees;
       }
 
-      pub grows : (lists : ℕ → List RecordValue) → AreNumberedLists old.scheme lists → GaveOf talks old.scheme lists olds news → IsAgreed outbox ledger lists old → HasGrown outbox ledger old new
+      pub grows : (lists : ℕ → List RecordValue) → AreNumberedLists lists → GaveOf talks old.scheme lists olds news → IsAgreed outbox ledger lists old → HasGrown outbox ledger old new
       grows lists numbered_lists gave is = record {
         grown = λ k may.
             let was = from k may in
@@ -151,7 +151,7 @@ module _ {S O L : Type 0} (talks : S → Talk) (outbox : O → Standing OutboxVa
             (was.0, was.2, grew);
       }
 
-      pub covered : (lists : ℕ → List RecordValue) → AreNumberedLists old.scheme lists → GaveOf talks old.scheme lists olds news → IsAgreed outbox ledger lists old → (k : StoresValue) → MayStandAs outbox ledger new k → AreCovered talks old.scheme k.outbox olds news
+      pub covered : (lists : ℕ → List RecordValue) → AreNumberedLists lists → GaveOf talks old.scheme lists olds news → IsAgreed outbox ledger lists old → (k : StoresValue) → MayStandAs outbox ledger new k → AreCovered talks old.scheme k.outbox olds news
       covered lists numbered_lists gave is k may = record { covered = λ session before after was now place d below. by session before after was now place d below (cases_lt session a.count) }
         where
           by : (session : ℕ) (before after : Vec (Station S) Global) → slice_get olds session ≡ Some (Collect before) → slice_get news session ≡ Some (Collect after) → (place : ℕ) (d : Station S) → place < length before.items

@@ -63,7 +63,7 @@ module _ {O L : Type 0} (outbox : O → Standing OutboxValue) (ledger : L → St
       (λ mine. let w = h.writes mine in done_own other was h.answer (w.value live (sound.lawful.ledgers_are h.one.place h.one.own_old h.one.was (w.live live))).1)
       (λ same. subst (λ x. IsOwn old.scheme other (ledger x).value) (sym same) was))
 
-  module _ (sound_ledger : IsSound (ledger h.one.own_old)) (clean : AreClean outbox ledger new) (sound : AreSound outbox ledger old) (lists : ℕ → List RecordValue) (numbered : AreNumberedLists old.scheme lists) (is : IsAgreed outbox ledger lists old) where
+  module _ (sound_ledger : IsSound (ledger h.one.own_old)) (clean : AreClean outbox ledger new) (sound : AreSound outbox ledger old) (lists : ℕ → List RecordValue) (numbered : AreNumberedLists lists) (is : IsAgreed outbox ledger lists old) where
     leads : Leads (IsRetiredFrom device) (ledger h.one.own_old) (ledger h.one.own_new)
     leads = asked (Leads (IsRetiredFrom device) (ledger h.one.own_old) (ledger h.one.own_new))
         (λ mine. write_leads (λ l. retire_of l device) (with_retired device) (ledger h.one.own_old) (ledger h.one.own_new) h.answer (h.writes mine) (record { sound = sound_ledger; lawful = sound.lawful.ledgers_are h.one.place h.one.own_old h.one.was }) (clean.ledgers_are h.one.place h.one.own_new h.one.is))

@@ -76,12 +76,12 @@ IsAdded old new counted = (more : ℕ) × (new ≡ old + more) × (counted ≡ m
 module _ {S O L : Type 0} (talks : S → Talk) (outbox : O → Standing OutboxValue) (ledger : L → Standing LedgerValue) where
   -- WHAT IS ASKED
   -- What each promise about lists of taps asks of a call: the stores have kept what was committed, and what they held before
-  -- fitted together; the lists are numbered in the scheme's way, the frames that the sources gave are of them, and what the
+  -- fitted together; the lists are numbered as devices number their taps, the frames that the sources gave are of them, and what the
   -- stores held before agreed with them.
   pub record Trusted (old new : Hub O L) (olds news : List (Session S)) (lists : ℕ → List RecordValue) : Type 0 where
     pub clean : AreClean outbox ledger new
     pub sound : AreSound outbox ledger old
-    pub numbered : AreNumberedLists old.scheme lists
+    pub numbered : AreNumberedLists lists
     pub gave : GaveOf talks old.scheme lists olds news
     pub agreed : IsAgreed outbox ledger lists old
 
@@ -97,4 +97,4 @@ module _ {S O L : Type 0} (talks : S → Talk) (outbox : O → Standing OutboxVa
     pub taken : report.taken ≡ min tally.taken 18446744073709551615
     pub left : report.left ≡ min tally.left 18446744073709551615
     pub faults : report.faults.items ≡ tally.faults
-    pub answered : (lists : ℕ → List RecordValue) → AreNumberedLists old.scheme lists → GaveOf talks old.scheme lists olds news → Agrees old.scheme lists h → AllByRecursion (AreAnswered old.scheme k) qs
+    pub answered : (lists : ℕ → List RecordValue) → AreNumberedLists lists → GaveOf talks old.scheme lists olds news → Agrees old.scheme lists h → AllByRecursion (AreAnswered old.scheme k) qs

@@ -37,8 +37,8 @@ impl<O: Outbox, L: Ledger> Hub<O, L> {
         ensures scheme { self.new.scheme ≡ self.old.scheme }
         ensures follow { StoresFollow O.standing L.standing self.old self.new }
         ensures sound { AreSound O.standing L.standing self.old → AreSound O.standing L.standing self.new }
-        ensures agrees { AreClean O.standing L.standing self.new → AreSound O.standing L.standing self.old → (lists : ℕ → List RecordValue) → AreNumberedLists self.old.scheme lists → IsAgreed O.standing L.standing lists self.old → IsAgreed O.standing L.standing lists self.new }
-        ensures grows { AreClean O.standing L.standing self.new → AreSound O.standing L.standing self.old → (lists : ℕ → List RecordValue) → AreNumberedLists self.old.scheme lists → IsAgreed O.standing L.standing lists self.old → HasGrown O.standing L.standing self.old self.new }
+        ensures agrees { AreClean O.standing L.standing self.new → AreSound O.standing L.standing self.old → (lists : ℕ → List RecordValue) → AreNumberedLists lists → IsAgreed O.standing L.standing lists self.old → IsAgreed O.standing L.standing lists self.new }
+        ensures grows { AreClean O.standing L.standing self.new → AreSound O.standing L.standing self.old → (lists : ℕ → List RecordValue) → AreNumberedLists lists → IsAgreed O.standing L.standing lists self.old → HasGrown O.standing L.standing self.old self.new }
     {
         let Some(at) = self.scheme.owner_position(owner) else {
             return Err(Refused::Because(RetiringFault::UnknownOwner));
