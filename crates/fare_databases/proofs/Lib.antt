@@ -3,6 +3,7 @@ pub mod Back
 pub mod Held
 pub mod Kept
 pub mod Looks
+pub mod Growing
 pub mod Now
 pub mod Owners
 pub mod Pushed

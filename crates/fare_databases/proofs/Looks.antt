@@ -72,6 +72,9 @@ pub stores_agree : (sc : SchemeValue) (lists : ℕ → List RecordValue) (h k : 
 stores_agree sc lists h k looks is = record {
   lanes = λ owner device known. lane_still lists h.outbox k.outbox looks.outbox_looks (h.ledgers owner) (k.ledgers owner) (looks.ledgers_look owner known) owner device (is.lanes owner device known);
   stated = λ owner device. subst (λ (s : ℕ → Option ℕ). AreCountsOf (part owner (lists device)) s) (sym (looks.outbox_looks.stated owner device)) (is.stated owner device);
+  untaken = λ owner device known none. (looks.ledgers_look owner known).taken device ∙ is.untaken owner device known none;
+  waiting = λ owner device stranger.
+      subst (λ (z : ℕ × (ℕ → Option RecordValue)). AreRowsOf (part owner (take z.0 (lists device))) 0 z.1) (λ i. (sym (looks.outbox_looks.upto device) i, sym (looks.outbox_looks.rows owner device) i)) (is.waiting owner device stranger);
 }
 
 -- BILLING

@@ -1,5 +1,5 @@
 -- What databases hold of a scheme's stores, by the trees that they show or that a stop leaves of them.
-use Rattle.std.specs.Prelude.{◌≡◌, ◌⊎◌, ℕ, List, length, slice_get, Some, true}
+use Rattle.std.specs.Prelude.{◌≡◌, ◌⊎◌, ℕ, List, length, slice_get, Some, None, true}
 use Rattle.sqlite_rules.specs.Lists.{Has}
 use Rattle.sqlite_trees.specs.Tree.{Trees}
 use Rattle.sqlite.specs.Effect.{IsDatabase}
@@ -63,6 +63,10 @@ pub record HoldStores (sc : SchemeValue) (outbox : Trees) (ledgers : ℕ → Tre
 -- what they hold agrees with the lists of taps
 abbrev pub HoldAgreed : SchemeValue → (ℕ → List RecordValue) → Trees → (ℕ → Trees) → Type 0
 HoldAgreed sc lists outbox ledgers = (h : StoresValue) × HoldStores sc outbox ledgers h × Agrees sc lists h
+
+-- the databases of the ledgers of those owners that a later scheme adds are vacant
+abbrev pub AreVacantFor : SchemeValue → SchemeValue → (ℕ → Trees) → Type 0
+AreVacantFor kept later ledgers = (place owner : ℕ) → id_at later.owners place ≡ Some owner → id_at kept.owners place ≡ None → IsVacantOf ledger_parts (ledgers place)
 
 -- DATABASES
 -- a database shows just these trees: they are what its schema says, and a stop would leave them

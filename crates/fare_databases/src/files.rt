@@ -11,6 +11,9 @@ use sqlite_store::FileStore;
 use std::fs;
 use std::io::ErrorKind;
 
+/// A connection to a database in a file of this machine.
+pub type FileDatabase = Connection<FileStore<File>>;
+
 /// The databases of a scheme's stores in files of this machine.
 pub type FileDatabases = Databases<FileStore<File>>;
 
@@ -41,12 +44,11 @@ fn find(rt: &HostRuntime, path: &str) -> Result<(), Fault> {
     }
 }
 
-// A connection to the database at a path.
-fn connect(
-    rt: &HostRuntime,
-    path: &str,
-    absent: Absent,
-) -> Result<Connection<FileStore<File>>, Fault> {
+/// Connects to the database in the file at a path. A file that isn't there is made, or refused.
+///
+/// `Memory` where there was none for it, and `Store` where the file can't be made or opened, among others since another
+/// program has it open.
+pub fn connect_file(rt: &HostRuntime, path: &str, absent: Absent) -> Result<FileDatabase, Fault> {
     match absent {
         Absent::Made => make(rt, path)?,
         Absent::Refused => find(rt, path)?,
@@ -64,7 +66,7 @@ fn connect_owner(
     place: usize,
     path: &str,
     absent: Absent,
-) -> Result<Connection<FileStore<File>>, Fault>
+) -> Result<FileDatabase, Fault>
     requires { place < length scheme.now.owners }
 {
     let Some(owner) = scheme.owner_at(place) else {
@@ -72,11 +74,12 @@ fn connect_owner(
     };
     let number = owner.get();
     let path = format!(in rt.alloc(); "{path}.{number}")?;
-    connect(rt, path.as_str(), absent)
+    connect_file(rt, path.as_str(), absent)
 }
 
-// Lets a connection go.
-fn close(database: Connection<FileStore<File>>) {
+/// Closes a database in a file, so that all its rows are in the one file that its path names. Where that fails no row is lost:
+/// they are also in the log beside the file, from which the next open takes them.
+pub fn close_file(database: FileDatabase) {
     let _ = database.close();
 }
 
@@ -93,24 +96,23 @@ pub fn connect_files(
 ) -> Result<FileDatabases, Fault>
     ensures owners { IfOk result (λ databases. length databases.ledgers.items ≡ length scheme.now.owners) }
 {
-    let mut databases = Databases::first(rt.alloc(), connect(rt, path, absent))?;
+    let mut databases = Databases::first(rt.alloc(), connect_file(rt, path, absent))?;
     for place in 0..scheme.owner_count() {
         databases = databases.and(connect_owner(rt, scheme, place, path, absent))?;
     }
     Ok(databases)
 }
 
-/// Closes databases in files, so that all rows of each are in the one file that its path names. Where that fails no row is
-/// lost: they are also in the log beside the file, from which the next open takes them.
+/// Closes databases in files, each as `close_file` does.
 pub fn close_files(databases: FileDatabases) {
     let Databases {
         outbox,
         mut ledgers,
     } = databases;
-    close(outbox);
+    close_file(outbox);
     for _ in 0..ledgers.len() {
         if let Some(database) = take_last(&mut ledgers) {
-            close(database);
+            close_file(database);
         }
     }
     end(ledgers);

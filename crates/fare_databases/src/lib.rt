@@ -10,9 +10,13 @@
 mod closing;
 mod databases;
 mod files;
+mod laws;
 mod opening;
 
 pub use closing::close_hub;
 pub use databases::Databases;
-pub use files::{Absent, FileDatabases, close_files, connect_files};
+pub use files::{
+    Absent, FileDatabase, FileDatabases, close_file, close_files, connect_file, connect_files,
+};
+pub use laws::added_schemes_keep_stores;
 pub use opening::{OpenHub, open_hub};

@@ -1,5 +1,6 @@
 -- The scheme that lists tell, and what it is told of lines.
-use Rattle.std.proofs.Common.{◌≡◌, ℕ, List, map, sym, ap, subst, ◌∙◌}
+use Rattle.std.proofs.Common.{◌≡◌, ℕ, List, map, sym, ap, subst, ◌∙◌, inr}
+use Rattle.sqlite.specs.Effect.{Database}
 use Rattle.fare_scheme.specs.Values.{SchemeValue}
 use Rattle.fare_lines.specs.declared.line.Line.{Line}
 use Rattle.fare_lines.specs.declared.line.Line.TheVariants.{Setup}
@@ -14,7 +15,7 @@ use Rattle.sqlite.specs.Tree.{Trees}
 use Rattle.fare_opening.specs.declared.site.Site.{Site}
 use Rattle.fare_keeping.specs.declared.fault.KeepFault.{KeepFault}
 use Rattle.fare_keeping.specs.declared.fault.KeepFault.TheVariants as keep_fault
-use Rattle.fare_keeping.specs.Keeping.{HoldLists, ListsSay, SaysAt, Tell, TellLines, TellsNone, of_scheme}
+use Rattle.fare_keeping.specs.Keeping.{HoldLists, KeepsLines, ListsSay, SaysAt, SaysNoScheme, Tell, TellLines, TellsNone, of_scheme}
 
 -- lists are of one list of lines
 pub one_lines : (lists : List (List (List ℕ))) (one other : List SchemeLine) → AreOf lists one → AreOf lists other → one ≡ other
@@ -35,6 +36,12 @@ pub says_none : (lists : List (List (List ℕ))) (lines : List Line) (fault : Sc
 says_none lists lines (scheme_fault.Refused why) tells none = no_scheme lists lines (scheme_fault.Refused why) tells none (λ e. let x = e in cc)
 says_none lists lines scheme_fault.NoScheme tells none = no_scheme lists lines scheme_fault.NoScheme tells none (λ e. let x = e in cc)
 says_none lists lines scheme_fault.Memory tells none = tt
+
+-- kept lines that make none
+pub says_unmade : (db : Database) (lines : List Line) (fault : SchemeFault) → KeepsLines db lines → MakesNone lines fault → SaysNoScheme db (of_scheme fault)
+says_unmade db lines (scheme_fault.Refused why) keeps none = inr (lines, keeps, λ sc. none_made lines sc (scheme_fault.Refused why) none (λ e. let x = e in cc))
+says_unmade db lines scheme_fault.NoScheme keeps none = inr (lines, keeps, λ sc. none_made lines sc scheme_fault.NoScheme none (λ e. let x = e in cc))
+says_unmade db lines scheme_fault.Memory keeps none = tt
 
 -- what is said of the lists that tables hold is said of the tables
 pub says_at : (w : Site) (trees : Trees) (lists : List (List (List ℕ))) (sc : SchemeValue) (fault : KeepFault) → HoldLists w trees lists → ((other : List (List (List ℕ))) → HoldLists w trees other → other ≡ lists) → ListsSay lists sc fault → SaysAt w trees sc fault

@@ -181,3 +181,11 @@ SaysNothing db Memory = Unit {0}
 SaysNothing db Store = Unit {0}
 SaysNothing db Foreign = ⊥
 SaysNothing db (Changed why) = ⊥
+
+-- why no scheme was told of a database: what it keeps is not of lines, or they make none
+abbrev pub SaysNoScheme : Database → KeepFault → Type 0
+SaysNoScheme db Unreadable = SaysNothing db Unreadable ⊎ ((lines : List Line) × KeepsLines db lines × ((sc : SchemeValue) → ¬ Makes lines sc))
+SaysNoScheme db Memory = Unit {0}
+SaysNoScheme db Store = Unit {0}
+SaysNoScheme db Foreign = ⊥
+SaysNoScheme db (Changed why) = ⊥

@@ -1,9 +1,10 @@
 ghost use Rattle.std.specs.Prelude.{◌≡◌};
 ghost use Rattle.fare_keeping.specs.declared.fault.KeepFault.TheVariants.{Memory};
-ghost use Rattle.fare_keeping.specs.Keeping.{of_store};
+ghost use Rattle.fare_keeping.specs.Keeping.{of_scheme, of_store};
 
 use fare_growth::Contradiction;
 use fare_store::Fault;
+use fare_trace::SchemeFault;
 use std::alloc::AllocError;
 
 /// Why a scheme isn't kept, or what is kept isn't told, in the order in which this is found. Its text names the first
@@ -37,6 +38,17 @@ impl From<Fault> for KeepFault {
         match fault {
             Fault::Memory => KeepFault::Memory,
             Fault::Store => KeepFault::Store,
+        }
+    }
+}
+
+impl From<SchemeFault> for KeepFault {
+    ghost from_gives = { λ fault e. e ≡ of_scheme fault };
+
+    fn from(fault: SchemeFault) -> KeepFault {
+        match fault {
+            SchemeFault::Memory => KeepFault::Memory,
+            SchemeFault::Refused(_) | SchemeFault::NoScheme => KeepFault::Unreadable,
         }
     }
 }

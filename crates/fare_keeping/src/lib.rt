@@ -9,9 +9,11 @@ mod asking;
 mod fault;
 mod keeping;
 pub mod laws;
+mod scheming;
 mod telling;
 mod text;
 
 pub use asking::kept_lines;
 pub use fault::KeepFault;
 pub use keeping::keep_scheme;
+pub use scheming::kept_scheme;

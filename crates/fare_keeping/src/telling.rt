@@ -4,14 +4,14 @@ ghost use Rattle.fare_lines.specs.declared.line.Line.TheVariants.{Setup};
 ghost use Rattle.fare_lines.specs.declared.line.SchemeLine.{SchemeLine};
 ghost use Rattle.fare_lists.specs.Lists.{told};
 ghost use Rattle.fare_register.specs.Registers.{AreOf, IsOfNone};
-ghost use Rattle.fare_keeping.specs.Keeping.{Tell, TellLines, TellsNone, of_scheme};
+ghost use Rattle.fare_keeping.specs.Keeping.{Tell, TellLines, TellsNone};
 
 use crate::KeepFault;
 use fare_lines::{Line, SchemeLine};
 use fare_lists::List;
 use fare_register::lines_of;
 use fare_scheme::Scheme;
-use fare_trace::{SchemeFault, scheme_of};
+use fare_trace::scheme_of;
 use std::alloc::{AllocError, Global};
 
 // Lines of a scheme as lines of a trace. The error is want of memory.
@@ -35,16 +35,6 @@ pub(crate) fn lines_in(alloc: Global, lists: &[List]) -> Result<Option<Vec<Line>
     }
 }
 
-// Why kept lines make no scheme.
-fn of_lines(fault: SchemeFault) -> KeepFault
-    ensures { result ≡ of_scheme fault }
-{
-    match fault {
-        SchemeFault::Memory => KeepFault::Memory,
-        SchemeFault::Refused(_) | SchemeFault::NoScheme => KeepFault::Unreadable,
-    }
-}
-
 // The scheme that lists tell. `Unreadable` where they tell none.
 pub(crate) fn scheme_in(alloc: Global, lists: &[List]) -> Result<Scheme, KeepFault>
     ensures told { IfOk result (Tell (told lists.now)) }
@@ -53,8 +43,5 @@ pub(crate) fn scheme_in(alloc: Global, lists: &[List]) -> Result<Scheme, KeepFau
     let Some(lines) = lines_in(alloc, lists)? else {
         return Err(KeepFault::Unreadable);
     };
-    match scheme_of(alloc, &lines) {
-        Ok(scheme) => Ok(scheme),
-        Err(fault) => Err(of_lines(fault)),
-    }
+    Ok(scheme_of(alloc, &lines)?)
 }

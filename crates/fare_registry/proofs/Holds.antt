@@ -70,3 +70,13 @@ holds_still was now survives clean trees shows v holds left leaves = elim (survi
   | inl before ↦ subst (λ t. HoldsOutbox t v) (sym (shows.left left before)) holds
   | inr it ↦ still_holds was trees left shows it.0 it.1 it.2 v holds
 ]
+
+-- so it does where nothing was done, or nothing written
+pub still_itself : (s : State) → HoldsStill s s
+still_itself s clean trees shows v holds left leaves = subst (λ t. HoldsOutbox t v) (sym (shows.left left leaves)) holds
+
+pub read_still : (was now : State) → Survives was now (λ trees. ⊥) → HoldsStill was now
+read_still was now survives clean trees shows v holds left leaves = elim (survives.crash clean left leaves) [
+  | inl before ↦ subst (λ t. HoldsOutbox t v) (sym (shows.left left before)) holds
+  | inr none ↦ absurd none
+]

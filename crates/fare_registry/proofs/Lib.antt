@@ -1,3 +1,4 @@
 pub mod Names
 pub mod Moved
 pub mod Holds
+pub mod Followed
