@@ -1,6 +1,7 @@
 -- How a question ends, by how its parts do.
-use Rattle.std.proofs.Common.{◌≡◌, ◌≢◌, ℕ, List, Option, Some, None, IfSome, sym, ap, ◌∙◌, subst, codes, slice_index_or, arith, inr}
+use Rattle.std.proofs.Common.{◌≡◌, ◌≢◌, ℕ, List, Option, Some, None, IfSome, sym, ap, ◌∙◌, subst, codes, slice_index_or, arith}
 use Rattle.std.specs.Prelude.{◌↔◌, Result, Ok, Err, OnOk, IfErr, length}
+use Rattle.std.specs.Result.{IsErrAnd}
 use Rattle.std.specs.Io.KnownBytes.{Keeps}
 use Rattle.std.specs.Map.{keys_of}
 use Rattle.clap.specs.Words.{Row, Text}
@@ -12,6 +13,7 @@ use Rattle.fare_store.specs.LedgerWords.{LedgerValue}
 use Rattle.fare_command.specs.Jobs.{JobOf}
 use Rattle.fare_command.specs.declared.words.Job.{Job}
 use Rattle.fare_command.specs.declared.words.Job.TheVariants as job
+use Rattle.fare_command.specs.declared.words.SchemeSource.{SchemeSource}
 use Rattle.fare_command.specs.declared.words.Question.{Question}
 use Rattle.fare_command.specs.declared.words.Question.TheVariants.{Close, Bill, Settle, Stand, Retire, Forget}
 use Rattle.fare_desk.specs.Closing.{AreLinesOf, lanes_of}
@@ -25,10 +27,13 @@ use Rattle.fare_sessions.specs.declared.hub.Hub.{Hub}
 use Rattle.fare_sessions.specs.Stores.{ComesOf}
 use Rattle.fare_run.specs.Asking.{Answers, AskEnds, AskFails, FailsIn, FailsRetire, GoesOnAsked, IsAnswered, IsAskedOf, KeepsUnlessWrite}
 use Rattle.fare_run.specs.Runs.{IsOfFiles}
-use Rattle.fare_run.specs.Scheming.{SpellsScheme}
+use Rattle.fare_run.specs.Scheming.{GaveNone, GivesNone, HasGiven, SpellsScheme, TakesScheme}
+use Rattle.fare_run.specs.Stores.{IsOfStores}
+use Rattle.fare_run.specs.declared.serve_failure.ServeFailure.{ServeFailure}
+use Rattle.fare_run.specs.declared.serve_failure.ServeFailure.TheVariants as serve
 use Rattle.fare_run.specs.declared.ask_failure.AskFailure.{AskFailure}
 use Rattle.fare_run.specs.declared.ask_failure.AskFailure.TheVariants.{Stores, Desk}
-use Rattle.fare_run.proofs.Served.{has_scheme}
+use Rattle.fare_run.proofs.Served.{has_given, has_scheme}
 
 -- A RETIRE
 -- what it says of its result it says of its fault
@@ -61,6 +66,9 @@ letters_apart e = absurd (omega (arith, e))
 not_serve : codes "replay" ≡ codes "serve" → ⊥
 not_serve e = absurd (cc)
 
+not_scheme : codes "replay" ≡ codes "scheme" → ⊥
+not_scheme e = letters_apart (ap (λ (l : List ℕ). slice_index_or l 0 0) e)
+
 not_close : codes "replay" ≡ codes "close" → ⊥
 not_close e = absurd (cc)
 
@@ -91,6 +99,7 @@ pub no_files : (matched : Option (Text × List Row)) (sql : _) (j : Job) → Job
 no_files None sql j replays is files = replays
 no_files (Some m) sql (job.Replay other) replays is files = files
 no_files (Some m) sql (job.Serve port turns path scheme read_millis write_millis rounds until patience round_millis ask) replays is files = not_serve (sym replays.0 ∙ is.0)
+no_files (Some m) sql (job.Scheme path) replays is files = not_scheme (sym replays.0 ∙ is.0)
 no_files (Some m) sql (job.Ask path scheme Close) replays is files = not_close (sym replays.0 ∙ is.2)
 no_files (Some m) sql (job.Ask path scheme (Bill owner day)) replays is files = not_bill (sym replays.0 ∙ is.2.0)
 no_files (Some m) sql (job.Ask path scheme (Settle owner day)) replays is files = not_settle (sym replays.0 ∙ is.2.0)
@@ -115,6 +124,28 @@ module _ {O L : Type 0} (outbox : O → Standing OutboxValue) (ledger : L → St
   answered (Retire owner device) sc old new before after same a = a.written
   answered (Forget day) sc old new before after same a = (a.text, subst (λ (x : SchemeValue). AreGoneLines (lanes_of x) a.text) same a.lines, a.written)
 
+-- FILES
+-- stores that were not opened are no fault of the lines
+pub of_stores : (known : Option (List ℕ)) (sc : SchemeValue) (why : ServeFailure) → IfSome known (SpellsScheme sc) → IsOfStores why → GivesNone known why
+of_stores known sc (serve.Lines fault) spelled is = absurd is
+of_stores known sc (serve.Refused why) spelled is = absurd is
+of_stores known sc serve.NoScheme spelled is = absurd is
+of_stores known sc (serve.Kept why) spelled is = absurd is
+of_stores known sc serve.Memory spelled is = tt
+of_stores known sc serve.Store spelled is = has_scheme known sc spelled
+of_stores known sc serve.Network spelled is = absurd is
+of_stores known sc serve.Write spelled is = absurd is
+
+pub gave_none : (source : SchemeSource) (input : List ℕ) (why : ServeFailure) → HasGiven source input → IsOfStores why → GaveNone source input why
+gave_none source input (serve.Lines fault) given is = absurd is
+gave_none source input (serve.Refused why) given is = absurd is
+gave_none source input serve.NoScheme given is = absurd is
+gave_none source input (serve.Kept why) given is = absurd is
+gave_none source input serve.Memory given is = tt
+gave_none source input serve.Store given is = given
+gave_none source input serve.Network given is = absurd is
+gave_none source input serve.Write given is = absurd is
+
 -- OVER DATABASES
 pub asked_done : (question : Question) (known : Option (List ℕ)) (sc : SchemeValue) (before after : Option (List ℕ)) (r : Result (Unit {0}) AskFailure) → IfSome known (SpellsScheme sc) → OnOk r (IsAnswered sc question before after) → OnOk r (IfSome known (AskEnds question before after))
 asked_done question None sc before after (Ok u) spelled is = tt
@@ -123,13 +154,18 @@ asked_done question known sc before after (Err failure) spelled is = tt
 
 pub asked_failed : (question : Question) (known : Option (List ℕ)) (sc : SchemeValue) (before after : Option (List ℕ)) (r : Result (Unit {0}) AskFailure) → IfSome known (SpellsScheme sc) → IfErr r (FailsIn question before after) → IfErr r (AskFails question known before after)
 asked_failed question known sc before after (Ok u) spelled is = tt
-asked_failed question known sc before after (Err (Stores why)) spelled is = (is.0, inr (has_scheme known sc spelled, is.1))
+asked_failed question known sc before after (Err (Stores why)) spelled is = (is.0, of_stores known sc why spelled is.1)
 asked_failed question known sc before after (Err (Desk fault)) spelled is = (has_scheme known sc spelled, is)
 
-pub asked_of : (question : Question) (input : List ℕ) (sc : SchemeValue) (before after : Option (List ℕ)) (r : Result (Unit {0}) AskFailure) → SpellsScheme sc input → OnOk r (IsAnswered sc question before after) → IfErr r (FailsIn question before after) → IsAskedOf question before after input r
-asked_of question input sc before after (Ok u) spelled done fails = record { sc = sc; spelled = spelled; writes = done }
-asked_of question input sc before after (Err (Stores why)) spelled done fails = (fails.0, inr ((sc, spelled), fails.1))
-asked_of question input sc before after (Err (Desk fault)) spelled done fails = ((sc, spelled), fails)
+pub asked_of : (question : Question) (source : SchemeSource) (input : List ℕ) (sc : SchemeValue) (before after : Option (List ℕ)) (r : Result (Unit {0}) AskFailure) → TakesScheme source sc input → OnOk r (IsAnswered sc question before after) → IfErr r (FailsIn question before after) → IsAskedOf question before after source input r
+asked_of question source input sc before after (Ok u) takes done fails = (sc, takes, done)
+asked_of question source input sc before after (Err (Stores why)) takes done fails = (fails.0, gave_none source input why (has_given source input sc takes) fails.1)
+asked_of question source input sc before after (Err (Desk fault)) takes done fails = (has_given source input sc takes, fails)
+
+-- there is no scheme, or the stores were not opened
+pub err_asked : (question : Question) (source : SchemeSource) (input : List ℕ) (before after : Option (List ℕ)) (r : Result (Unit {0}) AskFailure) (why : ServeFailure) → IsErrAnd r (λ e. e ≡ Stores why) → Keeps before after → GaveNone source input why → IsAskedOf question before after source input r
+err_asked question source input before after (Ok u) why is kept none = absurd is
+err_asked question source input before after (Err failure) why is kept none = subst (λ (f : AskFailure). IsAskedOf question before after source input (Err f)) (sym is) (kept, none)
 
 -- FAILURES
 pub keeps_unless : (fault : DeskFault) (before after : Option (List ℕ)) → (fault ≢ desk.Write → Keeps before after) → KeepsUnlessWrite fault before after

@@ -77,9 +77,6 @@ module _ {S : Type 0} (g : Ghosts S) (sc : SchemeValue) (valid : IsScheme sc) (b
 
   -- OPENED
   module _ (old new : Hub (SqlOutbox S g) (SqlLedger S g)) (same : old.scheme ≡ sc) (count : HasLedgers old) (holds : AreClean (stands_outbox g) (stands_ledger g) old → Holds g before old) (back : IsHandedBack g new after) where
-    numbered_old : (lists : ℕ → List RecordValue) → AreNumberedLists sc lists → AreNumberedLists old.scheme lists
-    numbered_old lists numbered = subst (λ s. AreNumberedLists s lists) (sym same) numbered
-
     -- SERVING
     keeps_calls : (does : PauseOf (SqlOutbox S g) (SqlLedger S g)) (last : Hub (SqlOutbox S g) (SqlLedger S g)) (calls : List LineCall) → AreSpaced shift_talk does (stands_outbox g) (stands_ledger g) old last calls
         → HasPausedOnly does (stands_outbox g) (stands_ledger g) last new → ComeOfLines old.scheme calls → KeepsCalls g sc before after calls
@@ -89,10 +86,10 @@ module _ {S : Type 0} (g : Ghosts S) (sc : SchemeValue) (valid : IsScheme sc) (b
           let clean_now = clean_new g sc valid before after old new same count holds k.scheme k.follow back clean in
           let sound = sound_old g sc valid before after old new same count holds k.scheme k.follow back clean outbox ledgers shows h agreed.1 in
           let is = agreed_old g sc valid before after old new same count holds k.scheme k.follow back clean outbox ledgers shows h agreed.1 lists agreed.2 in
-          let both = k.agrees clean_now sound lists (numbered_old lists numbered) told is in
+          let both = k.agrees clean_now sound lists numbered told is in
           let kept = run_keeps g sc valid before after old new same count holds k.scheme k.follow back clean outbox ledgers shows h agreed.1 StoresGrew stores_last lists both.0 both.1.grown outbox_left ledgers_left leave in
-          let covered = subst (λ s. AreAllCovered s kept.0.is.outbox calls) same (k.covered clean_now sound lists (numbered_old lists numbered) told is kept.0.is kept.1) in
-          let answered = subst (λ s. AreLinesCovered s kept.0.is.outbox calls) same (k.answered clean_now sound lists (numbered_old lists numbered) told is kept.0.is kept.1) in
+          let covered = subst (λ s. AreAllCovered s kept.0.is.outbox calls) same (k.covered clean_now sound lists numbered told is kept.0.is kept.1) in
+          let answered = subst (λ s. AreLinesCovered s kept.0.is.outbox calls) same (k.answered clean_now sound lists numbered told is kept.0.is kept.1) in
           (kept.0, (covered, answered));
     }
       where
@@ -136,7 +133,7 @@ module _ {S : Type 0} (g : Ghosts S) (sc : SchemeValue) (valid : IsScheme sc) (b
     module _ (goes : GoesOnLettingGo (stands_outbox g) (stands_ledger g) old new) where
       -- however what they held stays
       keeps_as : (Stays : StoresValue → StoresValue → Type 0) → ((w k : StoresValue) → Stays w k → StoresLast w k)
-          → (AreClean (stands_outbox g) (stands_ledger g) new → AreSound (stands_outbox g) (stands_ledger g) old → (lists : ℕ → List RecordValue) → AreNumberedLists old.scheme lists → IsAgreed (stands_outbox g) (stands_ledger g) lists old
+          → (AreClean (stands_outbox g) (stands_ledger g) new → AreSound (stands_outbox g) (stands_ledger g) old → (lists : ℕ → List RecordValue) → AreNumberedLists lists → IsAgreed (stands_outbox g) (stands_ledger g) lists old
           → (k : StoresValue) → MayStandAs (stands_outbox g) (stands_ledger g) new k → (w : StoresValue) × MayStandAs (stands_outbox g) (stands_ledger g) old w × Stays w k)
           → KeepDatabases g Stays sc before after (λ lists. Unit {0}) (λ k. Unit {0})
       keeps_as Stays last stayed = record {
@@ -145,7 +142,7 @@ module _ {S : Type 0} (g : Ghosts S) (sc : SchemeValue) (valid : IsScheme sc) (b
             let clean_now = clean_new g sc valid before after old new same count holds goes.scheme goes.follow back clean in
             let sound = sound_old g sc valid before after old new same count holds goes.scheme goes.follow back clean outbox ledgers shows h agreed.1 in
             let is = agreed_old g sc valid before after old new same count holds goes.scheme goes.follow back clean outbox ledgers shows h agreed.1 lists agreed.2 in
-            let kept = run_keeps g sc valid before after old new same count holds goes.scheme goes.follow back clean outbox ledgers shows h agreed.1 Stays last lists (goes.agrees clean_now sound lists (numbered_old lists numbered) is) (stayed clean_now sound lists (numbered_old lists numbered) is) outbox_left ledgers_left leave in
+            let kept = run_keeps g sc valid before after old new same count holds goes.scheme goes.follow back clean outbox ledgers shows h agreed.1 Stays last lists (goes.agrees clean_now sound lists numbered is) (stayed clean_now sound lists numbered is) outbox_left ledgers_left leave in
             (kept.0, tt);
       }
 
@@ -194,7 +191,7 @@ module _ {S : Type 0} (g : Ghosts S) (sc : SchemeValue) (valid : IsScheme sc) (b
         is_unbilled (Retire owner device) fault fails = tt
         is_unbilled (Forget before) fault fails = tt
 
-        module _ (lists : ℕ → List RecordValue) (numbered : AreNumberedLists sc lists) (agrees : Agrees sc lists h) where
+        module _ (lists : ℕ → List RecordValue) (numbered : AreNumberedLists lists) (agrees : Agrees sc lists h) where
           made_billed : {V : Type 0} (rule : SchemeValue → List RecordValue → ℕ → V) (text : V → List ℕ → List ℕ) (owner day : ℕ) (made : V) (devices : List ℕ) (written_before written_after : Option (List ℕ))
               → desk.IsMadeOf (stands_outbox g) (stands_ledger g) rule old owner day made devices → Appends written_before written_after (text made devices) → IsMadeOf rule text sc lists h owner day written_before written_after
           made_billed rule text owner day made devices written_before written_after m written =
@@ -203,7 +200,7 @@ module _ {S : Type 0} (g : Ghosts S) (sc : SchemeValue) (valid : IsScheme sc) (b
               let short : devices ≡ short_in sc (h.ledgers owner) day = m.short k may ∙ ap (λ s. short_in s (k.ledgers owner) day) same ∙ short_alike sc (h.ledgers owner) (k.ledgers owner) day (looks owner) in
               let now : Agrees old.scheme lists k = subst (λ s. Agrees s lists k) (sym same) (stores_agree sc lists h k (is_known.3 k may).1 agrees) in
               let is : made ≡ rule sc (parts_of sc lists (h.ledgers owner) owner) day =
-              m.numbered lists k (numbered_old lists numbered) may now ∙ ap (λ s. rule s (parts_of s lists (k.ledgers owner) owner) day) same ∙ ap (λ taps. rule sc taps day) (parts_alike sc lists (h.ledgers owner) (k.ledgers owner) owner (looks owner)) in
+              m.numbered lists k numbered may now ∙ ap (λ s. rule s (parts_of s lists (k.ledgers owner) owner) day) same ∙ ap (λ taps. rule sc taps day) (parts_alike sc lists (h.ledgers owner) (k.ledgers owner) owner (looks owner)) in
               (sym (open_alike sc (h.ledgers owner) (k.ledgers owner) day (looks owner)) ∙ closed, sym (gone_alike sc (h.ledgers owner) (k.ledgers owner) day (looks owner)) ∙ held, subst (λ (z : _ × List ℕ). Appends written_before written_after (text z.0 z.1)) (λ i. (is i, short i)) written)
 
           pub is_billed : (question : Question) (written_before written_after : Option (List ℕ)) → Answers (stands_outbox g) (stands_ledger g) question old new written_before written_after → IsBilled sc lists h question written_before written_after

@@ -2,3 +2,4 @@ mod Asked
 mod InDatabases
 mod Many
 mod Served
+mod Taken

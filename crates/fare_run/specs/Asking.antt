@@ -1,5 +1,5 @@
 -- What comes of a question of the stores, or an order.
-use Rattle.std.specs.Prelude.{◌≡◌, ◌≢◌, ◌↔◌, ◌⊎◌, ℕ, false, List, ◌++◌, Option, None, Some, Result, Ok, Err, is_some}
+use Rattle.std.specs.Prelude.{◌≡◌, ◌≢◌, ◌↔◌, ℕ, false, List, ◌++◌, Option, None, Some, Result, Ok, Err, is_some}
 use Rattle.std.specs.Io.KnownBytes.{Appends, Keeps}
 use Rattle.std.specs.Map.{keys_of}
 use Rattle.fare_cap.specs.Bills.{BillValue}
@@ -12,6 +12,7 @@ use Rattle.fare_store.specs.OutboxWords.{OutboxValue}
 use Rattle.fare_store.specs.LedgerWords.{LedgerValue}
 use Rattle.fare_event.specs.declared.reply.Reply.TheVariants as reply
 use Rattle.fare_lines.specs.Replies.{reply_text}
+use Rattle.fare_command.specs.declared.words.SchemeSource.{SchemeSource}
 use Rattle.fare_command.specs.declared.words.Question.{Question}
 use Rattle.fare_command.specs.declared.words.Question.TheVariants.{Close, Bill, Settle, Stand, Retire, Forget}
 use Rattle.fare_desk.specs.Billing.{WritesBill, WritesSettlement}
@@ -25,8 +26,7 @@ use Rattle.fare_desk.specs.declared.fault.DeskFault.TheVariants as desk
 use Rattle.fare_sessions.specs.declared.hub.Hub.{Hub}
 use Rattle.fare_sessions.specs.Billing.{IsBillRefusal}
 use Rattle.fare_sessions.specs.Stores.{AreClean, AreSound, ComesOf}
-use Rattle.fare_run.specs.Scheming.{MakesNoScheme, SpellsScheme}
-use Rattle.fare_run.specs.Serving.{HasScheme}
+use Rattle.fare_run.specs.Scheming.{GaveNone, GivesNone, HasGiven, HasScheme, SpellsScheme, TakesScheme}
 use Rattle.fare_run.specs.Stores.{IsOfStores}
 use Rattle.fare_run.specs.declared.ask_failure.AskFailure.{AskFailure}
 use Rattle.fare_run.specs.declared.ask_failure.AskFailure.TheVariants.{Stores, Desk}
@@ -94,10 +94,6 @@ pub record AskEnds (question : Question) (before after : Option (List ℕ)) (inp
   pub spelled : SpellsScheme sc input
   pub writes : IsAnswered sc question before after
 
--- the input makes no scheme, or it does and a store was not opened
-abbrev pub OpensNone : Option (List ℕ) → ServeFailure → Type 0
-OpensNone known why = MakesNoScheme known why ⊎ (HasScheme known × IsOfStores why)
-
 -- nothing was written, but where the writer failed
 abbrev pub KeepsUnlessWrite : DeskFault → Option (List ℕ) → Option (List ℕ) → Type 0
 KeepsUnlessWrite desk.Write before after = Unit {0}
@@ -109,14 +105,15 @@ abbrev pub FailsIn : Question → Option (List ℕ) → Option (List ℕ) → As
 FailsIn question before after (Stores why) = Keeps before after × IsOfStores why
 FailsIn question before after (Desk fault) = IsAnsweredAtOnce question → KeepsUnlessWrite fault before after
 
--- What each failure says: one of the scheme or of opening the stores comes before anything is written, and one of a
--- question writes nothing, but where the writer failed.
+-- What each failure says: one of the scheme, of what is kept or of opening the stores comes before anything is written, and one
+-- of a question writes nothing, but where the writer failed.
 abbrev pub AskFails : Question → Option (List ℕ) → Option (List ℕ) → Option (List ℕ) → AskFailure → Type 0
-AskFails question known before after (Stores why) = Keeps before after × OpensNone known why
+AskFails question known before after (Stores why) = Keeps before after × GivesNone known why
 AskFails question known before after (Desk fault) = HasScheme known × (IsAnsweredAtOnce question → KeepsUnlessWrite fault before after)
 
--- So it ended for these bytes of a scheme's lines: well where they make one and the answer for it was written, or by a
+-- So it ended for these bytes of a scheme's lines: well where it is taken from them and the answer for it was written, or by a
 -- failure that says this of them.
-abbrev pub IsAskedOf : Question → Option (List ℕ) → Option (List ℕ) → List ℕ → Result (Unit {0}) AskFailure → Type 0
-IsAskedOf question before after input (Ok _) = AskEnds question before after input
-IsAskedOf question before after input (Err failure) = AskFails question (Some input) before after failure
+abbrev pub IsAskedOf : Question → Option (List ℕ) → Option (List ℕ) → SchemeSource → List ℕ → Result (Unit {0}) AskFailure → Type 0
+IsAskedOf question before after source input (Ok _) = (sc : SchemeValue) × TakesScheme source sc input × IsAnswered sc question before after
+IsAskedOf question before after source input (Err (Stores why)) = Keeps before after × GaveNone source input why
+IsAskedOf question before after source input (Err (Desk fault)) = HasGiven source input × FailsIn question before after (Desk fault)

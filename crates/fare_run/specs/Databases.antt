@@ -53,7 +53,7 @@ use Rattle.fare_run.specs.declared.serve_failure.ServeFailure.{ServeFailure}
 -- Where databases show stores that agree with lists of taps, whatever a stop would leave of them behind the run does, and what
 -- they showed stays in it as the first says, and this is so of it.
 pub record KeepDatabases {S : Type 0} (g : Ghosts S) (Stays : StoresValue → StoresValue → Type 0) (sc : SchemeValue) (before after : Databases S) (AreGiven : (ℕ → List RecordValue) → Type 0) (IsSo : StoresValue → Type 0) : Type 0 where
-  pub keeps : AreCleanDisks g after → (lists : ℕ → List RecordValue) → AreNumberedLists sc lists → AreGiven lists
+  pub keeps : AreCleanDisks g after → (lists : ℕ → List RecordValue) → AreNumberedLists lists → AreGiven lists
       → (outbox : Trees) (ledgers : ℕ → Trees) → Show g before outbox ledgers → HoldAgreed sc lists outbox ledgers
       → (outbox_left : Trees) (ledgers_left : ℕ → Trees) → Leave g after outbox_left ledgers_left
       → (kept : StayAgreedAs Stays sc lists outbox ledgers outbox_left ledgers_left) × IsSo kept.is
@@ -138,7 +138,7 @@ pub record AnswersIn {S : Type 0} (g : Ghosts S) (sc : SchemeValue) (question : 
   pub back : IsHandedBack g new after
   pub answers : Answers (outbox_words.stands g) (ledger_words.stands g) question old new written_before written_after
   pub holds : AreCleanDisks g after → Holds g before old
-  pub billed : AreCleanDisks g after → (lists : ℕ → List RecordValue) → AreNumberedLists sc lists → (outbox : Trees) (ledgers : ℕ → Trees) → Show g before outbox ledgers → (h : StoresValue) → HoldStores sc outbox ledgers h → Agrees sc lists h → IsBilled sc lists h question written_before written_after
+  pub billed : AreCleanDisks g after → (lists : ℕ → List RecordValue) → AreNumberedLists lists → (outbox : Trees) (ledgers : ℕ → Trees) → Show g before outbox ledgers → (h : StoresValue) → HoldStores sc outbox ledgers h → Agrees sc lists h → IsBilled sc lists h question written_before written_after
 
 -- Why an owner's day has no bill, of stores that hold this: the first of these refusals that applies.
 pub record IsRefusedBill (sc : SchemeValue) (h : StoresValue) (owner day : ℕ) (refused : Option BillingFault) : Type 0 where

@@ -5,4 +5,5 @@ pub mod Many
 pub mod Runs
 pub mod Scheming
 pub mod Serving
+pub mod Showing
 pub mod Stores

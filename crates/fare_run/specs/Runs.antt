@@ -13,7 +13,7 @@ use Rattle.fare_run.specs.declared.left.Left.TheVariants as left
 use Rattle.fare_run.specs.declared.running.Work.{Work}
 use Rattle.fare_run.specs.declared.running.Work.TheVariants as work
 use Rattle.fare_run.specs.declared.failure.Failure.{Failure}
-use Rattle.fare_run.specs.declared.failure.Failure.TheVariants.{Replay, Write, Memory, Serve, Ask, Refused}
+use Rattle.fare_run.specs.declared.failure.Failure.TheVariants.{Replay, Write, Memory, Serve, Ask, Scheme, Refused}
 
 -- the job of the words
 abbrev pub IsJob : List Text → Job → Type 0
@@ -24,6 +24,7 @@ abbrev pub IsOfFiles : Job → Type 0
 IsOfFiles (job.Replay sql) = ⊥
 IsOfFiles (job.Serve port turns path scheme read_millis write_millis rounds until patience round_millis ask) = Unit {0}
 IsOfFiles (job.Ask path scheme question) = Unit {0}
+IsOfFiles (job.Scheme path) = Unit {0}
 
 -- clap has nothing to say of the words, and this is their job
 abbrev pub AsksFor : List Text → Job → Type 0
@@ -52,6 +53,7 @@ RunFails words known old new Write = AsksForText words
 RunFails words known old new Memory = Unit {0}
 RunFails words known old new (Serve why) = ⊥
 RunFails words known old new (Ask why) = ⊥
+RunFails words known old new (Scheme why) = ⊥
 RunFails words known old new (Refused text) = IsMistaken words ⊎ SaysNoJob words
 
 -- the failures that come before anything is read or written
@@ -61,12 +63,14 @@ IsBefore Write = ⊥
 IsBefore Memory = Unit {0}
 IsBefore (Serve why) = ⊥
 IsBefore (Ask why) = ⊥
+IsBefore (Scheme why) = ⊥
 IsBefore (Refused text) = Unit {0}
 
 -- the job that is left to do
 abbrev pub job_left : Left → Job
 job_left (left.Serve options) = job.Serve options.port options.limits.turns options.path options.scheme options.limits.read_millis options.limits.write_millis options.limits.rounds options.until options.limits.patience options.limits.round_millis options.ask
 job_left (left.Ask options) = job.Ask options.path options.scheme options.question
+job_left (left.Scheme path) = job.Scheme path
 
 -- the job of which this is what is done
 abbrev pub job_of : Work → Job

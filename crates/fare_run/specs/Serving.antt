@@ -13,9 +13,10 @@ use Rattle.fare_store.specs.OutboxWords.{OutboxValue}
 use Rattle.fare_store.specs.LedgerWords.{LedgerValue}
 use Rattle.fare_serve.specs.declared.fault.ServeFault.{ServeFault}
 use Rattle.fare_serve.specs.declared.fault.ServeFault.TheVariants as serve
-use Rattle.fare_run.specs.Scheming.{MakesNoScheme, SpellsScheme}
+use Rattle.fare_run.specs.Scheming.{HasGiven, HasScheme, MakesNoScheme, SpellsScheme, TakesScheme}
+use Rattle.fare_command.specs.declared.words.SchemeSource.{SchemeSource}
 use Rattle.fare_run.specs.declared.serve_failure.ServeFailure.{ServeFailure}
-use Rattle.fare_run.specs.declared.serve_failure.ServeFailure.TheVariants.{Lines, Refused, NoScheme, Memory, Store, Network, Write}
+use Rattle.fare_run.specs.declared.serve_failure.ServeFailure.TheVariants.{Lines, Refused, NoScheme, Kept, Memory, Store, Network, Write}
 
 -- the failure of serving that wrote no counts
 abbrev pub serving_failure : ServeFault → ServeFailure
@@ -56,10 +57,6 @@ IsUntold old new _ = ⊥
 -- nothing was written, or which ports these are and nothing else
 abbrev pub MayListen : Bool → Option (List ℕ) → Option (List ℕ) → Type 0
 MayListen asks old new = Keeps old new ⊎ ((ports : List ℕ) × ArePorts asks ports × Appends old new ports)
-
--- the input makes a scheme
-abbrev pub HasScheme : Option (List ℕ) → Type 0
-HasScheme known = IfSome known (λ input. (sc : SchemeValue) × SpellsScheme sc input)
 
 -- what was written is the ports and then counts for the owners of a scheme
 pub record WritesCounts (sc : SchemeValue) (asks : Bool) (old new : Option (List ℕ)) : Type 0 where
@@ -102,13 +99,25 @@ abbrev pub ServeFails : Bool → Option (List ℕ) → Option (List ℕ) → Opt
 ServeFails asks known old new (Lines fault) = Keeps old new × MakesNoScheme known (Lines fault)
 ServeFails asks known old new (Refused why) = Keeps old new × MakesNoScheme known (Refused why)
 ServeFails asks known old new NoScheme = Keeps old new × MakesNoScheme known NoScheme
+ServeFails asks known old new (Kept why) = Keeps old new × HasScheme known
 ServeFails asks known old new Memory = MayListen asks old new
 ServeFails asks known old new Store = MayListen asks old new × HasScheme known
 ServeFails asks known old new Network = Keeps old new × HasScheme known
 ServeFails asks known old new Write = HasScheme known
 
--- So it ended for these bytes of a scheme's lines: well where they make one and the counts for its owners were written, or
--- by a failure that says this of them.
-abbrev pub IsServedOf : Bool → Option (List ℕ) → Option (List ℕ) → List ℕ → Result (Unit {0}) ServeFailure → Type 0
-IsServedOf asks old new input (Ok _) = ServeEnds asks old new input
-IsServedOf asks old new input (Err failure) = ServeFails asks (Some input) old new failure
+-- what a failure says of the bytes that were given from a source
+abbrev pub ServeFailed : Bool → Option (List ℕ) → Option (List ℕ) → SchemeSource → List ℕ → ServeFailure → Type 0
+ServeFailed asks old new source input (Lines fault) = Keeps old new × MakesNoScheme (Some input) (Lines fault)
+ServeFailed asks old new source input (Refused why) = Keeps old new × MakesNoScheme (Some input) (Refused why)
+ServeFailed asks old new source input NoScheme = Keeps old new × MakesNoScheme (Some input) NoScheme
+ServeFailed asks old new source input (Kept why) = Keeps old new × HasGiven source input
+ServeFailed asks old new source input Memory = MayListen asks old new
+ServeFailed asks old new source input Store = MayListen asks old new × HasGiven source input
+ServeFailed asks old new source input Network = Keeps old new × HasGiven source input
+ServeFailed asks old new source input Write = HasGiven source input
+
+-- So it ended for these bytes of a scheme's lines: well where it is taken from them and the counts for its owners were written,
+-- or by a failure that says this of them.
+abbrev pub IsServedOf : Bool → Option (List ℕ) → Option (List ℕ) → SchemeSource → List ℕ → Result (Unit {0}) ServeFailure → Type 0
+IsServedOf asks old new source input (Ok _) = (sc : SchemeValue) × TakesScheme source sc input × WritesCounts sc asks old new
+IsServedOf asks old new source input (Err failure) = ServeFailed asks old new source input failure

@@ -1,11 +1,12 @@
-ghost use Rattle.std.specs.Prelude.{◌≡◌, ◌≢◌, ℕ, List, None, length, OnOk, IfErr, IfSome};
+ghost use Rattle.std.specs.Prelude.{◌≡◌, ℕ, List, length, OnOk, IfErr, IfSome};
 ghost use Rattle.fare_run.specs.Asking.{AskEnds, AskFails, FailsIn, IsAnswered, IsAskedOf};
 ghost use Rattle.fare_run.specs.Databases.{AnswersIn, KeepsIn, Refuses};
+ghost use Rattle.fare_run.specs.Scheming.{IsFile, given_by};
 
 use crate::ask_failure::AskFailure;
 use crate::asking::answer_over;
 use crate::left::AskOptions;
-use crate::scheming::scheme_from;
+use crate::scheming::take_scheme;
 use crate::serve_job::{databases_at, of_opening};
 use fare_command::Question;
 use fare_databases::{Absent, Databases, close_files, close_hub, open_hub};
@@ -46,31 +47,26 @@ pub fn ask_databases<S: Alter + Drop, O: Write>(
     }
 }
 
-/// Answers a question of the stores in files at a path, closes their days, retires a lane or lets days go, for the scheme
-/// that the lines of an input make, or of a file where the options name one. A store's file that isn't there is not made.
+/// Answers a question of the stores in files at a path, closes their days, retires a lane or lets days go. The scheme is the one
+/// for which lines are given, in a file or on the input, as the options say; it is kept beside the outbox from then on, where it
+/// adds to the kept one. Where none are given it is the kept one. A store's file that isn't there is not made.
 ///
-/// `Stores` where the lines can't be read or make no scheme, or where the stores can't be opened: nothing is written then. `Desk` as
-/// `answer_over` says. Where a file is named the input is left as it is, and what is said of the input's bytes holds of some
-/// bytes: a file's aren't known.
+/// `Stores` where the lines can't be read or make no scheme, where the scheme can't be kept, or where the stores can't be
+/// opened: nothing is written then. `Desk` as `answer_over` says. Where a file is named the input is left as it is, and what is
+/// said of the input's bytes holds of some bytes: a file's aren't known, nor are those of what is kept.
 pub fn ask<I: Read, O: Write>(
     rt: &HostRuntime,
     options: &AskOptions<'_>,
     input: &mut I,
     output: &mut O,
 ) -> Result<(), AskFailure>
-    ensures done { options.now.scheme ≡ None → OnOk result (IfSome (I.remaining input.old) (AskEnds options.now.question (O.contents output.old) (O.contents output.new))) }
-    ensures fails { options.now.scheme ≡ None → IfErr result (AskFails options.now.question (I.remaining input.old) (O.contents output.old) (O.contents output.new)) }
-    ensures some { (bytes : List ℕ) × IsAskedOf options.now.question (O.contents output.old) (O.contents output.new) bytes result }
-    ensures untouched { options.now.scheme ≢ None → input.new ≡ input.old }
+    ensures done { OnOk result (IfSome (given_by options.now.scheme (I.remaining input.old)) (AskEnds options.now.question (O.contents output.old) (O.contents output.new))) }
+    ensures fails { IfErr result (AskFails options.now.question (given_by options.now.scheme (I.remaining input.old)) (O.contents output.old) (O.contents output.new)) }
+    ensures some { (bytes : List ℕ) × IsAskedOf options.now.question (O.contents output.old) (O.contents output.new) options.now.scheme bytes result }
+    ensures untouched { IsFile options.now.scheme → input.new ≡ input.old }
 {
-    let scheme = match scheme_from(rt, options.scheme, input) {
-        Ok(scheme) => scheme,
-        Err(failure) => return Err(AskFailure::Stores(failure)),
-    };
-    let databases = match databases_at(rt, &scheme, options.path, Absent::Refused) {
-        Ok(databases) => databases,
-        Err(failure) => return Err(AskFailure::Stores(failure)),
-    };
+    let scheme = take_scheme(rt, options.scheme, options.path, Absent::Refused, input)?;
+    let databases = databases_at(rt, &scheme, options.path, Absent::Refused)?;
     let (databases, answered) = ask_databases(
         rt.alloc(),
         scheme,

@@ -26,6 +26,9 @@ pub enum Failure {
     /// A question of the stores, or an order, came to nothing.
     #[error("{0}")]
     Ask(AskFailure),
+    /// The kept scheme was not written.
+    #[error("{0}")]
+    Scheme(ServeFailure),
     /// The words are no job: this text, which ends its own last line, says why.
     #[error("{0}")]
     Refused(String),
@@ -50,7 +53,8 @@ impl Failure {
             | Failure::Write
             | Failure::Memory
             | Failure::Serve(_)
-            | Failure::Ask(_) => 1,
+            | Failure::Ask(_)
+            | Failure::Scheme(_) => 1,
         }
     }
 }

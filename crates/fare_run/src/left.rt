@@ -1,4 +1,4 @@
-use fare_command::Question;
+use fare_command::{Question, SchemeSource};
 use fare_serve::Limits;
 
 /// What serving has to be told.
@@ -8,8 +8,8 @@ pub struct ServeOptions<'a> {
     pub port: u16,
     /// The path of the outbox's database; owner O's ledger lies at this path, a dot and O.
     pub path: &'a str,
-    /// Where the scheme's lines are in a file and not in the input, the file's path.
-    pub scheme: Option<&'a str>,
+    /// Where its scheme comes from.
+    pub scheme: SchemeSource<'a>,
     /// How often and how long it waits for others, how many rounds it serves, and how long the lines of one are read.
     pub limits: Limits,
     /// Where it is to end after the round in which a file is there, the file's path.
@@ -24,8 +24,8 @@ pub struct ServeOptions<'a> {
 pub struct AskOptions<'a> {
     /// The path of the outbox's database; owner O's ledger lies at this path, a dot and O.
     pub path: &'a str,
-    /// Where the scheme's lines are in a file and not in the input, the file's path.
-    pub scheme: Option<&'a str>,
+    /// Where its scheme comes from.
+    pub scheme: SchemeSource<'a>,
     /// What is asked, or ordered.
     pub question: Question,
 }
@@ -37,4 +37,6 @@ pub enum Left<'a> {
     Serve(ServeOptions<'a>),
     /// To be done with `ask`.
     Ask(AskOptions<'a>),
+    /// To be done with `show_scheme`, at the path of the outbox's database.
+    Scheme { path: &'a str },
 }

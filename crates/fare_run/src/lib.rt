@@ -1,9 +1,10 @@
 //! What the program does for the words after its name: it replays a trace from a reader to a writer, shows the
-//! help or the version, serves stations over sockets, closes days and answers questions of the stores, or says why it did
-//! none of it. It promises how each run ends: well only where the replies to the trace's lines are written, a text is
-//! shown, the counts of a hub that served are written or the answer to a question, refused only where the words are no
-//! job, and then nothing was read or written. What standard error gets is no part of the promise. Serving may wait and
-//! starts threads, and a question opens files, so each is a call of its own, for which `run` answers the options.
+//! help or the version, serves stations over sockets, closes days and answers questions of the stores, prints the scheme
+//! that is kept beside them, or says why it did none of it. It promises how each run ends: well only where the replies to
+//! the trace's lines are written, a text is shown, the counts of a hub that served are written, the answer to a question or
+//! the lines of a scheme, refused only where the words are no job, and then nothing was read or written. Each run over
+//! stores is over a scheme that is kept beside them. What standard error gets is no part of the promise. Serving may wait
+//! and starts threads, and a question opens files, so each is a call of its own, for which `run` answers the options.
 #![tactic(auto)]
 
 mod ask_failure;
@@ -18,6 +19,7 @@ mod scheming;
 mod serve_failure;
 mod serve_job;
 mod serving;
+mod showing;
 mod telling;
 
 pub use ask_failure::AskFailure;
@@ -31,4 +33,5 @@ pub use scheming::read_scheme;
 pub use serve_failure::ServeFailure;
 pub use serve_job::{serve, serve_databases};
 pub use serving::serve_over;
+pub use showing::{show_scheme, write_scheme};
 pub use telling::tell;

@@ -71,12 +71,13 @@ fn read_work<'a>(alloc: Global, words: &'a [&'a str]) -> Result<Work<'a>, WordsF
             scheme,
             question,
         }))),
+        Job::Scheme { path } => Ok(Work::Left(Left::Scheme { path })),
     }
 }
 
 /// Does what the words after the program's name ask for: replays what the reader gives to the writer, or shows
-/// the help or the version on the writer. Where they ask for stores in files, answers what is left to do, with `serve` or
-/// `ask`.
+/// the help or the version on the writer. Where they ask for stores in files, answers what is left to do, with `serve`, `ask`
+/// or `show_scheme`.
 ///
 /// `Refused` where the words are no job, and `Memory` where there is none for the words; nothing was read or written
 /// then, nor where something is left to do. `Replay` where a replay was asked for and stopped, and `Write` where a text

@@ -1,9 +1,10 @@
 ghost use Rattle.std.specs.Prelude.{◌≡◌};
-ghost use Rattle.fare_run.specs.Scheming.{scheme_failure};
+ghost use Rattle.fare_run.specs.Scheming.{keep_failure, scheme_failure};
 ghost use Rattle.fare_run.specs.Serving.{serving_failure};
-ghost use Rattle.fare_run.specs.declared.serve_failure.ServeFailure.TheVariants.{Memory};
+ghost use Rattle.fare_run.specs.declared.serve_failure.ServeFailure.TheVariants.{Lines, Memory};
 
 use fare_event::Refusal;
+use fare_keeping::KeepFault;
 use fare_replay::ReplayFault;
 use fare_serve::ServeFault;
 use fare_trace::SchemeFault;
@@ -19,9 +20,12 @@ pub enum ServeFailure {
     /// A scheme line was refused before the scheme was sealed.
     #[error("scheme refused {0:?}")]
     Refused(Refusal),
-    /// The lines make no scheme: an event or their end came before the seal.
+    /// The lines make no scheme: an event or their end came before the seal. Or there are none, and nothing is kept.
     #[error("no scheme")]
     NoScheme,
+    /// The scheme contradicts the one that is kept beside the outbox, or none can be kept or read there.
+    #[error("{0}")]
+    Kept(KeepFault),
     /// There was no memory.
     #[error("no memory")]
     Memory,
@@ -44,14 +48,37 @@ impl From<AllocError> for ServeFailure {
     }
 }
 
-// Why the lines make no scheme.
-pub(crate) fn of_scheme(fault: SchemeFault) -> ServeFailure
-    ensures { result ≡ scheme_failure fault }
-{
-    match fault {
-        SchemeFault::Refused(refusal) => ServeFailure::Refused(refusal),
-        SchemeFault::NoScheme => ServeFailure::NoScheme,
-        SchemeFault::Memory => ServeFailure::Memory,
+impl From<ReplayFault> for ServeFailure {
+    ghost from_gives = { λ fault e. e ≡ Lines fault };
+
+    fn from(fault: ReplayFault) -> ServeFailure {
+        ServeFailure::Lines(fault)
+    }
+}
+
+impl From<SchemeFault> for ServeFailure {
+    ghost from_gives = { λ fault e. e ≡ scheme_failure fault };
+
+    fn from(fault: SchemeFault) -> ServeFailure {
+        match fault {
+            SchemeFault::Refused(refusal) => ServeFailure::Refused(refusal),
+            SchemeFault::NoScheme => ServeFailure::NoScheme,
+            SchemeFault::Memory => ServeFailure::Memory,
+        }
+    }
+}
+
+impl From<KeepFault> for ServeFailure {
+    ghost from_gives = { λ fault e. e ≡ keep_failure fault };
+
+    fn from(fault: KeepFault) -> ServeFailure {
+        match fault {
+            KeepFault::Memory => ServeFailure::Memory,
+            KeepFault::Store => ServeFailure::Store,
+            KeepFault::Foreign | KeepFault::Unreadable | KeepFault::Changed(_) => {
+                ServeFailure::Kept(fault)
+            }
+        }
     }
 }
 

@@ -1,10 +1,11 @@
-ghost use Rattle.std.specs.Prelude.{◌≡◌, ◌≢◌, ℕ, List, None, is_none, is_some, length, OnOk, IfOk, IfErr, IfSome};
+ghost use Rattle.std.specs.Prelude.{◌≡◌, ℕ, List, is_none, is_some, length, OnOk, IfOk, IfErr, IfSome};
 ghost use Rattle.fare_run.specs.Databases.{ServesIn};
+ghost use Rattle.fare_run.specs.Scheming.{IsFile, given_by};
 ghost use Rattle.fare_run.specs.Serving.{FailsOver, IsServedOf, ServeEnds, ServeFails, WritesCounts};
 ghost use Rattle.fare_run.specs.Stores.{IsOfStores};
 
 use crate::left::ServeOptions;
-use crate::scheming::scheme_from;
+use crate::scheming::take_scheme;
 use crate::serve_failure::ServeFailure;
 use crate::serving::serve_over;
 use fare_databases::{
@@ -85,13 +86,15 @@ pub fn serve_databases<
     }
 }
 
-/// Serves the stations of the scheme that the lines of an input make, or of a file where the options name one, over the
-/// stores in files at a path, in rounds of one session of the stations and one of each owner. Writes `listening PORT` before
-/// it waits for the first line, and behind it `answering PORT` where the options name a port at which an operator is
-/// answered; and the counts of all rounds at the end.
+/// Serves the stations of a scheme over the stores in files at a path, in rounds of one session of the stations and one of each
+/// owner. The scheme is the one for which lines are given, in a file or on the input, as the options say; it is kept beside the
+/// outbox from then on, where it adds to the kept one. Where none are given it is the kept one. Writes `listening PORT` before it
+/// waits for the first line, and behind it `answering PORT` where the options name a port at which an operator is answered; and
+/// the counts of all rounds at the end.
 ///
 /// Each failure of `ServeFailure` in its order; none but one of the writer comes where a count was written. Where a file is
-/// named the input is left as it is, and what is said of the input's bytes holds of some bytes: a file's aren't known.
+/// named the input is left as it is, and what is said of the input's bytes holds of some bytes: a file's aren't known, nor are
+/// those of what is kept.
 pub fn serve<
     I: Read,
     O: Write,
@@ -103,19 +106,13 @@ pub fn serve<
     input: &mut I,
     output: &mut O,
 ) -> Result<(), ServeFailure>
-    ensures done { options.now.scheme ≡ None → OnOk result (IfSome (I.remaining input.old) (ServeEnds (is_some options.now.ask) (O.contents output.old) (O.contents output.new))) }
-    ensures fails { options.now.scheme ≡ None → IfErr result (ServeFails (is_some options.now.ask) (I.remaining input.old) (O.contents output.old) (O.contents output.new)) }
-    ensures some { (bytes : List ℕ) × IsServedOf (is_some options.now.ask) (O.contents output.old) (O.contents output.new) bytes result }
-    ensures untouched { options.now.scheme ≢ None → input.new ≡ input.old }
+    ensures done { OnOk result (IfSome (given_by options.now.scheme (I.remaining input.old)) (ServeEnds (is_some options.now.ask) (O.contents output.old) (O.contents output.new))) }
+    ensures fails { IfErr result (ServeFails (is_some options.now.ask) (given_by options.now.scheme (I.remaining input.old)) (O.contents output.old) (O.contents output.new)) }
+    ensures some { (bytes : List ℕ) × IsServedOf (is_some options.now.ask) (O.contents output.old) (O.contents output.new) options.now.scheme bytes result }
+    ensures untouched { IsFile options.now.scheme → input.new ≡ input.old }
 {
-    let scheme = match scheme_from(rt, options.scheme, input) {
-        Ok(scheme) => scheme,
-        Err(failure) => return Err(failure),
-    };
-    let databases = match databases_at(rt, &scheme, options.path, Absent::Made) {
-        Ok(databases) => databases,
-        Err(failure) => return Err(failure),
-    };
+    let scheme = take_scheme(rt, options.scheme, options.path, Absent::Made, input)?;
+    let databases = databases_at(rt, &scheme, options.path, Absent::Made)?;
     let (databases, served) = serve_databases(rt, handles, scheme, databases, options, output);
     close_files(databases);
     served

@@ -8,6 +8,7 @@ pub fn tell<R: Eprint>(rt: &R, failure: &Failure) {
         | Failure::Write
         | Failure::Memory
         | Failure::Serve(_)
-        | Failure::Ask(_) => { eprintln!(rt; "{failure}") }
+        | Failure::Ask(_)
+        | Failure::Scheme(_) => { eprintln!(rt; "{failure}") }
     };
 }
