@@ -1,9 +1,11 @@
 use crate::checking::same;
 use crate::kept::number;
-use crate::texts::{GROWN, Later, later_scheme, many_devices, printed, scheme_in, text_of};
+use crate::texts::{
+    GROWN, Later, later_scheme, many_devices, printed, scheme_in, text_of, text_of_scheme,
+};
 use fare_keeping::{KeepFault, keep_scheme, kept_lines};
 use fare_outbox::{OutboxDesign, SqlOutbox};
-use fare_registry::register_scheme;
+use fare_registry::{register_scheme, registered_scheme};
 use fare_trace::ZonedScheme;
 use sqlite::{Alter, Connection, MemStore};
 use std::alloc::Global;
@@ -296,4 +298,69 @@ fn a_scheme_of_as_many_devices_as_it_may_have_is_registered(rt: HostRuntime) {
         &(once.as_str(), twice.as_str(), is_kept, taps),
         &("ok", "ok", true, 1),
     );
+}
+
+// The text of the scheme that is kept beside an outbox, if one is.
+fn told_text<S: Alter>(
+    alloc: Global,
+    conn: &mut Connection<S>,
+) -> Option<Result<Option<Vec<u8>>, KeepFault>> {
+    if !conn.is_autocommit() {
+        return None;
+    }
+    match registered_scheme(alloc, conn) {
+        Ok(Some(made)) => Some(Ok(Some(text_of_scheme(alloc, &made)?))),
+        Ok(None) => Some(Ok(None)),
+        Err(fault) => Some(Err(fault)),
+    }
+}
+
+// The scheme of as many devices as one may have is kept, and told.
+fn told_of_many(alloc: Global, text: &[u8]) -> Option<Result<Option<Vec<u8>>, KeepFault>> {
+    let made = scheme_in(alloc, text)?;
+    let mut conn = database(alloc)?;
+    keep(alloc, &mut conn, &made).ok()?;
+    told_text(alloc, &mut conn)
+}
+
+#[test]
+fn the_kept_scheme_is_told(rt: HostRuntime) {
+    let alloc = rt.alloc();
+    let mut conn = database(alloc).expect(&rt, "a database");
+    same(&rt, &told_text(alloc, &mut conn), &Some(Ok(None)));
+    let first: Later = &[];
+    for later in [first, GROWN] {
+        let made = later_scheme(alloc, later).expect(&rt, "a scheme");
+        same(&rt, &keep(alloc, &mut conn, &made), &Ok(()));
+        let text = text_of(alloc, later);
+        same(&rt, &told_text(alloc, &mut conn), &Some(Ok(text)));
+    }
+    let many = many_devices(alloc, 256).expect(&rt, "a text");
+    let told = told_of_many(alloc, &many);
+    same(&rt, &told, &Some(Ok(Some(many))));
+}
+
+// What is told of the first scheme's kept tables once a statement has changed them.
+fn told_after(alloc: Global, statement: &str) -> Option<Result<Option<Vec<u8>>, KeepFault>> {
+    let made = later_scheme(alloc, &[])?;
+    let mut conn = database(alloc)?;
+    keep(alloc, &mut conn, &made).ok()?;
+    conn.execute_batch(statement).ok()?;
+    told_text(alloc, &mut conn)
+}
+
+// Lists that are of no lines, and lines that make no scheme.
+#[test]
+fn kept_tables_that_tell_no_scheme_are_unreadable(rt: HostRuntime) {
+    const STATEMENTS: [&str; 5] = [
+        "UPDATE kept_device SET station = 7",
+        "UPDATE kept_owner SET owner = 0 WHERE owner = 1",
+        "UPDATE kept_product SET fare = 200000 WHERE product = 1",
+        "UPDATE kept_zone SET byte = 33 WHERE rowid = 1",
+        "DELETE FROM kept_scheme",
+    ];
+    for &statement in &STATEMENTS {
+        let told = told_after(rt.alloc(), statement);
+        same(&rt, &told, &Some(Err(KeepFault::Unreadable)));
+    }
 }

@@ -1,5 +1,5 @@
 use crate::checking::{contains, same};
-use fare_command::{Job, Question, WordsFault, read_words};
+use fare_command::{Job, Question, SchemeSource, WordsFault, read_words};
 use fare_record::{Day, DeviceId, OwnerId};
 use std::test::Fail;
 
@@ -14,7 +14,7 @@ fn reads_jobs(rt: HostRuntime) -> Result<(), Fail> {
     for &(words, want) in &CASES {
         match read_words(rt.alloc(), words)? {
             Job::Replay { sql } => same(&rt, &sql, &want),
-            Job::Serve { .. } | Job::Ask { .. } => panic!(rt; "not a replay"),
+            _ => panic!(rt; "not a replay"),
         }
     }
     const WORDS: [&str; 13] = [
@@ -64,9 +64,9 @@ fn reads_jobs(rt: HostRuntime) -> Result<(), Fail> {
                     &(read, write, round),
                 );
                 same(&rt, &(rounds, until, patience), &(1, None, 2));
-                same(&rt, &(scheme, ask), &(None, None));
+                same(&rt, &(scheme, ask), &(SchemeSource::Unsaid, None));
             }
-            Job::Replay { .. } | Job::Ask { .. } => panic!(rt; "not a server"),
+            _ => panic!(rt; "not a server"),
         }
     }
     Ok(())
@@ -106,9 +106,9 @@ fn serves_with_what_is_usual(rt: HostRuntime) -> Result<(), Fail> {
                     &(5, 1_000, 1_000),
                 );
                 same(&rt, &(rounds, until, patience), &(1, None, 2));
-                same(&rt, &(scheme, ask), &(None, None));
+                same(&rt, &(scheme, ask), &(SchemeSource::Unsaid, None));
             }
-            Job::Replay { .. } | Job::Ask { .. } => panic!(rt; "not a server"),
+            _ => panic!(rt; "not a server"),
         }
     }
     Ok(())
@@ -150,7 +150,7 @@ fn reads_how_long_to_serve(rt: HostRuntime) -> Result<(), Fail> {
                     &(want_rounds, want_length),
                 );
             }
-            Job::Replay { .. } | Job::Ask { .. } => panic!(rt; "not a server"),
+            _ => panic!(rt; "not a server"),
         }
     }
     Ok(())
@@ -174,7 +174,7 @@ fn reads_where_an_operator_is_answered(rt: HostRuntime) -> Result<(), Fail> {
                 let port_want = if want.is_some() { 7_071 } else { 1 };
                 same(&rt, &(port, ask), &(port_want, want));
             }
-            Job::Replay { .. } | Job::Ask { .. } => panic!(rt; "not a server"),
+            _ => panic!(rt; "not a server"),
         }
     }
     Ok(())
@@ -228,16 +228,26 @@ fn reads_questions(rt: HostRuntime) -> Result<(), Fail> {
                 path,
                 scheme,
                 question,
-            } => same(&rt, &(path, scheme, question), &("x", None, want)),
-            Job::Replay { .. } | Job::Serve { .. } => panic!(rt; "not a question"),
+            } => same(
+                &rt,
+                &(path, scheme, question),
+                &("x", SchemeSource::Unsaid, want),
+            ),
+            _ => panic!(rt; "not a question"),
         }
     }
     Ok(())
 }
 
-// The words of each job that a file's scheme may be for.
+// The words of each job that a scheme is for, and where it comes from: `-` is the input, and any other word a file.
 #[test]
-fn reads_which_file_has_the_scheme(rt: HostRuntime) -> Result<(), Fail> {
+fn reads_where_the_scheme_is(rt: HostRuntime) -> Result<(), Fail> {
+    const SOURCES: [(&str, SchemeSource); 4] = [
+        ("the lines", SchemeSource::File("the lines")),
+        ("-", SchemeSource::Input),
+        ("./-", SchemeSource::File("./-")),
+        ("", SchemeSource::File("")),
+    ];
     const CASES: [&[&str]; 7] = [
         &["serve"],
         &["close"],
@@ -250,13 +260,27 @@ fn reads_which_file_has_the_scheme(rt: HostRuntime) -> Result<(), Fail> {
     for &job in &CASES {
         let mut words = Vec::new(rt.alloc());
         words.extend_from_slice(job)?;
-        words.extend_from_slice(&["--scheme", "the lines", "--outbox=x"])?;
-        match read_words(rt.alloc(), &words)? {
-            Job::Serve { path, scheme, .. } | Job::Ask { path, scheme, .. } => {
-                same(&rt, &(path, scheme), &("x", Some("the lines")));
+        words.extend_from_slice(&["--outbox=x", "--scheme"])?;
+        for &(word, source) in &SOURCES {
+            words.push(word)?;
+            match read_words(rt.alloc(), &words)? {
+                Job::Serve { path, scheme, .. } | Job::Ask { path, scheme, .. } => {
+                    same(&rt, &(path, scheme), &("x", source));
+                }
+                _ => panic!(rt; "of no stores"),
             }
-            Job::Replay { .. } => panic!(rt; "a replay"),
+            words.pop();
         }
+    }
+    Ok(())
+}
+
+// The words that ask for the kept scheme.
+#[test]
+fn reads_where_a_scheme_is_kept(rt: HostRuntime) -> Result<(), Fail> {
+    match read_words(rt.alloc(), &["scheme", "--outbox", "x"])? {
+        Job::Scheme { path } => same(&rt, &path, &"x"),
+        _ => panic!(rt; "not of a kept scheme"),
     }
     Ok(())
 }
@@ -265,8 +289,8 @@ fn reads_which_file_has_the_scheme(rt: HostRuntime) -> Result<(), Fail> {
 #[test]
 fn reads_empty_names(rt: HostRuntime) -> Result<(), Fail> {
     match read_words(rt.alloc(), &["stand", "--outbox", "", "--scheme", ""])? {
-        Job::Ask { path, scheme, .. } => same(&rt, &(path, scheme), &("", Some(""))),
-        Job::Replay { .. } | Job::Serve { .. } => panic!(rt; "not a question"),
+        Job::Ask { path, scheme, .. } => same(&rt, &(path, scheme), &("", SchemeSource::File(""))),
+        _ => panic!(rt; "not a question"),
     }
     Ok(())
 }
@@ -308,7 +332,12 @@ fn refuses_questions(rt: HostRuntime) -> Result<(), Fail> {
 
 #[test]
 fn refuses_words(rt: HostRuntime) -> Result<(), Fail> {
-    const CASES: [(&[&str], &str); 17] = [
+    const CASES: [(&[&str], &str); 19] = [
+        (&["scheme"], "--outbox <PATH>"),
+        (
+            &["scheme", "--outbox", "x", "--scheme", "y"],
+            "unexpected argument '--scheme' found",
+        ),
         (&[], "requires a subcommand"),
         (&["play"], "unrecognized subcommand 'play'"),
         (&["replay", "now"], "unexpected argument 'now' found"),

@@ -100,12 +100,13 @@ fn is_refused<R: Net<Listener = TcpListener, Stream = TcpStream>>(
     }
 }
 
-// The first station's line comes, is acknowledged a tap and breaks; others are refused; and the second station's comes.
+// The first station's line comes, is acknowledged a tap and breaks; others are refused; and the second station's comes,
+// which is handed back.
 fn perform<R: Net<Listener = TcpListener, Stream = TcpStream>>(
     rt: &R,
     alloc: Global,
     address: SocketAddr,
-) -> Option<()> {
+) -> Option<TcpStream> {
     let mut first = dial(rt, alloc, address, 1, &[1])?;
     hears(alloc, &mut first, 1, 1)?;
     let (known, unknown) = (DeviceId::new(1)?, DeviceId::new(77)?);
@@ -118,7 +119,25 @@ fn perform<R: Net<Listener = TcpListener, Stream = TcpStream>>(
         return None;
     }
     let mut second = dial(rt, alloc, address, 2, &[1])?;
-    hears(alloc, &mut second, 2, 1)
+    hears(alloc, &mut second, 2, 1)?;
+    Some(second)
+}
+
+// Performs it, and then makes the file that ends serving. The second station's line stays until serving lets it go, so that
+// it is there at the last pause.
+fn perform_and_end<R: Net<Listener = TcpListener, Stream = TcpStream>>(
+    host: &HostRuntime,
+    rt: &R,
+    address: SocketAddr,
+    path: &str,
+) -> bool {
+    let alloc = host.alloc();
+    let line = perform(rt, alloc, address);
+    let is_told = fs::write(host, path, "").is_ok();
+    match line {
+        Some(mut second) => has_ended(alloc, &mut second) && is_told,
+        None => false,
+    }
 }
 
 // How many seconds have passed since 1970-01-01T00:00:00Z.
@@ -169,10 +188,7 @@ fn watched<
         || -> (Result<(), ServeFault>, Watch)
             requires { HasLedgers hub }
         { watch_until(host, rt, &listener, hub, path) },
-        || {
-            let performed = perform(rt, alloc, address).is_some();
-            fs::write(host, path, "").is_ok() && performed
-        },
+        || perform_and_end(host, rt, address, path),
     );
     Some((heard, ended, watch))
 }

@@ -17,7 +17,7 @@ const LINES: &[u8] =
 
 fn scheme(alloc: Global) -> Option<Scheme> {
     let mut lines = LINES;
-    read_scheme(alloc, &mut lines).ok()
+    Some(read_scheme(alloc, &mut lines).ok()?.scheme)
 }
 
 fn in_memory(alloc: Global) -> Option<Connection<MemStore>> {

@@ -1,7 +1,8 @@
 use crate::checking::same;
-use fare_command::Question;
+use fare_command::{Question, SchemeSource};
 use fare_desk::DeskFault;
 use fare_event::Refusal;
+use fare_keeping::KeepFault;
 use fare_record::DeviceId;
 use fare_replay::ReplayFault;
 use fare_run::{AskFailure, AskOptions, Failure, Left, ServeFailure, ServeOptions, run};
@@ -90,6 +91,14 @@ fn each_failure_has_its_line(rt: HostRuntime) {
             "scheme refused Taken",
         ),
         (Failure::Serve(ServeFailure::NoScheme), "no scheme"),
+        (
+            Failure::Serve(ServeFailure::Kept(KeepFault::Unreadable)),
+            "refused SchemeUnreadable",
+        ),
+        (
+            Failure::Scheme(ServeFailure::Kept(KeepFault::Foreign)),
+            "refused SchemeForeign",
+        ),
         (Failure::Serve(ServeFailure::Memory), "no memory"),
         (Failure::Serve(ServeFailure::Store), "store failed"),
         (Failure::Serve(ServeFailure::Network), "network failed"),
@@ -153,7 +162,7 @@ fn words_that_ask_to_serve_leave_it_to_do(rt: HostRuntime) {
     let options = ServeOptions {
         port: 7_000,
         path: "x",
-        scheme: Some("y"),
+        scheme: SchemeSource::File("y"),
         limits: Limits {
             turns: 9,
             read_millis: 20,
@@ -179,13 +188,25 @@ fn words_that_ask_a_question_leave_it_to_do(rt: HostRuntime) {
     let left = run(rt.alloc(), &words, &mut input, &mut output).expect(&rt, "words");
     let options = AskOptions {
         path: "x",
-        scheme: None,
+        scheme: SchemeSource::Unsaid,
         question: Question::Stand,
     };
     same(
         &rt,
         &(left, input.len(), output.len()),
         &(Some(Left::Ask(options)), 5, 0),
+    );
+}
+
+#[test]
+fn words_that_ask_for_the_kept_scheme_leave_it_to_do(rt: HostRuntime) {
+    let (mut input, mut output) = (b"draw\n".as_slice(), Vec::new(rt.alloc()));
+    let words = ["scheme", "--outbox", "x"];
+    let left = run(rt.alloc(), &words, &mut input, &mut output).expect(&rt, "words");
+    same(
+        &rt,
+        &(left, input.len(), output.len()),
+        &(Some(Left::Scheme { path: "x" }), 5, 0),
     );
 }
 

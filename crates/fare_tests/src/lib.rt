@@ -23,6 +23,8 @@ mod first_format;
 #[cfg(test)]
 mod hub_stops;
 #[cfg(test)]
+mod kept_schemes;
+#[cfg(test)]
 mod layout;
 #[cfg(test)]
 mod ledger_tables;

@@ -1,5 +1,5 @@
 use crate::checking::same;
-use fare_command::Question;
+use fare_command::{Question, SchemeSource};
 use fare_desk::DeskFault;
 use fare_event::Refusal;
 use fare_part_tests::{GREETED, STATED, TAPPED};
@@ -70,17 +70,20 @@ impl<'a, R: Net<Listener = TcpListener, Stream = TcpStream>> Write for Dialler<'
     }
 }
 
-// How serving a scheme with these frames at the door ended, and what was written behind the port.
-fn served<
+/// How serving a scheme from a source, by this input and with these frames at the door, ended, and what was written behind the
+/// port.
+pub(crate) fn served_by<
+    'a,
     R: Net<Listener = TcpListener, Stream = TcpStream> + Threads + Wait + Clock + Eprint + Sync,
 >(
     rt: &HostRuntime,
     handles: &R,
-    path: &str,
-    scheme: &[u8],
+    path: &'a str,
+    source: SchemeSource<'a>,
+    input: &[u8],
     frames: &[&[u8]],
 ) -> (Result<(), ServeFailure>, Vec<u8>) {
-    let mut input = scheme;
+    let mut input = input;
     let mut output = Dialler {
         rt: handles,
         frames,
@@ -90,7 +93,7 @@ fn served<
     let options = ServeOptions {
         port: 0,
         path,
-        scheme: None,
+        scheme: source,
         limits: LIMITS,
         until: None,
         ask: None,
@@ -99,6 +102,19 @@ fn served<
     let Dialler { said, line, .. } = output;
     drop(line);
     (ended, said)
+}
+
+// The same of a scheme on the input.
+fn served<
+    R: Net<Listener = TcpListener, Stream = TcpStream> + Threads + Wait + Clock + Eprint + Sync,
+>(
+    rt: &HostRuntime,
+    handles: &R,
+    path: &str,
+    scheme: &[u8],
+    frames: &[&[u8]],
+) -> (Result<(), ServeFailure>, Vec<u8>) {
+    served_by(rt, handles, path, SchemeSource::Input, scheme, frames)
 }
 
 #[test]
@@ -153,7 +169,7 @@ fn served_from<
     let options = ServeOptions {
         port: 0,
         path,
-        scheme: Some(file),
+        scheme: SchemeSource::File(file),
         limits: Limits { turns: 4, ..LIMITS },
         until: None,
         ask: None,
@@ -175,7 +191,7 @@ fn asked_from<'a>(
     let mut output = Vec::new(rt.alloc());
     let options = AskOptions {
         path,
-        scheme: Some(file),
+        scheme: SchemeSource::File(file),
         question: Question::Stand,
     };
     let ended = ask(rt, &options, &mut input, &mut output);
@@ -225,17 +241,28 @@ fn a_scheme_that_is_not_in_its_file(rt: HostRuntime) {
     }
 }
 
-// How a question of the stores at a path ends, and what is written.
-fn asked(rt: &HostRuntime, path: &str, question: Question) -> (Result<(), AskFailure>, Vec<u8>) {
-    let mut input = DEMO;
+/// How a question of the stores at a path ends, for a scheme from a source, by this input, and what is written.
+pub(crate) fn asked_by<'a>(
+    rt: &HostRuntime,
+    path: &'a str,
+    source: SchemeSource<'a>,
+    input: &[u8],
+    question: Question,
+) -> (Result<(), AskFailure>, Vec<u8>) {
+    let mut input = input;
     let mut output = Vec::new(rt.alloc());
     let options = AskOptions {
         path,
-        scheme: None,
+        scheme: source,
         question,
     };
     let ended = ask(rt, &options, &mut input, &mut output);
     (ended, output)
+}
+
+// The same of a scheme on the input.
+fn asked(rt: &HostRuntime, path: &str, question: Question) -> (Result<(), AskFailure>, Vec<u8>) {
+    asked_by(rt, path, SchemeSource::Input, DEMO, question)
 }
 
 // The bill of a day.
@@ -413,7 +440,7 @@ fn asked_while_served<
     let options = ServeOptions {
         port: 0,
         path,
-        scheme: None,
+        scheme: SchemeSource::Input,
         limits: Limits { turns: 4, ..LIMITS },
         until: None,
         ask: None,
