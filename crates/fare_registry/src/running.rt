@@ -3,7 +3,9 @@ ghost use Rattle.sqlite.specs.State.{HasCleanDisk};
 ghost use Rattle.sqlite.specs.Held.{state};
 ghost use Rattle.fare_day.specs.Clock.{HasRule};
 ghost use Rattle.fare_tables.specs.Asking.{IsLive, SameRows};
+ghost use Rattle.fare_outbox.specs.Statements.{outbox_parts};
 ghost use Rattle.fare_keeping.specs.Keeping.{IsLawful, IsRefusal, Keeps, KeepsJust, KeepsNone, MayFollow, SaysNoScheme, SaysOf};
+ghost use Rattle.fare_keeping.specs.Leaving.{HasNoRoom};
 ghost use Rattle.fare_registry.specs.Still.{HoldsStill};
 
 use crate::registering::{register_scheme, registered_scheme};
@@ -26,9 +28,12 @@ pub fn scheme_of_run<S: Alter>(
     ensures given { IfOk result (λ found. IfSome given (λ zoned. found ≡ Some zoned)) }
     ensures rule { given ≡ None → IfOk result (λ found. IfSome found (λ kept. HasRule kept.scheme.zone kept.zone)) }
     ensures follows { IsLive (state S.Store conn.new) → IsLawful (state S.Store conn.old).now → IfOk result (λ found. IfSome found (λ taken. MayFollow (state S.Store conn.old).now taken.scheme)) }
-    ensures kept { IsLive (state S.Store conn.new) → IsLawful (state S.Store conn.old).now → IfOk result (λ found. MatchOption given (MatchOption found (KeepsNone (state S.Store conn.old).now) (λ kept. Keeps (state S.Store conn.old).now kept.scheme)) (λ zoned. KeepsJust (state S.Store conn.new).now zoned.scheme zoned.zone × IsLawful (state S.Store conn.new).now)) }
-    ensures says { IsLive (state S.Store conn.new) → IsLawful (state S.Store conn.old).now → IfErr result (λ fault. MatchOption given (SaysNoScheme (state S.Store conn.old).now fault) (λ zoned. SaysOf (state S.Store conn.old).now zoned.scheme fault)) }
+    ensures kept { IsLive (state S.Store conn.new) → IsLawful (state S.Store conn.old).now → IfOk result (λ found. IfSome given (λ zoned. KeepsJust (state S.Store conn.new).now zoned.scheme zoned.zone × IsLawful (state S.Store conn.new).now)) }
+    ensures told { given ≡ None → HasCleanDisk (state S.Store conn.new) → IsLawful (state S.Store conn.old).now → IfOk result (λ found. MatchOption found (KeepsNone (state S.Store conn.old).now) (λ kept. Keeps (state S.Store conn.old).now kept.scheme)) }
+    ensures says { IsLive (state S.Store conn.new) → IsLawful (state S.Store conn.old).now → IfErr result (λ fault. IfSome given (λ zoned. SaysOf (state S.Store conn.old).now zoned.scheme fault)) }
+    ensures untold { given ≡ None → HasCleanDisk (state S.Store conn.new) → IsLawful (state S.Store conn.old).now → IfErr result (SaysNoScheme (state S.Store conn.old).now) }
     ensures refused { IsLive (state S.Store conn.new) → IsLawful (state S.Store conn.old).now → IfErr result (λ fault. IfSome given (λ zoned. IsRefusal fault → SameRows (state S.Store conn.old) (state S.Store conn.new))) }
+    ensures foreign { HasCleanDisk (state S.Store conn.new) → IfErr result (λ fault. IfSome given (λ zoned. fault ≡ KeepFault.Foreign → HasNoRoom outbox_parts (state S.Store conn.old))) }
     ensures read { HasCleanDisk (state S.Store conn.new) → given ≡ None → OnOk result (SameRows (state S.Store conn.old) (state S.Store conn.new)) }
     ensures still { HoldsStill (state S.Store conn.old) (state S.Store conn.new) }
     ensures live { IsLive (state S.Store conn.new) → IsLive (state S.Store conn.old) }
