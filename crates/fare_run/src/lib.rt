@@ -2,9 +2,10 @@
 //! help or the version, serves stations over sockets, closes days and answers questions of the stores, prints the scheme
 //! that is kept beside them, or says why it did none of it. It promises how each run ends: well only where the replies to
 //! the trace's lines are written, a text is shown, the counts of a hub that served are written, the answer to a question or
-//! the lines of a scheme, refused only where the words are no job, and then nothing was read or written. Each run over
-//! stores is over a scheme that is kept beside them. What standard error gets is no part of the promise. Serving may wait
-//! and starts threads, and a question opens files, so each is a call of its own, for which `run` answers the options.
+//! the lines of a scheme, refused only where the words are no job, and then nothing was read or written. What standard
+//! error gets is no part of the promise, nor what a file keeps: a run over stores is over the scheme that
+//! `fare_registry::scheme_in_file` gives. Serving may wait and starts threads, and a question opens files, so each is a
+//! call of its own, for which `run` answers the options.
 #![tactic(auto)]
 
 mod ask_failure;
