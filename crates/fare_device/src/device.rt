@@ -83,7 +83,7 @@ pub struct NotWaiting;
 
 /// A device: a validator that numbers the taps of its open day and keeps them until they are acknowledged, and
 /// that keeps the counts of each turned day until its statements are acknowledged.
-#[derive(Debug, Drop)]
+#[derive(Debug)]
 pub struct Device {
     id: DeviceId,
     day: Day,
@@ -93,6 +93,27 @@ pub struct Device {
     lanes: Vec<u64>,
     counts: Counts,
     days: WaitingDays,
+}
+
+impl Drop for Device {
+    // Derived, its parts would stand in the proof of each function that may let a device go.
+    fn drop(self) {
+        let Device {
+            id: _,
+            day: _,
+            waiting,
+            link: _,
+            owners,
+            lanes,
+            counts,
+            days,
+        } = self;
+        drop(waiting);
+        drop(owners);
+        drop(lanes);
+        drop(counts);
+        drop(days);
+    }
 }
 
 impl Model for Device {

@@ -53,7 +53,6 @@ pub struct Parts<O, L> {
 /// The parts of a scheme at work: its devices, the air between them and their stations, each station with
 /// its collector and acknowledgement line, the inbox, the writer, the outbox, and each owner with its lane
 /// queue and ledger.
-#[derive(Drop)]
 pub struct World<O, L> {
     alloc: Global,
     scheme: Scheme,
@@ -68,6 +67,32 @@ pub struct World<O, L> {
     // asks before it changes anything.
     uptos: Vec<u64>,
     ghost rooms: { HasRooms scheme devices.items stations.items inbox.capacity owners.items (length uptos.items) },
+}
+
+impl<O: Drop, L: Drop> Drop for World<O, L> {
+    // Derived, its parts would stand in the proof of each function that may let a world go.
+    fn drop(self) {
+        let World {
+            alloc: _,
+            scheme,
+            devices,
+            stations,
+            air,
+            inbox,
+            hand: _,
+            outbox,
+            owners,
+            uptos,
+        } = self;
+        drop(scheme);
+        drop(devices);
+        drop(stations);
+        drop(air);
+        drop(inbox);
+        drop(outbox);
+        drop(owners);
+        drop(uptos);
+    }
 }
 
 /// A run that a fault stopped: the world before the event that failed, and the replies so far.
