@@ -1,4 +1,4 @@
-ghost use Rattle.std.specs.Prelude.{◌≡◌, [], ◌∷◌, IfOk, map};
+ghost use Rattle.std.specs.Prelude.{◌≡◌, ℕ, List, [], ◌∷◌, ◌++◌, IfOk, map};
 ghost use Rattle.fare_scheme.specs.Facts.{IsTariff};
 ghost use Rattle.fare_register.specs.Registers.{told, told_list, registered, register_lists, pair_numbers, one_number, product_numbers, device_numbers};
 
@@ -124,6 +124,18 @@ fn device_rows(alloc: Global, scheme: &Scheme) -> Result<Vec<Vec<u32>>, AllocErr
     Ok(rows)
 }
 
+// Lists with one more behind them, where there was memory for both.
+fn with_list(
+    lists: Result<Vec<Vec<Vec<u32>>>, AllocError>,
+    rows: Result<Vec<Vec<u32>>, AllocError>,
+) -> Result<Vec<Vec<Vec<u32>>>, AllocError>
+    ensures { (before : List (List (List ℕ))) (last : List (List ℕ)) → IfOk lists (λ l. told l.items ≡ before) → IfOk rows (λ r. told_list r.items ≡ last) → IfOk result (λ l. told l.items ≡ before ++ last ∷ []) }
+{
+    let mut lists = lists?;
+    lists.push(rows?)?;
+    Ok(lists)
+}
+
 /// What is registered of a scheme whose clock goes by the rule of this text, as lists of numbers: the first traffic day
 /// with the capacity of the inbox, the bytes of the rule, the owners, the operators, the stations, the products and the
 /// devices, each kind in the order of registration. The error is want of memory.
@@ -134,13 +146,11 @@ pub fn register_of(
 ) -> Result<Vec<Vec<Vec<u32>>>, AllocError>
     ensures { IfOk result (λ lists. told lists.items ≡ register_lists (registered scheme.now zone.now)) }
 {
-    let mut lists = Vec::new(alloc);
-    lists.push(setting_rows(alloc, scheme)?)?;
-    lists.push(rule_rows(alloc, zone)?)?;
-    lists.push(owner_rows(alloc, scheme)?)?;
-    lists.push(operator_rows(alloc, scheme)?)?;
-    lists.push(station_rows(alloc, scheme)?)?;
-    lists.push(product_rows(alloc, scheme)?)?;
-    lists.push(device_rows(alloc, scheme)?)?;
-    Ok(lists)
+    let lists = with_list(Ok(Vec::new(alloc)), setting_rows(alloc, scheme));
+    let lists = with_list(lists, rule_rows(alloc, zone));
+    let lists = with_list(lists, owner_rows(alloc, scheme));
+    let lists = with_list(lists, operator_rows(alloc, scheme));
+    let lists = with_list(lists, station_rows(alloc, scheme));
+    let lists = with_list(lists, product_rows(alloc, scheme));
+    with_list(lists, device_rows(alloc, scheme))
 }

@@ -1,6 +1,6 @@
 -- Questions to a world: what they answer, and that they leave it as it was.
 use Rattle.std.proofs.Common.{◌≡◌, ℕ, set, Some, None, Bool, true, refl, sym, ap, ◌∙◌, subst}
-use Rattle.std.specs.Prelude.{slice_get, Result, Ok, Err}
+use Rattle.std.specs.Prelude.{slice_get, Result, Ok, Err, IsErrAnd}
 use Rattle.fare_scheme.specs.Values.{SchemeValue}
 use Rattle.fare_store.specs.declared.fault.Fault.{Fault}
 use Rattle.fare_store.specs.declared.fault.Fault.TheVariants as fault
@@ -88,3 +88,12 @@ module _ {O L V W R : Type 0} (out : O → Standing OutboxValue) (led : L → St
     seen_is = h.seen_is;
     stores = then_memory out led old new h.stores;
   }
+
+  -- a refusal or a fault of a question, handed on as the answer of another one
+  pub asks_hand_on : (old new : World O L) (tells : System → Result V R → Type 0) (says : System → Result W R → Type 0) (may : Bool) (e : Refused R) (q : Result W (Refused R)) → Asks out led old new tells may (Err e) → IsErrAnd q (λ x. x ≡ e) → ((s : System) (why : R) → tells s (Err why) → says s (Err why)) → Asks out led old new says may q
+  asks_hand_on old new tells says may e (Ok x) h is say = absurd is
+  asks_hand_on old new tells says may e (Err x) h is say = subst (λ (y : Refused R). Asks out led old new says may (Err y)) (sym is) (asks_say old new tells says may (Err e) (Err e) h refl refl (λ s. refused_as s e))
+    where
+      refused_as : (s : System) (e : Refused R) → Answered (tells s) (Err e) → Answered (says s) (Err e)
+      refused_as s (refused.Because why) = say s why
+      refused_as s (refused.Failed f) = λ a. tt

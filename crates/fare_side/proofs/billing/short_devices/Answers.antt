@@ -1,12 +1,14 @@
-use Rattle.std.proofs.Common.{rules, ◌≡◌, ℕ, ◌+◌, ◌<◌, ◌≤◌, ◌++◌, ◌∷◌, [], List, Bool, Some, None, length, sym, ap, ◌∙◌, subst, arith}
+use Rattle.std.proofs.Common.{rules, ◌≡◌, ℕ, ◌+◌, ◌<◌, ◌≤◌, ◌++◌, ◌∷◌, [], List, Bool, Some, None, length, refl, sym, ap, ◌∙◌, subst, arith}
 use Rattle.std.specs.Prelude.{◌&&◌, not, Ok, Option}
 use Rattle.fare_scheme.specs.Words.{id_at}
 use Rattle.fare_store.specs.LedgerWords.{LedgerValue, closed_through}
 use Rattle.fare_store.specs.Standing.{Reads}
 use Rattle.fare_side.specs.OpenDays.{is_closed, reaches}
-use Rattle.fare_store.proofs.Readings.{Since, since_calls, reads_say}
-use Rattle.fare_side.proofs.Asked.{asked_both}
-use Rattle.fare_side.proofs.Opens.{closed_by, AreShortBefore, one_short, one_whole}
+use Rattle.fare_store.proofs.Readings.{Since, reads_none, reads_since, since_calls, calls_since, reads_say, read_failed}
+use Rattle.fare_side.proofs.Asked.{one_more, asked_both, unkept}
+use Rattle.fare_side.proofs.Opens.{closed_by, AreShortBefore, one_short, one_whole, all_short}
+use Rattle.fare_side.specs.Weeks.{short_of}
+use Rattle.fare_store.specs.declared.fault.Fault.TheVariants as fault
 use Rattle.fare_side.proofs.billing.short_devices.Goals.{then-is_short+in_ok-push, else-is_short}
 use Rattle.fare_side.proofs.billing.short_devices.Goals as goal
 
@@ -46,3 +48,53 @@ loop-place-preserved g c =
           (since_calls first now (0 < place + 1) goes_on (reads_say first now (so × (last ≡ closed_through v device) × (retired ≡ v.retired device)) goes_on None
           (λ is. (is.0, λ le. one_whole v.start v.closed v.retired day ds place device short at (is.1.0 le) (told_is v device day last retired c.is_short.result le is.1.1 is.1.2 c.is_short.ensures ∙ w.if-is_short.false))) both))
     ]
+
+pub loop-place-init : goal.loop-place-init
+loop-place-init g c =
+    let v = (g.L.Ledger.standing c.args.ledger.now).value in
+    reads_none (g.L.Ledger.standing c.args.ledger.now) (0 < 0) _ (λ lt. omega (arith, lt))
+    (λ le. subst (λ (l : List ℕ). AreShortBefore v.start v.closed v.retired c.args.day c.args.scheme.now.devices 0 l) (sym c.new-short.ensures.items) refl)
+
+pub returns-in_err-last : goal.returns-in_err-last
+returns-in_err-last g c =
+    let first = g.L.Ledger.standing c.args.ledger.now in
+    let before = g.L.Ledger.standing c.loop-place.ledger in
+    let now = g.L.Ledger.standing c.closed_through.new.self in
+    read_failed first now _ _ c.from_residual.result _ c.from_residual.ensures.1 (reads_since first before now (0 < c.loop-place.place) _ (Unit {0}) (Some _) c.loop-place.invariant c.in_err-last.ensures)
+
+pub returns-in_err-retired : goal.returns-in_err-retired
+returns-in_err-retired g c =
+    let first = g.L.Ledger.standing c.args.ledger.now in
+    let before = g.L.Ledger.standing c.loop-place.ledger in
+    let between = g.L.Ledger.standing c.closed_through.new.self in
+    let now = g.L.Ledger.standing c.retired.new.self in
+    let device = c.in-Some.device in
+    let one : Reads before between (λ n. n ≡ closed_through before.value device) (Ok c.in_ok-last.last) = c.in_ok-last.ensures in
+    read_failed first now _ _ c.from_residual-in_err-retired.result _ c.from_residual-in_err-retired.ensures.1
+    (reads_since first between now (0 < c.loop-place.place) _ (Unit {0}) (Some _) (one_more first before between (0 < c.loop-place.place) _ (λ (w : LedgerValue). closed_through w device) c.in_ok-last.last c.loop-place.invariant one) c.in_err-retired.ensures)
+
+pub returns-in_err-push : goal.returns-in_err-push
+returns-in_err-push g c =
+    let first = g.L.Ledger.standing c.args.ledger.now in
+    let before = g.L.Ledger.standing c.loop-place.ledger in
+    let between = g.L.Ledger.standing c.closed_through.new.self in
+    let now = g.L.Ledger.standing c.retired.new.self in
+    let device = c.in-Some.device in
+    let retired = c.in_ok-retired.retired in
+    let one : Reads before between (λ n. n ≡ closed_through before.value device) (Ok c.in_ok-last.last) = c.in_ok-last.ensures in
+    let two : Reads between now (λ r. r ≡ between.value.retired device) (Ok retired) = c.in_ok-retired.ensures in
+    let both = asked_both first before between (0 < c.loop-place.place) _ (λ (w : LedgerValue). closed_through w device) c.in_ok-last.last c.loop-place.invariant one now (λ (w : LedgerValue). w.retired device) retired two in
+    read_failed first now (Unit {0}) _ c.from_residual-in_err-push.result fault.Memory c.from_residual-in_err-push.ensures.1
+    (unkept first now (0 < c.loop-place.place + 1) _ (λ (r : List ℕ). Unit {0}) (since_calls first now (0 < c.loop-place.place + 1) _ both))
+
+pub returns : goal.returns
+returns g c =
+    let first = g.L.Ledger.standing c.args.ledger.now in
+    let now = g.L.Ledger.standing c.loop-place.ledger in
+    let v = first.value in
+    let sc = c.args.scheme.now in
+    let day = c.args.day in
+    let long : length sc.devices ≤ c.loop-place.place = omega (arith, c.loop-place-test.false, c.device_count-place-end.ensures.value) in
+    let so = v.start ≤ day → AreShortBefore v.start v.closed v.retired day sc.devices c.loop-place.place c.loop-place.short.items in
+    reads_say first now so (v.start ≤ day → c.loop-place.short.items ≡ short_of v day sc) None (λ is. (is.0, λ le. all_short v.start v.closed v.retired day sc.devices c.loop-place.place c.loop-place.short.items (is.1 le) long))
+    (calls_since first now (0 < c.loop-place.place) so (omega (arith, long, c.device_count-place-end.ensures.valid.has_device)) c.loop-place.invariant)
