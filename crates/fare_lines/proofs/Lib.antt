@@ -4,6 +4,7 @@ pub mod Numbers
 pub mod Utf8
 pub mod Keywords
 pub mod Feeds
+pub mod Counts
 pub mod Spaced
 pub mod Spelling
 pub mod Texts
