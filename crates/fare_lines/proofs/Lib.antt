@@ -11,4 +11,5 @@ pub mod Texts
 pub mod Printing
 pub mod Words
 pub mod RowLines
+pub mod Pieces
 pub mod Unread
