@@ -1,10 +1,11 @@
 -- Pieces of a line, appended one after the other.
 use Rattle.std.proofs.Common.{◌≡◌, ◌<◌, ◌+◌, get_or, ℕ, List, [], ◌∷◌, ◌++◌, length, take, ap, sym, refl, ◌∙◌, append_assoc, arith}
+use Rattle.std.specs.Prelude.{Result, Ok, Err, OnOk, is_ok, if◌then◌else◌}
 use Rattle.std.specs.List.{flat_map, join_with_byte}
 use Rattle.std.proofs.lemmas.List.{get_or_default}
 use Rattle.fare_lines.specs.Replies.{words_line}
 use Rattle.fare_lines.proofs.Words.{take_whole}
-use Rattle.fare_lines.proofs.RowLines.{front_behind, one_row}
+use Rattle.fare_lines.proofs.RowLines.{front_behind, front_stays, one_row}
 
 -- THE FRONT STAYS
 -- where what comes next is refused and changes nothing
@@ -14,6 +15,16 @@ front_same old new same = ap (take (length old)) same ∙ take_whole (length old
 -- where a name and a number are there
 pub front_named : (old name number mid new : List ℕ) → mid ≡ old ++ name ++ number → take (length mid) new ≡ mid → take (length old) new ≡ old
 front_named old name number mid new is front = front_behind old (name ++ number) mid new (is ∙ append_assoc old name number) front
+
+-- where a space is there, and what comes next is there or was refused
+pub front_spaced : {E : Type 0} (r : Result (Unit {0}) E) (old mid new text : List ℕ) → mid ≡ old ++ 32 ∷ [] → new ≡ (if is_ok r then mid ++ text else mid) → take (length old) new ≡ old
+front_spaced (Ok u) old mid new text space is = front_behind old (32 ∷ []) mid new space (front_stays mid text new is)
+front_spaced (Err e) old mid new text space is = front_stays old (32 ∷ []) new (is ∙ space)
+
+-- A SPACE AND A TEXT
+pub text_spaced : {E : Type 0} (r : Result (Unit {0}) E) (old mid new text wanted : List ℕ) → mid ≡ old ++ 32 ∷ [] → text ≡ wanted → new ≡ (if is_ok r then mid ++ text else mid) → OnOk r (new ≡ old ++ 32 ∷ wanted)
+text_spaced (Ok u) old mid new text wanted space same is = is ∙ ap (λ m. m ++ text) space ∙ append_assoc old (32 ∷ []) text ∙ ap (λ t. old ++ 32 ∷ t) same
+text_spaced (Err e) old mid new text wanted space same is = tt
 
 -- THE LINE
 -- the line of one word more in front

@@ -105,21 +105,23 @@ fn build_triple_setup(
     ensures some { IfSome result (λ line. IsBuilt (OfScheme keyword) (first ∷ second ∷ third ∷ []) (Setup line)) }
     ensures none { IfNone result (AreOf (scheme_keyword_kinds keyword) (first ∷ second ∷ third ∷ []) → ⊥) }
 {
+    let first = u32::try_from(first).ok()?;
+    let third = u32::try_from(third).ok()?;
     match keyword {
         SchemeKeyword::Product => Some(SchemeLine::Product {
-            product: u32::try_from(first).ok()?,
+            product: first,
             owner: u16::try_from(second).ok()?,
-            fare: u32::try_from(third).ok()?,
+            fare: third,
         }),
         SchemeKeyword::Caps => Some(SchemeLine::Caps {
-            product: u32::try_from(first).ok()?,
+            product: first,
             daily: u32::try_from(second).ok()?,
-            weekly: u32::try_from(third).ok()?,
+            weekly: third,
         }),
         SchemeKeyword::Device => Some(SchemeLine::Device {
-            device: u32::try_from(first).ok()?,
+            device: first,
             station: u16::try_from(second).ok()?,
-            buffer: u32::try_from(third).ok()?,
+            buffer: third,
         }),
         _ => None,
     }
