@@ -4,10 +4,12 @@ pub mod Numbers
 pub mod Utf8
 pub mod Keywords
 pub mod Feeds
+pub mod Counts
 pub mod Spaced
 pub mod Spelling
 pub mod Texts
 pub mod Printing
 pub mod Words
 pub mod RowLines
+pub mod Pieces
 pub mod Unread

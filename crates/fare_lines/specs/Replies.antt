@@ -152,3 +152,30 @@ reply_text r = words_line (reply_words r)
 -- the spellings of replies, one after the other
 abbrev pub replies_text : List Reply → List ℕ
 replies_text rs = flat_map reply_text rs
+
+-- a reply of how a statement moved from one part to the next
+abbrev pub IsMovedDay : Reply → Type 0
+IsMovedDay (reply.SentDay packet day owner) = Unit {0}
+IsMovedDay (reply.DroppedDay day) = Unit {0}
+IsMovedDay (reply.DrawnDay device day owner) = Unit {0}
+IsMovedDay (reply.StoredDay device day owner) = Unit {0}
+IsMovedDay (reply.AcknowledgedDay day) = Unit {0}
+IsMovedDay (reply.AnsweredDay packet device day) = Unit {0}
+IsMovedDay (reply.ForwardedDay day) = Unit {0}
+IsMovedDay (reply.FetchedDay device day) = Unit {0}
+IsMovedDay (reply.Stated device day count) = Unit {0}
+IsMovedDay _ = ⊥
+
+-- a reply of how a tap or a statement did
+abbrev pub IsMoved : Reply → Type 0
+IsMoved (reply.Recorded link lane) = Unit {0}
+IsMoved (reply.Sent packet link) = Unit {0}
+IsMoved (reply.Dropped count) = Unit {0}
+IsMoved (reply.Drawn device link) = Unit {0}
+IsMoved (reply.Stored device link) = Unit {0}
+IsMoved (reply.Acknowledged upto) = Unit {0}
+IsMoved (reply.Answered packet device upto) = Unit {0}
+IsMoved (reply.Forwarded lane) = Unit {0}
+IsMoved (reply.Fetched device lane) = Unit {0}
+IsMoved (reply.Taken device lane) = Unit {0}
+IsMoved r = IsMovedDay r

@@ -1,9 +1,10 @@
 ghost use Rattle.std.specs.Prelude.{◌≡◌, ◌≤◌, [], ◌∷◌, ◌++◌, ℕ, List, codes, IfOk, IfSome, IfNone};
-ghost use Rattle.fare_record.specs.Limits.{IsDeviceId};
+ghost use Rattle.std.specs.Option.{option_to_list};
+ghost use Rattle.fare_record.specs.Limits.{IsDeviceId, IsOwnerId};
 ghost use Rattle.fare_lines.specs.declared.keyword.Keyword.TheVariants.{OfScheme, OfEvent};
 ghost use Rattle.fare_lines.specs.declared.keyword.SchemeKeyword.TheVariants.{Demo};
 ghost use Rattle.fare_lines.specs.declared.line.Line.TheVariants.{Setup, Step};
-ghost use Rattle.fare_lines.specs.Grammar.{ADevice, AreOf, event_keyword_kinds, scheme_keyword_kinds, size_number};
+ghost use Rattle.fare_lines.specs.Grammar.{ADevice, AnOwner, ARoute, AreOf, event_keyword_kinds, scheme_keyword_kinds, size_number};
 ghost use Rattle.fare_lines.specs.Reading.{BeginsWithLine, Builds, IsBuilt, OfFirstLine, SpellsNoLine, SpellsNoNumbered};
 
 use crate::cut::cut_at;
@@ -40,6 +41,17 @@ fn build_demo(devices: u64, buffer: u64, inbox: u64, lane: u64) -> Option<Scheme
         inbox: u32::try_from(inbox).ok()?,
         lane: u32::try_from(lane).ok()?,
     })
+}
+
+/// The scheme line of a keyword that no number follows, if it is one.
+fn build_bare_setup(keyword: SchemeKeyword) -> Option<SchemeLine>
+    ensures some { IfSome result (λ line. IsBuilt (OfScheme keyword) [] (Setup line)) }
+    ensures none { IfNone result (AreOf (scheme_keyword_kinds keyword) [] → ⊥) }
+{
+    match keyword {
+        SchemeKeyword::Seal => Some(SchemeLine::Seal),
+        _ => None,
+    }
 }
 
 /// The scheme line of a keyword that this number alone follows, if there is one.
@@ -83,32 +95,67 @@ fn build_pair_setup(keyword: SchemeKeyword, first: u64, second: u64) -> Option<S
     }
 }
 
+/// The scheme line of a keyword that these three numbers follow, if there is one.
+fn build_triple_setup(
+    keyword: SchemeKeyword,
+    first: u64,
+    second: u64,
+    third: u64,
+) -> Option<SchemeLine>
+    ensures some { IfSome result (λ line. IsBuilt (OfScheme keyword) (first ∷ second ∷ third ∷ []) (Setup line)) }
+    ensures none { IfNone result (AreOf (scheme_keyword_kinds keyword) (first ∷ second ∷ third ∷ []) → ⊥) }
+{
+    let first = u32::try_from(first).ok()?;
+    let third = u32::try_from(third).ok()?;
+    match keyword {
+        SchemeKeyword::Product => Some(SchemeLine::Product {
+            product: first,
+            owner: u16::try_from(second).ok()?,
+            fare: third,
+        }),
+        SchemeKeyword::Caps => Some(SchemeLine::Caps {
+            product: first,
+            daily: u32::try_from(second).ok()?,
+            weekly: third,
+        }),
+        SchemeKeyword::Device => Some(SchemeLine::Device {
+            device: first,
+            station: u16::try_from(second).ok()?,
+            buffer: third,
+        }),
+        _ => None,
+    }
+}
+
+/// The scheme line of a keyword that these four numbers follow, if there is one.
+fn build_quadruple_setup(
+    keyword: SchemeKeyword,
+    first: u64,
+    second: u64,
+    third: u64,
+    fourth: u64,
+) -> Option<SchemeLine>
+    ensures some { IfSome result (λ line. IsBuilt (OfScheme keyword) (first ∷ second ∷ third ∷ fourth ∷ []) (Setup line)) }
+    ensures none { IfNone result (AreOf (scheme_keyword_kinds keyword) (first ∷ second ∷ third ∷ fourth ∷ []) → ⊥) }
+{
+    match keyword {
+        SchemeKeyword::Demo => build_demo(first, second, third, fourth),
+        _ => None,
+    }
+}
+
 /// The scheme line of a keyword and its numbers, if there is one.
 fn build_setup(keyword: SchemeKeyword, numbers: &[u64]) -> Option<SchemeLine>
     ensures some { IfSome result (λ line. IsBuilt (OfScheme keyword) numbers.now (Setup line)) }
     ensures none { IfNone result (AreOf (scheme_keyword_kinds keyword) numbers.now → ⊥) }
 {
-    match (keyword, numbers) {
-        (_, [number]) => build_single_setup(keyword, *number),
-        (_, [first, second]) => build_pair_setup(keyword, *first, *second),
-        (SchemeKeyword::Product, [product, owner, fare]) => Some(SchemeLine::Product {
-            product: u32::try_from(*product).ok()?,
-            owner: u16::try_from(*owner).ok()?,
-            fare: u32::try_from(*fare).ok()?,
-        }),
-        (SchemeKeyword::Caps, [product, daily, weekly]) => Some(SchemeLine::Caps {
-            product: u32::try_from(*product).ok()?,
-            daily: u32::try_from(*daily).ok()?,
-            weekly: u32::try_from(*weekly).ok()?,
-        }),
-        (SchemeKeyword::Device, [device, station, buffer]) => Some(SchemeLine::Device {
-            device: u32::try_from(*device).ok()?,
-            station: u16::try_from(*station).ok()?,
-            buffer: u32::try_from(*buffer).ok()?,
-        }),
-        (SchemeKeyword::Seal, []) => Some(SchemeLine::Seal),
-        (SchemeKeyword::Demo, [devices, buffer, inbox, lane]) => {
-            build_demo(*devices, *buffer, *inbox, *lane)
+    match numbers {
+        [] => build_bare_setup(keyword),
+        [number] => build_single_setup(keyword, *number),
+        [first, second] => build_pair_setup(keyword, *first, *second),
+        [first, second, third] => build_triple_setup(keyword, *first, *second, *third),
+        [first, second, third, fourth] => {
+            build_quadruple_setup(keyword, *first, *second, *third, *fourth)
         }
         _ => None,
     }
@@ -172,28 +219,28 @@ fn build_single_event(keyword: EventKeyword, number: u64) -> Option<Event>
     }
 }
 
+/// The event of a keyword that the numbers of an owner and a device follow, if it is one.
+fn build_lane_event(keyword: EventKeyword, first: u64, second: u64) -> Option<Event>
+    ensures some { IfSome result (λ event. IsBuilt (OfEvent keyword) (first ∷ second ∷ []) (Step event)) }
+    ensures none { IfNone result (event_keyword_kinds keyword ≡ AnOwner ∷ ADevice ∷ [] → IsOwnerId first → IsDeviceId second → ⊥) }
+{
+    let owner = OwnerId::new(first)?;
+    let device = DeviceId::new(second)?;
+    match keyword {
+        EventKeyword::Forward => Some(Event::Forward { owner, device }),
+        EventKeyword::Retire => Some(Event::Retire { owner, device }),
+        EventKeyword::Prune => Some(Event::Prune { owner, device }),
+        EventKeyword::Count => Some(Event::Count { owner, device }),
+        _ => None,
+    }
+}
+
 /// The event of a keyword that these two numbers follow, if there is one.
 fn build_pair_event(keyword: EventKeyword, first: u64, second: u64) -> Option<Event>
     ensures some { IfSome result (λ event. IsBuilt (OfEvent keyword) (first ∷ second ∷ []) (Step event)) }
     ensures none { IfNone result (AreOf (event_keyword_kinds keyword) (first ∷ second ∷ []) → ⊥) }
 {
     match keyword {
-        EventKeyword::Forward => Some(Event::Forward {
-            owner: OwnerId::new(first)?,
-            device: DeviceId::new(second)?,
-        }),
-        EventKeyword::Retire => Some(Event::Retire {
-            owner: OwnerId::new(first)?,
-            device: DeviceId::new(second)?,
-        }),
-        EventKeyword::Prune => Some(Event::Prune {
-            owner: OwnerId::new(first)?,
-            device: DeviceId::new(second)?,
-        }),
-        EventKeyword::Count => Some(Event::Count {
-            owner: OwnerId::new(first)?,
-            device: DeviceId::new(second)?,
-        }),
         EventKeyword::Bill => Some(Event::Bill {
             owner: OwnerId::new(first)?,
             day: Day::new(second)?,
@@ -206,6 +253,61 @@ fn build_pair_event(keyword: EventKeyword, first: u64, second: u64) -> Option<Ev
             device: DeviceId::new(first)?,
             day: Day::new(second)?,
         }),
+        _ => build_lane_event(keyword, first, second),
+    }
+}
+
+/// The event of a keyword that these three numbers follow, if there is one.
+fn build_triple_event(keyword: EventKeyword, first: u64, second: u64, third: u64) -> Option<Event>
+    ensures some { IfSome result (λ event. IsBuilt (OfEvent keyword) (first ∷ second ∷ third ∷ []) (Step event)) }
+    ensures none { IfNone result (AreOf (event_keyword_kinds keyword) (first ∷ second ∷ third ∷ []) → ⊥) }
+{
+    match keyword {
+        EventKeyword::State => Some(Event::State {
+            device: DeviceId::new(first)?,
+            day: Day::new(second)?,
+            owner: OwnerId::new(third)?,
+        }),
+        EventKeyword::Close => Some(Event::Close {
+            owner: OwnerId::new(first)?,
+            device: DeviceId::new(second)?,
+            day: Day::new(third)?,
+        }),
+        _ => None,
+    }
+}
+
+/// The number of a route, which may be left out; None where it is too great.
+fn read_route(route: Option<u64>) -> Option<Option<u16>>
+    ensures some { IfSome result (λ read. (option_to_list read ≡ option_to_list route) × AreOf (ARoute ∷ []) (option_to_list read)) }
+    ensures none { IfNone result (AreOf (ARoute ∷ []) (option_to_list route) → ⊥) }
+{
+    match route {
+        Some(route) => Some(Some(u16::try_from(route).ok()?)),
+        None => Some(None),
+    }
+}
+
+/// The tap of a keyword that these numbers follow, and perhaps that of a route, if there is one.
+fn build_tap(
+    keyword: EventKeyword,
+    device: u64,
+    product: u64,
+    token: u64,
+    moment: u64,
+    route: Option<u64>,
+) -> Option<Event>
+    ensures some { IfSome result (λ event. IsBuilt (OfEvent keyword) (device ∷ product ∷ token ∷ moment ∷ option_to_list route) (Step event)) }
+    ensures none { IfNone result (AreOf (event_keyword_kinds keyword) (device ∷ product ∷ token ∷ moment ∷ option_to_list route) → ⊥) }
+{
+    match keyword {
+        EventKeyword::Tap => Some(Event::Tap {
+            device: DeviceId::new(device)?,
+            product: ProductId::new(product)?,
+            token: Token::new(token)?,
+            moment: Moment::new(moment)?,
+            route: read_route(route)?,
+        }),
         _ => None,
     }
 }
@@ -215,34 +317,17 @@ fn build_event(keyword: EventKeyword, numbers: &[u64]) -> Option<Event>
     ensures some { IfSome result (λ event. IsBuilt (OfEvent keyword) numbers.now (Step event)) }
     ensures none { IfNone result (AreOf (event_keyword_kinds keyword) numbers.now → ⊥) }
 {
-    match (keyword, numbers) {
-        (_, []) => build_bare_event(keyword),
-        (_, [number]) => build_single_event(keyword, *number),
-        (_, [first, second]) => build_pair_event(keyword, *first, *second),
-        (EventKeyword::State, [device, day, owner]) => Some(Event::State {
-            device: DeviceId::new(*device)?,
-            day: Day::new(*day)?,
-            owner: OwnerId::new(*owner)?,
-        }),
-        (EventKeyword::Close, [owner, device, day]) => Some(Event::Close {
-            owner: OwnerId::new(*owner)?,
-            device: DeviceId::new(*device)?,
-            day: Day::new(*day)?,
-        }),
-        (EventKeyword::Tap, [device, product, token, moment]) => Some(Event::Tap {
-            device: DeviceId::new(*device)?,
-            product: ProductId::new(*product)?,
-            token: Token::new(*token)?,
-            moment: Moment::new(*moment)?,
-            route: None,
-        }),
-        (EventKeyword::Tap, [device, product, token, moment, route]) => Some(Event::Tap {
-            device: DeviceId::new(*device)?,
-            product: ProductId::new(*product)?,
-            token: Token::new(*token)?,
-            moment: Moment::new(*moment)?,
-            route: Some(u16::try_from(*route).ok()?),
-        }),
+    match numbers {
+        [] => build_bare_event(keyword),
+        [number] => build_single_event(keyword, *number),
+        [first, second] => build_pair_event(keyword, *first, *second),
+        [first, second, third] => build_triple_event(keyword, *first, *second, *third),
+        [device, product, token, moment] => {
+            build_tap(keyword, *device, *product, *token, *moment, None)
+        }
+        [device, product, token, moment, route] => {
+            build_tap(keyword, *device, *product, *token, *moment, Some(*route))
+        }
         _ => None,
     }
 }

@@ -1,6 +1,6 @@
 ghost use Rattle.std.specs.Prelude.{◌≡◌, [], ◌∷◌, ◌++◌, OnOk, OnErr, codes, length, map, take};
 ghost use Rattle.std.specs.Fmt.{decimal};
-ghost use Rattle.fare_lines.specs.Replies.{refusal_name, reply_text, words_line};
+ghost use Rattle.fare_lines.specs.Replies.{IsMoved, IsMovedDay, refusal_name, reply_text, words_line};
 
 use crate::print_rows::{append_bill, append_settlement};
 use fare_event::{Refusal, Reply};
@@ -222,6 +222,28 @@ fn append_numbers<const N: usize, const M: usize>(
     appended
 }
 
+/// Appends a name and a day.
+fn append_day<const N: usize>(name: &[u8; N], day: Day, out: &mut Vec<u8>) -> Result<(), AllocError>
+    ensures appended { OnOk result (out.new.items ≡ out.old.items ++ words_line (name.now ∷ decimal day ∷ [])) }
+    ensures kept { OnErr result (out.new.items ≡ out.old.items) }
+{
+    append_number(name, u64::from(day.get()), out)
+}
+
+/// Appends a name, a device, a word and a number.
+fn append_of_device<const N: usize, const M: usize>(
+    name: &[u8; N],
+    device: DeviceId,
+    word: &[u8; M],
+    number: u64,
+    out: &mut Vec<u8>,
+) -> Result<(), AllocError>
+    ensures appended { OnOk result (out.new.items ≡ out.old.items ++ words_line (name.now ∷ decimal device ∷ word.now ∷ decimal number ∷ [])) }
+    ensures kept { OnErr result (out.new.items ≡ out.old.items) }
+{
+    append_numbers(name, u64::from(device.get()), word, number, out)
+}
+
 /// Appends the two numbers of a record. After an error some of it may stand there.
 fn put_record(link: u64, lane: u64, out: &mut Vec<u8>) -> Result<(), AllocError>
     ensures appended { OnOk result (out.new.items ≡ out.old.items ++ reply_text (Reply.Recorded link lane)) }
@@ -261,12 +283,17 @@ fn put_answer(packet: u64, device: u64, upto: u64, out: &mut Vec<u8>) -> Result<
 }
 
 /// Appends the packet of an acknowledgement, with its device and its last link.
-fn append_answer(packet: u64, device: u64, upto: u64, out: &mut Vec<u8>) -> Result<(), AllocError>
+fn append_answer(
+    packet: u64,
+    device: DeviceId,
+    upto: u64,
+    out: &mut Vec<u8>,
+) -> Result<(), AllocError>
     ensures appended { OnOk result (out.new.items ≡ out.old.items ++ reply_text (Reply.Answered packet device upto)) }
     ensures kept { OnErr result (out.new.items ≡ out.old.items) }
 {
     let length = out.len();
-    let appended = put_answer(packet, device, upto, out);
+    let appended = put_answer(packet, u64::from(device.get()), upto, out);
     if appended.is_err() {
         out.truncate(length);
     }
@@ -334,6 +361,20 @@ fn append_statement(
     append_line(name, &[first, b"day", day, b"owner", owner], out)
 }
 
+/// Appends a name, a device, a day and an owner.
+fn append_statement_of(
+    name: &[u8],
+    device: DeviceId,
+    day: Day,
+    owner: OwnerId,
+    out: &mut Vec<u8>,
+) -> Result<(), AllocError>
+    ensures appended { OnOk result (out.new.items ≡ out.old.items ++ words_line (name.now ∷ decimal device ∷ codes "day" ∷ decimal day ∷ codes "owner" ∷ decimal owner ∷ [])) }
+    ensures kept { OnErr result (out.new.items ≡ out.old.items) }
+{
+    append_statement(name, u64::from(device.get()), day, owner, out)
+}
+
 /// Appends the packet of a day's acknowledgement, with its device.
 fn append_day_answer(
     packet: u64,
@@ -384,6 +425,65 @@ fn append_closed(device: DeviceId, day: Day, out: &mut Vec<u8>) -> Result<(), Al
     append_line(b"closed", &[device, day], out)
 }
 
+/// Appends the line of a reply of how a statement moved.
+fn print_moved_day(reply: &Reply, out: &mut Vec<u8>) -> Result<(), AllocError>
+    requires { IsMovedDay reply.now }
+    ensures appended { OnOk result (out.new.items ≡ out.old.items ++ reply_text reply.now) }
+    ensures kept { OnErr result (out.new.items ≡ out.old.items) }
+{
+    match reply {
+        Reply::SentDay { packet, day, owner } => {
+            append_statement(b"packet", *packet, *day, *owner, out)
+        }
+        Reply::DroppedDay(day) => append_day(b"acked day", *day, out),
+        Reply::DrawnDay { device, day, owner } => {
+            append_statement_of(b"drawn", *device, *day, *owner, out)
+        }
+        Reply::StoredDay { device, day, owner } => {
+            append_statement_of(b"stored", *device, *day, *owner, out)
+        }
+        Reply::AcknowledgedDay(day) => append_day(b"dayack", *day, out),
+        Reply::AnsweredDay {
+            packet,
+            device,
+            day,
+        } => append_day_answer(*packet, *device, *day, out),
+        Reply::ForwardedDay { day } => append_day(b"forwarded day", *day, out),
+        Reply::FetchedDay { device, day } => {
+            append_of_device(b"fetched", *device, b"day", u64::from(day.get()), out)
+        }
+        Reply::Stated { device, day, count } => append_stated(*device, *day, *count, out),
+        _ => unreachable!(),
+    }
+}
+
+/// Appends the line of a reply of how a tap or a statement moved.
+fn print_moved(reply: &Reply, out: &mut Vec<u8>) -> Result<(), AllocError>
+    requires { IsMoved reply.now }
+    ensures appended { OnOk result (out.new.items ≡ out.old.items ++ reply_text reply.now) }
+    ensures kept { OnErr result (out.new.items ≡ out.old.items) }
+{
+    match reply {
+        Reply::Recorded { link, lane } => append_record(*link, *lane, out),
+        Reply::Sent { packet, link } => append_numbers(b"packet", *packet, b"link", *link, out),
+        Reply::Dropped(count) => append_number(b"acked", *count, out),
+        Reply::Drawn { device, link } => append_of_device(b"drawn", *device, b"link", *link, out),
+        Reply::Stored { device, link } => append_of_device(b"stored", *device, b"link", *link, out),
+        Reply::Acknowledged(upto) => append_number(b"ack", *upto, out),
+        Reply::Answered {
+            packet,
+            device,
+            upto,
+        } => append_answer(*packet, *device, *upto, out),
+        Reply::Forwarded { lane } => append_number(b"forwarded lane", *lane, out),
+        Reply::Fetched { device, lane } => {
+            append_of_device(b"fetched", *device, b"lane", *lane, out)
+        }
+        Reply::Taken { device, lane } => append_of_device(b"taken", *device, b"lane", *lane, out),
+        _ => print_moved_day(reply, out),
+    }
+}
+
 /// Appends a reply's line, ended by a line feed. The error is want of memory, and after it `out` is as before.
 pub fn print_reply(reply: &Reply, out: &mut Vec<u8>) -> Result<(), AllocError>
     ensures appended { OnOk result (out.new.items ≡ out.old.items ++ reply_text reply.now) }
@@ -397,58 +497,9 @@ pub fn print_reply(reply: &Reply, out: &mut Vec<u8>) -> Result<(), AllocError>
         Reply::Accepted => append_line(b"accepted", &[], out),
         Reply::Restarted => append_line(b"restarted", &[], out),
         Reply::Refused(refusal) => append_refusal(refusal, out),
-        Reply::Opened(day) => append_number(b"open", u64::from(day.get()), out),
-        Reply::Recorded { link, lane } => append_record(*link, *lane, out),
-        Reply::Sent { packet, link } => append_numbers(b"packet", *packet, b"link", *link, out),
-        Reply::SentDay { packet, day, owner } => {
-            append_statement(b"packet", *packet, *day, *owner, out)
-        }
-        Reply::DroppedDay(day) => append_number(b"acked day", u64::from(day.get()), out),
-        Reply::DrawnDay { device, day, owner } => {
-            append_statement(b"drawn", u64::from(device.get()), *day, *owner, out)
-        }
-        Reply::StoredDay { device, day, owner } => {
-            append_statement(b"stored", u64::from(device.get()), *day, *owner, out)
-        }
-        Reply::AcknowledgedDay(day) => append_number(b"dayack", u64::from(day.get()), out),
-        Reply::AnsweredDay {
-            packet,
-            device,
-            day,
-        } => append_day_answer(*packet, *device, *day, out),
-        Reply::ForwardedDay { day } => {
-            append_number(b"forwarded day", u64::from(day.get()), out)
-        }
-        Reply::FetchedDay { device, day } => append_numbers(
-            b"fetched",
-            u64::from(device.get()),
-            b"day",
-            u64::from(day.get()),
-            out,
-        ),
-        Reply::Stated { device, day, count } => append_stated(*device, *day, *count, out),
+        Reply::Opened(day) => append_day(b"open", *day, out),
         Reply::Closed { device, day } => append_closed(*device, *day, out),
         Reply::Retired(device) => append_number(b"retired", u64::from(device.get()), out),
-        Reply::Drawn { device, link } => {
-            append_numbers(b"drawn", u64::from(device.get()), b"link", *link, out)
-        }
-        Reply::Stored { device, link } => {
-            append_numbers(b"stored", u64::from(device.get()), b"link", *link, out)
-        }
-        Reply::Forwarded { lane } => append_number(b"forwarded lane", *lane, out),
-        Reply::Fetched { device, lane } => {
-            append_numbers(b"fetched", u64::from(device.get()), b"lane", *lane, out)
-        }
-        Reply::Taken { device, lane } => {
-            append_numbers(b"taken", u64::from(device.get()), b"lane", *lane, out)
-        }
-        Reply::Dropped(count) => append_number(b"acked", *count, out),
-        Reply::Acknowledged(upto) => append_number(b"ack", *upto, out),
-        Reply::Answered {
-            packet,
-            device,
-            upto,
-        } => append_answer(*packet, u64::from(device.get()), *upto, out),
         Reply::Resumed(upto) => append_number(b"resumed", *upto, out),
         Reply::Upto(number) => append_number(b"upto", *number, out),
         Reply::Count(number) => append_number(b"count", *number, out),
@@ -465,5 +516,6 @@ pub fn print_reply(reply: &Reply, out: &mut Vec<u8>) -> Result<(), AllocError>
             settlement,
             short,
         } => append_settlement(*owner, *day, settlement, short, out),
+        _ => print_moved(reply, out),
     }
 }

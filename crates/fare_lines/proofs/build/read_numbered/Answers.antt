@@ -16,3 +16,8 @@ pub returns-in-None-clause-none : goal.returns-in-None-clause-none
 returns-in-None-clause-none c =
     let read : BeginsWithNumbers c.in-Some.behind.now c.read_numbers.new.numbers.items c.in-Some-2.rest.now = rw c.in-Some-2.is at c.in_ok-rest.ensures.found in
     not_built c.args.text.now c.in-Some.behind.now c.in-Some-2.rest.now c.in-Some.keyword c.in-Some.ensures.found c.read_numbers.new.numbers.items read (rw c.deref.ensures.value at c.in-None.ensures)
+
+pub returns-in-Some-build-clause-found : goal.returns-in-Some-build-clause-found
+returns-in-Some-build-clause-found c =
+    let read : BeginsWithNumbers c.in-Some.behind.now c.read_numbers.new.numbers.items c.in-Some-2.rest.now = rw c.in-Some-2.is at c.in_ok-rest.ensures.found in
+    built c.args.text.now c.in-Some.behind.now c.in-Some-2.rest.now c.in-Some.keyword c.in-Some.ensures.found c.read_numbers.new.numbers.items read c.in-Some-build.line (rw c.deref.ensures.value at c.in-Some-build.ensures)

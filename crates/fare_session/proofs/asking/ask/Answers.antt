@@ -4,8 +4,19 @@ use Rattle.fare_store.specs.declared.fault.Fault.{Fault}
 use Rattle.fare_store.specs.declared.fault.Fault.TheVariants as fault
 use Rattle.fare_session.specs.Stores.{Stays}
 use Rattle.fare_session.specs.Asking.{IsStanding, AreTold}
-use Rattle.fare_session.proofs.Asks.{told_more, asked_failed, asked_memory, asked_on}
+use Rattle.fare_session.proofs.Asks.{told_none, told_more, asked_failed, asked_memory, asked_on}
+use Rattle.fare_session.proofs.StoreCalls.{stays_none}
 use Rattle.fare_session.proofs.asking.ask.Goals as goal
+
+pub loop-place-init : goal.loop-place-init
+loop-place-init g c =
+    let a = g.L.Ledger.standing c.args.ledger.now in
+    record {
+      stays = stays_none a (g.met.L.Ledger.sound c.args.ledger.now);
+      live = λ lt. absurd (omega (arith, lt));
+      told = told_none c.args.scheme.now a c.args.asked.now.standings.items c.args.asked.now.bases.items c.requires.fresh.0 c.requires.fresh.1;
+      count = ap length c.requires.fresh.0;
+    }
 
 pub returns-in-Err : goal.returns-in-Err
 returns-in-Err g c = asked_failed c.args.scheme.now (g.L.Ledger.standing c.args.ledger.now) (g.L.Ledger.standing c.loop-place.ledger) (g.L.Ledger.standing c.standing.new.ledger) c.loop-place.asked.standings.items c.loop-place.asked.bases.items c.in-Some.device c.in-Err.fault c.loop-place.invariant.stays c.in-Err.ensures

@@ -1,0 +1,6 @@
+use Rattle.std.proofs.Common.{arith}
+use Rattle.fare_lines.proofs.Counts.{too_many_for_event}
+use Rattle.fare_lines.proofs.build.build_event.Goals as goal
+
+pub returns-in_default-clause-none : goal.returns-in_default-clause-none
+returns-in_default-clause-none c = too_many_for_event c.args.keyword c.args.numbers.now (omega arith)
