@@ -14,8 +14,22 @@ use Rattle.fare_command.specs.declared.words.Question.{Question}
 use Rattle.fare_command.specs.declared.words.Question.TheVariants.{Close, Bill, Settle, Stand, Retire, Forget}
 use Rattle.fare_command.specs.declared.words.SchemeSource.{SchemeSource}
 use Rattle.fare_command.specs.declared.words.SchemeSource.TheVariants.{Unsaid, Input, File}
+use Rattle.fare_command.specs.declared.words.Subcommand.{Subcommand}
+use Rattle.fare_command.specs.declared.words.Subcommand.TheVariants as subcommand
 use Rattle.fare_command.specs.declared.words.WordsFault.{WordsFault}
 use Rattle.fare_command.specs.declared.words.WordsFault.TheVariants.{Asked, Refused, Memory}
+
+-- a subcommand's name
+abbrev pub name_of : Subcommand → Text
+name_of subcommand.Replay = codes "replay"
+name_of subcommand.Serve = codes "serve"
+name_of subcommand.Close = codes "close"
+name_of subcommand.Bill = codes "bill"
+name_of subcommand.Settle = codes "settle"
+name_of subcommand.Stand = codes "stand"
+name_of subcommand.Retire = codes "retire"
+name_of subcommand.Forget = codes "forget"
+name_of subcommand.Scheme = codes "scheme"
 
 -- the store is `sql` or not; `plain` where none is given
 abbrev pub IsStore : Option Text → Bool → Type 0

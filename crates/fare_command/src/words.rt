@@ -1,8 +1,8 @@
-ghost use Rattle.std.specs.Prelude.{◌≡◌, ℕ, Bool, None, Option, IfOk, IfErr, map, option_map, codes};
+ghost use Rattle.std.specs.Prelude.{◌≡◌, ◌≢◌, ℕ, Bool, None, Option, IfOk, IfErr, MatchOption, map, option_map, codes};
 ghost use Rattle.clap.specs.Words.{rows_of, found_of, first_of, subcommand_of, subcommand_rows_of};
 ghost use Rattle.clap.specs.Values.{kind_of};
 ghost use Rattle.fare_command.specs.CommandLine.{hub_app};
-ghost use Rattle.fare_command.specs.Jobs.{IsAskPort, IsDayIn, IsDeviceIn, IsGiven, IsOwnerIn, IsPort, IsSource, IsStore, JobIn, JobOf, RefusedFor, FailsOn, IsSound, Tells};
+ghost use Rattle.fare_command.specs.Jobs.{IsAskPort, IsDayIn, IsDeviceIn, IsGiven, IsOwnerIn, IsPort, IsSource, IsStore, JobIn, JobOf, RefusedFor, FailsOn, IsSound, Tells, name_of};
 ghost use Rattle.fare_command.specs.declared.words.WordsFault.TheVariants.{Memory};
 
 use crate::command::hub_command;
@@ -102,6 +102,20 @@ pub enum Job<'a> {
     Scheme {
         path: &'a str,
     },
+}
+
+/// A subcommand of the program.
+#[derive(Clone, Copy)]
+enum Subcommand {
+    Replay,
+    Serve,
+    Close,
+    Bill,
+    Settle,
+    Stand,
+    Retire,
+    Forget,
+    Scheme,
 }
 
 /// Why there is no job.
@@ -450,27 +464,70 @@ fn scheme_job<'a>(alloc: Global, matches: &ArgMatches<'a>) -> Result<Job<'a>, Wo
     Ok(Job::Scheme { path })
 }
 
+/// The subcommand of this name.
+fn subcommand_named(name: &str) -> Option<Subcommand>
+    ensures { MatchOption result ((subcommand : Subcommand) → name.now ≢ name_of subcommand) (λ subcommand. name.now ≡ name_of subcommand) }
+{
+    match name {
+        "replay" => Some(Subcommand::Replay),
+        "serve" => Some(Subcommand::Serve),
+        "close" => Some(Subcommand::Close),
+        "bill" => Some(Subcommand::Bill),
+        "settle" => Some(Subcommand::Settle),
+        "stand" => Some(Subcommand::Stand),
+        "retire" => Some(Subcommand::Retire),
+        "forget" => Some(Subcommand::Forget),
+        "scheme" => Some(Subcommand::Scheme),
+        _ => None,
+    }
+}
+
+/// The job of a subcommand.
+fn job_of<'a>(
+    alloc: Global,
+    subcommand: Subcommand,
+    matches: &ArgMatches<'a>,
+) -> Result<Job<'a>, WordsFault>
+    ensures ok { IfOk result (JobIn (name_of subcommand) (rows_of (found_of matches.now))) }
+    ensures err { IfErr result (RefusedFor ((job : Job) → JobIn (name_of subcommand) (rows_of (found_of matches.now)) job → ⊥)) }
+{
+    match subcommand {
+        Subcommand::Replay => replay_job(alloc, matches),
+        Subcommand::Serve => serve_job(alloc, matches),
+        Subcommand::Close => close_job(alloc, matches),
+        Subcommand::Bill => bill_job(alloc, matches),
+        Subcommand::Settle => settle_job(alloc, matches),
+        Subcommand::Stand => stand_job(alloc, matches),
+        Subcommand::Retire => retire_job(alloc, matches),
+        Subcommand::Forget => forget_job(alloc, matches),
+        Subcommand::Scheme => scheme_job(alloc, matches),
+    }
+}
+
+/// The subcommand that clap's matches name, and what they hold of it.
+fn subcommand_in<'m, 'a>(matches: &'m ArgMatches<'a>) -> Option<(Subcommand, &'m ArgMatches<'a>)>
+    ensures { MatchOption result ((job : Job) → JobOf (subcommand_rows_of matches.now) job → ⊥) (λ said. subcommand_rows_of matches.now ≡ Some (name_of said.0, rows_of (found_of said.1.now))) }
+{
+    let Some((name, inner)) = matches.subcommand() else {
+        return None;
+    };
+    match subcommand_named(name) {
+        Some(subcommand) => Some((subcommand, inner)),
+        None => None,
+    }
+}
+
 /// The job that clap's matches ask for.
 fn job_in<'a>(alloc: Global, matches: &ArgMatches<'a>) -> Result<Job<'a>, WordsFault>
     ensures ok { IfOk result (JobOf (subcommand_rows_of matches.now)) }
     ensures err { IfErr result (RefusedFor ((job : Job) → JobOf (subcommand_rows_of matches.now) job → ⊥)) }
 {
-    match matches.subcommand() {
-        Some(("replay", inner)) => replay_job(alloc, inner),
-        Some(("serve", inner)) => serve_job(alloc, inner),
-        Some(("close", inner)) => close_job(alloc, inner),
-        Some(("bill", inner)) => bill_job(alloc, inner),
-        Some(("settle", inner)) => settle_job(alloc, inner),
-        Some(("stand", inner)) => stand_job(alloc, inner),
-        Some(("retire", inner)) => retire_job(alloc, inner),
-        Some(("forget", inner)) => forget_job(alloc, inner),
-        Some(("scheme", inner)) => scheme_job(alloc, inner),
-        _ => {
-            let text =
-                "error: the command is replay, serve, close, bill, settle, stand, retire, forget or scheme\n";
-            Err(WordsFault::Refused(String::from_str(alloc, text)?))
-        }
-    }
+    let Some((subcommand, inner)) = subcommand_in(matches) else {
+        let text =
+            "error: the command is replay, serve, close, bill, settle, stand, retire, forget or scheme\n";
+        return Err(WordsFault::Refused(String::from_str(alloc, text)?));
+    };
+    job_of(alloc, subcommand, inner)
 }
 
 /// The job that the words ask for, which are those after the program's name. `Asked` where they ask for help
