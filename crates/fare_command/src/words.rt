@@ -5,7 +5,7 @@ ghost use Rattle.fare_command.specs.CommandLine.{hub_app};
 ghost use Rattle.fare_command.specs.Jobs.{IsAskPort, IsDayIn, IsDeviceIn, IsGiven, IsOwnerIn, IsPort, IsSource, IsStore, JobIn, JobOf, RefusedFor, FailsOn, IsSound, Tells, name_of};
 ghost use Rattle.fare_command.specs.declared.words.WordsFault.TheVariants.{Memory};
 
-use crate::command::hub_command;
+use crate::command::{MOST_MILLIS, MOST_PATIENCE, MOST_ROUNDS, MOST_TURNS, hub_command};
 use clap::ArgMatches;
 use clap::error::ErrorKind;
 use fare_record::{Day, DeviceId, OwnerId};
@@ -15,20 +15,10 @@ use thiserror::Error;
 /// The port where no other is asked for.
 const PORT: u16 = 7071;
 
-/// The most turns that may be asked for, and how many they are where nothing else is asked for.
-const MOST_TURNS: u32 = 1_000_000_000;
-
+/// How many turns where nothing else is asked for.
 const TURNS: u32 = 2_000;
 
-/// The most milliseconds that a read or a write of a line may wait, and that the lines of a round may be read.
-const MOST_MILLIS: u32 = 60_000;
-
-/// The most rounds that may be asked for.
-const MOST_ROUNDS: u32 = 4_294_967_295;
-
-/// The most quiet reads that may be asked for, and how many they are where nothing else is asked for.
-const MOST_PATIENCE: u32 = 1_000_000_000;
-
+/// How many quiet reads where nothing else is asked for.
 const PATIENCE: u32 = 2;
 
 /// How many milliseconds a read of a line waits, a write, and how many the lines of a round are read at most, where
