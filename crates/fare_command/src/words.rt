@@ -2,7 +2,7 @@ ghost use Rattle.std.specs.Prelude.{◌≡◌, ◌≢◌, ℕ, Bool, None, Optio
 ghost use Rattle.clap.specs.Words.{rows_of, found_of, first_of, subcommand_of, subcommand_rows_of};
 ghost use Rattle.clap.specs.Values.{kind_of};
 ghost use Rattle.fare_command.specs.CommandLine.{hub_app};
-ghost use Rattle.fare_command.specs.Jobs.{IsAskPort, IsDayIn, IsDeviceIn, IsGiven, IsOwnerIn, IsPort, IsSource, IsStore, JobIn, JobOf, RefusedFor, FailsOn, IsSound, Tells, name_of};
+ghost use Rattle.fare_command.specs.Jobs.{IsAskPort, IsDayIn, IsDeviceIn, IsGiven, IsOwnerIn, IsPort, IsQuestion, IsSource, IsStore, JobIn, JobOf, RefusedFor, FailsOn, IsSound, Tells, asking_name, name_of};
 ghost use Rattle.fare_command.specs.declared.words.WordsFault.TheVariants.{Memory};
 
 use crate::command::{MOST_MILLIS, MOST_PATIENCE, MOST_ROUNDS, MOST_TURNS, hub_command};
@@ -94,17 +94,23 @@ pub enum Job<'a> {
     },
 }
 
-/// A subcommand of the program.
+/// A subcommand that asks something of the stores, or orders it.
 #[derive(Clone, Copy)]
-enum Subcommand {
-    Replay,
-    Serve,
+enum Asking {
     Close,
     Bill,
     Settle,
     Stand,
     Retire,
     Forget,
+}
+
+/// A subcommand of the program.
+#[derive(Clone, Copy)]
+enum Subcommand {
+    Replay,
+    Serve,
+    Ask(Asking),
     Scheme,
 }
 
@@ -234,22 +240,44 @@ fn given_of(
     }
 }
 
+/// The owner that is asked for, if the option says one.
+fn owner_in(matches: &ArgMatches<'_>) -> Option<OwnerId>
+    ensures { MatchOption result ((n : ℕ) → IsOwnerIn (rows_of (found_of matches.now)) n → ⊥) (IsOwnerIn (rows_of (found_of matches.now))) }
+{
+    let Some(owner) = text_of(matches, "owner") else {
+        return None;
+    };
+    let Ok(number) = owner.parse::<u16>() else {
+        return None;
+    };
+    OwnerId::new(u64::from(number))
+}
+
 /// The owner that is asked for.
 fn owner_of(alloc: Global, matches: &ArgMatches<'_>) -> Result<OwnerId, WordsFault>
     ensures ok { IfOk result (IsOwnerIn (rows_of (found_of matches.now))) }
     ensures err { IfErr result (RefusedFor ((n : ℕ) → IsOwnerIn (rows_of (found_of matches.now)) n → ⊥)) }
 {
-    let text = "error: the owner is a number from 1 to 65,535\n";
-    let Some(owner) = text_of(matches, "owner") else {
-        return Err(WordsFault::Refused(String::from_str(alloc, text)?));
-    };
-    let Ok(number) = owner.parse::<u16>() else {
-        return Err(WordsFault::Refused(String::from_str(alloc, text)?));
-    };
-    match OwnerId::new(u64::from(number)) {
+    match owner_in(matches) {
         Some(owner) => Ok(owner),
-        None => Err(WordsFault::Refused(String::from_str(alloc, text)?)),
+        None => {
+            let text = "error: the owner is a number from 1 to 65,535\n";
+            Err(WordsFault::Refused(String::from_str(alloc, text)?))
+        }
     }
+}
+
+/// The day that an option gives, if it says one.
+fn day_in(matches: &ArgMatches<'_>, option: &str) -> Option<Day>
+    ensures { MatchOption result ((n : ℕ) → IsDayIn option.now (rows_of (found_of matches.now)) n → ⊥) (IsDayIn option.now (rows_of (found_of matches.now))) }
+{
+    let Some(day) = text_of(matches, option) else {
+        return None;
+    };
+    let Ok(number) = day.parse::<u32>() else {
+        return None;
+    };
+    Day::new(u64::from(number))
 }
 
 /// The day that an option gives.
@@ -257,17 +285,26 @@ fn day_of(alloc: Global, matches: &ArgMatches<'_>, option: &str) -> Result<Day, 
     ensures ok { IfOk result (IsDayIn option.now (rows_of (found_of matches.now))) }
     ensures err { IfErr result (RefusedFor ((n : ℕ) → IsDayIn option.now (rows_of (found_of matches.now)) n → ⊥)) }
 {
-    let text = "error: the day is a number from 0 to 100,000\n";
-    let Some(day) = text_of(matches, option) else {
-        return Err(WordsFault::Refused(String::from_str(alloc, text)?));
-    };
-    let Ok(number) = day.parse::<u32>() else {
-        return Err(WordsFault::Refused(String::from_str(alloc, text)?));
-    };
-    match Day::new(u64::from(number)) {
+    match day_in(matches, option) {
         Some(day) => Ok(day),
-        None => Err(WordsFault::Refused(String::from_str(alloc, text)?)),
+        None => {
+            let text = "error: the day is a number from 0 to 100,000\n";
+            Err(WordsFault::Refused(String::from_str(alloc, text)?))
+        }
     }
+}
+
+/// The device that is named, if the option says one.
+fn device_in(matches: &ArgMatches<'_>) -> Option<DeviceId>
+    ensures { MatchOption result ((n : ℕ) → IsDeviceIn (rows_of (found_of matches.now)) n → ⊥) (IsDeviceIn (rows_of (found_of matches.now))) }
+{
+    let Some(device) = text_of(matches, "device") else {
+        return None;
+    };
+    let Ok(number) = device.parse::<u32>() else {
+        return None;
+    };
+    DeviceId::new(u64::from(number))
 }
 
 /// The device that is named.
@@ -275,16 +312,12 @@ fn device_of(alloc: Global, matches: &ArgMatches<'_>) -> Result<DeviceId, WordsF
     ensures ok { IfOk result (IsDeviceIn (rows_of (found_of matches.now))) }
     ensures err { IfErr result (RefusedFor ((n : ℕ) → IsDeviceIn (rows_of (found_of matches.now)) n → ⊥)) }
 {
-    let text = "error: the device is a number from 1 to 4,294,967,295\n";
-    let Some(device) = text_of(matches, "device") else {
-        return Err(WordsFault::Refused(String::from_str(alloc, text)?));
-    };
-    let Ok(number) = device.parse::<u32>() else {
-        return Err(WordsFault::Refused(String::from_str(alloc, text)?));
-    };
-    match DeviceId::new(u64::from(number)) {
+    match device_in(matches) {
         Some(device) => Ok(device),
-        None => Err(WordsFault::Refused(String::from_str(alloc, text)?)),
+        None => {
+            let text = "error: the device is a number from 1 to 4,294,967,295\n";
+            Err(WordsFault::Refused(String::from_str(alloc, text)?))
+        }
     }
 }
 
@@ -354,94 +387,73 @@ fn serve_job<'a>(alloc: Global, matches: &ArgMatches<'a>) -> Result<Job<'a>, Wor
     })
 }
 
-/// The job of `bill`.
-fn bill_job<'a>(alloc: Global, matches: &ArgMatches<'a>) -> Result<Job<'a>, WordsFault>
-    ensures ok { IfOk result (JobIn (codes "bill") (rows_of (found_of matches.now))) }
-    ensures err { IfErr result (RefusedFor ((job : Job) → JobIn (codes "bill") (rows_of (found_of matches.now)) job → ⊥)) }
+/// The owner and the day that a question is of.
+fn bill_of(alloc: Global, matches: &ArgMatches<'_>) -> Result<(OwnerId, Day), WordsFault>
+    ensures ok { IfOk result (λ said. IsOwnerIn (rows_of (found_of matches.now)) said.0 × IsDayIn (codes "day") (rows_of (found_of matches.now)) said.1) }
+    ensures err { IfErr result (RefusedFor ((owner day : ℕ) → IsOwnerIn (rows_of (found_of matches.now)) owner → IsDayIn (codes "day") (rows_of (found_of matches.now)) day → ⊥)) }
 {
-    let path = path_of(alloc, matches)?;
-    let scheme = source_of(matches);
     let owner = owner_of(alloc, matches)?;
     let day = day_of(alloc, matches, "day")?;
-    Ok(Job::Ask {
-        path,
-        scheme,
-        question: Question::Bill { owner, day },
-    })
+    Ok((owner, day))
 }
 
-/// The job of `settle`.
-fn settle_job<'a>(alloc: Global, matches: &ArgMatches<'a>) -> Result<Job<'a>, WordsFault>
-    ensures ok { IfOk result (JobIn (codes "settle") (rows_of (found_of matches.now))) }
-    ensures err { IfErr result (RefusedFor ((job : Job) → JobIn (codes "settle") (rows_of (found_of matches.now)) job → ⊥)) }
+/// The owner and the device that an order is of.
+fn lane_of(alloc: Global, matches: &ArgMatches<'_>) -> Result<(OwnerId, DeviceId), WordsFault>
+    ensures ok { IfOk result (λ said. IsOwnerIn (rows_of (found_of matches.now)) said.0 × IsDeviceIn (rows_of (found_of matches.now)) said.1) }
+    ensures err { IfErr result (RefusedFor ((owner device : ℕ) → IsOwnerIn (rows_of (found_of matches.now)) owner → IsDeviceIn (rows_of (found_of matches.now)) device → ⊥)) }
 {
-    let path = path_of(alloc, matches)?;
-    let scheme = source_of(matches);
-    let owner = owner_of(alloc, matches)?;
-    let day = day_of(alloc, matches, "day")?;
-    Ok(Job::Ask {
-        path,
-        scheme,
-        question: Question::Settle { owner, day },
-    })
-}
-
-/// The job of `close`.
-fn close_job<'a>(alloc: Global, matches: &ArgMatches<'a>) -> Result<Job<'a>, WordsFault>
-    ensures ok { IfOk result (JobIn (codes "close") (rows_of (found_of matches.now))) }
-    ensures err { IfErr result (RefusedFor ((job : Job) → JobIn (codes "close") (rows_of (found_of matches.now)) job → ⊥)) }
-{
-    let path = path_of(alloc, matches)?;
-    let scheme = source_of(matches);
-    Ok(Job::Ask {
-        path,
-        scheme,
-        question: Question::Close,
-    })
-}
-
-/// The job of `stand`.
-fn stand_job<'a>(alloc: Global, matches: &ArgMatches<'a>) -> Result<Job<'a>, WordsFault>
-    ensures ok { IfOk result (JobIn (codes "stand") (rows_of (found_of matches.now))) }
-    ensures err { IfErr result (RefusedFor ((job : Job) → JobIn (codes "stand") (rows_of (found_of matches.now)) job → ⊥)) }
-{
-    let path = path_of(alloc, matches)?;
-    let scheme = source_of(matches);
-    Ok(Job::Ask {
-        path,
-        scheme,
-        question: Question::Stand,
-    })
-}
-
-/// The job of `retire`.
-fn retire_job<'a>(alloc: Global, matches: &ArgMatches<'a>) -> Result<Job<'a>, WordsFault>
-    ensures ok { IfOk result (JobIn (codes "retire") (rows_of (found_of matches.now))) }
-    ensures err { IfErr result (RefusedFor ((job : Job) → JobIn (codes "retire") (rows_of (found_of matches.now)) job → ⊥)) }
-{
-    let path = path_of(alloc, matches)?;
-    let scheme = source_of(matches);
     let owner = owner_of(alloc, matches)?;
     let device = device_of(alloc, matches)?;
-    Ok(Job::Ask {
-        path,
-        scheme,
-        question: Question::Retire { owner, device },
-    })
+    Ok((owner, device))
 }
 
-/// The job of `forget`.
-fn forget_job<'a>(alloc: Global, matches: &ArgMatches<'a>) -> Result<Job<'a>, WordsFault>
-    ensures ok { IfOk result (JobIn (codes "forget") (rows_of (found_of matches.now))) }
-    ensures err { IfErr result (RefusedFor ((job : Job) → JobIn (codes "forget") (rows_of (found_of matches.now)) job → ⊥)) }
+/// The question of a subcommand that asks one.
+fn question_of(
+    alloc: Global,
+    asking: Asking,
+    matches: &ArgMatches<'_>,
+) -> Result<Question, WordsFault>
+    ensures ok { IfOk result (IsQuestion (asking_name asking) (rows_of (found_of matches.now))) }
+    ensures err { IfErr result (RefusedFor ((question : Question) → IsQuestion (asking_name asking) (rows_of (found_of matches.now)) question → ⊥)) }
+{
+    match asking {
+        Asking::Close => Ok(Question::Close),
+        Asking::Bill => {
+            let (owner, day) = bill_of(alloc, matches)?;
+            Ok(Question::Bill { owner, day })
+        }
+        Asking::Settle => {
+            let (owner, day) = bill_of(alloc, matches)?;
+            Ok(Question::Settle { owner, day })
+        }
+        Asking::Stand => Ok(Question::Stand),
+        Asking::Retire => {
+            let (owner, device) = lane_of(alloc, matches)?;
+            Ok(Question::Retire { owner, device })
+        }
+        Asking::Forget => {
+            let before = day_of(alloc, matches, "before")?;
+            Ok(Question::Forget { before })
+        }
+    }
+}
+
+/// The job of a subcommand that asks something.
+fn ask_job<'a>(
+    alloc: Global,
+    asking: Asking,
+    matches: &ArgMatches<'a>,
+) -> Result<Job<'a>, WordsFault>
+    ensures ok { IfOk result (JobIn (asking_name asking) (rows_of (found_of matches.now))) }
+    ensures err { IfErr result (RefusedFor ((job : Job) → JobIn (asking_name asking) (rows_of (found_of matches.now)) job → ⊥)) }
 {
     let path = path_of(alloc, matches)?;
     let scheme = source_of(matches);
-    let before = day_of(alloc, matches, "before")?;
+    let question = question_of(alloc, asking, matches)?;
     Ok(Job::Ask {
         path,
         scheme,
-        question: Question::Forget { before },
+        question,
     })
 }
 
@@ -461,12 +473,12 @@ fn subcommand_named(name: &str) -> Option<Subcommand>
     match name {
         "replay" => Some(Subcommand::Replay),
         "serve" => Some(Subcommand::Serve),
-        "close" => Some(Subcommand::Close),
-        "bill" => Some(Subcommand::Bill),
-        "settle" => Some(Subcommand::Settle),
-        "stand" => Some(Subcommand::Stand),
-        "retire" => Some(Subcommand::Retire),
-        "forget" => Some(Subcommand::Forget),
+        "close" => Some(Subcommand::Ask(Asking::Close)),
+        "bill" => Some(Subcommand::Ask(Asking::Bill)),
+        "settle" => Some(Subcommand::Ask(Asking::Settle)),
+        "stand" => Some(Subcommand::Ask(Asking::Stand)),
+        "retire" => Some(Subcommand::Ask(Asking::Retire)),
+        "forget" => Some(Subcommand::Ask(Asking::Forget)),
         "scheme" => Some(Subcommand::Scheme),
         _ => None,
     }
@@ -484,12 +496,7 @@ fn job_of<'a>(
     match subcommand {
         Subcommand::Replay => replay_job(alloc, matches),
         Subcommand::Serve => serve_job(alloc, matches),
-        Subcommand::Close => close_job(alloc, matches),
-        Subcommand::Bill => bill_job(alloc, matches),
-        Subcommand::Settle => settle_job(alloc, matches),
-        Subcommand::Stand => stand_job(alloc, matches),
-        Subcommand::Retire => retire_job(alloc, matches),
-        Subcommand::Forget => forget_job(alloc, matches),
+        Subcommand::Ask(asking) => ask_job(alloc, asking, matches),
         Subcommand::Scheme => scheme_job(alloc, matches),
     }
 }

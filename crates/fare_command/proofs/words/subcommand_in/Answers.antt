@@ -2,6 +2,7 @@ use Rattle.std.proofs.Common.{◌≡◌, ◌≢◌, List, subst, rules}
 use Rattle.std.specs.Prelude.{Option, Some}
 use Rattle.clap.specs.Words.{Row, Text, found_of, rows_of, subcommand_rows_of}
 use Rattle.fare_command.specs.Jobs.{JobIn, JobOf, name_of}
+use Rattle.fare_command.specs.declared.words.Asking.TheVariants as asking
 use Rattle.fare_command.specs.declared.words.Job.{Job}
 use Rattle.fare_command.specs.declared.words.Job.TheVariants.{Replay, Serve, Ask, Scheme}
 use Rattle.fare_command.specs.declared.words.Question.TheVariants.{Close, Bill, Settle, Stand, Retire, Forget}
@@ -13,12 +14,12 @@ use Rattle.fare_command.proofs.words.subcommand_in.Goals as goal
 named : (name : Text) (rows : List Row) (job : Job) → JobIn name rows job → (s : Subcommand) × (name ≡ name_of s)
 named name rows (Replay sql) is = (subcommand.Replay, is.0)
 named name rows (Serve port turns path scheme read_millis write_millis rounds until patience round_millis ask) is = (subcommand.Serve, is.0)
-named name rows (Ask path scheme Close) is = (subcommand.Close, is.2)
-named name rows (Ask path scheme (Bill owner day)) is = (subcommand.Bill, is.2.0)
-named name rows (Ask path scheme (Settle owner day)) is = (subcommand.Settle, is.2.0)
-named name rows (Ask path scheme Stand) is = (subcommand.Stand, is.2)
-named name rows (Ask path scheme (Retire owner device)) is = (subcommand.Retire, is.2.0)
-named name rows (Ask path scheme (Forget before)) is = (subcommand.Forget, is.2.0)
+named name rows (Ask path scheme Close) is = (subcommand.Ask asking.Close, is.2)
+named name rows (Ask path scheme (Bill owner day)) is = (subcommand.Ask asking.Bill, is.2.0)
+named name rows (Ask path scheme (Settle owner day)) is = (subcommand.Ask asking.Settle, is.2.0)
+named name rows (Ask path scheme Stand) is = (subcommand.Ask asking.Stand, is.2)
+named name rows (Ask path scheme (Retire owner device)) is = (subcommand.Ask asking.Retire, is.2.0)
+named name rows (Ask path scheme (Forget before)) is = (subcommand.Ask asking.Forget, is.2.0)
 named name rows (Scheme path) is = (subcommand.Scheme, is.0)
 
 -- so a name that no subcommand has is of no job
