@@ -2,7 +2,7 @@ ghost use Rattle.std.specs.Prelude.{◌≡◌, ◌≢◌, ℕ, Bool, None, Optio
 ghost use Rattle.clap.specs.Words.{rows_of, found_of, first_of, subcommand_of, subcommand_rows_of};
 ghost use Rattle.clap.specs.Values.{kind_of};
 ghost use Rattle.fare_command.specs.CommandLine.{hub_app};
-ghost use Rattle.fare_command.specs.Jobs.{IsAskPort, IsDayIn, IsDeviceIn, IsGiven, IsOwnerIn, IsPort, IsQuestion, IsSource, IsStore, JobIn, JobOf, RefusedFor, FailsOn, IsSound, Tells, asking_name, name_of};
+ghost use Rattle.fare_command.specs.Jobs.{IsAskPort, IsDayIn, IsDeviceIn, IsGiven, IsOwnerIn, IsPort, IsQuestion, IsSource, IsStore, JobIn, JobOf, RefusedFor, FailsOn, IsSound, Tells, asking_name, name_of, usual_rounds};
 ghost use Rattle.fare_command.specs.declared.words.WordsFault.TheVariants.{Memory};
 
 use crate::command::{MOST_MILLIS, MOST_PATIENCE, MOST_ROUNDS, MOST_TURNS, hub_command};
@@ -355,6 +355,13 @@ fn replay_job<'a>(alloc: Global, matches: &ArgMatches<'a>) -> Result<Job<'a>, Wo
     Ok(Job::Replay { sql })
 }
 
+/// How many rounds where no number is given.
+fn usual_rounds(until: Option<&str>) -> u32
+    ensures { result ≡ usual_rounds (option_map (λ file. file.now) until.entry) }
+{
+    if until.is_some() { MOST_ROUNDS } else { 1 }
+}
+
 /// The job of `serve`.
 fn serve_job<'a>(alloc: Global, matches: &ArgMatches<'a>) -> Result<Job<'a>, WordsFault>
     ensures ok { IfOk result (JobIn (codes "serve") (rows_of (found_of matches.now))) }
@@ -367,8 +374,8 @@ fn serve_job<'a>(alloc: Global, matches: &ArgMatches<'a>) -> Result<Job<'a>, Wor
     let read_millis = given_of(alloc, matches, "read-ms", MOST_MILLIS, READ_MILLIS)?;
     let write_millis = given_of(alloc, matches, "write-ms", MOST_MILLIS, WRITE_MILLIS)?;
     let until = text_of(matches, "until");
-    let rounds = if until.is_some() { MOST_ROUNDS } else { 1 };
-    let rounds = given_of(alloc, matches, "rounds", MOST_ROUNDS, rounds)?;
+    let usual = usual_rounds(until);
+    let rounds = given_of(alloc, matches, "rounds", MOST_ROUNDS, usual)?;
     let patience = given_of(alloc, matches, "patience", MOST_PATIENCE, PATIENCE)?;
     let round_millis = given_of(alloc, matches, "round-ms", MOST_MILLIS, ROUND_MILLIS)?;
     let ask = ask_of(alloc, matches)?;
