@@ -4,8 +4,9 @@
 -- `settle` with the same words, `stand --outbox PATH [--scheme FILE]`,
 -- `retire --outbox PATH [--scheme FILE] --owner O --device D`, and `forget --outbox PATH [--scheme FILE] --before D`;
 -- and of what is kept beside an outbox `scheme --outbox PATH`.
-use Rattle.std.specs.Prelude.{◌≡◌, Some, false, true, codes, pos}
-use Rattle.clap.specs.Words.{App, Rule, Text, app_of, new_app, new_rule, with_rule, with_subcommand}
+use Rattle.std.specs.Prelude.{◌≡◌, ℕ, Some, false, true, codes, pos}
+use Rattle.clap.specs.Words.{App, Rule, Text, app_of, new_app, new_rule, rule_of, with_rule, with_subcommand}
+use Rattle.clap.specs.declared.builder.arg.Arg.{Arg}
 use Rattle.clap.specs.declared.builder.command.Command.{Command}
 use Rattle.clap.specs.declared.builder.command.Command.TheViews.{out-Command}
 use Rattle.clap.specs.declared.builder.ArgAction.TheVariants.{Set}
@@ -15,9 +16,21 @@ use Rattle.clap.specs.declared.builder.value_parser.ValueParser.TheVariants as v
 abbrev pub IsMade : App → Command → Type 0
 IsMade app c = (app_of c ≡ app) × ((out-Command c).has_globals ≡ false)
 
+-- an option of clap's is one by this rule, and only the command's own
+abbrev pub IsOption : Rule → Arg → Type 0
+IsOption rule arg = (rule_of arg ≡ rule) × (arg.global ≡ false)
+
 -- an option with one value, written `--NAME VALUE`
 abbrev pub option_rule : Text → Rule
 option_rule name = record (new_rule name) { long = Some name; action = Some Set; value_names = 1 }
+
+-- and that one is a number from 1 to this one
+abbrev pub number_rule : Text → ℕ → Rule
+number_rule name most = record (option_rule name) { parser = Some (vp.Signed (pos 1) (pos most)) }
+
+-- or a port
+abbrev pub port_number_rule : Text → Rule
+port_number_rule name = record (option_rule name) { parser = Some (vp.Signed (pos 0) (pos 65535)) }
 
 abbrev pub store_rule : Rule
 store_rule = option_rule (codes "store")

@@ -8,14 +8,33 @@ use Rattle.clap.specs.declared.error.kind.ErrorKind.{ErrorKind}
 use Rattle.clap.specs.declared.error.kind.ErrorKind.TheVariants.{DisplayHelp, DisplayVersion, OutOfMemory}
 use Rattle.fare_record.specs.Limits.{IsDay, IsDeviceId, IsOwnerId}
 use Rattle.fare_command.specs.CommandLine.{hub_app}
+use Rattle.fare_command.specs.declared.words.Asking.{Asking}
+use Rattle.fare_command.specs.declared.words.Asking.TheVariants as asking
 use Rattle.fare_command.specs.declared.words.Job.{Job}
 use Rattle.fare_command.specs.declared.words.Job.TheVariants.{Replay, Serve, Ask, Scheme}
 use Rattle.fare_command.specs.declared.words.Question.{Question}
 use Rattle.fare_command.specs.declared.words.Question.TheVariants.{Close, Bill, Settle, Stand, Retire, Forget}
 use Rattle.fare_command.specs.declared.words.SchemeSource.{SchemeSource}
 use Rattle.fare_command.specs.declared.words.SchemeSource.TheVariants.{Unsaid, Input, File}
+use Rattle.fare_command.specs.declared.words.Subcommand.{Subcommand}
+use Rattle.fare_command.specs.declared.words.Subcommand.TheVariants as subcommand
 use Rattle.fare_command.specs.declared.words.WordsFault.{WordsFault}
 use Rattle.fare_command.specs.declared.words.WordsFault.TheVariants.{Asked, Refused, Memory}
+
+-- the name of a subcommand that asks something, and of any
+abbrev pub asking_name : Asking → Text
+asking_name asking.Close = codes "close"
+asking_name asking.Bill = codes "bill"
+asking_name asking.Settle = codes "settle"
+asking_name asking.Stand = codes "stand"
+asking_name asking.Retire = codes "retire"
+asking_name asking.Forget = codes "forget"
+
+abbrev pub name_of : Subcommand → Text
+name_of subcommand.Replay = codes "replay"
+name_of subcommand.Serve = codes "serve"
+name_of (subcommand.Ask asking) = asking_name asking
+name_of subcommand.Scheme = codes "scheme"
 
 -- the store is `sql` or not; `plain` where none is given
 abbrev pub IsStore : Option Text → Bool → Type 0

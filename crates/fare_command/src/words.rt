@@ -1,11 +1,11 @@
-ghost use Rattle.std.specs.Prelude.{◌≡◌, ℕ, Bool, None, Option, IfOk, IfErr, map, option_map, codes};
+ghost use Rattle.std.specs.Prelude.{◌≡◌, ◌≢◌, ℕ, Bool, None, Option, IfOk, IfErr, MatchOption, map, option_map, codes};
 ghost use Rattle.clap.specs.Words.{rows_of, found_of, first_of, subcommand_of, subcommand_rows_of};
 ghost use Rattle.clap.specs.Values.{kind_of};
 ghost use Rattle.fare_command.specs.CommandLine.{hub_app};
-ghost use Rattle.fare_command.specs.Jobs.{IsAskPort, IsDayIn, IsDeviceIn, IsGiven, IsOwnerIn, IsPort, IsSource, IsStore, JobIn, JobOf, RefusedFor, FailsOn, IsSound, Tells};
+ghost use Rattle.fare_command.specs.Jobs.{IsAskPort, IsDayIn, IsDeviceIn, IsGiven, IsOwnerIn, IsPort, IsQuestion, IsSource, IsStore, JobIn, JobOf, RefusedFor, FailsOn, IsSound, Tells, asking_name, name_of, usual_rounds};
 ghost use Rattle.fare_command.specs.declared.words.WordsFault.TheVariants.{Memory};
 
-use crate::command::hub_command;
+use crate::command::{MOST_MILLIS, MOST_PATIENCE, MOST_ROUNDS, MOST_TURNS, hub_command};
 use clap::ArgMatches;
 use clap::error::ErrorKind;
 use fare_record::{Day, DeviceId, OwnerId};
@@ -15,20 +15,10 @@ use thiserror::Error;
 /// The port where no other is asked for.
 const PORT: u16 = 7071;
 
-/// The most turns that may be asked for, and how many they are where nothing else is asked for.
-const MOST_TURNS: u32 = 1_000_000_000;
-
+/// How many turns where nothing else is asked for.
 const TURNS: u32 = 2_000;
 
-/// The most milliseconds that a read or a write of a line may wait, and that the lines of a round may be read.
-const MOST_MILLIS: u32 = 60_000;
-
-/// The most rounds that may be asked for.
-const MOST_ROUNDS: u32 = 4_294_967_295;
-
-/// The most quiet reads that may be asked for, and how many they are where nothing else is asked for.
-const MOST_PATIENCE: u32 = 1_000_000_000;
-
+/// How many quiet reads where nothing else is asked for.
 const PATIENCE: u32 = 2;
 
 /// How many milliseconds a read of a line waits, a write, and how many the lines of a round are read at most, where
@@ -102,6 +92,26 @@ pub enum Job<'a> {
     Scheme {
         path: &'a str,
     },
+}
+
+/// A subcommand that asks something of the stores, or orders it.
+#[derive(Clone, Copy)]
+enum Asking {
+    Close,
+    Bill,
+    Settle,
+    Stand,
+    Retire,
+    Forget,
+}
+
+/// A subcommand of the program.
+#[derive(Clone, Copy)]
+enum Subcommand {
+    Replay,
+    Serve,
+    Ask(Asking),
+    Scheme,
 }
 
 /// Why there is no job.
@@ -230,22 +240,44 @@ fn given_of(
     }
 }
 
+/// The owner that is asked for, if the option says one.
+fn owner_in(matches: &ArgMatches<'_>) -> Option<OwnerId>
+    ensures { MatchOption result ((n : ℕ) → IsOwnerIn (rows_of (found_of matches.now)) n → ⊥) (IsOwnerIn (rows_of (found_of matches.now))) }
+{
+    let Some(owner) = text_of(matches, "owner") else {
+        return None;
+    };
+    let Ok(number) = owner.parse::<u16>() else {
+        return None;
+    };
+    OwnerId::new(u64::from(number))
+}
+
 /// The owner that is asked for.
 fn owner_of(alloc: Global, matches: &ArgMatches<'_>) -> Result<OwnerId, WordsFault>
     ensures ok { IfOk result (IsOwnerIn (rows_of (found_of matches.now))) }
     ensures err { IfErr result (RefusedFor ((n : ℕ) → IsOwnerIn (rows_of (found_of matches.now)) n → ⊥)) }
 {
-    let text = "error: the owner is a number from 1 to 65,535\n";
-    let Some(owner) = text_of(matches, "owner") else {
-        return Err(WordsFault::Refused(String::from_str(alloc, text)?));
-    };
-    let Ok(number) = owner.parse::<u16>() else {
-        return Err(WordsFault::Refused(String::from_str(alloc, text)?));
-    };
-    match OwnerId::new(u64::from(number)) {
+    match owner_in(matches) {
         Some(owner) => Ok(owner),
-        None => Err(WordsFault::Refused(String::from_str(alloc, text)?)),
+        None => {
+            let text = "error: the owner is a number from 1 to 65,535\n";
+            Err(WordsFault::Refused(String::from_str(alloc, text)?))
+        }
     }
+}
+
+/// The day that an option gives, if it says one.
+fn day_in(matches: &ArgMatches<'_>, option: &str) -> Option<Day>
+    ensures { MatchOption result ((n : ℕ) → IsDayIn option.now (rows_of (found_of matches.now)) n → ⊥) (IsDayIn option.now (rows_of (found_of matches.now))) }
+{
+    let Some(day) = text_of(matches, option) else {
+        return None;
+    };
+    let Ok(number) = day.parse::<u32>() else {
+        return None;
+    };
+    Day::new(u64::from(number))
 }
 
 /// The day that an option gives.
@@ -253,17 +285,26 @@ fn day_of(alloc: Global, matches: &ArgMatches<'_>, option: &str) -> Result<Day, 
     ensures ok { IfOk result (IsDayIn option.now (rows_of (found_of matches.now))) }
     ensures err { IfErr result (RefusedFor ((n : ℕ) → IsDayIn option.now (rows_of (found_of matches.now)) n → ⊥)) }
 {
-    let text = "error: the day is a number from 0 to 100,000\n";
-    let Some(day) = text_of(matches, option) else {
-        return Err(WordsFault::Refused(String::from_str(alloc, text)?));
-    };
-    let Ok(number) = day.parse::<u32>() else {
-        return Err(WordsFault::Refused(String::from_str(alloc, text)?));
-    };
-    match Day::new(u64::from(number)) {
+    match day_in(matches, option) {
         Some(day) => Ok(day),
-        None => Err(WordsFault::Refused(String::from_str(alloc, text)?)),
+        None => {
+            let text = "error: the day is a number from 0 to 100,000\n";
+            Err(WordsFault::Refused(String::from_str(alloc, text)?))
+        }
     }
+}
+
+/// The device that is named, if the option says one.
+fn device_in(matches: &ArgMatches<'_>) -> Option<DeviceId>
+    ensures { MatchOption result ((n : ℕ) → IsDeviceIn (rows_of (found_of matches.now)) n → ⊥) (IsDeviceIn (rows_of (found_of matches.now))) }
+{
+    let Some(device) = text_of(matches, "device") else {
+        return None;
+    };
+    let Ok(number) = device.parse::<u32>() else {
+        return None;
+    };
+    DeviceId::new(u64::from(number))
 }
 
 /// The device that is named.
@@ -271,16 +312,12 @@ fn device_of(alloc: Global, matches: &ArgMatches<'_>) -> Result<DeviceId, WordsF
     ensures ok { IfOk result (IsDeviceIn (rows_of (found_of matches.now))) }
     ensures err { IfErr result (RefusedFor ((n : ℕ) → IsDeviceIn (rows_of (found_of matches.now)) n → ⊥)) }
 {
-    let text = "error: the device is a number from 1 to 4,294,967,295\n";
-    let Some(device) = text_of(matches, "device") else {
-        return Err(WordsFault::Refused(String::from_str(alloc, text)?));
-    };
-    let Ok(number) = device.parse::<u32>() else {
-        return Err(WordsFault::Refused(String::from_str(alloc, text)?));
-    };
-    match DeviceId::new(u64::from(number)) {
+    match device_in(matches) {
         Some(device) => Ok(device),
-        None => Err(WordsFault::Refused(String::from_str(alloc, text)?)),
+        None => {
+            let text = "error: the device is a number from 1 to 4,294,967,295\n";
+            Err(WordsFault::Refused(String::from_str(alloc, text)?))
+        }
     }
 }
 
@@ -318,6 +355,13 @@ fn replay_job<'a>(alloc: Global, matches: &ArgMatches<'a>) -> Result<Job<'a>, Wo
     Ok(Job::Replay { sql })
 }
 
+/// How many rounds where no number is given.
+fn usual_rounds(until: Option<&str>) -> u32
+    ensures { result ≡ usual_rounds (option_map (λ file. file.now) until.entry) }
+{
+    if until.is_some() { MOST_ROUNDS } else { 1 }
+}
+
 /// The job of `serve`.
 fn serve_job<'a>(alloc: Global, matches: &ArgMatches<'a>) -> Result<Job<'a>, WordsFault>
     ensures ok { IfOk result (JobIn (codes "serve") (rows_of (found_of matches.now))) }
@@ -330,8 +374,8 @@ fn serve_job<'a>(alloc: Global, matches: &ArgMatches<'a>) -> Result<Job<'a>, Wor
     let read_millis = given_of(alloc, matches, "read-ms", MOST_MILLIS, READ_MILLIS)?;
     let write_millis = given_of(alloc, matches, "write-ms", MOST_MILLIS, WRITE_MILLIS)?;
     let until = text_of(matches, "until");
-    let rounds = if until.is_some() { MOST_ROUNDS } else { 1 };
-    let rounds = given_of(alloc, matches, "rounds", MOST_ROUNDS, rounds)?;
+    let usual = usual_rounds(until);
+    let rounds = given_of(alloc, matches, "rounds", MOST_ROUNDS, usual)?;
     let patience = given_of(alloc, matches, "patience", MOST_PATIENCE, PATIENCE)?;
     let round_millis = given_of(alloc, matches, "round-ms", MOST_MILLIS, ROUND_MILLIS)?;
     let ask = ask_of(alloc, matches)?;
@@ -350,94 +394,73 @@ fn serve_job<'a>(alloc: Global, matches: &ArgMatches<'a>) -> Result<Job<'a>, Wor
     })
 }
 
-/// The job of `bill`.
-fn bill_job<'a>(alloc: Global, matches: &ArgMatches<'a>) -> Result<Job<'a>, WordsFault>
-    ensures ok { IfOk result (JobIn (codes "bill") (rows_of (found_of matches.now))) }
-    ensures err { IfErr result (RefusedFor ((job : Job) → JobIn (codes "bill") (rows_of (found_of matches.now)) job → ⊥)) }
+/// The owner and the day that a question is of.
+fn bill_of(alloc: Global, matches: &ArgMatches<'_>) -> Result<(OwnerId, Day), WordsFault>
+    ensures ok { IfOk result (λ said. IsOwnerIn (rows_of (found_of matches.now)) said.0 × IsDayIn (codes "day") (rows_of (found_of matches.now)) said.1) }
+    ensures err { IfErr result (RefusedFor ((owner day : ℕ) → IsOwnerIn (rows_of (found_of matches.now)) owner → IsDayIn (codes "day") (rows_of (found_of matches.now)) day → ⊥)) }
 {
-    let path = path_of(alloc, matches)?;
-    let scheme = source_of(matches);
     let owner = owner_of(alloc, matches)?;
     let day = day_of(alloc, matches, "day")?;
-    Ok(Job::Ask {
-        path,
-        scheme,
-        question: Question::Bill { owner, day },
-    })
+    Ok((owner, day))
 }
 
-/// The job of `settle`.
-fn settle_job<'a>(alloc: Global, matches: &ArgMatches<'a>) -> Result<Job<'a>, WordsFault>
-    ensures ok { IfOk result (JobIn (codes "settle") (rows_of (found_of matches.now))) }
-    ensures err { IfErr result (RefusedFor ((job : Job) → JobIn (codes "settle") (rows_of (found_of matches.now)) job → ⊥)) }
+/// The owner and the device that an order is of.
+fn lane_of(alloc: Global, matches: &ArgMatches<'_>) -> Result<(OwnerId, DeviceId), WordsFault>
+    ensures ok { IfOk result (λ said. IsOwnerIn (rows_of (found_of matches.now)) said.0 × IsDeviceIn (rows_of (found_of matches.now)) said.1) }
+    ensures err { IfErr result (RefusedFor ((owner device : ℕ) → IsOwnerIn (rows_of (found_of matches.now)) owner → IsDeviceIn (rows_of (found_of matches.now)) device → ⊥)) }
 {
-    let path = path_of(alloc, matches)?;
-    let scheme = source_of(matches);
-    let owner = owner_of(alloc, matches)?;
-    let day = day_of(alloc, matches, "day")?;
-    Ok(Job::Ask {
-        path,
-        scheme,
-        question: Question::Settle { owner, day },
-    })
-}
-
-/// The job of `close`.
-fn close_job<'a>(alloc: Global, matches: &ArgMatches<'a>) -> Result<Job<'a>, WordsFault>
-    ensures ok { IfOk result (JobIn (codes "close") (rows_of (found_of matches.now))) }
-    ensures err { IfErr result (RefusedFor ((job : Job) → JobIn (codes "close") (rows_of (found_of matches.now)) job → ⊥)) }
-{
-    let path = path_of(alloc, matches)?;
-    let scheme = source_of(matches);
-    Ok(Job::Ask {
-        path,
-        scheme,
-        question: Question::Close,
-    })
-}
-
-/// The job of `stand`.
-fn stand_job<'a>(alloc: Global, matches: &ArgMatches<'a>) -> Result<Job<'a>, WordsFault>
-    ensures ok { IfOk result (JobIn (codes "stand") (rows_of (found_of matches.now))) }
-    ensures err { IfErr result (RefusedFor ((job : Job) → JobIn (codes "stand") (rows_of (found_of matches.now)) job → ⊥)) }
-{
-    let path = path_of(alloc, matches)?;
-    let scheme = source_of(matches);
-    Ok(Job::Ask {
-        path,
-        scheme,
-        question: Question::Stand,
-    })
-}
-
-/// The job of `retire`.
-fn retire_job<'a>(alloc: Global, matches: &ArgMatches<'a>) -> Result<Job<'a>, WordsFault>
-    ensures ok { IfOk result (JobIn (codes "retire") (rows_of (found_of matches.now))) }
-    ensures err { IfErr result (RefusedFor ((job : Job) → JobIn (codes "retire") (rows_of (found_of matches.now)) job → ⊥)) }
-{
-    let path = path_of(alloc, matches)?;
-    let scheme = source_of(matches);
     let owner = owner_of(alloc, matches)?;
     let device = device_of(alloc, matches)?;
-    Ok(Job::Ask {
-        path,
-        scheme,
-        question: Question::Retire { owner, device },
-    })
+    Ok((owner, device))
 }
 
-/// The job of `forget`.
-fn forget_job<'a>(alloc: Global, matches: &ArgMatches<'a>) -> Result<Job<'a>, WordsFault>
-    ensures ok { IfOk result (JobIn (codes "forget") (rows_of (found_of matches.now))) }
-    ensures err { IfErr result (RefusedFor ((job : Job) → JobIn (codes "forget") (rows_of (found_of matches.now)) job → ⊥)) }
+/// The question of a subcommand that asks one.
+fn question_of(
+    alloc: Global,
+    asking: Asking,
+    matches: &ArgMatches<'_>,
+) -> Result<Question, WordsFault>
+    ensures ok { IfOk result (IsQuestion (asking_name asking) (rows_of (found_of matches.now))) }
+    ensures err { IfErr result (RefusedFor ((question : Question) → IsQuestion (asking_name asking) (rows_of (found_of matches.now)) question → ⊥)) }
+{
+    match asking {
+        Asking::Close => Ok(Question::Close),
+        Asking::Bill => {
+            let (owner, day) = bill_of(alloc, matches)?;
+            Ok(Question::Bill { owner, day })
+        }
+        Asking::Settle => {
+            let (owner, day) = bill_of(alloc, matches)?;
+            Ok(Question::Settle { owner, day })
+        }
+        Asking::Stand => Ok(Question::Stand),
+        Asking::Retire => {
+            let (owner, device) = lane_of(alloc, matches)?;
+            Ok(Question::Retire { owner, device })
+        }
+        Asking::Forget => {
+            let before = day_of(alloc, matches, "before")?;
+            Ok(Question::Forget { before })
+        }
+    }
+}
+
+/// The job of a subcommand that asks something.
+fn ask_job<'a>(
+    alloc: Global,
+    asking: Asking,
+    matches: &ArgMatches<'a>,
+) -> Result<Job<'a>, WordsFault>
+    ensures ok { IfOk result (JobIn (asking_name asking) (rows_of (found_of matches.now))) }
+    ensures err { IfErr result (RefusedFor ((job : Job) → JobIn (asking_name asking) (rows_of (found_of matches.now)) job → ⊥)) }
 {
     let path = path_of(alloc, matches)?;
     let scheme = source_of(matches);
-    let before = day_of(alloc, matches, "before")?;
+    let question = question_of(alloc, asking, matches)?;
     Ok(Job::Ask {
         path,
         scheme,
-        question: Question::Forget { before },
+        question,
     })
 }
 
@@ -450,27 +473,65 @@ fn scheme_job<'a>(alloc: Global, matches: &ArgMatches<'a>) -> Result<Job<'a>, Wo
     Ok(Job::Scheme { path })
 }
 
+/// The subcommand of this name.
+fn subcommand_named(name: &str) -> Option<Subcommand>
+    ensures { MatchOption result ((subcommand : Subcommand) → name.now ≢ name_of subcommand) (λ subcommand. name.now ≡ name_of subcommand) }
+{
+    match name {
+        "replay" => Some(Subcommand::Replay),
+        "serve" => Some(Subcommand::Serve),
+        "close" => Some(Subcommand::Ask(Asking::Close)),
+        "bill" => Some(Subcommand::Ask(Asking::Bill)),
+        "settle" => Some(Subcommand::Ask(Asking::Settle)),
+        "stand" => Some(Subcommand::Ask(Asking::Stand)),
+        "retire" => Some(Subcommand::Ask(Asking::Retire)),
+        "forget" => Some(Subcommand::Ask(Asking::Forget)),
+        "scheme" => Some(Subcommand::Scheme),
+        _ => None,
+    }
+}
+
+/// The job of a subcommand.
+fn job_of<'a>(
+    alloc: Global,
+    subcommand: Subcommand,
+    matches: &ArgMatches<'a>,
+) -> Result<Job<'a>, WordsFault>
+    ensures ok { IfOk result (JobIn (name_of subcommand) (rows_of (found_of matches.now))) }
+    ensures err { IfErr result (RefusedFor ((job : Job) → JobIn (name_of subcommand) (rows_of (found_of matches.now)) job → ⊥)) }
+{
+    match subcommand {
+        Subcommand::Replay => replay_job(alloc, matches),
+        Subcommand::Serve => serve_job(alloc, matches),
+        Subcommand::Ask(asking) => ask_job(alloc, asking, matches),
+        Subcommand::Scheme => scheme_job(alloc, matches),
+    }
+}
+
+/// The subcommand that clap's matches name, and what they hold of it.
+fn subcommand_in<'m, 'a>(matches: &'m ArgMatches<'a>) -> Option<(Subcommand, &'m ArgMatches<'a>)>
+    ensures { MatchOption result ((job : Job) → JobOf (subcommand_rows_of matches.now) job → ⊥) (λ said. subcommand_rows_of matches.now ≡ Some (name_of said.0, rows_of (found_of said.1.now))) }
+{
+    let Some((name, inner)) = matches.subcommand() else {
+        return None;
+    };
+    match subcommand_named(name) {
+        Some(subcommand) => Some((subcommand, inner)),
+        None => None,
+    }
+}
+
 /// The job that clap's matches ask for.
 fn job_in<'a>(alloc: Global, matches: &ArgMatches<'a>) -> Result<Job<'a>, WordsFault>
     ensures ok { IfOk result (JobOf (subcommand_rows_of matches.now)) }
     ensures err { IfErr result (RefusedFor ((job : Job) → JobOf (subcommand_rows_of matches.now) job → ⊥)) }
 {
-    match matches.subcommand() {
-        Some(("replay", inner)) => replay_job(alloc, inner),
-        Some(("serve", inner)) => serve_job(alloc, inner),
-        Some(("close", inner)) => close_job(alloc, inner),
-        Some(("bill", inner)) => bill_job(alloc, inner),
-        Some(("settle", inner)) => settle_job(alloc, inner),
-        Some(("stand", inner)) => stand_job(alloc, inner),
-        Some(("retire", inner)) => retire_job(alloc, inner),
-        Some(("forget", inner)) => forget_job(alloc, inner),
-        Some(("scheme", inner)) => scheme_job(alloc, inner),
-        _ => {
-            let text =
-                "error: the command is replay, serve, close, bill, settle, stand, retire, forget or scheme\n";
-            Err(WordsFault::Refused(String::from_str(alloc, text)?))
-        }
-    }
+    let Some((subcommand, inner)) = subcommand_in(matches) else {
+        let text =
+            "error: the command is replay, serve, close, bill, settle, stand, retire, forget or scheme\n";
+        return Err(WordsFault::Refused(String::from_str(alloc, text)?));
+    };
+    job_of(alloc, subcommand, inner)
 }
 
 /// The job that the words ask for, which are those after the program's name. `Asked` where they ask for help

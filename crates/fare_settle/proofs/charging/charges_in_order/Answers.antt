@@ -1,13 +1,13 @@
-use Rattle.std.proofs.Common.{rules, ◌≡◌, ◌+◌, ◌++◌, ◌∷◌, [], take, subst, sym, ap, ◌∙◌, cond, ◌&&◌, ◌==◌, eqb-true, arith, List}
-use Rattle.std.proofs.lemmas.List.{length-take, take_more}
+use Rattle.std.proofs.Common.{rules, ◌≡◌, ◌≤◌, ◌+◌, ◌++◌, All, ◌∷◌, [], take, subst, sym, ap, ◌∙◌, cond, ◌&&◌, ◌==◌, eqb-true, arith, List}
+use Rattle.std.proofs.lemmas.List.{length-take, take_all, take_more}
 use Rattle.std.proofs.lemmas.Bool.{and_parts}
 use Rattle.fare_record.specs.Values.{RecordValue}
 use Rattle.fare_cap.specs.Values.{AccountValue}
 use Rattle.fare_cap.specs.declared.day_rides.DayRides.{DayRides}
 use Rattle.fare_cap.specs.declared.rides.Rides.{Rides}
 use Rattle.fare_settle.specs.declared.charge.Charge.{Charge}
-use Rattle.fare_settle.specs.Charges.{charge_by}
-use Rattle.fare_cap.specs.Accounts.{account_of, same_account, counts}
+use Rattle.fare_settle.specs.Charges.{charge_by, charges_behind}
+use Rattle.fare_cap.specs.Accounts.{account_of, same_account, counts, counted_on}
 use Rattle.fare_cap.specs.Windows.{one_more}
 use Rattle.fare_cap.specs.Fares.{hop_of}
 use Rattle.fare_cap.specs.RidesWords.{paid_by, rides_by, rides_on}
@@ -82,3 +82,24 @@ loop-tap-preserved c =
           subst (λ (s : Rides). AreCharges scheme ordered (front ++ tap ∷ []) day (rides_by s) c.if-counts_on.charges.items) (sym w.so_far-is)
           (subst (λ (l : List Charge). AreCharges scheme ordered (front ++ tap ∷ []) day (rides_by c.loop-tap.so_far) l) (sym items) step)
     ])
+
+pub loop-tap-init : goal.loop-tap-init
+loop-tap-init c = record {
+  counted = λ account. c.new-so_far.ensures account c.args.day;
+  value = c.new-charges.ensures.items;
+  capped = subst (All (λ (x : Charge). x.amount ≤ 10000000)) (sym c.new-charges.ensures.items) (λ k d below. absurd (omega (arith, below)));
+}
+
+pub charge-requires-clause-counted : goal.charge-requires-clause-counted
+charge-requires-clause-counted c =
+    let tap = c.tap-item.result in
+    (and_parts (counts c.args.scheme.now tap) (tap.tap.day == c.args.day) (sym c.counts_on.ensures ∙ c.if-counts_on.true)).0
+
+pub returns-clause-value : goal.returns-clause-value
+returns-clause-value c =
+    let scheme = c.args.scheme.now in
+    let ordered = c.args.ordered.now in
+    c.loop-tap.invariant.value ∙ ap (λ (l : List RecordValue). charges_behind scheme ordered c.args.day [] (counted_on scheme c.args.day l)) (take_all c.loop-tap.tap-index ordered c.loop-tap-test.false)
+
+pub returns-clause-capped : goal.returns-clause-capped
+returns-clause-capped c = c.loop-tap.invariant.capped
