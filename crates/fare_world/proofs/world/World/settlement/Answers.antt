@@ -30,8 +30,8 @@ returns-in-Ok g c =
     let settlement : c.in-Ok.settlement ≡ of_order (in_order week.taps.items) = c.in-Ok.ensures ∙ (λ i. settlement_of (c.basis.ensures.scheme i) (same i) day) in
     asks_say g.O.Outbox.standing g.L.Ledger.standing c.args.self.now c.basis.new.self _ _ _ (Ok week) (Ok (c.in-Ok.settlement, c.into_parts-taps.result.1)) c.in_ok-basis.ensures refl refl
     (λ s is.
-        (λ i. Ok ((settlement ∙ ap of_order is.1) i, (short ∙ is.2) i))
-        ∙ sym (ap (λ (j : Result Unit BillFault). unless j (settlement_of sc (basis sc s owner day) day, short_of sc s owner day)) is.0))
+    (λ i. Ok ((settlement ∙ ap of_order is.1) i, (short ∙ is.2) i))
+    ∙ sym (ap (λ (j : Result Unit BillFault). unless j (settlement_of sc (basis sc s owner day) day, short_of sc s owner day)) is.0))
 
 pub returns : goal.returns
 returns g c = asks_memory g.O.Outbox.standing g.L.Ledger.standing c.args.self.now c.basis.new.self _ _ _ c.in_ok-basis.field-0 c.in_ok-basis.ensures

@@ -16,8 +16,8 @@ returns-in-Ok g c =
     let day = c.args.day in
     asks_stepped g.O.Outbox.standing g.L.Ledger.standing c.args.self.now c.settlement.new.self _ _ (Ok (c.in-Ok.settlement, c.in-Ok.short)) (event.Settle owner day) (reply.Settlement owner day c.in-Ok.settlement c.new.result) refl c.in-Ok.ensures
     (λ s is.
-        ap (λ (r : Result (List SettledValue × List ℕ) BillFault). (s, told (λ v. reply.Settlement owner day v.0 v.1) r)) (sym is)
-        ∙ (λ i. (s, reply.Settlement owner day c.in-Ok.settlement (sym c.new.ensures i))))
+    ap (λ (r : Result (List SettledValue × List ℕ) BillFault). (s, told (λ v. reply.Settlement owner day v.0 v.1) r)) (sym is)
+    ∙ (λ i. (s, reply.Settlement owner day c.in-Ok.settlement (sym c.new.ensures i))))
     (λ s. refl)
 
 pub returns-in-Err-Because : goal.returns-in-Err-Because
@@ -29,8 +29,8 @@ returns-in-Err-Because g c =
     let asked = rw is_named at c.in-Err-Because.ensures in
     asks_stepped g.O.Outbox.standing g.L.Ledger.standing c.args.self.now c.settlement.new.self _ _ (Err (refused.Because why)) (event.Settle owner day) (reply.Refused c.bill_named.result) refl asked
     (λ s is.
-        ap (λ (r : Result (List SettledValue × List ℕ) BillFault). (s, told (λ v. reply.Settlement owner day v.0 v.1) r)) (sym is)
-        ∙ (λ i. (s, reply.Refused (sym (c.bill_named.ensures ∙ ap bill_refusal c.in-Err-Because.why-is) i))))
+    ap (λ (r : Result (List SettledValue × List ℕ) BillFault). (s, told (λ v. reply.Settlement owner day v.0 v.1) r)) (sym is)
+    ∙ (λ i. (s, reply.Refused (sym (c.bill_named.ensures ∙ ap bill_refusal c.in-Err-Because.why-is) i))))
     (λ s. refl)
 
 pub returns-in-Err-Failed : goal.returns-in-Err-Failed
