@@ -1,4 +1,4 @@
-use Rattle.std.proofs.Common.{subst}
+use Rattle.std.proofs.Common.{length, ap, arith, subst}
 use Rattle.fare_databases.specs.Closed.{AreHandedBack}
 use Rattle.fare_databases.proofs.closing.close_hub.Goals as goal
 
@@ -12,3 +12,6 @@ returns g c =
         ledgers_back = subst (λ before. AreHandedBack g.S.Store c.args.opened.hub.ledgers.items before c.hand_back.new.databases.items) c.requires.empty c.hand_back.ensures.back;
       };
     }
+
+pub hand_back-requires : goal.hand_back-requires
+hand_back-requires g c = omega (arith, c.requires.room, ap length c.requires.empty)
