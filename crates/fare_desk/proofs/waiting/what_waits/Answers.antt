@@ -1,13 +1,23 @@
-use Rattle.std.proofs.Common.{length, sym, ap, ◌∙◌, subst, arith}
+use Rattle.std.proofs.Common.{[], inl, length, refl, sym, ap, ◌∙◌, subst, arith}
 use Rattle.fare_collect.proofs.Last.{at_known}
 use Rattle.fare_desk.specs.Waiting.{TellsOwners}
 use Rattle.fare_desk.proofs.Asked.{asked_ledgers, asks_join, asks_self, placed_known}
+use Rattle.fare_desk.proofs.Failing.{store_fault}
 use Rattle.fare_desk.proofs.Lanes.{keys_all}
-use Rattle.fare_desk.proofs.Waits.{owners_push}
+use Rattle.fare_desk.proofs.Waits.{owners_none, owners_push}
 use Rattle.fare_desk.proofs.waiting.what_waits.Goals as goal
 
 pub returns-in_default-clause-asks : goal.returns-in_default-clause-asks
 returns-in_default-clause-asks g c = asks_self g.O.Outbox.standing g.L.Ledger.standing c.args.hub.now
+
+pub returns-in_default-clause-tells : goal.returns-in_default-clause-tells
+returns-in_default-clause-tells g c = tt
+
+pub returns-in_default-clause-fault : goal.returns-in_default-clause-fault
+returns-in_default-clause-fault g c = inl refl
+
+pub loop-place-init : goal.loop-place-init
+loop-place-init g c = subst (TellsOwners g.O.Outbox.standing g.L.Ledger.standing [] c.args.hub.now c.args.hub.now) (sym c.in-Ok.ensures.items) (owners_none g.O.Outbox.standing g.L.Ledger.standing c.args.hub.now)
 
 pub unreachable-requires : goal.unreachable-requires
 unreachable-requires g c =
@@ -25,8 +35,20 @@ waits_for-requires-clause-known g c = placed_known _ c.loop-place.place c.in-Som
 pub returns-in-Err-clause-asks : goal.returns-in-Err-clause-asks
 returns-in-Err-clause-asks g c = asks_join g.O.Outbox.standing g.L.Ledger.standing c.args.hub.now c.loop-place.hub c.waits_for.new.hub c.loop-place.invariant.asks c.waits_for.ensures.asks
 
+pub returns-in-Err-clause-tells : goal.returns-in-Err-clause-tells
+returns-in-Err-clause-tells g c = tt
+
+pub returns-in-Err-clause-fault : goal.returns-in-Err-clause-fault
+returns-in-Err-clause-fault g c = store_fault c.in-Err.fault c.from.result c.from.ensures
+
 pub returns-in-Err-push-clause-asks : goal.returns-in-Err-push-clause-asks
 returns-in-Err-push-clause-asks g c = asks_join g.O.Outbox.standing g.L.Ledger.standing c.args.hub.now c.loop-place.hub c.waits_for.new.hub c.loop-place.invariant.asks c.waits_for.ensures.asks
+
+pub returns-in-Err-push-clause-tells : goal.returns-in-Err-push-clause-tells
+returns-in-Err-push-clause-tells g c = tt
+
+pub returns-in-Err-push-clause-fault : goal.returns-in-Err-push-clause-fault
+returns-in-Err-push-clause-fault g c = inl refl
 
 pub loop-place-preserved : goal.loop-place-preserved
 loop-place-preserved g c =
@@ -41,3 +63,6 @@ returns-clause-tells g c =
     let past = c.loop-place-test.false in
     let all = c.owner_count-place-end.ensures.value in
     subst (λ l. TellsOwners g.O.Outbox.standing g.L.Ledger.standing l c.args.hub.now c.loop-place.hub c.loop-place.waits.items) (keys_all c.args.hub.now.scheme.owners c.loop-place.place (omega (arith, past, all))) c.loop-place.invariant
+
+pub returns-clause-fault : goal.returns-clause-fault
+returns-clause-fault g c = tt
