@@ -1,6 +1,6 @@
 -- Stores that are read, one call after the other.
-use Rattle.std.proofs.Common.{◌≡◌, ℕ, Bool, length, sym, ap, ◌∙◌, subst, refl, inl, inr}
-use Rattle.std.specs.Prelude.{Result, Ok, Err, IfOk, Vec, slice_get}
+use Rattle.std.proofs.Common.{◌≡◌, ◌≢◌, ℕ, Bool, Some, None, length, sym, ap, ◌∙◌, subst, refl, inl, inr}
+use Rattle.std.specs.Prelude.{Option, Result, Ok, Err, IfOk, Vec, slice_get}
 use Rattle.std.specs.Global.{Global}
 use Rattle.fare_scheme.specs.Values.{SchemeValue}
 use Rattle.fare_scheme.specs.Words.{position_of_owner}
@@ -13,10 +13,14 @@ use Rattle.fare_history.specs.Stores.{StoresValue}
 use Rattle.fare_session.specs.Stores.{Follows}
 use Rattle.fare_sessions.specs.declared.hub.Hub.{Hub}
 use Rattle.fare_sessions.specs.Billing.{OnlyReads}
-use Rattle.fare_sessions.specs.Stores.{IsLedgerOf, AreClean, AreSound, MayStandAs}
+use Rattle.fare_sessions.specs.Stores.{HasLedgers, IsLedgerOf, AreClean, AreSound, MayStandAs}
 use Rattle.fare_sessions.proofs.Billed.{holds_value}
 use Rattle.fare_sessions.proofs.Follow.{follow_self, follow_join, clean_back, same_at}
 use Rattle.fare_desk.specs.Showing.{OnlyAsks}
+
+-- an owner that stands in a place of the scheme is known
+pub placed_known : (found : Option ℕ) (place : ℕ) → found ≡ Some place → found ≢ None
+placed_known found place is = λ none. absurd (cc)
 
 module _ {O L : Type 0} (outbox : O → Standing OutboxValue) (ledger : L → Standing LedgerValue) where
   pub asks_self : (hub : Hub O L) → OnlyAsks outbox ledger hub hub
@@ -32,6 +36,13 @@ module _ {O L : Type 0} (outbox : O → Standing OutboxValue) (ledger : L → St
     sound = λ sound. g.sound (f.sound sound);
     same = λ clean sound k may. f.same (clean_back outbox ledger b c g.follow clean) sound k (g.same clean (f.sound sound) k may);
   }
+
+  -- what a call wants of a hub it wants of what was asked
+  pub asked_ledgers : (old now : Hub O L) → OnlyAsks outbox ledger old now → HasLedgers old → HasLedgers now
+  asked_ledgers old now asks has = asks.follow.count ∙ (has ∙ ap (λ (sc : SchemeValue). length sc.owners) (sym asks.scheme))
+
+  pub asked_known : (old now : Hub O L) (owner : ℕ) → OnlyAsks outbox ledger old now → position_of_owner old.scheme owner ≢ None → position_of_owner now.scheme owner ≢ None
+  asked_known old now owner asks known = λ none. known (ap (λ (sc : SchemeValue). position_of_owner sc owner) (sym asks.scheme) ∙ none)
 
   -- ONE LEDGER
   -- whether a lane is retired, as a ledger tells it

@@ -31,7 +31,7 @@ use Rattle.fare_sessions.specs.Stores.{ComesOf, AreClean, AreSound, StoresFollow
 use Rattle.fare_sessions.proofs.Billed.{put_self}
 use Rattle.fare_sessions.proofs.Follow.{clean_back}
 use Rattle.fare_sessions.proofs.Steps.{put_back, stood_before, own_stands}
-use Rattle.fare_desk.specs.Faults.{of_retiring, of_store}
+use Rattle.fare_desk.specs.Faults.{is_of_retire, is_refusal, of_retiring, of_store}
 use Rattle.fare_desk.specs.Retiring.{LeavesLane, RetiresLane, RetiresOne}
 use Rattle.fare_desk.specs.Showing.{OnlyAsks}
 use Rattle.fare_desk.specs.declared.fault.DeskFault.{DeskFault}
@@ -70,6 +70,28 @@ module _ (owner device : ℕ) (k : StoresValue) (l : LedgerValue) where
   may_be_retired : IsRetiredFrom device l (k.ledgers owner) → IsLeftBy (with_ledger owner k l) (Retires_lane owner device) k
   may_be_retired (inl e) = inl (nothing_changed e)
   may_be_retired (inr is) = inr (one_retired is)
+
+-- A FAULT
+store_is_other : (f : Fault) → is_refusal (of_store f) ≡ is_of_retire (of_store f)
+store_is_other fault.Memory = refl
+store_is_other fault.Store = refl
+
+refused_is : (why : Refused RetiringFault) → is_refusal (of_retiring why) ≡ is_of_retire (of_retiring why)
+refused_is (Because retiring.UnknownOwner) = refl
+refused_is (Because (retiring.Ledger retire.NotMine)) = refl
+refused_is (Because (retiring.Ledger retire.Retired)) = refl
+refused_is (Failed f) = store_is_other f
+
+pub refused_named : (q : DeskFault) (why : Refused RetiringFault) → q ≡ of_retiring why → is_refusal q ≡ is_of_retire q
+refused_named q why is = subst (λ x. is_refusal x ≡ is_of_retire x) (sym is) (refused_is why)
+
+pub store_of_retire : {A : Type 0} (r : Result A DeskFault) (f : Fault) → IsErrAnd r (λ q. q ≡ of_store f) → IfErr r (λ q. is_refusal q ≡ is_of_retire q)
+store_of_retire (Ok a) f is = tt
+store_of_retire (Err q) f is = subst (λ x. is_refusal x ≡ is_of_retire x) (sym is) (store_is_other f)
+
+pub write_of_retire : {A : Type 0} (r : Result A DeskFault) → IfErr r (λ q. q ≡ desk.Write) → IfErr r (λ q. is_refusal q ≡ is_of_retire q)
+write_of_retire (Ok a) is = tt
+write_of_retire (Err q) is = subst (λ x. is_refusal x ≡ is_of_retire x) (sym is) refl
 
 -- A HUB
 pub left_as_is : (owner device : ℕ) (f : Fault) (k : StoresValue) → LeavesLane owner device (of_store f) k k

@@ -1,5 +1,5 @@
 -- Lines of lanes and devices, one after the other.
-use Rattle.std.proofs.Common.{◌≡◌, ℕ, Bool, ◌+◌, List, [], ◌∷◌, ◌++◌, length, refl, sym, ap, ◌∙◌, subst, append_assoc, append-nil}
+use Rattle.std.proofs.Common.{◌≡◌, ℕ, Bool, ◌+◌, List, [], ◌∷◌, ◌++◌, length, take, Some, refl, sym, ap, ◌∙◌, subst, append_assoc, append-nil}
 use Rattle.std.proofs.lemmas.Grind.{flat_map-append}
 use Rattle.fare_store.specs.Standing.{Standing}
 use Rattle.fare_store.specs.OutboxWords.{OutboxValue}
@@ -11,14 +11,16 @@ use Rattle.fare_desk.specs.declared.standing.Lane.{Lane}
 use Rattle.std.specs.Prelude.{Option, Result, Ok, Err, OnOk}
 use Rattle.std.specs.Io.KnownBytes.{Appends}
 use Rattle.std.specs.Map.{keys_of}
-use Rattle.fare_desk.specs.Closing.{lanes_of}
+use Rattle.fare_desk.specs.Closing.{lanes_of, lanes_with}
 use Rattle.fare_desk.specs.declared.fault.DeskFault.{DeskFault}
 use Rattle.fare_scheme.specs.Values.{SchemeValue}
+use Rattle.fare_scheme.specs.Words.{id_at}
 use Rattle.fare_store.specs.LedgerWords.{closed_through}
 use Rattle.fare_sessions.specs.Billing.{day_behind, first_unclosed}
 use Rattle.fare_sessions.proofs.NextClose.{behind_last}
 use Rattle.fare_desk.specs.Showing.{AddsLanes, AddsUptos, AreLaneLines, AreUptoLines, HasFrom, IsLane, OnlyAsks, ShowsLanes, WritesStanding, lane_line, stated_days, upto_line, uptos_text}
 use Rattle.fare_desk.proofs.Asked.{asks_self, asks_join}
+use Rattle.fare_desk.proofs.Lanes.{devices_more, lanes_over, owners_more}
 use Rattle.fare_sessions.proofs.Follow.{clean_back}
 
 shows_then : (ls ms : List (ℕ × ℕ)) (h : StoresValue) (s t : List ℕ) → ShowsLanes ls h s → ShowsLanes ms h t → ShowsLanes (ls ++ ms) h (s ++ t)
@@ -58,6 +60,24 @@ module _ {O L : Type 0} (outbox : O → Standing OutboxValue) (ledger : L → St
     lines = (lane, [], sym (append-nil (lane_line owner device lane)), refl);
     shown = λ clean sound h may. (lane, [], tells clean sound h may, sym (append-nil (lane_line owner device lane)), refl);
   }
+
+  -- one lane more of an owner's, and one owner's lanes more
+  pub lanes_more : (owner place device : ℕ) (found : Option ℕ) (a b c : Hub O L) (lane : Lane) (x y z : List ℕ) → found ≡ id_at b.scheme.devices place → found ≡ Some device → AddsLanes outbox ledger (lanes_with owner (take place (keys_of a.scheme.devices))) a b x y
+      → OnlyAsks outbox ledger b c → (AreClean outbox ledger c → AreSound outbox ledger b → (h : StoresValue) → MayStandAs outbox ledger c h → IsLane h owner device lane) → z ≡ y ++ lane_line owner device lane
+      → AddsLanes outbox ledger (lanes_with owner (take (place + 1) (keys_of a.scheme.devices))) a c x z
+  lanes_more owner place device found a b c lane x y z at is s asks tells grown =
+      let here : id_at a.scheme.devices place ≡ Some device = ap (λ (sc : SchemeValue). id_at sc.devices place) (sym s.asks.scheme) ∙ (sym at ∙ is) in
+      subst (λ (l : List (ℕ × ℕ)). AddsLanes outbox ledger l a c x z) (devices_more owner a.scheme.devices place device here)
+      (lanes_then a b c (lanes_with owner (take place (keys_of a.scheme.devices))) ((owner, device) ∷ []) x y z s (lane_one b c owner device lane y z asks tells grown))
+
+  pub owner_more : (place owner : ℕ) (found : Option ℕ) (a b c : Hub O L) (x y z : List ℕ) → found ≡ id_at b.scheme.owners place → found ≡ Some owner → AddsLanes outbox ledger (lanes_over (take place (keys_of a.scheme.owners)) (keys_of a.scheme.devices)) a b x y
+      → AddsLanes outbox ledger (lanes_with owner (keys_of b.scheme.devices)) b c y z → AddsLanes outbox ledger (lanes_over (take (place + 1) (keys_of a.scheme.owners)) (keys_of a.scheme.devices)) a c x z
+  owner_more place owner found a b c x y z at is s one =
+      let ds = keys_of a.scheme.devices in
+      let here : id_at a.scheme.owners place ≡ Some owner = ap (λ (sc : SchemeValue). id_at sc.owners place) (sym s.asks.scheme) ∙ (sym at ∙ is) in
+      let own : AddsLanes outbox ledger (lanes_with owner ds) b c y z = subst (λ (sc : SchemeValue). AddsLanes outbox ledger (lanes_with owner (keys_of sc.devices)) b c y z) s.asks.scheme one in
+      subst (λ (l : List (ℕ × ℕ)). AddsLanes outbox ledger l a c x z) (owners_more ds a.scheme.owners place owner here)
+      (lanes_then a b c (lanes_over (take place (keys_of a.scheme.owners)) ds) (lanes_with owner ds) x y z s own)
 
   -- where a lane stands, by five questions
   pub lane_is : (a b c d e z : Hub O L) (owner device taken rows statements from : ℕ) (closed : Option ℕ) (retired : Bool) → OnlyAsks outbox ledger a b → OnlyAsks outbox ledger b c → OnlyAsks outbox ledger c d → OnlyAsks outbox ledger d e → OnlyAsks outbox ledger e z

@@ -1,6 +1,6 @@
 -- A bill or a settlement that was written.
 use Rattle.std.proofs.Common.{◌≡◌, ℕ, List, None, refl, sym, ap, ◌∙◌, subst}
-use Rattle.std.specs.Prelude.{Option, Result, Ok, Err, OnOk}
+use Rattle.std.specs.Prelude.{Option, Result, Ok, Err, OnOk, is_some}
 use Rattle.std.specs.Io.KnownBytes.{Appends}
 use Rattle.fare_record.specs.Values.{RecordValue}
 use Rattle.fare_cap.specs.Bills.{BillValue, bill_of}
@@ -26,7 +26,7 @@ use Rattle.fare_sessions.specs.Billing.{gone_in, open_in, short_in, refusal_of}
 use Rattle.fare_sessions.specs.declared.hub.Hub.{Hub}
 use Rattle.fare_sessions.specs.Stores.{AreClean, AreSound, MayStandAs}
 use Rattle.fare_desk.specs.Billing.{IsMadeOf, WritesBill, WritesSettlement}
-use Rattle.fare_desk.specs.Faults.{name_of, of_bill}
+use Rattle.fare_desk.specs.Faults.{is_refusal, name_of, of_bill}
 use Rattle.fare_desk.specs.declared.fault.DeskFault.{DeskFault}
 
 module _ {O L : Type 0} (outbox : O → Standing OutboxValue) (ledger : L → Standing LedgerValue) (old new : Hub O L) (owner day : ℕ) (devices : List ℕ) where
@@ -62,3 +62,14 @@ name_is V (Failed fault.Store) = refl
 -- so it refuses for the same reason
 pub fault_refused : (V : Type 0) (r : Result V (Refused BillingFault)) (P : Option BillingFault → Type 0) (why : Refused BillingFault) (f : DeskFault) → f ≡ of_bill why → P (refusal_of {V = V} (Err why)) → P (name_of f)
 fault_refused V r P why f made is = subst P (sym (ap name_of made ∙ name_is V why)) is
+
+pub bill_named : (f : DeskFault) (why : Refused BillingFault) → f ≡ of_bill why → is_refusal f ≡ is_some (name_of f)
+bill_named f why made = subst (λ q. is_refusal q ≡ is_some (name_of q)) (sym made) (named why)
+  where
+    named : (why : Refused BillingFault) → is_refusal (of_bill why) ≡ is_some (name_of (of_bill why))
+    named (Because (billing.Unbilled bill.UnknownOwner)) = refl
+    named (Because (billing.Unbilled bill.BeforeStart)) = refl
+    named (Because (billing.Unbilled (bill.NotClosed device))) = refl
+    named (Because (billing.Forgotten device)) = refl
+    named (Failed fault.Memory) = refl
+    named (Failed fault.Store) = refl

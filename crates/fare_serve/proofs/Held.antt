@@ -1,5 +1,6 @@
 -- Rounds over lines, one more.
 use Rattle.std.proofs.Common.{◌≡◌, ℕ, ◌+◌, List, [], ◌∷◌, ◌++◌, length, Bool, refl, sym, ap, ◌∙◌, subst}
+use Rattle.std.specs.Prelude.{Result, Ok, Err, IfErr, IsErrAnd}
 use Rattle.std.specs.List.{flat_map}
 use Rattle.std.specs.Map.{keys_of}
 use Rattle.std.proofs.lemmas.List.{length-append}
@@ -31,6 +32,11 @@ use Rattle.fare_serve.proofs.Coming.{AreSeated, are_serving, come_none, come_of_
 use Rattle.fare_serve.proofs.Failed.{IsFront, rounds_of_scheme, stopped_after, stopped_behind}
 use Rattle.fare_serve.proofs.Seated.{seats_of_free}
 use Rattle.fare_serve.proofs.Counted.{counts_more, counts_none, entries_of}
+
+-- what holds of a fault holds of one that is handed on
+pub handed_on : {A E : Type 0} (P : E → Type 0) (r : Result A E) (fault : E) → IsErrAnd r (λ q. q ≡ fault) → P fault → IfErr r P
+handed_on P (Ok a) fault is holds = absurd is
+handed_on P (Err q) fault is holds = subst P (sym is) holds
 
 module _ {O L : Type 0} (does : PauseOf O L) (outbox : O → Standing OutboxValue) (ledger : L → Standing LedgerValue) where
   -- Rounds that were held, one after the other, and the seats behind them.

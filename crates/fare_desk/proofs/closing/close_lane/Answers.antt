@@ -1,11 +1,13 @@
 use Rattle.std.proofs.Common.{◌≡◌, ◌+◌, ℕ, suc, Some, ap, ◌∙◌, subst, arith}
 use Rattle.std.specs.Prelude.{Option}
 use Rattle.std.specs.Io.KnownBytes.{Appends}
+use Rattle.fare_store.specs.declared.fault.Fault.TheVariants as fault
 use Rattle.fare_sessions.specs.Billing.{IsToClose}
 use Rattle.fare_desk.specs.Closing.{HasAnswered, IsDayBehind, reply_of, try_line}
+use Rattle.fare_desk.proofs.Failing.{handed_unnamed, ok_of_none, store_unnamed}
 use Rattle.fare_desk.proofs.Going.{goes_asks, goes_join}
 use Rattle.fare_desk.proofs.Lane.{StandsLane, lane_begins, lane_passed, goes_mid, lane_ends, lane_closed, lane_refused, lane_spent}
-use Rattle.fare_desk.proofs.Lanes.{still_known}
+use Rattle.fare_desk.proofs.Lanes.{still_known, still_ledgers}
 use Rattle.fare_desk.proofs.closing.close_lane.Goals as goal
 
 pub loop-init : goal.loop-init
@@ -14,14 +16,29 @@ loop-init g c = lane_begins g.O.Outbox.standing g.L.Ledger.standing c.args.owner
 pub returns-in_err-retired-clause-goes : goal.returns-in_err-retired-clause-goes
 returns-in_err-retired-clause-goes g c = goes_asks g.O.Outbox.standing g.L.Ledger.standing c.args.hub.now c.ask_retired.new.hub c.ask_retired.ensures.asks
 
+pub returns-in_err-retired-clause-closed : goal.returns-in_err-retired-clause-closed
+returns-in_err-retired-clause-closed g c = ok_of_none c.from_residual.result _ _ c.from_residual.ensures.1
+
+pub returns-in_err-retired-clause-unnamed : goal.returns-in_err-retired-clause-unnamed
+returns-in_err-retired-clause-unnamed g c = store_unnamed c.from_residual.result c.in_err-retired.field-0.0 c.from_residual.ensures.1
+
 pub returns-then-retired-clause-goes : goal.returns-then-retired-clause-goes
 returns-then-retired-clause-goes g c = goes_asks g.O.Outbox.standing g.L.Ledger.standing c.args.hub.now c.ask_retired.new.hub c.ask_retired.ensures.asks
 
 pub returns-then-retired-clause-closed : goal.returns-then-retired-clause-closed
 returns-then-retired-clause-closed g c = lane_passed g.O.Outbox.standing g.L.Ledger.standing c.args.owner c.args.device c.args.hub.now c.ask_retired.new.hub (g.W.Write.contents c.args.output.now) c.ask_retired.ensures.asks (λ clean sound h may. c.in_ok-retired.ensures.tells clean sound h may ∙ c.if-retired.true)
 
+pub next_close-requires : goal.next_close-requires
+next_close-requires g c = record { ledgers = still_ledgers g.O.Outbox.standing g.L.Ledger.standing c.args.hub.now c.loop.hub c.loop.invariant.goes c.requires.ledgers }
+
 pub returns-in_err-day-clause-goes : goal.returns-in_err-day-clause-goes
 returns-in_err-day-clause-goes g c = goes_mid g.O.Outbox.standing g.L.Ledger.standing c.args.owner c.args.device c.args.hub.now c.loop.hub c.next_close.new.self (g.W.Write.contents c.args.output.now) (g.W.Write.contents c.loop.output) c.loop.last c.loop.counter c.loop.invariant c.next_close.ensures.reads
+
+pub returns-in_err-day-clause-closed : goal.returns-in_err-day-clause-closed
+returns-in_err-day-clause-closed g c = ok_of_none c.from_residual-in_err-day.result _ _ c.from_residual-in_err-day.ensures.1
+
+pub returns-in_err-day-clause-unnamed : goal.returns-in_err-day-clause-unnamed
+returns-in_err-day-clause-unnamed g c = store_unnamed c.from_residual-in_err-day.result c.in_err-day.field-0.0 c.from_residual-in_err-day.ensures.1
 
 pub returns-in_default-clause-goes : goal.returns-in_default-clause-goes
 returns-in_default-clause-goes g c = goes_mid g.O.Outbox.standing g.L.Ledger.standing c.args.owner c.args.device c.args.hub.now c.loop.hub c.next_close.new.self (g.W.Write.contents c.args.output.now) (g.W.Write.contents c.loop.output) c.loop.last c.loop.counter c.loop.invariant c.next_close.ensures.reads
@@ -35,20 +52,44 @@ returns-in_default-clause-closed g c =
 pub returns-then-not-is_behind-clause-goes : goal.returns-then-not-is_behind-clause-goes
 returns-then-not-is_behind-clause-goes g c = goes_mid g.O.Outbox.standing g.L.Ledger.standing c.args.owner c.args.device c.args.hub.now c.loop.hub c.next_close.new.self (g.W.Write.contents c.args.output.now) (g.W.Write.contents c.loop.output) c.loop.last c.loop.counter c.loop.invariant c.next_close.ensures.reads
 
+pub try_close-requires-clause-ledgers : goal.try_close-requires-clause-ledgers
+try_close-requires-clause-ledgers g c = still_ledgers g.O.Outbox.standing g.L.Ledger.standing c.args.hub.now c.next_close.new.self (goes_mid g.O.Outbox.standing g.L.Ledger.standing c.args.owner c.args.device c.args.hub.now c.loop.hub c.next_close.new.self (g.W.Write.contents c.args.output.now) (g.W.Write.contents c.loop.output) c.loop.last c.loop.counter c.loop.invariant c.next_close.ensures.reads) c.requires.ledgers
+
+pub try_close-requires-clause-known : goal.try_close-requires-clause-known
+try_close-requires-clause-known g c = still_known g.O.Outbox.standing g.L.Ledger.standing c.args.hub.now c.next_close.new.self c.args.owner (goes_mid g.O.Outbox.standing g.L.Ledger.standing c.args.owner c.args.device c.args.hub.now c.loop.hub c.next_close.new.self (g.W.Write.contents c.args.output.now) (g.W.Write.contents c.loop.output) c.loop.last c.loop.counter c.loop.invariant c.next_close.ensures.reads) c.requires.known
+
 pub returns-in_err-answer-clause-goes : goal.returns-in_err-answer-clause-goes
 returns-in_err-answer-clause-goes g c =
     let mid = goes_mid g.O.Outbox.standing g.L.Ledger.standing c.args.owner c.args.device c.args.hub.now c.loop.hub c.next_close.new.self (g.W.Write.contents c.args.output.now) (g.W.Write.contents c.loop.output) c.loop.last c.loop.counter c.loop.invariant c.next_close.ensures.reads in
     goes_join g.O.Outbox.standing g.L.Ledger.standing c.args.hub.now c.next_close.new.self c.try_close.new.hub mid c.try_close.ensures.goes
+
+pub returns-in_err-answer-clause-closed : goal.returns-in_err-answer-clause-closed
+returns-in_err-answer-clause-closed g c = ok_of_none c.from_residual-in_err-answer.result _ _ c.from_residual-in_err-answer.ensures.1
+
+pub returns-in_err-answer-clause-unnamed : goal.returns-in_err-answer-clause-unnamed
+returns-in_err-answer-clause-unnamed g c = store_unnamed c.from_residual-in_err-answer.result c.in_err-answer.field-0.0 c.from_residual-in_err-answer.ensures.1
 
 pub returns-in_err-line-clause-goes : goal.returns-in_err-line-clause-goes
 returns-in_err-line-clause-goes g c =
     let mid = goes_mid g.O.Outbox.standing g.L.Ledger.standing c.args.owner c.args.device c.args.hub.now c.loop.hub c.next_close.new.self (g.W.Write.contents c.args.output.now) (g.W.Write.contents c.loop.output) c.loop.last c.loop.counter c.loop.invariant c.next_close.ensures.reads in
     goes_join g.O.Outbox.standing g.L.Ledger.standing c.args.hub.now c.next_close.new.self c.try_close.new.hub mid c.try_close.ensures.goes
 
+pub returns-in_err-line-clause-closed : goal.returns-in_err-line-clause-closed
+returns-in_err-line-clause-closed g c = ok_of_none c.from_residual-in_err-line.result _ _ c.from_residual-in_err-line.ensures.1
+
+pub returns-in_err-line-clause-unnamed : goal.returns-in_err-line-clause-unnamed
+returns-in_err-line-clause-unnamed g c = store_unnamed c.from_residual-in_err-line.result fault.Memory c.from_residual-in_err-line.ensures.1
+
 pub returns-in_err-write_text-clause-goes : goal.returns-in_err-write_text-clause-goes
 returns-in_err-write_text-clause-goes g c =
     let mid = goes_mid g.O.Outbox.standing g.L.Ledger.standing c.args.owner c.args.device c.args.hub.now c.loop.hub c.next_close.new.self (g.W.Write.contents c.args.output.now) (g.W.Write.contents c.loop.output) c.loop.last c.loop.counter c.loop.invariant c.next_close.ensures.reads in
     goes_join g.O.Outbox.standing g.L.Ledger.standing c.args.hub.now c.next_close.new.self c.try_close.new.hub mid c.try_close.ensures.goes
+
+pub returns-in_err-write_text-clause-closed : goal.returns-in_err-write_text-clause-closed
+returns-in_err-write_text-clause-closed g c = ok_of_none c.from_residual-in_err-write_text.result _ _ c.from_residual-in_err-write_text.ensures.1
+
+pub returns-in_err-write_text-clause-unnamed : goal.returns-in_err-write_text-clause-unnamed
+returns-in_err-write_text-clause-unnamed g c = handed_unnamed c.from_residual-in_err-write_text.result c.in_err-write_text.field-0.0 c.from_residual-in_err-write_text.ensures.1 c.in_err-write_text.ensures.failed
 
 pub returns-in-Err-clause-goes : goal.returns-in-Err-clause-goes
 returns-in-Err-clause-goes g c =
@@ -76,6 +117,9 @@ loop-preserved g c =
     (lane_closed g.O.Outbox.standing g.L.Ledger.standing c.args.owner c.args.device c.args.hub.now c.loop.hub c.next_close.new.self (g.W.Write.contents c.args.output.now) (g.W.Write.contents c.loop.output) c.loop.last c.loop.counter c.loop.invariant c.next_close.ensures.reads c.try_close.new.hub c.in-Some.day behind c.in_ok-line.ensures.dated
     (λ clean sound h may. subst (λ (o : Option ℕ). IsToClose (h.ledgers c.args.owner) c.args.device o) c.in-Some.is ((c.in_ok-day.ensures.answer clean sound known h may).1))
     c.try_close.ensures.goes (g.W.Write.contents c.write_text.new.output) answered written)
+
+pub returns-clause-goes : goal.returns-clause-goes
+returns-clause-goes g c = c.loop.invariant.goes
 
 pub returns-clause-closed : goal.returns-clause-closed
 returns-clause-closed g c =

@@ -1,13 +1,29 @@
-use Rattle.std.proofs.Common.{◌≡◌, take, drop, ◌+◌, sym, ap, ◌∙◌, subst, arith}
+use Rattle.std.proofs.Common.{◌≡◌, length, take, drop, ◌+◌, sym, ap, ◌∙◌, subst, arith}
 use Rattle.std.specs.Map.{keys_of}
 use Rattle.fare_scheme.specs.Words.{id_at}
+use Rattle.fare_collect.proofs.Last.{at_known}
 use Rattle.fare_desk.specs.Closing.{lanes_with}
 use Rattle.fare_desk.specs.Forgetting.{LeavesSome, LetsGo}
 use Rattle.fare_sessions.specs.Stores.{ComesOf}
+use Rattle.fare_desk.proofs.Asked.{placed_known}
 use Rattle.fare_desk.proofs.Going.{letting_join}
 use Rattle.fare_desk.proofs.Lanes.{owners_more, keys_all, lanes_over}
-use Rattle.fare_desk.proofs.LetGo.{if_err, owners_split, over_more, over_some}
+use Rattle.fare_desk.proofs.LetGo.{if_err, owners_split, over_more, over_none, over_some}
 use Rattle.fare_desk.proofs.forgetting.forget_days.Goals as goal
+
+pub loop-place-init : goal.loop-place-init
+loop-place-init g c = over_none g.O.Outbox.standing g.L.Ledger.standing c.args.hub.now c.week_start-first.result (g.W.Write.contents c.args.output.now)
+
+pub unreachable-requires : goal.unreachable-requires
+unreachable-requires g c =
+    let lt = c.loop-place-test.true in
+    let all = c.owner_count-place-end.ensures.value in
+    let same = c.loop-place.invariant.goes.scheme in
+    let n = ap (λ sc. length sc.owners) same in
+    at_known c.loop-place.hub.scheme.owners c.loop-place.place (omega (arith, lt, all, n)) (sym c.owner_at.ensures.value ∙ c.in_default.is)
+
+pub forget_owner-requires-clause-known : goal.forget_owner-requires-clause-known
+forget_owner-requires-clause-known g c = placed_known _ c.loop-place.place c.in-Some.ensures.placed
 
 pub returns-in_err-forget_owner-clause-goes : goal.returns-in_err-forget_owner-clause-goes
 returns-in_err-forget_owner-clause-goes g c = letting_join g.O.Outbox.standing g.L.Ledger.standing c.args.hub.now c.loop-place.hub c.forget_owner.new.hub c.loop-place.invariant.goes c.forget_owner.ensures.goes

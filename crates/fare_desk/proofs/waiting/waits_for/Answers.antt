@@ -1,26 +1,41 @@
-use Rattle.std.proofs.Common.{◌≡◌, [], take, sym, ap, ◌∙◌, subst, arith}
-use Rattle.std.specs.Map.{keys_of}
-use Rattle.fare_scheme.specs.Words.{id_at}
+use Rattle.std.proofs.Common.{[], length, sym, ap, ◌∙◌, subst, arith}
+use Rattle.fare_collect.proofs.Last.{at_known}
 use Rattle.fare_desk.specs.Waiting.{TellsWaiting}
-use Rattle.fare_desk.proofs.Asked.{asks_join}
-use Rattle.fare_desk.proofs.Lanes.{keys_all, keys_more}
-use Rattle.fare_desk.proofs.Waits.{waiting_more, waiting_none}
+use Rattle.fare_desk.proofs.Asked.{asked_known, asked_ledgers, asks_join}
+use Rattle.fare_desk.proofs.Failing.{told_of_none}
+use Rattle.fare_desk.proofs.Lanes.{keys_all}
+use Rattle.fare_desk.proofs.Waits.{waiting_none, waiting_push}
 use Rattle.fare_desk.proofs.waiting.waits_for.Goals as goal
 
 pub loop-place-init : goal.loop-place-init
 loop-place-init g c = subst (TellsWaiting g.O.Outbox.standing g.L.Ledger.standing c.args.owner [] c.args.hub.now c.args.hub.now) (sym c.none-waiting.ensures) (waiting_none g.O.Outbox.standing g.L.Ledger.standing c.args.owner c.args.hub.now)
 
+pub unreachable-requires : goal.unreachable-requires
+unreachable-requires g c =
+    let lt = c.loop-place-test.true in
+    let all = c.device_count-place-end.ensures.value in
+    let n = ap (λ sc. length sc.devices) c.loop-place.invariant.asks.scheme in
+    at_known c.loop-place.hub.scheme.devices c.loop-place.place (omega (arith, lt, all, n)) (sym c.device_at.ensures.value ∙ c.in_default.is)
+
+pub waits_in_lane-requires-clause-ledgers : goal.waits_in_lane-requires-clause-ledgers
+waits_in_lane-requires-clause-ledgers g c = asked_ledgers g.O.Outbox.standing g.L.Ledger.standing c.args.hub.now c.loop-place.hub c.loop-place.invariant.asks c.requires.ledgers
+
+pub waits_in_lane-requires-clause-known : goal.waits_in_lane-requires-clause-known
+waits_in_lane-requires-clause-known g c = asked_known g.O.Outbox.standing g.L.Ledger.standing c.args.hub.now c.loop-place.hub c.args.owner c.loop-place.invariant.asks c.requires.known
+
 pub returns-in_err-lane-clause-asks : goal.returns-in_err-lane-clause-asks
 returns-in_err-lane-clause-asks g c = asks_join g.O.Outbox.standing g.L.Ledger.standing c.args.hub.now c.loop-place.hub c.waits_in_lane.new.hub c.loop-place.invariant.asks c.waits_in_lane.ensures.asks
 
+pub returns-in_err-lane-clause-tells : goal.returns-in_err-lane-clause-tells
+returns-in_err-lane-clause-tells g c = told_of_none c.from_residual.result _ _ c.from_residual.ensures.1
+
 pub loop-place-preserved : goal.loop-place-preserved
 loop-place-preserved g c =
-    let s = c.loop-place.invariant in
-    let old = c.args.hub.now in
-    let ds = old.scheme.devices in
-    let at : id_at ds c.loop-place.place ≡ _ = ap (λ sc. id_at sc.devices c.loop-place.place) (sym s.asks.scheme) ∙ (sym c.device_at.ensures.value ∙ c.in-Some.is) in
-    subst (λ l. TellsWaiting g.O.Outbox.standing g.L.Ledger.standing c.args.owner l old c.waits_in_lane.new.hub c.and-waiting.result) (sym (keys_more ds c.loop-place.place c.in-Some.device at))
-    (waiting_more g.O.Outbox.standing g.L.Ledger.standing c.args.owner (take c.loop-place.place (keys_of ds)) c.in-Some.device old c.loop-place.hub c.waits_in_lane.new.hub c.loop-place.waiting c.in_ok-lane.lane c.and-waiting.result s c.waits_in_lane.ensures.asks c.in_ok-lane.ensures.tells c.and-waiting.ensures)
+    waiting_push g.O.Outbox.standing g.L.Ledger.standing c.args.owner c.loop-place.place c.in-Some.device c.device_at.result c.args.hub.now c.loop-place.hub c.waits_in_lane.new.hub c.loop-place.waiting c.in_ok-lane.lane c.and-waiting.result
+    c.device_at.ensures.value c.in-Some.is c.loop-place.invariant c.waits_in_lane.ensures.asks c.in_ok-lane.ensures.tells c.and-waiting.ensures
+
+pub returns-clause-asks : goal.returns-clause-asks
+returns-clause-asks g c = c.loop-place.invariant.asks
 
 pub returns-clause-tells : goal.returns-clause-tells
 returns-clause-tells g c =

@@ -1,0 +1,69 @@
+-- A fault that is handed on, and what was written then.
+use Rattle.std.proofs.Common.{◌≡◌, ◌≢◌, ◌⊎◌, ℕ, List, false, None, inl, inr, refl, sym, ap, ◌∙◌, subst}
+use Rattle.std.specs.Prelude.{Option, Result, Ok, Err, IfErr, IfOk, IsErrAnd, OnOk, is_some}
+use Rattle.std.specs.Io.KnownBytes.{Keeps}
+use Rattle.std.proofs.KnownBytes.{Keeps-refl}
+use Rattle.fare_store.specs.declared.fault.Fault.{Fault}
+use Rattle.fare_store.specs.declared.fault.Fault.TheVariants as fault
+use Rattle.fare_desk.specs.Faults.{is_refusal, name_of, of_store, refused_of}
+use Rattle.fare_desk.specs.declared.fault.DeskFault.{DeskFault}
+use Rattle.fare_desk.specs.declared.fault.DeskFault.TheVariants.{Memory, Store, Write}
+
+-- what is so of an answer is so of no fault
+pub ok_of_none : {A E : Type 0} (r : Result A E) (Q : E → Type 0) (X : Type 0) → IsErrAnd r Q → OnOk r X
+ok_of_none (Ok a) Q X is = absurd is
+ok_of_none (Err f) Q X is = tt
+
+pub told_of_none : {A E : Type 0} (r : Result A E) (Q : E → Type 0) (P : A → Type 0) → IsErrAnd r Q → IfOk r P
+told_of_none (Ok a) Q P is = absurd is
+told_of_none (Err f) Q P is = tt
+
+-- A STORE FAILED
+store_is_none : (f : Fault) → is_refusal (of_store f) ≡ false
+store_is_none fault.Memory = refl
+store_is_none fault.Store = refl
+
+pub store_unnamed : {A : Type 0} (r : Result A DeskFault) (f : Fault) → IsErrAnd r (λ q. q ≡ of_store f) → IfErr r (λ q. is_refusal q ≡ false)
+store_unnamed (Ok a) f is = tt
+store_unnamed (Err q) f is = ap is_refusal is ∙ store_is_none f
+
+pub store_kept : {A : Type 0} (r : Result A DeskFault) (before : Option (List ℕ)) → IfErr r (λ q. q ≢ Write → Keeps before before)
+store_kept (Ok a) before = tt
+store_kept (Err q) before = λ _. Keeps-refl before
+
+store_nameless : (f : Fault) → name_of (of_store f) ≡ None
+store_nameless fault.Memory = refl
+store_nameless fault.Store = refl
+
+pub store_refused : {A : Type 0} (r : Result A DeskFault) (f : Fault) → IsErrAnd r (λ q. q ≡ of_store f) → refused_of r ≡ None
+store_refused (Ok a) f is = refl
+store_refused (Err q) f is = ap name_of is ∙ store_nameless f
+
+pub store_named : {A : Type 0} (r : Result A DeskFault) (f : Fault) → IsErrAnd r (λ q. q ≡ of_store f) → IfErr r (λ q. is_refusal q ≡ is_some (name_of q))
+store_named (Ok a) f is = tt
+store_named (Err q) f is = ap is_refusal is ∙ (store_is_none f ∙ sym (ap (λ q. is_some (name_of q)) is ∙ ap is_some (store_nameless f)))
+
+pub store_fault : (f : Fault) (q : DeskFault) → q ≡ of_store f → (q ≡ Memory) ⊎ (q ≡ Store)
+store_fault fault.Memory q is = inl is
+store_fault fault.Store q is = inr is
+
+-- THE WRITER FAILED
+pub write_unnamed : {A : Type 0} (r : Result A DeskFault) → IfErr r (λ q. q ≡ Write) → IfErr r (λ q. is_refusal q ≡ false)
+write_unnamed (Ok a) is = tt
+write_unnamed (Err q) is = ap is_refusal is
+
+pub write_kept : {A : Type 0} (r : Result A DeskFault) (before after : Option (List ℕ)) → IfErr r (λ q. q ≡ Write) → IfErr r (λ q. q ≢ Write → Keeps before after)
+write_kept (Ok a) before after is = tt
+write_kept (Err q) before after is = λ other. absurd (other is)
+
+pub write_refused : {A : Type 0} (r : Result A DeskFault) → IfErr r (λ q. q ≡ Write) → refused_of r ≡ None
+write_refused (Ok a) is = refl
+write_refused (Err q) is = ap name_of is
+
+pub write_named : {A : Type 0} (r : Result A DeskFault) → IfErr r (λ q. q ≡ Write) → IfErr r (λ q. is_refusal q ≡ is_some (name_of q))
+write_named (Ok a) is = tt
+write_named (Err q) is = subst (λ q. is_refusal q ≡ is_some (name_of q)) (sym is) refl
+
+pub handed_unnamed : {A : Type 0} (r : Result A DeskFault) (f : DeskFault) → IsErrAnd r (λ q. q ≡ f) → f ≡ Write → IfErr r (λ q. is_refusal q ≡ false)
+handed_unnamed (Ok a) f is write = tt
+handed_unnamed (Err q) f is write = ap is_refusal (is ∙ write)
