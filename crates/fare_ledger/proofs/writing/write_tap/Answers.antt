@@ -1,0 +1,56 @@
+use Rattle.std.proofs.Common.{rules}
+use Rattle.fare_ledger.proofs.writing.write_tap.Goals as goal
+
+pub returns-in-Ok-clause-value : goal.returns-in-Ok-clause-value
+returns-in-Ok-clause-value g c = search rules
+
+pub returns-in-Ok-clause-same : goal.returns-in-Ok-clause-same
+returns-in-Ok-clause-same g c = search rules
+
+pub returns-in-Ok-clause-crash : goal.returns-in-Ok-clause-crash
+returns-in-Ok-clause-crash g c = search rules
+
+pub returns-in-Ok-clause-live : goal.returns-in-Ok-clause-live
+returns-in-Ok-clause-live g c = search rules
+
+pub returns-in-Ok-clause-stays : goal.returns-in-Ok-clause-stays
+returns-in-Ok-clause-stays g c = search rules
+
+pub returns-in-Ok-clause-idle : goal.returns-in-Ok-clause-idle
+returns-in-Ok-clause-idle g c = search rules
+
+pub returns-in-Err-clause-value : goal.returns-in-Err-clause-value
+returns-in-Err-clause-value g c = search rules
+
+pub returns-in-Err-clause-same : goal.returns-in-Err-clause-same
+returns-in-Err-clause-same g c = search rules
+
+pub returns-in-Err-clause-crash : goal.returns-in-Err-clause-crash
+returns-in-Err-clause-crash g c = search rules
+
+pub returns-in-Err-clause-live : goal.returns-in-Err-clause-live
+returns-in-Err-clause-live g c = search rules
+
+pub returns-in-Err-clause-stays : goal.returns-in-Err-clause-stays
+returns-in-Err-clause-stays g c = search rules
+
+pub returns-in-Err-clause-idle : goal.returns-in-Err-clause-idle
+returns-in-Err-clause-idle g c = search rules
+
+pub returns-in_err-put_row-clause-value : goal.returns-in_err-put_row-clause-value
+returns-in_err-put_row-clause-value g c = search rules
+
+pub returns-in_err-put_row-clause-same : goal.returns-in_err-put_row-clause-same
+returns-in_err-put_row-clause-same g c = search rules
+
+pub returns-in_err-put_row-clause-crash : goal.returns-in_err-put_row-clause-crash
+returns-in_err-put_row-clause-crash g c = search rules
+
+pub returns-in_err-put_row-clause-live : goal.returns-in_err-put_row-clause-live
+returns-in_err-put_row-clause-live g c = search rules
+
+pub returns-in_err-put_row-clause-stays : goal.returns-in_err-put_row-clause-stays
+returns-in_err-put_row-clause-stays g c = search rules
+
+pub returns-in_err-put_row-clause-idle : goal.returns-in_err-put_row-clause-idle
+returns-in_err-put_row-clause-idle g c = search rules
