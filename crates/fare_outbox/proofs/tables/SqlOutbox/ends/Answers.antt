@@ -1,4 +1,5 @@
 use Rattle.std.proofs.Common.{◌≡◌, true, sym, ◌∙◌, rules}
+use Rattle.fare_tables.proofs.Steps.{read_failed}
 use Rattle.fare_outbox.specs.Words.{stands}
 use Rattle.fare_outbox.specs.Batches.{any_before}
 use Rattle.fare_outbox.proofs.Batches.{known_end, unread}
@@ -50,3 +51,9 @@ overflow_sub-before g c = search rules
 
 pub row_after-requires : goal.row_after-requires
 row_after-requires g c = search rules
+
+pub returns-in_err-row_after-clause-does : goal.returns-in_err-row_after-clause-does
+returns-in_err-row_after-clause-does g c =
+    let a = stands g.S.Store c.args.self.now in
+    let b = stands g.S.Store c.row_after.new.self in
+    read_failed a b _ _ c.from_residual.result _ c.from_residual.ensures.1 c.in_err-row_after.ensures.does

@@ -1,4 +1,6 @@
 use Rattle.std.proofs.Common.{rules}
+use Rattle.fare_tables.proofs.Steps.{read_failed}
+use Rattle.fare_outbox.specs.Words.{stands}
 use Rattle.fare_outbox.proofs.tables.SqlOutbox.held_count.Goals as goal
 
 pub returns-then-get-clause-does : goal.returns-then-get-clause-does
@@ -36,3 +38,9 @@ returns-in-None-clause-rows g c = search rules
 
 pub returns-in-None-clause-statements : goal.returns-in-None-clause-statements
 returns-in-None-clause-statements g c = search rules
+
+pub returns-in_err-next-clause-does : goal.returns-in_err-next-clause-does
+returns-in_err-next-clause-does g c =
+    let a = stands g.S.Store c.args.self.now in
+    let b = stands g.S.Store c.statement_from.new.self in
+    read_failed a b _ _ c.from_residual.result _ c.from_residual.ensures.1 c.in_err-next.ensures.does

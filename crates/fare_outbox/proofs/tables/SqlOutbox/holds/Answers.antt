@@ -1,4 +1,6 @@
 use Rattle.std.proofs.Common.{rules}
+use Rattle.fare_tables.proofs.Steps.{read_failed}
+use Rattle.fare_outbox.specs.Words.{stands}
 use Rattle.fare_outbox.proofs.tables.SqlOutbox.holds.Goals as goal
 
 pub returns-in-Some-clause-does : goal.returns-in-Some-clause-does
@@ -36,3 +38,9 @@ overflow_sub-lane g c = search rules
 
 pub row_after-requires : goal.row_after-requires
 row_after-requires g c = search rules
+
+pub returns-in_err-next-clause-does : goal.returns-in_err-next-clause-does
+returns-in_err-next-clause-does g c =
+    let a = stands g.S.Store c.args.self.now in
+    let b = stands g.S.Store c.row_after.new.self in
+    read_failed a b _ _ c.from_residual.result _ c.from_residual.ensures.1 c.in_err-next.ensures.does
