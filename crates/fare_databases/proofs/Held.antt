@@ -14,8 +14,8 @@ use Rattle.fare_store.specs.OutboxWords.{OutboxValue}
 use Rattle.fare_store.specs.LedgerWords.{LedgerValue, IsOfScheme}
 use Rattle.fare_tables.specs.Tabled.{IsLeft}
 use Rattle.fare_outbox.specs.First.{IsLawfulFirst, value_first}
-use Rattle.fare_outbox.specs.Statements.{outbox_parts}
-use Rattle.fare_outbox.specs.Layouts as outbox_layouts
+use Rattle.fare_outbox_rows.specs.Statements.{outbox_parts}
+use Rattle.fare_outbox_rows.specs.Layouts as outbox_layouts
 use Rattle.fare_outbox.specs.Words as outbox_words
 use Rattle.fare_outbox.specs.declared.tables.SqlOutbox.{SqlOutbox}
 use Rattle.fare_ledger.specs.Known.{knows}

@@ -8,7 +8,7 @@ use Rattle.sqlite.specs.Effect.{Database}
 use Rattle.fare_store.specs.Standing.{IsSound}
 use Rattle.fare_tables.specs.Tabled.{left_now}
 use Rattle.fare_outbox.specs.declared.tables.SqlOutbox.{SqlOutbox}
-use Rattle.fare_outbox.specs.Layouts as outbox_layouts
+use Rattle.fare_outbox_rows.specs.Layouts as outbox_layouts
 use Rattle.fare_outbox.specs.Words as outbox_words
 use Rattle.fare_ledger.specs.declared.tables.SqlLedger.{SqlLedger}
 use Rattle.fare_ledger.specs.Known.{knows}

@@ -16,9 +16,9 @@ use Rattle.fare_opening.specs.Opening.{MayMake}
 use Rattle.fare_opening.specs.Raising as raising
 use Rattle.fare_opening.proofs.Vacant as vacant
 use Rattle.fare_outbox.specs.First.{IsLawfulFirst, value_first}
-use Rattle.fare_outbox.specs.Making as outbox_making
-use Rattle.fare_outbox.specs.Statements.{first_format, outbox_parts}
-use Rattle.fare_outbox.specs.Layouts as outbox_layouts
+use Rattle.fare_outbox_rows.specs.Making as outbox_making
+use Rattle.fare_outbox_rows.specs.Statements.{first_format, outbox_parts}
+use Rattle.fare_outbox_rows.specs.Layouts as outbox_layouts
 use Rattle.fare_outbox.specs.Opening as outbox_opening
 use Rattle.fare_outbox.specs.Words as outbox_words
 use Rattle.fare_outbox.proofs.Opened as outbox_opened

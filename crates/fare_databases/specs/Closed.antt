@@ -6,7 +6,7 @@ use Rattle.sqlite.specs.State.{Survives}
 use Rattle.fare_tables.specs.Asking.{IsLive}
 use Rattle.fare_tables.specs.Tabled.{IsFit}
 use Rattle.fare_outbox.specs.declared.tables.SqlOutbox.{SqlOutbox}
-use Rattle.fare_outbox.specs.Layouts as outbox_layouts
+use Rattle.fare_outbox_rows.specs.Layouts as outbox_layouts
 use Rattle.fare_outbox.specs.Words as outbox_words
 use Rattle.fare_ledger.specs.declared.tables.SqlLedger.{SqlLedger}
 use Rattle.fare_ledger.specs.Layouts as ledger_layouts

@@ -15,10 +15,10 @@ use Rattle.fare_layout.specs.Growing.{HasNone}
 use Rattle.fare_opening.specs.Parts.{Parts, OlderParts}
 use Rattle.fare_opening.specs.declared.site.Site.{Site}
 use Rattle.fare_outbox.specs.First.{IsLawfulFirst, value_first}
-use Rattle.fare_outbox.specs.Statements.{outbox_parts}
-use Rattle.fare_outbox.specs.Layouts as outbox_layouts
+use Rattle.fare_outbox_rows.specs.Statements.{outbox_parts}
+use Rattle.fare_outbox_rows.specs.Layouts as outbox_layouts
 use Rattle.fare_outbox.specs.Words as outbox_words
-use Rattle.fare_outbox.specs.declared.layout.Layout as outbox_layout
+use Rattle.fare_outbox_rows.specs.declared.layout.Layout as outbox_layout
 use Rattle.fare_ledger.specs.Older.{IsLawfulOlder, value_older}
 use Rattle.fare_ledger.specs.Statements.{ledger_parts}
 use Rattle.fare_ledger.specs.Layouts as ledger_layouts

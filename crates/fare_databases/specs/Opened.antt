@@ -11,8 +11,8 @@ use Rattle.sqlite_rules.specs.Lists.{Has}
 use Rattle.fare_opening.specs.declared.site.Site.{Site}
 use Rattle.fare_opening.specs.Parts.{OlderParts}
 use Rattle.fare_outbox.specs.First as outbox_first
-use Rattle.fare_outbox.specs.declared.layout.Layout as outbox_layout
-use Rattle.fare_outbox.specs.Layouts as outbox_layouts
+use Rattle.fare_outbox_rows.specs.declared.layout.Layout as outbox_layout
+use Rattle.fare_outbox_rows.specs.Layouts as outbox_layouts
 use Rattle.fare_outbox.specs.Opening as outbox_opening
 use Rattle.fare_outbox.specs.Words as outbox_words
 use Rattle.fare_ledger.specs.declared.layout.Layout as ledger_layout

@@ -13,9 +13,9 @@ use Rattle.fare_opening.specs.Orders.{made_of}
 use Rattle.fare_opening.specs.Parts.{Parts}
 use Rattle.fare_opening.proofs.Orders.{are_as_many, standing_there, should_stand, have_own_trees, refer_to_none, rowid_first, meanings, meant_there, places_of, fit_as}
 use Rattle.fare_outbox.specs.Orders.{table_of, all_orders, FitInAnyOrder}
-use Rattle.fare_outbox.specs.Statements.{outbox_parts}
-use Rattle.fare_outbox.specs.Tables.{outbox_schema}
-use Rattle.fare_outbox.proofs.Texts.{understood_all}
+use Rattle.fare_outbox_rows.specs.Statements.{outbox_parts}
+use Rattle.fare_outbox_rows.specs.Tables.{outbox_schema}
+use Rattle.fare_outbox_rows.proofs.Texts.{understood_all}
 
 -- what is computed of an order, and what it has to be
 abbrev pub Facts : Type 0

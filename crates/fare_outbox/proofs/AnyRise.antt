@@ -20,10 +20,10 @@ use Rattle.fare_opening.specs.Parts.{parts_of}
 use Rattle.fare_opening.proofs.Orders.{places_of}
 use Rattle.fare_outbox.specs.Opening.{Rises}
 use Rattle.fare_outbox.specs.Orders.{table_of, RiseInAnyOrder}
-use Rattle.fare_outbox.specs.Statements.{first_format, outbox_parts}
-use Rattle.fare_outbox.specs.Tables.{first_schema, outbox_schema, routed_table}
+use Rattle.fare_outbox_rows.specs.Statements.{first_format, outbox_parts}
+use Rattle.fare_outbox_rows.specs.Tables.{first_schema, outbox_schema, routed_table}
 use Rattle.fare_outbox.proofs.Own.{routed_text, routed_can}
-use Rattle.fare_outbox.proofs.Texts.{understood_all}
+use Rattle.fare_outbox_rows.proofs.Texts.{understood_all}
 use Rattle.fare_outbox.proofs.FirstTexts.{understood_first}
 use Rattle.fare_outbox.proofs.AnyOrder.{same_head, same_tail, computed, wanted, fit_at}
 

@@ -28,16 +28,16 @@ use Rattle.fare_tables.proofs.Removing.{id_shown, left_over}
 use Rattle.fare_tables.proofs.Statements.{made, went, same_value}
 use Rattle.fare_tables.proofs.Terms.{chosen, matched, eq_holds, le_holds, three_terms}
 use Rattle.fare_opening.specs.Numbers.{Meta, Device, Tap, Stated}
-use Rattle.fare_outbox.specs.declared.layout.Layout.{Layout}
-use Rattle.fare_outbox.specs.Layouts.{schema_in, tree_in, ours}
-use Rattle.fare_outbox.specs.Statements.{Routed}
-use Rattle.fare_outbox.specs.Tables.{routed_table, cut_terms, cut_query}
-use Rattle.fare_outbox.specs.Held.{AreReadable, Becomes, IsDevice, IsTap, IsStated, upto_of, tap_cells, tap_of, stated_of, held_of, is_cut, without_lane}
-use Rattle.fare_outbox.proofs.Texts.{cut_text, cut_command, cut_meant}
+use Rattle.fare_outbox_rows.specs.declared.layout.Layout.{Layout}
+use Rattle.fare_outbox_rows.specs.Layouts.{schema_in, tree_in, ours}
+use Rattle.fare_outbox_rows.specs.Statements.{Routed}
+use Rattle.fare_outbox_rows.specs.Tables.{routed_table, cut_terms, cut_query}
+use Rattle.fare_outbox_rows.specs.Held.{AreReadable, Becomes, IsDevice, IsTap, IsStated, upto_of, tap_cells, tap_of, stated_of, held_of, is_cut, without_lane}
+use Rattle.fare_outbox_rows.proofs.Texts.{cut_text, cut_command, cut_meant}
 use Rattle.fare_opening.proofs.Standing.{at_found}
-use Rattle.fare_outbox.proofs.Placed.{no_works, routed_placed, each, apart}
-use Rattle.fare_outbox.proofs.Found.{asked, at_tap}
-use Rattle.fare_outbox.proofs.Puts.{tap_ids}
+use Rattle.fare_outbox_rows.proofs.Placed.{no_works, routed_placed, each, apart}
+use Rattle.fare_outbox_rows.proofs.Found.{asked, at_tap}
+use Rattle.fare_outbox_rows.proofs.Puts.{tap_ids}
 
 abbrev goes : ℕ → ℕ → ℕ → Row → Bool
 goes o d l r = is_cut o d l (tap_of r)

@@ -5,9 +5,9 @@ use Rattle.fare_opening.specs.Numbers.{Meta, Tap}
 use Rattle.fare_layout.specs.Commands.{IsMeant}
 use Rattle.fare_layout.specs.Layouts.{AreUnderstood}
 use Rattle.fare_layout.specs.Places.{place_of}
-use Rattle.fare_outbox.specs.Statements.{first_texts}
-use Rattle.fare_outbox.specs.Tables.{first_schema}
-use Rattle.fare_outbox.proofs.Texts.{own_places, meta_asked_text, meta_at, meta_simple, put_meta_text, put_meta_at, put_meta_simple, set_meta_text, set_meta_at, set_meta_simple, first_text, first_at, first_simple}
+use Rattle.fare_outbox_rows.specs.Statements.{first_texts}
+use Rattle.fare_outbox_rows.specs.Tables.{first_schema}
+use Rattle.fare_outbox_rows.proofs.Texts.{own_places, meta_asked_text, meta_at, meta_simple, put_meta_text, put_meta_at, put_meta_simple, set_meta_text, set_meta_at, set_meta_simple, first_text, first_at, first_simple}
 
 pub meta_first : IsMeant first_schema meta_asked_text (meta_at (place_of own_places Meta))
 unfolding everything first_schema

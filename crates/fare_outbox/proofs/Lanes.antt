@@ -7,7 +7,7 @@ use Rattle.std.proofs.lemmas.List.{length_push}
 use Rattle.fare_record.specs.Values.{RecordValue, StatementValue}
 use Rattle.fare_store.specs.OutboxWords.{stored, stored_statement, IsNextRow, IsNextStatement}
 use Rattle.fare_tables.proofs.Lists.{member, of_filter, all_pushed, all_weaker}
-use Rattle.fare_outbox.specs.Held.{Held, with_tap, with_statement, is_past, IsNext, is_from, IsNextStated}
+use Rattle.fare_outbox_rows.specs.Held.{Held, with_tap, with_statement, is_past, IsNext, is_from, IsNextStated}
 use Rattle.fare_outbox.specs.Words.{tap_key, stated_key, first_at, itself, count_of, IsKnown, FitTogether, value_in, MayStore}
 use Rattle.fare_outbox.proofs.Keyed.{turned, put_at, pushed, apart_pushed, stands_at, none_below}
 

@@ -1,10 +1,5 @@
-pub mod Texts
 pub mod FirstTexts
-pub mod Placed
 pub mod Own
-pub mod Found
-pub mod Links
-pub mod Puts
 pub mod Cuts
 pub mod Keyed
 pub mod Lanes

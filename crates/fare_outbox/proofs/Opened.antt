@@ -15,8 +15,8 @@ use Rattle.fare_tables.proofs.Steps.{same_database}
 use Rattle.fare_tables.proofs.Reopened.{fit_again}
 use Rattle.fare_opening.specs.Numbers.{Device, Tap, Stated}
 use Rattle.fare_layout.proofs.Others.{all_kept}
-use Rattle.fare_outbox.specs.declared.layout.Layout.{Layout}
-use Rattle.fare_outbox.specs.Layouts.{schema_in, ours}
+use Rattle.fare_outbox_rows.specs.declared.layout.Layout.{Layout}
+use Rattle.fare_outbox_rows.specs.Layouts.{schema_in, ours}
 use Rattle.fare_layout.specs.Growing.{HasNone}
 use Rattle.fare_opening.specs.declared.site.Site.{Site}
 use Rattle.fare_opening.specs.Making as store
@@ -26,12 +26,12 @@ use Rattle.fare_opening.specs.Opening.{StandsAt, MayMake, WasMade, IsPlaced, Ope
 use Rattle.fare_opening.specs.Raising as raising
 use Rattle.fare_opening.specs.Raising.{WasRaised}
 use Rattle.fare_opening.proofs.Vacant as vacant
-use Rattle.fare_outbox.specs.Statements.{Routed, first_format, later_tables, tables, outbox_parts}
-use Rattle.fare_outbox.proofs.Placed.{same_trees, within}
+use Rattle.fare_outbox_rows.specs.Statements.{Routed, first_format, later_tables, tables, outbox_parts}
+use Rattle.fare_outbox_rows.proofs.Placed.{same_trees, within}
 use Rattle.fare_outbox.proofs.Own.{outbox_design}
-use Rattle.fare_outbox.specs.Held.{AreReadable, IsReady, IsDevice, IsTap, IsStated, upto_of, tap_of, stated_of, held_of}
+use Rattle.fare_outbox_rows.specs.Held.{AreReadable, IsReady, IsDevice, IsTap, IsStated, upto_of, tap_of, stated_of, held_of}
 use Rattle.fare_outbox.specs.First.{value_first, IsLawfulFirst}
-use Rattle.fare_outbox.specs.Making.{site_of}
+use Rattle.fare_outbox_rows.specs.Making.{site_of}
 use Rattle.fare_outbox.proofs.Rising.{not_first, first_taken, moved_first, moved_value, raised_rows, raised_value, keeps_all_but, is_first, left_raised}
 use Rattle.fare_outbox.specs.Opening.{IsOutbox, IsFirstOutbox, IsVacant, IsBlankOrOurs, CanRise, IsOpened, IsCounted, IsLeftEmpty, IsLeftRaised, IsRaisedFirst, MayOpen, Settles}
 use Rattle.fare_outbox.specs.Words.{tap_key, stated_key, first_at, itself, count_of, value_at, value_in, AreApart, IsKnown, FitTogether, IsLawful, IsWell}

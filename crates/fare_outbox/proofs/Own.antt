@@ -19,9 +19,9 @@ use Rattle.fare_opening.specs.Moving.{Shape}
 use Rattle.fare_opening.specs.Numbers.{Tap}
 use Rattle.fare_opening.specs.Parts.{IsCounted, IsDesign, IsMoving, IsOlder, HasFewKeys, parts_of}
 use Rattle.fare_opening.proofs.Orders.{fit_as}
-use Rattle.fare_outbox.specs.Statements.{first_tables, tables, first_texts, texts, FitsOutbox, moving_taps, first_format, outbox_parts}
-use Rattle.fare_outbox.specs.Tables.{one_table, two_tables, three_tables, first_schema, outbox_schema, device_table, tap_table, stated_table, routed_table}
-use Rattle.fare_outbox.proofs.Texts.{own_places, meta_own, put_meta_own, set_meta_own, unused_text, unused_own, first_names, put_first_own, clear_first_own, understood_all}
+use Rattle.fare_outbox_rows.specs.Statements.{first_tables, tables, first_texts, texts, FitsOutbox, moving_taps, first_format, outbox_parts}
+use Rattle.fare_outbox_rows.specs.Tables.{one_table, two_tables, three_tables, first_schema, outbox_schema, device_table, tap_table, stated_table, routed_table}
+use Rattle.fare_outbox_rows.proofs.Texts.{own_places, meta_own, put_meta_own, set_meta_own, unused_text, unused_own, first_names, put_first_own, clear_first_own, understood_all}
 use Rattle.fare_outbox.proofs.FirstTexts.{meta_first, put_meta_first, set_meta_first, read_first, understood_first}
 
 -- TABLES

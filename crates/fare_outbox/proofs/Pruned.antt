@@ -7,7 +7,7 @@ use Rattle.fare_record.specs.Values.{RecordValue}
 use Rattle.fare_store.specs.Tables.{put2}
 use Rattle.fare_store.specs.OutboxWords.{pruned, behind, rows_upto}
 use Rattle.fare_tables.proofs.Lists.{all_in_filter, all_weaker, same_filter}
-use Rattle.fare_outbox.specs.Held.{Held, without_lane, is_cut}
+use Rattle.fare_outbox_rows.specs.Held.{Held, without_lane, is_cut}
 use Rattle.fare_outbox.specs.Words.{tap_key, stated_key, is_at, first_at, AreApart, itself, count_of, IsKnown, FitTogether, value_in}
 use Rattle.fare_outbox.proofs.Keyed.{apart_filter}
 

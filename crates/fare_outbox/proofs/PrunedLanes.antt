@@ -5,9 +5,9 @@ use Rattle.sqlite.specs.State.{State}
 use Rattle.sqlite.specs.Tree.{Trees}
 use Rattle.fare_store.specs.OutboxWords.{pruned_all}
 use Rattle.fare_tables.specs.Tabled.{IsFit, IsLeft}
-use Rattle.fare_outbox.specs.declared.layout.Layout.{Layout}
-use Rattle.fare_outbox.specs.Layouts.{schema_in, ours}
-use Rattle.fare_outbox.specs.Held.{Held, Becomes, MayBecome, held_of, is_cut, without_lane, without_lanes}
+use Rattle.fare_outbox_rows.specs.declared.layout.Layout.{Layout}
+use Rattle.fare_outbox_rows.specs.Layouts.{schema_in, ours}
+use Rattle.fare_outbox_rows.specs.Held.{Held, Becomes, MayBecome, held_of, is_cut, without_lane, without_lanes}
 use Rattle.fare_outbox.specs.Words.{FitTogether, IsLawful, IsWell, value_at, value_in}
 use Rattle.fare_outbox.proofs.Pruned.{left_count, prune_fits}
 use Rattle.fare_outbox.proofs.Stored.{left_held, becomes_left, becomes_well, cut_value}

@@ -28,17 +28,17 @@ use Rattle.fare_opening.specs.Sites.{IsSite, tree_at, rows_at}
 use Rattle.fare_opening.proofs.Risen.{nth_goes}
 use Rattle.fare_opening.proofs.Standing as standing
 use Rattle.fare_opening.proofs.Vacant as vacant
-use Rattle.fare_outbox.specs.declared.layout.Layout.{Layout}
+use Rattle.fare_outbox_rows.specs.declared.layout.Layout.{Layout}
 use Rattle.fare_outbox.specs.First.{firsts, value_first, IsLawfulFirst}
-use Rattle.fare_outbox.specs.Held.{Held, AreReadable, IsDevice, IsTap, IsStated, upto_of, tap_of, stated_of, held_of}
-use Rattle.fare_outbox.specs.Layouts.{schema_in, table_at, ours}
-use Rattle.fare_outbox.specs.Making.{site_of}
+use Rattle.fare_outbox_rows.specs.Held.{Held, AreReadable, IsDevice, IsTap, IsStated, upto_of, tap_of, stated_of, held_of}
+use Rattle.fare_outbox_rows.specs.Layouts.{schema_in, table_at, ours}
+use Rattle.fare_outbox_rows.specs.Making.{site_of}
 use Rattle.fare_outbox.specs.Opening.{Rises, IsFirstOutbox, IsLeftRaised, KeepsAllButTwo}
-use Rattle.fare_outbox.specs.Statements.{Routed, first_format, later_tables, tables, outbox_parts}
-use Rattle.fare_outbox.specs.Tables.{first_schema}
+use Rattle.fare_outbox_rows.specs.Statements.{Routed, first_format, later_tables, tables, outbox_parts}
+use Rattle.fare_outbox_rows.specs.Tables.{first_schema}
 use Rattle.fare_outbox.specs.Words.{FitInFormat, FitTogether, IsLawful, value_at, value_in}
 use Rattle.fare_outbox.proofs.Own.{first_design}
-use Rattle.fare_outbox.proofs.Placed.{within, apart, routed_stands}
+use Rattle.fare_outbox_rows.proofs.Placed.{within, apart, routed_stands}
 
 -- ---- names
 

@@ -6,7 +6,7 @@ use Rattle.std.proofs.lemmas.Bool.Decides.{nat_tests}
 use Rattle.sqlite_value.specs.Order.{Row, column}
 use Rattle.fare_tables.specs.Cells.{nat_in, id_of, AreAbove, AreRows, held, counted}
 use Rattle.fare_store.specs.OutboxWords.{IsEmptyOutbox}
-use Rattle.fare_outbox.specs.Held.{Held, IsDevice, upto_of, is_seen}
+use Rattle.fare_outbox_rows.specs.Held.{Held, IsDevice, upto_of, is_seen}
 use Rattle.fare_outbox.specs.Words.{tap_key, stated_key, first_at, itself, count_of, value_in}
 
 -- no row above a rowid has it

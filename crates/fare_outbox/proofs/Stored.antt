@@ -7,9 +7,9 @@ use Rattle.sqlite.specs.Tree.{Trees}
 use Rattle.fare_record.specs.Values.{RecordValue, StatementValue}
 use Rattle.fare_store.specs.OutboxWords.{pruned}
 use Rattle.fare_tables.specs.Tabled.{IsFit, IsLeft, left_of}
-use Rattle.fare_outbox.specs.declared.layout.Layout.{Layout}
-use Rattle.fare_outbox.specs.Layouts.{schema_in, ours}
-use Rattle.fare_outbox.specs.Held.{Held, Becomes, MayBecome, IsReady, held_of, with_tap, with_statement, without_lane, is_cut}
+use Rattle.fare_outbox_rows.specs.declared.layout.Layout.{Layout}
+use Rattle.fare_outbox_rows.specs.Layouts.{schema_in, ours}
+use Rattle.fare_outbox_rows.specs.Held.{Held, Becomes, MayBecome, IsReady, held_of, with_tap, with_statement, without_lane, is_cut}
 use Rattle.fare_outbox.specs.Words.{first_at, stated_key, count_of, value_at, value_in, FitTogether, IsLawful, IsWell, MayStore}
 use Rattle.fare_outbox.proofs.Lanes.{store_fits, statement_fits}
 use Rattle.fare_outbox.proofs.Pruned.{left_count, same_without, prune_value, prune_fits}

@@ -36,15 +36,15 @@ use Rattle.fare_tables.proofs.Statements.{made, went, same_value}
 use Rattle.fare_tables.proofs.Terms.{chosen, matched, eq_holds, three_terms}
 use Rattle.fare_opening.specs.Numbers.{Meta, Device, Tap, Stated}
 use Rattle.fare_opening.proofs.Standing.{at_found}
-use Rattle.fare_outbox.specs.declared.layout.Layout.{Layout}
-use Rattle.fare_outbox.specs.Layouts.{schema_in, tree_in, ours}
-use Rattle.fare_outbox.specs.Statements.{Routed}
-use Rattle.fare_outbox.specs.Tables.{stated_table, told_terms, told_query}
-use Rattle.fare_outbox.specs.Held.{AreReadable, Becomes, IsDevice, IsTap, IsStated, upto_of, tap_of, stated_cells, stated_of, held_of, is_told, without_told}
-use Rattle.fare_outbox.proofs.Texts.{told_text, told_command, told_meant}
-use Rattle.fare_outbox.proofs.Placed.{no_works, stated_placed, each, apart}
-use Rattle.fare_outbox.proofs.Found.{asked, at_stated}
-use Rattle.fare_outbox.proofs.Puts.{stated_ids}
+use Rattle.fare_outbox_rows.specs.declared.layout.Layout.{Layout}
+use Rattle.fare_outbox_rows.specs.Layouts.{schema_in, tree_in, ours}
+use Rattle.fare_outbox_rows.specs.Statements.{Routed}
+use Rattle.fare_outbox_rows.specs.Tables.{stated_table, told_terms, told_query}
+use Rattle.fare_outbox_rows.specs.Held.{AreReadable, Becomes, IsDevice, IsTap, IsStated, upto_of, tap_of, stated_cells, stated_of, held_of, is_told, without_told}
+use Rattle.fare_outbox_rows.proofs.Texts.{told_text, told_command, told_meant}
+use Rattle.fare_outbox_rows.proofs.Placed.{no_works, stated_placed, each, apart}
+use Rattle.fare_outbox_rows.proofs.Found.{asked, at_stated}
+use Rattle.fare_outbox_rows.proofs.Puts.{stated_ids}
 
 pos_lt : (a b : ℕ) → is_lt (int_cmp (pos a) (pos b)) ≡ nat_lt a b
 pos_lt a b = grind (arith, nat_tests)

@@ -10,9 +10,9 @@ use Rattle.fare_store.specs.Tables.{put2}
 use Rattle.fare_store.specs.LedgerWords.{stated_from}
 use Rattle.fare_store.specs.OutboxWords.{without_statements, stated_before}
 use Rattle.fare_tables.specs.Tabled.{IsFit, IsLeft}
-use Rattle.fare_outbox.specs.declared.layout.Layout.{Layout}
-use Rattle.fare_outbox.specs.Layouts.{schema_in, ours}
-use Rattle.fare_outbox.specs.Held.{Held, Becomes, MayBecome, held_of, without_told, is_told}
+use Rattle.fare_outbox_rows.specs.declared.layout.Layout.{Layout}
+use Rattle.fare_outbox_rows.specs.Layouts.{schema_in, ours}
+use Rattle.fare_outbox_rows.specs.Held.{Held, Becomes, MayBecome, held_of, without_told, is_told}
 use Rattle.fare_outbox.specs.Words.{tap_key, stated_key, is_at, first_at, AreApart, itself, count_of, FitTogether, IsLawful, IsWell, value_at, value_in}
 use Rattle.fare_outbox.proofs.Keyed.{apart_filter}
 use Rattle.fare_outbox.proofs.Pruned.{two_parts}

@@ -4,7 +4,7 @@ use Rattle.std.specs.List.{AllByRecursion}
 use Rattle.fare_record.specs.Values.{RecordValue}
 use Rattle.fare_store.specs.OutboxWords.{OutboxValue, store_judged, stored}
 use Rattle.fare_store.specs.Batches.{done_all, AreAccepted, IsRefusedFirst}
-use Rattle.fare_outbox.specs.Held.{Held, with_tap}
+use Rattle.fare_outbox_rows.specs.Held.{Held, with_tap}
 use Rattle.fare_outbox.specs.Words.{tap_key, is_at}
 
 -- the link of the last of these that is of a device, or else what is known before them
@@ -48,16 +48,3 @@ pub record AreWelcome (v : OutboxValue) (rs : List RecordValue) : Type 0 where
 pub record IsWelcomePart (v : OutboxValue) (rs : List RecordValue) (n : ℕ) : Type 0 where
   pub welcome : AreWelcome v (take n rs)
   pub some : n ≡ 0 → IsRefusedFirst store_judged v rs
-
--- one of these is of a device
-abbrev pub names : ℕ → List RecordValue → Bool
-names device [] = false
-names device (r ∷ rs) = (r.device == device) || names device rs
-
--- the tables hold this too, but the greatest link of its device only where it is the last row of the device to come
-abbrev pub with_tap_if : Bool → RecordValue → Held → Held
-with_tap_if last t h = record { upto = λ device. if last && (t.device == device) then t.link else h.upto device; taps = h.taps ++ t ∷ []; statements = h.statements; meta = h.meta; unused = h.unused }
-
--- the tables hold these too
-abbrev pub with_taps : List RecordValue → Held → Held
-with_taps rs h = done_all with_tap rs h

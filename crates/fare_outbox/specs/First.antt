@@ -8,9 +8,9 @@ use Rattle.fare_opening.specs.Moving.{copies}
 use Rattle.fare_opening.specs.Numbers.{Tap}
 use Rattle.fare_opening.specs.Parts.{parts_of}
 use Rattle.fare_opening.specs.Sites.{IsSite, rows_at}
-use Rattle.fare_outbox.specs.Held.{AreReadable, held_of}
-use Rattle.fare_outbox.specs.Layouts.{table_at}
-use Rattle.fare_outbox.specs.Statements.{later_tables, first_format}
+use Rattle.fare_outbox_rows.specs.Held.{AreReadable, held_of}
+use Rattle.fare_outbox_rows.specs.Layouts.{table_at}
+use Rattle.fare_outbox_rows.specs.Statements.{later_tables, first_format}
 use Rattle.fare_outbox.specs.Words.{value_in, FitInFormat}
 
 -- the trees of its tables, numbered as in a database of an outbox alone, and its taps where the newest format has them,

@@ -1,11 +1,5 @@
-pub mod Tables
-pub mod Statements
-pub mod Layouts
-pub mod Held
-pub mod Making
 pub mod Words
 pub mod First
 pub mod Opening
-pub mod Shown
 pub mod Orders
 pub mod Batches

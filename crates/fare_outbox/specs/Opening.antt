@@ -14,13 +14,13 @@ use Rattle.fare_opening.specs.Numbers.{Meta, Tap}
 use Rattle.fare_opening.specs.Opening as store
 use Rattle.fare_opening.specs.Raising as raising
 use Rattle.fare_opening.specs.Sites.{tree_at}
-use Rattle.fare_outbox.specs.declared.layout.Layout.{Layout}
-use Rattle.fare_outbox.specs.Layouts.{ours, schema_in}
+use Rattle.fare_outbox_rows.specs.declared.layout.Layout.{Layout}
+use Rattle.fare_outbox_rows.specs.Layouts.{ours, schema_in}
 use Rattle.fare_outbox.specs.Words.{IsLawful, value_at}
 use Rattle.fare_outbox.specs.First.{IsLawfulFirst, value_first}
-use Rattle.fare_outbox.specs.Statements.{first_format, outbox_parts}
-use Rattle.fare_outbox.specs.Held.{AreReadable, IsReady, held_of}
-use Rattle.fare_outbox.specs.Making.{Makes, KeepsOthers, site_of}
+use Rattle.fare_outbox_rows.specs.Statements.{first_format, outbox_parts}
+use Rattle.fare_outbox_rows.specs.Held.{AreReadable, IsReady, held_of}
+use Rattle.fare_outbox_rows.specs.Making.{Makes, KeepsOthers, site_of}
 
 -- it has an outbox's tables, wherever they stand, with its row of meta: format 2, owner 0
 abbrev pub IsOutbox : State → Type 0

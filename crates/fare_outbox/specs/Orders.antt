@@ -7,8 +7,8 @@ use Rattle.fare_layout.specs.declared.place.Places.{Places}
 use Rattle.fare_opening.specs.declared.site.Site.{Site}
 use Rattle.fare_opening.specs.Orders.{made_of, orders}
 use Rattle.fare_outbox.specs.Opening.{Rises}
-use Rattle.fare_outbox.specs.Statements.{FitsOutbox}
-use Rattle.fare_outbox.specs.Tables.{device_table, tap_table, stated_table, routed_table}
+use Rattle.fare_outbox_rows.specs.Statements.{FitsOutbox}
+use Rattle.fare_outbox_rows.specs.Tables.{device_table, tap_table, stated_table, routed_table}
 
 abbrev pub table_of : ℕ → ℕ → Table
 table_of number tree = if number == 0 then meta_table tree else (if number == 1 then device_table tree else (if number == 2 then tap_table tree else (if number == 3 then stated_table tree else routed_table tree)))

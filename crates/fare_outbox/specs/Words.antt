@@ -11,9 +11,9 @@ use Rattle.fare_store.specs.OutboxWords.{OutboxValue}
 use Rattle.fare_tables.specs.Tabled.{tabled}
 use Rattle.fare_opening.specs.MetaRow.{IsMeta}
 use Rattle.fare_outbox.specs.declared.tables.SqlOutbox.{SqlOutbox}
-use Rattle.fare_outbox.specs.Held.{Held, AreReadable, held_of}
-use Rattle.fare_outbox.specs.declared.layout.Layout.{Layout}
-use Rattle.fare_outbox.specs.Layouts.{schema_in, ours}
+use Rattle.fare_outbox_rows.specs.Held.{Held, AreReadable, held_of}
+use Rattle.fare_outbox_rows.specs.declared.layout.Layout.{Layout}
+use Rattle.fare_outbox_rows.specs.Layouts.{schema_in, ours}
 
 -- KEYED LISTS: each member has an owner, a device and a number, which is a tap's lane number and a statement's day
 abbrev pub Key : Type 0

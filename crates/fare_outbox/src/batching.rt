@@ -11,7 +11,7 @@ ghost use Rattle.fare_outbox.specs.Words.{stands, tap_key, is_at};
 
 use crate::SqlOutbox;
 use crate::storing::MOST_ROWS;
-use crate::writing::write_rows;
+use fare_outbox_rows::write_rows;
 use fare_record::{DeviceId, Record};
 use fare_store::Fault;
 use fare_tables::note;

@@ -2,7 +2,7 @@ ghost use Rattle.std.proofs.Common.{refl, sym, ap, ◌∙◌};
 ghost use Rattle.std.proofs.Math.Logic.{∥∥₁_map};
 ghost use Rattle.sqlite.specs.Effect.{Database};
 ghost use Rattle.fare_tables.specs.Tabled.{left_now};
-ghost use Rattle.fare_outbox.specs.Layouts.{schema_in};
+ghost use Rattle.fare_outbox_rows.specs.Layouts.{schema_in};
 ghost use Rattle.fare_outbox.specs.Words.{IsLawful, IsWell, value_at, stands};
 
 use crate::SqlOutbox;

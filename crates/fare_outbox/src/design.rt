@@ -1,11 +1,11 @@
-ghost use Rattle.fare_outbox.specs.Statements.{outbox_parts};
+ghost use Rattle.fare_outbox_rows.specs.Statements.{outbox_parts};
 
-use crate::statements::{
+use fare_layout::TableNumber;
+use fare_opening::{Design, META_TEXTS, MetaTexts, Moving, Older, TAP};
+use fare_outbox_rows::statements::{
     CLEAR_FIRST, COUNT_UNUSED, FIRST_MISSING, FIRST_TABLES, FIRST_TEXTS, PUT_FIRST, READ_FIRST,
     ROUTED, TABLES, TEXTS,
 };
-use fare_layout::TableNumber;
-use fare_opening::{Design, META_TEXTS, MetaTexts, Moving, Older, TAP};
 
 // What is asked of `meta`, and written to it.
 static TEXTS_OF_META: MetaTexts = META_TEXTS;

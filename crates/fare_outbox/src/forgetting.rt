@@ -5,12 +5,13 @@ ghost use Rattle.sqlite.specs.Held.{state};
 ghost use Rattle.fare_store.specs.Standing.{Removes};
 ghost use Rattle.fare_store.specs.OutboxWords.{without_statements, stated_before};
 ghost use Rattle.fare_tables.specs.Asking.{IsLive, IsUp, SameRows, Inside};
-ghost use Rattle.fare_outbox.specs.Layouts.{schema_in, ours};
-ghost use Rattle.fare_outbox.specs.Held.{held_of, AreReadable, IsReady, Becomes, MayBecome, without_told, is_told};
+ghost use Rattle.fare_outbox_rows.specs.Layouts.{schema_in, ours};
+ghost use Rattle.fare_outbox_rows.specs.Held.{held_of, AreReadable, IsReady, Becomes, MayBecome, without_told, is_told};
 ghost use Rattle.fare_outbox.specs.Words.{stands};
 
-use crate::statements::CUT_STATED;
-use crate::{Layout, SqlOutbox};
+use crate::SqlOutbox;
+use fare_outbox_rows::Layout;
+use fare_outbox_rows::statements::CUT_STATED;
 use fare_record::{Day, DeviceId, OwnerId};
 use fare_store::Fault;
 use fare_tables::{change, fault_of, note, parameter};

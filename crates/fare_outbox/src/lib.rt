@@ -10,15 +10,11 @@ mod calls;
 mod design;
 mod forgetting;
 pub mod laws;
-mod layout;
 mod opening;
 mod pruning;
 mod reading;
-mod statements;
 mod storing;
 mod tables;
-mod writing;
 
 pub use design::OutboxDesign;
-pub use layout::Layout;
 pub use tables::SqlOutbox;

@@ -3,15 +3,14 @@ ghost use Rattle.sqlite.specs.State.{HasCleanDisk, Survives};
 ghost use Rattle.sqlite.specs.Held.{state};
 ghost use Rattle.fare_tables.specs.Asking.{IsLive, IsAtRest, SameRows};
 ghost use Rattle.fare_tables.specs.Cells.{counted};
-ghost use Rattle.fare_outbox.specs.Layouts.{schema_in, ours};
-ghost use Rattle.fare_outbox.specs.Held.{held_of, IsReady, IsNext, IsNextStated, is_seen};
-ghost use Rattle.fare_outbox.specs.Shown.{ShowsRow, ShowsStatement};
+ghost use Rattle.fare_outbox_rows.specs.Layouts.{schema_in, ours};
+ghost use Rattle.fare_outbox_rows.specs.Held.{held_of, IsReady, IsNext, IsNextStated, is_seen};
+ghost use Rattle.fare_outbox_rows.specs.Shown.{ShowsRow, ShowsStatement};
 
-use crate::Layout;
-use crate::statements::{
+use fare_outbox_rows::statements::{
     COUNT_ROWS, COUNT_SEEN, COUNT_STATEMENTS, READ_LINK, READ_NEXT, READ_STATEMENT,
 };
-use fare_opening::ask;
+use fare_outbox_rows::{Layout, ask};
 use fare_record::{DeviceId, OwnerId, Record, Statement};
 use fare_store::Fault;
 use fare_tables::{
@@ -34,7 +33,7 @@ pub(crate) fn read_link<S: Alter>(
 {
     match ask(
         conn,
-        &layout.schema,
+        layout,
         READ_LINK,
         &[parameter(u64::from(device.get()))],
     )? {
@@ -74,7 +73,7 @@ pub(crate) fn read_next<S: Alter>(
         parameter(u64::from(device.get())),
         parameter(after),
     ];
-    match ask(conn, &layout.schema, READ_NEXT, &asked)? {
+    match ask(conn, layout, READ_NEXT, &asked)? {
         Some(row) => Ok(Some(row_in(&row, owner, device)?)),
         None => Ok(None),
     }
@@ -110,7 +109,7 @@ pub(crate) fn read_statement<S: Alter>(
         parameter(u64::from(device.get())),
         parameter(from),
     ];
-    match ask(conn, &layout.schema, READ_STATEMENT, &asked)? {
+    match ask(conn, layout, READ_STATEMENT, &asked)? {
         Some(row) => Ok(Some(statement_in(&row, owner, device)?)),
         None => Ok(None),
     }
@@ -125,7 +124,7 @@ pub(crate) fn count_rows<S: Alter>(conn: &mut Connection<S>, layout: &Layout) ->
     ensures stays { HasCleanDisk (state S.Store conn.new) → OnOk result (IsTrue (state S.Store conn.new).is_open) }
     ensures mode { conn.old.in_transaction ≡ false → conn.new.in_transaction ≡ false }
 {
-    match ask(conn, &layout.schema, COUNT_ROWS, &[])? {
+    match ask(conn, layout, COUNT_ROWS, &[])? {
         Some(row) => cell_total(&row, 0),
         None => Err(Fault::Store),
     }
@@ -143,7 +142,7 @@ pub(crate) fn count_statements<S: Alter>(
     ensures stays { HasCleanDisk (state S.Store conn.new) → OnOk result (IsTrue (state S.Store conn.new).is_open) }
     ensures mode { conn.old.in_transaction ≡ false → conn.new.in_transaction ≡ false }
 {
-    match ask(conn, &layout.schema, COUNT_STATEMENTS, &[])? {
+    match ask(conn, layout, COUNT_STATEMENTS, &[])? {
         Some(row) => cell_total(&row, 0),
         None => Err(Fault::Store),
     }
@@ -158,7 +157,7 @@ pub(crate) fn count_seen<S: Alter>(conn: &mut Connection<S>, layout: &Layout) ->
     ensures stays { HasCleanDisk (state S.Store conn.new) → OnOk result (IsTrue (state S.Store conn.new).is_open) }
     ensures mode { conn.old.in_transaction ≡ false → conn.new.in_transaction ≡ false }
 {
-    match ask(conn, &layout.schema, COUNT_SEEN, &[])? {
+    match ask(conn, layout, COUNT_SEEN, &[])? {
         Some(row) => cell_number(&row, 0),
         None => Err(Fault::Store),
     }

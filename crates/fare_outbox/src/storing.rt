@@ -8,8 +8,9 @@ ghost use Rattle.fare_tables.specs.Tabled.{given};
 ghost use Rattle.fare_outbox.specs.Words.{stands, MayStore};
 
 use crate::SqlOutbox;
+use crate::pruning::write_cut;
 use crate::reading::{count_seen, read_link, read_next, read_statement};
-use crate::writing::{write_cut, write_row, write_statement};
+use fare_outbox_rows::{write_row, write_statement};
 use fare_record::{Day, DeviceId, LAST_NUMBER, OwnerId, Record, Statement};
 use fare_store::{Fault, StatedFault, StoreFault};
 use fare_tables::{note, touch};

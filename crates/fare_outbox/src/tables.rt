@@ -1,6 +1,6 @@
 ghost use Rattle.std.specs.Prelude.{◌≡◌, false};
 
-use crate::Layout;
+use fare_outbox_rows::Layout;
 use sqlite::{Alter, Connection};
 
 /// An outbox in tables, over the connection that it was opened with.

@@ -9,11 +9,11 @@ use Rattle.fare_tables.specs.Tabled.{IsLeft}
 use Rattle.fare_layout.specs.Growing.{HasNone}
 use Rattle.fare_opening.specs.declared.site.Site.{Site}
 use Rattle.fare_opening.specs.Sites.{rows_at}
-use Rattle.fare_outbox.specs.declared.layout.Layout.{Layout}
+use Rattle.fare_outbox_rows.specs.declared.layout.Layout.{Layout}
 use Rattle.fare_outbox.specs.First.{IsLawfulFirst, firsts, value_first}
-use Rattle.fare_outbox.specs.Layouts.{ours, schema_in}
-use Rattle.fare_outbox.specs.Making.{site_of}
-use Rattle.fare_outbox.specs.Statements.{later_tables, outbox_parts}
+use Rattle.fare_outbox_rows.specs.Layouts.{ours, schema_in}
+use Rattle.fare_outbox_rows.specs.Making.{site_of}
+use Rattle.fare_outbox_rows.specs.Statements.{later_tables, outbox_parts}
 use Rattle.fare_outbox.specs.Words.{FitInFormat, FitTogether, IsLawful, value_at, value_in}
 use Rattle.fare_databases.specs.Holding.{HoldsOutbox, IsVacantOf, ShowsJust}
 use Rattle.fare_databases.proofs.Staying.{none_there, same_schema}

@@ -10,13 +10,13 @@ use Rattle.fare_opening.specs.Numbers.{Meta, Device, Tap, Stated}
 use Rattle.fare_opening.specs.Parts.{parts_of}
 use Rattle.fare_opening.specs.Sites.{IsSite, rows_at}
 use Rattle.fare_opening.proofs.Standing.{place_count}
-use Rattle.fare_outbox.specs.declared.layout.Layout.{Layout}
+use Rattle.fare_outbox_rows.specs.declared.layout.Layout.{Layout}
 use Rattle.fare_outbox.specs.First.{firsts}
-use Rattle.fare_outbox.specs.Held.{AreReadable, IsDevice, IsStated, IsTap, held_of, stated_of, tap_of, upto_of}
-use Rattle.fare_outbox.specs.Layouts.{ours}
-use Rattle.fare_outbox.specs.Making.{site_of}
-use Rattle.fare_outbox.specs.Statements.{Routed, first_format, outbox_parts}
-use Rattle.fare_outbox.specs.Tables.{first_schema, outbox_schema}
+use Rattle.fare_outbox_rows.specs.Held.{AreReadable, IsDevice, IsStated, IsTap, held_of, stated_of, tap_of, upto_of}
+use Rattle.fare_outbox_rows.specs.Layouts.{ours}
+use Rattle.fare_outbox_rows.specs.Making.{site_of}
+use Rattle.fare_outbox_rows.specs.Statements.{Routed, first_format, outbox_parts}
+use Rattle.fare_outbox_rows.specs.Tables.{first_schema, outbox_schema}
 
 -- the trees that an outbox reads are the same
 pub record AreSame (x y : Trees) : Type 0 where

@@ -16,7 +16,7 @@ use Rattle.fare_layout.proofs.Again.{same_ok}
 use Rattle.fare_opening.specs.Parts.{meta_named}
 use Rattle.fare_kept.specs.Statements.{kept_parts, tables}
 use Rattle.fare_kept.specs.Tables.{scheme_table, zone_table, owner_table, operator_table, station_table, product_table, device_table}
-use Rattle.fare_outbox.specs.Statements.{later_tables}
+use Rattle.fare_outbox_rows.specs.Statements.{later_tables}
 
 -- ---- a name behind a list
 

@@ -3,7 +3,7 @@ ghost use Rattle.sqlite.specs.State.{HasCleanDisk};
 ghost use Rattle.sqlite.specs.Held.{state};
 ghost use Rattle.fare_day.specs.Clock.{HasRule};
 ghost use Rattle.fare_tables.specs.Asking.{IsLive, SameRows};
-ghost use Rattle.fare_outbox.specs.Statements.{outbox_parts};
+ghost use Rattle.fare_outbox_rows.specs.Statements.{outbox_parts};
 ghost use Rattle.fare_keeping.specs.Keeping.{IsLawful, IsRefusal, Keeps, KeepsJust, KeepsNone, MayFollow, SaysNoScheme, SaysOf};
 ghost use Rattle.fare_keeping.specs.Leaving.{HasNoRoom};
 ghost use Rattle.fare_registry.specs.Still.{HoldsStill};

@@ -1,8 +1,8 @@
 use Rattle.std.proofs.Common.{Ok}
 use Rattle.sqlite.specs.Held.{state}
 use Rattle.sqlite.specs.State.{Executes}
-use Rattle.fare_outbox.proofs.Texts.{told_text}
-use Rattle.fare_outbox.proofs.Found.{asked}
+use Rattle.fare_outbox_rows.proofs.Texts.{told_text}
+use Rattle.fare_outbox_rows.proofs.Found.{asked}
 use Rattle.fare_outbox.proofs.Told.{unsays}
 use Rattle.fare_outbox.proofs.forgetting.cut_stated.Goals as goal
 

@@ -1,5 +1,5 @@
 use Rattle.sqlite.specs.Held.{state}
-use Rattle.fare_outbox.specs.Layouts.{schema_in}
+use Rattle.fare_outbox_rows.specs.Layouts.{schema_in}
 use Rattle.fare_outbox.proofs.Opened.{asks_up, asks_again}
 use Rattle.fare_outbox.proofs.opening.counts.Goals as goal
 

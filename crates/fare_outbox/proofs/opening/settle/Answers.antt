@@ -3,8 +3,8 @@ use Rattle.sqlite.specs.Held.{state}
 use Rattle.fare_opening.specs.Opening.{IsPlaced, Opens, place_in}
 use Rattle.fare_layout.proofs.Creation.{some_is}
 use Rattle.fare_opening.proofs.Standing.{for_err}
-use Rattle.fare_outbox.specs.Making.{site_of}
-use Rattle.fare_outbox.specs.Statements.{outbox_parts}
+use Rattle.fare_outbox_rows.specs.Making.{site_of}
+use Rattle.fare_outbox_rows.specs.Statements.{outbox_parts}
 use Rattle.fare_outbox.proofs.Opened.{made_as, found_as, opened_as, left_counted, failed_as}
 use Rattle.fare_outbox.proofs.Rising.{is_older}
 use Rattle.fare_outbox.proofs.opening.settle.Goals as goal

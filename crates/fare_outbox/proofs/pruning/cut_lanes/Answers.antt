@@ -3,8 +3,8 @@ use Rattle.std.proofs.lemmas.List.{take_more}
 use Rattle.std.proofs.Math.Seq.{take-length}
 use Rattle.sqlite.specs.Held.{state}
 use Rattle.sqlite.specs.State.{HasCleanDisk}
-use Rattle.fare_outbox.specs.Layouts.{ours}
-use Rattle.fare_outbox.specs.Held.{Held, held_of, without_lane, without_lanes}
+use Rattle.fare_outbox_rows.specs.Layouts.{ours}
+use Rattle.fare_outbox_rows.specs.Held.{Held, held_of, without_lane, without_lanes}
 use Rattle.fare_outbox.proofs.PrunedLanes.{without_lanes-push, fewer_left}
 use Rattle.fare_outbox.proofs.pruning.cut_lanes.Goals as goal
 

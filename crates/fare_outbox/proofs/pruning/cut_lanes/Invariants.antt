@@ -3,8 +3,8 @@ use Rattle.std.specs.Prelude.{IsTrue, length}
 use Rattle.sqlite.specs.State.{HasCleanDisk, Survives}
 use Rattle.sqlite.specs.Held.{state}
 use Rattle.fare_tables.specs.Asking.{Inside}
-use Rattle.fare_outbox.specs.Layouts.{schema_in, ours}
-use Rattle.fare_outbox.specs.Held.{held_of, AreReadable, without_lanes}
+use Rattle.fare_outbox_rows.specs.Layouts.{schema_in, ours}
+use Rattle.fare_outbox_rows.specs.Held.{held_of, AreReadable, without_lanes}
 use Rattle.fare_outbox.proofs.Batches.{Comes}
 use Rattle.fare_outbox.proofs.pruning.cut_lanes.Given as goal
 

@@ -1,9 +1,9 @@
 use Rattle.std.proofs.Common.{[], Ok}
 use Rattle.sqlite.specs.Held.{state}
 use Rattle.sqlite.specs.State.{QueriesRow}
-use Rattle.fare_outbox.proofs.Texts.{seen_text, seen_reads}
+use Rattle.fare_outbox_rows.proofs.Texts.{seen_text, seen_reads}
 use Rattle.fare_opening.proofs.Asked.{number_is}
-use Rattle.fare_outbox.proofs.Found.{seen_counted}
+use Rattle.fare_outbox_rows.proofs.Found.{seen_counted}
 use Rattle.fare_outbox.proofs.reading.count_seen.Goals as goal
 
 pub ask-requires : goal.ask-requires

@@ -1,9 +1,9 @@
 use Rattle.std.proofs.Common.{[], Ok}
 use Rattle.sqlite.specs.Held.{state}
 use Rattle.sqlite.specs.State.{QueriesRow}
-use Rattle.fare_outbox.proofs.Texts.{statements_text, statements_reads}
+use Rattle.fare_outbox_rows.proofs.Texts.{statements_text, statements_reads}
 use Rattle.fare_opening.proofs.Asked.{total_is}
-use Rattle.fare_outbox.proofs.Found.{statements_counted}
+use Rattle.fare_outbox_rows.proofs.Found.{statements_counted}
 use Rattle.fare_outbox.proofs.reading.count_statements.Goals as goal
 
 pub ask-requires : goal.ask-requires

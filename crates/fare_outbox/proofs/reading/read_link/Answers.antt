@@ -2,9 +2,9 @@ use Rattle.std.proofs.Common.{[], ◌∷◌, Ok, sym}
 use Rattle.sqlite.specs.Held.{state}
 use Rattle.sqlite.specs.State.{QueriesRow, Shown}
 use Rattle.fare_tables.specs.Cells.{int}
-use Rattle.fare_outbox.proofs.Texts.{link_text, link_reads}
+use Rattle.fare_outbox_rows.proofs.Texts.{link_text, link_reads}
 use Rattle.fare_opening.proofs.Asked.{number_is}
-use Rattle.fare_outbox.proofs.Found.{link_row, link_none}
+use Rattle.fare_outbox_rows.proofs.Found.{link_row, link_none}
 use Rattle.fare_outbox.proofs.reading.read_link.Goals as goal
 
 pub ask-requires : goal.ask-requires

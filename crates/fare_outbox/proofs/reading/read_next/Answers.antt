@@ -1,8 +1,8 @@
 use Rattle.std.proofs.Common.{[], Ok}
 use Rattle.sqlite.specs.Held.{state}
 use Rattle.sqlite.specs.State.{QueriesRow, Shown}
-use Rattle.fare_outbox.proofs.Texts.{next_text, next_reads}
-use Rattle.fare_outbox.proofs.Found.{asked, next_row, next_none}
+use Rattle.fare_outbox_rows.proofs.Texts.{next_text, next_reads}
+use Rattle.fare_outbox_rows.proofs.Found.{asked, next_row, next_none}
 use Rattle.fare_outbox.proofs.reading.read_next.Goals as goal
 
 pub ask-requires : goal.ask-requires

@@ -1,8 +1,8 @@
 use Rattle.std.proofs.Common.{[], Ok}
 use Rattle.sqlite.specs.Held.{state}
 use Rattle.sqlite.specs.State.{QueriesRow, Shown}
-use Rattle.fare_outbox.proofs.Texts.{next_day_text, next_day_reads}
-use Rattle.fare_outbox.proofs.Found.{asked, next_day_row, next_day_none}
+use Rattle.fare_outbox_rows.proofs.Texts.{next_day_text, next_day_reads}
+use Rattle.fare_outbox_rows.proofs.Found.{asked, next_day_row, next_day_none}
 use Rattle.fare_outbox.proofs.reading.read_statement.Goals as goal
 
 pub ask-requires : goal.ask-requires

@@ -4,8 +4,8 @@ use Rattle.sqlite.specs.Held.{state}
 use Rattle.fare_store.specs.Standing.{Calls}
 use Rattle.fare_store.specs.OutboxWords.{OutboxValue}
 use Rattle.fare_tables.proofs.Steps.{read_then, read_failed, says}
-use Rattle.fare_outbox.specs.Layouts.{ours}
-use Rattle.fare_outbox.specs.Held.{held_of}
+use Rattle.fare_outbox_rows.specs.Layouts.{ours}
+use Rattle.fare_outbox_rows.specs.Held.{held_of}
 use Rattle.fare_outbox.specs.Words.{stands}
 use Rattle.fare_outbox.proofs.Seen.{empty_is}
 use Rattle.fare_outbox.proofs.calls.SqlOutboxOutbox.is_empty.Goals as goal

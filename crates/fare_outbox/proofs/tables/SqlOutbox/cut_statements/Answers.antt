@@ -3,8 +3,8 @@ use Rattle.sqlite_trees.specs.Tree.{Trees}
 use Rattle.sqlite.specs.Held.{state}
 use Rattle.fare_store.specs.OutboxWords.{without_statements, stated_before}
 use Rattle.fare_tables.proofs.Steps.{write_step, given_none, same_database, same_fit, same_at}
-use Rattle.fare_outbox.specs.Layouts.{schema_in, ours}
-use Rattle.fare_outbox.specs.Held.{MayBecome, IsReady, held_of, without_told}
+use Rattle.fare_outbox_rows.specs.Layouts.{schema_in, ours}
+use Rattle.fare_outbox_rows.specs.Held.{MayBecome, IsReady, held_of, without_told}
 use Rattle.fare_outbox.specs.Words.{stated_key, first_at, count_of, value_at, value_in, IsLawful, IsWell}
 use Rattle.fare_outbox.proofs.Stored.{ready}
 use Rattle.fare_outbox.proofs.Untold.{told_count, told_value, told_well, told_left}

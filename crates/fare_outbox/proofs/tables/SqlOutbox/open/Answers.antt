@@ -4,7 +4,7 @@ use Rattle.sqlite.specs.Held.{state}
 use Rattle.fare_tables.specs.Asking.{IsLive}
 use Rattle.fare_tables.proofs.Reopened.{fit_again}
 use Rattle.fare_outbox.specs.First.{IsLawfulFirst}
-use Rattle.fare_outbox.specs.Layouts.{schema_in}
+use Rattle.fare_outbox_rows.specs.Layouts.{schema_in}
 use Rattle.fare_outbox.specs.Words.{IsLawful}
 use Rattle.fare_outbox.specs.Opening.{IsOpened, Settles}
 use Rattle.fare_outbox.proofs.Opened.{new_fits, kept_fits, opened_again, raised_fits, raised_again, left_open, vacant_or_ours, lawful_is_ours}

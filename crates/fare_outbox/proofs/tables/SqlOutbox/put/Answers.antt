@@ -3,8 +3,8 @@ use Rattle.sqlite_trees.specs.Tree.{Trees}
 use Rattle.sqlite.specs.Held.{state}
 use Rattle.fare_store.specs.OutboxWords.{stored}
 use Rattle.fare_tables.proofs.Steps.{write_step, same_database, same_fit, same_at}
-use Rattle.fare_outbox.specs.Layouts.{schema_in, ours}
-use Rattle.fare_outbox.specs.Held.{MayBecome, IsReady, held_of, with_tap}
+use Rattle.fare_outbox_rows.specs.Layouts.{schema_in, ours}
+use Rattle.fare_outbox_rows.specs.Held.{MayBecome, IsReady, held_of, with_tap}
 use Rattle.fare_outbox.specs.Words.{value_at, value_in, IsLawful, IsWell, MayStore}
 use Rattle.fare_outbox.proofs.Stored.{ready, left_held, becomes_left, put_fits}
 use Rattle.fare_outbox.proofs.Lanes.{store_fits, store_value}

@@ -4,10 +4,11 @@ use Rattle.sqlite.specs.Held.{state}
 use Rattle.fare_store.specs.OutboxWords.{stored}
 use Rattle.fare_store.specs.Batches.{done_all}
 use Rattle.fare_tables.proofs.Steps.{write_step, same_database, same_fit, same_at}
-use Rattle.fare_outbox.specs.Layouts.{schema_in, ours}
-use Rattle.fare_outbox.specs.Held.{MayBecome, IsReady, held_of}
+use Rattle.fare_outbox_rows.specs.Layouts.{schema_in, ours}
+use Rattle.fare_outbox_rows.specs.Held.{MayBecome, IsReady, held_of}
 use Rattle.fare_outbox.specs.Words.{value_at, IsLawful, IsWell}
-use Rattle.fare_outbox.specs.Batches.{AreWelcome, with_taps}
+use Rattle.fare_outbox_rows.specs.Batches.{with_taps}
+use Rattle.fare_outbox.specs.Batches.{AreWelcome}
 use Rattle.fare_outbox.proofs.Stored.{ready}
 use Rattle.fare_outbox.proofs.Batches.{all_left, all_written, written_value}
 use Rattle.fare_outbox.proofs.tables.SqlOutbox.put_all.Goals as goal

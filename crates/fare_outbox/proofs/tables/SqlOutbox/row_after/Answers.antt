@@ -2,8 +2,8 @@ use Rattle.std.proofs.Common.{None, refl}
 use Rattle.sqlite.specs.Held.{state}
 use Rattle.fare_store.specs.OutboxWords.{IsNextRow}
 use Rattle.fare_tables.proofs.Steps.{read_step}
-use Rattle.fare_outbox.specs.Layouts.{schema_in, ours}
-use Rattle.fare_outbox.specs.Held.{held_of}
+use Rattle.fare_outbox_rows.specs.Layouts.{schema_in, ours}
+use Rattle.fare_outbox_rows.specs.Held.{held_of}
 use Rattle.fare_outbox.specs.Words.{tap_key, first_at, itself, value_at, IsLawful, IsWell}
 use Rattle.fare_outbox.proofs.Lanes.{next_answer}
 use Rattle.fare_outbox.proofs.Stored.{ready}

@@ -3,8 +3,8 @@ use Rattle.std.specs.Prelude.{IsTrue, ◌↔◌}
 use Rattle.sqlite.specs.Held.{state}
 use Rattle.fare_tables.specs.Cells.{held}
 use Rattle.fare_tables.proofs.Steps.{read_step}
-use Rattle.fare_outbox.specs.Layouts.{schema_in, ours}
-use Rattle.fare_outbox.specs.Held.{upto_of}
+use Rattle.fare_outbox_rows.specs.Layouts.{schema_in, ours}
+use Rattle.fare_outbox_rows.specs.Held.{upto_of}
 use Rattle.fare_outbox.specs.Words.{value_at, IsLawful, IsWell}
 use Rattle.fare_outbox.proofs.Seen.{seen_none}
 use Rattle.fare_outbox.proofs.Stored.{ready}

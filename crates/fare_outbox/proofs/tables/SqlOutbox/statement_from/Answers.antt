@@ -2,8 +2,8 @@ use Rattle.std.proofs.Common.{None, refl}
 use Rattle.sqlite.specs.Held.{state}
 use Rattle.fare_store.specs.OutboxWords.{IsNextStatement}
 use Rattle.fare_tables.proofs.Steps.{read_step}
-use Rattle.fare_outbox.specs.Layouts.{schema_in, ours}
-use Rattle.fare_outbox.specs.Held.{held_of, IsNextStated}
+use Rattle.fare_outbox_rows.specs.Layouts.{schema_in, ours}
+use Rattle.fare_outbox_rows.specs.Held.{held_of, IsNextStated}
 use Rattle.fare_outbox.specs.Words.{stated_key, first_at, count_of, value_at, IsLawful, IsWell}
 use Rattle.fare_outbox.proofs.Lanes.{next_day_answer}
 use Rattle.fare_outbox.proofs.Stored.{ready}
