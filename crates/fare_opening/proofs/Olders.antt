@@ -1,6 +1,6 @@
 -- A store of an older format, found and raised.
-use Rattle.std.proofs.Common.{◌≡◌, ◌≤◌, inl, inr, ℕ, List, [], ◌∷◌, length, Option, Some, None, refl, sym, ap, subst, ◌∙◌, arith}
-use Rattle.std.specs.Prelude.{slice_index_or, take, drop, ◌-◌, IfSome}
+use Rattle.std.proofs.Common.{◌≡◌, ◌<◌, ◌≤◌, inl, inr, ℕ, List, [], ◌∷◌, length, Option, Some, None, refl, sym, ap, subst, ◌∙◌, arith}
+use Rattle.std.specs.Prelude.{slice_index_or, take, drop, ◌-◌, IfSome, Result, Ok, Err, OnErr}
 use Rattle.std.proofs.Math.Seq.{take-length}
 use Rattle.std.specs.List.{AllByRecursion, AllZip}
 use Rattle.sqlite.specs.Effect.{Database}
@@ -108,6 +108,11 @@ first_told : (ts : List Older) (x : Older) (o : OlderParts) (rest : List OlderPa
 first_told [] x o rest some are = absurd are
 first_told (t ∷ ts) x o rest some are = are.0
 
+pub none_told : (ts : List Older) (os : List OlderParts) (o : OlderParts) → length ts < 1 → AllZip IsTold ts os → Has os o → ⊥
+none_told [] [] o few are has = has
+none_told [] (p ∷ os) o few are has = are
+none_told (t ∷ ts) os o few are has = absurd (omega (arith, few))
+
 module _ (d : Parts) (ts : List Older) (owner : ℕ) (old mid new : State) (some : 1 ≤ length ts) where
   abbrev behind : List Older
   behind = take (length ts - 1) (drop 1 ts)
@@ -115,6 +120,29 @@ module _ (d : Parts) (ts : List Older) (owner : ℕ) (old mid new : State) (some
   -- one of the formats, raised
   abbrev pub IsOneRaised : Database → Site → List Older → Type 0
   IsOneRaised from w all = (os : List OlderParts) → AllByRecursion (IsOlder d) os → AllZip IsTold all os → (o : OlderParts) × Has os o × Raises d o owner from new.now w × (new.now ≡ new.committed)
+
+  -- what holds of the first one
+  of_first : {P : Type 0} (x : Older) → ((o : OlderParts) → IsOlder d o → IsTold (slice_index_or ts 0 x) o → P) → (os : List OlderParts) → AllByRecursion (IsOlder d) os → AllZip IsTold ts os → P
+  of_first x it os olders are =
+      let a = are_first d ts os some olders are in
+      it a.o a.older (first_told ts x a.o a.rest some (subst (AllZip IsTold ts) a.all are))
+
+  pub first_raised : (x : Older) (w : Site) → ((o : OlderParts) → IsOlder d o → IsTold (slice_index_or ts 0 x) o → Raises d o owner old.now new.now w × (new.now ≡ new.committed)) → IsOneRaised old.now w ts
+  first_raised x w it os olders are =
+      let a = are_first d ts os some olders are in
+      let one = it a.o a.older (first_told ts x a.o a.rest some (subst (AllZip IsTold ts) a.all are)) in
+      (a.o, subst (λ all. Has all a.o) (sym a.all) (inl refl), one.0, one.1)
+
+  -- what a failure leaves
+  pub first_failed : (x : Older) → ((o : OlderParts) → IsOlder d o → IsTold (slice_index_or ts 0 x) o → SameRows old new) → (os : List OlderParts) → AllByRecursion (IsOlder d) os → AllZip IsTold ts os → SameRows old new
+  first_failed x it = of_first x it
+
+  pub later_failed : {X E : Type 0} (r : Result X E) → SameRows old mid → (mid.now ≡ mid.committed → (os : List OlderParts) → AllByRecursion (IsOlder d) os → AllZip IsTold behind os → OnErr r (SameRows mid new)) → old.now ≡ old.committed → (os : List OlderParts) → AllByRecursion (IsOlder d) os → AllZip IsTold ts os → OnErr r (SameRows old new)
+  later_failed (Ok y) same later rest os olders are = tt
+  later_failed (Err e) same later rest os olders are =
+      let a = are_first d ts os some olders are in
+      let it = later (same.0 ∙ rest ∙ sym same.1) a.rest a.olders a.are in
+      (it.0 ∙ same.0, it.1 ∙ same.1)
 
   pub later_raised : (w : Site) → SameRows old mid → IsOneRaised mid.now w behind → IsOneRaised old.now w ts
   later_raised w same later os olders are =

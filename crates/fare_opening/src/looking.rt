@@ -49,7 +49,9 @@ pub(crate) fn find_site(
     let Some(own) = grow_by(alloc, &Schema::new(alloc), tables)? else {
         return Ok(None);
     };
-    match find_places(alloc, &own, schema, texts)? {
+    let places = find_places(alloc, &own, schema, texts);
+    drop(own);
+    match places? {
         Some(places) => Ok(Some(site_at(alloc, schema, places)?)),
         None => Ok(None),
     }

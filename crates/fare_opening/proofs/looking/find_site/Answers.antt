@@ -6,8 +6,8 @@ use Rattle.fare_opening.proofs.Standing.{none_stands}
 use Rattle.fare_opening.proofs.Vacant.{own_grown}
 use Rattle.fare_opening.proofs.looking.find_site.Goals as goal
 
-pub returns-in-Some-2-clause-found : goal.returns-in-Some-2-clause-found
-returns-in-Some-2-clause-found c p design tables texts =
+pub returns-in_ok-site_at-in-Some-2-clause-found : goal.returns-in_ok-site_at-in-Some-2-clause-found
+returns-in_ok-site_at-in-Some-2-clause-found c p design tables texts =
     let grows = some_is c.in_ok-own.field-0 c.in-Some.own (GrowsBy c.new.result _) c.in-Some.is c.in_ok-own.ensures.grows in
     let own : c.in-Some.own ≡ p.own = own_grown p c.new.result c.in-Some.own design c.new.ensures (subst (λ t. GrowsBy c.new.result t c.in-Some.own) tables grows) in
     let fits = some_is c.in_ok-places.field-0 c.in-Some-2.places (Fits c.in-Some.own _ c.args.schema.now) c.in-Some-2.is c.in_ok-places.ensures.found in
@@ -16,8 +16,8 @@ returns-in-Some-2-clause-found c p design tables texts =
       sym c.in_ok-site_at-in-Some-2.ensures.schema,
     )
 
-pub returns-clause-lacks : goal.returns-clause-lacks
-returns-clause-lacks c none p design tables texts w site is =
+pub returns-in-None-clause-lacks : goal.returns-in-None-clause-lacks
+returns-in-None-clause-lacks c none p design tables texts w site is =
     let grows = some_is c.in_ok-own.field-0 c.in-Some.own (GrowsBy c.new.result _) c.in-Some.is c.in_ok-own.ensures.grows in
     let own : c.in-Some.own ≡ p.own = own_grown p c.new.result c.in-Some.own design c.new.ensures (subst (λ t. GrowsBy c.new.result t c.in-Some.own) tables grows) in
     none_stands p w c.in-Some.own c.args.schema.now _ c.in_ok-places.field-0 design site own texts is c.in_ok-places.ensures.lacks c.in-None.is
