@@ -1,8 +1,8 @@
 use crate::checking::same;
 use fare_cap::{Bill, day_bill};
 use fare_day::Zone;
-use fare_part_tests::{self as samples, FIRST, Numbers};
 use fare_record::{Day, Record};
+use fare_samples::{self as samples, FIRST, Numbers};
 use fare_scheme::{DemoSize, Draft, Scheme};
 use std::alloc::Global;
 use std::process::Abort;

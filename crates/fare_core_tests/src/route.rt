@@ -1,7 +1,7 @@
 use crate::checking::same;
-use fare_part_tests::{FIRST, Numbers, record, statement};
 use fare_record::{Day, DeviceId, Item, OwnerId, Record};
 use fare_route::{Forwarder, StartFault, UnknownDevice};
+use fare_samples::{FIRST, Numbers, record, statement};
 use fare_scheme::{DemoSize, Scheme};
 use fare_store::{FailingOutbox, Fault, Outbox, PlainOutbox, Refused};
 use std::alloc::Global;

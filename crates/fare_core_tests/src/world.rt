@@ -1,8 +1,8 @@
 use crate::checking::same;
 use fare_day::Zone;
 use fare_event::{Event, Reply};
-use fare_part_tests::{FIRST, record};
 use fare_record::{DeviceId, Moment, OwnerId, ProductId, StationId, Token};
+use fare_samples::{FIRST, record};
 use fare_scheme::{DemoSize, Draft, Scheme};
 use fare_store::{FailingOutbox, Fault, Outbox, PlainLedger, PlainOutbox};
 use fare_world::{World, WorldFault};

@@ -1,11 +1,12 @@
 //! Several taps, or several lanes, in one call, over stores in memory and in tables, and what a failure in it leaves.
 use crate::checking::same;
+use crate::disks::{Trial, reopened, tried};
 use crate::ledger_tables::{ledger as ledger_in_tables, scheme};
 use crate::outbox_tables::outbox as outbox_in_tables;
-use crate::stops::{burning, ledger_in, reopened};
+use crate::stops::ledger_in;
 use fare_outbox::SqlOutbox;
-use fare_part_tests::{FIRST, Numbers, record};
 use fare_record::{Day, DeviceId, OwnerId, Record};
+use fare_samples::{FIRST, Numbers, record};
 use fare_store::{FailingOutbox, Fault, Ledger, Outbox, PlainLedger, PlainOutbox};
 use sqlite::{Alter, Connection};
 use sqlite_trees::store::Reopen;
@@ -240,11 +241,8 @@ fn has_stored<O: Outbox>(
 // has what it answered: the first of the taps, and of the rows all that went or none.
 fn outbox_stopped<S: Alter + Reopen + Drop>(
     alloc: Global,
-    conn: Option<Connection<S>>,
+    conn: Connection<S>,
 ) -> Option<(Stage, bool)> {
-    let Some(conn) = conn else {
-        return Some((Stage::Unopened, true));
-    };
     let Ok(mut outbox) = SqlOutbox::open(alloc, conn) else {
         return Some((Stage::Unopened, true));
     };
@@ -277,11 +275,8 @@ fn has_taken<L: Ledger>(ledger: &mut L, taken: Result<usize, Fault>) -> Option<b
 // Forty taps are taken at once, and then the machine stops and comes back. Whether the ledger has what it answered.
 fn ledger_stopped<S: Alter + Reopen + Drop>(
     alloc: Global,
-    conn: Option<Connection<S>>,
+    conn: Connection<S>,
 ) -> Option<(Stage, bool)> {
-    let Some(conn) = conn else {
-        return Some((Stage::Unopened, true));
-    };
     let Some(mut ledger) = ledger_in(alloc, conn) else {
         return Some((Stage::Unopened, true));
     };
@@ -292,12 +287,41 @@ fn ledger_stopped<S: Alter + Reopen + Drop>(
     Some((reached(taken.is_ok()), kept))
 }
 
-// Over disks in memory that fail after so many calls. It alone names their kind, since a function that does is slow to
-// prove.
+// Many taps are stored at once, and many rows go at once.
+struct StoringMany;
+
+impl Trial for StoringMany {
+    type Seen = (Stage, bool);
+
+    fn run<S: Alter + Reopen + Drop>(
+        &self,
+        alloc: Global,
+        conn: Connection<S>,
+    ) -> Option<(Stage, bool)> {
+        outbox_stopped(alloc, conn)
+    }
+}
+
+// Many taps are taken at once.
+struct TakingMany;
+
+impl Trial for TakingMany {
+    type Seen = (Stage, bool);
+
+    fn run<S: Alter + Reopen + Drop>(
+        &self,
+        alloc: Global,
+        conn: Connection<S>,
+    ) -> Option<(Stage, bool)> {
+        ledger_stopped(alloc, conn)
+    }
+}
+
+// Over disks in memory that fail after so many calls.
 fn stopped_after(alloc: Global, calls: u64) -> Option<[(Stage, bool); 2]> {
     Some([
-        outbox_stopped(alloc, burning(alloc, calls))?,
-        ledger_stopped(alloc, burning(alloc, calls))?,
+        tried(alloc, calls, &StoringMany)?.unwrap_or((Stage::Unopened, true)),
+        tried(alloc, calls, &TakingMany)?.unwrap_or((Stage::Unopened, true)),
     ])
 }
 

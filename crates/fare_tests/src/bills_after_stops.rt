@@ -1,16 +1,16 @@
 //! Serving, closing and billing over databases that stop, and over the same once they are opened again: a bill is of all
 //! taps, or there is none.
 use crate::databases::asked_of;
+use crate::disks::reopened;
 use crate::hub_stops::{Over, Step, walk};
-use crate::stops::reopened;
 use fare_command::Question;
 use fare_databases::{Databases, close_hub, open_hub};
 use fare_desk::DeskFault;
 use fare_frame::Frame;
-use fare_part_tests::{FIRST, statement};
 use fare_record::{Day, OwnerId};
 use fare_run::{AskFailure, ServeFailure};
-use fare_session_tests::{Script, collected_and_served, narrow, scripts_of};
+use fare_samples::{FIRST, statement};
+use fare_scripts::{Script, collected_and_served, narrow, scripts_of};
 use sqlite::{Alter, Connection};
 use sqlite_trees::store::Reopen;
 use std::alloc::Global;

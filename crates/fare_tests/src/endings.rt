@@ -6,8 +6,8 @@ use fare_keeping::KeepFault;
 use fare_record::DeviceId;
 use fare_replay::ReplayFault;
 use fare_run::{AskFailure, AskOptions, Failure, Left, ServeFailure, ServeOptions, run};
+use fare_samples::{Closed, Lossy};
 use fare_serve::Limits;
-use fare_serve_tests::{Closed, Lossy};
 use std::alloc::Global;
 use std::io::Write;
 

@@ -1,6 +1,6 @@
 //! A ledger of the first format, byte for byte as a program made it that knew no other, and what becomes of it.
 use crate::checking::same;
-use crate::stops::{burning_over, reopened};
+use crate::disks::{Trial, reopened, tried_over};
 use fare_ledger::SqlLedger;
 use fare_lines::parse;
 use fare_record::{Day, DeviceId, OwnerId};
@@ -403,23 +403,28 @@ fn stopped<S: Alter + Reopen + Drop>(alloc: Global, conn: Connection<S>) -> Opti
 }
 
 // How an open of a database ended, if all was there.
-fn course_of<S: Alter + Reopen + Drop>(
-    alloc: Global,
-    conn: Option<Connection<S>>,
-) -> Option<Ended> {
-    let Some(conn) = conn else {
-        return Some(Ended::Unopened);
-    };
+fn course_of<S: Alter + Reopen + Drop>(alloc: Global, conn: Connection<S>) -> Option<Ended> {
     match ledger_in(alloc, conn) {
         Ok(ledger) => retired(alloc, ledger),
         Err(conn) => stopped(alloc, conn?),
     }
 }
 
-// How an open of the file ended whose disks fail after so many calls. It alone names their kind, since a function that
-// does is slow to prove.
+// The ledger is opened, and its lane of device 2 retired.
+struct Opening;
+
+impl Trial for Opening {
+    type Seen = Ended;
+
+    fn run<S: Alter + Reopen + Drop>(&self, alloc: Global, conn: Connection<S>) -> Option<Ended> {
+        course_of(alloc, conn)
+    }
+}
+
+// How an open of the file ended whose disks fail after so many calls.
 fn ended_after(alloc: Global, calls: u64) -> Option<Ended> {
-    course_of(alloc, burning_over(alloc, file(alloc)?, calls))
+    let seen = tried_over(alloc, file(alloc)?, calls, &Opening)?;
+    Some(seen.unwrap_or(Ended::Unopened))
 }
 
 #[test]

@@ -1,16 +1,16 @@
 //! Lists of sessions over stores in files that stop, and over the same stores once they are opened again.
 use crate::bills_after_stops::billed;
-use crate::stops::reopened;
+use crate::disks::{database, reopened};
 use fare_frame::Frame;
 use fare_ledger::SqlLedger;
 use fare_outbox::SqlOutbox;
 use fare_record::{DeviceId, OwnerId};
 use fare_scheme::{DemoSize, Scheme};
+use fare_scripts::{Placed, Script, Seen, collected_and_served, hub_of, scripts_of, whole};
 use fare_session::SessionFault;
-use fare_session_tests::{Placed, Script, Seen, collected_and_served, hub_of, scripts_of, whole};
 use fare_sessions::Hub;
 use fare_store::{Ledger, Outbox};
-use sqlite::{Alter, Connection, FileStore, Files, Options};
+use sqlite::{Alter, Connection, Files};
 use sqlite_disk::{Crash, Fuse, Memory};
 use sqlite_trees::store::Reopen;
 use std::alloc::Global;
@@ -257,14 +257,6 @@ fn step_of(ended: Ended) -> Option<Step> {
         (true, true) => Some(Step::Behind),
         _ => Some(Step::Stopped),
     }
-}
-
-// A database in two files, if it can be opened.
-fn database<D: Crash + Drop>(alloc: Global, files: Files<D>) -> Option<Connection<FileStore<D>>> {
-    if !files.may_be_used() {
-        return None;
-    }
-    Connection::open_files(alloc, files, Options::new(1)).ok()
 }
 
 /// What runs over the files of a walk.

@@ -1,27 +1,40 @@
 //! The tests of the public calls of the stores, in memory and in tables, with what finds a store's tables in a database, and
-//! of the upper crates: replays of whole traces, and the endings of the program; and of lists of sessions over stores that
-//! stop. A crate's own tests would prove that
-//! crate a second time, so they stand here and in the test crates below, over what is proved: values from outside (bytes
-//! of a format, worked traces, days by a clock) that show that the contracts say what was meant, and each call that takes
-//! memory succeeding. There is a small store of two formats too, for the raising of one. It promises nothing else.
+//! of the upper crates: replays of whole traces, the endings of the program, and lists of sessions over stores that stop. A
+//! crate's own tests would prove that crate a second time, so they stand here and in the test crates below, over what is
+//! proved: values from outside (bytes of a format, worked traces, days by a clock) that show that the contracts say what was
+//! meant, and each call that takes memory succeeding. What was registered and is kept beside a store has its tests here too
+//! (`kept`, `keeping`, `beside`, `failing`, `chance`). There is a small store of two formats, for the raising of one. It
+//! promises nothing else.
 #![tactic(auto)]
 
 #[cfg(test)]
 mod batches;
 #[cfg(test)]
+mod beside;
+#[cfg(test)]
 mod bills_after_stops;
+#[cfg(test)]
+mod chance;
 #[cfg(test)]
 mod checking;
 #[cfg(test)]
 mod databases;
 #[cfg(test)]
+mod disks;
+#[cfg(test)]
 mod endings;
+#[cfg(test)]
+mod failing;
 #[cfg(test)]
 mod files;
 #[cfg(test)]
 mod first_format;
 #[cfg(test)]
 mod hub_stops;
+#[cfg(test)]
+mod keeping;
+#[cfg(test)]
+mod kept;
 #[cfg(test)]
 mod kept_schemes;
 #[cfg(test)]
@@ -47,6 +60,8 @@ mod stops;
 mod stores;
 #[cfg(test)]
 mod stores_in_files;
+#[cfg(test)]
+mod texts;
 #[cfg(test)]
 mod traces;
 #[cfg(test)]

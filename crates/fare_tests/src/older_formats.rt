@@ -1,6 +1,6 @@
 //! Stores of each older format, made by the definition of its tables, and what becomes of them where they are opened.
 use crate::checking::same;
-use crate::stops::{burning, reopened};
+use crate::disks::{Trial, reopened, tried};
 use crate::stores::{Answer, Asked, Call, Said, answer_to, ask};
 use fare_ledger::{LedgerOpenFault, SqlLedger};
 use fare_outbox::SqlOutbox;
@@ -212,38 +212,54 @@ fn ledger_ended<S: Alter + Reopen + Drop>(
     }
 }
 
-// How the four ended, each in a database of its own, if these are open.
-fn four_ended<S: Alter + Reopen + Drop>(
-    alloc: Global,
-    outbox: Option<Connection<S>>,
-    first: Option<Connection<S>>,
-    second: Option<Connection<S>>,
-    third: Option<Connection<S>>,
-) -> Option<[Ended; 4]> {
-    let (Some(outbox), Some(first)) = (outbox, first) else {
-        return Some([Ended::Unmade; 4]);
-    };
-    let (Some(second), Some(third)) = (second, third) else {
-        return Some([Ended::Unmade; 4]);
-    };
-    Some([
-        outbox_ended(alloc, outbox)?,
-        ledger_ended(alloc, first, FIRST_LEDGER, (1, 2))?,
-        ledger_ended(alloc, second, SECOND_LEDGER, (2, 2))?,
-        ledger_ended(alloc, third, THIRD_LEDGER, (3, 0))?,
-    ])
+// The outbox of the first format is opened.
+struct OlderOutbox;
+
+impl Trial for OlderOutbox {
+    type Seen = Ended;
+
+    fn run<S: Alter + Reopen + Drop>(&self, alloc: Global, conn: Connection<S>) -> Option<Ended> {
+        outbox_ended(alloc, conn)
+    }
 }
 
-// The same in disks that fail after so many calls. It alone names their kind, since a function that does is slow to
-// prove.
+// A ledger of an older format is opened, which these statements make, with how many taps stand in the oldest table.
+struct OlderLedger {
+    sql: &'static str,
+    older: (i64, i64),
+}
+
+impl Trial for OlderLedger {
+    type Seen = Ended;
+
+    fn run<S: Alter + Reopen + Drop>(&self, alloc: Global, conn: Connection<S>) -> Option<Ended> {
+        ledger_ended(alloc, conn, self.sql, self.older)
+    }
+}
+
+const FIRST: OlderLedger = OlderLedger {
+    sql: FIRST_LEDGER,
+    older: (1, 2),
+};
+
+const SECOND: OlderLedger = OlderLedger {
+    sql: SECOND_LEDGER,
+    older: (2, 2),
+};
+
+const THIRD: OlderLedger = OlderLedger {
+    sql: THIRD_LEDGER,
+    older: (3, 0),
+};
+
+// How the four ended, each in a database of its own, in disks that fail after so many calls.
 fn ended_after(alloc: Global, calls: u64) -> Option<[Ended; 4]> {
-    four_ended(
-        alloc,
-        burning(alloc, calls),
-        burning(alloc, calls),
-        burning(alloc, calls),
-        burning(alloc, calls),
-    )
+    Some([
+        tried(alloc, calls, &OlderOutbox)?.unwrap_or(Ended::Unmade),
+        tried(alloc, calls, &FIRST)?.unwrap_or(Ended::Unmade),
+        tried(alloc, calls, &SECOND)?.unwrap_or(Ended::Unmade),
+        tried(alloc, calls, &THIRD)?.unwrap_or(Ended::Unmade),
+    ])
 }
 
 // The disks fail at each of their calls in turn, from the first on until all four stores are open.

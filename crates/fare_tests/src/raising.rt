@@ -1,6 +1,6 @@
 use crate::checking::same;
+use crate::disks::{Trial, reopened, tried};
 use crate::shelf::{OldShelf, Shelf};
-use crate::stops::{burning, reopened};
 use fare_opening::{Design, Opened, open_tables};
 use sqlite::{Alter, Connection, MemStore};
 use sqlite_trees::store::Reopen;
@@ -158,11 +158,14 @@ fn stopped<S: Alter + Reopen + Drop>(alloc: Global, conn: Connection<S>) -> Opti
     Some((done, seen, books))
 }
 
-// A database whose disks fail after so many calls; nothing if they fail before it is open.
-fn stopped_after(alloc: Global, calls: u64) -> Option<Option<Stopped>> {
-    match burning(alloc, calls) {
-        Some(conn) => Some(Some(stopped(alloc, conn)?)),
-        None => Some(None),
+// A store of the older format is made, and raised.
+struct Raising;
+
+impl Trial for Raising {
+    type Seen = Stopped;
+
+    fn run<S: Alter + Reopen + Drop>(&self, alloc: Global, conn: Connection<S>) -> Option<Stopped> {
+        stopped(alloc, conn)
     }
 }
 
@@ -183,7 +186,8 @@ fn a_failure_at_any_call_of_a_raising_leaves_the_old_format_or_the_new(rt: HostR
     let mut raised_halfway = false;
     let mut full = false;
     for calls in 0..1_000 {
-        let Some(stop) = stopped_after(rt.alloc(), calls).expect(&rt, "a failing store") else {
+        let stop = tried(rt.alloc(), calls, &Raising).expect(&rt, "a failing store");
+        let Some(stop) = stop else {
             continue;
         };
         same(&rt, &(calls, is_whole(stop)), &(calls, true));

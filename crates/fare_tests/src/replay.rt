@@ -4,7 +4,7 @@ use crate::worked::{
 };
 use fare_lines::{ParseFault, parse};
 use fare_replay::{ReplayFault, replay};
-use fare_serve_tests::{Bytewise, Closed, Lossy, Zeros};
+use fare_samples::{Bytewise, Closed, Lossy, Zeros};
 use std::alloc::{AllocError, Global};
 use std::process::Abort;
 

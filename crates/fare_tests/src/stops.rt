@@ -1,12 +1,12 @@
 use crate::checking::same;
+use crate::disks::{Trial, reopened, tried};
 use crate::stores::{Answer, Asked, Call, Said, answer_to, ask};
 use fare_ledger::SqlLedger;
 use fare_outbox::SqlOutbox;
 use fare_record::{Day, OwnerId};
 use fare_scheme::{DemoSize, Scheme};
 use fare_store::{Fault, Ledger, Outbox, Refused};
-use sqlite::{Alter, Connection, FileStore, Files, Options};
-use sqlite_disk::{Fuse, Memory};
+use sqlite::{Alter, Connection};
 use sqlite_trees::store::Reopen;
 use std::alloc::Global;
 
@@ -130,16 +130,6 @@ fn held_in<L: Ledger>(ledger: &mut L) -> Option<(u64, bool)> {
     Some((held, rows == left && (!gone || told == 0)))
 }
 
-// The database after the machine stopped and came back.
-pub(crate) fn reopened<S: Alter + Reopen + Drop>(
-    alloc: Global,
-    conn: Connection<S>,
-) -> Option<Connection<S>> {
-    let mut store = conn.into_store();
-    store.crash_and_reopen().ok()?;
-    Connection::over(alloc, store).ok()
-}
-
 // An outbox in a database, stopped where its disks fail.
 fn outbox_stopped<S: Alter + Reopen + Drop>(alloc: Global, conn: Connection<S>) -> Option<Stopped> {
     let Ok(mut outbox) = SqlOutbox::open(alloc, conn) else {
@@ -172,46 +162,34 @@ fn ledger_stopped<S: Alter + Reopen + Drop>(alloc: Global, conn: Connection<S>) 
     Some((done, found, whole))
 }
 
-// An outbox and a ledger, each in a database of its own, if these are open.
-fn stopped<S: Alter + Reopen + Drop>(
-    alloc: Global,
-    outbox: Option<Connection<S>>,
-    ledger: Option<Connection<S>>,
-) -> Option<[Stopped; 2]> {
-    let (Some(outbox), Some(ledger)) = (outbox, ledger) else {
-        return Some([(0, 0, true); 2]);
-    };
-    Some([
-        outbox_stopped(alloc, outbox)?,
-        ledger_stopped(alloc, ledger)?,
-    ])
-}
+// The steps of an outbox.
+struct Storing;
 
-// A database in two disks in memory that fail after so many calls, of which one holds this file, if they last until it is
-// open.
-pub(crate) fn burning_over(
-    alloc: Global,
-    file: Memory,
-    calls: u64,
-) -> Option<Connection<FileStore<Fuse<Memory>>>> {
-    let files = Files {
-        log: Fuse::new(Memory::new(alloc), calls),
-        db: Fuse::new(file, calls),
-    };
-    if !files.may_be_used() {
-        return None;
+impl Trial for Storing {
+    type Seen = Stopped;
+
+    fn run<S: Alter + Reopen + Drop>(&self, alloc: Global, conn: Connection<S>) -> Option<Stopped> {
+        outbox_stopped(alloc, conn)
     }
-    Connection::open_files(alloc, files, Options::new(1)).ok()
 }
 
-// The same with no file.
-pub(crate) fn burning(alloc: Global, calls: u64) -> Option<Connection<FileStore<Fuse<Memory>>>> {
-    burning_over(alloc, Memory::new(alloc), calls)
+// The steps of a ledger.
+struct Taking;
+
+impl Trial for Taking {
+    type Seen = Stopped;
+
+    fn run<S: Alter + Reopen + Drop>(&self, alloc: Global, conn: Connection<S>) -> Option<Stopped> {
+        ledger_stopped(alloc, conn)
+    }
 }
 
-// An outbox and a ledger in such databases. It alone names their kind, since a function that does is slow to prove.
+// An outbox and a ledger, each in a database of its own; no step if it fails before it is open.
 fn stopped_after(alloc: Global, calls: u64) -> Option<[Stopped; 2]> {
-    stopped(alloc, burning(alloc, calls), burning(alloc, calls))
+    Some([
+        tried(alloc, calls, &Storing)?.unwrap_or((0, 0, true)),
+        tried(alloc, calls, &Taking)?.unwrap_or((0, 0, true)),
+    ])
 }
 
 // The disks fail at each of their calls in turn, from the first on until all steps are acknowledged. The step at which

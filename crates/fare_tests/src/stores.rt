@@ -1,7 +1,7 @@
 use crate::checking::same;
 use fare_owner::{CloseFault, RetireFault, StatementFault, TapFault};
-use fare_part_tests::{FIRST, Numbers, record, statement};
 use fare_record::{Day, DeviceId, Moment, OwnerId, Record, Statement};
+use fare_samples::{FIRST, Numbers, record, statement};
 use fare_scheme::{DemoSize, Scheme};
 use fare_store::Refused::Because;
 use fare_store::{

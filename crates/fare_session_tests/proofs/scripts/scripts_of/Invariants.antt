@@ -1,5 +1,0 @@
-use Rattle.fare_session_tests.specs.Sources.{AreSourcesOf}
-use Rattle.fare_session_tests.proofs.scripts.scripts_of.Given as goal
-
-abbrev pub invariant-loop-place : goal.invariant-loop-place
-invariant-loop-place l = AreSourcesOf l.place l.links l.sources.items
