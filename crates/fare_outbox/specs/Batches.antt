@@ -1,10 +1,9 @@
 -- Several rows at once, each behind the ones before it.
-use Rattle.std.specs.Prelude.{◌≡◌, ℕ, ◌≤◌, nat_le, ◌==◌, ◌&&◌, ◌||◌, Bool, false, if◌then◌else◌, List, [], ◌∷◌, ◌++◌, take, Option, Some, None, Ok}
+use Rattle.std.specs.Prelude.{◌≡◌, ℕ, ◌≤◌, nat_le, ◌==◌, ◌&&◌, ◌||◌, Bool, false, if◌then◌else◌, List, [], ◌∷◌, take, Option, Some, None, Ok}
 use Rattle.std.specs.List.{AllByRecursion}
 use Rattle.fare_record.specs.Values.{RecordValue}
 use Rattle.fare_store.specs.OutboxWords.{OutboxValue, store_judged, stored}
 use Rattle.fare_store.specs.Batches.{done_all, AreAccepted, IsRefusedFirst}
-use Rattle.fare_outbox_rows.specs.Held.{Held, with_tap}
 use Rattle.fare_outbox.specs.Words.{tap_key, is_at}
 
 -- the link of the last of these that is of a device, or else what is known before them
