@@ -2,6 +2,8 @@
 use Rattle.std.specs.Prelude.{◌≡◌, ℕ, ◌+◌, List, [], length, map, reverse, slice_get, Some}
 use Rattle.fare_frame.specs.declared.frame.Frame.{Frame}
 use Rattle.fare_frame.specs.declared.frame.Frame.TheVariants.{Tapped}
+use Rattle.fare_sessions.specs.declared.session.Session.{Session}
+use Rattle.fare_sessions.specs.declared.session.Session.TheVariants.{Collect, Serve}
 use Rattle.fare_scripts.specs.declared.scripts.Script.{Script}
 
 -- the frame of a tap of a device with this link, and with the lane number that is like it
@@ -22,3 +24,8 @@ pub record IsSourceOf (device : ℕ) (links : List ℕ) (source : Script) : Type
 pub record AreSourcesOf (devices : ℕ) (links : List ℕ) (sources : List Script) : Type 0 where
   pub len : length sources ≡ devices
   pub each : (place : ℕ) (source : Script) → slice_get sources place ≡ Some source → IsSourceOf (place + 1) links source
+
+-- the sources of a session of the stations, in their order; another session has none
+abbrev pub AreSourcesIn : Session Script → List Script → Type 0
+AreSourcesIn (Collect stations) sources = sources ≡ map (λ station. station.source) stations.items
+AreSourcesIn (Serve owner) sources = ⊥

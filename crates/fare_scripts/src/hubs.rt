@@ -3,6 +3,7 @@ ghost use Rattle.std.specs.Prelude.{◌≡◌, ◌∷◌, [], None, false, slice
 ghost use Rattle.fare_agreement.specs.Totals.{had_by};
 ghost use Rattle.fare_sessions.specs.Promises.{IsAdded};
 ghost use Rattle.fare_sessions.specs.Stores.{AreLive, AreSound, held_by_all};
+ghost use Rattle.fare_scripts.specs.Sources.{AreSourcesIn};
 
 use crate::scripts::{Script, sources_of};
 use fare_collect::stations_of;
@@ -73,8 +74,10 @@ pub fn whole(stored: u64, taken: u64) -> Seen
     }
 }
 
-/// The sources of a session of the stations.
-pub fn sources_in(alloc: Global, session: Session<Script>) -> Option<Vec<Script>> {
+/// The sources of a session of the stations, in their order; none of another session.
+pub fn sources_in(alloc: Global, session: Session<Script>) -> Option<Vec<Script>>
+    ensures { IfSome result (λ sources. AreSourcesIn session sources.items) }
+{
     match session {
         Session::Collect(stations) => sources_of(alloc, stations),
         Session::Serve(_) => None,

@@ -1,5 +1,5 @@
 //! Sources of frames that are written down, and schemes for them, for the tests of sessions.
-ghost use Rattle.std.specs.Prelude.{◌≡◌, ◌≤◌, ◌+◌, ◌++◌, ◌∷◌, [], vec_len, vec_capacity, IfSome};
+ghost use Rattle.std.specs.Prelude.{◌≡◌, ◌≤◌, ◌+◌, ◌++◌, ◌∷◌, [], map, vec_len, vec_capacity, IfSome};
 ghost use Rattle.fare_day.specs.Clock.{HasRule};
 ghost use Rattle.fare_scheme.specs.Demo.{demo_rule, demo_scheme};
 ghost use Rattle.fare_scripts.specs.Sources.{tap_frame, IsSourceOf, AreSourcesOf};
@@ -136,13 +136,12 @@ pub fn scripts_of(alloc: Global, devices: u64, links: &[u64]) -> Option<Vec<Scri
 }
 
 /// The stations' sources, in their order.
-pub fn sources_of(alloc: Global, stations: Vec<Station<Script>>) -> Option<Vec<Script>> {
+pub fn sources_of(alloc: Global, stations: Vec<Station<Script>>) -> Option<Vec<Script>>
+    ensures { IfSome result (λ sources. sources.items ≡ map (λ station. station.source) stations.items) }
+{
     let mut stations = stations;
     let mut sources = Vec::new(alloc);
-    for _ in 0..16 {
-        let Some(station) = stations.pop() else {
-            break;
-        };
+    while let Some(station) = stations.pop() {
         let (_, source) = station.into_parts();
         sources.insert(0, source).ok()?;
     }
