@@ -3,13 +3,17 @@ use Rattle.std.proofs.Common.{◌≡◌, ◌∙◌, ℕ, ℤ, pos, ◌+ℤ◌, �
 use Rattle.std.specs.Option.{unwrap_or, option_map}
 use Rattle.jiff_core.specs.declared.offset.Offset.{Offset}
 use Rattle.jiff_core.specs.Timestamp.{nanos_of_seconds}
-use Rattle.jiff_tz.specs.PosixRule.{offset_at, clamp_to, dst_at_by, first_nanosecond, in_window, int_same, last_nanosecond, match_some, nanos_per_day, rule_day, rule_nanos, saturating_add, utc_window}
-use Rattle.jiff_tz.specs.PosixReader.{read_whole}
+use Rattle.jiff_tz.specs.PosixRule.{clamp_to, dst_at_by, first_nanosecond, in_window, int_same, last_nanosecond, match_some, nanos_per_day, rule_day, rule_nanos, saturating_add, utc_window}
 use Rattle.jiff_tz.specs.PosixText.{DstText, TzText, dst_view, tz_view}
 use Rattle.jiff_tz.specs.Year.{year_of_nanos}
+use Rattle.jiff_tz.specs.Zone.{offset_at}
 use Rattle.jiff_tz.specs.declared.posix.Day.{Day}
 use Rattle.jiff_tz.specs.declared.posix.Dst.{Dst}
 use Rattle.jiff_tz.specs.declared.posix.TimeZone.{TimeZone as PosixZone}
+use Rattle.jiff_tz.specs.declared.timezone.TimeZone.{TimeZone}
+use Rattle.jiff_tz.specs.declared.timezone.TimeZone.TheVariants.{UTC, Unknown, Fixed, Posix, Tzif}
+use Rattle.jiff.specs.Placed.{IsPosixZone}
+use Rattle.jiff.specs.Words.{plain_zone}
 use Rattle.fare_day.specs.Clock.{HasRule, offset_at as clock_offset}
 use Rattle.fare_day.specs.TrafficDay.{date_by_clock, day_number, traffic_day, traffic_day_in_range}
 use Rattle.fare_day.specs.declared.zone.Zone.{Zone}
@@ -54,21 +58,29 @@ abbrev pub told_at : TzText → ℤ → ℤ
 told_at told n = told_offset told.std_seconds told.dst n
 
 -- the offset of a rule is told by what it says
-told : (rule : PosixZone) (n : ℤ) → (offset_at rule n).seconds ≡ told_at (tz_view rule) n
+told : (rule : PosixZone) (n : ℤ) → offset_at (Posix rule) n ≡ told_at (tz_view rule) n
+unfolding offset_at
 told rule n = rule_told rule.std_offset rule.dst n
 
--- rules that one text reads as have one offset
-one_offset : (x y : PosixZone) (text : List ℕ) (n : ℤ) → read_whole text ≡ Some (tz_view x) → read_whole text ≡ Some (tz_view y) → (offset_at x n).seconds ≡ (offset_at y n).seconds
-one_offset x y text n first second =
+-- zones that are the rule of one text have one offset
+one_offset : (x y : TimeZone) (text : List ℕ) (n : ℤ) → IsPosixZone text x → IsPosixZone text y → offset_at x n ≡ offset_at y n
+one_offset (Posix x) (Posix y) text n first second =
     told x n
     ∙ ap (λ t. told_at t n) (ap (λ r. unwrap_or r (tz_view x)) (sym first ∙ second))
     ∙ sym (told y n)
+one_offset (Posix x) UTC text n first second = absurd second
+one_offset (Posix x) Unknown text n first second = absurd second
+one_offset (Posix x) (Fixed o) text n first second = absurd second
+one_offset (Posix x) (Tzif z) text n first second = absurd second
+one_offset UTC y text n first second = absurd first
+one_offset Unknown y text n first second = absurd first
+one_offset (Fixed o) y text n first second = absurd first
+one_offset (Tzif z) y text n first second = absurd first
 
 -- CLOCKS
 pub same_offset : (a b : Zone) (text : List ℕ) (moment : ℕ) → HasRule a text → HasRule b text → clock_offset a moment ≡ clock_offset b moment
-unfolding clock_offset
 same_offset a b text moment first second =
-    one_offset a.rule b.rule text (nanos_of_seconds (pos moment)) first second
+    one_offset (plain_zone a.rule) (plain_zone b.rule) text (nanos_of_seconds (pos moment)) first second
 
 pub same_day : (a b : Zone) (text : List ℕ) (moment : ℕ) → HasRule a text → HasRule b text → traffic_day a moment ≡ traffic_day b moment
 same_day a b text moment first second =

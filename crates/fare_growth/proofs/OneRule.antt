@@ -17,6 +17,8 @@ use Rattle.jiff_tz.specs.contracts.posix.DayTimePartialEq.TheImpl as day_time
 use Rattle.jiff_tz.specs.contracts.posix.DstPartialEq.TheImpl as dst
 use Rattle.jiff_tz.specs.contracts.posix.TimeZonePartialEq.TheImpl as rule
 use Rattle.jiff_tz.specs.declared.posix.TimeZone.{TimeZone as Rule}
+use Rattle.jiff_tz.specs.declared.timezone.TimeZone.{TimeZone}
+use Rattle.jiff_tz.specs.declared.timezone.TimeZone.TheVariants.{UTC, Unknown, Fixed, Posix, Tzif}
 use Rattle.jiff_tz.specs.declared.posix.Day.TheVariants.{JulianOne, JulianZero, WeekdayOfMonth}
 use Rattle.std.specs.Cmp.Lexicographic.{pointwise}
 use Rattle.std.specs.Option.{option_eq}
@@ -98,12 +100,24 @@ same_rule a b h =
     ap name (same_text a.std_abbrev b.std_abbrev parts.0) ∙ ap seconds (same_seconds a.std_offset b.std_offset rest.0) ∙ ap summer (same_dsts a.dst b.dst rest.1)
 
 -- ZONES
-in_zone : (a b : Zone) (text : List ℕ) → same_zone a b ≡ true → HasRule a text → HasRule b text
-in_zone a b text h is = is ∙ ap Some (same_rule a.rule b.rule h)
+-- the zone of this clock
+abbrev zone_of : TimeZone → Zone
+zone_of rule = record { rule = record { inner = rule } }
+
+in_zone : (a b : TimeZone) (text : List ℕ) → same_zone (zone_of a) (zone_of b) ≡ true → HasRule (zone_of a) text → HasRule (zone_of b) text
+in_zone (Posix p) (Posix q) text h is = is ∙ ap Some (same_rule p q h)
+in_zone (Posix p) UTC text h is = absurd (let g : false ≡ true = h in cc)
+in_zone (Posix p) Unknown text h is = absurd (let g : false ≡ true = h in cc)
+in_zone (Posix p) (Fixed o) text h is = absurd (let g : false ≡ true = h in cc)
+in_zone (Posix p) (Tzif t) text h is = absurd (let g : false ≡ true = h in cc)
+in_zone UTC b text h is = absurd is
+in_zone Unknown b text h is = absurd is
+in_zone (Fixed o) b text h is = absurd is
+in_zone (Tzif t) b text h is = absurd is
 
 pub keeps_days : (kept later : SchemeValue) → AddsTo kept later → KeepsDays kept later
 keeps_days kept later adds =
-    let goes_on : (text : List ℕ) → HasRule kept.zone text → HasRule later.zone text = λ text has. in_zone kept.zone later.zone text adds.zone has in
+    let goes_on : (text : List ℕ) → HasRule kept.zone text → HasRule later.zone text = λ text has. in_zone kept.zone.rule.inner later.zone.rule.inner text adds.zone has in
     record {
       start = adds.start;
       rule = goes_on;
