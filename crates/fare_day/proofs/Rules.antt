@@ -12,9 +12,7 @@ use Rattle.jiff_tz.specs.declared.posix.Dst.{Dst}
 use Rattle.jiff_tz.specs.declared.posix.TimeZone.{TimeZone as PosixZone}
 use Rattle.jiff_tz.specs.declared.timezone.TimeZone.{TimeZone}
 use Rattle.jiff_tz.specs.declared.timezone.TimeZone.TheVariants.{UTC, Unknown, Fixed, Posix, Tzif}
-use Rattle.jiff.specs.Placed.{IsPosixZone}
-use Rattle.jiff.specs.Words.{plain_zone}
-use Rattle.fare_day.specs.Clock.{HasRule, offset_at as clock_offset}
+use Rattle.fare_day.specs.Clock.{HasRule, IsRuleOf, offset_at as clock_offset}
 use Rattle.fare_day.specs.TrafficDay.{date_by_clock, day_number, traffic_day, traffic_day_in_range}
 use Rattle.fare_day.specs.declared.zone.Zone.{Zone}
 
@@ -63,7 +61,7 @@ unfolding offset_at
 told rule n = rule_told rule.std_offset rule.dst n
 
 -- zones that are the rule of one text have one offset
-one_offset : (x y : TimeZone) (text : List ℕ) (n : ℤ) → IsPosixZone text x → IsPosixZone text y → offset_at x n ≡ offset_at y n
+one_offset : (x y : TimeZone) (text : List ℕ) (n : ℤ) → IsRuleOf text x → IsRuleOf text y → offset_at x n ≡ offset_at y n
 one_offset (Posix x) (Posix y) text n first second =
     told x n
     ∙ ap (λ t. told_at t n) (ap (λ r. unwrap_or r (tz_view x)) (sym first ∙ second))
@@ -80,7 +78,7 @@ one_offset (Tzif z) y text n first second = absurd first
 -- CLOCKS
 pub same_offset : (a b : Zone) (text : List ℕ) (moment : ℕ) → HasRule a text → HasRule b text → clock_offset a moment ≡ clock_offset b moment
 same_offset a b text moment first second =
-    one_offset (plain_zone a.rule) (plain_zone b.rule) text (nanos_of_seconds (pos moment)) first second
+    one_offset a.rule b.rule text (nanos_of_seconds (pos moment)) first second
 
 pub same_day : (a b : Zone) (text : List ℕ) (moment : ℕ) → HasRule a text → HasRule b text → traffic_day a moment ≡ traffic_day b moment
 same_day a b text moment first second =

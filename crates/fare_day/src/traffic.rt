@@ -1,6 +1,6 @@
 ghost use Rattle.std.specs.Prelude.{◌≡◌, ◌↔◌, ℤ, pos, ◌-ℤ◌, Some, None, IsOk, IfOk, MatchResult};
 ghost use Rattle.std.specs.Int.{int_div_euclid};
-ghost use Rattle.jiff.specs.Words.{IsWithin};
+ghost use Rattle.jiff_core.specs.Calendar.{IsWithin};
 ghost use Rattle.fare_day.specs.Clock.{local_time};
 ghost use Rattle.fare_day.specs.TrafficDay.{date_by_clock as clock_date, traffic_day, traffic_day_in_range, IsDayNumber};
 

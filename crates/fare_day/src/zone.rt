@@ -1,15 +1,18 @@
 ghost use Rattle.std.specs.Prelude.{◌≡◌, ◌↔◌, IsOk, IfOk, IsSome};
-ghost use Rattle.jiff.specs.Words.{read_whole};
+ghost use Rattle.jiff_tz.specs.PosixReader.{read_whole};
 
 use fare_record::Moment;
-use jiff::Timestamp;
-use jiff::tz::TimeZone;
+use jiff_core::Timestamp;
+use jiff_tz::{TimeZone, posix};
 use thiserror::Error;
 
 /// A text that no rule for a zone's clock can be read from.
 #[derive(Clone, Copy, PartialEq, Eq, Debug, Error)]
 #[error("not a rule for a zone's clock")]
 pub struct BadZone;
+
+// Nanoseconds of a second.
+const SECOND: i128 = 1_000_000_000;
 
 /// The rule of a zone's clock: how far it is ahead of UTC at each moment.
 #[derive(Clone, Copy, PartialEq, Eq, Debug)]
@@ -27,8 +30,10 @@ impl Zone {
         ensures ok { IsOk result ↔ IsSome (read_whole text.now) }
         ensures rule { IfOk result (λ zone. HasRule zone text.now) }
     {
-        match TimeZone::posix(text) {
-            Ok(rule) => Ok(Zone { rule }),
+        match posix::TimeZone::parse(text.as_bytes()) {
+            Ok(rule) => Ok(Zone {
+                rule: TimeZone::Posix(rule),
+            }),
             Err(_) => Err(BadZone),
         }
     }
@@ -38,7 +43,7 @@ impl Zone {
         ensures value { result ≡ offset_at self.now moment }
         ensures within { IsOffset result }
     {
-        let instant = Timestamp::from_second(moment.get() as i64).unwrap();
-        self.rule.to_offset(instant).seconds()
+        let instant = Timestamp::from_nanosecond(moment.get() as i128 * SECOND).unwrap();
+        self.rule.to_offset(instant).seconds
     }
 }

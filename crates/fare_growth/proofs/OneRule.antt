@@ -102,7 +102,7 @@ same_rule a b h =
 -- ZONES
 -- the zone of this clock
 abbrev zone_of : TimeZone → Zone
-zone_of rule = record { rule = record { inner = rule } }
+zone_of rule = record { rule = rule }
 
 in_zone : (a b : TimeZone) (text : List ℕ) → same_zone (zone_of a) (zone_of b) ≡ true → HasRule (zone_of a) text → HasRule (zone_of b) text
 in_zone (Posix p) (Posix q) text h is = is ∙ ap Some (same_rule p q h)
@@ -117,7 +117,7 @@ in_zone (Tzif t) b text h is = absurd is
 
 pub keeps_days : (kept later : SchemeValue) → AddsTo kept later → KeepsDays kept later
 keeps_days kept later adds =
-    let goes_on : (text : List ℕ) → HasRule kept.zone text → HasRule later.zone text = λ text has. in_zone kept.zone.rule.inner later.zone.rule.inner text adds.zone has in
+    let goes_on : (text : List ℕ) → HasRule kept.zone text → HasRule later.zone text = λ text has. in_zone kept.zone.rule later.zone.rule text adds.zone has in
     record {
       start = adds.start;
       rule = goes_on;

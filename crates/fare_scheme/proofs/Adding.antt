@@ -1,10 +1,9 @@
 -- A draft stays lawful as it grows.
-use Rattle.std.proofs.Common.{◌≡◌, ℕ, ◌<◌, ◌≤◌, Bool, if◌then◌else◌, true, false, cond, ◌||◌, ◌==◌, tests, eqb-true, List, [], ◌∷◌, ◌++◌, length, nat_eq, Option, Some, None, is_some, All, Contains, refl, sym, ◌∙◌, ap, subst, arith, length-append, rules}
+use Rattle.std.proofs.Common.{◌≡◌, ℕ, ◌<◌, ◌≤◌, Bool, true, false, cond, ◌||◌, ◌==◌, tests, eqb-true, List, [], ◌∷◌, ◌++◌, length, nat_eq, Option, Some, None, is_some, All, Contains, refl, sym, ◌∙◌, subst, arith, length-append, rules}
 use Rattle.std.specs.List.{IsDistinct, list_any}
 use Rattle.std.specs.Map.{lookup, keys_of}
 use Rattle.std.proofs.lemmas.List.Elements.{All-nil, All-head, All-tail, All-push, All-weaker, Contains-append_left}
 use Rattle.indexmap.specs.IndexMap.{IndexMap, get, insert_entry, IsUnique}
-use Rattle.indexmap.specs.IndexSet.{insert_key}
 use Rattle.indexmap.proofs.CallerLemmas.{insert_entry-new, Contains-list_any}
 use Rattle.fare_record.specs.Limits.{IsOwnerId, IsOperatorId, IsStationId, IsProductId, IsDeviceId}
 use Rattle.fare_scheme.specs.declared.entry.Product.{Product}
@@ -51,10 +50,6 @@ absent_id P n (m ∷ ms) none all = by (nat_eq n m) refl (absent_id P n ms none 
 -- a new id goes last
 pub grown : {X S : Type 0} (m n : IndexMap ℕ X S) (id : ℕ) (x : X) → is_some (get nat_eq m id) ≡ false → n.entries ≡ insert_entry nat_eq m.entries id x → n.entries ≡ m.entries ++ (id, x) ∷ []
 grown m n id x free inserted = inserted ∙ insert_entry-new nat_eq m id x (none_of (get nat_eq m id) free)
-
--- the same of a set
-pub grown_keys : (old new : List ℕ) (id : ℕ) → list_any (nat_eq id) old ≡ false → new ≡ insert_key nat_eq old id → new ≡ old ++ id ∷ []
-grown_keys old new id free inserted = inserted ∙ ap (λ there. if there then old else old ++ id ∷ []) free
 
 -- the ids of the grown list differ, since those of the map do
 pub grown_distinct : {X S : Type 0} (n : IndexMap ℕ X S) (es : List (ℕ × X)) → n.entries ≡ es → IsUnique nat_eq n → IsDistinct nat_eq (keys_of es)

@@ -1,8 +1,9 @@
 -- In a scheme positions and ids undo each other, and what an entry belongs to is registered.
-use Rattle.std.proofs.Common.{◌≡◌, ℕ, ◌+◌, ◌<◌, Bool, ◌||◌, true, false, cond, eqb-true, List, [], ◌∷◌, length, nat_eq, get_or, Option, Some, None, is_some, Contains, refl, sym, ◌∙◌, ap, arith}
+use Rattle.std.proofs.Common.{◌≡◌, ℕ, ◌+◌, ◌<◌, ◌≤◌, Bor, Bool, ◌||◌, true, false, cond, eqb-true, List, [], ◌∷◌, length, nat_eq, get_or, Option, Some, None, is_some, Contains, refl, sym, ◌∙◌, ap, arith}
 use Rattle.std.specs.Prelude.{◌↔◌, slice_get, position, option_map, option_and_then, IfSome, IsSome}
-use Rattle.std.specs.List.{IsDistinct, list_any, position_from}
+use Rattle.std.specs.List.{IsDistinct, HoldsAt, list_any, position_from}
 use Rattle.std.specs.Map.{lookup, keys_of}
+use Rattle.std.specs.Option.{MatchOption, option_copied}
 use Rattle.std.proofs.lemmas.Bool.Decides.{Decides-eqb}
 use Rattle.std.proofs.lemmas.Bool.{lt-ltb}
 use Rattle.std.proofs.lemmas.List.Quantifiers.{position-Some}
@@ -11,7 +12,7 @@ use Rattle.std.proofs.lemmas.Cmp.{nat_eq_equiv}
 use Rattle.std.proofs.lemmas.Map.Entries.{All-lookup}
 use Rattle.std.proofs.lemmas.Map.Views.{list_any-from_Contains}
 use Rattle.std.proofs.lemmas.Map.Made.{is_some-lookup, AllPairs-from_IsDistinct}
-use Rattle.std.proofs.lemmas.Option.{slice_get_within, slice_get-get_or, get_or_from_slice_get, slice_get-map}
+use Rattle.std.proofs.lemmas.Option.{slice_get_past, slice_get_read, slice_get_within, slice_get-get_or, get_or_from_slice_get, slice_get-map}
 use Rattle.std.proofs.lemmas.Iterator.Adapters.{position_from-zero}
 use Rattle.fare_scheme.specs.declared.entry.Product.{Product}
 use Rattle.fare_scheme.specs.declared.entry.Placement.{Placement}
@@ -58,6 +59,11 @@ some_position p ids = ap is_some (position_from-zero p ids) ∙ some_position_fr
 pub at_answered : (ids : List ℕ) (id : ℕ) (r : Option ℕ) → r ≡ position (nat_eq id) ids → IfSome r (λ k. slice_get ids k ≡ Some id)
 at_answered ids id None is = tt
 at_answered ids id (Some k) is = id_at_position ids id k (sym is)
+
+-- what a look into a list of ids answers
+pub read_at : (ids : List ℕ) (k : ℕ) (r : Option (Bor ℕ)) → MatchOption r (length ids ≤ k) (λ x. (k < length ids) × HoldsAt (λ y. x.now ≡ y) ids k) → IfSome r (λ x. x.now ≡ get_or ids k x.now) → option_copied r ≡ slice_get ids k
+read_at ids k None past same = sym (slice_get_past ids k past)
+read_at ids k (Some x) within same = sym (slice_get_read ids (length ids) k x.now refl within.0 same)
 
 pub placed_answered : (ids : List ℕ) (k : ℕ) (r : Option ℕ) → IsDistinct nat_eq ids → r ≡ slice_get ids k → IfSome r (λ id. position (nat_eq id) ids ≡ Some k)
 placed_answered ids k None distinct is = tt

@@ -10,7 +10,7 @@ use crate::{
 };
 use fare_day::Zone;
 use fare_record::{Day, DeviceId, OperatorId, OwnerId, Pence, ProductId, StationId};
-use indexmap::{IndexMap, IndexSet};
+use indexmap::IndexMap;
 use std::alloc::Global;
 use std::marker::Model;
 
@@ -40,7 +40,7 @@ const MOST_CAPACITY: u32 = 1_024;
 /// The registrations of a scheme that isn't sealed yet, all of them accepted. What is refused leaves it as it was.
 pub struct Draft {
     owners: IndexMap<OwnerId, u32>,
-    operators: IndexSet<OperatorId>,
+    operators: Vec<OperatorId>,
     stations: IndexMap<StationId, OperatorId>,
     products: IndexMap<ProductId, Product>,
     devices: IndexMap<DeviceId, Placement>,
@@ -57,7 +57,7 @@ impl Model for Draft {
 
     ghost view = { λ d. record {
       owners = d.owners.entries;
-      operators = d.operators.keys;
+      operators = d.operators.items;
       stations = d.stations.entries;
       products = d.products.entries;
       devices = d.devices.entries;
@@ -68,7 +68,7 @@ impl Model for Draft {
 
     ghost invariant = { λ d. IsDraft (record {
       owners = d.owners.entries;
-      operators = d.operators.keys;
+      operators = d.operators.items;
       stations = d.stations.entries;
       products = d.products.entries;
       devices = d.devices.entries;
@@ -135,7 +135,7 @@ impl Draft {
     {
         Draft {
             owners: IndexMap::new(alloc),
-            operators: IndexSet::new(alloc),
+            operators: Vec::new(alloc),
             stations: IndexMap::new(alloc),
             products: IndexMap::new(alloc),
             devices: IndexMap::new(alloc),
@@ -190,7 +190,7 @@ impl Draft {
         if self.operators.len() >= MOST_OPERATORS {
             return Err(AddFault::TooMany);
         }
-        let Ok(_) = self.operators.insert(id) else {
+        let Ok(()) = self.operators.push(id) else {
             return Err(AddFault::Memory);
         };
         Ok(())

@@ -6,13 +6,13 @@ ghost use Rattle.fare_scheme.specs.Words.{owner_of, tariff_of, station_of, opera
 use crate::{Placement, Product, Tariff};
 use fare_day::Zone;
 use fare_record::{Day, DeviceId, OperatorId, OwnerId, ProductId, StationId};
-use indexmap::{IndexMap, IndexSet};
+use indexmap::IndexMap;
 use std::marker::Model;
 
 /// A sealed scheme. Its parts stand in the order in which they were registered, and positions count from 0.
 pub struct Scheme {
     pub(crate) owners: IndexMap<OwnerId, u32>,
-    pub(crate) operators: IndexSet<OperatorId>,
+    pub(crate) operators: Vec<OperatorId>,
     pub(crate) stations: IndexMap<StationId, OperatorId>,
     pub(crate) products: IndexMap<ProductId, Product>,
     pub(crate) devices: IndexMap<DeviceId, Placement>,
@@ -29,7 +29,7 @@ impl Model for Scheme {
 
     ghost view = { λ s. record {
       owners = s.owners.entries;
-      operators = s.operators.keys;
+      operators = s.operators.items;
       stations = s.stations.entries;
       products = s.products.entries;
       devices = s.devices.entries;
@@ -40,7 +40,7 @@ impl Model for Scheme {
 
     ghost invariant = { λ s. IsScheme (record {
       owners = s.owners.entries;
-      operators = s.operators.keys;
+      operators = s.operators.items;
       stations = s.stations.entries;
       products = s.products.entries;
       devices = s.devices.entries;
@@ -198,7 +198,7 @@ impl Scheme {
         ensures value { result ≡ slice_get self.now.operators position }
         ensures placed { IfSome result (λ operator. position_of_operator self.now operator ≡ Some position) }
     {
-        self.operators.get_index(position).copied()
+        self.operators.get(position).copied()
     }
 
     /// The position of an operator.
@@ -207,7 +207,9 @@ impl Scheme {
         ensures at { IfSome result (λ position. slice_get self.now.operators position ≡ Some operator) }
         ensures within { IfSome result (λ position. position < length self.now.operators) }
     {
-        self.operators.get_index_of(&operator)
+        self.operators
+            .iter()
+            .position(|registered| *registered == operator)
     }
 
     /// The number of stations.

@@ -1,12 +1,11 @@
 -- Lines that an empty draft takes, and whose seal gives a scheme, are lines from which a scheme is made.
 use Rattle.std.proofs.Common.{◌≡◌, ◌∙◌, ◌++◌, ℕ, List, [], ◌∷◌, map, Bool, true, false, Option, Some, None, inl, ap, sym, refl, subst}
 use Rattle.std.specs.Prelude.{IsSome, is_some}
-use Rattle.jiff.specs.Words.{plain_zone, read_whole}
-use Rattle.jiff.specs.Placed.{IsPosixZone}
+use Rattle.jiff_tz.specs.PosixReader.{read_whole}
 use Rattle.jiff_tz.specs.declared.timezone.TimeZone.{TimeZone}
 use Rattle.jiff_tz.specs.declared.timezone.TimeZone.TheVariants.{Posix}
 use Rattle.fare_day.specs.declared.zone.Zone.{Zone}
-use Rattle.fare_day.specs.Clock.{HasRule}
+use Rattle.fare_day.specs.Clock.{HasRule, IsRuleOf}
 use Rattle.fare_scheme.specs.declared.fault.SealFault.{SealFault}
 use Rattle.fare_scheme.specs.Values.{DraftValue, SchemeValue}
 use Rattle.fare_scheme.specs.Registering.{empty_draft}
@@ -28,12 +27,12 @@ done next changed is = ap accepted is
 enters : (draft next changed : DraftValue) (used : Bool) (why : Option Refusal) → why ≡ None → next ≡ changed → accepted next ≡ entered draft used why changed
 enters draft next changed used why none is = done next changed is ∙ ap (λ r. entered draft used r changed) (sym none)
 
-posix_reads : (tz : TimeZone) (rule : List ℕ) → IsPosixZone rule tz → IsSome (read_whole rule)
+posix_reads : (tz : TimeZone) (rule : List ℕ) → IsRuleOf rule tz → IsSome (read_whole rule)
 posix_reads (Posix tz) rule has = ap is_some has
 posix_reads tz rule has = absurd has
 
 reads : (clock : Zone) (rule : List ℕ) → HasRule clock rule → IsSome (read_whole rule)
-reads clock rule has = posix_reads (plain_zone clock.rule) rule has
+reads clock rule has = posix_reads clock.rule rule has
 
 answered : (draft next : DraftValue) (used : Bool) (l : SchemeLine) → Takes draft l next → SetsUp draft used l (Drafting next true, Done)
 answered draft next used (line.Owner owner lane) takes = enters draft next _ used _ (ap add_refusal takes.0) takes.1

@@ -1,6 +1,6 @@
 -- What the lines of a trace are answered, one after the other.
 use Rattle.std.specs.Prelude.{ℕ, ◌≡◌, ◌⊎◌, List, [], ◌∷◌, Bool, true, false, Option, Some, None, IsSome}
-use Rattle.jiff.specs.Words.{read_whole}
+use Rattle.jiff_tz.specs.PosixReader.{read_whole}
 use Rattle.fare_record.specs.Limits.{IsDay}
 use Rattle.fare_day.specs.declared.zone.Zone.{Zone}
 use Rattle.fare_day.specs.Clock.{HasRule}

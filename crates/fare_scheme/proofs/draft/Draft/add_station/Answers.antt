@@ -17,9 +17,9 @@ pub invariant_of-self-2 : goal.invariant_of-self-2
 invariant_of-self-2 c =
     let is = entries c in
     let id : IsStationId c.args.station = c.in-Some.ensures.valid.0 refl in
-    let found : list_any (nat_eq c.args.operator) c.self.inside.operators.keys ≡ true = ap (λ (d : DraftValue). list_any (nat_eq c.args.operator) d.operators) c.self.view_is ∙ sym c.in-Some-registered_operator.ensures.found in
+    let found : list_any (nat_eq c.args.operator) c.self.inside.operators.items ≡ true = ap (λ (d : DraftValue). list_any (nat_eq c.args.operator) d.operators) c.self.view_is ∙ sym c.in-Some-registered_operator.ensures.found in
     let below : length c.self.inside.stations.entries < 16 = omega (arith, c.len.ensures.len, c.if-len-ge-MOST_STATIONS.false) in
-    rw is (with_station-IsDraft (the_view c.self.inside) c.args.station c.args.operator c.self.invariant id (there c.self.inside.operators.keys c.args.operator found) below (grown_distinct c.insert.new.self _ is c.insert.ensures.unique))
+    rw is (with_station-IsDraft (the_view c.self.inside) c.args.station c.args.operator c.self.invariant id (there c.self.inside.operators.items c.args.operator found) below (grown_distinct c.insert.new.self _ is c.insert.ensures.unique))
 
 pub returns-clause-added : goal.returns-clause-added
 returns-clause-added c = rw (entries c, ← c.self.view_is)
