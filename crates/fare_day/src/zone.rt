@@ -11,8 +11,7 @@ use thiserror::Error;
 #[error("not a rule for a zone's clock")]
 pub struct BadZone;
 
-// Nanoseconds of a second.
-const SECOND: i128 = 1_000_000_000;
+const NANOSECONDS_A_SECOND: i128 = 1_000_000_000;
 
 /// The rule of a zone's clock: how far it is ahead of UTC at each moment.
 #[derive(Clone, Copy, PartialEq, Eq, Debug)]
@@ -43,7 +42,7 @@ impl Zone {
         ensures value { result ≡ offset_at self.now moment }
         ensures within { IsOffset result }
     {
-        let instant = Timestamp::from_nanosecond(moment.get() as i128 * SECOND).unwrap();
+        let instant = Timestamp::from_nanosecond(moment.get() as i128 * NANOSECONDS_A_SECOND).unwrap();
         self.rule.to_offset(instant).seconds
     }
 }
