@@ -1,4 +1,5 @@
 pub mod Closed
+pub mod Connected
 pub mod Held
 pub mod Holding
 pub mod Opened

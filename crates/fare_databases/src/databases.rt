@@ -1,6 +1,6 @@
 //! The databases of a scheme's stores, of any kind. The functions that name what a database in a file is made of only hand
 //! such values on: one that may let them go, as each early exit does, carries all of its declarations in its proof.
-ghost use Rattle.std.specs.Prelude.{◌≡◌, ◌+◌, length, IfOk};
+ghost use Rattle.std.specs.Prelude.{◌≡◌, ◌++◌, ◌∷◌, [], Ok, IfOk};
 
 use fare_store::Fault;
 use sqlite::{Alter, Connection};
@@ -21,7 +21,7 @@ impl<S: Alter + Drop> Databases<S> {
         alloc: Global,
         outbox: Result<Connection<S>, Fault>,
     ) -> Result<Databases<S>, Fault>
-        ensures { IfOk result (λ made. length made.ledgers.items ≡ 0) }
+        ensures { IfOk result (λ made. (outbox ≡ Ok made.outbox) × (made.ledgers.items ≡ [])) }
     {
         Ok(Databases {
             outbox: outbox?,
@@ -31,7 +31,7 @@ impl<S: Alter + Drop> Databases<S> {
 
     // And that of one more ledger, if it was connected.
     pub(crate) fn and(mut self, ledger: Result<Connection<S>, Fault>) -> Result<Databases<S>, Fault>
-        ensures { IfOk result (λ made. length made.ledgers.items ≡ length self.ledgers.items + 1) }
+        ensures { IfOk result (λ made. (made.outbox ≡ self.outbox) × ((c : _) × (ledger ≡ Ok c) × (made.ledgers.items ≡ self.ledgers.items ++ c ∷ []))) }
     {
         self.ledgers.push(ledger?)?;
         Ok(self)

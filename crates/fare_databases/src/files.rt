@@ -1,4 +1,6 @@
 ghost use Rattle.std.specs.Prelude.{◌≡◌, ◌<◌, length, IfOk};
+ghost use Rattle.sqlite_wal.specs.Files.{image_at};
+ghost use Rattle.fare_databases.specs.Connected.{IsConnected, AreConnected, Finds};
 
 use crate::databases::{Databases, end, take_last};
 use fare_files::make_file;
@@ -6,7 +8,8 @@ use fare_scheme::Scheme;
 use fare_store::Fault;
 use fare_tables::fault_of;
 use sqlite::Connection;
-use sqlite_std_file::File;
+use sqlite_disk::{Start, Unknown};
+use sqlite_std_file::{File, FileFrom};
 use sqlite_store::FileStore;
 use std::fs;
 use std::io::ErrorKind;
@@ -44,18 +47,28 @@ fn find(rt: &HostRuntime, path: &str) -> Result<(), Fault> {
     }
 }
 
-/// Connects to the database in the file at a path. A file that isn't there is made, or refused.
+/// Connects to the database in the file at a path. A file that isn't there is made, or refused. `S` stands for what the file
+/// and its log hold, which no code can read: what is found there is what they held, whatever that is. The program names
+/// `Unknown`.
 ///
 /// `Memory` where there was none for it, and `Store` where the file can't be made or opened, among others since another
 /// program has it open.
-pub fn connect_file(rt: &HostRuntime, path: &str, absent: Absent) -> Result<FileDatabase, Fault> {
+pub fn connect_file<S: Start>(
+    rt: &HostRuntime,
+    path: &str,
+    absent: Absent,
+    start: S,
+) -> Result<Connection<FileStore<FileFrom<S>>>, Fault>
+    ensures connected { IfOk result IsConnected }
+    ensures found { IfOk result (Finds (image_at S.Start)) }
+{
     match absent {
         Absent::Made => make(rt, path)?,
         Absent::Refused => find(rt, path)?,
     }
-    match Connection::open(rt, path) {
+    match Connection::open_from(rt, path, false, start) {
         Ok(connection) => Ok(connection),
-        Err(error) => Err(fault_of(error)),
+        Err((error, _)) => Err(fault_of(error)),
     }
 }
 
@@ -68,13 +81,14 @@ fn connect_owner(
     absent: Absent,
 ) -> Result<FileDatabase, Fault>
     requires { place < length scheme.now.owners }
+    ensures { IfOk result IsConnected }
 {
     let Some(owner) = scheme.owner_at(place) else {
         unreachable!()
     };
     let number = owner.get();
     let path = format!(in rt.alloc(); "{path}.{number}")?;
-    connect_file(rt, path.as_str(), absent)
+    connect_file(rt, path.as_str(), absent, Unknown)
 }
 
 /// Closes a database in a file, so that all its rows are in the one file that its path names. Where that fails no row is lost:
@@ -95,8 +109,9 @@ pub fn connect_files(
     absent: Absent,
 ) -> Result<FileDatabases, Fault>
     ensures owners { IfOk result (λ databases. length databases.ledgers.items ≡ length scheme.now.owners) }
+    ensures connected { IfOk result AreConnected }
 {
-    let mut databases = Databases::first(rt.alloc(), connect_file(rt, path, absent))?;
+    let mut databases = Databases::first(rt.alloc(), connect_file(rt, path, absent, Unknown))?;
     for place in 0..scheme.owner_count() {
         databases = databases.and(connect_owner(rt, scheme, place, path, absent))?;
     }

@@ -42,7 +42,8 @@ impl Zone {
         ensures value { result ≡ offset_at self.now moment }
         ensures within { IsOffset result }
     {
-        let instant = Timestamp::from_nanosecond(moment.get() as i128 * NANOSECONDS_A_SECOND).unwrap();
+        let nanoseconds = moment.get() as i128 * NANOSECONDS_A_SECOND;
+        let instant = Timestamp::from_nanosecond(nanoseconds).unwrap();
         self.rule.to_offset(instant).seconds
     }
 }

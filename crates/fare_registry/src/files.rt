@@ -7,6 +7,7 @@ use crate::running::scheme_of_run;
 use fare_databases::{Absent, close_file, connect_file};
 use fare_keeping::KeepFault;
 use fare_trace::ZonedScheme;
+use sqlite_disk::Unknown;
 use std::fs;
 
 /// The scheme that a run over the stores at a path is over, with the rule by which its clock goes, as `scheme_of_run` says of the
@@ -26,7 +27,7 @@ pub fn scheme_in_file(
     if given.is_none() && !fs::exists(rt, path).unwrap_or(true) {
         return Ok(None);
     }
-    let mut database = connect_file(rt, path, absent)?;
+    let mut database = connect_file(rt, path, absent, Unknown)?;
     let taken = scheme_of_run(rt.alloc(), &mut database, given);
     close_file(database);
     taken

@@ -6,6 +6,7 @@ use fare_databases::{Absent, close_file, connect_file};
 use fare_record::{Day, DeviceId, OwnerId};
 use fare_run::{AskFailure, ServeFailure, show_scheme};
 use fare_samples::{GREETED, STATED, TAPPED};
+use sqlite_disk::Unknown;
 use std::alloc::Global;
 use std::fs;
 use std::net::{Net, TcpListener, TcpStream};
@@ -249,7 +250,7 @@ fn what_a_later_scheme_adds_is_served_and_billed(rt: HostRuntime) {
 
 // Whether statements were done in the database of the outbox at a path.
 fn is_done(rt: &HostRuntime, path: &str, statements: &str) -> bool {
-    let Ok(mut database) = connect_file(rt, path, Absent::Refused) else {
+    let Ok(mut database) = connect_file(rt, path, Absent::Refused, Unknown) else {
         return false;
     };
     let done = database.execute_batch(statements).is_ok();

@@ -1,20 +1,11 @@
-//! The tests of the public calls of the stores, in memory and in tables, with what finds a store's tables in a database, and
-//! of the upper crates: replays of whole traces, the endings of the program, and lists of sessions over stores that stop. A
-//! crate's own tests would prove that crate a second time, so they stand here and in the test crates below, over what is
-//! proved: values from outside (bytes of a format, worked traces, days by a clock) that show that the contracts say what was
-//! meant, and each call that takes memory succeeding. What was registered and is kept beside a store has its tests here too
-//! (`kept`, `keeping`, `beside`, `failing`, `chance`). There is a small store of two formats, for the raising of one. It
-//! promises nothing else.
+//! The tests of the public calls of the uppermost crates: hubs over databases, the endings of the program, stores and kept
+//! schemes in files of this machine, and lists of sessions, and bills, over stores that stop. They stand here and in the crates
+//! of tests below, over what is proved, since a crate's own tests would prove that crate a second time. It promises nothing
+//! else.
 #![tactic(auto)]
 
 #[cfg(test)]
-mod batches;
-#[cfg(test)]
-mod beside;
-#[cfg(test)]
 mod bills_after_stops;
-#[cfg(test)]
-mod chance;
 #[cfg(test)]
 mod checking;
 #[cfg(test)]
@@ -24,51 +15,8 @@ mod disks;
 #[cfg(test)]
 mod endings;
 #[cfg(test)]
-mod failing;
-#[cfg(test)]
-mod files;
-#[cfg(test)]
-mod first_format;
-#[cfg(test)]
 mod hub_stops;
-#[cfg(test)]
-mod keeping;
-#[cfg(test)]
-mod kept;
 #[cfg(test)]
 mod kept_schemes;
 #[cfg(test)]
-mod layout;
-#[cfg(test)]
-mod ledger_tables;
-#[cfg(test)]
-mod older_formats;
-#[cfg(test)]
-mod outbox_tables;
-#[cfg(test)]
-mod raising;
-#[cfg(test)]
-mod replay;
-#[cfg(test)]
-mod replay_sql;
-#[cfg(test)]
-mod schemes;
-pub mod shelf;
-#[cfg(test)]
-mod stops;
-#[cfg(test)]
-mod stores;
-#[cfg(test)]
 mod stores_in_files;
-#[cfg(test)]
-mod texts;
-#[cfg(test)]
-mod traces;
-#[cfg(test)]
-mod traces_of_days;
-#[cfg(test)]
-mod traces_of_retired;
-#[cfg(test)]
-mod traces_of_routes;
-#[cfg(test)]
-mod worked;

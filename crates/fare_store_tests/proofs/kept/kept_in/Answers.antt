@@ -3,7 +3,7 @@ use Rattle.fare_layout.proofs.Creation.{some_is}
 use Rattle.fare_opening.specs.Opening.{place_in}
 use Rattle.fare_opening.specs.Sites.{IsSite}
 use Rattle.fare_kept.specs.Statements.{kept_parts}
-use Rattle.fare_tests.proofs.kept.kept_in.Goals as goal
+use Rattle.fare_store_tests.proofs.kept.kept_in.Goals as goal
 
 pub read_lists-requires : goal.read_lists-requires
 read_lists-requires g c = (

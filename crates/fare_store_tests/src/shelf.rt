@@ -1,4 +1,4 @@
-ghost use Rattle.fare_tests.specs.Shelves.{old_parts, new_parts};
+ghost use Rattle.fare_store_tests.specs.Shelves.{old_parts, new_parts};
 
 use fare_layout::TableNumber;
 use fare_opening::{

@@ -17,7 +17,7 @@ use Rattle.fare_layout.specs.Schemas.{IsSimpleTable}
 use Rattle.fare_opening.proofs.Standing.{few_keys}
 use Rattle.fare_opening.specs.Parts.{IsDesign, IsOlder, HasFewKeys, meta_name, meta_text, read_meta, put_meta, set_meta, reads_meta, puts_meta, sets_meta}
 use Rattle.fare_opening.proofs.Orders.{fit_as}
-use Rattle.fare_tests.specs.Shelves.{book_table, loan_table, meta_alone, old_schema, new_schema, book_text, loan_text, old_tables, new_tables, shelf_texts, old_parts, first_format, new_parts}
+use Rattle.fare_store_tests.specs.Shelves.{book_table, loan_table, meta_alone, old_schema, new_schema, book_text, loan_text, old_tables, new_tables, shelf_texts, old_parts, first_format, new_parts}
 
 -- ---- what the texts make
 

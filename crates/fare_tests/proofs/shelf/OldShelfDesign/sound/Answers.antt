@@ -1,5 +1,0 @@
-use Rattle.fare_tests.proofs.Shelved.{old_design}
-use Rattle.fare_tests.proofs.shelf.OldShelfDesign.sound.Goals as goal
-
-pub returns : goal.returns
-returns c = record { design = old_design; older = tt }
