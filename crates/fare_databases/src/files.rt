@@ -48,8 +48,8 @@ fn find(rt: &HostRuntime, path: &str) -> Result<(), Fault> {
 }
 
 /// Connects to the database in the file at a path. A file that isn't there is made, or refused. `S` stands for what the file
-/// and its log hold, which no code can read: what is found there is what they held, whatever that is. The program names
-/// `Unknown`.
+/// and its log hold as they are opened, which no code can read: the database that is found is what they held, whatever that
+/// is. The program names `Unknown`, at which that says nothing of a file that isn't empty.
 ///
 /// `Memory` where there was none for it, and `Store` where the file can't be made or opened, among others since another
 /// program has it open.

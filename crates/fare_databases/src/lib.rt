@@ -4,7 +4,8 @@
 //! what its database held: nothing where it had none of the store's tables, and what a lawful one held. A store of an
 //! older format is raised to the newest, and keeps its lists. Where a hub can't be opened its databases come back, and
 //! hold what they held; and a hub that is closed is its databases again, with all that its stores hold. A file that
-//! isn't there is made, or refused; one that holds something else is left alone.
+//! isn't there is made, or refused; one that holds something else is left alone; a connection to one is new, and shows
+//! the database that the file held.
 #![tactic(auto)]
 
 mod closing;
