@@ -1,11 +1,9 @@
 -- What a connection that was just made to a database in a file is.
 use Rattle.std.specs.List.{AllByRecursion}
 use Rattle.sqlite_disk.specs.declared.Disk.{Ghosts}
-use Rattle.sqlite_wal.specs.Recovery.{Image}
 use Rattle.sqlite_store.specs.declared.store.FileStore.{FileStore}
 use Rattle.sqlite.specs.Files.{IsOpened, file_state}
 use Rattle.sqlite.specs.Held.{Held, IsNew}
-use Rattle.sqlite.specs.Start.{FindsIn}
 use Rattle.sqlite.specs.State.{HasCleanDisk}
 use Rattle.fare_databases.specs.declared.databases.Databases.{Databases}
 
@@ -16,10 +14,6 @@ module _ {D : Type 0} {g : Ghosts D} where
     pub fresh : IsNew c
     pub opened : HasCleanDisk (file_state c) → IsOpened c
     pub guarded : HasCleanDisk (file_state c) → (file_state c).IsShielded
-
-  -- while its disk keeps what was committed, it shows the database that its files held
-  pub record Finds (image : Image) (c : Held (FileStore D g)) : Type 0 where
-    pub found : HasCleanDisk (file_state c) → FindsIn image (file_state c)
 
   -- each of these is such a connection
   pub record AreConnected (databases : Databases (FileStore D g)) : Type 0 where

@@ -1,6 +1,10 @@
-ghost use Rattle.std.specs.Prelude.{◌≡◌, ◌<◌, length, IfOk};
+ghost use Rattle.std.specs.Prelude.{◌≡◌, ◌<◌, false, length, IfOk};
+ghost use Rattle.sqlite_store.specs.FileStore.{view};
 ghost use Rattle.sqlite_wal.specs.Files.{image_at};
-ghost use Rattle.fare_databases.specs.Connected.{IsConnected, AreConnected, Finds};
+ghost use Rattle.sqlite.specs.Files.{IsBlankAs, file_state};
+ghost use Rattle.sqlite.specs.Start.{FindsIn};
+ghost use Rattle.sqlite.specs.State.{HasCleanDisk};
+ghost use Rattle.fare_databases.specs.Connected.{IsConnected, AreConnected};
 
 use crate::databases::{Databases, end, take_last};
 use fare_files::make_file;
@@ -49,7 +53,8 @@ fn find(rt: &HostRuntime, path: &str) -> Result<(), Fault> {
 
 /// Connects to the database in the file at a path. A file that isn't there is made, or refused. `S` stands for what the file
 /// and its log hold as they are opened, which no code can read: the database that is found is what they held, whatever that
-/// is. The program names `Unknown`, at which that says nothing of a file that isn't empty.
+/// is, and where they held nothing its pages get no sums. The program names `Unknown`, at which that says nothing of a file
+/// that isn't empty.
 ///
 /// `Memory` where there was none for it, and `Store` where the file can't be made or opened, among others since another
 /// program has it open.
@@ -60,7 +65,8 @@ pub fn connect_file<S: Start>(
     start: S,
 ) -> Result<Connection<FileStore<FileFrom<S>>>, Fault>
     ensures connected { IfOk result IsConnected }
-    ensures found { IfOk result (Finds (image_at S.Start)) }
+    ensures found { IfOk result (λ c. HasCleanDisk (file_state c) → FindsIn (image_at S.Start) (file_state c)) }
+    ensures sums { IfOk result (λ c. HasCleanDisk (file_state c) → IsBlankAs false (image_at S.Start) → (view c.store).has_sums ≡ false) }
 {
     match absent {
         Absent::Made => make(rt, path)?,

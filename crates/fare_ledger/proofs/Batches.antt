@@ -6,7 +6,6 @@ use Rattle.std.proofs.lemmas.List.{length_push}
 use Rattle.fare_record.specs.Values.{RecordValue}
 use Rattle.fare_owner.specs.TapJudged.{tap_judged}
 use Rattle.fare_owner.specs.declared.tap.TapFault.{TapFault}
-use Rattle.fare_owner.specs.declared.tap.TapFault.TheVariants as tap
 use Rattle.fare_store.specs.declared.fault.Fault.{Fault}
 use Rattle.fare_store.specs.Standing.{Standing, Calls}
 use Rattle.fare_store.specs.LedgerWords.{LedgerValue, is_mine, is_closed, take_judged, took}

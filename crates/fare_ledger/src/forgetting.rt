@@ -9,7 +9,7 @@ use crate::Layout;
 use crate::statements::{CUT_STATED, CUT_TAPS, PUT_SINCE};
 use fare_record::{Day, DeviceId};
 use fare_store::Fault;
-use fare_tables::{change, fault_of, parameter};
+use fare_tables::{change, commit, parameter};
 use sqlite::{Alter, Connection, Transaction};
 
 // Removes a device's taps up to a lane number.
@@ -27,10 +27,8 @@ fn cut_taps<S: Alter>(
     ensures survives { Survives (state S.Store tx.old.conn.now) (state S.Store tx.new.conn.now) (λ _. ⊥) }
 {
     let asked = [parameter(u64::from(device.get())), parameter(upto)];
-    match change(tx, CUT_TAPS, &asked) {
-        Ok(_) => Ok(()),
-        Err(fault) => Err(fault),
-    }
+    change(tx, CUT_TAPS, &asked)?;
+    Ok(())
 }
 
 // Removes a device's statements of the days before this one.
@@ -50,10 +48,8 @@ fn cut_statements<S: Alter>(
         parameter(u64::from(device.get())),
         parameter(u64::from(day.get())),
     ];
-    match change(tx, CUT_STATED, &asked) {
-        Ok(_) => Ok(()),
-        Err(fault) => Err(fault),
-    }
+    change(tx, CUT_STATED, &asked)?;
+    Ok(())
 }
 
 // All of a device is held from this day on.
@@ -73,10 +69,8 @@ fn put_since<S: Alter>(
         parameter(u64::from(device.get())),
         parameter(u64::from(since.get())),
     ];
-    match change(tx, PUT_SINCE, &cells) {
-        Ok(_) => Ok(()),
-        Err(fault) => Err(fault),
-    }
+    change(tx, PUT_SINCE, &cells)?;
+    Ok(())
 }
 
 // A device's taps up to a lane number and its statements before a day go, and all of it is held from another day on.
@@ -120,8 +114,5 @@ pub(crate) fn write_cut<S: Alter>(
 {
     let mut tx = conn.transaction();
     cut_all(&mut tx, layout, device, upto, day, since)?;
-    match tx.commit() {
-        Ok(()) => Ok(()),
-        Err(error) => Err(fault_of(error)),
-    }
+    commit(tx)
 }

@@ -12,7 +12,7 @@ use crate::Layout;
 use crate::statements::{PUT_LANE, PUT_RETIRED, PUT_STATED, PUT_TAP};
 use fare_record::{DeviceId, Record, Statement};
 use fare_store::Fault;
-use fare_tables::{change, fault_of, parameter};
+use fare_tables::{change, commit, parameter};
 use sqlite::types::ValueRef;
 use sqlite::{Alter, Connection, Transaction};
 
@@ -44,10 +44,8 @@ fn put_tap<S: Alter>(
     ensures survives { Survives (state S.Store tx.old.conn.now) (state S.Store tx.new.conn.now) (λ _. ⊥) }
 {
     let cells = cells_of(row);
-    match change(tx, PUT_TAP, &cells) {
-        Ok(_) => Ok(()),
-        Err(fault) => Err(fault),
-    }
+    change(tx, PUT_TAP, &cells)?;
+    Ok(())
 }
 
 fn put_lane<S: Alter>(
@@ -70,10 +68,8 @@ fn put_lane<S: Alter>(
         parameter(taken),
         parameter(closed),
     ];
-    match change(tx, PUT_LANE, &cells) {
-        Ok(_) => Ok(()),
-        Err(fault) => Err(fault),
-    }
+    change(tx, PUT_LANE, &cells)?;
+    Ok(())
 }
 
 // The tap and its device's numbers.
@@ -112,10 +108,7 @@ pub(crate) fn write_tap<S: Alter>(
 {
     let mut tx = conn.transaction();
     put_row(&mut tx, layout, row, closed)?;
-    match tx.commit() {
-        Ok(()) => Ok(()),
-        Err(error) => Err(fault_of(error)),
-    }
+    commit(tx)
 }
 
 // The tap, and its device's numbers where the next tap is not of the device too.
@@ -191,10 +184,7 @@ pub(crate) fn write_taps<S: Alter>(
 {
     let mut tx = conn.transaction();
     put_rows(&mut tx, layout, rows, closed)?;
-    match tx.commit() {
-        Ok(()) => Ok(()),
-        Err(error) => Err(fault_of(error)),
-    }
+    commit(tx)
 }
 
 fn cells_stated(statement: &Statement) -> [ValueRef<'static>; 3]
@@ -219,10 +209,8 @@ fn put_statement<S: Alter>(
     ensures survives { Survives (state S.Store tx.old.conn.now) (state S.Store tx.new.conn.now) (λ _. ⊥) }
 {
     let cells = cells_stated(statement);
-    match change(tx, PUT_STATED, &cells) {
-        Ok(_) => Ok(()),
-        Err(fault) => Err(fault),
-    }
+    change(tx, PUT_STATED, &cells)?;
+    Ok(())
 }
 
 // The statement, in one transaction.
@@ -241,10 +229,7 @@ pub(crate) fn write_statement<S: Alter>(
 {
     let mut tx = conn.transaction();
     put_statement(&mut tx, layout, statement)?;
-    match tx.commit() {
-        Ok(()) => Ok(()),
-        Err(error) => Err(fault_of(error)),
-    }
+    commit(tx)
 }
 
 // A device's numbers.
@@ -286,10 +271,7 @@ pub(crate) fn write_numbers<S: Alter>(
 {
     let mut tx = conn.transaction();
     put_numbers(&mut tx, layout, device, taken, closed)?;
-    match tx.commit() {
-        Ok(()) => Ok(()),
-        Err(error) => Err(fault_of(error)),
-    }
+    commit(tx)
 }
 
 fn put_retired<S: Alter>(
@@ -304,10 +286,8 @@ fn put_retired<S: Alter>(
     ensures survives { Survives (state S.Store tx.old.conn.now) (state S.Store tx.new.conn.now) (λ _. ⊥) }
 {
     let cells = [parameter(u64::from(device.get()))];
-    match change(tx, PUT_RETIRED, &cells) {
-        Ok(_) => Ok(()),
-        Err(fault) => Err(fault),
-    }
+    change(tx, PUT_RETIRED, &cells)?;
+    Ok(())
 }
 
 // That a device's lane is retired, in one transaction.
@@ -326,8 +306,5 @@ pub(crate) fn write_retired<S: Alter>(
 {
     let mut tx = conn.transaction();
     put_retired(&mut tx, layout, device)?;
-    match tx.commit() {
-        Ok(()) => Ok(()),
-        Err(error) => Err(fault_of(error)),
-    }
+    commit(tx)
 }

@@ -11,9 +11,9 @@ ghost use Rattle.fare_opening.specs.Sites.{IsSite};
 ghost use Rattle.fare_lists.specs.Lists.{told, told_list, row_at, rows_from, AreWide, AreAllWide, IsListed, IsReplaced, AreReplaced, CanReplace, ReplacedFrom};
 
 use crate::{List, ListTable};
-use fare_opening::{clear_rows, commit, put_row};
+use fare_opening::{clear_rows, put_row};
 use fare_store::Fault;
-use fare_tables::parameter;
+use fare_tables::{commit, parameter};
 use sqlite::types::ValueRef;
 use sqlite::{Alter, Connection, Transaction};
 use std::alloc::Global;

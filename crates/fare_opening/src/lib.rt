@@ -30,7 +30,6 @@ pub use beside::open_beside;
 pub use design::{Design, META_TABLE, META_TEXTS, MetaTexts, Older, PUT_META, READ_META, SET_META};
 pub use finding::find_tables;
 pub use listing::{clear_rows, put_row, read_rows};
-pub use making::commit;
 pub use moving::Moving;
 pub use numbers::{DEVICE, META, STATED, TAP};
 pub use opening::{Opened, open_tables};

@@ -47,10 +47,8 @@ pub fn put_row<S: Alter>(
     ensures inside { HasCleanDisk (state S.Store tx.new.conn.now) → Inside (state S.Store tx.old.conn.now) (state S.Store tx.new.conn.now) }
     ensures survives { Survives (state S.Store tx.old.conn.now) (state S.Store tx.new.conn.now) (λ _. ⊥) }
 {
-    match change(tx, put, cells) {
-        Ok(_) => Ok(()),
-        Err(fault) => Err(fault),
-    }
+    change(tx, put, cells)?;
+    Ok(())
 }
 
 /// Removes all rows of a table.
@@ -61,8 +59,6 @@ pub fn clear_rows<S: Alter>(tx: &mut Transaction<'_, S>, clear: &str) -> Result<
     ensures inside { HasCleanDisk (state S.Store tx.new.conn.now) → Inside (state S.Store tx.old.conn.now) (state S.Store tx.new.conn.now) }
     ensures survives { Survives (state S.Store tx.old.conn.now) (state S.Store tx.new.conn.now) (λ _. ⊥) }
 {
-    match change(tx, clear, &[]) {
-        Ok(_) => Ok(()),
-        Err(fault) => Err(fault),
-    }
+    change(tx, clear, &[])?;
+    Ok(())
 }

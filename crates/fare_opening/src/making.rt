@@ -1,8 +1,6 @@
 ghost use Rattle.std.specs.Prelude.{◌≡◌, false, IsTrue, OnOk, OnErr, map};
-ghost use Rattle.sqlite.specs.State.{HasCleanDisk, Survives, Shows};
+ghost use Rattle.sqlite.specs.State.{HasCleanDisk, Survives};
 ghost use Rattle.sqlite.specs.Schema.{Schema};
-ghost use Rattle.sqlite.specs.Steps.{FailsToCommit};
-ghost use Rattle.sqlite.specs.declared.error.Error.{Error};
 ghost use Rattle.sqlite.specs.Held.{state};
 ghost use Rattle.fare_tables.specs.Asking.{IsLive, SameRows, Inside};
 ghost use Rattle.fare_layout.specs.Growing.{GrowsBy};
@@ -12,7 +10,7 @@ ghost use Rattle.fare_opening.specs.Making.{MayGrow, KeepsAllButMeta, HasGrown, 
 
 use crate::Design;
 use fare_store::Fault;
-use fare_tables::{change, fault_of, make_table, parameter};
+use fare_tables::{change, commit, make_table, parameter};
 use sqlite::{Alter, Connection, Transaction};
 
 // Tables, one after the other, after those that are there.
@@ -48,10 +46,8 @@ fn put_meta<D: Design, S: Alter>(tx: &mut Transaction<'_, S>, owner: u16) -> Res
         parameter(u64::from(D::format())),
         parameter(u64::from(owner)),
     ];
-    match change(tx, D::meta().put, &cells) {
-        Ok(_) => Ok(()),
-        Err(fault) => Err(fault),
-    }
+    change(tx, D::meta().put, &cells)?;
+    Ok(())
 }
 
 // The tables and the row of meta.
@@ -65,20 +61,6 @@ fn make_all<D: Design, S: Alter>(tx: &mut Transaction<'_, S>, owner: u16) -> Res
     D::sound();
     make_tables(tx, D::tables())?;
     put_meta::<D, S>(tx, owner)
-}
-
-/// Ends a transaction by committing it. The error is that of SQLite, told as a fault.
-pub fn commit<S: Alter>(tx: Transaction<'_, S>) -> Result<(), Fault>
-    ensures ended { tx.exit.0.now.in_transaction ≡ false }
-    ensures ok { HasCleanDisk (state S.Store tx.exit.0.now) → OnOk result (IsTrue (state S.Store tx.entry.conn.now).in_transaction
-        × Shows (state S.Store tx.entry.conn.now) (state S.Store tx.exit.0.now) (state S.Store tx.entry.conn.now).now (state S.Store tx.entry.conn.now).now false) }
-    ensures err { HasCleanDisk (state S.Store tx.exit.0.now) → OnErr result ((e : Error) × FailsToCommit (state S.Store tx.entry.conn.now) (state S.Store tx.exit.0.now) e) }
-    ensures survives { Survives (state S.Store tx.entry.conn.now) (state S.Store tx.exit.0.now) (λ db. db ≡ (state S.Store tx.entry.conn.now).now.trees) }
-{
-    match tx.commit() {
-        Ok(()) => Ok(()),
-        Err(error) => Err(fault_of(error)),
-    }
 }
 
 // A store in a database where nothing has a name of its tables, in one transaction.

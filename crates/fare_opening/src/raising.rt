@@ -8,11 +8,11 @@ ghost use Rattle.fare_opening.specs.Numbers.{Meta};
 ghost use Rattle.fare_opening.specs.Raising.{SetsMeta, IsRising, RaisesAll, RaisesFrom};
 ghost use Rattle.fare_opening.specs.Sites.{IsSite, rows_at};
 
-use crate::making::{commit, make_tables};
+use crate::making::make_tables;
 use crate::moving::move_rows;
 use crate::{Design, Older};
 use fare_store::Fault;
-use fare_tables::{change, parameter};
+use fare_tables::{change, commit, parameter};
 use sqlite::{Alter, Connection, Row, Transaction};
 use std::alloc::Global;
 
@@ -27,10 +27,8 @@ fn put_format<D: Design, S: Alter>(tx: &mut Transaction<'_, S>) -> Result<(), Fa
 {
     D::sound();
     let cells = [parameter(u64::from(D::format()))];
-    match change(tx, D::meta().set, &cells) {
-        Ok(_) => Ok(()),
-        Err(fault) => Err(fault),
-    }
+    change(tx, D::meta().set, &cells)?;
+    Ok(())
 }
 
 // The tables that an older format lacks, the rows that move, and the newest format in the row of meta.

@@ -14,7 +14,7 @@ use fare_outbox_rows::Layout;
 use fare_outbox_rows::statements::CUT_STATED;
 use fare_record::{Day, DeviceId, OwnerId};
 use fare_store::Fault;
-use fare_tables::{change, fault_of, note, parameter};
+use fare_tables::{change, commit, note, parameter};
 use sqlite::{Alter, Connection, Transaction};
 
 // Removes the statements of an owner and a device of the days before this one.
@@ -38,10 +38,7 @@ fn cut_stated<S: Alter>(
         parameter(u64::from(device.get())),
         parameter(u64::from(day.get())),
     ];
-    match change(tx, CUT_STATED, &asked) {
-        Ok(count) => Ok(count),
-        Err(fault) => Err(fault),
-    }
+    change(tx, CUT_STATED, &asked)
 }
 
 // The same in one transaction, and how many went.
@@ -63,10 +60,8 @@ fn write_untold<S: Alter>(
 {
     let mut tx = conn.transaction();
     let count = cut_stated(&mut tx, layout, owner, device, day)?;
-    match tx.commit() {
-        Ok(()) => Ok(count),
-        Err(error) => Err(fault_of(error)),
-    }
+    commit(tx)?;
+    Ok(count)
 }
 
 impl<S: Alter> SqlOutbox<S> {

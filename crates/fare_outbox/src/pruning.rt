@@ -15,7 +15,7 @@ use fare_outbox_rows::Layout;
 use fare_outbox_rows::statements::CUT_ROWS;
 use fare_record::{DeviceId, OwnerId};
 use fare_store::Fault;
-use fare_tables::{change, fault_of, note, parameter};
+use fare_tables::{change, commit, note, parameter};
 use sqlite::{Alter, Connection, Transaction};
 
 // Removes the rows of a lane up to a lane number.
@@ -40,10 +40,7 @@ fn cut_rows<S: Alter>(
         parameter(u64::from(device.get())),
         parameter(upto),
     ];
-    match change(tx, CUT_ROWS, &asked) {
-        Ok(count) => Ok(count),
-        Err(fault) => Err(fault),
-    }
+    change(tx, CUT_ROWS, &asked)
 }
 
 // Removes the rows of a lane up to a lane number, in one transaction, and answers how many.
@@ -66,10 +63,8 @@ pub(crate) fn write_cut<S: Alter>(
 {
     let mut tx = conn.transaction();
     let count = cut_rows(&mut tx, layout, owner, device, upto)?;
-    match tx.commit() {
-        Ok(()) => Ok(count),
-        Err(error) => Err(fault_of(error)),
-    }
+    commit(tx)?;
+    Ok(count)
 }
 
 // Removes the rows of an owner's lanes, and answers how many rows are left of so many.
@@ -118,10 +113,8 @@ fn write_cuts<S: Alter>(
 {
     let mut tx = conn.transaction();
     let left = cut_lanes(&mut tx, layout, owner, lanes, rows)?;
-    match tx.commit() {
-        Ok(()) => Ok(left),
-        Err(error) => Err(fault_of(error)),
-    }
+    commit(tx)?;
+    Ok(left)
 }
 
 impl<S: Alter> SqlOutbox<S> {

@@ -12,7 +12,7 @@ use crate::Layout;
 use crate::statements::{PUT_LINK, PUT_STATEMENT, PUT_TAP};
 use fare_record::{DeviceId, Record, Statement};
 use fare_store::Fault;
-use fare_tables::{change, fault_of, parameter};
+use fare_tables::{change, commit, parameter};
 use sqlite::types::ValueRef;
 use sqlite::{Alter, Connection, Transaction};
 
@@ -45,10 +45,8 @@ fn put_tap<S: Alter>(
     ensures survives { Survives (state S.Store tx.old.conn.now) (state S.Store tx.new.conn.now) (λ _. ⊥) }
 {
     let cells = cells_of(row);
-    match change(tx, PUT_TAP, &cells) {
-        Ok(_) => Ok(()),
-        Err(fault) => Err(fault),
-    }
+    change(tx, PUT_TAP, &cells)?;
+    Ok(())
 }
 
 fn put_link<S: Alter>(
@@ -65,10 +63,8 @@ fn put_link<S: Alter>(
     ensures survives { Survives (state S.Store tx.old.conn.now) (state S.Store tx.new.conn.now) (λ _. ⊥) }
 {
     let cells = [parameter(u64::from(device.get())), parameter(upto)];
-    match change(tx, PUT_LINK, &cells) {
-        Ok(_) => Ok(()),
-        Err(fault) => Err(fault),
-    }
+    change(tx, PUT_LINK, &cells)?;
+    Ok(())
 }
 
 // The row and the greatest link of its device.
@@ -104,10 +100,7 @@ pub fn write_row<S: Alter>(
 {
     let mut tx = conn.transaction();
     put_row(&mut tx, layout, row)?;
-    match tx.commit() {
-        Ok(()) => Ok(()),
-        Err(error) => Err(fault_of(error)),
-    }
+    commit(tx)
 }
 
 // The row, and the greatest link of its device where no other row of the device is to come behind it.
@@ -180,10 +173,7 @@ pub fn write_rows<S: Alter>(
 {
     let mut tx = conn.transaction();
     put_rows(&mut tx, layout, rows)?;
-    match tx.commit() {
-        Ok(()) => Ok(()),
-        Err(error) => Err(fault_of(error)),
-    }
+    commit(tx)
 }
 
 fn cells_stated(statement: &Statement) -> [ValueRef<'static>; 4]
@@ -209,10 +199,8 @@ fn put_statement<S: Alter>(
     ensures survives { Survives (state S.Store tx.old.conn.now) (state S.Store tx.new.conn.now) (λ _. ⊥) }
 {
     let cells = cells_stated(statement);
-    match change(tx, PUT_STATEMENT, &cells) {
-        Ok(_) => Ok(()),
-        Err(fault) => Err(fault),
-    }
+    change(tx, PUT_STATEMENT, &cells)?;
+    Ok(())
 }
 
 /// Adds a statement in one transaction. Where it fails the rows are as before, by the faults of `write_row`.
@@ -231,8 +219,5 @@ pub fn write_statement<S: Alter>(
 {
     let mut tx = conn.transaction();
     put_statement(&mut tx, layout, statement)?;
-    match tx.commit() {
-        Ok(()) => Ok(()),
-        Err(error) => Err(fault_of(error)),
-    }
+    commit(tx)
 }

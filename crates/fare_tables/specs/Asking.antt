@@ -1,10 +1,10 @@
 -- What a connection is between two calls, and what a statement leaves of it.
-use Rattle.std.specs.Prelude.{◌≡◌, ℕ, Bool, true, false, List, Result, Ok, Err, IsTrue}
+use Rattle.std.specs.Prelude.{◌≡◌, ◌⊎◌, ℕ, Bool, true, false, List, Result, Ok, Err, IsTrue}
 use Rattle.sqlite.specs.Effect.{is_query}
 use Rattle.sqlite.specs.Given.{IsPlain}
 use Rattle.sqlite.specs.Listing.{understood}
 use Rattle.sqlite.specs.Schema.{Schema}
-use Rattle.sqlite.specs.State.{State, HasCleanDisk}
+use Rattle.sqlite.specs.State.{State, HasCleanDisk, IsRolledBack, IsUnchanged}
 use Rattle.sqlite.specs.declared.error.Error.{Error}
 use Rattle.sqlite.specs.declared.error.Error.TheVariants.{SqliteFailure}
 use Rattle.sqlite.specs.declared.error.ErrorCode.TheVariants as code
@@ -33,6 +33,10 @@ pub record IsAtRest (schema : Schema) (s : State) : Type 0 where
 -- nothing was committed, and the connection was open if it is
 abbrev pub Inside : State → State → Type 0
 Inside old new = IsTrue new.is_open → IsTrue old.is_open × (new.committed ≡ old.committed)
+
+-- no change of a transaction was committed, or an earlier failure had ended it
+abbrev pub Undoes : State → State → Type 0
+Undoes old new = IsRolledBack old new ⊎ ((old.in_transaction ≡ false) × IsUnchanged old new)
 
 abbrev pub is_select : Result Compiled CompileError → Bool
 is_select (Ok c) = is_query c.command

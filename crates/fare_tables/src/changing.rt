@@ -1,8 +1,8 @@
-ghost use Rattle.std.specs.Prelude.{◌≡◌, IsTrue, IfOk, Ok};
-ghost use Rattle.sqlite.specs.State.{HasCleanDisk, Survives, Executes};
+ghost use Rattle.std.specs.Prelude.{◌≡◌, false, IsTrue, IfOk, OnErr, OnOk, Ok};
+ghost use Rattle.sqlite.specs.State.{HasCleanDisk, Survives, Executes, Commits};
 ghost use Rattle.sqlite.specs.Held.{state};
 ghost use Rattle.sqlite.specs.Values.{bound};
-ghost use Rattle.fare_tables.specs.Asking.{Inside};
+ghost use Rattle.fare_tables.specs.Asking.{Inside, Undoes};
 
 use crate::fault_of;
 use fare_store::Fault;
@@ -23,6 +23,19 @@ pub fn change<S: Alter>(
 {
     match tx.execute(sql, params) {
         Ok(count) => Ok(count),
+        Err(error) => Err(fault_of(error)),
+    }
+}
+
+/// Ends a transaction, so that all that it changed is committed. Where that fails nothing of it is.
+pub fn commit<S: Alter>(tx: Transaction<'_, S>) -> Result<(), Fault>
+    ensures ended { tx.exit.0.now.in_transaction ≡ false }
+    ensures done { HasCleanDisk (state S.Store tx.exit.0.now) → OnOk result (IsTrue (state S.Store tx.entry.conn.now).in_transaction × Commits (state S.Store tx.entry.conn.now) (state S.Store tx.exit.0.now)) }
+    ensures undone { HasCleanDisk (state S.Store tx.exit.0.now) → OnErr result (Undoes (state S.Store tx.entry.conn.now) (state S.Store tx.exit.0.now)) }
+    ensures survives { Survives (state S.Store tx.entry.conn.now) (state S.Store tx.exit.0.now) (λ trees. trees ≡ (state S.Store tx.entry.conn.now).now.trees) }
+{
+    match tx.commit() {
+        Ok(()) => Ok(()),
         Err(error) => Err(fault_of(error)),
     }
 }

@@ -43,8 +43,6 @@ pub fn make_table<S: Alter>(tx: &mut Transaction<'_, S>, sql: &str) -> Result<()
     ensures inside { HasCleanDisk (state S.Store tx.new.conn.now) → Inside (state S.Store tx.old.conn.now) (state S.Store tx.new.conn.now) }
     ensures survives { Survives (state S.Store tx.old.conn.now) (state S.Store tx.new.conn.now) (λ _. ⊥) }
 {
-    match change(tx, sql, &[]) {
-        Ok(_) => Ok(()),
-        Err(fault) => Err(fault),
-    }
+    change(tx, sql, &[])?;
+    Ok(())
 }

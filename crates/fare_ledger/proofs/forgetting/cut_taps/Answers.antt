@@ -6,10 +6,10 @@ use Rattle.fare_ledger.proofs.Found.{asked}
 use Rattle.fare_ledger.proofs.Cuts.{cuts}
 use Rattle.fare_ledger.proofs.forgetting.cut_taps.Goals as goal
 
-pub returns-in-Ok-clause-puts : goal.returns-in-Ok-clause-puts
-returns-in-Ok-clause-puts g c clean inside schema readable =
+pub returns-clause-puts : goal.returns-clause-puts
+returns-clause-puts g c clean inside schema readable =
     let old = state g.S.Store c.args.tx.now.conn.now in
     let new = state g.S.Store c.change.new.tx.conn.now in
-    let ran = c.in-Ok.ensures.ran clean inside in
-    let h : Executes cut_text (asked c.args.device c.args.upto) old new (Ok c.in-Ok.field-0) = rw (c.parameter.ensures, c.parameter-2.ensures, c.from.ensures, c.get.ensures.value) at ran.0 in
-    (cuts c.args.layout.now old new c.args.device c.args.upto c.in-Ok.field-0 schema readable h, ran.1)
+    let ran = c.in_ok-change.ensures.ran clean inside in
+    let h : Executes cut_text (asked c.args.device c.args.upto) old new (Ok c.in_ok-change.field-0) = rw (c.parameter.ensures, c.parameter-2.ensures, c.from.ensures, c.get.ensures.value) at ran.0 in
+    (cuts c.args.layout.now old new c.args.device c.args.upto c.in_ok-change.field-0 schema readable h, ran.1)

@@ -1,4 +1,5 @@
 use Rattle.std.proofs.Common.{Ok}
+use Rattle.std.proofs.lemmas.Result.{IfOk-weaker}
 use Rattle.sqlite.specs.Held.{state}
 use Rattle.sqlite.specs.State.{Executes}
 use Rattle.fare_outbox_rows.proofs.Texts.{told_text}
@@ -6,18 +7,18 @@ use Rattle.fare_outbox_rows.proofs.Found.{asked}
 use Rattle.fare_outbox.proofs.Told.{unsays}
 use Rattle.fare_outbox.proofs.forgetting.cut_stated.Goals as goal
 
-pub returns-in-Ok-clause-puts : goal.returns-in-Ok-clause-puts
-returns-in-Ok-clause-puts g c clean inside schema readable =
+pub returns-clause-puts : goal.returns-clause-puts
+returns-clause-puts g c clean inside schema readable =
     let old = state g.S.Store c.args.tx.now.conn.now in
     let new = state g.S.Store c.change.new.tx.conn.now in
-    let ran = c.in-Ok.ensures.ran clean inside in
-    let h : Executes told_text (asked c.args.owner c.args.device c.args.day) old new (Ok c.in-Ok.count) = rw (c.parameter.ensures, c.parameter-2.ensures, c.parameter-3.ensures, c.from.ensures, c.from-2.ensures, c.from-3.ensures, c.get.ensures.value, c.get-2.ensures.value, c.get-3.ensures.value) at ran.0 in
-    ((unsays c.args.layout.now old new c.args.owner c.args.device c.args.day c.in-Ok.count schema readable h).becomes, ran.1)
+    IfOk-weaker c.change.result _ _ (λ count ran.
+    let h : Executes told_text (asked c.args.owner c.args.device c.args.day) old new (Ok count) = rw (c.parameter.ensures, c.parameter-2.ensures, c.parameter-3.ensures, c.from.ensures, c.from-2.ensures, c.from-3.ensures, c.get.ensures.value, c.get-2.ensures.value, c.get-3.ensures.value) at ran.0 in
+    ((unsays c.args.layout.now old new c.args.owner c.args.device c.args.day count schema readable h).becomes, ran.1)) (c.change.ensures.ran clean inside)
 
-pub returns-in-Ok-clause-count : goal.returns-in-Ok-clause-count
-returns-in-Ok-clause-count g c clean inside schema readable =
+pub returns-clause-count : goal.returns-clause-count
+returns-clause-count g c clean inside schema readable =
     let old = state g.S.Store c.args.tx.now.conn.now in
     let new = state g.S.Store c.change.new.tx.conn.now in
-    let ran = c.in-Ok.ensures.ran clean inside in
-    let h : Executes told_text (asked c.args.owner c.args.device c.args.day) old new (Ok c.in-Ok.count) = rw (c.parameter.ensures, c.parameter-2.ensures, c.parameter-3.ensures, c.from.ensures, c.from-2.ensures, c.from-3.ensures, c.get.ensures.value, c.get-2.ensures.value, c.get-3.ensures.value) at ran.0 in
-    (unsays c.args.layout.now old new c.args.owner c.args.device c.args.day c.in-Ok.count schema readable h).counted
+    IfOk-weaker c.change.result _ _ (λ count ran.
+    let h : Executes told_text (asked c.args.owner c.args.device c.args.day) old new (Ok count) = rw (c.parameter.ensures, c.parameter-2.ensures, c.parameter-3.ensures, c.from.ensures, c.from-2.ensures, c.from-3.ensures, c.get.ensures.value, c.get-2.ensures.value, c.get-3.ensures.value) at ran.0 in
+    (unsays c.args.layout.now old new c.args.owner c.args.device c.args.day count schema readable h).counted) (c.change.ensures.ran clean inside)

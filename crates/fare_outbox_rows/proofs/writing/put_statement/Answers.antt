@@ -6,10 +6,10 @@ use Rattle.fare_outbox_rows.proofs.Texts.{put_statement_text}
 use Rattle.fare_outbox_rows.proofs.Puts.{puts_stated, one_more}
 use Rattle.fare_outbox_rows.proofs.writing.put_statement.Goals as goal
 
-pub returns-in-Ok-clause-puts : goal.returns-in-Ok-clause-puts
-returns-in-Ok-clause-puts g c clean inside schema readable =
+pub returns-clause-puts : goal.returns-clause-puts
+returns-clause-puts g c clean inside schema readable =
     let old = state g.S.Store c.args.tx.now.conn.now in
     let new = state g.S.Store c.change.new.tx.conn.now in
-    let ran = c.in-Ok.ensures.ran clean inside in
-    let h : Executes put_statement_text (stated_cells c.args.statement.now) old new (Ok c.in-Ok.field-0) = rw c.cells_stated-cells.ensures at ran.0 in
-    (one_more c.args.layout.now old.now new.now c.args.statement.now readable (puts_stated c.args.layout.now old new c.args.statement.now c.in-Ok.field-0 schema h), ran.1)
+    let ran = c.in_ok-change.ensures.ran clean inside in
+    let h : Executes put_statement_text (stated_cells c.args.statement.now) old new (Ok c.in_ok-change.field-0) = rw c.cells_stated-cells.ensures at ran.0 in
+    (one_more c.args.layout.now old.now new.now c.args.statement.now readable (puts_stated c.args.layout.now old new c.args.statement.now c.in_ok-change.field-0 schema h), ran.1)
