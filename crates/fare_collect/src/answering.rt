@@ -52,10 +52,7 @@ fn last_days<S: Source, O: Outbox>(
     ensures { HaveSent scheme.now S.talk (O.standing outbox.old) (O.standing outbox.new) stations.old stations.new (λ x. day_acks scheme.now x days.now.keys) result }
 {
     for (position, device, day) in days {
-        let held = match are_stated(scheme, outbox, *device, *day) {
-            Ok(held) => held,
-            Err(fault) => return Err(fault),
-        };
+        let held = are_stated(scheme, outbox, *device, *day)?;
         if held {
             let item = AckItem::Day(DayAck::new(*device, *day));
             send(scheme, *position, *device, &item, stations);
@@ -77,10 +74,7 @@ fn last_all<S: Source, O: Outbox>(
         let Some(device) = scheme.device_at(position) else {
             unreachable!()
         };
-        let upto = match outbox.upto(device) {
-            Ok(upto) => upto,
-            Err(fault) => return Err(fault),
-        };
+        let upto = outbox.upto(device)?;
         let item = AckItem::Upto(Ack::new(device, upto));
         send(scheme, position, device, &item, stations);
     }

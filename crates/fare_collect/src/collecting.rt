@@ -62,10 +62,7 @@ fn resume<S, O: Outbox>(
         let Some(device) = scheme.device_at(position) else {
             unreachable!()
         };
-        let upto = match outbox.upto(device) {
-            Ok(upto) => upto,
-            Err(fault) => return Err(fault),
-        };
+        let upto = outbox.upto(device)?;
         let Some(id) = scheme.station_of(device) else {
             unreachable!()
         };

@@ -128,11 +128,8 @@ fn oldest_behind<O: Outbox>(
 ) -> Result<Option<Moment>, Fault>
     ensures { Reads (O.standing outbox.old) (O.standing outbox.new) (IsOldest (O.standing outbox.old).value.rows owner device after) result }
 {
-    match outbox.next_row(owner, device, after) {
-        Ok(Some(row)) => Ok(Some(row.tap().moment())),
-        Ok(None) => Ok(None),
-        Err(fault) => Err(fault),
-    }
+    let row = outbox.next_row(owner, device, after)?;
+    Ok(row.map(|row| row.tap().moment()))
 }
 
 // The last row of a lane behind a lane number.

@@ -24,18 +24,10 @@ impl Progress {
         ensures counts { IfOk result (λ progress. AreNoCounts scheme.now progress.counts) }
         ensures rounds { IfOk result (λ progress. progress.rounds ≡ 0) }
     {
-        let counts = match Counts::none(alloc, scheme) {
-            Ok(counts) => counts,
-            Err(error) => return Err(error),
-        };
-        let seen = match Seen::none(alloc, scheme) {
-            Ok(seen) => seen,
-            Err(error) => return Err(error),
-        };
         Ok(Progress {
-            counts,
+            counts: Counts::none(alloc, scheme)?,
             rounds: 0,
-            seen,
+            seen: Seen::none(alloc, scheme)?,
         })
     }
 }

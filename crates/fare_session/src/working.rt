@@ -18,10 +18,7 @@ pub(crate) fn sift<L: Ledger>(
 {
     for place in 0..lanes.len() {
         let lane = lanes[place];
-        let retired = match ledger.retired(lane.0) {
-            Ok(retired) => retired,
-            Err(fault) => return Err(fault),
-        };
+        let retired = ledger.retired(lane.0)?;
         if !retired && working.push(lane).is_err() {
             return Err(Fault::Memory);
         }

@@ -116,10 +116,7 @@ fn handle_some<O: Outbox, G: Gate, R: Wait + Clock>(
     ensures written { IfOk result (λ n. HasWritten floor.now.scheme.now (O.standing outbox.old) (O.standing outbox.new) (take n items.now) tellers.old tellers.new tally.old tally.new None) }
     ensures halted { IfErr result (λ halt. HasWritten floor.now.scheme.now (O.standing outbox.old) (O.standing outbox.new) items.now tellers.old tellers.new tally.old tally.new (Some halt)) }
 {
-    let stored = match store_lead(outbox, items, rows) {
-        Ok(stored) => stored,
-        Err(halt) => return Err(halt),
-    };
+    let stored = store_lead(outbox, items, rows)?;
     if stored > 0 {
         floor.gate.pass(Point::WriterCommitted);
         tell_all(floor, lines, &items[..stored], tally, tellers);

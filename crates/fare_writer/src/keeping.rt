@@ -50,10 +50,7 @@ fn keep_some<O: Outbox>(
     ensures kept { IfOk result (λ n. HasKept scheme.now (O.standing outbox.old) (O.standing outbox.new) (take n items.now) tally.old tally.new None) }
     ensures halted { IfErr result (λ halt. HasKept scheme.now (O.standing outbox.old) (O.standing outbox.new) items.now tally.old tally.new (Some halt)) }
 {
-    let stored = match store_lead(outbox, items, rows) {
-        Ok(stored) => stored,
-        Err(halt) => return Err(halt),
-    };
+    let stored = store_lead(outbox, items, rows)?;
     if stored > 0 {
         tally.count_all(stored);
         return Ok(stored);

@@ -1,7 +1,8 @@
-use Rattle.std.proofs.Common.{◌≡◌, [], ◌∷◌, Some, sym, subst, ◌∙◌, arith}
+use Rattle.std.proofs.Common.{◌≡◌, [], ◌∷◌, Some, sym, subst, ◌∙◌, arith, Err, ap}
+use Rattle.std.proofs.lemmas.Result.{err_from_is_err_and}
 use Rattle.fare_scheme.specs.Words.{id_at}
 use Rattle.fare_record.specs.declared.ack_item.AckItem.TheVariants.{Upto}
-use Rattle.fare_collect.specs.Ending.{AreSent}
+use Rattle.fare_collect.specs.Ending.{AreSent, HaveLast, last_acks}
 use Rattle.fare_collect.proofs.Last.{answering_none, answering_more, answering_failed, answered_all, stations_after, at_known}
 use Rattle.fare_collect.proofs.answering.last_all.Goals as goal
 
@@ -11,10 +12,12 @@ loop-position-init g c = answering_none c.args.scheme.now g.S.Source.talk (g.O.O
 pub unreachable-requires : goal.unreachable-requires
 unreachable-requires g c = at_known c.args.scheme.now.devices c.loop-position.position (let n = c.device_count-position-end.ensures.value in let t = c.loop-position-test.true in omega (arith, n, t)) (sym c.device_at.ensures.value ∙ c.in_default.is)
 
-pub returns-in-Err : goal.returns-in-Err
-returns-in-Err g c =
-    answering_failed c.args.scheme.now g.S.Source.talk (g.O.Outbox.standing c.args.outbox.now) (g.O.Outbox.standing c.loop-position.outbox) (g.O.Outbox.standing c.upto.new.self) c.args.stations.now c.loop-position.stations c.loop-position.position c.in-Some.device c.in-Err.fault
-    (g.met.O.Outbox.sound c.loop-position.outbox) c.loop-position.invariant c.in-Err.ensures.read
+pub returns-in_err-upto : goal.returns-in_err-upto
+returns-in_err-upto g c =
+    let is = err_from_is_err_and c.from_residual.result c.from_residual.ensures.1 in
+    subst (HaveLast c.args.scheme.now g.S.Source.talk (g.O.Outbox.standing c.args.outbox.now) (g.O.Outbox.standing c.upto.new.self) c.args.stations.now c.loop-position.stations (last_acks c.args.scheme.now)) (sym (is.1 ∙ ap Err is.2))
+    (answering_failed c.args.scheme.now g.S.Source.talk (g.O.Outbox.standing c.args.outbox.now) (g.O.Outbox.standing c.loop-position.outbox) (g.O.Outbox.standing c.upto.new.self) c.args.stations.now c.loop-position.stations c.loop-position.position c.in-Some.device c.in_err-upto.field-0.0
+    (g.met.O.Outbox.sound c.loop-position.outbox) c.loop-position.invariant c.in_err-upto.ensures.read)
 
 pub send-requires-clause-order : goal.send-requires-clause-order
 send-requires-clause-order g c = stations_after c.args.scheme.now g.S.Source.talk c.loop-position.invariant.have.answers c.args.stations.now c.loop-position.stations c.requires c.loop-position.invariant.have.sent
@@ -27,9 +30,9 @@ loop-position-preserved g c =
     let b = g.O.Outbox.standing c.loop-position.outbox in
     let d = g.O.Outbox.standing c.upto.new.self in
     let device = c.in-Some.device in
-    let u = c.in-Ok.upto in
+    let u = c.in_ok-upto.upto in
     let at : id_at sc.devices c.loop-position.position ≡ Some device = sym c.device_at.ensures.value ∙ c.in-Some.is in
-    answering_more sc talks a b d c.args.stations.now c.loop-position.stations c.send.new.stations c.loop-position.position device u (g.met.O.Outbox.sound c.loop-position.outbox) c.loop-position.invariant c.in-Ok.ensures.read at c.send.ensures.known
+    answering_more sc talks a b d c.args.stations.now c.loop-position.stations c.send.new.stations c.loop-position.position device u (g.met.O.Outbox.sound c.loop-position.outbox) c.loop-position.invariant c.in_ok-upto.ensures.read at c.send.ensures.known
     (subst (λ (k : _). AreSent sc talks (Upto k ∷ []) c.loop-position.stations c.send.new.stations) c.new.ensures c.send.ensures.sent)
 
 pub returns : goal.returns

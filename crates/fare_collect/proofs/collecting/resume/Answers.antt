@@ -1,4 +1,6 @@
-use Rattle.std.proofs.Common.{◌≡◌, ◌+◌, List, Some, refl, ap, sym, subst, ◌∙◌, slice_index_or, arith}
+use Rattle.std.proofs.Common.{◌≡◌, ◌+◌, List, Some, refl, ap, sym, subst, ◌∙◌, slice_index_or, arith, Err}
+use Rattle.std.proofs.lemmas.Result.{err_from_is_err_and}
+use Rattle.fare_collect.specs.Resuming.{HaveResumed}
 use Rattle.fare_scheme.specs.Words.{station_of, position_of_device, position_of_station}
 use Rattle.fare_collect.specs.declared.station.Station.{Station}
 use Rattle.fare_collect.proofs.Last.{at_known}
@@ -12,10 +14,12 @@ loop-position-init g c = resuming_none c.args.scheme.now (g.O.Outbox.standing c.
 pub unreachable-requires : goal.unreachable-requires
 unreachable-requires g c = at_known c.args.scheme.now.devices c.loop-position.position (let n = c.device_count-position-end.ensures.value in let t = c.loop-position-test.true in omega (arith, n, t)) (sym c.device_at.ensures.value ∙ c.in_default.is)
 
-pub returns-in-Err : goal.returns-in-Err
-returns-in-Err g c =
-    resuming_failed c.args.scheme.now (g.O.Outbox.standing c.args.outbox.now) (g.O.Outbox.standing c.loop-position.outbox) (g.O.Outbox.standing c.upto.new.self) c.args.stations.now c.loop-position.stations c.loop-position.position c.in-Some.device c.in-Err.fault
-    (g.met.O.Outbox.sound c.loop-position.outbox) c.loop-position.invariant c.in-Err.ensures.read
+pub returns-in_err-upto : goal.returns-in_err-upto
+returns-in_err-upto g c =
+    let is = err_from_is_err_and c.from_residual.result c.from_residual.ensures.1 in
+    subst (HaveResumed c.args.scheme.now (g.O.Outbox.standing c.args.outbox.now) (g.O.Outbox.standing c.upto.new.self) c.args.stations.now c.loop-position.stations) (sym (is.1 ∙ ap Err is.2))
+    (resuming_failed c.args.scheme.now (g.O.Outbox.standing c.args.outbox.now) (g.O.Outbox.standing c.loop-position.outbox) (g.O.Outbox.standing c.upto.new.self) c.args.stations.now c.loop-position.stations c.loop-position.position c.in-Some.device c.in_err-upto.field-0.0
+    (g.met.O.Outbox.sound c.loop-position.outbox) c.loop-position.invariant c.in_err-upto.ensures.read)
 
 pub loop-position-preserved : goal.loop-position-preserved
 loop-position-preserved g c =
@@ -31,7 +35,7 @@ loop-position-preserved g c =
     let id = c.in-Some-station_of.id in
     let place = c.in-Some-station_position.place in
     let sound = g.met.O.Outbox.sound c.loop-position.outbox in
-    let read = c.in-Ok.ensures.read in
+    let read = c.in_ok-upto.ensures.read in
     let at : position_of_device sc device ≡ Some position = c.in-Some.ensures.placed in
     let of : station_of sc device ≡ Some id = sym c.station_of.ensures.value ∙ c.in-Some-station_of.is in
     let stands : position_of_station sc id ≡ Some place = sym c.station_position.ensures.value ∙ c.in-Some-station_position.is in
@@ -39,9 +43,9 @@ loop-position-preserved g c =
     elim c.if-place-stations.branch [
       | then-place-stations w ↦
           let x = slice_index_or all place w.index-stations-place.result in
-          subst Q (sym w.stations-is) (resuming_more sc a b d first all position device c.in-Ok.upto id place x _ sound c.requires inv read at of stands w.if-place-stations.true (ap (slice_index_or all place) w.index-stations-place.is) refl refl w.resume.ensures.station w.resume.ensures.next)
+          subst Q (sym w.stations-is) (resuming_more sc a b d first all position device c.in_ok-upto.upto id place x _ sound c.requires inv read at of stands w.if-place-stations.true (ap (slice_index_or all place) w.index-stations-place.is) refl refl w.resume.ensures.station w.resume.ensures.next)
       | else-place-stations w ↦
-          subst Q (sym w.stations-is) (resuming_past sc a b d first all position device c.in-Ok.upto id place sound c.requires inv read at of stands (let n = w.if-place-stations.false in omega (arith, n)))
+          subst Q (sym w.stations-is) (resuming_past sc a b d first all position device c.in_ok-upto.upto id place sound c.requires inv read at of stands (let n = w.if-place-stations.false in omega (arith, n)))
     ]
 
 pub returns : goal.returns

@@ -1,4 +1,6 @@
-use Rattle.std.proofs.Common.{rules, ◌≡◌, [], ◌∷◌, ◌++◌, List, None, ℕ, ◌+◌, length, refl, sym, ap, ◌∙◌, subst, arith, length-append}
+use Rattle.std.proofs.Common.{rules, ◌≡◌, [], ◌∷◌, ◌++◌, List, None, ℕ, ◌+◌, length, refl, sym, ap, ◌∙◌, subst, arith, length-append, Err}
+use Rattle.std.proofs.lemmas.Result.{err_from_is_err_and}
+use Rattle.fare_session.specs.Asking.{IsAsked}
 use Rattle.std.specs.Prelude.{Option, Result, Ok, Err}
 use Rattle.fare_store.specs.declared.fault.Fault.{Fault}
 use Rattle.fare_store.specs.declared.fault.Fault.TheVariants as fault
@@ -18,14 +20,17 @@ loop-place-init g c =
       count = ap length c.requires.fresh.0;
     }
 
-pub returns-in-Err : goal.returns-in-Err
-returns-in-Err g c = asked_failed c.args.scheme.now (g.L.Ledger.standing c.args.ledger.now) (g.L.Ledger.standing c.loop-place.ledger) (g.L.Ledger.standing c.standing.new.ledger) c.loop-place.asked.standings.items c.loop-place.asked.bases.items c.in-Some.device c.in-Err.fault c.loop-place.invariant.stays c.in-Err.ensures
+pub returns-in_err-taken : goal.returns-in_err-taken
+returns-in_err-taken g c =
+    let is = err_from_is_err_and c.from_residual.result c.from_residual.ensures.1 in
+    subst (IsAsked c.args.scheme.now (g.L.Ledger.standing c.args.ledger.now) (g.L.Ledger.standing c.standing.new.ledger) c.loop-place.asked.standings.items c.loop-place.asked.bases.items) (sym (is.1 ∙ ap Err is.2))
+    (asked_failed c.args.scheme.now (g.L.Ledger.standing c.args.ledger.now) (g.L.Ledger.standing c.loop-place.ledger) (g.L.Ledger.standing c.standing.new.ledger) c.loop-place.asked.standings.items c.loop-place.asked.bases.items c.in-Some.device c.in_err-taken.field-0.0 c.loop-place.invariant.stays c.in_err-taken.ensures)
 
 pub returns-then-is_err : goal.returns-then-is_err
-returns-then-is_err g c = asked_memory c.args.scheme.now (g.L.Ledger.standing c.args.ledger.now) (g.L.Ledger.standing c.loop-place.ledger) (g.L.Ledger.standing c.standing.new.ledger) c.push.new.self.items c.loop-place.asked.bases.items c.in-Some.device c.in-Ok.told c.loop-place.invariant.stays c.in-Ok.ensures
+returns-then-is_err g c = asked_memory c.args.scheme.now (g.L.Ledger.standing c.args.ledger.now) (g.L.Ledger.standing c.loop-place.ledger) (g.L.Ledger.standing c.standing.new.ledger) c.push.new.self.items c.loop-place.asked.bases.items c.in-Some.device (c.in_ok-taken.taken, c.in_ok-taken.closed) c.loop-place.invariant.stays c.in_ok-taken.ensures
 
 pub returns-then-is_err-2 : goal.returns-then-is_err-2
-returns-then-is_err-2 g c = asked_memory c.args.scheme.now (g.L.Ledger.standing c.args.ledger.now) (g.L.Ledger.standing c.loop-place.ledger) (g.L.Ledger.standing c.standing.new.ledger) c.push.new.self.items c.push-in-loop-place.new.self.items c.in-Some.device c.in-Ok.told c.loop-place.invariant.stays c.in-Ok.ensures
+returns-then-is_err-2 g c = asked_memory c.args.scheme.now (g.L.Ledger.standing c.args.ledger.now) (g.L.Ledger.standing c.loop-place.ledger) (g.L.Ledger.standing c.standing.new.ledger) c.push.new.self.items c.push-in-loop-place.new.self.items c.in-Some.device (c.in_ok-taken.taken, c.in_ok-taken.closed) c.loop-place.invariant.stays c.in_ok-taken.ensures
 
 pub loop-place-preserved : goal.loop-place-preserved
 loop-place-preserved g c =
@@ -34,8 +39,8 @@ loop-place-preserved g c =
     let a = g.L.Ledger.standing c.args.ledger.now in
     let b = g.L.Ledger.standing c.loop-place.ledger in
     let d = g.L.Ledger.standing c.standing.new.ledger in
-    let p : ℕ × Option ℕ = c.in-Ok.told in
-    let now : IsStanding b d c.in-Some.device (Ok p) = c.in-Ok.ensures in
+    let p : ℕ × Option ℕ = (c.in_ok-taken.taken, c.in_ok-taken.closed) in
+    let now : IsStanding b d c.in-Some.device (Ok p) = c.in_ok-taken.ensures in
     let ss : c.push.new.self.items ≡ c.loop-place.asked.standings.items ++ p ∷ [] = search rules in
     let bs : c.push-in-loop-place.new.self.items ≡ c.loop-place.asked.bases.items ++ (c.in-Some.device, p.0) ∷ [] = search rules in
     let told = told_more sc a b d c.loop-place.asked.standings.items c.loop-place.asked.bases.items c.in-Some.device c.loop-place.place p i.stays (subst (λ (z : Option Fault). Stays b d z) now.is now.stays) i.count c.in-Some.ensures.placed now.told i.told in

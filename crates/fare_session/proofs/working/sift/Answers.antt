@@ -1,4 +1,6 @@
-use Rattle.std.proofs.Common.{rules, ◌≡◌, ℕ, ◌+◌, ◌++◌, ◌∷◌, [], None, Some, List, refl, sym, ap, ◌∙◌, subst, arith}
+use Rattle.std.proofs.Common.{rules, ◌≡◌, ℕ, ◌+◌, ◌++◌, ◌∷◌, [], None, Some, List, refl, sym, ap, ◌∙◌, subst, arith, Err}
+use Rattle.std.proofs.lemmas.Result.{err_from_is_err_and}
+use Rattle.fare_session.specs.Asking.{AreSifted}
 use Rattle.std.specs.Prelude.{slice_get, Option, Ok}
 use Rattle.std.proofs.lemmas.Option.{slice_get-get_or}
 use Rattle.fare_store.specs.Standing.{Reads}
@@ -8,12 +10,14 @@ use Rattle.fare_session.proofs.Sifts.{InSift, sift_left, sift_more, sift_failed,
 use Rattle.fare_session.proofs.working.sift.Goals.{else-not-retired-via-then-not-retired+else-is_err, else-not-retired-via-else-not-retired}
 use Rattle.fare_session.proofs.working.sift.Goals as goal
 
-pub returns-in-Err : goal.returns-in-Err
-returns-in-Err g c =
+pub returns-in_err-retired : goal.returns-in_err-retired
+returns-in_err-retired g c =
     let lo = g.L.Ledger.standing c.args.ledger.now in
     let lm = g.L.Ledger.standing c.loop-place.ledger in
     let ln = g.L.Ledger.standing c.retired.new.self in
-    sift_failed lo lm ln c.args.lanes.now c.loop-place.working.items c.in-Err.fault c.loop-place.invariant.stays (stays_read lm ln (Some c.in-Err.fault) (Unit {0}) (g.met.L.Ledger.sound c.loop-place.ledger) c.in-Err.ensures)
+    let is = err_from_is_err_and c.from_residual.result c.from_residual.ensures.1 in
+    subst (AreSifted lo ln c.args.lanes.now c.loop-place.working.items) (sym (is.1 ∙ ap Err is.2))
+    (sift_failed lo lm ln c.args.lanes.now c.loop-place.working.items c.in_err-retired.field-0.0 c.loop-place.invariant.stays (stays_read lm ln (Some c.in_err-retired.field-0.0) (Unit {0}) (g.met.L.Ledger.sound c.loop-place.ledger) c.in_err-retired.ensures))
 
 pub loop-place-preserved : goal.loop-place-preserved
 loop-place-preserved g c =
@@ -25,8 +29,8 @@ loop-place-preserved g c =
     let before = c.loop-place.working.items in
     let lane : ℕ × ℕ = c.index-lanes-place.result in
     let here : slice_get lanes place ≡ Some lane = slice_get-get_or lanes place lane (omega (arith, c.loop-place-test.true)) ∙ ap {B = Option (ℕ × ℕ)} Some (sym c.index-lanes-place.is) in
-    let retired = c.in-Ok.retired in
-    let call : Reads lm ln (λ r. r ≡ lm.value.retired lane.0) (Ok retired) = c.in-Ok.ensures in
+    let retired = c.in_ok-retired.retired in
+    let call : Reads lm ln (λ r. r ≡ lm.value.retired lane.0) (Ok retired) = c.in_ok-retired.ensures in
     let read : Stays lm ln None = stays_read lm ln None (retired ≡ lm.value.retired lane.0) (g.met.L.Ledger.sound c.loop-place.ledger) call in
     elim c.else-not-retired.branch [
       | else-not-retired-via-then-not-retired+else-is_err w ↦
