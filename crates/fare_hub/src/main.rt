@@ -1,8 +1,8 @@
 //! The program of the fare hub. `replay` reads a trace from standard input and writes the replies to its lines
 //! to standard output; `serve` takes a scheme from there or from a file, or the one that is kept, collects what its stations
 //! send over sockets into stores in files, and serves the owners; `close`, `bill`, `settle`, `stand`, `retire` and `forget`
-//! work on these, and `scheme` prints the kept one. What it promises are the contracts of `fare_run::run`, `fare_run::serve`,
-//! `fare_run::ask` and `fare_run::show_scheme`, for the words after its name, standard input and standard output.
+//! work on these, and `scheme` prints the kept one. What it promises is the contract of `fare_run::carry_out`, for the words
+//! after its name, standard input and standard output.
 //!
 //! Its status is 0 where the job was done or help was asked for, 1 with one line on standard error where the
 //! job failed, and 2 with a text on standard error where the words were refused.
@@ -12,7 +12,7 @@ ghost use Rattle.std.specs.Prelude.{◌≡◌, IfErr, OnOk};
 ghost use Rattle.std.specs.Process.{exit_status};
 ghost use Rattle.fare_run.specs.Failures.{status_of};
 
-use fare_run::{Failure, Left, ask, run, serve, show_scheme, tell};
+use fare_run::{Failure, carry_out, tell};
 use std::alloc::Global;
 use std::net::{Net, TcpListener, TcpStream};
 use std::process::ExitCode;
@@ -45,17 +45,7 @@ fn start<
     for arg in args.iter().skip(1) {
         words.push(arg.as_str()).map_err(|_| Failure::Memory)?;
     }
-    let (mut input, mut output) = (rt.reader(), io::writer(rt));
-    match run(alloc, &words, &mut input, &mut output)? {
-        None => Ok(()),
-        Some(Left::Serve(options)) => serve(rt, handles, &options, &mut input, &mut output).map_err(
-            Failure::Serve,
-        ),
-        Some(Left::Ask(options)) => ask(rt, &options, &mut input, &mut output).map_err(
-            Failure::Ask,
-        ),
-        Some(Left::Scheme { path }) => show_scheme(rt, path, &mut output).map_err(Failure::Scheme),
-    }
+    carry_out(rt, handles, &words, &mut rt.reader(), &mut io::writer(rt))
 }
 
 /// How the program ends: with status 0 where it did what it was started for, else with a line on standard error and the

@@ -1,4 +1,5 @@
 pub mod Asking
+pub mod Carrying
 pub mod Databases
 pub mod Failures
 pub mod Many

@@ -5,12 +5,14 @@
 //! the lines of a scheme, refused only where the words are no job, and then nothing was read or written. What standard
 //! error gets is no part of the promise, nor what a file keeps: a run over stores is over the scheme that
 //! `fare_registry::scheme_in_file` gives. Serving may wait and starts threads, and a question opens files, so each is a
-//! call of its own, for which `run` answers the options.
+//! call of its own, for which `run` answers the options; `carry_out` calls one behind the other, and promises of any words
+//! that what came of them is what they ask for.
 #![tactic(auto)]
 
 mod ask_failure;
 mod ask_job;
 mod asking;
+mod carrying;
 mod failure;
 mod laws;
 mod left;
@@ -26,6 +28,7 @@ mod telling;
 pub use ask_failure::AskFailure;
 pub use ask_job::{ask, ask_databases};
 pub use asking::answer_over;
+pub use carrying::carry_out;
 pub use failure::Failure;
 pub use laws::runs_keep_stores;
 pub use left::{AskOptions, Left, ServeOptions};
