@@ -64,13 +64,9 @@ impl<S: Alter> Ledger for SqlLedger<S> {
         if !self.is_mine(row.owner(), row.device()) {
             return Err(Refused::Because(TapFault::NotMine));
         }
-        match self.judge_take(row) {
-            Err(fault) => Err(Refused::Failed(fault)),
-            Ok(Err(why)) => Err(Refused::Because(why)),
-            Ok(Ok(closed)) => match self.put_tap(row, closed) {
-                Ok(()) => Ok(()),
-                Err(fault) => Err(Refused::Failed(fault)),
-            },
+        match self.judge_take(row)? {
+            Err(why) => Err(Refused::Because(why)),
+            Ok(closed) => Ok(self.put_tap(row, closed)?),
         }
     }
 
@@ -85,41 +81,28 @@ impl<S: Alter> Ledger for SqlLedger<S> {
             self.begin()?;
             return Ok(0);
         }
-        match self.judge_take(first) {
-            Err(fault) => Err(fault),
-            Ok(Err(_)) => Ok(0),
-            Ok(Ok(closed)) => {
-                let count = run_of(first, &rows[1..], start, closed) + 1;
-                match self.put_taps(&rows[..count], closed) {
-                    Ok(()) => Ok(count),
-                    Err(fault) => Err(fault),
-                }
-            }
-        }
+        let Ok(closed) = self.judge_take(first)? else {
+            return Ok(0);
+        };
+        let count = run_of(first, &rows[1..], start, closed) + 1;
+        self.put_taps(&rows[..count], closed)?;
+        Ok(count)
     }
 
     fn state(&mut self, statement: &Statement) -> Result<(), Refused<StatementFault>> {
         if !self.is_mine(statement.owner(), statement.device()) {
             return Err(Refused::Because(StatementFault::NotMine));
         }
-        match self.judge_state(statement) {
-            Err(fault) => Err(Refused::Failed(fault)),
-            Ok(Err(why)) => Err(Refused::Because(why)),
-            Ok(Ok(())) => match self.put_statement(statement) {
-                Ok(()) => Ok(()),
-                Err(fault) => Err(Refused::Failed(fault)),
-            },
+        match self.judge_state(statement)? {
+            Err(why) => Err(Refused::Because(why)),
+            Ok(()) => Ok(self.put_statement(statement)?),
         }
     }
 
     fn close(&mut self, device: DeviceId, day: Day) -> Result<(), Refused<CloseFault>> {
-        match self.judge_day(device, day) {
-            Err(fault) => Err(Refused::Failed(fault)),
-            Ok(Err(why)) => Err(Refused::Because(why)),
-            Ok(Ok(lane)) => match self.put_close(device, &lane) {
-                Ok(()) => Ok(()),
-                Err(fault) => Err(Refused::Failed(fault)),
-            },
+        match self.judge_day(device, day)? {
+            Err(why) => Err(Refused::Because(why)),
+            Ok(lane) => Ok(self.put_close(device, &lane)?),
         }
     }
 
@@ -127,13 +110,9 @@ impl<S: Alter> Ledger for SqlLedger<S> {
         if !self.knows(device) {
             return Err(Refused::Because(RetireFault::NotMine));
         }
-        match self.judge_lane(device) {
-            Err(fault) => Err(Refused::Failed(fault)),
-            Ok(Err(why)) => Err(Refused::Because(why)),
-            Ok(Ok(())) => match self.put_retired(device) {
-                Ok(()) => Ok(()),
-                Err(fault) => Err(Refused::Failed(fault)),
-            },
+        match self.judge_lane(device)? {
+            Err(why) => Err(Refused::Because(why)),
+            Ok(()) => Ok(self.put_retired(device)?),
         }
     }
 
@@ -141,13 +120,9 @@ impl<S: Alter> Ledger for SqlLedger<S> {
         if !self.knows(device) {
             return Err(Refused::Because(ForgetFault::UnknownDevice));
         }
-        match self.judge_forget(device, day) {
-            Err(fault) => Err(Refused::Failed(fault)),
-            Ok(Err(why)) => Err(Refused::Because(why)),
-            Ok(Ok(cut)) => match self.put_forget(device, day, &cut) {
-                Ok(()) => Ok(()),
-                Err(fault) => Err(Refused::Failed(fault)),
-            },
+        match self.judge_forget(device, day)? {
+            Err(why) => Err(Refused::Because(why)),
+            Ok(cut) => Ok(self.put_forget(device, day, &cut)?),
         }
     }
 

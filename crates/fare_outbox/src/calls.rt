@@ -28,13 +28,9 @@ impl<S: Alter> Outbox for SqlOutbox<S> {
     }
 
     fn store(&mut self, row: &Record) -> Result<(), Refused<StoreFault>> {
-        match self.judge(row) {
-            Err(fault) => Err(Refused::Failed(fault)),
-            Ok(Err(why)) => Err(Refused::Because(why)),
-            Ok(Ok(())) => match self.put(row) {
-                Ok(()) => Ok(()),
-                Err(fault) => Err(Refused::Failed(fault)),
-            },
+        match self.judge(row)? {
+            Err(why) => Err(Refused::Because(why)),
+            Ok(()) => Ok(self.put(row)?),
         }
     }
 
@@ -43,20 +39,14 @@ impl<S: Alter> Outbox for SqlOutbox<S> {
         if count == 0 {
             return Ok(0);
         }
-        match self.put_all(&rows[..count]) {
-            Ok(()) => Ok(count),
-            Err(fault) => Err(fault),
-        }
+        self.put_all(&rows[..count])?;
+        Ok(count)
     }
 
     fn store_statement(&mut self, statement: &Statement) -> Result<(), Refused<StatedFault>> {
-        match self.judge_statement(statement) {
-            Err(fault) => Err(Refused::Failed(fault)),
-            Ok(Err(why)) => Err(Refused::Because(why)),
-            Ok(Ok(())) => match self.put_statement(statement) {
-                Ok(()) => Ok(()),
-                Err(fault) => Err(Refused::Failed(fault)),
-            },
+        match self.judge_statement(statement)? {
+            Err(why) => Err(Refused::Because(why)),
+            Ok(()) => Ok(self.put_statement(statement)?),
         }
     }
 

@@ -1,6 +1,6 @@
 -- One cursor of a table is written.
 use Rattle.std.proofs.Common.{◌≡◌, ℕ, ◌==◌, Bool, true, false, cond, nat_eq, Option, Some, refl, sym, ◌∙◌, ap, arith}
-use Rattle.std.specs.Prelude.{if◌then◌else◌, option_map}
+use Rattle.std.specs.Prelude.{if◌then◌else◌, option_map, Result, Ok, Err, OnErr}
 use Rattle.std.proofs.lemmas.Bool.Decides.{Decides-eqb, nat_tests}
 use Rattle.fare_route.specs.declared.cursor.Cursor.{Cursor}
 use Rattle.fare_route.specs.Routing.{changed}
@@ -23,3 +23,7 @@ kept device old new was there writes d = writes d ∙ by (nat_eq device d) refl
     by : (b : Bool) → nat_eq device d ≡ b → cond b (Some was) (old d) ≡ old d
     by true same = sym (ap old (sym ((Decides-eqb device d).0 same)) ∙ there)
     by false _ = refl
+
+pub on_err : {A E : Type 0} (r : Result A E) (P : Type 0) → P → OnErr r P
+on_err (Ok x) P p = tt
+on_err (Err e) P p = p

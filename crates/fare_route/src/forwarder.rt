@@ -89,13 +89,9 @@ impl Forwarder {
         let Some(cursor) = self.cursors.get_mut(&device) else {
             return Err(Refused::Because(UnknownDevice));
         };
-        match item_behind(outbox, self.owner, device, *cursor) {
-            Err(fault) => Err(Refused::Failed(fault)),
-            Ok((item, moved)) => {
-                *cursor = moved;
-                Ok(item)
-            }
-        }
+        let (item, moved) = item_behind(outbox, self.owner, device, *cursor)?;
+        *cursor = moved;
+        Ok(item)
     }
 
     /// Goes on with a device where the owner's ledger stands, by how many of its taps are taken and its last

@@ -70,10 +70,8 @@ fn taps_of_held_week<L: Ledger>(
     ensures dated { IsDay day }
 {
     prove!(day.get() <= 100_000);
-    match first_unheld(scheme, ledger, week_start(scheme, day)) {
-        Ok(None) => {}
-        Ok(Some(device)) => return Err(Refused::Because(BillingFault::Forgotten { device })),
-        Err(fault) => return Err(Refused::Failed(fault)),
+    if let Some(device) = first_unheld(scheme, ledger, week_start(scheme, day))? {
+        return Err(Refused::Because(BillingFault::Forgotten { device }));
     }
     match taps_of_week(alloc, scheme, ledger, day) {
         Ok(week) => Ok(week),
@@ -108,10 +106,8 @@ impl<O: Outbox, L: Ledger> Hub<O, L> {
         ensures value { AreClean O.standing L.standing self.new → AreSound O.standing L.standing self.old → IfOk result (λ told. (lists : ℕ → List RecordValue) (h : StoresValue) → AreNumberedLists lists → MayStandAs O.standing L.standing self.old h → Agrees self.old.scheme lists h → told.0 ≡ bill_of self.old.scheme (parts_of self.old.scheme lists (h.ledgers owner) owner) day) }
     {
         let (taps, short) = self.basis(alloc, owner, day)?.into_parts();
-        match day_bill(alloc, &self.scheme, &taps, day) {
-            Ok(bill) => Ok((bill, short)),
-            Err(_) => Err(Refused::Failed(Fault::Memory)),
-        }
+        let bill = day_bill(alloc, &self.scheme, &taps, day)?;
+        Ok((bill, short))
     }
 
     /// What each operator gets of an owner's bill of a day, in order of registration, and the devices of which it is
@@ -135,10 +131,8 @@ impl<O: Outbox, L: Ledger> Hub<O, L> {
         ensures value { AreClean O.standing L.standing self.new → AreSound O.standing L.standing self.old → IfOk result (λ told. (lists : ℕ → List RecordValue) (h : StoresValue) → AreNumberedLists lists → MayStandAs O.standing L.standing self.old h → Agrees self.old.scheme lists h → told.0 ≡ settlement_of self.old.scheme (parts_of self.old.scheme lists (h.ledgers owner) owner) day) }
     {
         let (taps, short) = self.basis(alloc, owner, day)?.into_parts();
-        match settle(alloc, &self.scheme, &taps, day) {
-            Ok(settlement) => Ok((settlement, short)),
-            Err(_) => Err(Refused::Failed(Fault::Memory)),
-        }
+        let settlement = settle(alloc, &self.scheme, &taps, day)?;
+        Ok((settlement, short))
     }
 
     // The taps that an owner has taken from where the week of a day begins to the day, once it has closed the day of

@@ -93,17 +93,10 @@ pub fn taps_of_week<L: Ledger>(
 ) -> Result<WeekTaps, Refused<BillFault>>
     ensures { Calls (L.standing ledger.old) (L.standing ledger.new) (fault_in result) (((L.standing ledger.new).value ≡ (L.standing ledger.old).value) × ((L.standing ledger.old).value.start ≤ day → Answered (IsWeekOf scheme.now (L.standing ledger.old).value day) result)) (λ v. ⊥) }
 {
-    match first_open(scheme, ledger, day) {
-        Ok(None) => {}
-        Ok(Some(device)) => return Err(Refused::Because(BillFault::NotClosed { device })),
-        Err(fault) => return Err(Refused::Failed(fault)),
+    if let Some(device) = first_open(scheme, ledger, day)? {
+        return Err(Refused::Because(BillFault::NotClosed { device }));
     }
-    let short = match short_devices(alloc, scheme, ledger, day) {
-        Ok(short) => short,
-        Err(fault) => return Err(Refused::Failed(fault)),
-    };
-    match ledger.taps_between(week_start(scheme, day), day) {
-        Ok(taps) => Ok(WeekTaps { taps, short }),
-        Err(fault) => Err(Refused::Failed(fault)),
-    }
+    let short = short_devices(alloc, scheme, ledger, day)?;
+    let taps = ledger.taps_between(week_start(scheme, day), day)?;
+    Ok(WeekTaps { taps, short })
 }

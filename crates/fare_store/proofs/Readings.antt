@@ -2,7 +2,9 @@
 use Rattle.std.proofs.Common.{◌≡◌, None, Some, refl, sym, ◌∙◌, subst, inl, inr}
 use Rattle.std.specs.Prelude.{◌⊎◌, Option, Result, Ok, Err, IsErrAnd}
 use Rattle.fare_store.specs.declared.fault.Fault.{Fault}
-use Rattle.fare_store.specs.Standing.{Standing, Calls, Counted, Reads}
+use Rattle.fare_store.specs.declared.fault.Refused.{Refused}
+use Rattle.fare_store.specs.declared.fault.Refused.TheVariants as refused
+use Rattle.fare_store.specs.Standing.{Standing, Calls, Counted, Reads, Writes}
 
 -- the same call, of which something else is said
 pub says : {V : Type 0} (a b : Standing V) (f : Option Fault) (P Q : Type 0) (C D : V → Type 0) → (a.lawful → P → Q) → ((v : V) → C v → D v) → Calls a b f P C → Calls a b f Q D
@@ -89,3 +91,8 @@ reads_say a b P Q f say c = record { value = λ live lawful. let is = c.value li
 pub read_failed : {V A : Type 0} (a b : Standing V) (P : Type 0) (answer : A → Type 0) (r : Result A Fault) (f : Fault) → IsErrAnd r (λ q. q ≡ f) → Calls a b (Some f) ((b.value ≡ a.value) × P) (λ v. ⊥) → Reads a b answer r
 read_failed a b P answer (Ok x) f is c = absurd is
 read_failed a b P answer (Err q) f is c = subst (λ (z : Fault). Calls a b (Some z) ((b.value ≡ a.value) × Unit {0}) (λ v. ⊥)) (sym is) (record { value = λ live lawful. let did = c.value live lawful in (did.0, (did.1.0, tt)); stop = c.stop; lasts = c.lasts; clean = c.clean; live = c.live; stays = c.stays; cause = c.cause })
+
+-- a write that failed
+pub write_failed : {V R : Type 0} (a b : Standing V) (judged : Result Unit R) (done : V) (r : Result Unit (Refused R)) (f : Fault) → IsErrAnd r (λ why. why ≡ refused.Failed f) → Calls a b (Some f) (b.value ≡ a.value) (λ v. (judged ≡ Ok tt) × (v ≡ done)) → Writes a b judged done r
+write_failed a b judged done (Ok x) f is c = absurd is
+write_failed {R} a b judged done (Err why) f is c = subst (λ (w : Refused R). Writes a b judged done (Err w)) (sym is) c

@@ -1,5 +1,6 @@
 ghost use Rattle.std.specs.Prelude.{◌≡◌};
 ghost use Rattle.fare_store.specs.declared.fault.Fault.TheVariants.{Memory};
+ghost use Rattle.fare_store.specs.declared.fault.Refused.TheVariants.{Failed};
 
 use std::alloc::{AllocError, AllocFailed};
 use thiserror::Error;
@@ -38,6 +39,22 @@ pub enum Refused<R> {
     Because(R),
     /// It failed.
     Failed(Fault),
+}
+
+impl<R> From<Fault> for Refused<R> {
+    ghost from_gives = { λ fault refused. refused ≡ Failed fault };
+
+    fn from(fault: Fault) -> Refused<R> {
+        Refused::Failed(fault)
+    }
+}
+
+impl<R> From<AllocError> for Refused<R> {
+    ghost from_gives = { λ _ refused. refused ≡ Failed Memory };
+
+    fn from(_: AllocError) -> Refused<R> {
+        Refused::Failed(Fault::Memory)
+    }
 }
 
 /// Why an outbox doesn't store a tap, in the order in which this is tested.

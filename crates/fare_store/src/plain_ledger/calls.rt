@@ -50,18 +50,12 @@ impl Ledger for PlainLedger {
         let retired = self.is_retired(device);
         match judge_tap(mine, held, closed, row.lane(), retired) {
             Err(why) => Err(Refused::Because(why)),
-            Ok(()) => match self.write_tap(row) {
-                Ok(()) => Ok(()),
-                Err(_) => Err(Refused::Failed(Fault::Memory)),
-            },
+            Ok(()) => Ok(self.write_tap(row)?),
         }
     }
 
     fn take_all(&mut self, rows: &[Record]) -> Result<usize, Fault> {
-        match self.take_each(rows) {
-            Ok(count) => Ok(count),
-            Err(_) => Err(Fault::Memory),
-        }
+        Ok(self.take_each(rows)?)
     }
 
     fn state(&mut self, statement: &Statement) -> Result<(), Refused<StatementFault>> {
@@ -70,10 +64,7 @@ impl Ledger for PlainLedger {
         let retired = self.is_retired(statement.device());
         match judge_statement(mine, held, statement.count(), retired) {
             Err(why) => Err(Refused::Because(why)),
-            Ok(()) => match self.write_statement(statement) {
-                Ok(()) => Ok(()),
-                Err(_) => Err(Refused::Failed(Fault::Memory)),
-            },
+            Ok(()) => Ok(self.write_statement(statement)?),
         }
     }
 
@@ -84,20 +75,14 @@ impl Ledger for PlainLedger {
         let retired = self.is_retired(device);
         match judge_close(stated, closed, next, self.held_of(device, day), retired) {
             Err(why) => Err(Refused::Because(why)),
-            Ok(()) => match self.write_close(device, day) {
-                Ok(()) => Ok(()),
-                Err(_) => Err(Refused::Failed(Fault::Memory)),
-            },
+            Ok(()) => Ok(self.write_close(device, day)?),
         }
     }
 
     fn retire(&mut self, device: DeviceId) -> Result<(), Refused<RetireFault>> {
         match judge_retire(self.knows(device), self.is_retired(device)) {
             Err(why) => Err(Refused::Because(why)),
-            Ok(()) => match self.write_retired(device) {
-                Ok(()) => Ok(()),
-                Err(_) => Err(Refused::Failed(Fault::Memory)),
-            },
+            Ok(()) => Ok(self.write_retired(device)?),
         }
     }
 
@@ -108,10 +93,7 @@ impl Ledger for PlainLedger {
         if !self.is_over_before(device, day) {
             return Err(Refused::Because(ForgetFault::NotClosed));
         }
-        match self.let_go(device, day) {
-            Ok(()) => Ok(()),
-            Err(_) => Err(Refused::Failed(Fault::Memory)),
-        }
+        Ok(self.let_go(device, day)?)
     }
 
     fn held_from(&mut self, device: DeviceId) -> Result<Day, Fault> {

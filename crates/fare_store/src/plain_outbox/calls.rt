@@ -22,27 +22,18 @@ impl Outbox for PlainOutbox {
     fn store(&mut self, row: &Record) -> Result<(), Refused<StoreFault>> {
         match self.judge(row) {
             Err(why) => Err(Refused::Because(why)),
-            Ok(()) => match self.push(row) {
-                Ok(()) => Ok(()),
-                Err(_) => Err(Refused::Failed(Fault::Memory)),
-            },
+            Ok(()) => Ok(self.push(row)?),
         }
     }
 
     fn store_all(&mut self, rows: &[Record]) -> Result<usize, Fault> {
-        match self.push_all(rows) {
-            Ok(count) => Ok(count),
-            Err(_) => Err(Fault::Memory),
-        }
+        Ok(self.push_all(rows)?)
     }
 
     fn store_statement(&mut self, statement: &Statement) -> Result<(), Refused<StatedFault>> {
         match self.judge_statement(statement) {
             Err(why) => Err(Refused::Because(why)),
-            Ok(()) => match self.push_statement(statement) {
-                Ok(()) => Ok(()),
-                Err(_) => Err(Refused::Failed(Fault::Memory)),
-            },
+            Ok(()) => Ok(self.push_statement(statement)?),
         }
     }
 

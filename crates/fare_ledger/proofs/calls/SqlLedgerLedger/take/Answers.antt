@@ -1,47 +1,49 @@
 use Rattle.std.proofs.Common.{◌≡◌, Some, None, Ok, Err, sym, ap, subst, ◌∙◌}
 use Rattle.fare_store.specs.Standing.{Calls}
 use Rattle.fare_tables.specs.Tabled.{given}
-use Rattle.fare_tables.proofs.Steps.{says, given_more, write_then}
+use Rattle.fare_tables.proofs.Steps.{says, write_failed, given_more, write_then}
 use Rattle.fare_store.specs.LedgerWords.{LedgerValue, take_judged, took}
 use Rattle.fare_ledger.specs.Words.{stands, JudgesTap, MayTake}
 use Rattle.fare_ledger.proofs.Judged.{may_take}
 use Rattle.fare_ledger.proofs.calls.SqlLedgerLedger.take.Goals as goal
 
-pub returns-in-Err-clause-does : goal.returns-in-Err-clause-does
-returns-in-Err-clause-does g c mine = says (stands g.S.Store c.args.self.now) (stands g.S.Store c.judge_take.new.self) (Some c.in-Err.fault) _ _ (λ v. ⊥) _ (λ lawful p. p.0) (λ v none. absurd none) c.in-Err.ensures.does
+pub returns-in_err-why-clause-does : goal.returns-in_err-why-clause-does
+returns-in_err-why-clause-does g c mine =
+    write_failed (stands g.S.Store c.args.self.now) (stands g.S.Store c.judge_take.new.self) _ _ c.from_residual.result c.in_err-why.field-0.0 c.from_residual.ensures.1
+    (says (stands g.S.Store c.args.self.now) (stands g.S.Store c.judge_take.new.self) (Some c.in_err-why.field-0.0) _ _ (λ v. ⊥) _ (λ lawful p. p.0) (λ v none. absurd none) c.in_err-why.ensures.does)
 
-pub returns-in-Ok-clause-does : goal.returns-in-Ok-clause-does
-returns-in-Ok-clause-does g c mine =
+pub returns-in_ok-put_tap-in-Ok-clause-does : goal.returns-in_ok-put_tap-in-Ok-clause-does
+returns-in_ok-put_tap-in-Ok-clause-does g c mine =
     let a = stands g.S.Store c.args.self.now in
     let b = stands g.S.Store c.judge_take.new.self in
     let d = stands g.S.Store c.put_tap.new.self in
     let r = c.args.row.now in
-    let P : Type 0 = JudgesTap a.value r (Ok c.in-Ok-Ok.closed) in
-    let first : Calls a b None ((b.value ≡ a.value) × P) (λ v. ⊥) = rw c.in-Ok-Ok.field-0-is at c.in-Ok-Ok.ensures.does in
-    let second : Calls (given (MayTake b.value r c.in-Ok-Ok.closed) b) d None (d.value ≡ took r b.value) (λ v. v ≡ took r b.value) = c.in-Ok.ensures in
+    let P : Type 0 = JudgesTap a.value r (Ok c.in-Ok.closed) in
+    let first : Calls a b None ((b.value ≡ a.value) × P) (λ v. ⊥) = rw c.in-Ok.is at c.in_ok-why.ensures.does in
+    let second : Calls (given (MayTake b.value r c.in-Ok.closed) b) d None (d.value ≡ took r b.value) (λ v. v ≡ took r b.value) = c.in_ok-put_tap-in-Ok.ensures in
     says a d None _ _ (λ v. (take_judged a.value r ≡ Ok tt) × (v ≡ took r a.value)) _ (λ lawful p. (p.1.0, p.2 ∙ ap (took r) p.0)) (λ v is. is)
     (write_then a b d P (d.value ≡ took r b.value) None (λ v. v ≡ took r b.value) (λ v. (take_judged a.value r ≡ Ok tt) × (v ≡ took r a.value))
     (λ p v is. (p.1.0, is ∙ ap (took r) p.0)) first
-    (given_more b d _ _ _ None _ (λ p. subst (λ (v : LedgerValue). MayTake v r c.in-Ok-Ok.closed) (sym p.0) (may_take a.value r c.in-Ok-Ok.closed p.1)) second))
+    (given_more b d _ _ _ None _ (λ p. subst (λ (v : LedgerValue). MayTake v r c.in-Ok.closed) (sym p.0) (may_take a.value r c.in-Ok.closed p.1)) second))
 
-pub returns-in-Err-put_tap-clause-does : goal.returns-in-Err-put_tap-clause-does
-returns-in-Err-put_tap-clause-does g c mine =
+pub returns-in_err-put_tap-in-Ok-clause-does : goal.returns-in_err-put_tap-in-Ok-clause-does
+returns-in_err-put_tap-in-Ok-clause-does g c mine =
     let a = stands g.S.Store c.args.self.now in
     let b = stands g.S.Store c.judge_take.new.self in
     let d = stands g.S.Store c.put_tap.new.self in
     let r = c.args.row.now in
-    let P : Type 0 = JudgesTap a.value r (Ok c.in-Ok-Ok.closed) in
-    let first : Calls a b None ((b.value ≡ a.value) × P) (λ v. ⊥) = rw c.in-Ok-Ok.field-0-is at c.in-Ok-Ok.ensures.does in
-    let second : Calls (given (MayTake b.value r c.in-Ok-Ok.closed) b) d (Some c.in-Err-put_tap.fault) (d.value ≡ b.value) (λ v. v ≡ took r b.value) = c.in-Err-put_tap.ensures in
-    says a d (Some c.in-Err-put_tap.fault) _ _ (λ v. (take_judged a.value r ≡ Ok tt) × (v ≡ took r a.value)) _ (λ lawful p. p.2 ∙ p.0) (λ v is. is)
-    (write_then a b d P (d.value ≡ b.value) (Some c.in-Err-put_tap.fault) (λ v. v ≡ took r b.value) (λ v. (take_judged a.value r ≡ Ok tt) × (v ≡ took r a.value))
+    let P : Type 0 = JudgesTap a.value r (Ok c.in-Ok.closed) in
+    let first : Calls a b None ((b.value ≡ a.value) × P) (λ v. ⊥) = rw c.in-Ok.is at c.in_ok-why.ensures.does in
+    let second : Calls (given (MayTake b.value r c.in-Ok.closed) b) d (Some c.in_err-put_tap-in-Ok.field-0.0) (d.value ≡ b.value) (λ v. v ≡ took r b.value) = c.in_err-put_tap-in-Ok.ensures in
+    write_failed a d _ _ c.from_residual-in_err-put_tap-in-Ok.result c.in_err-put_tap-in-Ok.field-0.0 c.from_residual-in_err-put_tap-in-Ok.ensures.1 (says a d (Some c.in_err-put_tap-in-Ok.field-0.0) _ _ (λ v. (take_judged a.value r ≡ Ok tt) × (v ≡ took r a.value)) _ (λ lawful p. p.2 ∙ p.0) (λ v is. is)
+    (write_then a b d P (d.value ≡ b.value) (Some c.in_err-put_tap-in-Ok.field-0.0) (λ v. v ≡ took r b.value) (λ v. (take_judged a.value r ≡ Ok tt) × (v ≡ took r a.value))
     (λ p v is. (p.1.0, is ∙ ap (took r) p.0)) first
-    (given_more b d _ _ _ (Some _) _ (λ p. subst (λ (v : LedgerValue). MayTake v r c.in-Ok-Ok.closed) (sym p.0) (may_take a.value r c.in-Ok-Ok.closed p.1)) second))
+    (given_more b d _ _ _ (Some _) _ (λ p. subst (λ (v : LedgerValue). MayTake v r c.in-Ok.closed) (sym p.0) (may_take a.value r c.in-Ok.closed p.1)) second)))
 
-pub returns-in-Ok-Err-clause-does : goal.returns-in-Ok-Err-clause-does
-returns-in-Ok-Err-clause-does g c mine =
+pub returns-in-Err-clause-does : goal.returns-in-Err-clause-does
+returns-in-Err-clause-does g c mine =
     let a = stands g.S.Store c.args.self.now in
     let b = stands g.S.Store c.judge_take.new.self in
     let r = c.args.row.now in
-    let first : Calls a b None ((b.value ≡ a.value) × (take_judged a.value r ≡ Err c.in-Ok-Err.why)) (λ v. ⊥) = rw c.in-Ok-Err.field-0-is at c.in-Ok-Err.ensures.does in
+    let first : Calls a b None ((b.value ≡ a.value) × (take_judged a.value r ≡ Err c.in-Err.why)) (λ v. ⊥) = rw c.in-Err.is at c.in_ok-why.ensures.does in
     says a b None _ _ (λ v. ⊥) _ (λ lawful p. (p.1, p.0)) (λ v none. absurd none) first

@@ -3,38 +3,40 @@ use Rattle.fare_store.specs.declared.fault.StoreFault.{StoreFault}
 use Rattle.fare_store.specs.Standing.{Calls}
 use Rattle.fare_store.specs.OutboxWords.{OutboxValue, store_judged, stored}
 use Rattle.fare_tables.specs.Tabled.{given}
-use Rattle.fare_tables.proofs.Steps.{says, given_more, write_then}
+use Rattle.fare_tables.proofs.Steps.{says, write_failed, given_more, write_then}
 use Rattle.fare_outbox.specs.Words.{stands, MayStore}
 use Rattle.fare_outbox.proofs.Judged.{may_store}
 use Rattle.fare_outbox.proofs.calls.SqlOutboxOutbox.store.Goals as goal
 
-pub returns-in-Err : goal.returns-in-Err
-returns-in-Err g c = says (stands g.S.Store c.args.self.now) (stands g.S.Store c.judge.new.self) (Some c.in-Err.fault) _ _ (λ v. ⊥) _ (λ lawful p. p.0) (λ v none. absurd none) c.in-Err.ensures.does
+pub returns-in_err-why : goal.returns-in_err-why
+returns-in_err-why g c =
+    write_failed (stands g.S.Store c.args.self.now) (stands g.S.Store c.judge.new.self) _ _ c.from_residual.result c.in_err-why.field-0.0 c.from_residual.ensures.1
+    (says (stands g.S.Store c.args.self.now) (stands g.S.Store c.judge.new.self) (Some c.in_err-why.field-0.0) _ _ (λ v. ⊥) _ (λ lawful p. p.0) (λ v none. absurd none) c.in_err-why.ensures.does)
 
-pub returns-in-Ok : goal.returns-in-Ok
-returns-in-Ok g c =
+pub returns-in_ok-put-in-Ok : goal.returns-in_ok-put-in-Ok
+returns-in_ok-put-in-Ok g c =
     let a = stands g.S.Store c.args.self.now in
     let b = stands g.S.Store c.judge.new.self in
     let d = stands g.S.Store c.put.new.self in
     let r = c.args.row.now in
     let P : Type 0 = ◌≡◌ {A = Result Unit StoreFault} (Ok tt) (store_judged a.value r) in
-    let first : Calls a b None ((b.value ≡ a.value) × P) (λ v. ⊥) = rw c.in-Ok-Ok.field-0-is at c.in-Ok-Ok.ensures.does in
-    let second : Calls (given (MayStore b.value r) b) d None (d.value ≡ stored r b.value) (λ v. v ≡ stored r b.value) = c.in-Ok.ensures in
+    let first : Calls a b None ((b.value ≡ a.value) × P) (λ v. ⊥) = rw c.in-Ok.is at c.in_ok-why.ensures.does in
+    let second : Calls (given (MayStore b.value r) b) d None (d.value ≡ stored r b.value) (λ v. v ≡ stored r b.value) = c.in_ok-put-in-Ok.ensures in
     says a d None _ _ (λ v. (store_judged a.value r ≡ Ok tt) × (v ≡ stored r a.value)) _ (λ lawful p. (sym p.1, p.2 ∙ ap (stored r) p.0)) (λ v is. is)
     (write_then a b d P (d.value ≡ stored r b.value) None (λ v. v ≡ stored r b.value) (λ v. (store_judged a.value r ≡ Ok tt) × (v ≡ stored r a.value))
     (λ p v is. (sym p.1, is ∙ ap (stored r) p.0)) first
     (given_more b d _ _ _ None _ (λ p. subst (λ (v : OutboxValue). MayStore v r) (sym p.0) (may_store a.value r p.1)) second))
 
-pub returns-in-Err-put : goal.returns-in-Err-put
-returns-in-Err-put g c =
+pub returns-in_err-put-in-Ok : goal.returns-in_err-put-in-Ok
+returns-in_err-put-in-Ok g c =
     let a = stands g.S.Store c.args.self.now in
     let b = stands g.S.Store c.judge.new.self in
     let d = stands g.S.Store c.put.new.self in
     let r = c.args.row.now in
     let P : Type 0 = ◌≡◌ {A = Result Unit StoreFault} (Ok tt) (store_judged a.value r) in
-    let first : Calls a b None ((b.value ≡ a.value) × P) (λ v. ⊥) = rw c.in-Ok-Ok.field-0-is at c.in-Ok-Ok.ensures.does in
-    let second : Calls (given (MayStore b.value r) b) d (Some c.in-Err-put.fault) (d.value ≡ b.value) (λ v. v ≡ stored r b.value) = c.in-Err-put.ensures in
-    says a d (Some c.in-Err-put.fault) _ _ (λ v. (store_judged a.value r ≡ Ok tt) × (v ≡ stored r a.value)) _ (λ lawful p. p.2 ∙ p.0) (λ v is. is)
-    (write_then a b d P (d.value ≡ b.value) (Some c.in-Err-put.fault) (λ v. v ≡ stored r b.value) (λ v. (store_judged a.value r ≡ Ok tt) × (v ≡ stored r a.value))
+    let first : Calls a b None ((b.value ≡ a.value) × P) (λ v. ⊥) = rw c.in-Ok.is at c.in_ok-why.ensures.does in
+    let second : Calls (given (MayStore b.value r) b) d (Some c.in_err-put-in-Ok.field-0.0) (d.value ≡ b.value) (λ v. v ≡ stored r b.value) = c.in_err-put-in-Ok.ensures in
+    write_failed a d _ _ c.from_residual-in_err-put-in-Ok.result c.in_err-put-in-Ok.field-0.0 c.from_residual-in_err-put-in-Ok.ensures.1 (says a d (Some c.in_err-put-in-Ok.field-0.0) _ _ (λ v. (store_judged a.value r ≡ Ok tt) × (v ≡ stored r a.value)) _ (λ lawful p. p.2 ∙ p.0) (λ v is. is)
+    (write_then a b d P (d.value ≡ b.value) (Some c.in_err-put-in-Ok.field-0.0) (λ v. v ≡ stored r b.value) (λ v. (store_judged a.value r ≡ Ok tt) × (v ≡ stored r a.value))
     (λ p v is. (sym p.1, is ∙ ap (stored r) p.0)) first
-    (given_more b d _ _ _ (Some _) _ (λ p. subst (λ (v : OutboxValue). MayStore v r) (sym p.0) (may_store a.value r p.1)) second))
+    (given_more b d _ _ _ (Some _) _ (λ p. subst (λ (v : OutboxValue). MayStore v r) (sym p.0) (may_store a.value r p.1)) second)))
