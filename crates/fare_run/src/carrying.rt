@@ -1,6 +1,7 @@
-ghost use Rattle.std.specs.Prelude.{◌≡◌, map, IfErr};
-ghost use Rattle.fare_run.specs.Carrying.{CarriesOut, DoesLeft};
-ghost use Rattle.fare_run.specs.Runs.{IsBefore};
+ghost use Rattle.std.specs.Prelude.{◌≡◌, ◌⊎◌, map, Err, IfErr};
+ghost use Rattle.fare_run.specs.Carrying.{CarriesOut, DoesLeft, DoesOnFiles};
+ghost use Rattle.fare_run.specs.Runs.{AsksForFiles, IsBefore};
+ghost use Rattle.fare_run.specs.declared.failure.Failure.TheVariants.{Memory};
 
 use crate::ask_job::ask;
 use crate::failure::Failure;
@@ -53,6 +54,7 @@ pub fn carry_out<
 ) -> Result<(), Failure>
     ensures carries { CarriesOut (map (λ word. word.now) words.now) (I.remaining input.old) (O.contents output.old) (O.contents output.new) result }
     ensures untouched { IfErr result (λ failure. IsBefore failure → (input.new ≡ input.old) × (output.new ≡ output.old)) }
+    ensures files { AsksForFiles (map (λ word. word.now) words.now) → (result ≡ Err Memory) ⊎ DoesOnFiles (map (λ word. word.now) words.now) (I.remaining input.old) (O.contents output.old) (O.contents output.new) result }
 {
     match run(rt.alloc(), words, input, output)? {
         None => Ok(()),

@@ -13,7 +13,7 @@ use std::io::Write;
 
 /// The status of a run, and whether this is what standard error gets of it: the whole line of a failure, or the
 /// begin of what refused words are told.
-fn told(alloc: Global, ended: &Result<(), Failure>, said: &str) -> Option<(u8, bool)> {
+pub(crate) fn told(alloc: Global, ended: &Result<(), Failure>, said: &str) -> Option<(u8, bool)> {
     let Err(failure) = ended else {
         return Some((0, said.is_empty()));
     };

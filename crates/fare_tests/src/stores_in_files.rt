@@ -7,6 +7,7 @@ use fare_replay::{ReplayFault, replay};
 use fare_run::{AskFailure, AskOptions, ServeFailure, ServeOptions, ask, serve};
 use fare_samples::{GREETED, STATED, TAPPED};
 use fare_serve::Limits;
+use std::alloc::Global;
 use std::fs;
 use std::io::{self, ErrorKind, Write};
 use std::net::{Ipv4Addr, Net, Shutdown, TcpListener, TcpStream};
@@ -28,7 +29,7 @@ const DEMO: &[u8] = b"demo 1 4 4 4\n";
 
 /// Takes what is written, and once it learns the port connects to it, sends a validator's frames, and ends that side.
 #[derive(Drop)]
-struct Dialler<'a, R> {
+pub(crate) struct Dialler<'a, R> {
     rt: &'a R,
     frames: &'a [&'a [u8]],
     said: Vec<u8>,
@@ -42,6 +43,23 @@ fn port_in(line: &[u8]) -> Option<u16> {
 }
 
 impl<'a, R: Net<Listener = TcpListener, Stream = TcpStream>> Dialler<'a, R> {
+    /// One that has written nothing yet, with these frames to send.
+    pub(crate) fn new(alloc: Global, rt: &'a R, frames: &'a [&'a [u8]]) -> Dialler<'a, R> {
+        Dialler {
+            rt,
+            frames,
+            said: Vec::new(alloc),
+            line: None,
+        }
+    }
+
+    /// What was written behind the port, once its line is let go.
+    pub(crate) fn into_said(self) -> Vec<u8> {
+        let Dialler { said, line, .. } = self;
+        drop(line);
+        said
+    }
+
     // A line on which these frames were sent.
     fn dial(&self, port: u16) -> io::Result<TcpStream> {
         let mut stream = TcpStream::connect(self.rt, (Ipv4Addr::LOCALHOST, port))?;
@@ -84,12 +102,7 @@ pub(crate) fn served_by<
     frames: &[&[u8]],
 ) -> (Result<(), ServeFailure>, Vec<u8>) {
     let mut input = input;
-    let mut output = Dialler {
-        rt: handles,
-        frames,
-        said: Vec::new(rt.alloc()),
-        line: None,
-    };
+    let mut output = Dialler::new(rt.alloc(), handles, frames);
     let options = ServeOptions {
         port: 0,
         path,
@@ -99,9 +112,7 @@ pub(crate) fn served_by<
         ask: None,
     };
     let ended = serve(rt, handles, &options, &mut input, &mut output);
-    let Dialler { said, line, .. } = output;
-    drop(line);
-    (ended, said)
+    (ended, output.into_said())
 }
 
 // The same of a scheme on the input.
@@ -160,12 +171,7 @@ fn served_from<
     file: &'a str,
 ) -> (Result<(), ServeFailure>, Vec<u8>, usize) {
     let mut input = NO_TRACE;
-    let mut output = Dialler {
-        rt: handles,
-        frames: &[],
-        said: Vec::new(rt.alloc()),
-        line: None,
-    };
+    let mut output = Dialler::new(rt.alloc(), handles, &[]);
     let options = ServeOptions {
         port: 0,
         path,
@@ -175,9 +181,7 @@ fn served_from<
         ask: None,
     };
     let ended = serve(rt, handles, &options, &mut input, &mut output);
-    let Dialler { said, line, .. } = output;
-    drop(line);
-    (ended, said, input.len())
+    (ended, output.into_said(), input.len())
 }
 
 // How the question where the lanes of these stores stand ends, for the scheme in a file, what is written, and how many bytes
