@@ -1,5 +1,5 @@
 //! Sources of frames that are written down, and schemes for them, for the tests of sessions.
-ghost use Rattle.std.specs.Prelude.{◌≡◌, ◌≤◌, ◌+◌, ◌++◌, ◌∷◌, [], map, vec_len, vec_capacity, IfSome};
+ghost use Rattle.std.specs.Prelude.{◌≡◌, ◌≤◌, ◌+◌, ◌++◌, ◌∷◌, [], map, reverse, slice_get, vec_len, vec_capacity, IfSome};
 ghost use Rattle.fare_day.specs.Clock.{HasRule};
 ghost use Rattle.fare_scheme.specs.Demo.{demo_rule, demo_scheme};
 ghost use Rattle.fare_scripts.specs.Sources.{tap_frame, IsSourceOf, AreSourcesOf};
@@ -82,7 +82,10 @@ impl Source for Script {
 
 impl Script {
     /// The frame that it was answered last, behind the one before it.
-    pub fn last_two(&self) -> (Option<Frame>, Option<Frame>) {
+    pub fn last_two(&self) -> (Option<Frame>, Option<Frame>)
+        ensures before { result.0 ≡ slice_get (reverse self.now.answered.items) 1 }
+        ensures last { result.1 ≡ slice_get (reverse self.now.answered.items) 0 }
+    {
         let count = self.answered.len();
         let before = count
             .checked_sub(2)
