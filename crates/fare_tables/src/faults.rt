@@ -1,5 +1,5 @@
 ghost use Rattle.std.specs.Prelude.{◌≡◌, Some};
-ghost use Rattle.fare_store.specs.Standing.{Counted};
+ghost use Rattle.fare_store.specs.Standing.{Counted, fault_of};
 ghost use Rattle.fare_tables.specs.Asking.{fault_named};
 
 use fare_store::Fault;
@@ -28,5 +28,16 @@ pub fn note(failures: &mut u64, fault: Fault) -> Fault
             }
             Fault::Store
         }
+    }
+}
+
+/// What was answered, with its fault counted where it is `Store`.
+pub fn noted<T>(failures: &mut u64, answer: Result<T, Fault>) -> Result<T, Fault>
+    ensures same { result ≡ answer }
+    ensures counted { Counted failures.old failures.new (fault_of result) }
+{
+    match answer {
+        Ok(value) => Ok(value),
+        Err(fault) => Err(note(failures, fault)),
     }
 }

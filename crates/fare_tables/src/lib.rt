@@ -13,6 +13,6 @@ mod records;
 pub use asking::{ask, ask_all, touch};
 pub use cells::{cell_number, cell_total, parameter};
 pub use changing::{change, commit};
-pub use faults::{fault_of, note};
+pub use faults::{fault_of, note, noted};
 pub use opening::{OpenFault, make_table, open_fault};
 pub use records::{cell_count, cell_day, cell_tap_number, tap_in_cells};
