@@ -11,7 +11,7 @@ use Rattle.fare_store.specs.Standing.{Standing, Calls}
 use Rattle.fare_store.specs.LedgerWords.{LedgerValue, is_mine, is_closed, take_judged, took}
 use Rattle.fare_store.specs.Batches.{done_all, AreAccepted, IsPartDone, IsRefusedFirst, WritesFirst}
 use Rattle.fare_tables.specs.Tabled.{IsLeft, given}
-use Rattle.fare_tables.proofs.Steps.{says, given_more, write_then}
+use Rattle.fare_tables.proofs.Steps.{says, given_more, write_then, first_failed}
 use Rattle.sqlite.specs.Effect.{Database, IsDatabase}
 use Rattle.sqlite.specs.Tree.{Trees}
 use Rattle.fare_ledger.specs.declared.lane.Lane.{Lane}
@@ -128,8 +128,7 @@ pub judging_failed : (a b : Standing LedgerValue) (rs : List RecordValue) (f : F
 judging_failed a b rs f P c = says a b (Some f) _ _ (λ v. ⊥) (IsPartDone take_judged took a.value rs) (λ lawful p. p.0) (λ v none. absurd none) c
 
 pub begin_failed : (a b : Standing LedgerValue) (rs : List RecordValue) (r : Result ℕ Fault) (f : Fault) (P : Type 0) → IsErrAnd r (λ q. q ≡ f) → Calls a b (Some f) ((b.value ≡ a.value) × P) (λ v. ⊥) → WritesFirst take_judged took a b rs r
-begin_failed a b rs (Ok n) f P is c = absurd is
-begin_failed a b rs (Err q) f P is c = subst (λ (z : Fault). WritesFirst take_judged took a b rs (Err z)) (sym is) (judging_failed a b rs f P c)
+begin_failed a b rs r f P is c = first_failed take_judged took a b rs r f is (judging_failed a b rs f P c)
 
 written : (a b d : Standing LedgerValue) (rs : List RecordValue) (n closed : ℕ) (f : Option Fault) (P did result : Type 0) → n ≤ length rs → (P → AreTakable a.value closed (take n rs))
     → Calls a b None ((b.value ≡ a.value) × P) (λ v. ⊥)

@@ -18,7 +18,7 @@ use Rattle.fare_store.specs.Batches.{done_all, AreAccepted, IsPartDone, WritesFi
 use Rattle.fare_store.proofs.Batches.{accepted-push}
 use Rattle.fare_tables.specs.Tabled.{IsFit, IsLeft, given}
 use Rattle.fare_tables.proofs.Lists.{all_pushed}
-use Rattle.fare_tables.proofs.Steps.{says, given_more, write_then}
+use Rattle.fare_tables.proofs.Steps.{says, given_more, write_then, first_failed}
 use Rattle.fare_outbox_rows.specs.declared.layout.Layout.{Layout}
 use Rattle.fare_outbox_rows.specs.Layouts.{schema_in, ours}
 use Rattle.fare_outbox_rows.specs.Held.{Held, AreReadable, Becomes, MayBecome, held_of, with_tap}
@@ -213,7 +213,4 @@ written_none a b rs n none c =
     says a b None _ _ (λ v. ⊥) (IsPartDone store_judged stored a.value rs) (λ lawful p. record { few = omega arith; accepted = tt; value = p.0; some = λ e. p.1.some none }) (λ v is. absurd is) c
 
 pub judging_failed : (a b : Standing OutboxValue) (rs : List RecordValue) (r : Result ℕ Fault) (f : Fault) (P : Type 0) → IsErrAnd r (λ q. q ≡ f) → Calls a b (Some f) ((b.value ≡ a.value) × P) (λ v. ⊥) → WritesFirst store_judged stored a b rs r
-judging_failed a b rs (Ok n) f P is c = absurd is
-judging_failed a b rs (Err q) f P is c =
-    subst (λ (z : Fault). Calls a b (Some z) (b.value ≡ a.value) (IsPartDone store_judged stored a.value rs)) (sym is)
-    (says a b (Some f) _ _ (λ v. ⊥) (IsPartDone store_judged stored a.value rs) (λ lawful p. p.0) (λ v none. absurd none) c)
+judging_failed a b rs r f P is c = first_failed store_judged stored a b rs r f is (says a b (Some f) _ _ (λ v. ⊥) (IsPartDone store_judged stored a.value rs) (λ lawful p. p.0) (λ v none. absurd none) c)

@@ -1,5 +1,5 @@
 -- Calls of a store in memory.
-use Rattle.std.proofs.Common.{◌≡◌, ℕ, List, Ok, Err, Some, None, refl, sym, ◌∙◌, subst, inl, inr}
+use Rattle.std.proofs.Common.{◌≡◌, ℕ, List, Some, None, refl, sym, ◌∙◌, subst, inl, inr}
 use Rattle.std.specs.Prelude.{◌⊎◌, Option, Result, IsErrAnd}
 use Rattle.fare_store.specs.Batches.{WritesFirst}
 use Rattle.fare_store.specs.declared.fault.Fault.{Fault}
@@ -7,6 +7,7 @@ use Rattle.fare_store.specs.declared.fault.Fault.TheVariants as fault
 use Rattle.fare_store.specs.declared.fault.Refused.{Refused}
 use Rattle.fare_store.specs.declared.fault.Refused.TheVariants as refused
 use Rattle.fare_store.specs.Standing.{Calls, Counted, Writes, plain}
+use Rattle.fare_store.proofs.Readings.{write_failed, first_failed}
 
 -- it fails, but for want of memory
 abbrev pub IsPlainFault : Option Fault → Type 0
@@ -31,12 +32,8 @@ plain_call old new f did commits not d kept = record {
 
 -- a write that fails for want of memory, and leaves what was there
 pub plain_write_failed : {V R : Type 0} (old new : V) (judged : Result Unit R) (done : V) (r : Result Unit (Refused R)) → IsErrAnd r (λ why. why ≡ refused.Failed fault.Memory) → new ≡ old → Writes (plain old) (plain new) judged done r
-plain_write_failed old new judged done (Ok x) is same = absurd is
-plain_write_failed {R} old new judged done (Err why) is same =
-    subst (λ (w : Refused R). Writes (plain old) (plain new) judged done (Err w)) (sym is) (plain_call old new (Some fault.Memory) _ _ (λ e. absurd (cc)) same (inl same))
+plain_write_failed old new judged done r is same = write_failed (plain old) (plain new) judged done r fault.Memory is (plain_call old new (Some fault.Memory) _ _ (λ e. absurd (cc)) same (inl same))
 
 -- the same of several at once
 pub plain_first_failed : {V A R : Type 0} (judged : V → A → Result Unit R) (done : A → V → V) (old new : V) (items : List A) (r : Result ℕ Fault) → IsErrAnd r (λ f. f ≡ fault.Memory) → new ≡ old → WritesFirst judged done (plain old) (plain new) items r
-plain_first_failed judged done old new items (Ok n) is same = absurd is
-plain_first_failed judged done old new items (Err f) is same =
-    subst (λ (z : Fault). WritesFirst judged done (plain old) (plain new) items (Err z)) (sym is) (plain_call old new (Some fault.Memory) _ _ (λ e. absurd (cc)) same (inl same))
+plain_first_failed judged done old new items r is same = first_failed judged done (plain old) (plain new) items r fault.Memory is (plain_call old new (Some fault.Memory) _ _ (λ e. absurd (cc)) same (inl same))

@@ -1,9 +1,10 @@
 -- Calls of a store one after the other, most of them reads.
-use Rattle.std.proofs.Common.{◌≡◌, None, Some, refl, sym, ◌∙◌, subst, inl, inr}
+use Rattle.std.proofs.Common.{◌≡◌, ℕ, List, None, Some, refl, sym, ◌∙◌, subst, inl, inr}
 use Rattle.std.specs.Prelude.{◌⊎◌, Option, Result, Ok, Err, IsErrAnd}
 use Rattle.fare_store.specs.declared.fault.Fault.{Fault}
 use Rattle.fare_store.specs.declared.fault.Refused.{Refused}
 use Rattle.fare_store.specs.declared.fault.Refused.TheVariants as refused
+use Rattle.fare_store.specs.Batches.{WritesFirst}
 use Rattle.fare_store.specs.Standing.{Standing, Calls, Counted, Reads, Writes}
 
 -- the same call, of which something else is said
@@ -96,3 +97,8 @@ read_failed a b P answer (Err q) f is c = subst (λ (z : Fault). Calls a b (Some
 pub write_failed : {V R : Type 0} (a b : Standing V) (judged : Result Unit R) (done : V) (r : Result Unit (Refused R)) (f : Fault) → IsErrAnd r (λ why. why ≡ refused.Failed f) → Calls a b (Some f) (b.value ≡ a.value) (λ v. (judged ≡ Ok tt) × (v ≡ done)) → Writes a b judged done r
 write_failed a b judged done (Ok x) f is c = absurd is
 write_failed {R} a b judged done (Err why) f is c = subst (λ (w : Refused R). Writes a b judged done (Err w)) (sym is) c
+
+-- a write of the first of several that failed
+pub first_failed : {V A R : Type 0} (judged : V → A → Result Unit R) (done : A → V → V) (a b : Standing V) (items : List A) (r : Result ℕ Fault) (f : Fault) → IsErrAnd r (λ q. q ≡ f) → WritesFirst judged done a b items (Err f) → WritesFirst judged done a b items r
+first_failed judged done a b items (Ok n) f is c = absurd is
+first_failed judged done a b items (Err q) f is c = subst (λ (z : Fault). WritesFirst judged done a b items (Err z)) (sym is) c

@@ -6,9 +6,8 @@ use Rattle.sqlite.specs.Schema.{Schema}
 use Rattle.sqlite.specs.Effect.{Database, IsDatabase}
 use Rattle.sqlite.specs.State.{State, Survives, HasCleanDisk}
 use Rattle.fare_store.specs.declared.fault.Fault.{Fault}
-use Rattle.fare_store.specs.Batches.{WritesFirst}
 use Rattle.fare_store.specs.Standing.{Standing, Calls, Counted, Counts, Makes, Reads, Removes, Changes, fault_of}
-pub use Rattle.fare_store.proofs.Readings.{read_then, read_failed, says, write_failed}
+pub use Rattle.fare_store.proofs.Readings.{read_then, read_failed, says, write_failed, first_failed}
 use Rattle.fare_tables.specs.Asking.{IsLive, IsUp, SameRows, IsAtRest}
 use Rattle.fare_tables.specs.Tabled.{IsFit, IsLawfulIn, IsLeft, tabled, given}
 
@@ -209,8 +208,3 @@ change_failed {V} a b P done (Err q) f is c = subst (λ (z : Fault). Calls a b (
 -- one of which nothing was left to do
 pub change_none : {V : Type 0} (a b : Standing V) (P : Type 0) → Calls a b None ((b.value ≡ a.value) × P) (λ v. ⊥) → Changes a b a.value (Ok (tt {0}))
 change_none {V} a b P c = says a b None _ _ (λ v. ⊥) (λ (v : V). v ≡ a.value) (λ lawful p. p.0) (λ v none. absurd none) c
-
--- a write of the first of several that failed
-pub first_failed : {V A R : Type 0} (judged : V → A → Result Unit R) (done : A → V → V) (a b : Standing V) (items : List A) (r : Result ℕ Fault) (f : Fault) → IsErrAnd r (λ q. q ≡ f) → WritesFirst judged done a b items (Err f) → WritesFirst judged done a b items r
-first_failed judged done a b items (Ok n) f is c = absurd is
-first_failed judged done a b items (Err q) f is c = subst (λ (z : Fault). WritesFirst judged done a b items (Err z)) (sym is) c
