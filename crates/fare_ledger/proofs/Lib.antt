@@ -11,6 +11,7 @@ pub mod Own
 pub mod Taken
 pub mod Days
 pub mod Stored
+pub mod Steps
 pub mod Judged
 pub mod Forgot
 pub mod Empty

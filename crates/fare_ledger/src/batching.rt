@@ -13,7 +13,7 @@ use crate::finding::is_closed;
 use crate::writing::write_taps;
 use fare_record::{Day, Record};
 use fare_store::Fault;
-use fare_tables::note;
+use fare_tables::noted;
 use sqlite::Alter;
 
 // Whether a tap stands so many places behind the first one in its lane, and its day isn't closed.
@@ -50,9 +50,7 @@ impl<S: Alter> SqlLedger<S> {
         ensures { Calls (given (AreTakable (stands S.Store self.old).value closed rows.now) (stands S.Store self.old)) (stands S.Store self.new) (fault_of result)
             (Makes (stands S.Store self.old).value (stands S.Store self.new).value (done_all took rows.now (stands S.Store self.old).value) result) (λ v. v ≡ done_all took rows.now (stands S.Store self.old).value) }
     {
-        match write_taps(&mut self.conn, &self.layout, rows, closed) {
-            Ok(()) => Ok(()),
-            Err(fault) => Err(note(&mut self.failures, fault)),
-        }
+        let answer = write_taps(&mut self.conn, &self.layout, rows, closed);
+        noted(&mut self.failures, answer)
     }
 }

@@ -17,7 +17,7 @@ use crate::reading::{
 };
 use fare_record::{Day, DeviceId, OwnerId, Record};
 use fare_store::Fault;
-use fare_tables::{note, touch};
+use fare_tables::{note, noted, touch};
 use sqlite::Alter;
 
 // Whether a day is one of the closed days, which are the first ones from a day on.
@@ -64,10 +64,7 @@ impl<S: Alter> SqlLedger<S> {
         ensures does { Reads (stands S.Store self.old) (stands S.Store self.new) (λ _. Unit {0}) result }
         ensures up { OnOk result (IsUp (state S.Store self.new.conn)) }
     {
-        match touch(&mut self.conn) {
-            Ok(()) => Ok(()),
-            Err(fault) => Err(note(&mut self.failures, fault)),
-        }
+        noted(&mut self.failures, touch(&mut self.conn))
     }
 
     // How many taps of a device are taken, and how many of its days closed.
@@ -77,10 +74,8 @@ impl<S: Alter> SqlLedger<S> {
         ensures within { IfOk result IsWithin }
         ensures up { OnOk result (IsUp (state S.Store self.new.conn)) }
     {
-        match read_lane(&mut self.conn, &self.layout, device) {
-            Ok(lane) => Ok(lane),
-            Err(fault) => Err(note(&mut self.failures, fault)),
-        }
+        let answer = read_lane(&mut self.conn, &self.layout, device);
+        noted(&mut self.failures, answer)
     }
 
     // The stated count of a day.
@@ -89,10 +84,8 @@ impl<S: Alter> SqlLedger<S> {
         ensures does { Reads (stands S.Store self.old) (stands S.Store self.new) (λ held. held ≡ (stands S.Store self.old).value.stated device day) result }
         ensures up { OnOk result (IsUp (state S.Store self.new.conn)) }
     {
-        match read_stated(&mut self.conn, &self.layout, device, day) {
-            Ok(held) => Ok(held),
-            Err(fault) => Err(note(&mut self.failures, fault)),
-        }
+        let answer = read_stated(&mut self.conn, &self.layout, device, day);
+        noted(&mut self.failures, answer)
     }
 
     // Whether a device's lane is retired.
@@ -101,10 +94,8 @@ impl<S: Alter> SqlLedger<S> {
         ensures does { Reads (stands S.Store self.old) (stands S.Store self.new) (λ retired. retired ≡ (stands S.Store self.old).value.retired device) result }
         ensures up { OnOk result (IsUp (state S.Store self.new.conn)) }
     {
-        match read_retired(&mut self.conn, &self.layout, device) {
-            Ok(retired) => Ok(retired),
-            Err(fault) => Err(note(&mut self.failures, fault)),
-        }
+        let answer = read_retired(&mut self.conn, &self.layout, device);
+        noted(&mut self.failures, answer)
     }
 
     // The day from which on all of a device is held.
@@ -113,10 +104,8 @@ impl<S: Alter> SqlLedger<S> {
         ensures does { Reads (stands S.Store self.old) (stands S.Store self.new) (λ day. day ≡ (stands S.Store self.old).value.from device) result }
         ensures up { OnOk result (IsUp (state S.Store self.new.conn)) }
     {
-        match read_since(&mut self.conn, &self.layout, device) {
-            Ok(day) => Ok(day),
-            Err(fault) => Err(note(&mut self.failures, fault)),
-        }
+        let answer = read_since(&mut self.conn, &self.layout, device);
+        noted(&mut self.failures, answer)
     }
 
     // The lane number of the first tap of a device of a day or a later one.
@@ -126,10 +115,8 @@ impl<S: Alter> SqlLedger<S> {
         ensures within { IfOk result (λ kept. IfSome kept IsCount) }
         ensures up { OnOk result (IsUp (state S.Store self.new.conn)) }
     {
-        match read_kept(&mut self.conn, &self.layout, device, day) {
-            Ok(kept) => Ok(kept),
-            Err(fault) => Err(note(&mut self.failures, fault)),
-        }
+        let answer = read_kept(&mut self.conn, &self.layout, device, day);
+        noted(&mut self.failures, answer)
     }
 
     // How many taps of a device are of a day.
@@ -139,10 +126,8 @@ impl<S: Alter> SqlLedger<S> {
         ensures up { OnOk result (IsUp (state S.Store self.new.conn)) }
     {
         prove!(day.get() <= 100_000);
-        match count_day(&mut self.conn, &self.layout, device, day) {
-            Ok(count) => Ok(count),
-            Err(fault) => Err(note(&mut self.failures, fault)),
-        }
+        let answer = count_day(&mut self.conn, &self.layout, device, day);
+        noted(&mut self.failures, answer)
     }
 
     // The last closed day of a device. A day past the last one there is answers Store.
@@ -151,10 +136,8 @@ impl<S: Alter> SqlLedger<S> {
         ensures does { Reads (stands S.Store self.old) (stands S.Store self.new) (λ day. day ≡ closed_through (stands S.Store self.old).value device) result }
         ensures up { OnOk result (IsUp (state S.Store self.new.conn)) }
     {
-        match read_last(&mut self.conn, &self.layout, device, self.start) {
-            Ok(day) => Ok(day),
-            Err(fault) => Err(note(&mut self.failures, fault)),
-        }
+        let answer = read_last(&mut self.conn, &self.layout, device, self.start);
+        noted(&mut self.failures, answer)
     }
 
     // Whether no tap of any device is taken and no day closed.
@@ -212,16 +195,14 @@ impl<S: Alter> SqlLedger<S> {
         ensures up { OnOk result (IsUp (state S.Store self.new.conn)) }
     {
         prove!(to.get() <= 100_000);
-        match read_between(
+        let answer = read_between(
             self.alloc,
             &mut self.conn,
             &self.layout,
             self.owner,
             from,
             to,
-        ) {
-            Ok(taps) => Ok(taps),
-            Err(fault) => Err(note(&mut self.failures, fault)),
-        }
+        );
+        noted(&mut self.failures, answer)
     }
 }

@@ -14,7 +14,7 @@ use crate::lane::{Cut, Lane};
 use crate::writing::{write_numbers, write_retired, write_statement, write_tap};
 use fare_record::{Day, DeviceId, Record, Statement};
 use fare_store::Fault;
-use fare_tables::note;
+use fare_tables::noted;
 use sqlite::Alter;
 
 impl<S: Alter> SqlLedger<S> {
@@ -25,10 +25,8 @@ impl<S: Alter> SqlLedger<S> {
         ensures { Calls (given (MayTake (stands S.Store self.old).value row.now closed) (stands S.Store self.old)) (stands S.Store self.new) (fault_of result)
             (Makes (stands S.Store self.old).value (stands S.Store self.new).value (took row.now (stands S.Store self.old).value) result) (λ v. v ≡ took row.now (stands S.Store self.old).value) }
     {
-        match write_tap(&mut self.conn, &self.layout, row, closed) {
-            Ok(()) => Ok(()),
-            Err(fault) => Err(note(&mut self.failures, fault)),
-        }
+        let answer = write_tap(&mut self.conn, &self.layout, row, closed);
+        noted(&mut self.failures, answer)
     }
 
     // Takes a statement that may be taken.
@@ -37,10 +35,8 @@ impl<S: Alter> SqlLedger<S> {
         ensures { Calls (given ((stands S.Store self.old).value.stated statement.now.device statement.now.day ≡ None) (stands S.Store self.old)) (stands S.Store self.new) (fault_of result)
             (Makes (stands S.Store self.old).value (stands S.Store self.new).value (with_statement statement.now (stands S.Store self.old).value) result) (λ v. v ≡ with_statement statement.now (stands S.Store self.old).value) }
     {
-        match write_statement(&mut self.conn, &self.layout, statement) {
-            Ok(()) => Ok(()),
-            Err(fault) => Err(note(&mut self.failures, fault)),
-        }
+        let answer = write_statement(&mut self.conn, &self.layout, statement);
+        noted(&mut self.failures, answer)
     }
 
     // Closes a device's first day that isn't closed, where it may be and these are the device's numbers.
@@ -50,16 +46,14 @@ impl<S: Alter> SqlLedger<S> {
         ensures { Calls (given (MayClose (stands S.Store self.old).value device lane.now) (stands S.Store self.old)) (stands S.Store self.new) (fault_of result)
             (Makes (stands S.Store self.old).value (stands S.Store self.new).value (with_close device (stands S.Store self.old).value) result) (λ v. v ≡ with_close device (stands S.Store self.old).value) }
     {
-        match write_numbers(
+        let answer = write_numbers(
             &mut self.conn,
             &self.layout,
             device,
             lane.taken,
             lane.closed + 1,
-        ) {
-            Ok(()) => Ok(()),
-            Err(fault) => Err(note(&mut self.failures, fault)),
-        }
+        );
+        noted(&mut self.failures, answer)
     }
 
     // Retires a lane.
@@ -68,10 +62,8 @@ impl<S: Alter> SqlLedger<S> {
         ensures { Calls (stands S.Store self.old) (stands S.Store self.new) (fault_of result)
             (Makes (stands S.Store self.old).value (stands S.Store self.new).value (with_retired device (stands S.Store self.old).value) result) (λ v. v ≡ with_retired device (stands S.Store self.old).value) }
     {
-        match write_retired(&mut self.conn, &self.layout, device) {
-            Ok(()) => Ok(()),
-            Err(fault) => Err(note(&mut self.failures, fault)),
-        }
+        let answer = write_retired(&mut self.conn, &self.layout, device);
+        noted(&mut self.failures, answer)
     }
 
     // Lets what is of a device's days before this one go, where it may and this is what goes.
@@ -81,16 +73,14 @@ impl<S: Alter> SqlLedger<S> {
         ensures { Calls (given (MayForget (stands S.Store self.old).value device day cut.now) (stands S.Store self.old)) (stands S.Store self.new) (fault_of result)
             (Makes (stands S.Store self.old).value (stands S.Store self.new).value (forgotten device day (stands S.Store self.old).value) result) (λ v. v ≡ forgotten device day (stands S.Store self.old).value) }
     {
-        match write_cut(
+        let answer = write_cut(
             &mut self.conn,
             &self.layout,
             device,
             cut.upto,
             day,
             cut.since,
-        ) {
-            Ok(()) => Ok(()),
-            Err(fault) => Err(note(&mut self.failures, fault)),
-        }
+        );
+        noted(&mut self.failures, answer)
     }
 }

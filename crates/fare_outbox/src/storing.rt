@@ -13,7 +13,7 @@ use crate::reading::{count_seen, read_link, read_next, read_statement};
 use fare_outbox_rows::{write_row, write_statement};
 use fare_record::{Day, DeviceId, LAST_NUMBER, OwnerId, Record, Statement};
 use fare_store::{Fault, StatedFault, StoreFault};
-use fare_tables::{note, touch};
+use fare_tables::{note, noted, touch};
 use sqlite::Alter;
 
 // As many taps, and as many statements, may be held.
@@ -49,10 +49,7 @@ impl<S: Alter> SqlOutbox<S> {
         ensures rows { self.new.rows ≡ self.old.rows }
         ensures statements { self.new.statements ≡ self.old.statements }
     {
-        match touch(&mut self.conn) {
-            Ok(()) => Ok(()),
-            Err(fault) => Err(note(&mut self.failures, fault)),
-        }
+        noted(&mut self.failures, touch(&mut self.conn))
     }
 
     // The greatest link of a device.
@@ -102,10 +99,8 @@ impl<S: Alter> SqlOutbox<S> {
         ensures statements { self.new.statements ≡ self.old.statements }
     {
         let past = within(after);
-        match read_next(&mut self.conn, &self.layout, owner, device, past) {
-            Ok(next) => Ok(next),
-            Err(fault) => Err(note(&mut self.failures, fault)),
-        }
+        let answer = read_next(&mut self.conn, &self.layout, owner, device, past);
+        noted(&mut self.failures, answer)
     }
 
     // The statement of least day from one on.
@@ -121,16 +116,14 @@ impl<S: Alter> SqlOutbox<S> {
         ensures rows { self.new.rows ≡ self.old.rows }
         ensures statements { self.new.statements ≡ self.old.statements }
     {
-        match read_statement(
+        let answer = read_statement(
             &mut self.conn,
             &self.layout,
             owner,
             device,
             u64::from(from.get()),
-        ) {
-            Ok(next) => Ok(next),
-            Err(fault) => Err(note(&mut self.failures, fault)),
-        }
+        );
+        noted(&mut self.failures, answer)
     }
 
     // Whether a row of the same owner, device and lane number is held.

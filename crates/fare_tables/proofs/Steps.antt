@@ -1,6 +1,6 @@
 -- One call on a connection as a call of a store, and several in turn.
 use Rattle.std.proofs.Common.{◌≡◌, inl, inr, ℕ, Ok, Err, Some, None, sym, ap, subst, ◌∙◌, arith}
-use Rattle.std.specs.Prelude.{Option, Result, IfOk, IsErrAnd, IsTrue}
+use Rattle.std.specs.Prelude.{Option, Result, IfOk, OnOk, IsErrAnd, IsTrue}
 use Rattle.sqlite_trees.specs.Tree.{Trees}
 use Rattle.sqlite.specs.Schema.{Schema}
 use Rattle.sqlite.specs.Effect.{Database, IsDatabase}
@@ -19,6 +19,15 @@ was_clean old new P survives clean = let later = survives.clean in let now = cle
 
 pub same_database : (old new : State) → SameRows old new → IsDatabase old.now → IsDatabase new.now
 same_database old new same database = subst IsDatabase (sym same.0) database
+
+-- a connection that is open where a call answered
+pub stays_open : {A : Type 0} (new : State) (r : Result A Fault) → (HasCleanDisk new → OnOk r (IsTrue new.is_open)) → fault_of r ≡ None → HasCleanDisk new → IsTrue new.is_open
+stays_open new (Ok x) stays none clean = stays clean
+stays_open new (Err f) stays none clean = absurd (cc)
+
+pub up_if : {A : Type 0} (new : State) (r q : Result A Fault) → q ≡ r → (HasCleanDisk new → OnOk r (IsTrue new.is_open)) → OnOk q (IsUp new)
+up_if {A} new (Ok x) q is stays = subst (λ (p : Result A Fault). OnOk p (IsUp new)) (sym is) stays
+up_if {A} new (Err f) q is stays = subst (λ (p : Result A Fault). OnOk p (IsUp new)) (sym is) tt
 
 module _ {V : Type 0} (schema : Schema) (value : Trees → V) where
   pub same_at : (old new : State) → SameRows old new → value new.now.trees ≡ value old.now.trees
@@ -58,6 +67,21 @@ module _ {V : Type 0} (schema : Schema) (value : Trees → V) where
             | inr not_at_rest ↦ absurd (not_at_rest (lawful (before, up before)).fit.rest)
           ]
 
+  -- such a question, by its answer, of which the fault was counted
+  pub noted_read : {A : Type 0} (Fits Alone : Trees → Type 0) (old new : State) (n m : ℕ) (answer : A → Type 0) (r q : Result A Fault)
+      → q ≡ r
+      → IsUp old
+      → (IsLive new → IsFit schema Fits old → IfOk r answer)
+      → (IsLive new → IsAtRest schema old → SameRows old new)
+      → Survives old new (λ _. ¬ IsAtRest schema old)
+      → (IsLive new → IsLive old)
+      → (HasCleanDisk new → OnOk r (IsTrue new.is_open))
+      → Counted n m (fault_of q)
+      → Reads (tabled schema value Fits Alone old n) (tabled schema value Fits Alone new m) answer q
+  noted_read {A} Fits Alone old new n m answer r q is up answers same survives live stays counted =
+      subst (λ (x : Result A Fault). Reads (tabled schema value Fits Alone old n) (tabled schema value Fits Alone new m) answer x) (sym is)
+      (read_step Fits Alone old new n m (fault_of r) (IfOk r answer) up answers same survives live (stays_open new r stays) (subst (λ (x : Result A Fault). Counted n m (fault_of x)) is counted))
+
   -- a call that commits nothing, whatever the connection is
   pub touch_step : (Fits Alone : Trees → Type 0) (old new : State) (n m : ℕ) (f : Option Fault)
       → (IsLive new → old.now ≡ old.committed → SameRows old new)
@@ -81,6 +105,23 @@ module _ {V : Type 0} (schema : Schema) (value : Trees → V) where
         | inl was ↦ was
         | inr none ↦ absurd none
       ]
+
+  -- such a call, by its answer, of which the fault was counted
+  pub noted_touch : {A : Type 0} (Fits Alone : Trees → Type 0) (old new : State) (n m : ℕ) (r q : Result A Fault)
+      → q ≡ r
+      → (IsLive new → old.now ≡ old.committed → SameRows old new)
+      → Survives old new (λ _. ⊥)
+      → (IsLive new → IsLive old)
+      → (HasCleanDisk new → OnOk r (IsTrue new.is_open))
+      → Counted n m (fault_of q)
+      → Reads (tabled schema value Fits Alone old n) (tabled schema value Fits Alone new m) (λ _. Unit {0}) q
+  noted_touch {A} Fits Alone old new n m r q is same survives live stays counted =
+      subst (λ (x : Result A Fault). Reads (tabled schema value Fits Alone old n) (tabled schema value Fits Alone new m) (λ _. Unit {0}) x) (sym is)
+      (by_answer r stays (subst (λ (x : Result A Fault). Counted n m (fault_of x)) is counted))
+    where
+      by_answer : (r : Result A Fault) → (HasCleanDisk new → OnOk r (IsTrue new.is_open)) → Counted n m (fault_of r) → Reads (tabled schema value Fits Alone old n) (tabled schema value Fits Alone new m) (λ _. Unit {0}) r
+      by_answer (Ok x) stays counted = touch_step Fits Alone old new n m None same survives live (λ e. stays) counted
+      by_answer (Err f) stays counted = touch_step Fits Alone old new n m (Some f) same survives live (λ e. absurd (cc)) counted
 
   -- a transaction on a connection that is open, if it is clean
   pub write_step : (Before After Alone : Trees → Type 0) (old new : State) (n m : ℕ) (f : Option Fault) (fact did : Type 0) (done : V) (Wrote : Trees → Type 0)

@@ -1,22 +1,24 @@
-use Rattle.std.proofs.Common.{None, refl, ◌≡◌}
+use Rattle.std.proofs.Common.{◌≡◌}
 use Rattle.sqlite.specs.Held.{state}
-use Rattle.fare_tables.proofs.Steps.{read_step}
-use Rattle.fare_ledger.specs.Layouts.{schema_in, ours}
-use Rattle.fare_ledger.specs.Held.{held_of}
+use Rattle.fare_tables.proofs.Steps.{up_if}
 use Rattle.fare_ledger.specs.Known.{knows}
-use Rattle.fare_ledger.proofs.Stored.{ready}
 use Rattle.fare_store.specs.LedgerWords.{closed_through}
-use Rattle.fare_ledger.specs.Words.{value_at, IsLawful}
+use Rattle.fare_ledger.specs.Words.{value_at}
+use Rattle.fare_ledger.proofs.Stored.{ready}
+use Rattle.fare_ledger.proofs.Steps.{reads}
 use Rattle.fare_ledger.proofs.tables.SqlLedger.last_closed.Goals as goal
 
-pub returns-in-Ok-clause-does : goal.returns-in-Ok-clause-does
-returns-in-Ok-clause-does g c =
+pub returns-clause-does : goal.returns-clause-does
+returns-clause-does g c =
     let old = state g.S.Store c.args.self.now.conn in
-    let new = state g.S.Store c.read_last.new.conn in
+    let new = state g.S.Store c.read_last-answer.new.conn in
     let self = c.args.self.now in
     let known = knows self.devices in
     let v = value_at self.layout self.owner self.start known old.now.trees in
-    let h = held_of (ours self.layout old.now.trees) in
-    read_step (schema_in self.layout) (value_at self.layout self.owner self.start known) (IsLawful self.layout self.owner self.start) (IsLawful self.layout self.owner self.start) old new self.failures self.failures None (c.in-Ok.day ≡ closed_through v c.args.device) c.requires
-    (λ live fit. c.in-Ok.ensures.value live (ready self.layout self.owner self.start old fit))
-    c.read_last.ensures.same c.read_last.ensures.crash c.read_last.ensures.live (λ e. c.in-Ok.ensures.stays) refl
+    let call = c.read_last-answer.ensures in
+    reads self.layout self.owner self.start known old new self.failures c.noted.new.failures (λ day. day ≡ closed_through v c.args.device) c.read_last-answer.result c.noted.result c.noted.ensures.same c.requires
+    (λ live fit. call.value live (ready self.layout self.owner self.start old fit))
+    call.same call.crash call.live call.stays c.noted.ensures.counted
+
+pub returns-clause-up : goal.returns-clause-up
+returns-clause-up g c = up_if (state g.S.Store c.read_last-answer.new.conn) c.read_last-answer.result c.noted.result c.noted.ensures.same c.read_last-answer.ensures.stays

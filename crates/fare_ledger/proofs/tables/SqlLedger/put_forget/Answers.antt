@@ -1,50 +1,22 @@
-use Rattle.std.proofs.Common.{◌≡◌, Some, None, refl, ap, ◌∙◌}
-use Rattle.sqlite_trees.specs.Tree.{Trees}
 use Rattle.sqlite.specs.Held.{state}
-use Rattle.fare_tables.proofs.Steps.{write_step, same_database, same_fit, same_at}
-use Rattle.fare_ledger.specs.Layouts.{schema_in, ours}
-use Rattle.fare_ledger.specs.Known.{knows}
 use Rattle.fare_store.specs.LedgerWords.{forgotten}
-use Rattle.fare_ledger.specs.Held.{MayBecome, IsReady, held_of, forgot}
-use Rattle.fare_ledger.specs.Words.{value_at, value_in, IsLawful, MayForget}
-use Rattle.fare_ledger.proofs.Stored.{ready, left_held, becomes_left, becomes_lawful}
+use Rattle.fare_ledger.specs.Layouts.{ours}
+use Rattle.fare_ledger.specs.Known.{knows}
+use Rattle.fare_ledger.specs.Held.{held_of, forgot}
+use Rattle.fare_ledger.specs.Words.{value_at, MayForget}
 use Rattle.fare_ledger.proofs.Forgot.{forget_value, forget_fits}
+use Rattle.fare_ledger.proofs.Steps.{makes}
 use Rattle.fare_ledger.proofs.tables.SqlLedger.put_forget.Goals as goal
 
-pub returns-in-Ok : goal.returns-in-Ok
-returns-in-Ok g c =
+pub returns : goal.returns
+returns g c =
     let old = state g.S.Store c.args.self.now.conn in
-    let new = state g.S.Store c.write_cut.new.conn in
+    let new = state g.S.Store c.write_cut-answer.new.conn in
     let self = c.args.self.now in
     let known = knows self.devices in
-    let value = value_at self.layout self.owner self.start known in
-    let v = value old.now.trees in
+    let v = value_at self.layout self.owner self.start known old.now.trees in
     let h = held_of (ours self.layout old.now.trees) in
-    let Lawful = IsLawful self.layout self.owner self.start in
-    write_step (schema_in self.layout) value Lawful Lawful Lawful old new self.failures self.failures None (MayForget v c.args.device c.args.day c.args.cut.now) (value new.now.trees ≡ forgotten c.args.device c.args.day v) (forgotten c.args.device c.args.day v) (λ (trees : Trees). IsReady self.layout old → MayBecome self.layout (forgot c.args.device c.args.cut.now.upto c.args.day c.args.cut.now.since h) trees) c.requires.up
-    (λ live given.
-    let wrote = c.in-Ok.ensures.value live (ready self.layout self.owner self.start old given.0) in
-    (becomes_lawful self.layout self.owner self.start new (forgot c.args.device c.args.cut.now.upto c.args.day c.args.cut.now.since h) wrote (forget_fits self.owner self.start known h c.args.device c.args.day c.args.cut.now given.1 given.0.fits.together), ap (value_in self.owner self.start known) wrote.0.value ∙ forget_value self.owner self.start known h c.args.device c.args.day c.args.cut.now given.1 given.0.fits.together))
-    (λ live fit database. (c.in-Ok.ensures.value live (ready self.layout self.owner self.start old fit)).0.database)
-    c.write_cut.ensures.crash
-    (λ fit trees wrote may. let it = wrote (ready self.layout self.owner self.start old fit) in (ap (value_in self.owner self.start known) (left_held self.layout (forgot c.args.device c.args.cut.now.upto c.args.day c.args.cut.now.since h) trees it) ∙ forget_value self.owner self.start known h c.args.device c.args.day c.args.cut.now may fit.fits.together, becomes_left self.layout self.owner self.start (forgot c.args.device c.args.cut.now.upto c.args.day c.args.cut.now.since h) trees it (forget_fits self.owner self.start known h c.args.device c.args.day c.args.cut.now may fit.fits.together)))
-    c.write_cut.ensures.live (λ e. c.in-Ok.ensures.stays) refl
-
-pub returns-in-Err : goal.returns-in-Err
-returns-in-Err g c =
-    let old = state g.S.Store c.args.self.now.conn in
-    let new = state g.S.Store c.write_cut.new.conn in
-    let self = c.args.self.now in
-    let known = knows self.devices in
-    let value = value_at self.layout self.owner self.start known in
-    let v = value old.now.trees in
-    let h = held_of (ours self.layout old.now.trees) in
-    let Lawful = IsLawful self.layout self.owner self.start in
-    write_step (schema_in self.layout) value Lawful Lawful Lawful old new self.failures c.note.new.failures (Some c.note.result) (MayForget v c.args.device c.args.day c.args.cut.now) (value new.now.trees ≡ v) (forgotten c.args.device c.args.day v) (λ (trees : Trees). IsReady self.layout old → MayBecome self.layout (forgot c.args.device c.args.cut.now.upto c.args.day c.args.cut.now.since h) trees) c.requires.up
-    (λ live given.
-    let same = c.in-Err.ensures.same live (ready self.layout self.owner self.start old given.0) in
-    (same_fit (schema_in self.layout) value Lawful old new same given.0, same_at (schema_in self.layout) value old new same))
-    (λ live fit database. same_database old new (c.in-Err.ensures.same live (ready self.layout self.owner self.start old fit)) database)
-    c.write_cut.ensures.crash
-    (λ fit trees wrote may. let it = wrote (ready self.layout self.owner self.start old fit) in (ap (value_in self.owner self.start known) (left_held self.layout (forgot c.args.device c.args.cut.now.upto c.args.day c.args.cut.now.since h) trees it) ∙ forget_value self.owner self.start known h c.args.device c.args.day c.args.cut.now may fit.fits.together, becomes_left self.layout self.owner self.start (forgot c.args.device c.args.cut.now.upto c.args.day c.args.cut.now.since h) trees it (forget_fits self.owner self.start known h c.args.device c.args.day c.args.cut.now may fit.fits.together)))
-    c.write_cut.ensures.live (λ e. absurd (cc)) c.note.ensures.counted
+    let call = c.write_cut-answer.ensures in
+    makes self.layout self.owner self.start known old new self.failures c.noted.new.failures (MayForget v c.args.device c.args.day c.args.cut.now) (forgot c.args.device c.args.cut.now.upto c.args.day c.args.cut.now.since h) (forgotten c.args.device c.args.day v) c.write_cut-answer.result c.noted.result c.noted.ensures.same c.requires.up
+    (λ may fit. (forget_value self.owner self.start known h c.args.device c.args.day c.args.cut.now may fit, forget_fits self.owner self.start known h c.args.device c.args.day c.args.cut.now may fit))
+    call.value call.same call.crash call.live call.stays c.noted.ensures.counted

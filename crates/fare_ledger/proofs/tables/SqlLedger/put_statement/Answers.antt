@@ -1,49 +1,23 @@
-use Rattle.std.proofs.Common.{◌≡◌, Some, None, refl, ap, ◌∙◌}
-use Rattle.sqlite_trees.specs.Tree.{Trees}
+use Rattle.std.proofs.Common.{◌≡◌, None}
 use Rattle.sqlite.specs.Held.{state}
-use Rattle.fare_tables.proofs.Steps.{write_step, same_database, same_fit, same_at}
-use Rattle.fare_ledger.specs.Layouts.{schema_in, ours}
-use Rattle.fare_ledger.specs.Known.{knows}
 use Rattle.fare_store.specs.LedgerWords.{with_statement}
-use Rattle.fare_ledger.specs.Held.{MayBecome, IsReady, held_of, row_stated, with_stated}
-use Rattle.fare_ledger.specs.Words.{value_at, value_in, IsLawful}
-use Rattle.fare_ledger.proofs.Stored.{ready, left_held, becomes_left, becomes_lawful, state_value, state_fits}
+use Rattle.fare_ledger.specs.Layouts.{ours}
+use Rattle.fare_ledger.specs.Known.{knows}
+use Rattle.fare_ledger.specs.Held.{held_of, row_stated, with_stated}
+use Rattle.fare_ledger.specs.Words.{value_at}
+use Rattle.fare_ledger.proofs.Stored.{state_value, state_fits}
+use Rattle.fare_ledger.proofs.Steps.{makes}
 use Rattle.fare_ledger.proofs.tables.SqlLedger.put_statement.Goals as goal
 
-pub returns-in-Ok : goal.returns-in-Ok
-returns-in-Ok g c =
+pub returns : goal.returns
+returns g c =
     let old = state g.S.Store c.args.self.now.conn in
-    let new = state g.S.Store c.write_statement.new.conn in
+    let new = state g.S.Store c.write_statement-answer.new.conn in
     let self = c.args.self.now in
     let known = knows self.devices in
-    let value = value_at self.layout self.owner self.start known in
-    let v = value old.now.trees in
+    let v = value_at self.layout self.owner self.start known old.now.trees in
     let h = held_of (ours self.layout old.now.trees) in
-    let Lawful = IsLawful self.layout self.owner self.start in
-    write_step (schema_in self.layout) value Lawful Lawful Lawful old new self.failures self.failures None (v.stated c.args.statement.now.device c.args.statement.now.day ≡ None) (value new.now.trees ≡ with_statement c.args.statement.now v) (with_statement c.args.statement.now v) (λ (trees : Trees). IsReady self.layout old → MayBecome self.layout (with_stated (row_stated c.args.statement.now) h) trees) c.requires.up
-    (λ live given.
-    let wrote = c.in-Ok.ensures.value live (ready self.layout self.owner self.start old given.0) in
-    (becomes_lawful self.layout self.owner self.start new (with_stated (row_stated c.args.statement.now) h) wrote (state_fits self.owner self.start h c.args.statement.now given.1 given.0.fits.together), ap (value_in self.owner self.start known) wrote.0.value ∙ state_value self.owner self.start known h c.args.statement.now given.1))
-    (λ live fit database. (c.in-Ok.ensures.value live (ready self.layout self.owner self.start old fit)).0.database)
-    c.write_statement.ensures.crash
-    (λ fit trees wrote may. let it = wrote (ready self.layout self.owner self.start old fit) in (ap (value_in self.owner self.start known) (left_held self.layout (with_stated (row_stated c.args.statement.now) h) trees it) ∙ state_value self.owner self.start known h c.args.statement.now may, becomes_left self.layout self.owner self.start (with_stated (row_stated c.args.statement.now) h) trees it (state_fits self.owner self.start h c.args.statement.now may fit.fits.together)))
-    c.write_statement.ensures.live (λ e. c.in-Ok.ensures.stays) refl
-
-pub returns-in-Err : goal.returns-in-Err
-returns-in-Err g c =
-    let old = state g.S.Store c.args.self.now.conn in
-    let new = state g.S.Store c.write_statement.new.conn in
-    let self = c.args.self.now in
-    let known = knows self.devices in
-    let value = value_at self.layout self.owner self.start known in
-    let v = value old.now.trees in
-    let h = held_of (ours self.layout old.now.trees) in
-    let Lawful = IsLawful self.layout self.owner self.start in
-    write_step (schema_in self.layout) value Lawful Lawful Lawful old new self.failures c.note.new.failures (Some c.note.result) (v.stated c.args.statement.now.device c.args.statement.now.day ≡ None) (value new.now.trees ≡ v) (with_statement c.args.statement.now v) (λ (trees : Trees). IsReady self.layout old → MayBecome self.layout (with_stated (row_stated c.args.statement.now) h) trees) c.requires.up
-    (λ live given.
-    let same = c.in-Err.ensures.same live (ready self.layout self.owner self.start old given.0) in
-    (same_fit (schema_in self.layout) value Lawful old new same given.0, same_at (schema_in self.layout) value old new same))
-    (λ live fit database. same_database old new (c.in-Err.ensures.same live (ready self.layout self.owner self.start old fit)) database)
-    c.write_statement.ensures.crash
-    (λ fit trees wrote may. let it = wrote (ready self.layout self.owner self.start old fit) in (ap (value_in self.owner self.start known) (left_held self.layout (with_stated (row_stated c.args.statement.now) h) trees it) ∙ state_value self.owner self.start known h c.args.statement.now may, becomes_left self.layout self.owner self.start (with_stated (row_stated c.args.statement.now) h) trees it (state_fits self.owner self.start h c.args.statement.now may fit.fits.together)))
-    c.write_statement.ensures.live (λ e. absurd (cc)) c.note.ensures.counted
+    let call = c.write_statement-answer.ensures in
+    makes self.layout self.owner self.start known old new self.failures c.noted.new.failures (v.stated c.args.statement.now.device c.args.statement.now.day ≡ None) (with_stated (row_stated c.args.statement.now) h) (with_statement c.args.statement.now v) c.write_statement-answer.result c.noted.result c.noted.ensures.same c.requires.up
+    (λ may fit. (state_value self.owner self.start known h c.args.statement.now may, state_fits self.owner self.start h c.args.statement.now may fit))
+    call.value call.same call.crash call.live call.stays c.noted.ensures.counted
