@@ -11,6 +11,7 @@
 ghost use Rattle.std.specs.Prelude.{◌≡◌, IfErr, OnOk};
 ghost use Rattle.std.specs.Process.{exit_status};
 ghost use Rattle.fare_run.specs.Failures.{status_of};
+ghost use Rattle.fare_run.specs.Runs.{IsBefore};
 
 use fare_run::{Failure, carry_out, tell};
 use std::alloc::Global;
@@ -22,7 +23,9 @@ use std::time::Clock;
 use std::{env, io};
 
 /// Why the system did not give the words.
-fn without_words(alloc: Global, error: &io::Error) -> Failure {
+fn without_words(alloc: Global, error: &io::Error) -> Failure
+    ensures { IsBefore result }
+{
     if error.kind() != io::ErrorKind::InvalidData {
         return Failure::Memory;
     }

@@ -23,6 +23,72 @@ start 19723
 seal
 ";
 
+/// One after the other over the same stores: the words, the input, the status, what standard error gets, and the output.
+const CASES: [(&[&str], &[u8], u8, &str, &[u8]); 14] = [
+    (&["stand", "--outbox", "tap.db"], b"", 1, "no scheme", b""),
+    (&["scheme", "--outbox", "tap.db"], b"", 1, "no scheme", b""),
+    (
+        &["serve", "--port", "0", "--outbox", "tap.db"],
+        SCHEME,
+        0,
+        "",
+        b"stored 1\ntaken 1 1\nleft 0\n",
+    ),
+    (&["scheme", "--outbox", "tap.db"], b"", 0, "", SCHEME),
+    (
+        &["stand", "--outbox", "tap.db"],
+        b"",
+        0,
+        "",
+        b"upto 1 1\nlane 1 1 taken 1 closed none rows 0 statements 0\n",
+    ),
+    (
+        &[
+            "bill", "--outbox", "tap.db", "--owner", "1", "--day", "19723",
+        ],
+        b"",
+        1,
+        "refused NotClosed 1",
+        b"",
+    ),
+    (
+        &[
+            "retire", "--outbox", "tap.db", "--owner", "1", "--device", "1",
+        ],
+        b"",
+        0,
+        "",
+        b"retired 1\n",
+    ),
+    (
+        &[
+            "bill", "--outbox", "tap.db", "--owner", "1", "--day", "19723",
+        ],
+        b"",
+        0,
+        "",
+        b"bill 1 19723 1 175\naccount 1 77 1 175\nshort 1\n",
+    ),
+    (
+        &["serve", "--port", "0", "--outbox", "tap.db"],
+        b"demo 1 4 4 4\n",
+        1,
+        "refused SchemeChanged product 1",
+        b"",
+    ),
+    (&["stand"], b"", 2, "error: ", b""),
+    (&["--version"], b"", 0, "", b"fare_hub 0.1.0\n"),
+    (&["replay"], b"demo 1 4 4 4\n", 0, "", b"ok\n"),
+    (
+        &["replay", "--store", "sql"],
+        b"demo 1 4 4 4\n",
+        0,
+        "",
+        b"ok\n",
+    ),
+    (&["replay"], b"tap 1", 1, "bad line 1", b""),
+];
+
 // How the program ends for these words by this input, with a validator at the door that greets and sends a tap, and what it
 // writes, but for the port at which it listens.
 fn carried<
@@ -36,71 +102,6 @@ fn carried<
 
 #[test]
 fn words_are_carried_out(rt: HostRuntime) {
-    // The words, the input, the status, what standard error gets, and the output.
-    const CASES: [(&[&str], &[u8], u8, &str, &[u8]); 14] = [
-        (&["stand", "--outbox", "tap.db"], b"", 1, "no scheme", b""),
-        (&["scheme", "--outbox", "tap.db"], b"", 1, "no scheme", b""),
-        (
-            &["serve", "--port", "0", "--outbox", "tap.db"],
-            SCHEME,
-            0,
-            "",
-            b"stored 1\ntaken 1 1\nleft 0\n",
-        ),
-        (&["scheme", "--outbox", "tap.db"], b"", 0, "", SCHEME),
-        (
-            &["stand", "--outbox", "tap.db"],
-            b"",
-            0,
-            "",
-            b"upto 1 1\nlane 1 1 taken 1 closed none rows 0 statements 0\n",
-        ),
-        (
-            &[
-                "bill", "--outbox", "tap.db", "--owner", "1", "--day", "19723",
-            ],
-            b"",
-            1,
-            "refused NotClosed 1",
-            b"",
-        ),
-        (
-            &[
-                "retire", "--outbox", "tap.db", "--owner", "1", "--device", "1",
-            ],
-            b"",
-            0,
-            "",
-            b"retired 1\n",
-        ),
-        (
-            &[
-                "bill", "--outbox", "tap.db", "--owner", "1", "--day", "19723",
-            ],
-            b"",
-            0,
-            "",
-            b"bill 1 19723 1 175\naccount 1 77 1 175\nshort 1\n",
-        ),
-        (
-            &["serve", "--port", "0", "--outbox", "tap.db"],
-            b"demo 1 4 4 4\n",
-            1,
-            "refused SchemeChanged product 1",
-            b"",
-        ),
-        (&["stand"], b"", 2, "error: ", b""),
-        (&["--version"], b"", 0, "", b"fare_hub 0.1.0\n"),
-        (&["replay"], b"demo 1 4 4 4\n", 0, "", b"ok\n"),
-        (
-            &["replay", "--store", "sql"],
-            b"demo 1 4 4 4\n",
-            0,
-            "",
-            b"ok\n",
-        ),
-        (&["replay"], b"tap 1", 1, "bad line 1", b""),
-    ];
     for &(words, input, status, line, output) in &CASES {
         let (ended, said) = carried(&rt, &rt, words, input);
         same(
