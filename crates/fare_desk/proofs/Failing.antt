@@ -18,6 +18,15 @@ pub told_of_none : {A E : Type 0} (r : Result A E) (Q : E → Type 0) (P : A →
 told_of_none (Ok a) Q P is = absurd is
 told_of_none (Err f) Q P is = tt
 
+-- what is so of a fault is so of an answer that is it
+pub err_is : {A : Type 0} (r : Result A DeskFault) (f : DeskFault) (P : DeskFault → Type 0) → IsErrAnd r (λ q. q ≡ f) → P f → IfErr r P
+err_is (Ok a) f P is so = tt
+err_is (Err q) f P is so = subst P (sym is) so
+
+pub refused_is : {A : Type 0} (r : Result A DeskFault) (f : DeskFault) → IsErrAnd r (λ q. q ≡ f) → refused_of r ≡ name_of f
+refused_is (Ok a) f is = absurd is
+refused_is (Err q) f is = ap name_of is
+
 -- A STORE FAILED
 store_is_none : (f : Fault) → is_refusal (of_store f) ≡ false
 store_is_none fault.Memory = refl
@@ -30,18 +39,6 @@ store_unnamed (Err q) f is = ap is_refusal is ∙ store_is_none f
 pub store_kept : {A : Type 0} (r : Result A DeskFault) (before : Option (List ℕ)) → IfErr r (λ q. q ≢ Write → Keeps before before)
 store_kept (Ok a) before = tt
 store_kept (Err q) before = λ _. Keeps-refl before
-
-store_nameless : (f : Fault) → name_of (of_store f) ≡ None
-store_nameless fault.Memory = refl
-store_nameless fault.Store = refl
-
-pub store_refused : {A : Type 0} (r : Result A DeskFault) (f : Fault) → IsErrAnd r (λ q. q ≡ of_store f) → refused_of r ≡ None
-store_refused (Ok a) f is = refl
-store_refused (Err q) f is = ap name_of is ∙ store_nameless f
-
-pub store_named : {A : Type 0} (r : Result A DeskFault) (f : Fault) → IsErrAnd r (λ q. q ≡ of_store f) → IfErr r (λ q. is_refusal q ≡ is_some (name_of q))
-store_named (Ok a) f is = tt
-store_named (Err q) f is = ap is_refusal is ∙ (store_is_none f ∙ sym (ap (λ q. is_some (name_of q)) is ∙ ap is_some (store_nameless f)))
 
 pub store_fault : (f : Fault) (q : DeskFault) → q ≡ of_store f → (q ≡ Memory) ⊎ (q ≡ Store)
 store_fault fault.Memory q is = inl is
@@ -56,14 +53,25 @@ pub write_kept : {A : Type 0} (r : Result A DeskFault) (before after : Option (L
 write_kept (Ok a) before after is = tt
 write_kept (Err q) before after is = λ other. absurd (other is)
 
-pub write_refused : {A : Type 0} (r : Result A DeskFault) → IfErr r (λ q. q ≡ Write) → refused_of r ≡ None
-write_refused (Ok a) is = refl
-write_refused (Err q) is = ap name_of is
-
-pub write_named : {A : Type 0} (r : Result A DeskFault) → IfErr r (λ q. q ≡ Write) → IfErr r (λ q. is_refusal q ≡ is_some (name_of q))
-write_named (Ok a) is = tt
-write_named (Err q) is = subst (λ q. is_refusal q ≡ is_some (name_of q)) (sym is) refl
-
 pub handed_unnamed : {A : Type 0} (r : Result A DeskFault) (f : DeskFault) → IsErrAnd r (λ q. q ≡ f) → f ≡ Write → IfErr r (λ q. is_refusal q ≡ false)
 handed_unnamed (Ok a) f is write = tt
 handed_unnamed (Err q) f is write = ap is_refusal (is ∙ write)
+
+-- THERE WAS NO MEMORY FOR A REPLY, OR THE WRITER FAILED
+pub memory_failed : {A : Type 0} (r : Result A DeskFault) → IsErrAnd r (λ q. q ≡ Memory) → IfErr r (λ q. (q ≡ Memory) ⊎ (q ≡ Write))
+memory_failed (Ok a) is = absurd is
+memory_failed (Err q) is = inl is
+
+pub write_failed : {A : Type 0} (r : Result A DeskFault) → IfErr r (λ q. q ≡ Write) → IfErr r (λ q. (q ≡ Memory) ⊎ (q ≡ Write))
+write_failed (Ok a) is = tt
+write_failed (Err q) is = inr is
+
+pub reply_refused : {A : Type 0} (r : Result A DeskFault) → IfErr r (λ q. (q ≡ Memory) ⊎ (q ≡ Write)) → refused_of r ≡ None
+reply_refused (Ok a) is = refl
+reply_refused (Err q) (inl is) = ap name_of is
+reply_refused (Err q) (inr is) = ap name_of is
+
+pub reply_named : {A : Type 0} (r : Result A DeskFault) → IfErr r (λ q. (q ≡ Memory) ⊎ (q ≡ Write)) → IfErr r (λ q. is_refusal q ≡ is_some (name_of q))
+reply_named (Ok a) is = tt
+reply_named (Err q) (inl is) = subst (λ q. is_refusal q ≡ is_some (name_of q)) (sym is) refl
+reply_named (Err q) (inr is) = subst (λ q. is_refusal q ≡ is_some (name_of q)) (sym is) refl

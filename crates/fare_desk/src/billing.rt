@@ -7,10 +7,9 @@ ghost use Rattle.fare_desk.specs.Billing.{WritesBill, WritesSettlement};
 ghost use Rattle.fare_desk.specs.Faults.{is_refusal, name_of, refused_of};
 ghost use Rattle.fare_desk.specs.declared.fault.DeskFault.TheVariants.{Write};
 
-use crate::fault::{DeskFault, of_refusal};
-use crate::writing::write_text;
+use crate::fault::DeskFault;
+use crate::writing::write_reply;
 use fare_event::{Reply, Short};
-use fare_lines::print_reply;
 use fare_record::{Day, OwnerId};
 use fare_sessions::Hub;
 use fare_store::{Ledger, Outbox};
@@ -37,19 +36,14 @@ pub fn write_bill<O: Outbox, L: Ledger, W: Write>(
     ensures named { IfErr result (λ fault. is_refusal fault ≡ is_some (name_of fault)) }
     ensures kept { IfErr result (λ fault. fault ≢ Write → Keeps (W.contents output.old) (W.contents output.new)) }
 {
-    let (bill, short) = match hub.bill(alloc, owner, day) {
-        Ok(told) => told,
-        Err(refused) => return Err(of_refusal(refused)),
-    };
+    let (bill, short) = hub.bill(alloc, owner, day)?;
     let reply = Reply::Bill {
         owner,
         day,
         bill,
         short: Short::new(short),
     };
-    let mut text = Vec::new(alloc);
-    print_reply(&reply, &mut text)?;
-    write_text(output, &text)
+    write_reply(alloc, &reply, output)
 }
 
 /// Writes what each operator gets of an owner's bill of a day: the line `settlement OWNER DAY OPERATORS`, a line for
@@ -70,17 +64,12 @@ pub fn write_settlement<O: Outbox, L: Ledger, W: Write>(
     ensures named { IfErr result (λ fault. is_refusal fault ≡ is_some (name_of fault)) }
     ensures kept { IfErr result (λ fault. fault ≢ Write → Keeps (W.contents output.old) (W.contents output.new)) }
 {
-    let (settlement, short) = match hub.settlement(alloc, owner, day) {
-        Ok(told) => told,
-        Err(refused) => return Err(of_refusal(refused)),
-    };
+    let (settlement, short) = hub.settlement(alloc, owner, day)?;
     let reply = Reply::Settlement {
         owner,
         day,
         settlement,
         short: Short::new(short),
     };
-    let mut text = Vec::new(alloc);
-    print_reply(&reply, &mut text)?;
-    write_text(output, &text)
+    write_reply(alloc, &reply, output)
 }

@@ -93,23 +93,27 @@ fn of_billing(why: BillingFault) -> DeskFault
 }
 
 // Why there is no bill.
-pub(crate) fn of_refusal(refused: Refused<BillingFault>) -> DeskFault
-    ensures { result ≡ of_bill refused }
-{
-    match refused {
-        Refused::Because(why) => of_billing(why),
-        Refused::Failed(fault) => DeskFault::from(fault),
+impl From<Refused<BillingFault>> for DeskFault {
+    ghost from_gives = { λ refused e. e ≡ of_bill refused };
+
+    fn from(refused: Refused<BillingFault>) -> DeskFault {
+        match refused {
+            Refused::Because(why) => of_billing(why),
+            Refused::Failed(fault) => DeskFault::from(fault),
+        }
     }
 }
 
 // Why a lane wasn't retired. A ledger that doesn't know a device of the scheme is none of this scheme's: `Store`.
-pub(crate) fn of_retire(refused: Refused<RetiringFault>) -> DeskFault
-    ensures { result ≡ of_retiring refused }
-{
-    match refused {
-        Refused::Because(RetiringFault::UnknownOwner) => DeskFault::UnknownOwner,
-        Refused::Because(RetiringFault::Ledger(RetireFault::NotMine)) => DeskFault::Store,
-        Refused::Because(RetiringFault::Ledger(RetireFault::Retired)) => DeskFault::Retired,
-        Refused::Failed(fault) => DeskFault::from(fault),
+impl From<Refused<RetiringFault>> for DeskFault {
+    ghost from_gives = { λ refused e. e ≡ of_retiring refused };
+
+    fn from(refused: Refused<RetiringFault>) -> DeskFault {
+        match refused {
+            Refused::Because(RetiringFault::UnknownOwner) => DeskFault::UnknownOwner,
+            Refused::Because(RetiringFault::Ledger(RetireFault::NotMine)) => DeskFault::Store,
+            Refused::Because(RetiringFault::Ledger(RetireFault::Retired)) => DeskFault::Retired,
+            Refused::Failed(fault) => DeskFault::from(fault),
+        }
     }
 }

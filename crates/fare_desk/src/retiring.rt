@@ -7,7 +7,7 @@ ghost use Rattle.fare_desk.specs.Closing.{GoesOn};
 ghost use Rattle.fare_desk.specs.Faults.{is_of_retire, is_refusal};
 ghost use Rattle.fare_desk.specs.Retiring.{LeavesLane, RetiresLane};
 
-use crate::fault::{DeskFault, of_retire};
+use crate::fault::DeskFault;
 use crate::standing::ask_retired;
 use crate::writing::write_text;
 use fare_event::Reply;
@@ -56,6 +56,6 @@ pub fn retire_lane<O: Outbox, L: Ledger, W: Write>(
     print_reply(&Reply::Retired(device), &mut text)?;
     match hub.retire(owner, device) {
         Ok(()) => write_text(output, &text),
-        Err(refused) => Err(of_retire(refused)),
+        Err(refused) => Err(DeskFault::from(refused)),
     }
 }

@@ -1,57 +1,46 @@
-use Rattle.std.proofs.Common.{◌∙◌, ◌++◌, sym, ap, subst}
-use Rattle.std.proofs.KnownBytes.{Keeps-refl}
+use Rattle.std.proofs.Common.{◌≡◌, refl, sym, subst}
+use Rattle.std.specs.Prelude.{is_some}
 use Rattle.fare_cap.specs.Bills.{bill_of}
-use Rattle.fare_event.specs.declared.reply.Reply.TheVariants as reply
-use Rattle.fare_lines.specs.Replies.{reply_text}
-use Rattle.fare_store.specs.declared.fault.Fault.TheVariants as fault
 use Rattle.fare_sessions.specs.Billing.{IsBillRefusal}
-use Rattle.fare_desk.proofs.Failing.{ok_of_none, store_kept, store_named, store_refused, write_kept, write_named, write_refused}
+use Rattle.fare_desk.specs.Faults.{is_refusal, name_of, of_bill}
+use Rattle.fare_desk.proofs.Failing.{err_is, ok_of_none, refused_is, reply_named, reply_refused, store_kept}
 use Rattle.fare_desk.proofs.Written.{bill_named, bill_written, fault_refused, made_of}
 use Rattle.fare_desk.proofs.billing.write_bill.Goals as goal
 
-pub returns-clause-written : goal.returns-clause-written
-returns-clause-written g c =
-    let told = c.in-Ok.ensures in
-    let made = made_of g.O.Outbox.standing g.L.Ledger.standing c.args.hub.now c.bill.new.self c.args.owner c.args.day c.new.result bill_of c.in-Ok.told.0 c.in-Ok.told.1.items c.new.ensures told.closed told.held told.short told.taken told.value in
-    bill_written g.O.Outbox.standing g.L.Ledger.standing c.args.hub.now c.bill.new.self c.args.owner c.args.day c.new.result (g.W.Write.contents c.args.output.now) (g.W.Write.contents c.write_text.new.output) c.deref.result.now c.in-Ok.told.0
-    (c.deref.ensures.value ∙ (c.in_ok-print_reply.ensures.appended ∙ ap (λ l. l ++ reply_text (reply.Bill c.args.owner c.args.day c.in-Ok.told.0 c.new.result)) c.new-text.ensures.items)) made c.write_text.result c.write_text.ensures.written
+pub returns-in_err-bill-clause-reads : goal.returns-in_err-bill-clause-reads
+returns-in_err-bill-clause-reads g c = c.bill.ensures.reads
 
-pub returns-in-Err-clause-refused : goal.returns-in-Err-clause-refused
-returns-in-Err-clause-refused g c = λ clean sound.
-    fault_refused _ c.bill.result (IsBillRefusal g.O.Outbox.standing g.L.Ledger.standing c.args.hub.now c.args.owner c.args.day) c.in-Err.refused c.of_refusal.result c.of_refusal.ensures (c.in-Err.ensures.refused clean sound)
+pub returns-in_err-bill-clause-written : goal.returns-in_err-bill-clause-written
+returns-in_err-bill-clause-written g c = ok_of_none c.from_residual.result _ _ c.from_residual.ensures.1
 
-pub returns-in-Err-clause-reads : goal.returns-in-Err-clause-reads
-returns-in-Err-clause-reads g c = c.bill.ensures.reads
+pub returns-in_err-bill-clause-refused : goal.returns-in_err-bill-clause-refused
+returns-in_err-bill-clause-refused g c = λ clean sound.
+    let why = c.in_err-bill.field-0.0 in
+    let P = IsBillRefusal g.O.Outbox.standing g.L.Ledger.standing c.args.hub.now c.args.owner c.args.day in
+    subst P (sym (refused_is c.from_residual.result (of_bill why) c.from_residual.ensures.1)) (fault_refused _ c.bill.result P why (of_bill why) refl (c.in_err-bill.ensures.refused clean sound))
 
-pub returns-in-Err-clause-named : goal.returns-in-Err-clause-named
-returns-in-Err-clause-named g c = bill_named c.of_refusal.result c.in-Err.refused c.of_refusal.ensures
+pub returns-in_err-bill-clause-named : goal.returns-in_err-bill-clause-named
+returns-in_err-bill-clause-named g c =
+    let why = c.in_err-bill.field-0.0 in
+    err_is c.from_residual.result (of_bill why) (λ q. is_refusal q ≡ is_some (name_of q)) c.from_residual.ensures.1 (bill_named (of_bill why) why refl)
 
-pub returns-in-Err-clause-kept : goal.returns-in-Err-clause-kept
-returns-in-Err-clause-kept g c = λ _. Keeps-refl (g.W.Write.contents c.args.output.now)
-
-pub returns-in_err-print_reply-clause-reads : goal.returns-in_err-print_reply-clause-reads
-returns-in_err-print_reply-clause-reads g c = c.bill.ensures.reads
-
-pub returns-in_err-print_reply-clause-written : goal.returns-in_err-print_reply-clause-written
-returns-in_err-print_reply-clause-written g c = ok_of_none c.from_residual.result _ _ c.from_residual.ensures.1
-
-pub returns-in_err-print_reply-clause-refused : goal.returns-in_err-print_reply-clause-refused
-returns-in_err-print_reply-clause-refused g c = λ clean sound. subst (IsBillRefusal g.O.Outbox.standing g.L.Ledger.standing c.args.hub.now c.args.owner c.args.day) (sym (store_refused c.from_residual.result fault.Memory c.from_residual.ensures.1)) (c.in-Ok.ensures.refused clean sound)
-
-pub returns-in_err-print_reply-clause-named : goal.returns-in_err-print_reply-clause-named
-returns-in_err-print_reply-clause-named g c = store_named c.from_residual.result fault.Memory c.from_residual.ensures.1
-
-pub returns-in_err-print_reply-clause-kept : goal.returns-in_err-print_reply-clause-kept
-returns-in_err-print_reply-clause-kept g c = store_kept c.from_residual.result (g.W.Write.contents c.args.output.now)
+pub returns-in_err-bill-clause-kept : goal.returns-in_err-bill-clause-kept
+returns-in_err-bill-clause-kept g c = store_kept c.from_residual.result (g.W.Write.contents c.args.output.now)
 
 pub returns-clause-reads : goal.returns-clause-reads
 returns-clause-reads g c = c.bill.ensures.reads
 
+pub returns-clause-written : goal.returns-clause-written
+returns-clause-written g c =
+    let told = c.in_ok-bill.ensures in
+    let made = made_of g.O.Outbox.standing g.L.Ledger.standing c.args.hub.now c.bill.new.self c.args.owner c.args.day c.new.result bill_of c.in_ok-bill.bill c.in_ok-bill.short.items c.new.ensures told.closed told.held told.short told.taken told.value in
+    bill_written g.O.Outbox.standing g.L.Ledger.standing c.args.hub.now c.bill.new.self c.args.owner c.args.day c.new.result (g.W.Write.contents c.args.output.now) (g.W.Write.contents c.write_reply.new.output) _ c.in_ok-bill.bill refl made c.write_reply.result c.write_reply.ensures.written
+
 pub returns-clause-refused : goal.returns-clause-refused
-returns-clause-refused g c = λ clean sound. subst (IsBillRefusal g.O.Outbox.standing g.L.Ledger.standing c.args.hub.now c.args.owner c.args.day) (sym (write_refused c.write_text.result c.write_text.ensures.failed)) (c.in-Ok.ensures.refused clean sound)
+returns-clause-refused g c = λ clean sound. subst (IsBillRefusal g.O.Outbox.standing g.L.Ledger.standing c.args.hub.now c.args.owner c.args.day) (sym (reply_refused c.write_reply.result c.write_reply.ensures.failed)) (c.in_ok-bill.ensures.refused clean sound)
 
 pub returns-clause-named : goal.returns-clause-named
-returns-clause-named g c = write_named c.write_text.result c.write_text.ensures.failed
+returns-clause-named g c = reply_named c.write_reply.result c.write_reply.ensures.failed
 
 pub returns-clause-kept : goal.returns-clause-kept
-returns-clause-kept g c = write_kept c.write_text.result (g.W.Write.contents c.args.output.now) (g.W.Write.contents c.write_text.new.output) c.write_text.ensures.failed
+returns-clause-kept g c = c.write_reply.ensures.kept

@@ -86,11 +86,11 @@ pub returns-clause-failed : goal.returns-clause-failed
 returns-clause-failed g c =
     let known : is_some (position_of_owner c.args.hub.now.scheme c.args.owner) ≡ true = ap is_some (sym c.owner_position.ensures.value) ∙ c.if-is_none.ensures in
     let h = c.retire.ensures.retires (still_there g.O.Outbox.standing g.L.Ledger.standing c.args.hub.now c.ask_retired.new.hub c.args.owner c.ask_retired.ensures.asks known) in
-    subst (λ x. ComesOf g.O.Outbox.standing g.L.Ledger.standing c.args.hub.now c.retire.new.self (LeavesLane c.args.owner c.args.device x)) (sym c.of_retire.ensures)
+    subst (λ x. ComesOf g.O.Outbox.standing g.L.Ledger.standing c.args.hub.now c.retire.new.self (LeavesLane c.args.owner c.args.device x)) (sym c.from.ensures)
     (comes_refused g.O.Outbox.standing g.L.Ledger.standing c.args.hub.now c.ask_retired.new.hub c.retire.new.self c.args.owner c.args.device c.retire.result c.ask_retired.ensures.asks c.retire.ensures.follow h (g.met.L.Ledger.sound h.one.own_old) (g.met.L.Ledger.sound h.one.own_new) c.in-Err.refused c.in-Err.is)
 
 pub returns-clause-named : goal.returns-clause-named
-returns-clause-named g c = refused_named c.of_retire.result c.in-Err.refused c.of_retire.ensures
+returns-clause-named g c = refused_named c.from.result c.in-Err.refused c.from.ensures
 
 pub returns-clause-kept : goal.returns-clause-kept
 returns-clause-kept g c = λ _. Keeps-refl (g.W.Write.contents c.args.output.now)
