@@ -4,6 +4,7 @@ pub mod Takes
 pub mod Batches
 pub mod Owns
 pub mod Forwards
+pub mod Devices
 pub mod Rests
 pub mod Prunes
 pub mod Asks

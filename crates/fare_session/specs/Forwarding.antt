@@ -1,5 +1,5 @@
 -- What a forwarder's thread does.
-use Rattle.std.specs.Prelude.{◌≡◌, ℕ, ◌+◌, ◌<◌, ◌==◌, ◌&&◌, Bool, true, false, List, length, nat_eq, Option, None, Some, IsSome, option_map, Result, Ok, Err}
+use Rattle.std.specs.Prelude.{◌≡◌, ℕ, ◌+◌, ◌<◌, ◌==◌, ◌&&◌, Bool, true, false, List, [], ◌∷◌, ◌++◌, length, nat_eq, Option, None, Some, IsSome, option_map, Result, Ok, Err}
 use Rattle.std.specs.List.{AllByRecursion, IsDistinct}
 use Rattle.std.specs.Map.{lookup, keys_of}
 use Rattle.fare_record.specs.Values.{RecordValue}
@@ -61,8 +61,8 @@ pub record Skips (bases : List (ℕ × ℕ)) (owner : ℕ) (x : OutboxValue) (c 
   pub skips : c.lane device + 1 < row.lane
 
 -- WHAT COMES NEXT OF ONE DEVICE
-abbrev pub fault_due : Result (Option Item) SessionFault → Option SessionFault
-fault_due (Ok item) = None
+abbrev pub fault_due : {A : Type 0} → Result A SessionFault → Option SessionFault
+fault_due (Ok x) = None
 fault_due (Err fault) = Some fault
 
 abbrev pub IsDueIf : Option Item → ℕ → ℕ → Type 0
@@ -107,3 +107,16 @@ pub record ForwardedIf (meets : Cursors → Type 0) (bases : List (ℕ × ℕ)) 
 -- a thread's, whose lanes begin at the bases
 abbrev pub Forwarded : List (ℕ × ℕ) → Standing OutboxValue → Standing OutboxValue → Forwarder → Forwarder → List Item → Option SessionFault → Type 0
 Forwarded bases old new f g items fault = ForwardedIf (AreBases bases) bases old new f g items fault
+
+-- ONE DEVICE AFTER THE OTHER
+-- wherever the cursors were, they have come these items further
+pub record Moves (f g : Forwarder) (items : List Item) (fault : Option SessionFault) : Type 0 where
+  pub known : (device : ℕ) → HasCursor f device → HasCursor g device
+  pub far : fault ≡ None → (bases : List (ℕ × ℕ)) (c : Cursors) → IsAsFar bases f c → IsAsFar bases g (moved_by_all c items)
+
+-- a thread's, of the one device that has this base
+pub record IsDeviceForwarded (base : ℕ × ℕ) (old new : Standing OutboxValue) (f g : Forwarder) (before after : List Item) (fault : Option SessionFault) : Type 0 where
+  pub items : List Item
+  pub sent : after ≡ before ++ items
+  pub forwarded : Forwarded (base ∷ []) old new f g items fault
+  pub moves : Moves f g items fault

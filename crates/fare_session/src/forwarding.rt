@@ -1,8 +1,8 @@
 //! The forwarder's thread: it reads the outbox, and puts what comes next of each device into the lane queue.
-ghost use Rattle.std.specs.Prelude.{◌≡◌, ◌++◌, ◌∷◌, [], true, false};
-ghost use Rattle.fare_lane_queue.specs.Lane.{IsNext};
+ghost use Rattle.std.specs.Prelude.{◌≡◌, ◌+◌, ◌++◌, ◌∷◌, [], length, true, false};
+ghost use Rattle.fare_lane_queue.specs.Lane.{IsNext, base_of, lanes_of};
 ghost use Rattle.fare_lane_queue.specs.Passes.{sent_list, forward_bases, IsForwardOf};
-ghost use Rattle.fare_session.specs.Forwarding.{is_due, lane_after, IsNextDue, AreApart, Forwarded, HasCursor, HasCursors};
+ghost use Rattle.fare_session.specs.Forwarding.{is_due, lane_after, IsNextDue, AreApart, Forwarded, IsDeviceForwarded, fault_due, HasCursor, HasCursors};
 
 use crate::ending::Ending;
 use crate::fault::{SessionFault, failed};
@@ -23,7 +23,6 @@ fn put_item<G: Gate, R: Wait + Clock>(
     line: &LaneQueue,
     ending: &Ending,
     item: &Item,
-    turns: &mut Turns,
     pass: &mut ForwardPass,
 ) -> bool
     requires queue { IsForwardOf line.now pass.old }
@@ -32,10 +31,10 @@ fn put_item<G: Gate, R: Wait + Clock>(
     ensures put { result ≡ true → sent_list pass.new ≡ sent_list pass.old ++ item.now ∷ [] }
     ensures not_put { result ≡ false → sent_list pass.new ≡ sent_list pass.old }
 {
+    let mut turns = Turns::new(pace.turns);
     for _ in pace.rt.forever() {
         if line.put(pace.rt, pass, *item).is_ok() {
             pace.gate.pass(Point::ForwardPut);
-            turns.found();
             return true;
         }
         turns.spend(pace.rt, pace.gate);
@@ -93,7 +92,38 @@ pub(crate) fn next_due<O: Outbox>(
     }
 }
 
-// Puts what comes next of each device, first its taps and then its statements.
+// Puts what comes next of a device behind its base, first its taps and then its statements. Answers whether it came to
+// where nothing comes next any more: it did not where an item was not put.
+fn forward_device<O: Outbox, G: Gate, R: Wait + Clock>(
+    pace: &Pace<G, R>,
+    line: &LaneQueue,
+    ending: &Ending,
+    base: (DeviceId, u64),
+    forwarder: &mut Forwarder,
+    outbox: &mut O,
+    pass: &mut ForwardPass,
+) -> Result<bool, SessionFault>
+    requires queue { IsForwardOf line.now pass.old }
+    requires reached { base.1 ≡ base_of (forward_bases pass.old) base.0 + length (lanes_of base.0 (sent_list pass.old)) }
+    requires cursors { HasCursors (base ∷ []) forwarder.old }
+    ensures queue { IsForwardOf line.now pass.new × (forward_bases pass.new ≡ forward_bases pass.old) }
+    ensures forwarded { IsDeviceForwarded base (O.standing outbox.old) (O.standing outbox.new) forwarder.old forwarder.new (sent_list pass.old) (sent_list pass.new) (fault_due result) }
+{
+    let (device, mut reached) = base;
+    for _ in pace.rt.forever() {
+        let Some(item) = next_due(forwarder, outbox, device, reached)? else {
+            return Ok(true);
+        };
+        if !put_item(pace, line, ending, &item, pass) {
+            forwarder.put_back(device);
+            return Ok(false);
+        }
+        reached = lane_after(&item, reached);
+    }
+    unreachable!()
+}
+
+// Puts what comes next of each device, one device after the other.
 fn forward_devices<O: Outbox, G: Gate, R: Wait + Clock>(
     pace: &Pace<G, R>,
     line: &LaneQueue,
@@ -110,21 +140,11 @@ fn forward_devices<O: Outbox, G: Gate, R: Wait + Clock>(
     ensures queue { IsForwardOf line.now pass.new }
     ensures forwarded { Forwarded bases.now (O.standing outbox.old) (O.standing outbox.new) forwarder.old forwarder.new (sent_list pass.new) result }
 {
-    let mut turns = Turns::new(pace.turns);
     for place in 0..bases.len() {
-        let (device, base) = bases[place];
-        let mut reached = base;
-        for _ in pace.rt.forever() {
-            let item = match next_due(forwarder, outbox, device, reached) {
-                Ok(Some(item)) => item,
-                Ok(None) => break,
-                Err(fault) => return Some(fault),
-            };
-            if !put_item(pace, line, ending, &item, &mut turns, pass) {
-                forwarder.put_back(device);
-                return None;
-            }
-            reached = lane_after(&item, reached);
+        match forward_device(pace, line, ending, bases[place], forwarder, outbox, pass) {
+            Ok(true) => {}
+            Ok(false) => return None,
+            Err(fault) => return Some(fault),
         }
     }
     None
