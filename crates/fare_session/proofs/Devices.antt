@@ -1,10 +1,10 @@
 -- One device after the other: what each comes to by itself, and all of them together.
-use Rattle.std.proofs.Common.{◌≡◌, ◌≢◌, ℕ, ◌<◌, Some, None, Bool, true, false, List, [], ◌∷◌, ◌++◌, length, refl, sym, ap, ◌∙◌, subst, arith}
+use Rattle.std.proofs.Common.{◌≡◌, ◌≢◌, ℕ, zero, suc, ◌<◌, Some, None, Bool, true, false, List, [], ◌∷◌, ◌++◌, length, refl, sym, ap, ◌∙◌, subst, arith}
 use Rattle.std.specs.Prelude.{slice_get, get_or, nat_eq, cond, Option, is_some, unwrap_or, Ok}
 use Rattle.std.specs.List.{AllByRecursion}
 use Rattle.std.proofs.lemmas.Bool.Decides.{nat_tests}
 use Rattle.std.proofs.lemmas.List.{append-nil, append_assoc}
-use Rattle.std.proofs.lemmas.Option.{slice_get-get_or}
+use Rattle.std.proofs.lemmas.Option.{slice_get-get_or, same_Some}
 use Rattle.fare_record.specs.declared.item.Item.{Item}
 use Rattle.fare_route.specs.declared.forwarder.Forwarder.{Forwarder}
 use Rattle.fare_route.specs.Cursors.{undone}
@@ -42,13 +42,17 @@ alone p = ap (λ (q : Bool). is_some (cond q (Some p.1) None)) (itself p.0)
 pub base_alone : (p : ℕ × ℕ) → base_of (p ∷ []) p.0 ≡ p.1
 base_alone p = ap (λ (q : Bool). unwrap_or (cond q (Some p.1) None) 0) (itself p.0)
 
-among : (bases : List (ℕ × ℕ)) (p : ℕ × ℕ) (d : ℕ) → IsBased bases p.0 → IsBased (p ∷ []) d → IsBased bases d
+pub at_alone : (p : ℕ × ℕ) (k : ℕ) (q : ℕ × ℕ) → slice_get (p ∷ []) k ≡ Some q → q.0 ≡ p.0
+at_alone p zero q at = ap (λ (z : ℕ × ℕ). z.0) (sym (same_Some p q at))
+at_alone p (suc k) q at = absurd (cc)
+
+pub among : (bases : List (ℕ × ℕ)) (p : ℕ × ℕ) (d : ℕ) → IsBased bases p.0 → IsBased (p ∷ []) d → IsBased bases d
 among bases p d based is = subst (IsBased bases) (sym (only p d is)) based
 
 pub knows : (bases : List (ℕ × ℕ)) (p : ℕ × ℕ) (f : Forwarder) → IsBased bases p.0 → HasCursors bases f → HasCursors (p ∷ []) f
 knows bases p f based has d is = has d (among bases p d based is)
 
-far_of : (bases : List (ℕ × ℕ)) (p : ℕ × ℕ) (f : Forwarder) (c : Cursors) → IsBased bases p.0 → IsAsFar bases f c → IsAsFar (p ∷ []) f c
+pub far_of : (bases : List (ℕ × ℕ)) (p : ℕ × ℕ) (f : Forwarder) (c : Cursors) → IsBased bases p.0 → IsAsFar bases f c → IsAsFar (p ∷ []) f c
 far_of bases p f c based far = record { at = λ d is. far.at d (among bases p d based is) }
 
 skips_among : (bases : List (ℕ × ℕ)) (p : ℕ × ℕ) (owner : ℕ) (x : OutboxValue) (c : Cursors) → IsBased bases p.0 → Skips (p ∷ []) owner x c → Skips bases owner x c
@@ -126,4 +130,4 @@ lanes_apart p sent (i ∷ items) device apart all =
 pub thread_then : (bases : List (ℕ × ℕ)) (k : ℕ) (p : ℕ × ℕ) (a b c : Standing OutboxValue) (f g h : Forwarder) (before after : List Item) (fault : Option SessionFault) → AreApart bases → slice_get bases k ≡ Some p → lanes_of p.0 before ≡ [] → Forwarded bases a b f g before None → IsDeviceForwarded p b c g h before after fault → Forwarded bases a c f h after fault
 thread_then bases k p a b c f g h before after fault apart at none fw of = subst (λ (l : List Item). Forwarded bases a c f h l fault) (sym of.sent)
     (forwarded_then (AreBases bases) (AreBases (p ∷ [])) bases p a b c f g h before of.items fault (based_at bases k p apart at) fw of.forwarded
-        (λ d far bs k'. record { base = λ e is. ap (moved_by_all d before).lane (only p e is) ∙ begun_far bases before k p d apart at none bs ∙ sym (base_alone p) ∙ ap (base_of (p ∷ [])) (sym (only p e is)) }) of.moves)
+    (λ d far bs k'. record { base = λ e is. ap (moved_by_all d before).lane (only p e is) ∙ begun_far bases before k p d apart at none bs ∙ sym (base_alone p) ∙ ap (base_of (p ∷ [])) (sym (only p e is)) }) of.moves)

@@ -13,7 +13,7 @@ use Rattle.fare_session.specs.declared.fault.SessionFault.{SessionFault}
 use Rattle.fare_session.specs.declared.fault.SessionFault.TheVariants.{Refused}
 use Rattle.fare_history.specs.Serving.{Cursors, moved_by_all, in_hand, pruned_to_all}
 use Rattle.fare_session.specs.Stores.{stored_fault, IsOwners, Follows, HasStood, Leaves, Stays}
-use Rattle.fare_session.specs.Forwarding.{IsBased, IsAsFar, ForwardedIf}
+use Rattle.fare_session.specs.Forwarding.{IsBased, IsAsFar, ForwardedIf, Moves}
 use Rattle.fare_session.specs.Taking.{IsTaken}
 
 -- the cursors' lanes are how many taps a ledger has
@@ -48,6 +48,11 @@ pub record IsRest (bases : List (ℕ × ℕ)) (xo xn : Standing OutboxValue) (lo
   pub one : IsOne fx fl fault
   pub skipped : fault ≡ Some Refused → xn.clean → xo.live
   pub idle : fault ≡ None → (k : ℕ) (p : ℕ × ℕ) → slice_get bases k ≡ Some p → IdleAt bases xo xn lo ln f done p.0
+
+-- the rest of one device, wherever the cursors were; its base is not read
+pub record IsDeviceRest (device : ℕ) (xo xn : Standing OutboxValue) (lo ln : Standing LedgerValue) (f g : Forwarder) (fault : Option SessionFault) (before after held : ℕ) : Type 0 where
+  pub rest : IsRest ((device, 0) ∷ []) xo xn lo ln f g fault before after held
+  pub moves : Moves f g (rest.done ++ in_hand rest.hand) rest.fx
 
 -- each of these devices with how many of its taps the ledger has
 abbrev pub counted_in : LedgerValue → List ℕ → List (ℕ × ℕ)
