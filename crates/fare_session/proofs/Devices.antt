@@ -13,7 +13,6 @@ use Rattle.fare_lane_queue.specs.Lane.{base_of, lanes_of}
 use Rattle.fare_store.specs.Standing.{Standing}
 use Rattle.fare_store.specs.OutboxWords.{OutboxValue}
 use Rattle.fare_session.specs.declared.fault.SessionFault.{SessionFault}
-use Rattle.fare_session.specs.declared.fault.SessionFault.TheVariants.{Refused}
 use Rattle.fare_history.proofs.Entries.{all-weaken}
 use Rattle.fare_history.specs.Serving.{Cursors, device_of, moved_by_all, AreNextItems}
 use Rattle.fare_session.specs.Stores.{stored_fault, HasStood}

@@ -9,7 +9,6 @@ use Rattle.fare_record.specs.Values.{RecordValue}
 use Rattle.fare_record.specs.declared.item.Item.{Item}
 use Rattle.fare_record.specs.declared.item.Item.TheVariants.{Tap, Stated}
 use Rattle.fare_route.specs.declared.forwarder.Forwarder.{Forwarder}
-use Rattle.fare_store.specs.declared.fault.Fault.{Fault}
 use Rattle.fare_store.specs.Standing.{Standing, IsSound}
 use Rattle.fare_store.specs.OutboxWords.{OutboxValue}
 use Rattle.fare_store.specs.LedgerWords.{LedgerValue}

@@ -7,7 +7,7 @@ use Rattle.fare_lane_queue.specs.Lane.{base_of, lanes_of}
 use Rattle.fare_lane_queue.specs.Passes.{sent_list, forward_bases}
 use Rattle.fare_session.specs.declared.fault.SessionFault.{SessionFault}
 use Rattle.fare_session.specs.Forwarding.{lane_after, AreBases, IsNextDue, IsDeviceForwarded, fault_due}
-use Rattle.fare_session.proofs.Forwards.{lane_more, far_more, forwarded_none, forwarded_more, forwarded_idle, forwarded_back, forwarded_failed, due_next}
+use Rattle.fare_session.proofs.Forwards.{lane_more, far_more, forwarded_none, forwarded_more, forwarded_idle, forwarded_back, forwarded_failed}
 use Rattle.fare_session.proofs.Devices.{alone, base_alone, moves_none, moves_more, moves_idle, moves_back, moves_failed}
 use Rattle.fare_session.proofs.forwarding.forward_device.Goals as goal
 

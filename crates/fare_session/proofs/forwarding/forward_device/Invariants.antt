@@ -1,4 +1,4 @@
-use Rattle.std.proofs.Common.{◌≡◌, ℕ, ◌+◌, [], ◌∷◌, ◌++◌, List, length, None}
+use Rattle.std.proofs.Common.{◌≡◌, ◌+◌, [], ◌∷◌, ◌++◌, List, length, None}
 use Rattle.fare_record.specs.declared.item.Item.{Item}
 use Rattle.fare_lane_queue.specs.Lane.{base_of, lanes_of}
 use Rattle.fare_lane_queue.specs.Passes.{sent_list, forward_bases, IsForwardOf}

@@ -1,9 +1,8 @@
-use Rattle.std.proofs.Common.{rules, ◌≡◌, ◌++◌, ◌∷◌, [], ℕ, ◌+◌, length, List, None, Some, sym, ap, ◌∙◌, subst, arith}
-use Rattle.std.specs.Prelude.{slice_get, Option}
+use Rattle.std.proofs.Common.{◌≡◌, ℕ, ◌+◌, length, List, None, Some, sym, ap, ◌∙◌, subst, arith}
+use Rattle.std.specs.Prelude.{slice_get}
 use Rattle.fare_record.specs.declared.item.Item.{Item}
 use Rattle.fare_lane_queue.specs.Lane.{base_of, lanes_of}
 use Rattle.fare_lane_queue.specs.Passes.{sent_list}
-use Rattle.fare_session.specs.declared.fault.SessionFault.{SessionFault}
 use Rattle.fare_session.specs.Forwarding.{AreBases, Forwarded}
 use Rattle.fare_session.proofs.Forwards.{begun, based_at, apart_at, forwarded_none}
 use Rattle.fare_session.proofs.Devices.{placed, knows, thread_then, lanes_apart}

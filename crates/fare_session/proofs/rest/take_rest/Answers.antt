@@ -1,4 +1,4 @@
-use Rattle.std.proofs.Common.{◌≡◌, ◌≢◌, ◌++◌, [], ℕ, ◌+◌, List, refl, None, Some, sym, ap, ◌∙◌, arith}
+use Rattle.std.proofs.Common.{◌≡◌, ◌≢◌, ◌++◌, [], ℕ, refl, None, Some, sym, ap, ◌∙◌, arith}
 use Rattle.std.specs.Prelude.{slice_get, get_or}
 use Rattle.std.proofs.lemmas.Option.{slice_get-get_or, same_Some}
 use Rattle.fare_session.proofs.Forwards.{based_at, apart_at}
