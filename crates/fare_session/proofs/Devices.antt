@@ -85,10 +85,10 @@ module _ (b c : Standing OutboxValue) (f g h : Forwarder) (items : List Item) (d
 
 -- ONE DEVICE MORE
 module _ (P Q : Cursors → Type 0) (bases : List (ℕ × ℕ)) (p : ℕ × ℕ) (a b c : Standing OutboxValue) (f g h : Forwarder) (items more : List Item) (fault : Option SessionFault) (based : IsBased bases p.0) (fw : ForwardedIf P bases a b f g items None) (of : ForwardedIf Q (p ∷ []) b c g h more fault) where
-  pub stood_before : HasStood a c → HasStood a b
+  stood_before : HasStood a c → HasStood a b
   stood_before k = stood_first a b c (stored_fault fault) b.value (λ w. w ≡ b.value) of.stays k
 
-  pub stood_behind : HasStood a c → HasStood b c
+  stood_behind : HasStood a c → HasStood b c
   stood_behind k = stood_then a b c (stored_fault fault) b.value a.value (λ w. w ≡ b.value) (λ w. w ≡ a.value) fw.stays of.stays k
 
   same : HasStood a c → b.value ≡ a.value

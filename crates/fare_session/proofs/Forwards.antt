@@ -16,8 +16,7 @@ use Rattle.fare_route.specs.declared.cursor.Cursor.{Cursor}
 use Rattle.fare_route.specs.declared.forwarder.Forwarder.{Forwarder}
 use Rattle.fare_route.specs.Cursors.{moved, undone}
 use Rattle.fare_route.specs.Routing.{cursor_of, changed, IsNext, IsNextOf, NoRow}
-use Rattle.fare_lane_queue.specs.Lane.{base_of, taps_of, lanes_of, next_lane}
-use Rattle.fare_lane_queue.specs.Lane as lane
+use Rattle.fare_lane_queue.specs.Lane.{base_of, taps_of, lanes_of}
 use Rattle.fare_store.specs.Standing.{Standing, IsSound}
 use Rattle.fare_store.specs.OutboxWords.{OutboxValue, IsLeastRow, IsLeastStatement}
 use Rattle.fare_session.specs.declared.fault.SessionFault.{SessionFault}
@@ -72,10 +71,6 @@ lanes_others sent (Tap r) device apart = lanes_of-append device sent (Tap r ∷ 
     by true e = absurd (apart ((Decides-eqb r.device device).0 e))
     by false e = lanes_of_tap device r false e
 lanes_others sent (Stated s) device apart = lanes_of-append device sent (Stated s ∷ []) ∙ append-nil (lanes_of device sent)
-
-pub due_next : (bases : List (ℕ × ℕ)) (sent : List Item) (i : Item) (device reached : ℕ) → is_due i device reached ≡ true → reached ≡ base_of bases device + length (lanes_of device sent) → lane.IsNext bases sent i
-due_next bases sent (Tap r) device reached due at = due_lane r device reached due ∙ ap (λ (n : ℕ). n + 1) (at ∙ ap (λ (d : ℕ). base_of bases d + length (lanes_of d sent)) (sym (due_device (Tap r) device reached due)))
-due_next bases sent (Stated s) device reached due at = tt
 
 -- CURSORS
 abbrev place_in : Option Cursor → Option (ℕ × ℕ)
