@@ -140,8 +140,8 @@ fn forward_devices<O: Outbox, G: Gate, R: Wait + Clock>(
     ensures queue { IsForwardOf line.now pass.new }
     ensures forwarded { Forwarded bases.now (O.standing outbox.old) (O.standing outbox.new) forwarder.old forwarder.new (sent_list pass.new) result }
 {
-    for place in 0..bases.len() {
-        match forward_device(pace, line, ending, bases[place], forwarder, outbox, pass) {
+    for base in bases {
+        match forward_device(pace, line, ending, *base, forwarder, outbox, pass) {
             Ok(true) => {}
             Ok(false) => return None,
             Err(fault) => return Some(fault),

@@ -16,10 +16,9 @@ pub(crate) fn sift<L: Ledger>(
     requires fresh { working.old.items ≡ [] }
     ensures { AreSifted (L.standing ledger.old) (L.standing ledger.new) lanes.now working.new.items result }
 {
-    for place in 0..lanes.len() {
-        let lane = lanes[place];
+    for lane in lanes {
         let retired = ledger.retired(lane.0)?;
-        if !retired && working.push(lane).is_err() {
+        if !retired && working.push(*lane).is_err() {
             return Err(Fault::Memory);
         }
     }

@@ -8,8 +8,8 @@ use Rattle.fare_session.proofs.Forwards.{begun, based_at, apart_at, forwarded_no
 use Rattle.fare_session.proofs.Devices.{placed, knows, thread_then, lanes_apart}
 use Rattle.fare_session.proofs.forwarding.forward_devices.Goals as goal
 
-pub loop-place-init : goal.loop-place-init
-loop-place-init g c =
+pub loop-base-init : goal.loop-base-init
+loop-base-init g c =
     let bases = c.args.bases.now in
     let x = g.O.Outbox.standing c.args.outbox.now in
     let f = c.args.forwarder.now in
@@ -22,54 +22,54 @@ loop-place-init g c =
 
 pub forward_device-requires-clause-reached : goal.forward_device-requires-clause-reached
 forward_device-requires-clause-reached g c =
-    let i = c.loop-place.invariant in
+    let i = c.loop-base.invariant in
     let bases = c.args.bases.now in
-    let k = c.loop-place.place in
-    let p : ℕ × ℕ = c.index-bases-place.result in
-    let at : slice_get bases k ≡ Some p = placed bases k p c.index-bases-place.is (omega (arith, c.loop-place-test.true)) in
-    let sent = sent_list c.loop-place.pass in
+    let k = c.loop-base.base-index in
+    let p : ℕ × ℕ = c.base-item.result in
+    let at : slice_get bases k ≡ Some p = placed bases k p c.base-item.is (omega (arith, c.loop-base-test.true)) in
+    let sent = sent_list c.loop-base.pass in
     subst (λ (b : List (ℕ × ℕ)). p.1 ≡ base_of b p.0 + length (lanes_of p.0 sent)) (sym i.bases) (begun bases sent k p c.requires.apart at (i.fresh k p (omega arith) at))
 
 pub forward_device-requires-clause-cursors : goal.forward_device-requires-clause-cursors
 forward_device-requires-clause-cursors g c =
     let bases = c.args.bases.now in
-    let p : ℕ × ℕ = c.index-bases-place.result in
-    let at : slice_get bases c.loop-place.place ≡ Some p = placed bases c.loop-place.place p c.index-bases-place.is (omega (arith, c.loop-place-test.true)) in
-    knows bases p c.loop-place.forwarder (based_at bases c.loop-place.place p c.requires.apart at) c.loop-place.invariant.forwarded.cursors
+    let p : ℕ × ℕ = c.base-item.result in
+    let at : slice_get bases c.loop-base.base-index ≡ Some p = placed bases c.loop-base.base-index p c.base-item.is (omega (arith, c.loop-base-test.true)) in
+    knows bases p c.loop-base.forwarder (based_at bases c.loop-base.base-index p c.requires.apart at) c.loop-base.invariant.forwarded.cursors
 
 pub returns-in-Ok-false-clause-forwarded : goal.returns-in-Ok-false-clause-forwarded
 returns-in-Ok-false-clause-forwarded g c =
-    let i = c.loop-place.invariant in
+    let i = c.loop-base.invariant in
     let bases = c.args.bases.now in
-    let k = c.loop-place.place in
-    let p : ℕ × ℕ = c.index-bases-place.result in
-    let at : slice_get bases k ≡ Some p = placed bases k p c.index-bases-place.is (omega (arith, c.loop-place-test.true)) in
-    thread_then bases k p (g.O.Outbox.standing c.args.outbox.now) (g.O.Outbox.standing c.loop-place.outbox) (g.O.Outbox.standing c.forward_device.new.outbox) c.args.forwarder.now c.loop-place.forwarder c.forward_device.new.forwarder (sent_list c.loop-place.pass) (sent_list c.forward_device.new.pass) None c.requires.apart at (i.fresh k p (omega arith) at) i.forwarded c.in-Ok-false.ensures.forwarded
+    let k = c.loop-base.base-index in
+    let p : ℕ × ℕ = c.base-item.result in
+    let at : slice_get bases k ≡ Some p = placed bases k p c.base-item.is (omega (arith, c.loop-base-test.true)) in
+    thread_then bases k p (g.O.Outbox.standing c.args.outbox.now) (g.O.Outbox.standing c.loop-base.outbox) (g.O.Outbox.standing c.forward_device.new.outbox) c.args.forwarder.now c.loop-base.forwarder c.forward_device.new.forwarder (sent_list c.loop-base.pass) (sent_list c.forward_device.new.pass) None c.requires.apart at (i.fresh k p (omega arith) at) i.forwarded c.in-Ok-false.ensures.forwarded
 
 pub returns-in-Err-clause-forwarded : goal.returns-in-Err-clause-forwarded
 returns-in-Err-clause-forwarded g c =
-    let i = c.loop-place.invariant in
+    let i = c.loop-base.invariant in
     let bases = c.args.bases.now in
-    let k = c.loop-place.place in
-    let p : ℕ × ℕ = c.index-bases-place.result in
-    let at : slice_get bases k ≡ Some p = placed bases k p c.index-bases-place.is (omega (arith, c.loop-place-test.true)) in
-    thread_then bases k p (g.O.Outbox.standing c.args.outbox.now) (g.O.Outbox.standing c.loop-place.outbox) (g.O.Outbox.standing c.forward_device.new.outbox) c.args.forwarder.now c.loop-place.forwarder c.forward_device.new.forwarder (sent_list c.loop-place.pass) (sent_list c.forward_device.new.pass) (Some c.in-Err.fault) c.requires.apart at (i.fresh k p (omega arith) at) i.forwarded c.in-Err.ensures.forwarded
+    let k = c.loop-base.base-index in
+    let p : ℕ × ℕ = c.base-item.result in
+    let at : slice_get bases k ≡ Some p = placed bases k p c.base-item.is (omega (arith, c.loop-base-test.true)) in
+    thread_then bases k p (g.O.Outbox.standing c.args.outbox.now) (g.O.Outbox.standing c.loop-base.outbox) (g.O.Outbox.standing c.forward_device.new.outbox) c.args.forwarder.now c.loop-base.forwarder c.forward_device.new.forwarder (sent_list c.loop-base.pass) (sent_list c.forward_device.new.pass) (Some c.in-Err.fault) c.requires.apart at (i.fresh k p (omega arith) at) i.forwarded c.in-Err.ensures.forwarded
 
-pub loop-place-preserved : goal.loop-place-preserved
-loop-place-preserved g c =
-    let i = c.loop-place.invariant in
+pub loop-base-preserved : goal.loop-base-preserved
+loop-base-preserved g c =
+    let i = c.loop-base.invariant in
     let bases = c.args.bases.now in
-    let k = c.loop-place.place in
-    let p : ℕ × ℕ = c.index-bases-place.result in
-    let at : slice_get bases k ≡ Some p = placed bases k p c.index-bases-place.is (omega (arith, c.loop-place-test.true)) in
-    let sent = sent_list c.loop-place.pass in
+    let k = c.loop-base.base-index in
+    let p : ℕ × ℕ = c.base-item.result in
+    let at : slice_get bases k ≡ Some p = placed bases k p c.base-item.is (omega (arith, c.loop-base-test.true)) in
+    let sent = sent_list c.loop-base.pass in
     let of = c.in-Ok-true.ensures.forwarded in
     record {
       queue = c.forward_device.ensures.queue.0;
       bases = c.forward_device.ensures.queue.1 ∙ i.bases;
-      forwarded = thread_then bases k p (g.O.Outbox.standing c.args.outbox.now) (g.O.Outbox.standing c.loop-place.outbox) (g.O.Outbox.standing c.forward_device.new.outbox) c.args.forwarder.now c.loop-place.forwarder c.forward_device.new.forwarder sent (sent_list c.forward_device.new.pass) None c.requires.apart at (i.fresh k p (omega arith) at) i.forwarded of;
+      forwarded = thread_then bases k p (g.O.Outbox.standing c.args.outbox.now) (g.O.Outbox.standing c.loop-base.outbox) (g.O.Outbox.standing c.forward_device.new.outbox) c.args.forwarder.now c.loop-base.forwarder c.forward_device.new.forwarder sent (sent_list c.forward_device.new.pass) None c.requires.apart at (i.fresh k p (omega arith) at) i.forwarded of;
       fresh = λ j z le held. ap (lanes_of z.0) of.sent ∙ lanes_apart p sent of.items z.0 (apart_at bases k j p z c.requires.apart (omega (arith, le)) at held) of.forwarded.known ∙ i.fresh j z (omega (arith, le)) held;
     }
 
 pub returns : goal.returns
-returns g c = record { queue = c.loop-place.invariant.queue; forwarded = c.loop-place.invariant.forwarded }
+returns g c = record { queue = c.loop-base.invariant.queue; forwarded = c.loop-base.invariant.forwarded }

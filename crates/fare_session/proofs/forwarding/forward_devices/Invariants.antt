@@ -5,10 +5,10 @@ use Rattle.fare_lane_queue.specs.Passes.{sent_list, forward_bases, IsForwardOf}
 use Rattle.fare_session.specs.Forwarding.{Forwarded}
 use Rattle.fare_session.proofs.forwarding.forward_devices.Given as goal
 
-abbrev pub invariant-loop-place : goal.invariant-loop-place
-invariant-loop-place g l = record {
+abbrev pub invariant-loop-base : goal.invariant-loop-base
+invariant-loop-base g l = record {
   queue : IsForwardOf l.line l.pass;
   bases : forward_bases l.pass ≡ l.bases;
   forwarded : Forwarded l.bases (g.O.Outbox.standing l.fn.outbox) (g.O.Outbox.standing l.outbox) l.fn.forwarder l.forwarder (sent_list l.pass) None;
-  fresh : (k : ℕ) (p : ℕ × ℕ) → l.place ≤ k → slice_get l.bases k ≡ Some p → lanes_of p.0 (sent_list l.pass) ≡ [];
+  fresh : (k : ℕ) (p : ℕ × ℕ) → l.base-index ≤ k → slice_get l.bases k ≡ Some p → lanes_of p.0 (sent_list l.pass) ≡ [];
 }
