@@ -81,8 +81,8 @@ fn ids_of<S>(alloc: Global, stations: &[Station<S>]) -> Result<Vec<StationId>, A
     ensures { IfOk result (λ ids. ids.items ≡ map id_of stations.now) }
 {
     let mut ids = Vec::new(alloc);
-    for place in 0..stations.len() {
-        ids.push(stations[place].collector.station())?;
+    for station in stations {
+        ids.push(station.collector.station())?;
     }
     Ok(ids)
 }
@@ -289,9 +289,8 @@ fn list_faults<S>(stations: &[Station<S>], faults: &mut Vec<SessionFault>)
     requires { vec_len faults.old + length stations.now ≤ vec_capacity faults.old }
     ensures { faults.new.items ≡ faults.old.items ++ station_faults stations.now }
 {
-    for place in 0..stations.len() {
-        let station = stations[place].collector.station();
-        list_fault(station, stations[place].end.fault, faults);
+    for station in stations {
+        list_fault(station.collector.station(), station.end.fault, faults);
     }
 }
 

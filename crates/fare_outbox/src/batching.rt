@@ -22,8 +22,7 @@ fn last_link(rows: &[Record], device: DeviceId) -> Option<u64>
     ensures { result ≡ link_among None device rows.now }
 {
     let mut last = None;
-    for place in 0..rows.len() {
-        let row = &rows[place];
+    for row in rows {
         if device == row.device() {
             last = Some(row.link());
         }
@@ -42,8 +41,8 @@ fn is_at(row: &Record, other: &Record) -> bool
 fn is_free(rows: &[Record], other: &Record) -> bool
     ensures { IsTrue result → IsFreeOf other.now rows.now }
 {
-    for place in 0..rows.len() {
-        if is_at(&rows[place], other) {
+    for row in rows {
+        if is_at(row, other) {
             return false;
         }
     }
@@ -61,8 +60,8 @@ fn is_before(row: &Record, other: &Record) -> bool
 fn any_before(rows: &[Record], other: &Record) -> bool
     ensures { result ≡ any_before other.now rows.now }
 {
-    for place in 0..rows.len() {
-        if is_before(&rows[place], other) {
+    for row in rows {
+        if is_before(row, other) {
             return true;
         }
     }

@@ -85,8 +85,7 @@ fn cut_lanes<S: Alter>(
         → rows ≡ length (held_of (ours layout.now (state S.Store tx.old.conn.now).now.trees)).taps → IfOk result (λ n. n ≡ length (without_lanes owner lanes.now (held_of (ours layout.now (state S.Store tx.old.conn.now).now.trees))).taps) }
 {
     let mut left = rows;
-    for place in 0..lanes.len() {
-        let lane = lanes[place];
+    for lane in lanes {
         let gone = cut_rows(tx, layout, owner, lane.0, within(lane.1))?;
         left = left.saturating_sub(gone as u64);
     }

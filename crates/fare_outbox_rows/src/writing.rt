@@ -126,8 +126,8 @@ fn put_next<S: Alter>(
 fn names(rows: &[Record], device: DeviceId) -> bool
     ensures { result ≡ names device rows.now }
 {
-    for place in 0..rows.len() {
-        if rows[place].device() == device {
+    for row in rows {
+        if row.device() == device {
             return true;
         }
     }

@@ -3,5 +3,5 @@ use Rattle.std.specs.Prelude.{vec_len, vec_capacity}
 use Rattle.fare_collect.specs.Collected.{station_faults}
 use Rattle.fare_collect.proofs.collecting.list_faults.Given as goal
 
-abbrev pub invariant-loop-place : goal.invariant-loop-place
-invariant-loop-place g l = (vec_len l.faults + length l.stations ≤ vec_capacity l.faults + l.place) × (l.faults.items ≡ l.fn.faults.items ++ station_faults (take l.place l.stations))
+abbrev pub invariant-loop-station : goal.invariant-loop-station
+invariant-loop-station g l = (vec_len l.faults + length l.stations ≤ vec_capacity l.faults + l.station-index) × (l.faults.items ≡ l.fn.faults.items ++ station_faults (take l.station-index l.stations))

@@ -7,19 +7,19 @@ use Rattle.fare_outbox.proofs.Batches.{among-push}
 use Rattle.fare_outbox.proofs.batching.last_link.Goals.{then-eq, else-eq}
 use Rattle.fare_outbox.proofs.batching.last_link.Goals as goal
 
-pub loop-place-preserved : goal.loop-place-preserved
-loop-place-preserved c =
+pub loop-row-preserved : goal.loop-row-preserved
+loop-row-preserved c =
     let rows = c.args.rows.now in
-    let k = c.loop-place.place in
+    let k = c.loop-row.row-index in
     let d = c.args.device in
-    let r = c.index-rows-place.result in
+    let r = c.row-item.result in
     let more : link_among None d (take (k + 1) rows) ≡ (if d == r.device then Some r.link else link_among None d (take k rows)) =
-    ap (link_among None d) (take_more rows k r (omega arith) ∙ ap (λ x. take k rows ++ x ∷ []) (sym c.index-rows-place.is)) ∙ among-push None d (take k rows) r in
+    ap (link_among None d) (take_more rows k r (omega arith) ∙ ap (λ x. take k rows ++ x ∷ []) (sym c.row-item.is)) ∙ among-push None d (take k rows) r in
     elim c.if-eq.branch [
       | then-eq w ↦ (
           let test : (d == r.device) ≡ true = grind (arith, nat_tests, c.eq.ensures, c.device.ensures, w.if-eq.true) in
           w.last-is ∙ (ap Some w.link.ensures.value ∙ sym (more ∙ ap (λ (b : Bool). if b then Some r.link else link_among None d (take k rows)) test)))
       | else-eq w ↦ (
           let test : (d == r.device) ≡ false = grind (arith, nat_tests, c.eq.ensures, c.device.ensures, w.if-eq.false) in
-          w.last-is ∙ (c.loop-place.invariant ∙ sym (more ∙ ap (λ (b : Bool). if b then Some r.link else link_among None d (take k rows)) test)))
+          w.last-is ∙ (c.loop-row.invariant ∙ sym (more ∙ ap (λ (b : Bool). if b then Some r.link else link_among None d (take k rows)) test)))
     ]

@@ -8,20 +8,20 @@ use Rattle.fare_outbox_rows.specs.Held.{Held, held_of, without_lane, without_lan
 use Rattle.fare_outbox.proofs.PrunedLanes.{without_lanes-push, fewer_left}
 use Rattle.fare_outbox.proofs.pruning.cut_lanes.Goals as goal
 
-pub loop-place-preserved : goal.loop-place-preserved
-loop-place-preserved g c =
+pub loop-lane-preserved : goal.loop-lane-preserved
+loop-lane-preserved g c =
     let a = state g.S.Store c.args.tx.now.conn.now in
-    let b = state g.S.Store c.loop-place.tx.conn.now in
+    let b = state g.S.Store c.loop-lane.tx.conn.now in
     let lanes = c.args.lanes.now in
-    let k = c.loop-place.place in
-    let r = c.index-lanes-place.result in
+    let k = c.loop-lane.lane-index in
+    let r = c.lane-item.result in
     let w = c.args.layout.now in
     let o = c.args.owner in
-    let inv = c.loop-place.invariant in
+    let inv = c.loop-lane.invariant in
     let h = held_of (ours w a.now.trees) in
     let last = c.within.result in
     let before_it = without_lanes o (take k lanes) h in
-    let at = take_more lanes k r (omega arith) ∙ ap (λ x. take k lanes ++ x ∷ []) (sym c.index-lanes-place.is) in
+    let at = take_more lanes k r (omega arith) ∙ ap (λ x. take k lanes ++ x ∷ []) (sym c.lane-item.is) in
     let more : without_lane o r.0 last before_it ≡ without_lanes o (take (k + 1) lanes) h = ap (λ m. without_lane o r.0 m before_it) c.within.ensures.value ∙ sym (ap (λ l. without_lanes o l h) at ∙ without_lanes-push o (take k lanes) r h) in
     record {
       same_reference = c.cut_rows.ensures.same_reference ∙ inv.same_reference;
@@ -51,7 +51,7 @@ loop-place-preserved g c =
           let before = inv.puts clean inside schema readable in
           let count = c.in_ok-gone.ensures.count late before.1 before.0.schema before.0.readable in
           let size : Held → ℕ = λ x. length x.taps in
-          c.saturating_sub-left.ensures ∙ (fewer_left o r.0 last (held_of (ours w b.now.trees)) c.loop-place.left c.in_ok-gone.gone (inv.left clean inside schema readable rows ∙ sym (ap size before.0.value)) count ∙ ap size (ap (without_lane o r.0 last) before.0.value ∙ more));
+          c.saturating_sub-left.ensures ∙ (fewer_left o r.0 last (held_of (ours w b.now.trees)) c.loop-lane.left c.in_ok-gone.gone (inv.left clean inside schema readable rows ∙ sym (ap size before.0.value)) count ∙ ap size (ap (without_lane o r.0 last) before.0.value ∙ more));
     }
 
 pub returns-clause-puts : goal.returns-clause-puts
@@ -59,11 +59,11 @@ returns-clause-puts g c late inside schema readable =
     let lanes = c.args.lanes.now in
     let o = c.args.owner in
     let h = held_of (ours c.args.layout.now (state g.S.Store c.args.tx.now.conn.now).now.trees) in
-    let past = c.loop-place-test.false in
-    let within = c.loop-place.auto.place-end in
+    let past = c.loop-lane-test.false in
+    let within = c.loop-lane.auto.lane-index-end in
     let some = c.requires in
-    let it = c.loop-place.invariant.puts late inside schema readable in
-    let all : c.loop-place.place ≡ length lanes = omega (arith, past, within) in (
+    let it = c.loop-lane.invariant.puts late inside schema readable in
+    let all : c.loop-lane.lane-index ≡ length lanes = omega (arith, past, within) in (
       record {
         schema = it.0.schema;
         database = it.0.database (omega (arith, all, some));
@@ -76,7 +76,7 @@ returns-clause-puts g c late inside schema readable =
 pub returns-clause-left : goal.returns-clause-left
 returns-clause-left g c late inside schema readable rows =
     let lanes = c.args.lanes.now in
-    let past = c.loop-place-test.false in
-    let within = c.loop-place.auto.place-end in
-    let all : c.loop-place.place ≡ length lanes = omega (arith, past, within) in
-    c.loop-place.invariant.left late inside schema readable rows ∙ ap (λ l. length (without_lanes c.args.owner l (held_of (ours c.args.layout.now (state g.S.Store c.args.tx.now.conn.now).now.trees))).taps) (ap (λ n. take n lanes) all ∙ take-length lanes)
+    let past = c.loop-lane-test.false in
+    let within = c.loop-lane.auto.lane-index-end in
+    let all : c.loop-lane.lane-index ≡ length lanes = omega (arith, past, within) in
+    c.loop-lane.invariant.left late inside schema readable rows ∙ ap (λ l. length (without_lanes c.args.owner l (held_of (ours c.args.layout.now (state g.S.Store c.args.tx.now.conn.now).now.trees))).taps) (ap (λ n. take n lanes) all ∙ take-length lanes)
