@@ -1,4 +1,5 @@
-ghost use Rattle.std.specs.Prelude.{◌≡◌, ◌↔◌, ◌<◌, Some, IsSome, IfSome, length, slice_get};
+ghost use Rattle.std.specs.Map.{keys_of};
+ghost use Rattle.std.specs.Prelude.{ℕ, ◌≡◌, ◌↔◌, ◌<◌, Some, IsSome, IfSome, length, slice_get};
 ghost use Rattle.fare_scheme.specs.Facts.{IsScheme, IsTariff};
 ghost use Rattle.fare_scheme.specs.Ranges.{IsBuffer, IsCapacity};
 ghost use Rattle.fare_scheme.specs.Words.{owner_of, tariff_of, station_of, operator_of_station, operator_of, buffer_of, lane_capacity_of, id_at, position_of_owner, position_of_operator, position_of_station, position_of_product, position_of_device};
@@ -160,6 +161,14 @@ impl Scheme {
         &self.zone
     }
 
+    /// The owners, in the order in which they were registered.
+    pub fn owners(&self) -> &[OwnerId]
+        ensures value { result.now ≡ keys_of self.now.owners }
+        ensures placed { (place : ℕ) (owner : ℕ) → slice_get result.now place ≡ Some owner → position_of_owner self.now owner ≡ Some place }
+    {
+        self.owners.keys().as_slice()
+    }
+
     /// The number of owners.
     pub fn owner_count(&self) -> usize
         ensures value { result ≡ length self.now.owners }
@@ -183,6 +192,14 @@ impl Scheme {
         ensures within { IfSome result (λ position. position < length self.now.owners) }
     {
         self.owners.get_index_of(&owner)
+    }
+
+    /// The operators, in the order in which they were registered.
+    pub fn operators(&self) -> &[OperatorId]
+        ensures value { result.now ≡ self.now.operators }
+        ensures placed { (place : ℕ) (operator : ℕ) → slice_get result.now place ≡ Some operator → position_of_operator self.now operator ≡ Some place }
+    {
+        &self.operators
     }
 
     /// The number of operators.
@@ -210,6 +227,14 @@ impl Scheme {
         self.operators
             .iter()
             .position(|registered| *registered == operator)
+    }
+
+    /// The stations, in the order in which they were registered.
+    pub fn stations(&self) -> &[StationId]
+        ensures value { result.now ≡ keys_of self.now.stations }
+        ensures placed { (place : ℕ) (station : ℕ) → slice_get result.now place ≡ Some station → position_of_station self.now station ≡ Some place }
+    {
+        self.stations.keys().as_slice()
     }
 
     /// The number of stations.
@@ -260,6 +285,14 @@ impl Scheme {
         ensures within { IfSome result (λ position. position < length self.now.products) }
     {
         self.products.get_index_of(&product)
+    }
+
+    /// The devices, in the order in which they were registered.
+    pub fn devices(&self) -> &[DeviceId]
+        ensures value { result.now ≡ keys_of self.now.devices }
+        ensures placed { (place : ℕ) (device : ℕ) → slice_get result.now place ≡ Some device → position_of_device self.now device ≡ Some place }
+    {
+        self.devices.keys().as_slice()
     }
 
     /// The number of devices.
