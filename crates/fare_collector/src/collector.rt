@@ -36,14 +36,11 @@ impl Collector {
             return Err(CollectorFault::UnknownStation);
         }
         let mut receivers = HashMap::new(alloc);
-        for position in 0..scheme.device_count() {
-            let Some(device) = scheme.device_at(position) else {
-                unreachable!()
-            };
-            if scheme.station_of(device) != Some(station) {
+        for device in scheme.devices() {
+            if scheme.station_of(*device) != Some(station) {
                 continue;
             }
-            let Ok(_) = receivers.insert(device, Receiver::new()) else {
+            let Ok(_) = receivers.insert(*device, Receiver::new()) else {
                 return Err(CollectorFault::Memory);
             };
         }

@@ -70,7 +70,7 @@ placed_answered ids k None distinct is = tt
 placed_answered ids k (Some id) distinct is = position_of_id ids id k distinct (sym is)
 
 -- ENTRIES OF IDS
-id_at_keys : {X : Type 0} (entries : List (ℕ × X)) (k : ℕ) → slice_get (keys_of entries) k ≡ id_at entries k
+pub id_at_keys : {X : Type 0} (entries : List (ℕ × X)) (k : ℕ) → slice_get (keys_of entries) k ≡ id_at entries k
 id_at_keys {X} entries k = slice_get-map (λ (e : ℕ × X). e.0) entries k
 
 pub id_at_place : {X : Type 0} (entries : List (ℕ × X)) (id k : ℕ) → place_of entries id ≡ Some k → id_at entries k ≡ Some id

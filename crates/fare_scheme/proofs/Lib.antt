@@ -2,3 +2,4 @@ pub mod Adding
 pub mod Changing
 pub mod Demonstrating
 pub mod Known
+pub mod Slices

@@ -5,5 +5,5 @@ use Rattle.fare_link.specs.Values.{ReceiverValue}
 use Rattle.fare_collector.proofs.Making.{up_to}
 use Rattle.fare_collector.proofs.collector.Collector.new.Given as goal
 
-abbrev pub invariant-loop-position : goal.invariant-loop-position
-invariant-loop-position l = (device : ℕ) → option_map (λ (r : ReceiverValue). r.next) (get nat_eq l.receivers device) ≡ up_to l.scheme l.station l.position device
+abbrev pub invariant-loop-device : goal.invariant-loop-device
+invariant-loop-device l = (device : ℕ) → option_map (λ (r : ReceiverValue). r.next) (get nat_eq l.receivers device) ≡ up_to l.scheme l.station l.device-index device
