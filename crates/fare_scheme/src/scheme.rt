@@ -165,6 +165,7 @@ impl Scheme {
     pub fn owners(&self) -> &[OwnerId]
         ensures value { result.now ≡ keys_of self.now.owners }
         ensures placed { (place : ℕ) (owner : ℕ) → slice_get result.now place ≡ Some owner → position_of_owner self.now owner ≡ Some place }
+        ensures valid { IsScheme self.now }
     {
         self.owners.keys().as_slice()
     }
@@ -198,6 +199,7 @@ impl Scheme {
     pub fn operators(&self) -> &[OperatorId]
         ensures value { result.now ≡ self.now.operators }
         ensures placed { (place : ℕ) (operator : ℕ) → slice_get result.now place ≡ Some operator → position_of_operator self.now operator ≡ Some place }
+        ensures valid { IsScheme self.now }
     {
         &self.operators
     }
@@ -233,6 +235,7 @@ impl Scheme {
     pub fn stations(&self) -> &[StationId]
         ensures value { result.now ≡ keys_of self.now.stations }
         ensures placed { (place : ℕ) (station : ℕ) → slice_get result.now place ≡ Some station → position_of_station self.now station ≡ Some place }
+        ensures valid { IsScheme self.now }
     {
         self.stations.keys().as_slice()
     }
@@ -291,6 +294,7 @@ impl Scheme {
     pub fn devices(&self) -> &[DeviceId]
         ensures value { result.now ≡ keys_of self.now.devices }
         ensures placed { (place : ℕ) (device : ℕ) → slice_get result.now place ≡ Some device → position_of_device self.now device ≡ Some place }
+        ensures valid { IsScheme self.now }
     {
         self.devices.keys().as_slice()
     }

@@ -54,11 +54,8 @@ pub fn settle(
 {
     let charges = charges(alloc, scheme, taps, day)?;
     let mut shares = Vec::new(alloc);
-    for position in 0..scheme.operator_count() {
-        let Some(operator) = scheme.operator_at(position) else {
-            unreachable!()
-        };
-        shares.push(share(alloc, &charges, operator)?)?;
+    for operator in scheme.operators() {
+        shares.push(share(alloc, &charges, *operator)?)?;
     }
     Ok(Settlement::new(shares))
 }

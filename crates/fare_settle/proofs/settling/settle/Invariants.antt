@@ -2,5 +2,5 @@ use Rattle.std.proofs.Common.{◌≡◌, map, take}
 use Rattle.fare_settle.specs.Settling.{share_of}
 use Rattle.fare_settle.proofs.settling.settle.Given as goal
 
-abbrev pub invariant-loop-position : goal.invariant-loop-position
-invariant-loop-position l = l.shares.items ≡ map (share_of l.charges.items) (take l.position l.scheme.operators)
+abbrev pub invariant-loop-operator : goal.invariant-loop-operator
+invariant-loop-operator l = l.shares.items ≡ map (share_of l.charges.items) (take l.operator-index l.scheme.operators)
