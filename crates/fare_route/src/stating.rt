@@ -16,11 +16,8 @@ pub fn are_stated<O: Outbox>(
 ) -> Result<bool, Fault>
     ensures { Reads (O.standing outbox.old) (O.standing outbox.new) (λ all. all ≡ are_all_stated scheme.now (O.standing outbox.old).value device day) result }
 {
-    for place in 0..scheme.owner_count() {
-        let Some(owner) = scheme.owner_at(place) else {
-            unreachable!()
-        };
-        let Some(statement) = outbox.next_statement(owner, device, day)? else {
+    for owner in scheme.owners() {
+        let Some(statement) = outbox.next_statement(*owner, device, day)? else {
             return Ok(false);
         };
         if statement.day() != day {

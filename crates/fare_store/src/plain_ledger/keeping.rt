@@ -29,11 +29,8 @@ impl PlainLedger {
             return Err(LedgerFault::UnknownOwner);
         }
         let mut taken = HashMap::new(alloc);
-        for position in 0..scheme.device_count() {
-            let Some(device) = scheme.device_at(position) else {
-                unreachable!()
-            };
-            let Ok(_) = taken.insert(device, Vec::new(alloc)) else {
+        for device in scheme.devices() {
+            let Ok(_) = taken.insert(*device, Vec::new(alloc)) else {
                 return Err(LedgerFault::Memory);
             };
         }

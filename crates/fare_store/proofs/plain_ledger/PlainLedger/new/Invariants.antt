@@ -3,5 +3,5 @@ use Rattle.std.specs.HashMap.{get}
 use Rattle.fare_store.proofs.LedgerMaking.{AreFresh}
 use Rattle.fare_store.proofs.plain_ledger.PlainLedger.new.Given as goal
 
-abbrev pub invariant-loop-position : goal.invariant-loop-position
-invariant-loop-position l = AreFresh l.scheme l.position (get nat_eq l.taken)
+abbrev pub invariant-loop-device : goal.invariant-loop-device
+invariant-loop-device l = AreFresh l.scheme l.device-index (get nat_eq l.taken)
