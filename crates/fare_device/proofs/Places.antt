@@ -27,18 +27,3 @@ pub slice_get-drop : {X : Type 0} (n : ℕ) (xs : List X) (k : ℕ) → slice_ge
 slice_get-drop zero xs k = ap (slice_get xs) (omega arith)
 slice_get-drop (suc n) [] k = refl
 slice_get-drop (suc n) (x ∷ xs) k = let e : suc n + k ≡ suc (n + k) = omega arith in slice_get-drop n xs k ∙ sym (ap (slice_get (x ∷ xs)) e)
-
--- one id more from the front
-pub one_more : {X : Type 0} (entries : List (ℕ × X)) (k id : ℕ) → id_at entries k ≡ Some id → take (k + 1) (keys_of entries) ≡ take k (keys_of entries) ++ id ∷ []
-one_more [] k id e = absurd (cc)
-one_more (x ∷ xs) zero id e = let same : x.0 ≡ id = cc in ap (λ i. i ∷ []) same
-one_more (x ∷ xs) (suc k) id e =
-    let next : suc k + 1 ≡ suc (k + 1) = omega arith in
-    ap (λ n. take n (keys_of (x ∷ xs))) next ∙ ap (λ t. x.0 ∷ t) (one_more xs k id e)
-
--- all ids
-pub take_keys : {X : Type 0} (entries : List (ℕ × X)) (k : ℕ) → length entries ≤ k → take k (keys_of entries) ≡ keys_of entries
-take_keys [] zero le = refl
-take_keys [] (suc k) le = refl
-take_keys (x ∷ xs) zero le = absurd (omega arith)
-take_keys (x ∷ xs) (suc k) le = ap (λ t. x.0 ∷ t) (take_keys xs k (omega arith))

@@ -169,7 +169,7 @@ impl Device {
         let Ok(lanes) = vec![in alloc; 0; scheme.owner_count()] else {
             return Err(DeviceFault::Memory);
         };
-        let Ok(owners) = owners_of(alloc, scheme) else {
+        let Ok(owners) = scheme.owners().to_vec(alloc) else {
             return Err(DeviceFault::Memory);
         };
         let Ok(days) = WaitingDays::new(alloc) else {
@@ -417,20 +417,6 @@ impl Device {
     {
         self.rewind();
     }
-}
-
-// The owners, in order of registration.
-fn owners_of(alloc: Global, scheme: &Scheme) -> Result<Vec<OwnerId>, AllocError>
-    ensures { IfOk result (λ owners. owners.items ≡ keys_of scheme.now.owners) }
-{
-    let mut owners = Vec::with_capacity(alloc, scheme.owner_count())?;
-    for place in 0..scheme.owner_count() {
-        let Some(owner) = scheme.owner_at(place) else {
-            unreachable!()
-        };
-        owners.push(owner)?;
-    }
-    Ok(owners)
 }
 
 // The place of an owner.

@@ -52,17 +52,14 @@ impl Forwarder {
             return Err(StartFault::Range);
         }
         let mut cursors = HashMap::new(alloc);
-        for position in 0..scheme.device_count() {
-            let Some(device) = scheme.device_at(position) else {
-                unreachable!()
-            };
-            let taken = counts[position];
+        for (place, device) in scheme.devices().iter().enumerate() {
+            let taken = counts[place];
             let cursor = Cursor {
                 lane: taken.0,
                 day: first_day(scheme, taken.1),
                 before: None,
             };
-            let Ok(_) = cursors.insert(device, cursor) else {
+            let Ok(_) = cursors.insert(*device, cursor) else {
                 return Err(StartFault::Memory);
             };
         }

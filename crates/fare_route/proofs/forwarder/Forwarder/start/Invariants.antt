@@ -3,5 +3,5 @@ use Rattle.std.specs.HashMap.{get}
 use Rattle.fare_route.proofs.Starting.{AreStarted}
 use Rattle.fare_route.proofs.forwarder.Forwarder.start.Given as goal
 
-abbrev pub invariant-loop-position : goal.invariant-loop-position
-invariant-loop-position l = AreStarted l.scheme l.counts l.position (get nat_eq l.cursors)
+abbrev pub invariant-loop-place : goal.invariant-loop-place
+invariant-loop-place l = AreStarted l.scheme l.counts l.place (get nat_eq l.cursors)
