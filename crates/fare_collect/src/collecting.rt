@@ -58,19 +58,16 @@ fn resume<S, O: Outbox>(
     requires { AreStations scheme.now stations.old }
     ensures { HaveResumed scheme.now (O.standing outbox.old) (O.standing outbox.new) stations.old stations.new result }
 {
-    for position in 0..scheme.device_count() {
-        let Some(device) = scheme.device_at(position) else {
-            unreachable!()
-        };
-        let upto = outbox.upto(device)?;
-        let Some(id) = scheme.station_of(device) else {
+    for device in scheme.devices() {
+        let upto = outbox.upto(*device)?;
+        let Some(id) = scheme.station_of(*device) else {
             unreachable!()
         };
         let Some(place) = scheme.station_position(id) else {
             unreachable!()
         };
         if place < stations.len() {
-            stations[place].collector.resume(device, upto);
+            stations[place].collector.resume(*device, upto);
         }
     }
     Ok(())

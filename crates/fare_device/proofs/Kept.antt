@@ -1,8 +1,7 @@
 -- What a device keeps, where it changes.
-use Rattle.std.proofs.Common.{◌≡◌, ◌≤◌, ◌+◌, ◌-◌, ℕ, List, [], ◌∷◌, ◌++◌, length, drop, Some, inl, inr, sym, ap, ◌∙◌, arith}
+use Rattle.std.proofs.Common.{◌≡◌, ◌≤◌, ◌+◌, ◌-◌, ℕ, List, [], ◌∷◌, ◌++◌, length, drop, inl, inr, sym, ap, ◌∙◌, arith}
 use Rattle.std.proofs.Math.ListN.{set}
 use Rattle.std.proofs.lemmas.List.{length-drop}
-use Rattle.std.specs.Prelude.{slice_get, ◌⊎◌}
 use Rattle.fare_record.specs.Values.{RecordValue}
 use Rattle.fare_device.specs.DeviceWords.{DeviceValue, IsDeviceValue, IsKept, IsTail, AreWithin, last_link}
 use Rattle.fare_device.proofs.Places.{slice_get-set_cases, slice_get-push_cases, slice_get-drop}

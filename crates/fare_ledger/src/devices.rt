@@ -12,11 +12,8 @@ pub(crate) fn devices_of(alloc: Global, scheme: &Scheme) -> Result<HashSet<Devic
     ensures { IfOk result (λ devices. (device : ℕ) → knows devices device ≡ is_some (position_of_device scheme.now device)) }
 {
     let mut devices = HashSet::new(alloc);
-    for position in 0..scheme.device_count() {
-        let Some(device) = scheme.device_at(position) else {
-            unreachable!()
-        };
-        devices.insert(device)?;
+    for device in scheme.devices() {
+        devices.insert(*device)?;
     }
     Ok(devices)
 }

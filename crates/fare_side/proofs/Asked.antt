@@ -1,5 +1,5 @@
 -- Two reads of a ledger, one after the other, behind others.
-use Rattle.std.proofs.Common.{◌≡◌, None, Some, ap, ◌∙◌, inl}
+use Rattle.std.proofs.Common.{◌≡◌, None, ap, ◌∙◌, inl}
 use Rattle.std.specs.Prelude.{Ok, Err}
 use Rattle.fare_store.specs.declared.fault.Fault.TheVariants as fault
 use Rattle.fare_store.specs.Standing.{Standing, Calls, Reads}

@@ -43,14 +43,11 @@ fn first_open<L: Ledger>(
 ) -> Result<Option<DeviceId>, Fault>
     ensures { Reads (L.standing ledger.old) (L.standing ledger.new) (λ found. (L.standing ledger.old).value.start ≤ day → found ≡ open_of (L.standing ledger.old).value day scheme.now) result }
 {
-    for place in 0..scheme.device_count() {
-        let Some(device) = scheme.device_at(place) else {
-            unreachable!()
-        };
-        let last = ledger.closed_through(device)?;
-        let retired = ledger.retired(device)?;
+    for device in scheme.devices() {
+        let last = ledger.closed_through(*device)?;
+        let retired = ledger.retired(*device)?;
         if !is_settled(last, retired, day) {
-            return Ok(Some(device));
+            return Ok(Some(*device));
         }
     }
     Ok(None)
@@ -66,14 +63,11 @@ fn short_devices<L: Ledger>(
     ensures { Reads (L.standing ledger.old) (L.standing ledger.new) (λ short. (L.standing ledger.old).value.start ≤ day → short.items ≡ short_of (L.standing ledger.old).value day scheme.now) result }
 {
     let mut short = Vec::new(alloc);
-    for place in 0..scheme.device_count() {
-        let Some(device) = scheme.device_at(place) else {
-            unreachable!()
-        };
-        let last = ledger.closed_through(device)?;
-        let retired = ledger.retired(device)?;
+    for device in scheme.devices() {
+        let last = ledger.closed_through(*device)?;
+        let retired = ledger.retired(*device)?;
         if is_short(last, retired, day) {
-            short.push(device)?;
+            short.push(*device)?;
         }
     }
     Ok(short)

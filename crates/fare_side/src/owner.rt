@@ -42,12 +42,9 @@ impl<L: Ledger + Drop> Owner<L> {
         ensures hand { self.new.hand ≡ self.old.hand }
         ensures forwarder { self.new.forwarder ≡ self.old.forwarder }
     {
-        for place in 0..scheme.device_count() {
-            let Some(device) = scheme.device_at(place) else {
-                unreachable!()
-            };
-            let taken = self.ledger.count(device)?;
-            let closed = self.ledger.closed_through(device)?;
+        for (place, device) in scheme.devices().iter().enumerate() {
+            let taken = self.ledger.count(*device)?;
+            let closed = self.ledger.closed_through(*device)?;
             self.standings[place] = (taken, closed);
         }
         Ok(())
@@ -66,13 +63,10 @@ impl<L: Ledger + Drop> Owner<L> {
     {
         self.queue.clear();
         self.hand = None;
-        for place in 0..scheme.device_count() {
-            let Some(device) = scheme.device_at(place) else {
-                unreachable!()
-            };
+        for (place, device) in scheme.devices().iter().enumerate() {
             let standing = self.standings[place];
             self.forwarder
-                .resume(scheme, device, standing.0, standing.1);
+                .resume(scheme, *device, standing.0, standing.1);
         }
     }
 

@@ -33,14 +33,11 @@ impl Station {
         ensures station { self.new.collector.station ≡ self.old.collector.station }
         ensures line { self.new.line ≡ self.old.line }
     {
-        for place in 0..scheme.device_count() {
-            let Some(device) = scheme.device_at(place) else {
-                unreachable!()
-            };
+        for (place, device) in scheme.devices().iter().enumerate() {
             let Some(upto) = uptos.get(place) else {
                 unreachable!()
             };
-            self.collector.resume(device, *upto);
+            self.collector.resume(*device, *upto);
         }
     }
 

@@ -86,11 +86,8 @@ fn fresh_devices(alloc: Global, scheme: &Scheme) -> Result<Vec<Device>, AllocErr
     ensures { IfOk result (λ devices. AreFreshDevices scheme.now devices.items) }
 {
     let mut devices = Vec::new(alloc);
-    for place in 0..scheme.device_count() {
-        let Some(id) = scheme.device_at(place) else {
-            unreachable!()
-        };
-        match Device::new(alloc, id, scheme) {
+    for id in scheme.devices() {
+        match Device::new(alloc, *id, scheme) {
             Ok(device) => devices.push(device)?,
             Err(DeviceFault::Memory) => return Err(AllocError),
             Err(DeviceFault::UnknownDevice) => unreachable!(),
@@ -105,11 +102,8 @@ fn fresh_stations(alloc: Global, scheme: &Scheme) -> Result<Vec<Station>, AllocE
 {
     let room = scheme.inbox_capacity() as usize;
     let mut stations = Vec::new(alloc);
-    for place in 0..scheme.station_count() {
-        let Some(id) = scheme.station_at(place) else {
-            unreachable!()
-        };
-        match Collector::new(alloc, scheme, id) {
+    for id in scheme.stations() {
+        match Collector::new(alloc, scheme, *id) {
             Ok(collector) => {
                 let line = HeapCircularBuffer::with_capacity(alloc, room)?;
                 stations.push(Station { collector, line })?;
@@ -126,11 +120,8 @@ fn fresh_sides(alloc: Global, scheme: &Scheme) -> Result<Vec<Side>, AllocError>
     ensures { IfOk result (λ sides. AreFreshSides scheme.now sides.items) }
 {
     let mut sides = Vec::new(alloc);
-    for place in 0..scheme.owner_count() {
-        let Some(owner) = scheme.owner_at(place) else {
-            unreachable!()
-        };
-        sides.push(fresh_side(alloc, scheme, owner)?)?;
+    for owner in scheme.owners() {
+        sides.push(fresh_side(alloc, scheme, *owner)?)?;
     }
     Ok(sides)
 }

@@ -1,43 +1,40 @@
 use Rattle.std.proofs.Common.{◌≡◌, ◌+◌, List, Some, refl, ap, sym, subst, ◌∙◌, slice_index_or, arith, Err}
 use Rattle.std.proofs.lemmas.Result.{err_from_is_err_and}
+use Rattle.fare_scheme.proofs.Slices.{item_at, none_left}
 use Rattle.fare_collect.specs.Resuming.{HaveResumed}
 use Rattle.fare_scheme.specs.Words.{station_of, position_of_device, position_of_station}
 use Rattle.fare_collect.specs.declared.station.Station.{Station}
-use Rattle.fare_collect.proofs.Last.{at_known}
 use Rattle.fare_collect.proofs.Resumed.{AreResuming, resuming_none, resuming_failed, resuming_past, resuming_more, resumed_all}
 use Rattle.fare_collect.proofs.collecting.resume.Goals.{then-place-stations, else-place-stations}
 use Rattle.fare_collect.proofs.collecting.resume.Goals as goal
 
-pub loop-position-init : goal.loop-position-init
-loop-position-init g c = resuming_none c.args.scheme.now (g.O.Outbox.standing c.args.outbox.now) c.args.stations.now (g.met.O.Outbox.sound c.args.outbox.now)
-
-pub unreachable-requires : goal.unreachable-requires
-unreachable-requires g c = at_known c.args.scheme.now.devices c.loop-position.position (let n = c.device_count-position-end.ensures.value in let t = c.loop-position-test.true in omega (arith, n, t)) (sym c.device_at.ensures.value ∙ c.in_default.is)
+pub loop-device-init : goal.loop-device-init
+loop-device-init g c = resuming_none c.args.scheme.now (g.O.Outbox.standing c.args.outbox.now) c.args.stations.now (g.met.O.Outbox.sound c.args.outbox.now)
 
 pub returns-in_err-upto : goal.returns-in_err-upto
 returns-in_err-upto g c =
     let is = err_from_is_err_and c.from_residual.result c.from_residual.ensures.1 in
-    subst (HaveResumed c.args.scheme.now (g.O.Outbox.standing c.args.outbox.now) (g.O.Outbox.standing c.upto.new.self) c.args.stations.now c.loop-position.stations) (sym (is.1 ∙ ap Err is.2))
-    (resuming_failed c.args.scheme.now (g.O.Outbox.standing c.args.outbox.now) (g.O.Outbox.standing c.loop-position.outbox) (g.O.Outbox.standing c.upto.new.self) c.args.stations.now c.loop-position.stations c.loop-position.position c.in-Some.device c.in_err-upto.field-0.0
-    (g.met.O.Outbox.sound c.loop-position.outbox) c.loop-position.invariant c.in_err-upto.ensures.read)
+    subst (HaveResumed c.args.scheme.now (g.O.Outbox.standing c.args.outbox.now) (g.O.Outbox.standing c.upto.new.self) c.args.stations.now c.loop-device.stations) (sym (is.1 ∙ ap Err is.2))
+    (resuming_failed c.args.scheme.now (g.O.Outbox.standing c.args.outbox.now) (g.O.Outbox.standing c.loop-device.outbox) (g.O.Outbox.standing c.upto.new.self) c.args.stations.now c.loop-device.stations c.loop-device.device-index c.device-item.result c.in_err-upto.field-0.0
+    (g.met.O.Outbox.sound c.loop-device.outbox) c.loop-device.invariant c.in_err-upto.ensures.read)
 
-pub loop-position-preserved : goal.loop-position-preserved
-loop-position-preserved g c =
-    let inv = c.loop-position.invariant in
+pub loop-device-preserved : goal.loop-device-preserved
+loop-device-preserved g c =
+    let inv = c.loop-device.invariant in
     let sc = c.args.scheme.now in
     let a = g.O.Outbox.standing c.args.outbox.now in
-    let b = g.O.Outbox.standing c.loop-position.outbox in
+    let b = g.O.Outbox.standing c.loop-device.outbox in
     let d = g.O.Outbox.standing c.upto.new.self in
     let first = c.args.stations.now in
-    let all = c.loop-position.stations in
-    let position = c.loop-position.position in
-    let device = c.in-Some.device in
-    let id = c.in-Some-station_of.id in
+    let all = c.loop-device.stations in
+    let position = c.loop-device.device-index in
+    let device = c.device-item.result in
+    let id = c.in-Some.id in
     let place = c.in-Some-station_position.place in
-    let sound = g.met.O.Outbox.sound c.loop-position.outbox in
+    let sound = g.met.O.Outbox.sound c.loop-device.outbox in
     let read = c.in_ok-upto.ensures.read in
-    let at : position_of_device sc device ≡ Some position = c.in-Some.ensures.placed in
-    let of : station_of sc device ≡ Some id = sym c.station_of.ensures.value ∙ c.in-Some-station_of.is in
+    let at : position_of_device sc device ≡ Some position = (c.devices-device-items.ensures.placed c.loop-device.device-index c.device-item.result (item_at c.devices-device-items.result.now c.loop-device.device-index c.device-item.result c.loop-device-test.true c.device-item.is)) in
+    let of : station_of sc device ≡ Some id = sym c.station_of.ensures.value ∙ c.in-Some.is in
     let stands : position_of_station sc id ≡ Some place = sym c.station_position.ensures.value ∙ c.in-Some-station_position.is in
     let Q : List (Station g.row.S.Denot) → Type 0 = λ l. AreResuming sc a d first l (position + 1) in
     elim c.if-place-stations.branch [
@@ -50,7 +47,5 @@ loop-position-preserved g c =
 
 pub returns : goal.returns
 returns g c =
-    let n = c.device_count-position-end.ensures.value in
-    let t = c.loop-position-test.false in
-    resumed_all c.args.scheme.now (g.O.Outbox.standing c.args.outbox.now) (g.O.Outbox.standing c.loop-position.outbox) c.args.stations.now c.loop-position.stations c.loop-position.position
-    c.device_count-position-end.ensures.valid.has_device (omega (arith, n, t)) c.loop-position.invariant
+    resumed_all c.args.scheme.now (g.O.Outbox.standing c.args.outbox.now) (g.O.Outbox.standing c.loop-device.outbox) c.args.stations.now c.loop-device.stations c.loop-device.device-index
+    c.devices-device-items.ensures.valid.has_device (none_left c.args.scheme.now.devices c.devices-device-items.result.now c.loop-device.device-index c.devices-device-items.ensures.value (omega (arith, c.loop-device-test.false))) c.loop-device.invariant

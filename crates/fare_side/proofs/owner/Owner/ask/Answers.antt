@@ -1,5 +1,7 @@
 use Rattle.std.proofs.Common.{◌≡◌, ◌+◌, ◌<◌, None, Some, length, set, refl, ap, ◌∙◌, arith, length-set}
 use Rattle.std.specs.Prelude.{Ok, Err}
+use Rattle.std.proofs.lemmas.Map.Entries.{length-keys_of}
+use Rattle.fare_scheme.proofs.Slices.{item_at}
 use Rattle.fare_store.specs.Standing.{Reads}
 use Rattle.fare_store.specs.LedgerWords.{LedgerValue, closed_through}
 use Rattle.fare_side.specs.Resuming.{AreStandings}
@@ -22,7 +24,7 @@ pub loop-place-preserved : goal.loop-place-preserved
 loop-place-preserved g c =
     let i = c.loop-place.invariant in
     let sc = c.args.scheme.now in
-    let device = c.in-Some.device in
+    let device = c.device-item.result in
     let k = c.loop-place.place in
     let xs = c.loop-place.self.standings.items in
     let n = c.in_ok-taken.taken in
@@ -38,7 +40,7 @@ loop-place-preserved g c =
       read = since_calls first now (0 < k + 1) (ToldTo sc (standing_of first.value) (k + 1) (set xs k (n, day))) (reads_say first now ((mid.value ≡ first.value) × ((before.value ≡ first.value) × ToldTo sc (standing_of first.value) k xs × (n ≡ length (before.value.taken device))) × (day ≡ closed_through mid.value device)) (ToldTo sc (standing_of first.value) (k + 1) (set xs k (n, day))) None
           (λ is. (
             is.0,
-            one_told sc (standing_of first.value) xs k device (n, day) is.1.1.1 c.in-Some.ensures.placed
+            one_told sc (standing_of first.value) xs k device (n, day) is.1.1.1 (c.devices-device-items.ensures.placed c.loop-place.place c.device-item.result (item_at c.devices-device-items.result.now c.loop-place.place c.device-item.result c.loop-place-test.true c.device-item.is))
                 (λ j. ((is.1.1.2 ∙ ap (λ (v : LedgerValue). length (v.taken device)) is.1.1.0) j, (is.1.2 ∙ ap (λ (v : LedgerValue). closed_through v device) is.1.0) j)),
           ))
           (read_then first mid now ((before.value ≡ first.value) × ToldTo sc (standing_of first.value) k xs × (n ≡ length (before.value.taken device))) (day ≡ closed_through mid.value device) None counted two));
@@ -55,14 +57,14 @@ returns-clause-read g c =
     let first = g.L.Ledger.standing c.args.self.now.ledger in
     let last = g.L.Ledger.standing c.loop-place.self.ledger in
     reads_say first last (ToldTo sc (standing_of first.value) c.loop-place.place c.loop-place.self.standings.items) (AreStandings sc first.value c.loop-place.self.standings.items) None
-    (λ is. (is.0, standings_told sc first.value c.loop-place.self.standings.items c.loop-place.place is.1 (omega (arith, c.device_count-place-end.ensures.value)) (omega (arith, c.requires, i.count))))
-    (calls_since first last (0 < c.loop-place.place) (ToldTo sc (standing_of first.value) c.loop-place.place c.loop-place.self.standings.items) (omega (arith, c.device_count-place-end.ensures.value, c.device_count-place-end.ensures.valid.has_device)) i.read)
+    (λ is. (is.0, standings_told sc first.value c.loop-place.self.standings.items c.loop-place.place is.1 (omega (arith, c.loop-place-test.false, ap length c.devices-device-items.ensures.value, length-keys_of c.args.scheme.now.devices)) (omega (arith, c.requires, i.count))))
+    (calls_since first last (0 < c.loop-place.place) (ToldTo sc (standing_of first.value) c.loop-place.place c.loop-place.self.standings.items) (omega (arith, c.loop-place-test.false, ap length c.devices-device-items.ensures.value, length-keys_of c.args.scheme.now.devices, c.devices-device-items.ensures.valid.has_device)) i.read)
 
 pub returns-in_err-taken-clause-read : goal.returns-in_err-taken-clause-read
 returns-in_err-taken-clause-read g c =
     let i = c.loop-place.invariant in
     let sc = c.args.scheme.now in
-    let device = c.in-Some.device in
+    let device = c.device-item.result in
     let first = g.L.Ledger.standing c.args.self.now.ledger in
     let before = g.L.Ledger.standing c.loop-place.self.ledger in
     let mid = g.L.Ledger.standing c.count.new.self in
@@ -74,7 +76,7 @@ pub returns-in_err-closed-clause-read : goal.returns-in_err-closed-clause-read
 returns-in_err-closed-clause-read g c =
     let i = c.loop-place.invariant in
     let sc = c.args.scheme.now in
-    let device = c.in-Some.device in
+    let device = c.device-item.result in
     let n = c.in_ok-taken.taken in
     let first = g.L.Ledger.standing c.args.self.now.ledger in
     let before = g.L.Ledger.standing c.loop-place.self.ledger in
