@@ -1,6 +1,6 @@
 -- One device after the other: what each comes to by itself, and all of them together.
 use Rattle.std.proofs.Common.{◌≡◌, ◌≢◌, ℕ, zero, suc, ◌<◌, Some, None, Bool, true, false, List, [], ◌∷◌, ◌++◌, length, refl, sym, ap, ◌∙◌, subst, arith}
-use Rattle.std.specs.Prelude.{slice_get, get_or, nat_eq, cond, Option, is_some, unwrap_or, Ok}
+use Rattle.std.specs.Prelude.{slice_get, get_or, nat_eq, cond, Option, is_some, unwrap_or, Result, Ok}
 use Rattle.std.specs.List.{AllByRecursion}
 use Rattle.std.proofs.lemmas.Bool.Decides.{nat_tests}
 use Rattle.std.proofs.lemmas.List.{append-nil, append_assoc}
@@ -16,7 +16,7 @@ use Rattle.fare_session.specs.declared.fault.SessionFault.{SessionFault}
 use Rattle.fare_history.proofs.Entries.{all-weaken}
 use Rattle.fare_history.specs.Serving.{Cursors, device_of, moved_by_all, AreNextItems}
 use Rattle.fare_session.specs.Stores.{stored_fault, HasStood}
-use Rattle.fare_session.specs.Forwarding.{IsBased, HasCursor, HasCursors, IsAsFar, AreBases, Skips, AreApart, ForwardedIf, Forwarded, IsNextDue, Moves, IsDeviceForwarded}
+use Rattle.fare_session.specs.Forwarding.{IsBased, HasCursor, HasCursors, IsAsFar, AreBases, Skips, AreApart, ForwardedIf, Forwarded, IsNextDue, Moves, IsDeviceForwarded, fault_due}
 use Rattle.fare_session.proofs.StoreCalls.{stays_then, stood_first, stood_then, stood_value}
 use Rattle.fare_session.proofs.Services.{moved_by_all-append, next_items-append, all-append}
 use Rattle.fare_session.proofs.Forwards.{far_moved, far_stays, far_undone, some_changed, due_device, lanes_others, based_at, begun_far}
@@ -126,7 +126,7 @@ lanes_apart p sent [] device apart all = ap (lanes_of device) (append-nil sent)
 lanes_apart p sent (i ∷ items) device apart all =
     ap (lanes_of device) (sym (append_assoc sent (i ∷ []) items)) ∙ lanes_apart p (sent ++ i ∷ []) items device apart all.1 ∙ lanes_others sent i device (λ is. apart (sym (only p (device_of i) all.0) ∙ is))
 
-pub thread_then : (bases : List (ℕ × ℕ)) (k : ℕ) (p : ℕ × ℕ) (a b c : Standing OutboxValue) (f g h : Forwarder) (before after : List Item) (fault : Option SessionFault) → AreApart bases → slice_get bases k ≡ Some p → lanes_of p.0 before ≡ [] → Forwarded bases a b f g before None → IsDeviceForwarded p b c g h before after fault → Forwarded bases a c f h after fault
-thread_then bases k p a b c f g h before after fault apart at none fw of = subst (λ (l : List Item). Forwarded bases a c f h l fault) (sym of.sent)
-    (forwarded_then (AreBases bases) (AreBases (p ∷ [])) bases p a b c f g h before of.items fault (based_at bases k p apart at) fw of.forwarded
+pub thread_then : (bases : List (ℕ × ℕ)) (k : ℕ) (p : ℕ × ℕ) (a b c : Standing OutboxValue) (f g h : Forwarder) (before after : List Item) (result : Result Bool SessionFault) → AreApart bases → slice_get bases k ≡ Some p → lanes_of p.0 before ≡ [] → Forwarded bases a b f g before None → IsDeviceForwarded p b c g h before after result → Forwarded bases a c f h after (fault_due result)
+thread_then bases k p a b c f g h before after result apart at none fw of = subst (λ (l : List Item). Forwarded bases a c f h l (fault_due result)) (sym of.sent)
+    (forwarded_then (AreBases bases) (AreBases (p ∷ [])) bases p a b c f g h before of.items (fault_due result) (based_at bases k p apart at) fw of.forwarded
     (λ d far bs k'. record { base = λ e is. ap (moved_by_all d before).lane (only p e is) ∙ begun_far bases before k p d apart at none bs ∙ sym (base_alone p) ∙ ap (base_of (p ∷ [])) (sym (only p e is)) }) of.moves)

@@ -23,7 +23,7 @@ use Rattle.fare_session.specs.declared.fault.SessionFault.{SessionFault}
 use Rattle.fare_session.specs.declared.fault.SessionFault.TheVariants.{Refused}
 use Rattle.fare_history.specs.Serving.{Cursors, device_of, moved_by, moved_by_all, IsNextItem, IsComingStatement}
 use Rattle.fare_session.specs.Stores.{stored_fault, HasStood}
-use Rattle.fare_session.specs.Forwarding.{is_due, lane_after, IsBased, HasCursors, IsAsFar, AreBases, Skips, AreApart, ForwardedIf, IsNextDue, Finds, fault_due}
+use Rattle.fare_session.specs.Forwarding.{is_due, lane_after, IsIdle, IsBased, HasCursors, IsAsFar, AreBases, Skips, AreApart, ForwardedIf, IsNextDue, Finds, fault_due}
 use Rattle.fare_session.proofs.StoreCalls.{stays_none, stays_then, stood_first, stood_then, stood_value}
 use Rattle.fare_session.proofs.Services.{moved_by_all-append, next_items-append, all-append}
 
@@ -218,6 +218,16 @@ module _ (meets : Cursors → Type 0) (bases : List (ℕ × ℕ)) (a b c : Stand
         subst (λ (z : OutboxValue × ℕ). IsNext z.0 z.1 device (record { lane = (moved_by_all d items).lane device; day = (moved_by_all d items).day device; before = None }) item) (λ j. (same k j, fw.owner j))
         (found_next bases b.value g (moved_by_all d items) device item ((fw.forwards d far bs).at refl) based next)
 
+  -- the item that comes next behind these
+  pub next_behind : (i : Item) → IsNextDue b c g h device reached (Ok (Some i)) → (d : Cursors) → IsAsFar bases f d → meets d → HasStood a c → IsNextItem f.owner a.value (moved_by_all d items) i
+  next_behind i nd d far is k = next_due a.value f.owner (moved_by_all d items) device reached i (far_by d far is k) nd.found.1 (follows (Ok (Some i)) nd d far is (Some i) k (nd.found.0 (behind (Ok (Some i)) nd k)))
+
+  -- nothing comes next behind them
+  pub idle_behind : IsNextDue b c g h device reached (Ok None) → (d : Cursors) → IsAsFar bases f d → meets d → HasStood a c → IsIdle f.owner a.value (moved_by_all d items) device
+  idle_behind nd d far is k =
+      let next = follows (Ok None) nd d far is None k (nd.found.0 (behind (Ok None) nd k)) in
+      record { rows = next.0; statements = next.1 }
+
   -- one item more
   pub forwarded_more : (i : Item) → IsNextDue b c g h device reached (Ok (Some i)) → ForwardedIf meets bases a c f h (items ++ i ∷ []) None
   forwarded_more i nd = record {
@@ -230,7 +240,7 @@ module _ (meets : Cursors → Type 0) (bases : List (ℕ × ℕ)) (a b c : Stand
     known = all-append (λ j. IsBased bases (device_of j)) items (i ∷ []) fw.known (subst (IsBased bases) (sym is) based, tt);
     forwards = λ d far bs. record {
       next = λ k. next_items-append f.owner a.value d items (i ∷ []) ((fw.forwards d far bs).next (first (Ok (Some i)) nd k))
-          (next_due a.value f.owner (moved_by_all d items) device reached i (far_by d far bs k) nd.found.1 (follows (Ok (Some i)) nd d far bs (Some i) k (nd.found.0 (behind (Ok (Some i)) nd k))), tt);
+          (next_behind i nd d far bs k, tt);
       at = λ e. subst (IsAsFar bases h) (sym (moved_by_all-append d items (i ∷ []))) (far_moved bases g h (moved_by_all d items) i device is nd.found.2 ((fw.forwards d far bs).at refl));
       refused = λ e. absurd (cc);
     };

@@ -20,8 +20,8 @@ use Rattle.fare_session.specs.declared.report.OwnerReport.{OwnerReport}
 use Rattle.fare_history.specs.Serving.{Cursors, behind_ledger, moved_by_all, device_of, AreNextItems, AreUnrefused, given_all, in_hand, tried_in, Service, put_by, pruned_to_all, IsOfDevice, IsWorking, lane_room, IsService}
 use Rattle.fare_session.specs.Taking.{added_by, IsImage, IsRefusedHand}
 use Rattle.fare_session.specs.Stores.{IsOwners, HasStood, Leaves, Stays}
-use Rattle.fare_session.specs.Forwarding.{IsBased, IsAsFar, AreBases, AreApart, Skips}
-use Rattle.fare_session.specs.Resting.{MeetsLedger, IsIdle}
+use Rattle.fare_session.specs.Forwarding.{IsIdle, IsBased, IsAsFar, AreBases, AreApart, Skips}
+use Rattle.fare_session.specs.Resting.{MeetsLedger}
 use Rattle.fare_session.specs.Asking.{AreTold, AreWorking}
 use Rattle.fare_session.specs.Session.{IsCutWith, IsSession}
 use Rattle.fare_session.specs.Served.{HasGap, report_of, AreFit, IsTakenBy, IsPrunedBy, HasCause, SaysOfService, IsServed, Rose}

@@ -16,12 +16,12 @@ use Rattle.fare_session.specs.declared.fault.SessionFault.{SessionFault}
 use Rattle.fare_session.specs.declared.fault.SessionFault.TheVariants.{Refused}
 use Rattle.fare_history.specs.Serving.{Cursors, device_of, moved_by, moved_by_all, AreNextItems, given, given_all, in_hand, tried_in}
 use Rattle.fare_session.specs.Stores.{stored_fault, IsOwners, HasStood, Stays}
-use Rattle.fare_session.specs.Forwarding.{lane_after, IsBased, IsAsFar, HasCursors, ForwardedIf, IsNextDue, Moves, fault_due}
+use Rattle.fare_session.specs.Forwarding.{IsIdle, lane_after, IsBased, IsAsFar, HasCursors, ForwardedIf, IsNextDue, Moves, fault_due}
 use Rattle.fare_session.specs.Taking.{IsTaken, IsImage}
-use Rattle.fare_session.specs.Resting.{Behind, IsIdle, IdleAt, IsRest, IsDeviceRest}
+use Rattle.fare_session.specs.Resting.{Behind, IdleAt, IsRest, IsDeviceRest}
 use Rattle.fare_session.proofs.StoreCalls.{stood_first, stood_then, stood_value}
 use Rattle.fare_session.proofs.Services.{moved_by_all-append}
-use Rattle.fare_session.proofs.Forwards.{far_more, follows, forwarded_none, forwarded_if, forwarded_idle, forwarded_failed, forwarded_more}
+use Rattle.fare_session.proofs.Forwards.{far_more, idle_behind, forwarded_none, forwarded_if, forwarded_idle, forwarded_failed, forwarded_more}
 use Rattle.fare_session.proofs.Devices.{only, alone, at_alone, among, far_of, moves_none, moves_more, moves_idle, moves_failed, forwarded_then}
 use Rattle.fare_session.proofs.Takes.{taken_none, taken_then, taken_read, taken_failed, more_failed}
 
@@ -131,9 +131,7 @@ module _ (xo xm xn : Standing OutboxValue) (lo lm ln : Standing LedgerValue) (f 
   }
     where
       this : IdleAt (by_itself device) xo xn lo lm f done device
-      this c far b keeps =
-          let next = follows (Behind (by_itself device) lo lm) (by_itself device) xo xm xn f g h done device reached (alone (device, 0)) (far_by nd) now.forwarded (Ok None) nd c far b None keeps (nd.found.0 (stood_then xo xm xn None xm.value xo.value (λ w. w ≡ xm.value) (λ w. w ≡ xo.value) now.forwarded.stays nd.stays keeps)) in
-          record { rows = next.0; statements = next.1 }
+      this = idle_behind (Behind (by_itself device) lo lm) (by_itself device) xo xm xn f g h done device reached (alone (device, 0)) (far_by nd) now.forwarded nd
 
   -- it fails, or the lane has a gap
   pub device_stopped : (e : SessionFault) (held : ℕ) → held ≡ 0 → IsNextDue xm xn g h device reached (Err e) → IsDeviceRest device xo xn lo lm f h (Some e) n m held

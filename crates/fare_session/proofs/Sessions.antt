@@ -14,10 +14,10 @@ use Rattle.fare_session.specs.declared.fault.SessionFault.TheVariants.{Refused}
 use Rattle.fare_history.specs.Serving.{Cursors, device_of, moved_by_all, AreNextItems, given_all, in_hand, tried_in, Service, pruned_to_all}
 use Rattle.fare_session.specs.Taking.{added_by}
 use Rattle.fare_session.specs.Stores.{stored_fault, IsOwners, Follows, HasStood, Leaves, Stays}
-use Rattle.fare_session.specs.Forwarding.{IsBased, IsAsFar, AreBases, Skips, Forwarded}
+use Rattle.fare_session.specs.Forwarding.{IsIdle, IsBased, IsAsFar, AreBases, Skips, Forwarded}
 use Rattle.fare_session.specs.declared.batching.Halt.{Halt}
 use Rattle.fare_session.specs.Taking.{Tallied, IsTaken, fault_of_halt, behind_of, IsTaking, IsLeftTaken, IsImage, InHand}
-use Rattle.fare_session.specs.Resting.{MeetsLedger, Behind, IsIdle, IsCut, IsRest, IsPruning}
+use Rattle.fare_session.specs.Resting.{MeetsLedger, Behind, IsCut, IsRest, IsPruning}
 use Rattle.fare_session.specs.Session.{IsThreaded, IsCutWith, IsSession}
 use Rattle.fare_session.specs.Served.{report_of}
 use Rattle.fare_session.proofs.StoreCalls.{follows_call, follows_then, leaves_say, leaves_then, stays_then, stood_first, stood_then, stood_value}

@@ -1,7 +1,8 @@
 -- What a forwarder's thread does.
-use Rattle.std.specs.Prelude.{◌≡◌, ℕ, ◌+◌, ◌<◌, ◌==◌, ◌&&◌, Bool, true, false, List, [], ◌∷◌, ◌++◌, length, nat_eq, Option, None, Some, IsSome, option_map, Result, Ok, Err}
+use Rattle.std.specs.Prelude.{◌≡◌, ℕ, ◌+◌, ◌<◌, ◌≤◌, ◌==◌, ◌&&◌, Bool, true, false, List, [], ◌∷◌, ◌++◌, length, nat_eq, Option, None, Some, IsSome, option_map, Result, Ok, Err}
 use Rattle.std.specs.List.{AllByRecursion, IsDistinct}
 use Rattle.std.specs.Map.{lookup, keys_of}
+use Rattle.fare_record.specs.Limits.{IsDay}
 use Rattle.fare_record.specs.Values.{RecordValue}
 use Rattle.fare_record.specs.declared.item.Item.{Item}
 use Rattle.fare_record.specs.declared.item.Item.TheVariants.{Tap, Stated}
@@ -13,7 +14,7 @@ use Rattle.fare_store.specs.Standing.{Standing}
 use Rattle.fare_store.specs.OutboxWords.{OutboxValue, IsLeastRow}
 use Rattle.fare_session.specs.declared.fault.SessionFault.{SessionFault}
 use Rattle.fare_session.specs.declared.fault.SessionFault.TheVariants.{Source, Unexpected, Refused, Memory, Store}
-use Rattle.fare_history.specs.Serving.{Cursors, device_of, moved_by_all, AreNextItems}
+use Rattle.fare_history.specs.Serving.{Cursors, device_of, moved_by_all, IsNextItem, AreNextItems}
 use Rattle.fare_session.specs.Stores.{stored_fault, IsOwners, HasStood, Stays}
 
 -- an item of the device, and the next of its lane where it is a tap
@@ -108,6 +109,11 @@ pub record ForwardedIf (meets : Cursors → Type 0) (bases : List (ℕ × ℕ)) 
 abbrev pub Forwarded : List (ℕ × ℕ) → Standing OutboxValue → Standing OutboxValue → Forwarder → Forwarder → List Item → Option SessionFault → Type 0
 Forwarded bases old new f g items fault = ForwardedIf (AreBases bases) bases old new f g items fault
 
+-- nothing of a device comes next any more
+pub record IsIdle (owner : ℕ) (x : OutboxValue) (c : Cursors) (device : ℕ) : Type 0 where
+  pub rows : (lane : ℕ) → c.lane device < lane → x.rows owner device lane ≡ None
+  pub statements : (day : ℕ) → c.day device ≤ day → IsDay day → x.stated owner device day ≡ None
+
 -- ONE DEVICE AFTER THE OTHER
 -- wherever the cursors were, they have come these items further
 pub record Moves (f g : Forwarder) (items : List Item) (fault : Option SessionFault) : Type 0 where
@@ -115,8 +121,12 @@ pub record Moves (f g : Forwarder) (items : List Item) (fault : Option SessionFa
   pub far : fault ≡ None → (bases : List (ℕ × ℕ)) (c : Cursors) → IsAsFar bases f c → IsAsFar bases g (moved_by_all c items)
 
 -- a thread's, of the one device that has this base
-pub record IsDeviceForwarded (base : ℕ × ℕ) (old new : Standing OutboxValue) (f g : Forwarder) (before after : List Item) (fault : Option SessionFault) : Type 0 where
+pub record IsDeviceForwarded (base : ℕ × ℕ) (old new : Standing OutboxValue) (f g : Forwarder) (before after : List Item) (result : Result Bool SessionFault) : Type 0 where
   pub items : List Item
   pub sent : after ≡ before ++ items
-  pub forwarded : Forwarded (base ∷ []) old new f g items fault
-  pub moves : Moves f g items fault
+  pub forwarded : Forwarded (base ∷ []) old new f g items (fault_due result)
+  pub moves : Moves f g items (fault_due result)
+  -- yes: nothing of the device comes next any more
+  pub idle : result ≡ Ok true → (c : Cursors) → IsAsFar (base ∷ []) f c → AreBases (base ∷ []) c → HasStood old new → IsIdle f.owner old.value (moved_by_all c items) base.0
+  -- no: an item of the device comes next that was not put
+  pub left : result ≡ Ok false → (c : Cursors) → IsAsFar (base ∷ []) f c → AreBases (base ∷ []) c → HasStood old new → (i : Item) × (device_of i ≡ base.0) × IsNextItem f.owner old.value (moved_by_all c items) i

@@ -1,8 +1,7 @@
 -- What the call itself takes once the threads have returned, and what it prunes.
-use Rattle.std.specs.Prelude.{◌≡◌, ◌⊎◌, ℕ, ◌<◌, ◌≤◌, List, [], ◌∷◌, ◌++◌, length, slice_get, Option, None, Some, Result, OnOk}
+use Rattle.std.specs.Prelude.{◌≡◌, ◌⊎◌, ℕ, ◌<◌, List, [], ◌∷◌, ◌++◌, length, slice_get, Option, None, Some, Result, OnOk}
 use Rattle.std.specs.List.{AllByRecursion}
 use Rattle.std.specs.Map.{keys_of}
-use Rattle.fare_record.specs.Limits.{IsDay}
 use Rattle.fare_record.specs.declared.item.Item.{Item}
 use Rattle.fare_route.specs.declared.forwarder.Forwarder.{Forwarder}
 use Rattle.fare_store.specs.declared.fault.Fault.{Fault}
@@ -13,7 +12,7 @@ use Rattle.fare_session.specs.declared.fault.SessionFault.{SessionFault}
 use Rattle.fare_session.specs.declared.fault.SessionFault.TheVariants.{Refused}
 use Rattle.fare_history.specs.Serving.{Cursors, moved_by_all, in_hand, pruned_to_all}
 use Rattle.fare_session.specs.Stores.{stored_fault, IsOwners, Follows, HasStood, Leaves, Stays}
-use Rattle.fare_session.specs.Forwarding.{IsBased, IsAsFar, ForwardedIf, Moves}
+use Rattle.fare_session.specs.Forwarding.{IsIdle, IsBased, IsAsFar, ForwardedIf, Moves}
 use Rattle.fare_session.specs.Taking.{IsTaken}
 
 -- the cursors' lanes are how many taps a ledger has
@@ -23,11 +22,6 @@ MeetsLedger bases l c = (device : ℕ) → IsBased bases device → c.lane devic
 -- the ledger has kept what it held, and the lanes begin behind it
 abbrev pub Behind : List (ℕ × ℕ) → Standing LedgerValue → Standing LedgerValue → Cursors → Type 0
 Behind bases old new c = HasStood old new × MeetsLedger bases old.value c
-
--- nothing of a device comes next any more
-pub record IsIdle (owner : ℕ) (x : OutboxValue) (c : Cursors) (device : ℕ) : Type 0 where
-  pub rows : (lane : ℕ) → c.lane device < lane → x.rows owner device lane ≡ None
-  pub statements : (day : ℕ) → c.day device ≤ day → IsDay day → x.stated owner device day ≡ None
 
 abbrev pub IdleAt : List (ℕ × ℕ) → Standing OutboxValue → Standing OutboxValue → Standing LedgerValue → Standing LedgerValue → Forwarder → List Item → ℕ → Type 0
 IdleAt bases xo xn lo ln f items device = (c : Cursors) → IsAsFar bases f c → Behind bases lo ln c → HasStood xo xn → IsIdle f.owner xo.value (moved_by_all c items) device

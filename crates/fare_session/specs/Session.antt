@@ -15,9 +15,9 @@ use Rattle.fare_session.specs.declared.report.OwnerReport.{OwnerReport}
 use Rattle.fare_history.specs.Serving.{Cursors, device_of, moved_by_all, AreNextItems, AreUnrefused, given_all, in_hand, tried_in, Service, put_by, pruned_to_all, IsDated}
 use Rattle.fare_session.specs.Taking.{added_by}
 use Rattle.fare_session.specs.Stores.{IsOwners, Follows, HasStood, Leaves}
-use Rattle.fare_session.specs.Forwarding.{IsBased, IsAsFar, AreBases, Skips, Forwarded}
+use Rattle.fare_session.specs.Forwarding.{IsIdle, IsBased, IsAsFar, AreBases, Skips, Forwarded}
 use Rattle.fare_session.specs.Taking.{IsTaken, IsImage, InHand, IsRefusedHand}
-use Rattle.fare_session.specs.Resting.{MeetsLedger, IsIdle}
+use Rattle.fare_session.specs.Resting.{MeetsLedger}
 
 -- what the two threads did, and then the call with what was left in the queue
 pub record IsThreaded (bases : List (ℕ × ℕ)) (room : ℕ) (xo xn : Standing OutboxValue) (lo ln : Standing LedgerValue) (f g : Forwarder) (put fault : Option SessionFault) (before after left : ℕ) : Type 0 where

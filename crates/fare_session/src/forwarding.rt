@@ -2,7 +2,7 @@
 ghost use Rattle.std.specs.Prelude.{◌≡◌, ◌+◌, ◌++◌, ◌∷◌, [], length, true, false};
 ghost use Rattle.fare_lane_queue.specs.Lane.{IsNext, base_of, lanes_of};
 ghost use Rattle.fare_lane_queue.specs.Passes.{sent_list, forward_bases, IsForwardOf};
-ghost use Rattle.fare_session.specs.Forwarding.{is_due, lane_after, IsNextDue, AreApart, Forwarded, IsDeviceForwarded, fault_due, HasCursor, HasCursors};
+ghost use Rattle.fare_session.specs.Forwarding.{is_due, lane_after, IsNextDue, AreApart, Forwarded, IsDeviceForwarded, HasCursor, HasCursors};
 
 use crate::ending::Ending;
 use crate::fault::{SessionFault, failed};
@@ -107,7 +107,7 @@ fn forward_device<O: Outbox, G: Gate, R: Wait + Clock>(
     requires reached { base.1 ≡ base_of (forward_bases pass.old) base.0 + length (lanes_of base.0 (sent_list pass.old)) }
     requires cursors { HasCursors (base ∷ []) forwarder.old }
     ensures queue { IsForwardOf line.now pass.new × (forward_bases pass.new ≡ forward_bases pass.old) }
-    ensures forwarded { IsDeviceForwarded base (O.standing outbox.old) (O.standing outbox.new) forwarder.old forwarder.new (sent_list pass.old) (sent_list pass.new) (fault_due result) }
+    ensures forwarded { IsDeviceForwarded base (O.standing outbox.old) (O.standing outbox.new) forwarder.old forwarder.new (sent_list pass.old) (sent_list pass.new) result }
 {
     let (device, mut reached) = base;
     for _ in pace.rt.forever() {

@@ -6,8 +6,8 @@ use Rattle.fare_record.specs.declared.item.Item.{Item}
 use Rattle.fare_lane_queue.specs.Lane.{base_of, lanes_of}
 use Rattle.fare_lane_queue.specs.Passes.{sent_list, forward_bases}
 use Rattle.fare_session.specs.declared.fault.SessionFault.{SessionFault}
-use Rattle.fare_session.specs.Forwarding.{lane_after, AreBases, IsNextDue, IsDeviceForwarded, fault_due}
-use Rattle.fare_session.proofs.Forwards.{lane_more, far_more, forwarded_none, forwarded_more, forwarded_idle, forwarded_back, forwarded_failed}
+use Rattle.fare_session.specs.Forwarding.{lane_after, AreBases, IsNextDue, IsDeviceForwarded}
+use Rattle.fare_session.proofs.Forwards.{lane_more, far_more, forwarded_none, forwarded_more, forwarded_idle, forwarded_back, forwarded_failed, idle_behind, next_behind, due_device}
 use Rattle.fare_session.proofs.Devices.{alone, base_alone, moves_none, moves_more, moves_idle, moves_back, moves_failed}
 use Rattle.fare_session.proofs.forwarding.forward_device.Goals as goal
 
@@ -43,11 +43,13 @@ returns-in_err-item-clause-forwarded g c =
     let e = c.in_err-item.field-0.0 in
     let nd : IsNextDue xm xn c.loop.forwarder c.next_due.new.forwarder p.0 c.loop.reached (Err e) = c.in_err-item.ensures in
     let is = err_from_is_err_and c.from_residual.result c.from_residual.ensures.1 in
-    subst (λ (r : Result Bool SessionFault). IsDeviceForwarded p xo xn f c.next_due.new.forwarder (sent_list c.args.pass.now) (sent_list c.loop.pass) (fault_due r)) (sym (is.1 ∙ ap Err is.2)) (record {
+    subst (λ (r : Result Bool SessionFault). IsDeviceForwarded p xo xn f c.next_due.new.forwarder (sent_list c.args.pass.now) (sent_list c.loop.pass) r) (sym (is.1 ∙ ap Err is.2)) (record {
       items = i.items;
       sent = i.sent;
       forwarded = forwarded_failed (AreBases (p ∷ [])) (p ∷ []) xo xm xn f c.loop.forwarder c.next_due.new.forwarder i.items p.0 c.loop.reached (alone p) (λ d far bs k. i.far d bs) i.forwarded e nd;
       moves = moves_failed xm xn f c.loop.forwarder c.next_due.new.forwarder i.items p.0 c.loop.reached i.moves e nd.cursors;
+      idle = λ is. absurd (cc);
+      left = λ is. absurd (cc);
     })
 
 pub returns-in_default-clause-queue : goal.returns-in_default-clause-queue
@@ -66,6 +68,8 @@ returns-in_default-clause-forwarded g c =
       sent = i.sent;
       forwarded = forwarded_idle (AreBases (p ∷ [])) (p ∷ []) (g.O.Outbox.standing c.args.outbox.now) xm xn f c.loop.forwarder c.next_due.new.forwarder i.items p.0 c.loop.reached (alone p) (λ d far bs k. i.far d bs) i.forwarded nd;
       moves = moves_idle xm xn f c.loop.forwarder c.next_due.new.forwarder i.items p.0 c.loop.reached i.moves nd;
+      idle = λ is. idle_behind (AreBases (p ∷ [])) (p ∷ []) (g.O.Outbox.standing c.args.outbox.now) xm xn f c.loop.forwarder c.next_due.new.forwarder i.items p.0 c.loop.reached (alone p) (λ d far bs k. i.far d bs) i.forwarded nd;
+      left = λ is. absurd (cc);
     }
 
 pub returns-then-not-put_item-clause-queue : goal.returns-then-not-put_item-clause-queue
@@ -88,6 +92,8 @@ returns-then-not-put_item-clause-forwarded g c =
       sent = same ∙ i.sent;
       forwarded = forwarded_back (AreBases (p ∷ [])) (p ∷ []) (g.O.Outbox.standing c.args.outbox.now) xm xn f c.loop.forwarder h i.items p.0 c.loop.reached (alone p) (λ d far bs k. i.far d bs) i.forwarded x z nd c.put_back.ensures.cursors c.put_back.ensures.owner;
       moves = moves_back xm xn f c.loop.forwarder h i.items p.0 c.loop.reached i.moves x z nd c.put_back.ensures.cursors;
+      idle = λ is. absurd (cc);
+      left = λ is d far bs k. (x, due_device x p.0 c.loop.reached nd.found.1, next_behind (AreBases (p ∷ [])) (p ∷ []) (g.O.Outbox.standing c.args.outbox.now) xm xn f c.loop.forwarder h i.items p.0 c.loop.reached (alone p) (λ d far bs k. i.far d bs) i.forwarded x nd d far bs k);
     }
 
 pub loop-preserved : goal.loop-preserved

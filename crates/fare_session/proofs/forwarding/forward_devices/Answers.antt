@@ -1,5 +1,5 @@
 use Rattle.std.proofs.Common.{◌≡◌, ℕ, ◌+◌, length, List, None, Some, sym, ap, ◌∙◌, subst, arith}
-use Rattle.std.specs.Prelude.{slice_get}
+use Rattle.std.specs.Prelude.{slice_get, Ok, Err}
 use Rattle.fare_record.specs.declared.item.Item.{Item}
 use Rattle.fare_lane_queue.specs.Lane.{base_of, lanes_of}
 use Rattle.fare_lane_queue.specs.Passes.{sent_list}
@@ -44,7 +44,7 @@ returns-in-Ok-false-clause-forwarded g c =
     let k = c.loop-base.base-index in
     let p : ℕ × ℕ = c.base-item.result in
     let at : slice_get bases k ≡ Some p = placed bases k p c.base-item.is (omega (arith, c.loop-base-test.true)) in
-    thread_then bases k p (g.O.Outbox.standing c.args.outbox.now) (g.O.Outbox.standing c.loop-base.outbox) (g.O.Outbox.standing c.forward_device.new.outbox) c.args.forwarder.now c.loop-base.forwarder c.forward_device.new.forwarder (sent_list c.loop-base.pass) (sent_list c.forward_device.new.pass) None c.requires.apart at (i.fresh k p (omega arith) at) i.forwarded c.in-Ok-false.ensures.forwarded
+    thread_then bases k p (g.O.Outbox.standing c.args.outbox.now) (g.O.Outbox.standing c.loop-base.outbox) (g.O.Outbox.standing c.forward_device.new.outbox) c.args.forwarder.now c.loop-base.forwarder c.forward_device.new.forwarder (sent_list c.loop-base.pass) (sent_list c.forward_device.new.pass) (Ok c.in-Ok-false.field-0) c.requires.apart at (i.fresh k p (omega arith) at) i.forwarded c.in-Ok-false.ensures.forwarded
 
 pub returns-in-Err-clause-forwarded : goal.returns-in-Err-clause-forwarded
 returns-in-Err-clause-forwarded g c =
@@ -53,7 +53,7 @@ returns-in-Err-clause-forwarded g c =
     let k = c.loop-base.base-index in
     let p : ℕ × ℕ = c.base-item.result in
     let at : slice_get bases k ≡ Some p = placed bases k p c.base-item.is (omega (arith, c.loop-base-test.true)) in
-    thread_then bases k p (g.O.Outbox.standing c.args.outbox.now) (g.O.Outbox.standing c.loop-base.outbox) (g.O.Outbox.standing c.forward_device.new.outbox) c.args.forwarder.now c.loop-base.forwarder c.forward_device.new.forwarder (sent_list c.loop-base.pass) (sent_list c.forward_device.new.pass) (Some c.in-Err.fault) c.requires.apart at (i.fresh k p (omega arith) at) i.forwarded c.in-Err.ensures.forwarded
+    thread_then bases k p (g.O.Outbox.standing c.args.outbox.now) (g.O.Outbox.standing c.loop-base.outbox) (g.O.Outbox.standing c.forward_device.new.outbox) c.args.forwarder.now c.loop-base.forwarder c.forward_device.new.forwarder (sent_list c.loop-base.pass) (sent_list c.forward_device.new.pass) (Err c.in-Err.fault) c.requires.apart at (i.fresh k p (omega arith) at) i.forwarded c.in-Err.ensures.forwarded
 
 pub loop-base-preserved : goal.loop-base-preserved
 loop-base-preserved g c =
@@ -67,7 +67,7 @@ loop-base-preserved g c =
     record {
       queue = c.forward_device.ensures.queue.0;
       bases = c.forward_device.ensures.queue.1 ∙ i.bases;
-      forwarded = thread_then bases k p (g.O.Outbox.standing c.args.outbox.now) (g.O.Outbox.standing c.loop-base.outbox) (g.O.Outbox.standing c.forward_device.new.outbox) c.args.forwarder.now c.loop-base.forwarder c.forward_device.new.forwarder sent (sent_list c.forward_device.new.pass) None c.requires.apart at (i.fresh k p (omega arith) at) i.forwarded of;
+      forwarded = thread_then bases k p (g.O.Outbox.standing c.args.outbox.now) (g.O.Outbox.standing c.loop-base.outbox) (g.O.Outbox.standing c.forward_device.new.outbox) c.args.forwarder.now c.loop-base.forwarder c.forward_device.new.forwarder sent (sent_list c.forward_device.new.pass) (Ok c.in-Ok-true.field-0) c.requires.apart at (i.fresh k p (omega arith) at) i.forwarded of;
       fresh = λ j z le held. ap (lanes_of z.0) of.sent ∙ lanes_apart p sent of.items z.0 (apart_at bases k j p z c.requires.apart (omega (arith, le)) at held) of.forwarded.known ∙ i.fresh j z (omega (arith, le)) held;
     }
 
