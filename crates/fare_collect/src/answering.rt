@@ -70,13 +70,10 @@ fn last_all<S: Source, O: Outbox>(
     requires { AreStations scheme.now stations.old }
     ensures { HaveLast scheme.now S.talk (O.standing outbox.old) (O.standing outbox.new) stations.old stations.new (last_acks scheme.now) result }
 {
-    for position in 0..scheme.device_count() {
-        let Some(device) = scheme.device_at(position) else {
-            unreachable!()
-        };
-        let upto = outbox.upto(device)?;
-        let item = AckItem::Upto(Ack::new(device, upto));
-        send(scheme, position, device, &item, stations);
+    for (position, device) in scheme.devices().iter().enumerate() {
+        let upto = outbox.upto(*device)?;
+        let item = AckItem::Upto(Ack::new(*device, upto));
+        send(scheme, position, *device, &item, stations);
     }
     Ok(())
 }

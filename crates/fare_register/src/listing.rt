@@ -52,10 +52,7 @@ fn operator_rows(alloc: Global, scheme: &Scheme) -> Result<Vec<Vec<u32>>, AllocE
     ensures { IfOk result (λ rows. told_list rows.items ≡ map one_number scheme.now.operators) }
 {
     let mut rows = Vec::new(alloc);
-    for position in 0..scheme.operator_count() {
-        let Some(operator) = scheme.operator_at(position) else {
-            unreachable!()
-        };
+    for operator in scheme.operators() {
         rows.push(row(alloc, &[u32::from(operator.get())])?)?;
     }
     Ok(rows)

@@ -46,13 +46,10 @@ fn first_unheld<L: Ledger>(
 ) -> Result<Option<DeviceId>, Fault>
     ensures { Reads (L.standing ledger.old) (L.standing ledger.new) (λ found. found ≡ first_forgotten (L.standing ledger.old).value.from day scheme.now.devices) result }
 {
-    for place in 0..scheme.device_count() {
-        let Some(device) = scheme.device_at(place) else {
-            unreachable!()
-        };
-        let from = ledger.held_from(device)?;
+    for device in scheme.devices() {
+        let from = ledger.held_from(*device)?;
         if from > day {
-            return Ok(Some(device));
+            return Ok(Some(*device));
         }
     }
     Ok(None)

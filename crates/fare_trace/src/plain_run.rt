@@ -17,11 +17,8 @@ fn plain_ledgers(alloc: Global, scheme: &Scheme) -> Result<Vec<PlainLedger>, All
     ensures { IfOk result (λ ledgers. AreNewLedgers ledger_is scheme.now ledgers.items) }
 {
     let mut ledgers = Vec::new(alloc);
-    for place in 0..scheme.owner_count() {
-        let Some(owner) = scheme.owner_at(place) else {
-            unreachable!()
-        };
-        match PlainLedger::new(alloc, scheme, owner) {
+    for owner in scheme.owners() {
+        match PlainLedger::new(alloc, scheme, *owner) {
             Ok(ledger) => ledgers.push(ledger)?,
             Err(LedgerFault::Memory) => return Err(AllocError),
             Err(LedgerFault::UnknownOwner) => unreachable!(),

@@ -52,11 +52,8 @@ fn sql_ledgers(alloc: Global, scheme: &Scheme) -> Result<Vec<SqlLedger<MemStore>
     ensures { IfOk result (λ ledgers. AreNewLedgers sql_ledger_is scheme.now ledgers.items) }
 {
     let mut ledgers = Vec::new(alloc);
-    for place in 0..scheme.owner_count() {
-        let Some(owner) = scheme.owner_at(place) else {
-            unreachable!()
-        };
-        ledgers.push(sql_ledger(alloc, scheme, owner)?)?;
+    for owner in scheme.owners() {
+        ledgers.push(sql_ledger(alloc, scheme, *owner)?)?;
     }
     Ok(ledgers)
 }

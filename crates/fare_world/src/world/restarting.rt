@@ -90,11 +90,8 @@ fn ask_uptos<O: Outbox>(scheme: &Scheme, outbox: &mut O, uptos: &mut [u64]) -> R
     ensures read { Reads (O.standing outbox.old) (O.standing outbox.new) (λ _. AreUptos scheme.now (O.standing outbox.old).value.upto uptos.new) result }
     ensures valid { IfOk result (λ _. (k : ℕ) (n : ℕ) → slice_get uptos.new k ≡ Some n → IsCount n) }
 {
-    for place in 0..scheme.device_count() {
-        let Some(device) = scheme.device_at(place) else {
-            unreachable!()
-        };
-        uptos[place] = outbox.upto(device)?;
+    for (place, device) in scheme.devices().iter().enumerate() {
+        uptos[place] = outbox.upto(*device)?;
     }
     Ok(())
 }

@@ -1,22 +1,20 @@
 use Rattle.std.proofs.Common.{◌≡◌, [], ◌∷◌, Some, sym, subst, ◌∙◌, arith, Err, ap}
 use Rattle.std.proofs.lemmas.Result.{err_from_is_err_and}
+use Rattle.fare_scheme.proofs.Slices.{entry_at, none_left}
 use Rattle.fare_scheme.specs.Words.{id_at}
 use Rattle.fare_record.specs.declared.ack_item.AckItem.TheVariants.{Upto}
 use Rattle.fare_collect.specs.Ending.{AreSent, HaveLast, last_acks}
-use Rattle.fare_collect.proofs.Last.{answering_none, answering_more, answering_failed, answered_all, stations_after, at_known}
+use Rattle.fare_collect.proofs.Last.{answering_none, answering_more, answering_failed, answered_all, stations_after}
 use Rattle.fare_collect.proofs.answering.last_all.Goals as goal
 
 pub loop-position-init : goal.loop-position-init
 loop-position-init g c = answering_none c.args.scheme.now g.S.Source.talk (g.O.Outbox.standing c.args.outbox.now) c.args.stations.now (g.met.O.Outbox.sound c.args.outbox.now)
 
-pub unreachable-requires : goal.unreachable-requires
-unreachable-requires g c = at_known c.args.scheme.now.devices c.loop-position.position (let n = c.device_count-position-end.ensures.value in let t = c.loop-position-test.true in omega (arith, n, t)) (sym c.device_at.ensures.value ∙ c.in_default.is)
-
 pub returns-in_err-upto : goal.returns-in_err-upto
 returns-in_err-upto g c =
     let is = err_from_is_err_and c.from_residual.result c.from_residual.ensures.1 in
     subst (HaveLast c.args.scheme.now g.S.Source.talk (g.O.Outbox.standing c.args.outbox.now) (g.O.Outbox.standing c.upto.new.self) c.args.stations.now c.loop-position.stations (last_acks c.args.scheme.now)) (sym (is.1 ∙ ap Err is.2))
-    (answering_failed c.args.scheme.now g.S.Source.talk (g.O.Outbox.standing c.args.outbox.now) (g.O.Outbox.standing c.loop-position.outbox) (g.O.Outbox.standing c.upto.new.self) c.args.stations.now c.loop-position.stations c.loop-position.position c.in-Some.device c.in_err-upto.field-0.0
+    (answering_failed c.args.scheme.now g.S.Source.talk (g.O.Outbox.standing c.args.outbox.now) (g.O.Outbox.standing c.loop-position.outbox) (g.O.Outbox.standing c.upto.new.self) c.args.stations.now c.loop-position.stations c.loop-position.position c.device-item.result c.in_err-upto.field-0.0
     (g.met.O.Outbox.sound c.loop-position.outbox) c.loop-position.invariant c.in_err-upto.ensures.read)
 
 pub send-requires-clause-order : goal.send-requires-clause-order
@@ -29,14 +27,12 @@ loop-position-preserved g c =
     let a = g.O.Outbox.standing c.args.outbox.now in
     let b = g.O.Outbox.standing c.loop-position.outbox in
     let d = g.O.Outbox.standing c.upto.new.self in
-    let device = c.in-Some.device in
+    let device = c.device-item.result in
     let u = c.in_ok-upto.upto in
-    let at : id_at sc.devices c.loop-position.position ≡ Some device = sym c.device_at.ensures.value ∙ c.in-Some.is in
+    let at : id_at sc.devices c.loop-position.position ≡ Some device = entry_at c.args.scheme.now.devices c.devices-device-items.result.now c.loop-position.position c.device-item.result c.devices-device-items.ensures.value c.loop-position-test.true c.device-item.is in
     answering_more sc talks a b d c.args.stations.now c.loop-position.stations c.send.new.stations c.loop-position.position device u (g.met.O.Outbox.sound c.loop-position.outbox) c.loop-position.invariant c.in_ok-upto.ensures.read at c.send.ensures.known
     (subst (λ (k : _). AreSent sc talks (Upto k ∷ []) c.loop-position.stations c.send.new.stations) c.new.ensures c.send.ensures.sent)
 
 pub returns : goal.returns
 returns g c =
-    let n = c.device_count-position-end.ensures.value in
-    let t = c.loop-position-test.false in
-    answered_all c.args.scheme.now g.S.Source.talk (g.O.Outbox.standing c.args.outbox.now) (g.O.Outbox.standing c.loop-position.outbox) c.args.stations.now c.loop-position.stations c.loop-position.position c.device_count-position-end.ensures.valid.has_device (omega (arith, n, t)) c.loop-position.invariant
+    answered_all c.args.scheme.now g.S.Source.talk (g.O.Outbox.standing c.args.outbox.now) (g.O.Outbox.standing c.loop-position.outbox) c.args.stations.now c.loop-position.stations c.loop-position.position c.devices-device-items.ensures.valid.has_device (none_left c.args.scheme.now.devices c.devices-device-items.result.now c.loop-position.position c.devices-device-items.ensures.value (omega (arith, c.loop-position-test.false))) c.loop-position.invariant

@@ -4,8 +4,8 @@ use Rattle.fare_store.specs.declared.plain_ledger.PlainLedger.{PlainLedger}
 use Rattle.fare_trace.specs.Stores.{IsNewLedgerAt, ledger_is}
 use Rattle.fare_trace.proofs.plain_run.plain_ledgers.Given as goal
 
-abbrev pub invariant-loop-place : goal.invariant-loop-place
-invariant-loop-place l = record {
-  count : length l.ledgers.items ≡ l.place;
+abbrev pub invariant-loop-owner : goal.invariant-loop-owner
+invariant-loop-owner l = record {
+  count : length l.ledgers.items ≡ l.owner-index;
   each : (k : ℕ) (x : PlainLedger) → slice_get l.ledgers.items k ≡ Some x → IsNewLedgerAt ledger_is l.scheme k x;
 }
