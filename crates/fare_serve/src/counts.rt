@@ -35,11 +35,11 @@ impl Counts {
         ensures { IfOk result (AreNoCounts scheme.now) }
     {
         let mut taken = Vec::with_capacity(alloc, scheme.owner_count())?;
-        for place in 0..scheme.owner_count() {
-            let Some(owner) = scheme.owner_at(place) else {
-                unreachable!()
-            };
-            taken.push(Taken { owner, count: 0 })?;
+        for owner in scheme.owners() {
+            taken.push(Taken {
+                owner: *owner,
+                count: 0,
+            })?;
         }
         Ok(Counts {
             stored: 0,

@@ -87,11 +87,9 @@ impl Lines {
 
     // Tells of each station that has no line.
     fn tell_absent<R: Eprint>(&self, rt: &R, scheme: &Scheme) {
-        for place in 0..self.seats.len() {
-            if self.seats[place].is_free() {
-                if let Some(station) = scheme.station_at(place) {
-                    tell_absent(rt, station);
-                }
+        for (seat, station) in self.seats.iter().zip(scheme.stations()) {
+            if seat.is_free() {
+                tell_absent(rt, *station);
             }
         }
     }

@@ -47,14 +47,12 @@ impl Seen {
     // Nothing was seen yet.
     pub(crate) fn none(alloc: Global, scheme: &Scheme) -> Result<Seen, AllocError> {
         let mut lines = Vec::with_capacity(alloc, scheme.station_count())?;
-        for place in 0..scheme.station_count() {
-            if let Some(station) = scheme.station_at(place) {
-                lines.push(LineSeen {
-                    station,
-                    is_up: false,
-                    last_frame: None,
-                })?;
-            }
+        for station in scheme.stations() {
+            lines.push(LineSeen {
+                station: *station,
+                is_up: false,
+                last_frame: None,
+            })?;
         }
         Ok(Seen {
             refused: RefusedLines::none(),

@@ -25,12 +25,10 @@ fn push_owners(scheme: &Scheme, lines: &mut Vec<SchemeLine>) -> Result<(), Alloc
 fn push_operators(scheme: &Scheme, lines: &mut Vec<SchemeLine>) -> Result<(), AllocError>
     ensures { OnOk result (lines.new.items ≡ lines.old.items ++ map line.Operator scheme.now.operators) }
 {
-    for position in 0..scheme.operator_count() {
-        if let Some(operator) = scheme.operator_at(position) {
-            lines.push(SchemeLine::Operator {
-                operator: operator.get(),
-            })?;
-        }
+    for operator in scheme.operators() {
+        lines.push(SchemeLine::Operator {
+            operator: operator.get(),
+        })?;
     }
     Ok(())
 }
