@@ -177,11 +177,8 @@ fn add_devices(alloc: Global, scheme: &Scheme, text: &mut String) -> Result<(), 
     ensures { OnOk result (string_bytes text.new ≡ string_bytes text.old ++ devices_text scheme.now) }
 {
     add_devices_head(text)?;
-    for place in 0..scheme.device_count() {
-        let Some(device) = scheme.device_at(place) else {
-            unreachable!()
-        };
-        add_device(alloc, scheme, device, text)?;
+    for device in scheme.devices() {
+        add_device(alloc, scheme, *device, text)?;
     }
     Ok(())
 }

@@ -5,5 +5,5 @@ use Rattle.std.specs.Map.{keys_of}
 use Rattle.fare_page.specs.Gauges.{device_line, devices_head}
 use Rattle.fare_page.proofs.gauges.add_devices.Given as goal
 
-abbrev pub invariant-loop-place : goal.invariant-loop-place
-invariant-loop-place l = string_bytes l.text ≡ string_bytes l.fn.text ++ (devices_head ++ flat_map (device_line l.scheme) (take l.place (keys_of l.scheme.devices)))
+abbrev pub invariant-loop-device : goal.invariant-loop-device
+invariant-loop-device l = string_bytes l.text ≡ string_bytes l.fn.text ++ (devices_head ++ flat_map (device_line l.scheme) (take l.device-index (keys_of l.scheme.devices)))
