@@ -291,6 +291,9 @@ fn stand_at(scheme: &Scheme, number: u64, position: usize) -> bool {
         && scheme.station_at(position) == Some(station)
         && scheme.operator_position(operator) == Some(position)
         && scheme.operator_at(position) == Some(operator)
+        && scheme.devices().get(position).copied() == Some(device)
+        && scheme.stations().get(position).copied() == Some(station)
+        && scheme.operators().get(position).copied() == Some(operator)
 }
 
 #[test]
@@ -298,6 +301,11 @@ fn positions_are_in_order_of_registration(rt: HostRuntime) {
     let scheme = Scheme::demo(rt.alloc(), DemoSize::TwoDevices, 4, 4, 4).expect(&rt, "scheme");
     assert!(rt; stand_at(&scheme, 1, 0));
     assert!(rt; stand_at(&scheme, 2, 1));
+    same(&rt, &scheme.devices().len(), &2);
+    same(&rt, &scheme.stations().len(), &2);
+    same(&rt, &scheme.operators().len(), &2);
+    same(&rt, &scheme.owners().first().copied(), &scheme.owner_at(0));
+    same(&rt, &scheme.owners().len(), &1);
     same(&rt, &scheme.product_at(0), &ProductId::new(1));
     same(&rt, &scheme.product_at(1), &None);
     let other = ProductId::new(2).expect(&rt, "product");
