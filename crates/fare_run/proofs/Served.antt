@@ -5,6 +5,8 @@ use Rattle.std.specs.Result.{IsErrAnd}
 use Rattle.std.specs.Io.KnownBytes.{Appends, Keeps}
 use Rattle.std.proofs.KnownBytes.{Appends-kept, Appends-trans, Keeps-refl}
 use Rattle.fare_scheme.specs.Values.{SchemeValue}
+use Rattle.fare_store.specs.declared.fault.Fault.{Fault}
+use Rattle.fare_store.specs.declared.fault.Fault.TheVariants as store
 use Rattle.fare_store.specs.Standing.{Standing}
 use Rattle.fare_store.specs.OutboxWords.{OutboxValue}
 use Rattle.fare_store.specs.LedgerWords.{LedgerValue}
@@ -15,7 +17,7 @@ use Rattle.fare_serve.specs.declared.fault.ServeFault.{ServeFault}
 use Rattle.fare_serve.specs.declared.fault.ServeFault.TheVariants as serve
 use Rattle.fare_run.specs.Scheming.{GaveNone, GivesNone, HasGiven, HasScheme, SpellsScheme, TakesScheme}
 use Rattle.fare_run.specs.Serving.{ArePorts, FailsOver, IsUnheard, IsUntold, LeavesStores, ServeEnds, ServeFailed, ServeFails, IsServedOf, ServesOver, WritesCounts, serving_failure}
-use Rattle.fare_run.specs.Stores.{IsOfStores}
+use Rattle.fare_run.specs.Stores.{IsOfStores, opening_failure}
 use Rattle.fare_command.specs.declared.words.SchemeSource.{SchemeSource}
 use Rattle.fare_run.specs.declared.serve_failure.ServeFailure.{ServeFailure}
 use Rattle.fare_run.specs.declared.serve_failure.ServeFailure.TheVariants.{Lines, Refused, NoScheme, Kept, Memory, Store, Network, Write}
@@ -119,6 +121,11 @@ served_of asks (Err failure) source input old new sc takes done fails = failed_o
 -- over stores
 pub over_network : (asks : Bool) (old : Option (List ℕ)) (failure : ServeFailure) → failure ≡ Network → FailsOver asks old old failure
 over_network asks old failure is = subst (FailsOver asks old old) (sym is) (Keeps-refl old)
+
+-- stores that were not opened are a failure of stores
+pub of_opening : (fault : Fault) → IsOfStores (opening_failure fault)
+of_opening store.Memory = tt
+of_opening store.Store = tt
 
 pub over_stores : (asks : Bool) (old : Option (List ℕ)) (failure : ServeFailure) → IsOfStores failure → FailsOver asks old old failure
 over_stores asks old (Lines fault) is = absurd is

@@ -1,5 +1,5 @@
 -- What comes of a question of the stores, or an order.
-use Rattle.std.specs.Prelude.{◌≡◌, ◌≢◌, ◌↔◌, ℕ, false, List, ◌++◌, Option, None, Some, Result, Ok, Err, is_some}
+use Rattle.std.specs.Prelude.{◌≡◌, ◌≢◌, ◌↔◌, ℕ, false, List, ◌++◌, Option, None, Result, Ok, Err, is_some}
 use Rattle.std.specs.Io.KnownBytes.{Appends, Keeps}
 use Rattle.std.specs.Map.{keys_of}
 use Rattle.fare_cap.specs.Bills.{BillValue}
@@ -30,7 +30,6 @@ use Rattle.fare_run.specs.Scheming.{GaveNone, GivesNone, HasGiven, HasScheme, Sp
 use Rattle.fare_run.specs.Stores.{IsOfStores}
 use Rattle.fare_run.specs.declared.ask_failure.AskFailure.{AskFailure}
 use Rattle.fare_run.specs.declared.ask_failure.AskFailure.TheVariants.{Stores, Desk}
-use Rattle.fare_run.specs.declared.serve_failure.ServeFailure.{ServeFailure}
 
 -- it is answered at once: where it fails, nothing was written, but where the writer failed
 abbrev pub IsAnsweredAtOnce : Question → Type 0

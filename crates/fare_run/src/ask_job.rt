@@ -7,7 +7,8 @@ use crate::ask_failure::AskFailure;
 use crate::asking::answer_over;
 use crate::left::AskOptions;
 use crate::scheming::take_scheme;
-use crate::serve_job::{databases_at, of_opening};
+use crate::serve_failure::ServeFailure;
+use crate::serve_job::databases_at;
 use fare_command::Question;
 use fare_databases::{Absent, Databases, close_files, close_hub, open_hub};
 use fare_scheme::Scheme;
@@ -43,7 +44,10 @@ pub fn ask_databases<S: Alter + Drop, O: Write>(
                 Err(fault) => (databases, Err(AskFailure::Desk(fault))),
             }
         }
-        Err((databases, fault)) => (databases, Err(AskFailure::Stores(of_opening(fault)))),
+        Err((databases, fault)) => (
+            databases,
+            Err(AskFailure::Stores(ServeFailure::from(fault))),
+        ),
     }
 }
 

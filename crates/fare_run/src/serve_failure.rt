@@ -1,12 +1,14 @@
 ghost use Rattle.std.specs.Prelude.{◌≡◌};
 ghost use Rattle.fare_run.specs.Scheming.{keep_failure, scheme_failure};
 ghost use Rattle.fare_run.specs.Serving.{serving_failure};
+ghost use Rattle.fare_run.specs.Stores.{opening_failure};
 ghost use Rattle.fare_run.specs.declared.serve_failure.ServeFailure.TheVariants.{Lines, Memory};
 
 use fare_event::Refusal;
 use fare_keeping::KeepFault;
 use fare_replay::ReplayFault;
 use fare_serve::ServeFault;
+use fare_store::Fault;
 use fare_trace::SchemeFault;
 use std::alloc::AllocError;
 use thiserror::Error;
@@ -82,13 +84,27 @@ impl From<KeepFault> for ServeFailure {
     }
 }
 
+// Why stores weren't opened.
+impl From<Fault> for ServeFailure {
+    ghost from_gives = { λ fault e. e ≡ opening_failure fault };
+
+    fn from(fault: Fault) -> ServeFailure {
+        match fault {
+            Fault::Memory => ServeFailure::Memory,
+            Fault::Store => ServeFailure::Store,
+        }
+    }
+}
+
 // Why no counts were written.
-pub(crate) fn of_serving(fault: ServeFault) -> ServeFailure
-    ensures { result ≡ serving_failure fault }
-{
-    match fault {
-        ServeFault::Memory => ServeFailure::Memory,
-        ServeFault::Store => ServeFailure::Store,
-        ServeFault::Write => ServeFailure::Write,
+impl From<ServeFault> for ServeFailure {
+    ghost from_gives = { λ fault e. e ≡ serving_failure fault };
+
+    fn from(fault: ServeFault) -> ServeFailure {
+        match fault {
+            ServeFault::Memory => ServeFailure::Memory,
+            ServeFault::Store => ServeFailure::Store,
+            ServeFault::Write => ServeFailure::Write,
+        }
     }
 }

@@ -12,23 +12,12 @@ use fare_databases::{
     Absent, Databases, FileDatabases, close_files, close_hub, connect_files, open_hub,
 };
 use fare_scheme::Scheme;
-use fare_store::Fault;
 use sqlite::Alter;
 use std::io::{Read, Write};
 use std::net::{Net, TcpListener, TcpStream};
 use std::sync::Wait;
 use std::thread::Threads;
 use std::time::Clock;
-
-// Why stores weren't opened.
-pub(crate) fn of_opening(fault: Fault) -> ServeFailure
-    ensures { IsOfStores result }
-{
-    match fault {
-        Fault::Memory => ServeFailure::Memory,
-        Fault::Store => ServeFailure::Store,
-    }
-}
 
 // The databases of a scheme's stores in files at a path.
 pub(crate) fn databases_at(
@@ -40,10 +29,7 @@ pub(crate) fn databases_at(
     ensures owners { IfOk result (λ databases. length databases.ledgers.items ≡ length scheme.now.owners) }
     ensures fails { IfErr result IsOfStores }
 {
-    match connect_files(rt, scheme, path, absent) {
-        Ok(databases) => Ok(databases),
-        Err(fault) => Err(of_opening(fault)),
-    }
+    Ok(connect_files(rt, scheme, path, absent)?)
 }
 
 /// Opens the stores of a scheme in these databases, serves the scheme's stations over them, as `serve_over` says, and hands
@@ -82,7 +68,7 @@ pub fn serve_databases<
             );
             (close_hub(opened), served)
         }
-        Err((databases, fault)) => (databases, Err(of_opening(fault))),
+        Err((databases, fault)) => (databases, Err(ServeFailure::from(fault))),
     }
 }
 

@@ -4,7 +4,7 @@ ghost use Rattle.fare_sessions.specs.Stores.{HasLedgers};
 ghost use Rattle.fare_run.specs.Serving.{ArePorts, FailsOver, IsUnheard, IsUntold, LeavesStores, ServesOver, answering_line, listening_line, pauses_of};
 ghost use Rattle.fare_run.specs.declared.serve_failure.ServeFailure.TheVariants.{Network};
 
-use crate::serve_failure::{ServeFailure, of_serving};
+use crate::serve_failure::ServeFailure;
 use fare_page::Callers;
 use fare_serve::{Limits, Pause, Rest, serve_rounds};
 use fare_sessions::Hub;
@@ -97,10 +97,8 @@ fn serve_with<
 {
     let (listener, port) = listen(handles, port)?;
     announce(rt, port, answering, output)?;
-    match serve_rounds(rt, handles, &listener, hub, limits, until, pauses, output) {
-        Ok(()) => Ok(()),
-        Err(fault) => Err(of_serving(fault)),
-    }
+    serve_rounds(rt, handles, &listener, hub, limits, until, pauses, output)?;
+    Ok(())
 }
 
 // Those who ask at a port of 127.0.0.1, and which it is.

@@ -1,9 +1,12 @@
-use Rattle.std.proofs.Common.{arith}
+use Rattle.std.proofs.Common.{arith, subst, sym}
+use Rattle.std.proofs.KnownBytes.{Keeps-refl}
 use Rattle.fare_outbox.specs.Words as outbox_words
 use Rattle.fare_ledger.specs.Words as ledger_words
 use Rattle.fare_run.specs.Databases.{StaysAsked}
+use Rattle.fare_run.specs.Stores.{IsOfStores}
 use Rattle.fare_run.proofs.Asked.{answered, asked_count, keeps_unless}
 use Rattle.fare_run.proofs.InDatabases.{answers_opened, keeps_asked, keeps_unopened, refuses_opened, stays_asked}
+use Rattle.fare_run.proofs.Served.{of_opening}
 use Rattle.fare_run.proofs.ask_job.ask_databases.Goals as goal
 
 pub returns-in-Ok-answered-clause-done : goal.returns-in-Ok-answered-clause-done
@@ -30,6 +33,9 @@ returns-in-Err-answered-clause-refuses g c =
 pub returns-in-Err-answered-clause-keeps : goal.returns-in-Err-answered-clause-keeps
 returns-in-Err-answered-clause-keeps g c =
     keeps_asked g.S.Store c.args.scheme c.in-Ok.ensures.valid c.args.databases c.close_hub-databases.result c.in-Ok.opened.hub c.answer_over-answered.new.hub c.in-Ok.ensures.scheme c.in-Ok.ensures.count c.in-Ok.ensures.holds c.close_hub-databases.ensures.back c.args.question c.in-Err-answered.ensures.goes
+
+pub returns-in-Err-clause-fails : goal.returns-in-Err-clause-fails
+returns-in-Err-clause-fails g c = (Keeps-refl (g.O.Write.contents c.args.output.now), subst IsOfStores (sym c.from.ensures) (of_opening c.in-Err.fault))
 
 pub returns-in-Err-clause-keeps : goal.returns-in-Err-clause-keeps
 returns-in-Err-clause-keeps g c =

@@ -1,8 +1,9 @@
-use Rattle.std.proofs.Common.{subst, arith}
+use Rattle.std.proofs.Common.{subst, sym, arith}
 use Rattle.std.specs.Prelude.{is_none, is_some, OnOk}
 use Rattle.fare_run.specs.Serving.{WritesCounts}
+use Rattle.fare_run.specs.Stores.{IsOfStores}
 use Rattle.fare_run.proofs.InDatabases.{serves_opened, serves_unopened}
-use Rattle.fare_run.proofs.Served.{count_still, over_stores, writes_if}
+use Rattle.fare_run.proofs.Served.{count_still, of_opening, over_stores, writes_if}
 use Rattle.fare_run.proofs.serve_job.serve_databases.Goals as goal
 
 pub close_hub-requires-clause-room : goal.close_hub-requires-clause-room
@@ -23,7 +24,7 @@ returns-in-Ok-clause-runs g c =
     _ c.args.options.now.limits.rounds (is_none c.args.options.now.until) (is_some c.args.options.now.ask) (g.O.Write.contents c.args.output.now) (g.O.Write.contents c.serve_over-served.new.output) c.serve_over-served.result c.serve_over-served.ensures.served c.serve_over-served.ensures.stores
 
 pub returns-in-Err-clause-fails : goal.returns-in-Err-clause-fails
-returns-in-Err-clause-fails g c = over_stores (is_some c.args.options.now.ask) (g.O.Write.contents c.args.output.now) c.of_opening.result c.of_opening.ensures
+returns-in-Err-clause-fails g c = over_stores (is_some c.args.options.now.ask) (g.O.Write.contents c.args.output.now) c.from.result (subst IsOfStores (sym c.from.ensures) (of_opening c.in-Err.fault))
 
 pub returns-in-Err-clause-runs : goal.returns-in-Err-clause-runs
-returns-in-Err-clause-runs g c = serves_unopened g.S.Store c.args.scheme c.in-Err.ensures.valid c.args.databases c.in-Err.databases c.args.options.now.limits.rounds (is_none c.args.options.now.until) (is_some c.args.options.now.ask) (g.O.Write.contents c.args.output.now) c.of_opening.result c.requires.owners c.in-Err.ensures.stay
+returns-in-Err-clause-runs g c = serves_unopened g.S.Store c.args.scheme c.in-Err.ensures.valid c.args.databases c.in-Err.databases c.args.options.now.limits.rounds (is_none c.args.options.now.until) (is_some c.args.options.now.ask) (g.O.Write.contents c.args.output.now) c.from.result c.requires.owners c.in-Err.ensures.stay
