@@ -1,10 +1,10 @@
 -- One device after the other: what each comes to by itself, and all of them together.
 use Rattle.std.proofs.Common.{◌≡◌, ◌≢◌, ℕ, zero, suc, ◌<◌, Some, None, Bool, true, false, List, [], ◌∷◌, ◌++◌, length, refl, sym, ap, ◌∙◌, subst, arith}
-use Rattle.std.specs.Prelude.{slice_get, get_or, nat_eq, cond, Option, is_some, unwrap_or, Result, Ok}
+use Rattle.std.specs.Prelude.{slice_get, nat_eq, cond, Option, is_some, unwrap_or, Result, Ok}
 use Rattle.std.specs.List.{AllByRecursion}
 use Rattle.std.proofs.lemmas.Bool.Decides.{nat_tests}
 use Rattle.std.proofs.lemmas.List.{append-nil, append_assoc}
-use Rattle.std.proofs.lemmas.Option.{slice_get-get_or, same_Some}
+use Rattle.std.proofs.lemmas.Option.{same_Some}
 use Rattle.fare_record.specs.declared.item.Item.{Item}
 use Rattle.fare_route.specs.declared.forwarder.Forwarder.{Forwarder}
 use Rattle.fare_route.specs.Cursors.{undone}
@@ -20,9 +20,6 @@ use Rattle.fare_session.specs.Forwarding.{IsBased, HasCursor, HasCursors, IsAsFa
 use Rattle.fare_session.proofs.StoreCalls.{stays_then, stood_first, stood_then, stood_value}
 use Rattle.fare_session.proofs.Services.{moved_by_all-append, next_items-append, all-append}
 use Rattle.fare_session.proofs.Forwards.{far_moved, far_stays, far_undone, some_changed, due_device, lanes_others, based_at, begun_far}
-
-pub placed : (bases : List (ℕ × ℕ)) (k : ℕ) (p : ℕ × ℕ) → p ≡ get_or bases k p → k < length bases → slice_get bases k ≡ Some p
-placed bases k p is lt = slice_get-get_or bases k p lt ∙ ap Some (sym is)
 
 -- A LIST OF ONE BASE
 pub only : (p : ℕ × ℕ) (d : ℕ) → IsBased (p ∷ []) d → d ≡ p.0

@@ -3,9 +3,10 @@ use Rattle.std.specs.Prelude.{slice_get, Ok, Err}
 use Rattle.fare_record.specs.declared.item.Item.{Item}
 use Rattle.fare_lane_queue.specs.Lane.{base_of, lanes_of}
 use Rattle.fare_lane_queue.specs.Passes.{sent_list}
+use Rattle.fare_scheme.proofs.Slices.{item_at}
 use Rattle.fare_session.specs.Forwarding.{AreBases, Forwarded}
 use Rattle.fare_session.proofs.Forwards.{begun, based_at, apart_at, forwarded_none}
-use Rattle.fare_session.proofs.Devices.{placed, knows, thread_then, lanes_apart}
+use Rattle.fare_session.proofs.Devices.{knows, thread_then, lanes_apart}
 use Rattle.fare_session.proofs.forwarding.forward_devices.Goals as goal
 
 pub loop-base-init : goal.loop-base-init
@@ -26,7 +27,7 @@ forward_device-requires-clause-reached g c =
     let bases = c.args.bases.now in
     let k = c.loop-base.base-index in
     let p : ℕ × ℕ = c.base-item.result in
-    let at : slice_get bases k ≡ Some p = placed bases k p c.base-item.is (omega (arith, c.loop-base-test.true)) in
+    let at : slice_get bases k ≡ Some p = item_at bases k p c.loop-base-test.true c.base-item.is in
     let sent = sent_list c.loop-base.pass in
     subst (λ (b : List (ℕ × ℕ)). p.1 ≡ base_of b p.0 + length (lanes_of p.0 sent)) (sym i.bases) (begun bases sent k p c.requires.apart at (i.fresh k p (omega arith) at))
 
@@ -34,7 +35,7 @@ pub forward_device-requires-clause-cursors : goal.forward_device-requires-clause
 forward_device-requires-clause-cursors g c =
     let bases = c.args.bases.now in
     let p : ℕ × ℕ = c.base-item.result in
-    let at : slice_get bases c.loop-base.base-index ≡ Some p = placed bases c.loop-base.base-index p c.base-item.is (omega (arith, c.loop-base-test.true)) in
+    let at : slice_get bases c.loop-base.base-index ≡ Some p = item_at bases c.loop-base.base-index p c.loop-base-test.true c.base-item.is in
     knows bases p c.loop-base.forwarder (based_at bases c.loop-base.base-index p c.requires.apart at) c.loop-base.invariant.forwarded.cursors
 
 pub returns-in-Ok-false-clause-forwarded : goal.returns-in-Ok-false-clause-forwarded
@@ -43,7 +44,7 @@ returns-in-Ok-false-clause-forwarded g c =
     let bases = c.args.bases.now in
     let k = c.loop-base.base-index in
     let p : ℕ × ℕ = c.base-item.result in
-    let at : slice_get bases k ≡ Some p = placed bases k p c.base-item.is (omega (arith, c.loop-base-test.true)) in
+    let at : slice_get bases k ≡ Some p = item_at bases k p c.loop-base-test.true c.base-item.is in
     thread_then bases k p (g.O.Outbox.standing c.args.outbox.now) (g.O.Outbox.standing c.loop-base.outbox) (g.O.Outbox.standing c.forward_device.new.outbox) c.args.forwarder.now c.loop-base.forwarder c.forward_device.new.forwarder (sent_list c.loop-base.pass) (sent_list c.forward_device.new.pass) (Ok c.in-Ok-false.field-0) c.requires.apart at (i.fresh k p (omega arith) at) i.forwarded c.in-Ok-false.ensures.forwarded
 
 pub returns-in-Err-clause-forwarded : goal.returns-in-Err-clause-forwarded
@@ -52,7 +53,7 @@ returns-in-Err-clause-forwarded g c =
     let bases = c.args.bases.now in
     let k = c.loop-base.base-index in
     let p : ℕ × ℕ = c.base-item.result in
-    let at : slice_get bases k ≡ Some p = placed bases k p c.base-item.is (omega (arith, c.loop-base-test.true)) in
+    let at : slice_get bases k ≡ Some p = item_at bases k p c.loop-base-test.true c.base-item.is in
     thread_then bases k p (g.O.Outbox.standing c.args.outbox.now) (g.O.Outbox.standing c.loop-base.outbox) (g.O.Outbox.standing c.forward_device.new.outbox) c.args.forwarder.now c.loop-base.forwarder c.forward_device.new.forwarder (sent_list c.loop-base.pass) (sent_list c.forward_device.new.pass) (Err c.in-Err.fault) c.requires.apart at (i.fresh k p (omega arith) at) i.forwarded c.in-Err.ensures.forwarded
 
 pub loop-base-preserved : goal.loop-base-preserved
@@ -61,7 +62,7 @@ loop-base-preserved g c =
     let bases = c.args.bases.now in
     let k = c.loop-base.base-index in
     let p : ℕ × ℕ = c.base-item.result in
-    let at : slice_get bases k ≡ Some p = placed bases k p c.base-item.is (omega (arith, c.loop-base-test.true)) in
+    let at : slice_get bases k ≡ Some p = item_at bases k p c.loop-base-test.true c.base-item.is in
     let sent = sent_list c.loop-base.pass in
     let of = c.in-Ok-true.ensures.forwarded in
     record {

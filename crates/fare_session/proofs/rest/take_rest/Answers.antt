@@ -1,8 +1,9 @@
 use Rattle.std.proofs.Common.{◌≡◌, ◌≢◌, ◌++◌, [], ℕ, refl, None, Some, sym, ap, ◌∙◌, arith}
 use Rattle.std.specs.Prelude.{slice_get}
 use Rattle.std.proofs.lemmas.Option.{same_Some}
+use Rattle.fare_scheme.proofs.Slices.{item_at}
 use Rattle.fare_session.proofs.Forwards.{based_at, apart_at}
-use Rattle.fare_session.proofs.Devices.{placed, knows}
+use Rattle.fare_session.proofs.Devices.{knows}
 use Rattle.fare_session.proofs.Rests.{rest_none, rest_stops, rest_held, rest_goes, rest_ended}
 use Rattle.fare_session.proofs.rest.take_rest.Goals as goal
 
@@ -18,7 +19,7 @@ take_device-requires-clause-cursors g c =
     let bases = c.args.bases.now in
     let k = c.loop-base.base-index in
     let p : ℕ × ℕ = c.base-item.result in
-    let at : slice_get bases k ≡ Some p = placed bases k p c.base-item.is (omega (arith, c.loop-base-test.true)) in
+    let at : slice_get bases k ≡ Some p = item_at bases k p c.loop-base-test.true c.base-item.is in
     knows bases (p.0, 0) c.loop-base.forwarder (based_at bases k p c.requires.apart at) c.loop-base.invariant.now.forwarded.cursors
 
 pub returns-in-Some : goal.returns-in-Some
@@ -27,7 +28,7 @@ returns-in-Some g c =
     let bases = c.args.bases.now in
     let k = c.loop-base.base-index in
     let p : ℕ × ℕ = c.base-item.result in
-    let at : slice_get bases k ≡ Some p = placed bases k p c.base-item.is (omega (arith, c.loop-base-test.true)) in
+    let at : slice_get bases k ≡ Some p = item_at bases k p c.loop-base-test.true c.base-item.is in
     let some : Some c.in-Some.fault ≢ None = λ e. absurd (cc) in
     rest_stops bases (g.O.Outbox.standing c.args.outbox.now) (g.O.Outbox.standing c.loop-base.outbox) (g.O.Outbox.standing c.take_device.new.outbox) (g.L.Ledger.standing c.args.ledger.now) (g.L.Ledger.standing c.loop-base.ledger) (g.L.Ledger.standing c.take_device.new.ledger) c.args.forwarder.now c.loop-base.forwarder c.take_device.new.forwarder c.args.taken.now c.loop-base.taken c.take_device.new.taken k c.take_device.new.hand i.done p.0 (Some c.in-Some.fault) (based_at bases k p c.requires.apart at) i.now c.in-Some.ensures some
 
@@ -37,7 +38,7 @@ loop-base-preserved g c =
     let bases = c.args.bases.now in
     let k = c.loop-base.base-index in
     let p : ℕ × ℕ = c.base-item.result in
-    let at : slice_get bases k ≡ Some p = placed bases k p c.base-item.is (omega (arith, c.loop-base-test.true)) in
+    let at : slice_get bases k ≡ Some p = item_at bases k p c.loop-base-test.true c.base-item.is in
     let xo = g.O.Outbox.standing c.args.outbox.now in
     let xm = g.O.Outbox.standing c.loop-base.outbox in
     let xn = g.O.Outbox.standing c.take_device.new.outbox in
