@@ -271,8 +271,3 @@ answered_all sc talks a b first now position some le was = record {
   have = have_same sc talks a b first now (λ x. acks_of x (take position sc.devices)) (last_acks sc) (Ok tt) (λ x. ap (acks_of x) (take_all position sc.devices le)) was.have;
   read = λ e. was.read (omega (arith, some, le));
 }
-
-pub at_known : {X : Type 0} (xs : List (ℕ × X)) (k : ℕ) → k < length xs → id_at xs k ≡ None → ⊥
-at_known [] k lt e = omega (arith, lt)
-at_known (x ∷ xs) zero lt e = absurd (cc)
-at_known (x ∷ xs) (suc k) lt e = at_known xs k (omega (arith, lt)) e

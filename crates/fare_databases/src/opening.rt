@@ -106,9 +106,7 @@ fn ledgers_in<S: Alter + Drop>(
     let mut waiting = databases.into_iter();
     let mut ledgers = opened;
     while let Some(database) = waiting.next() {
-        let Some(owner) = scheme.owner_at(ledgers.len()) else {
-            unreachable!()
-        };
+        let owner = scheme.owners()[ledgers.len()];
         match ledger_in(alloc, scheme, owner, database) {
             Ok(ledger) => ledgers.push_reserved(ledger),
             Err((database, fault)) => {

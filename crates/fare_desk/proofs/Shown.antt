@@ -62,19 +62,19 @@ module _ {O L : Type 0} (outbox : O → Standing OutboxValue) (ledger : L → St
   }
 
   -- one lane more of an owner's, and one owner's lanes more
-  pub lanes_more : (owner place device : ℕ) (found : Option ℕ) (a b c : Hub O L) (lane : Lane) (x y z : List ℕ) → found ≡ id_at b.scheme.devices place → found ≡ Some device → AddsLanes outbox ledger (lanes_with owner (take place (keys_of a.scheme.devices))) a b x y
+  pub lanes_more : (owner place device : ℕ) (a b c : Hub O L) (lane : Lane) (x y z : List ℕ) → id_at b.scheme.devices place ≡ Some device → AddsLanes outbox ledger (lanes_with owner (take place (keys_of a.scheme.devices))) a b x y
       → OnlyAsks outbox ledger b c → (AreClean outbox ledger c → AreSound outbox ledger b → (h : StoresValue) → MayStandAs outbox ledger c h → IsLane h owner device lane) → z ≡ y ++ lane_line owner device lane
       → AddsLanes outbox ledger (lanes_with owner (take (place + 1) (keys_of a.scheme.devices))) a c x z
-  lanes_more owner place device found a b c lane x y z at is s asks tells grown =
-      let here : id_at a.scheme.devices place ≡ Some device = ap (λ (sc : SchemeValue). id_at sc.devices place) (sym s.asks.scheme) ∙ (sym at ∙ is) in
+  lanes_more owner place device a b c lane x y z at s asks tells grown =
+      let here : id_at a.scheme.devices place ≡ Some device = ap (λ (sc : SchemeValue). id_at sc.devices place) (sym s.asks.scheme) ∙ at in
       subst (λ (l : List (ℕ × ℕ)). AddsLanes outbox ledger l a c x z) (devices_more owner a.scheme.devices place device here)
       (lanes_then a b c (lanes_with owner (take place (keys_of a.scheme.devices))) ((owner, device) ∷ []) x y z s (lane_one b c owner device lane y z asks tells grown))
 
-  pub owner_more : (place owner : ℕ) (found : Option ℕ) (a b c : Hub O L) (x y z : List ℕ) → found ≡ id_at b.scheme.owners place → found ≡ Some owner → AddsLanes outbox ledger (lanes_over (take place (keys_of a.scheme.owners)) (keys_of a.scheme.devices)) a b x y
+  pub owner_more : (place owner : ℕ) (a b c : Hub O L) (x y z : List ℕ) → id_at b.scheme.owners place ≡ Some owner → AddsLanes outbox ledger (lanes_over (take place (keys_of a.scheme.owners)) (keys_of a.scheme.devices)) a b x y
       → AddsLanes outbox ledger (lanes_with owner (keys_of b.scheme.devices)) b c y z → AddsLanes outbox ledger (lanes_over (take (place + 1) (keys_of a.scheme.owners)) (keys_of a.scheme.devices)) a c x z
-  owner_more place owner found a b c x y z at is s one =
+  owner_more place owner a b c x y z at s one =
       let ds = keys_of a.scheme.devices in
-      let here : id_at a.scheme.owners place ≡ Some owner = ap (λ (sc : SchemeValue). id_at sc.owners place) (sym s.asks.scheme) ∙ (sym at ∙ is) in
+      let here : id_at a.scheme.owners place ≡ Some owner = ap (λ (sc : SchemeValue). id_at sc.owners place) (sym s.asks.scheme) ∙ at in
       let own : AddsLanes outbox ledger (lanes_with owner ds) b c y z = subst (λ (sc : SchemeValue). AddsLanes outbox ledger (lanes_with owner (keys_of sc.devices)) b c y z) s.asks.scheme one in
       subst (λ (l : List (ℕ × ℕ)). AddsLanes outbox ledger l a c x z) (owners_more ds a.scheme.owners place owner here)
       (lanes_then a b c (lanes_over (take place (keys_of a.scheme.owners)) ds) (lanes_with owner ds) x y z s own)

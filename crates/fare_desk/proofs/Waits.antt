@@ -172,11 +172,11 @@ module _ {O L : Type 0} (outbox : O → Standing OutboxValue) (ledger : L → St
         lanes_more h owner devices device old lane new (was.waits before sound h (asks.same clean (was.asks.sound sound) h may)) (tells clean (was.asks.sound sound) h may) is;
   }
 
-  pub waiting_push : (owner place device : ℕ) (found : Option ℕ) (a b c : Hub O L) (old lane new : Waiting) → found ≡ id_at b.scheme.devices place → found ≡ Some device → TellsWaiting outbox ledger owner (take place (keys_of a.scheme.devices)) a b old
+  pub waiting_push : (owner place device : ℕ) (a b c : Hub O L) (old lane new : Waiting) → id_at b.scheme.devices place ≡ Some device → TellsWaiting outbox ledger owner (take place (keys_of a.scheme.devices)) a b old
       → OnlyAsks outbox ledger b c → (AreClean outbox ledger c → AreSound outbox ledger b → (h : StoresValue) → MayStandAs outbox ledger c h → WaitsInLane h owner device lane)
       → IsAndLane old lane new → TellsWaiting outbox ledger owner (take (place + 1) (keys_of a.scheme.devices)) a c new
-  waiting_push owner place device found a b c old lane new at is was asks tells and =
-      let here : id_at a.scheme.devices place ≡ Some device = ap (λ (sc : SchemeValue). id_at sc.devices place) (sym was.asks.scheme) ∙ (sym at ∙ is) in
+  waiting_push owner place device a b c old lane new at was asks tells and =
+      let here : id_at a.scheme.devices place ≡ Some device = ap (λ (sc : SchemeValue). id_at sc.devices place) (sym was.asks.scheme) ∙ at in
       subst (λ (l : List ℕ). TellsWaiting outbox ledger owner l a c new) (sym (keys_more a.scheme.devices place device here))
       (waiting_more owner (take place (keys_of a.scheme.devices)) device a b c old lane new was asks tells and)
 

@@ -1,6 +1,6 @@
 -- What goes of a lane, by steps and at once.
-use Rattle.std.proofs.Common.{◌≡◌, ℕ, zero, suc, ◌+◌, ◌≤◌, ◌<◌, ◌==◌, Bool, true, false, nat_lt, cond, List, [], ◌∷◌, ◌++◌, length, drop, Option, Some, None, refl, sym, ap, ◌∙◌, arith, inl, inr}
-use Rattle.std.specs.Prelude.{◌||◌, ◌⊎◌, ◌-◌, max, replicate, is_some, if◌then◌else◌}
+use Rattle.std.proofs.Common.{◌≡◌, ℕ, zero, suc, ◌+◌, ◌≤◌, ◌<◌, ◌==◌, Bool, true, false, nat_lt, cond, List, [], ◌∷◌, ◌++◌, drop, Option, None, refl, sym, ap, ◌∙◌, arith, inl, inr}
+use Rattle.std.specs.Prelude.{◌||◌, ◌-◌, max, replicate, is_some, if◌then◌else◌}
 use Rattle.std.proofs.lemmas.Bool.{cases_lt}
 use Rattle.std.proofs.lemmas.Bool.Decides.{nat_tests}
 use Rattle.std.proofs.lemmas.List.{drop-drop}
@@ -10,7 +10,7 @@ use Rattle.fare_store.specs.LedgerWords.{LedgerValue, blank, let_go, is_past, fr
 use Rattle.fare_store.specs.OutboxWords.{OutboxValue, without_statements, stated_before}
 use Rattle.fare_store.proofs.Entries.{put_here, put2_here}
 use Rattle.fare_store.proofs.LettingGo.{front_filled, let_go_filled}
-use Rattle.fare_history.specs.Stores.{StoresValue, Forgets, forgotten_by_ledger, stores_after}
+use Rattle.fare_history.specs.Stores.{StoresValue, Forgets, forgotten_by_ledger}
 use Rattle.fare_agreement.specs.Stopping.{IsLeftBy}
 use Rattle.fare_desk.specs.Forgetting.{HasRest, is_over, let_lane_go, without}
 

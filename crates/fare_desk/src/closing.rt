@@ -150,10 +150,8 @@ fn close_owner<O: Outbox, L: Ledger, W: Write>(
     ensures closed { OnOk result (HasClosedLanes O.standing L.standing (lanes_with owner (keys_of hub.old.scheme.devices)) hub.old hub.new (W.contents output.old) (W.contents output.new)) }
     ensures unnamed { IfErr result (λ fault. is_refusal fault ≡ false) }
 {
-    for place in 0..hub.scheme.device_count() {
-        let Some(device) = hub.scheme.device_at(place) else {
-            unreachable!()
-        };
+    for place in 0..hub.scheme.devices().len() {
+        let device = hub.scheme.devices()[place];
         close_lane(alloc, hub, owner, device, output)?;
     }
     Ok(())
@@ -176,10 +174,8 @@ pub fn close_days<O: Outbox, L: Ledger, W: Write>(
     ensures closed { OnOk result (HasClosedLanes O.standing L.standing (lanes_of hub.old.scheme) hub.old hub.new (W.contents output.old) (W.contents output.new)) }
     ensures unnamed { IfErr result (λ fault. is_refusal fault ≡ false) }
 {
-    for place in 0..hub.scheme.owner_count() {
-        let Some(owner) = hub.scheme.owner_at(place) else {
-            unreachable!()
-        };
+    for place in 0..hub.scheme.owners().len() {
+        let owner = hub.scheme.owners()[place];
         close_owner(alloc, hub, owner, output)?;
     }
     Ok(())

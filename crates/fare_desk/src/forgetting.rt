@@ -248,10 +248,8 @@ fn forget_owner<O: Outbox, L: Ledger, W: Write>(
     ensures rest { IfErr result (λ _. ComesOf O.standing L.standing hub.old hub.new (LeavesSome day (lanes_with owner (keys_of hub.old.scheme.devices)))) }
     ensures unnamed { IfErr result (λ fault. is_refusal fault ≡ false) }
 {
-    for place in 0..hub.scheme.device_count() {
-        let Some(device) = hub.scheme.device_at(place) else {
-            unreachable!()
-        };
+    for place in 0..hub.scheme.devices().len() {
+        let device = hub.scheme.devices()[place];
         forget_lane(alloc, hub, owner, device, day, output)?;
     }
     Ok(())
@@ -278,10 +276,8 @@ pub fn forget_days<O: Outbox, L: Ledger, W: Write>(
     ensures unnamed { IfErr result (λ fault. is_refusal fault ≡ false) }
 {
     let first = week_start(&hub.scheme, day);
-    for place in 0..hub.scheme.owner_count() {
-        let Some(owner) = hub.scheme.owner_at(place) else {
-            unreachable!()
-        };
+    for place in 0..hub.scheme.owners().len() {
+        let owner = hub.scheme.owners()[place];
         forget_owner(alloc, hub, owner, first, output)?;
     }
     Ok(())

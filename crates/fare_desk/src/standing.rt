@@ -273,10 +273,8 @@ fn add_owner<O: Outbox, L: Ledger>(
     ensures asks { OnlyAsks O.standing L.standing hub.old hub.new }
     ensures adds { OnOk result (AddsLanes O.standing L.standing (lanes_with owner (keys_of hub.old.scheme.devices)) hub.old hub.new (string_bytes text.old) (string_bytes text.new)) }
 {
-    for place in 0..hub.scheme.device_count() {
-        let Some(device) = hub.scheme.device_at(place) else {
-            unreachable!()
-        };
+    for place in 0..hub.scheme.devices().len() {
+        let device = hub.scheme.devices()[place];
         let lane = lane_of(hub, owner, device)?;
         add_lane(alloc, owner, device, lane, text)?;
     }
@@ -293,10 +291,8 @@ fn add_lanes<O: Outbox, L: Ledger>(
     ensures asks { OnlyAsks O.standing L.standing hub.old hub.new }
     ensures adds { OnOk result (AddsLanes O.standing L.standing (lanes_of hub.old.scheme) hub.old hub.new (string_bytes text.old) (string_bytes text.new)) }
 {
-    for place in 0..hub.scheme.owner_count() {
-        let Some(owner) = hub.scheme.owner_at(place) else {
-            unreachable!()
-        };
+    for place in 0..hub.scheme.owners().len() {
+        let owner = hub.scheme.owners()[place];
         add_owner(alloc, hub, owner, text)?;
     }
     Ok(())
@@ -328,10 +324,8 @@ fn add_uptos<O: Outbox, L: Ledger>(
     ensures asks { OnlyAsks O.standing L.standing hub.old hub.new }
     ensures adds { OnOk result (AddsUptos O.standing L.standing (keys_of hub.old.scheme.devices) hub.old hub.new (string_bytes text.old) (string_bytes text.new)) }
 {
-    for place in 0..hub.scheme.device_count() {
-        let Some(device) = hub.scheme.device_at(place) else {
-            unreachable!()
-        };
+    for place in 0..hub.scheme.devices().len() {
+        let device = hub.scheme.devices()[place];
         let upto = ask_upto(hub, device)?;
         add_upto(alloc, device, upto, text)?;
     }

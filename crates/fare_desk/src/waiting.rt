@@ -207,10 +207,8 @@ fn waits_for<O: Outbox, L: Ledger>(hub: &mut Hub<O, L>, owner: OwnerId) -> Resul
     ensures tells { IfOk result (TellsOwner O.standing L.standing owner hub.old hub.new) }
 {
     let mut waiting = Waiting::none();
-    for place in 0..hub.scheme.device_count() {
-        let Some(device) = hub.scheme.device_at(place) else {
-            unreachable!()
-        };
+    for place in 0..hub.scheme.devices().len() {
+        let device = hub.scheme.devices()[place];
         let lane = waits_in_lane(hub, owner, device)?;
         waiting = waiting.and(lane);
     }
@@ -233,10 +231,8 @@ pub fn what_waits<O: Outbox, L: Ledger>(
     let Ok(mut waits) = Vec::with_capacity(alloc, hub.scheme.owner_count()) else {
         return Err(DeskFault::Memory);
     };
-    for place in 0..hub.scheme.owner_count() {
-        let Some(owner) = hub.scheme.owner_at(place) else {
-            unreachable!()
-        };
+    for place in 0..hub.scheme.owners().len() {
+        let owner = hub.scheme.owners()[place];
         let waiting = match waits_for(hub, owner) {
             Ok(waiting) => waiting,
             Err(fault) => return Err(DeskFault::from(fault)),

@@ -1,8 +1,8 @@
 -- Several rows at once: what is asked of each, and what the tables then hold.
 use Rattle.std.proofs.Common.{◌≡◌, ◌⊎◌, inl, inr, ℕ, ◌+◌, ◌==◌, ◌||◌, ◌<◌, ◌≤◌, nat_lt, nat_le, min, if◌then◌else◌, Bool, true, false, List, [], ◌∷◌, ◌++◌, length, take, drop, Some, None, Ok, Err, Result, refl, sym, ap, subst, ◌∙◌, arith}
 use Rattle.std.specs.Prelude.{Option, is_some, unwrap_or, IsErrAnd}
-use Rattle.std.specs.List.{AllByRecursion}
-use Rattle.std.proofs.lemmas.Bool.{cases_Bool}
+use Rattle.std.specs.List.{AllByRecursion, list_any}
+use Rattle.std.proofs.lemmas.Bool.{cases_Bool, or_parts}
 use Rattle.std.proofs.lemmas.Bool.Decides.{nat_tests}
 use Rattle.std.proofs.lemmas.List.{length_push}
 use Rattle.sqlite.specs.Effect.{Database, IsDatabase}
@@ -29,6 +29,11 @@ use Rattle.fare_outbox.proofs.Judged.{welcome, may_store}
 use Rattle.fare_outbox.proofs.Keyed.{put_at}
 use Rattle.fare_outbox.proofs.Lanes.{store_value, store_fits}
 use Rattle.fare_outbox.proofs.Stored.{becomes_left, becomes_well, left_held}
+
+-- ---- none of which a test holds
+pub none_of : {X : Type 0} (test : X → Bool) (xs : List X) → list_any test xs ≡ false → AllByRecursion (λ x. test x ≡ false) xs
+none_of test [] none = tt
+none_of test (x ∷ xs) none = let parts = or_parts (test x) (list_any test xs) none in (parts.0, none_of test xs parts.1)
 
 -- ---- what is known behind some rows
 

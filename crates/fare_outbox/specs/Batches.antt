@@ -1,6 +1,6 @@
 -- Several rows at once, each behind the ones before it.
-use Rattle.std.specs.Prelude.{◌≡◌, ℕ, ◌≤◌, nat_le, ◌==◌, ◌&&◌, ◌||◌, Bool, false, if◌then◌else◌, List, [], ◌∷◌, take, Option, Some, None, Ok}
-use Rattle.std.specs.List.{AllByRecursion}
+use Rattle.std.specs.Prelude.{◌≡◌, ℕ, ◌≤◌, nat_le, ◌==◌, ◌&&◌, Bool, false, if◌then◌else◌, List, [], ◌∷◌, take, Option, Some, None, Ok}
+use Rattle.std.specs.List.{AllByRecursion, list_any}
 use Rattle.fare_record.specs.Values.{RecordValue}
 use Rattle.fare_store.specs.OutboxWords.{OutboxValue, store_judged, stored}
 use Rattle.fare_store.specs.Batches.{done_all, AreAccepted, IsRefusedFirst}
@@ -21,8 +21,7 @@ is_before r x = (x.owner == r.owner) && (x.device == r.device) && nat_le x.lane 
 
 -- one of these is
 abbrev pub any_before : RecordValue → List RecordValue → Bool
-any_before r [] = false
-any_before r (x ∷ rs) = is_before r x || any_before r rs
+any_before r rs = list_any (is_before r) rs
 
 -- no row is held from the row's place in its lane on
 abbrev pub IsEnd : OutboxValue → RecordValue → Type 0

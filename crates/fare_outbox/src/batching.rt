@@ -41,12 +41,7 @@ fn is_at(row: &Record, other: &Record) -> bool
 fn is_free(rows: &[Record], other: &Record) -> bool
     ensures { IsTrue result → IsFreeOf other.now rows.now }
 {
-    for row in rows {
-        if is_at(row, other) {
-            return false;
-        }
-    }
-    true
+    !rows.iter().any(|row| is_at(row, other))
 }
 
 // Whether a row is of the lane of another, and of no greater lane number.
@@ -60,12 +55,7 @@ fn is_before(row: &Record, other: &Record) -> bool
 fn any_before(rows: &[Record], other: &Record) -> bool
     ensures { result ≡ any_before other.now rows.now }
 {
-    for row in rows {
-        if is_before(row, other) {
-            return true;
-        }
-    }
-    false
+    rows.iter().any(|row| is_before(row, other))
 }
 
 // Whether a row comes behind these, by the greatest link of its device behind them, whether its lane ended before it,

@@ -1,13 +1,13 @@
 -- Several rows at once.
-use Rattle.std.specs.Prelude.{ℕ, ◌==◌, ◌&&◌, ◌||◌, Bool, false, if◌then◌else◌, List, [], ◌∷◌, ◌++◌}
+use Rattle.std.specs.Prelude.{ℕ, ◌==◌, ◌&&◌, Bool, if◌then◌else◌, List, [], ◌∷◌, ◌++◌}
+use Rattle.std.specs.List.{list_any}
 use Rattle.fare_record.specs.Values.{RecordValue}
 use Rattle.fare_store.specs.Batches.{done_all}
 use Rattle.fare_outbox_rows.specs.Held.{Held, with_tap}
 
 -- one of these is of a device
 abbrev pub names : ℕ → List RecordValue → Bool
-names device [] = false
-names device (r ∷ rs) = (r.device == device) || names device rs
+names device rs = list_any (λ r. r.device == device) rs
 
 -- the tables hold this too, but the greatest link of its device only where it is the last row of the device to come
 abbrev pub with_tap_if : Bool → RecordValue → Held → Held

@@ -126,12 +126,7 @@ fn put_next<S: Alter>(
 fn names(rows: &[Record], device: DeviceId) -> bool
     ensures { result ≡ names device rows.now }
 {
-    for row in rows {
-        if row.device() == device {
-            return true;
-        }
-    }
-    false
+    rows.iter().any(|row| row.device() == device)
 }
 
 // The rows, and the greatest link of each of their devices once, with its last row.

@@ -38,10 +38,8 @@ fn serve_owners<
     ensures failed { IfErr result (HaveFailedOwners S.talk O.standing L.standing hub.old hub.new) }
     ensures fault { IfErr result (λ fault. fault ≢ ServeFault.Write) }
 {
-    for place in 0..hub.scheme.owner_count() {
-        let Some(owner) = hub.scheme.owner_at(place) else {
-            unreachable!()
-        };
+    for place in 0..hub.scheme.owners().len() {
+        let owner = hub.scheme.owners()[place];
         let report = serve_once::<S, O, L, G, R>(rt, alloc, gate, turns, hub, place, owner)?;
         counts.add_owner(place, &report);
     }

@@ -2,13 +2,14 @@ use Rattle.std.proofs.Common.{◌≡◌, ◌+◌, ◌<◌, ◌++◌, ◌∷◌, 
 use Rattle.std.specs.Prelude.{slice_get}
 use Rattle.std.specs.Vec.Iter.{into_iter_len, into_iter_items}
 use Rattle.std.proofs.lemmas.List.{length_push}
+use Rattle.std.proofs.lemmas.Map.Entries.{length-keys_of}
 use Rattle.sqlite.specs.Held.{state}
 use Rattle.fare_scheme.specs.Words.{id_at}
+use Rattle.fare_scheme.proofs.Slices.{entry_at}
 use Rattle.fare_ledger.specs.Words.{stands}
 use Rattle.fare_databases.specs.Closed.{AreHandedBack}
 use Rattle.fare_databases.specs.Holding.{AreStaying}
 use Rattle.fare_databases.specs.Opened.{IsOpenedLedger}
-use Rattle.fare_collect.proofs.Last.{at_known}
 use Rattle.fare_databases.proofs.Back.{back_again, nothing_at}
 use Rattle.fare_databases.proofs.Pushed.{each_more}
 use Rattle.fare_databases.proofs.opening.ledgers_in.Goals as goal
@@ -28,13 +29,14 @@ loop-database-init g c =
       ap length gives ∙ sym many,
     )
 
-pub unreachable-requires : goal.unreachable-requires
-unreachable-requires g c =
+pub index-requires : goal.index-requires
+index-requires g c =
     let at : c.len.result ≡ length c.loop-database.ledgers.items = search rules in
     let fewer : into_iter_len c.next.new.self + 1 ≡ into_iter_len c.loop-database.waiting = c.in-Some.ensures.cases.1 in
     let count = c.loop-database.invariant.0 in
-    let less : c.len.result < length c.args.scheme.now.owners = omega (arith, at, fewer, count) in
-    at_known c.args.scheme.now.owners c.len.result less (sym c.owner_at.ensures.value ∙ c.in_default-owner_at.is)
+    let ids = ap length c.owners.ensures.value in
+    let entries = length-keys_of c.args.scheme.now.owners in
+    omega (arith, at, fewer, count, ids, entries)
 
 pub loop-database-preserved : goal.loop-database-preserved
 loop-database-preserved g c =
@@ -44,7 +46,7 @@ loop-database-preserved g c =
     let i = c.loop-database.invariant in
     let ledger = c.in-Ok.ledger in
     let at : c.len.result ≡ length xs = search rules in
-    let known : id_at sc.owners (length xs) ≡ Some c.in-Some-owner_at.owner = ap (id_at sc.owners) (sym at) ∙ sym c.owner_at.ensures.value ∙ c.in-Some-owner_at.is in
+    let known : id_at sc.owners (length xs) ≡ Some c.index.result = ap (id_at sc.owners) (sym at) ∙ entry_at sc.owners c.owners.result.now c.len.result c.index.result c.owners.ensures.value (search rules) c.index.is in
     let items = c.in-Some.ensures.items in
     let here : length xs + 0 ≡ length xs = omega arith in
     let there : slice_get ds (length xs) ≡ Some c.in-Some.database = ap (slice_get ds) (sym here) ∙ (sym (i.2 0) ∙ ap (λ l. slice_get l 0) items) in
@@ -55,7 +57,7 @@ loop-database-preserved g c =
     let long : length (into_iter_items c.loop-database.waiting) ≡ suc (length (into_iter_items c.next.new.self)) = ap length items in
     let same = i.5 in (
       omega (arith, grown, fewer, count),
-      λ k x owner d e known_k there_k. each_more sc.owners ds (λ o d y. IsOpenedLedger sc o (state g.S.Store d) (stands g.S.Store y)) xs ledger c.in-Some-owner_at.owner c.in-Some.database i.1 known there c.in-Ok.ensures.opened k x owner d (ap (λ l. slice_get l k) (sym pushed) ∙ e) known_k there_k,
+      λ k x owner d e known_k there_k. each_more sc.owners ds (λ o d y. IsOpenedLedger sc o (state g.S.Store d) (stands g.S.Store y)) xs ledger c.index.result c.in-Some.database i.1 known there c.in-Ok.ensures.opened k x owner d (ap (λ l. slice_get l k) (sym pushed) ∙ e) known_k there_k,
       λ k.
           let next : length xs + suc k ≡ length c.push_reserved.new.self.items + k = omega (arith, grown) in
           ap (λ l. slice_get l (suc k)) (sym items) ∙ (i.2 (suc k) ∙ ap (slice_get ds) next),
@@ -71,7 +73,7 @@ returns-in-Err-clause-stay g c =
     let xs = c.loop-database.ledgers.items in
     let i = c.loop-database.invariant in
     let at : c.len.result ≡ length xs = search rules in
-    let known : id_at sc.owners (length xs) ≡ Some c.in-Some-owner_at.owner = ap (id_at sc.owners) (sym at) ∙ sym c.owner_at.ensures.value ∙ c.in-Some-owner_at.is in
+    let known : id_at sc.owners (length xs) ≡ Some c.index.result = ap (id_at sc.owners) (sym at) ∙ entry_at sc.owners c.owners.result.now c.len.result c.index.result c.owners.ensures.value (search rules) c.index.is in
     let items = c.in-Some.ensures.items in
     let here : length xs + 0 ≡ length xs = omega arith in
     let there : slice_get ds (length xs) ≡ Some c.in-Some.database = ap (slice_get ds) (sym here) ∙ (sym (i.2 0) ∙ ap (λ l. slice_get l 0) items) in
@@ -86,7 +88,7 @@ returns-in-Err-clause-stay g c =
     let back = subst (λ before. AreHandedBack g.S.Store xs before after) empty c.hand_back.ensures.back in
     let whole = c.hand_on.ensures ∙ ap (λ l. l ++ rest) c.push_reserved-in-Err.ensures.items in
     subst (λ l. AreStaying (λ d. state g.S.Store d) sc ds l) (sym whole)
-    (back_again g.S.Store sc (record { settled = g.met.S.Store.settled; survives = g.met.S.Store.survives }) ds xs c.in-Some-owner_at.owner c.in-Some.database c.in-Err.database rest after i.1 known there c.in-Err.ensures.stays (λ k. ap (λ l. slice_get l (suc k)) (sym items) ∙ i.2 (suc k)) many back)
+    (back_again g.S.Store sc (record { settled = g.met.S.Store.settled; survives = g.met.S.Store.survives }) ds xs c.index.result c.in-Some.database c.in-Err.database rest after i.1 known there c.in-Err.ensures.stays (λ k. ap (λ l. slice_get l (suc k)) (sym items) ∙ i.2 (suc k)) many back)
 
 pub returns-clause-opened : goal.returns-clause-opened
 returns-clause-opened g c =

@@ -1,22 +1,14 @@
-use Rattle.std.proofs.Common.{◌≡◌, [], ◌∷◌, length, take, sym, ap, ◌∙◌, subst, arith}
+use Rattle.std.proofs.Common.{◌≡◌, [], ◌∷◌, take, sym, ap, ◌∙◌, rules}
 use Rattle.std.specs.Map.{keys_of}
 use Rattle.fare_scheme.specs.Words.{id_at}
-use Rattle.fare_collect.proofs.Last.{at_known}
-use Rattle.fare_desk.specs.Closing.{HasClosedLanes, lanes_with}
+use Rattle.fare_scheme.proofs.Slices.{entry_at}
+use Rattle.fare_desk.specs.Closing.{lanes_with}
 use Rattle.fare_desk.proofs.Going.{goes_join}
-use Rattle.fare_desk.proofs.Lanes.{over_none, over_more, devices_more, keys_all}
+use Rattle.fare_desk.proofs.Lanes.{over_none, over_more, devices_more}
 use Rattle.fare_desk.proofs.closing.close_owner.Goals as goal
 
 pub loop-place-init : goal.loop-place-init
 loop-place-init g c = over_none g.O.Outbox.standing g.L.Ledger.standing c.args.hub.now (g.W.Write.contents c.args.output.now)
-
-pub unreachable-requires : goal.unreachable-requires
-unreachable-requires g c =
-    let lt = c.loop-place-test.true in
-    let all = c.device_count-place-end.ensures.value in
-    let same = c.loop-place.invariant.goes.scheme in
-    let n = ap (λ sc. length sc.devices) same in
-    at_known c.loop-place.hub.scheme.devices c.loop-place.place (omega (arith, lt, all, n)) (sym c.device_at.ensures.value ∙ c.in_default.is)
 
 pub returns-in_err-close_lane-clause-goes : goal.returns-in_err-close_lane-clause-goes
 returns-in_err-close_lane-clause-goes g c = goes_join g.O.Outbox.standing g.L.Ledger.standing c.args.hub.now c.loop-place.hub c.close_lane.new.hub c.loop-place.invariant.goes c.close_lane.ensures.goes
@@ -26,13 +18,6 @@ loop-place-preserved g c =
     let s = c.loop-place.invariant in
     let old = c.args.hub.now in
     let ds = old.scheme.devices in
-    let at : id_at ds c.loop-place.place ≡ _ = ap (λ sc. id_at sc.devices c.loop-place.place) (sym s.goes.scheme) ∙ (sym c.device_at.ensures.value ∙ c.in-Some.is) in
-    over_more g.O.Outbox.standing g.L.Ledger.standing old c.loop-place.hub c.close_lane.new.hub (lanes_with c.args.owner (take c.loop-place.place (keys_of ds))) ((c.args.owner, c.in-Some.device) ∷ []) _
-    (g.W.Write.contents c.args.output.now) (g.W.Write.contents c.loop-place.output) (g.W.Write.contents c.close_lane.new.output) s c.close_lane.ensures.goes c.in_ok-close_lane.ensures.closed (devices_more c.args.owner ds c.loop-place.place c.in-Some.device at)
-
-pub returns-clause-closed : goal.returns-clause-closed
-returns-clause-closed g c =
-    let ds = c.args.hub.now.scheme.devices in
-    let past = c.loop-place-test.false in
-    let all = c.device_count-place-end.ensures.value in
-    subst (λ l. HasClosedLanes g.O.Outbox.standing g.L.Ledger.standing (lanes_with c.args.owner l) c.args.hub.now c.loop-place.hub (g.W.Write.contents c.args.output.now) (g.W.Write.contents c.loop-place.output)) (keys_all ds c.loop-place.place (omega (arith, past, all))) c.loop-place.invariant.closed
+    let at : id_at ds c.loop-place.place ≡ _ = ap (λ sc. id_at sc.devices c.loop-place.place) (sym s.goes.scheme) ∙ entry_at c.loop-place.hub.scheme.devices c.devices.result.now c.loop-place.place c.index-devices-place.result c.devices.ensures.value (search rules) c.index-devices-place.is in
+    over_more g.O.Outbox.standing g.L.Ledger.standing old c.loop-place.hub c.close_lane.new.hub (lanes_with c.args.owner (take c.loop-place.place (keys_of ds))) ((c.args.owner, c.index-devices-place.result) ∷ []) _
+    (g.W.Write.contents c.args.output.now) (g.W.Write.contents c.loop-place.output) (g.W.Write.contents c.close_lane.new.output) s c.close_lane.ensures.goes c.in_ok-close_lane.ensures.closed (devices_more c.args.owner ds c.loop-place.place c.index-devices-place.result at)

@@ -1,24 +1,15 @@
-use Rattle.std.proofs.Common.{◌≡◌, [], ◌∷◌, length, take, drop, ◌+◌, sym, ap, ◌∙◌, subst, arith}
+use Rattle.std.proofs.Common.{◌≡◌, [], ◌∷◌, take, drop, ◌+◌, sym, ap, ◌∙◌, rules}
 use Rattle.std.specs.Map.{keys_of}
 use Rattle.fare_scheme.specs.Words.{id_at}
-use Rattle.fare_collect.proofs.Last.{at_known}
+use Rattle.fare_scheme.proofs.Slices.{entry_at}
 use Rattle.fare_desk.specs.Closing.{lanes_with}
-use Rattle.fare_desk.specs.Forgetting.{LetsGo}
 use Rattle.fare_desk.proofs.Going.{letting_join}
-use Rattle.fare_desk.proofs.Lanes.{devices_more, keys_all}
+use Rattle.fare_desk.proofs.Lanes.{devices_more}
 use Rattle.fare_desk.proofs.LetGo.{devices_split, if_err, over_none, over_more, over_some}
 use Rattle.fare_desk.proofs.forgetting.forget_owner.Goals as goal
 
 pub loop-place-init : goal.loop-place-init
 loop-place-init g c = over_none g.O.Outbox.standing g.L.Ledger.standing c.args.hub.now c.args.day (g.W.Write.contents c.args.output.now)
-
-pub unreachable-requires : goal.unreachable-requires
-unreachable-requires g c =
-    let lt = c.loop-place-test.true in
-    let all = c.device_count-place-end.ensures.value in
-    let same = c.loop-place.invariant.goes.scheme in
-    let n = ap (λ sc. length sc.devices) same in
-    at_known c.loop-place.hub.scheme.devices c.loop-place.place (omega (arith, lt, all, n)) (sym c.device_at.ensures.value ∙ c.in_default.is)
 
 pub returns-in_err-forget_lane-clause-goes : goal.returns-in_err-forget_lane-clause-goes
 returns-in_err-forget_lane-clause-goes g c = letting_join g.O.Outbox.standing g.L.Ledger.standing c.args.hub.now c.loop-place.hub c.forget_lane.new.hub c.loop-place.invariant.goes c.forget_lane.ensures.goes
@@ -28,23 +19,16 @@ returns-in_err-forget_lane-clause-rest g c =
     let s = c.loop-place.invariant in
     let old = c.args.hub.now in
     let ds = old.scheme.devices in
-    let at : id_at ds c.loop-place.place ≡ _ = ap (λ sc. id_at sc.devices c.loop-place.place) (sym s.goes.scheme) ∙ (sym c.device_at.ensures.value ∙ c.in-Some.is) in
+    let at : id_at ds c.loop-place.place ≡ _ = ap (λ sc. id_at sc.devices c.loop-place.place) (sym s.goes.scheme) ∙ entry_at c.loop-place.hub.scheme.devices c.devices.result.now c.loop-place.place c.index-devices-place.result c.devices.ensures.value (search rules) c.index-devices-place.is in
     if_err c.from_residual.result _
-    (over_some g.O.Outbox.standing g.L.Ledger.standing old c.loop-place.hub c.forget_lane.new.hub c.args.day (lanes_with c.args.owner (take c.loop-place.place (keys_of ds))) ((c.args.owner, c.in-Some.device) ∷ []) (lanes_with c.args.owner (drop (c.loop-place.place + 1) (keys_of ds))) (lanes_with c.args.owner (keys_of ds))
-    (g.W.Write.contents c.args.output.now) (g.W.Write.contents c.loop-place.output) s c.forget_lane.ensures.goes c.forget_lane.ensures.rest (devices_split c.args.owner ds c.loop-place.place c.in-Some.device at))
+    (over_some g.O.Outbox.standing g.L.Ledger.standing old c.loop-place.hub c.forget_lane.new.hub c.args.day (lanes_with c.args.owner (take c.loop-place.place (keys_of ds))) ((c.args.owner, c.index-devices-place.result) ∷ []) (lanes_with c.args.owner (drop (c.loop-place.place + 1) (keys_of ds))) (lanes_with c.args.owner (keys_of ds))
+    (g.W.Write.contents c.args.output.now) (g.W.Write.contents c.loop-place.output) s c.forget_lane.ensures.goes c.forget_lane.ensures.rest (devices_split c.args.owner ds c.loop-place.place c.index-devices-place.result at))
 
 pub loop-place-preserved : goal.loop-place-preserved
 loop-place-preserved g c =
     let s = c.loop-place.invariant in
     let old = c.args.hub.now in
     let ds = old.scheme.devices in
-    let at : id_at ds c.loop-place.place ≡ _ = ap (λ sc. id_at sc.devices c.loop-place.place) (sym s.goes.scheme) ∙ (sym c.device_at.ensures.value ∙ c.in-Some.is) in
-    over_more g.O.Outbox.standing g.L.Ledger.standing old c.loop-place.hub c.forget_lane.new.hub c.args.day (lanes_with c.args.owner (take c.loop-place.place (keys_of ds))) ((c.args.owner, c.in-Some.device) ∷ []) _
-    (g.W.Write.contents c.args.output.now) (g.W.Write.contents c.loop-place.output) (g.W.Write.contents c.forget_lane.new.output) s c.forget_lane.ensures.goes c.in_ok-forget_lane.ensures.gone (devices_more c.args.owner ds c.loop-place.place c.in-Some.device at)
-
-pub returns-clause-gone : goal.returns-clause-gone
-returns-clause-gone g c =
-    let ds = c.args.hub.now.scheme.devices in
-    let past = c.loop-place-test.false in
-    let all = c.device_count-place-end.ensures.value in
-    subst (λ l. LetsGo g.O.Outbox.standing g.L.Ledger.standing c.args.day (lanes_with c.args.owner l) c.args.hub.now c.loop-place.hub (g.W.Write.contents c.args.output.now) (g.W.Write.contents c.loop-place.output)) (keys_all ds c.loop-place.place (omega (arith, past, all))) c.loop-place.invariant.gone
+    let at : id_at ds c.loop-place.place ≡ _ = ap (λ sc. id_at sc.devices c.loop-place.place) (sym s.goes.scheme) ∙ entry_at c.loop-place.hub.scheme.devices c.devices.result.now c.loop-place.place c.index-devices-place.result c.devices.ensures.value (search rules) c.index-devices-place.is in
+    over_more g.O.Outbox.standing g.L.Ledger.standing old c.loop-place.hub c.forget_lane.new.hub c.args.day (lanes_with c.args.owner (take c.loop-place.place (keys_of ds))) ((c.args.owner, c.index-devices-place.result) ∷ []) _
+    (g.W.Write.contents c.args.output.now) (g.W.Write.contents c.loop-place.output) (g.W.Write.contents c.forget_lane.new.output) s c.forget_lane.ensures.goes c.in_ok-forget_lane.ensures.gone (devices_more c.args.owner ds c.loop-place.place c.index-devices-place.result at)

@@ -1,5 +1,4 @@
 use Rattle.std.proofs.Common.{◌≤◌, arith}
-use Rattle.fare_desk.proofs.Lanes.{still_ledgers, still_known}
 use Rattle.fare_desk.proofs.LetGo.{some_self, some_then, some_once}
 use Rattle.fare_desk.proofs.forgetting.let_go_weeks.Goals as goal
 

@@ -1,4 +1,3 @@
-use Rattle.std.proofs.Common.{◌≡◌, refl}
 use Rattle.fare_desk.proofs.LetGo.{lane_is_gone, some_asked, some_then}
 use Rattle.fare_desk.proofs.forgetting.let_lane.Goals as goal
 

@@ -1,21 +1,13 @@
-use Rattle.std.proofs.Common.{[], length, sym, ap, ◌∙◌, subst, arith}
-use Rattle.fare_collect.proofs.Last.{at_known}
+use Rattle.std.proofs.Common.{[], sym, subst, rules}
+use Rattle.fare_scheme.proofs.Slices.{entry_at}
 use Rattle.fare_desk.specs.Waiting.{TellsWaiting}
 use Rattle.fare_desk.proofs.Asked.{asked_known, asked_ledgers, asks_join}
 use Rattle.fare_desk.proofs.Failing.{told_of_none}
-use Rattle.fare_desk.proofs.Lanes.{keys_all}
 use Rattle.fare_desk.proofs.Waits.{waiting_none, waiting_push}
 use Rattle.fare_desk.proofs.waiting.waits_for.Goals as goal
 
 pub loop-place-init : goal.loop-place-init
 loop-place-init g c = subst (TellsWaiting g.O.Outbox.standing g.L.Ledger.standing c.args.owner [] c.args.hub.now c.args.hub.now) (sym c.none-waiting.ensures) (waiting_none g.O.Outbox.standing g.L.Ledger.standing c.args.owner c.args.hub.now)
-
-pub unreachable-requires : goal.unreachable-requires
-unreachable-requires g c =
-    let lt = c.loop-place-test.true in
-    let all = c.device_count-place-end.ensures.value in
-    let n = ap (λ sc. length sc.devices) c.loop-place.invariant.asks.scheme in
-    at_known c.loop-place.hub.scheme.devices c.loop-place.place (omega (arith, lt, all, n)) (sym c.device_at.ensures.value ∙ c.in_default.is)
 
 pub waits_in_lane-requires-clause-ledgers : goal.waits_in_lane-requires-clause-ledgers
 waits_in_lane-requires-clause-ledgers g c = asked_ledgers g.O.Outbox.standing g.L.Ledger.standing c.args.hub.now c.loop-place.hub c.loop-place.invariant.asks c.requires.ledgers
@@ -31,14 +23,8 @@ returns-in_err-lane-clause-tells g c = told_of_none c.from_residual.result _ _ c
 
 pub loop-place-preserved : goal.loop-place-preserved
 loop-place-preserved g c =
-    waiting_push g.O.Outbox.standing g.L.Ledger.standing c.args.owner c.loop-place.place c.in-Some.device c.device_at.result c.args.hub.now c.loop-place.hub c.waits_in_lane.new.hub c.loop-place.waiting c.in_ok-lane.lane c.and-waiting.result
-    c.device_at.ensures.value c.in-Some.is c.loop-place.invariant c.waits_in_lane.ensures.asks c.in_ok-lane.ensures.tells c.and-waiting.ensures
+    waiting_push g.O.Outbox.standing g.L.Ledger.standing c.args.owner c.loop-place.place c.index-devices-place.result c.args.hub.now c.loop-place.hub c.waits_in_lane.new.hub c.loop-place.waiting c.in_ok-lane.lane c.and-waiting.result
+    (entry_at c.loop-place.hub.scheme.devices c.devices.result.now c.loop-place.place c.index-devices-place.result c.devices.ensures.value (search rules) c.index-devices-place.is) c.loop-place.invariant c.waits_in_lane.ensures.asks c.in_ok-lane.ensures.tells c.and-waiting.ensures
 
 pub returns-clause-asks : goal.returns-clause-asks
 returns-clause-asks g c = c.loop-place.invariant.asks
-
-pub returns-clause-tells : goal.returns-clause-tells
-returns-clause-tells g c =
-    let past = c.loop-place-test.false in
-    let all = c.device_count-place-end.ensures.value in
-    subst (λ l. TellsWaiting g.O.Outbox.standing g.L.Ledger.standing c.args.owner l c.args.hub.now c.loop-place.hub c.loop-place.waiting) (keys_all c.args.hub.now.scheme.devices c.loop-place.place (omega (arith, past, all))) c.loop-place.invariant

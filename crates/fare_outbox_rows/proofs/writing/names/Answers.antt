@@ -1,0 +1,8 @@
+use Rattle.std.proofs.Common.{◌==◌, rules, tests}
+use Rattle.std.proofs.lemmas.Iterator.{YieldsList-from_slice}
+use Rattle.std.proofs.lemmas.Iterator.Search.{any_from_yields_List}
+use Rattle.fare_record.specs.Values.{RecordValue}
+use Rattle.fare_outbox_rows.proofs.writing.names.Goals as goal
+
+pub returns : goal.returns
+returns c = any_from_yields_List (λ (r : RecordValue). r.device == c.args.device) _ _ _ c.any.ensures.ran (YieldsList-from_slice c.args.rows.now cc) (λ x b q k. search (rules, tests))
