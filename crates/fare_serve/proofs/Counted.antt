@@ -48,12 +48,6 @@ take_after (k ∷ ks) (suc place) x at = ap (λ (l : List ℕ). k ∷ l) (take_a
 pub take_next : (ks : List ℕ) (place x : ℕ) → slice_get ks place ≡ Some x → take (place + 1) ks ≡ take place ks ++ x ∷ []
 take_next ks place x at = let next : place + 1 ≡ suc place = omega arith in ap (λ n. take n ks) next ∙ take_after ks place x at
 
--- a place within a list has an id
-pub id_within : {X : Type 0} (entries : List (ℕ × X)) (place : ℕ) → place < length entries → id_at entries place ≡ None → ⊥
-id_within [] place lt none = absurd (omega (arith, lt))
-id_within (e ∷ es) zero lt none = grind (arith, none)
-id_within (e ∷ es) (suc place) lt none = id_within es place (omega (arith, lt)) none
-
 -- all ids of a list
 pub all_ids : {X : Type 0} (entries : List (ℕ × X)) → take (length entries) (keys_of entries) ≡ keys_of entries
 all_ids entries = take_all (length entries) (keys_of entries) (let n = length-map entries (λ e. e.0) in omega (arith, n))

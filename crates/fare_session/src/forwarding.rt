@@ -49,22 +49,19 @@ fn put_item<G: Gate, R: Wait + Clock>(
 pub(crate) fn is_due(item: &Item, device: DeviceId, reached: u64) -> bool
     ensures { result ≡ is_due item.now device reached }
 {
-    if let Some(row) = item.tap() {
-        return row.device() == device && row.lane() - 1 == reached;
+    match item {
+        Item::Tap(row) => row.device() == device && row.lane() - 1 == reached,
+        Item::Stated(statement) => statement.device() == device,
     }
-    let Some(statement) = item.stated() else {
-        unreachable!()
-    };
-    statement.device() == device
 }
 
 // How far a lane is behind an item.
 pub(crate) fn lane_after(item: &Item, reached: u64) -> u64
     ensures { result ≡ lane_after item.now reached }
 {
-    match item.tap() {
-        Some(row) => row.lane(),
-        None => reached,
+    match item {
+        Item::Tap(row) => row.lane(),
+        Item::Stated(_) => reached,
     }
 }
 

@@ -50,13 +50,10 @@ fn keep<L: Ledger>(ledger: &mut L, item: &Item) -> Result<bool, SessionFault>
     ensures kept { IsKept (L.standing ledger.old) (L.standing ledger.new) item.now result }
     ensures dated { IsDated item.now }
 {
-    if let Some(row) = item.tap() {
-        return keep_tap(ledger, &row);
+    match item {
+        Item::Tap(row) => keep_tap(ledger, row),
+        Item::Stated(statement) => keep_statement(ledger, statement),
     }
-    let Some(statement) = item.stated() else {
-        unreachable!()
-    };
-    keep_statement(ledger, &statement)
 }
 
 /// An item goes to the ledger. `taken` counts those that are new there.

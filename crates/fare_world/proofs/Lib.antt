@@ -20,7 +20,6 @@ pub mod Keeping
 pub mod Stepping
 pub mod Closing
 pub mod OneOrder
-pub mod Items
 pub mod Showing
 pub mod WeekInOrder
 pub mod Bills

@@ -11,7 +11,7 @@ use Rattle.fare_world.specs.System.{LaneState}
 use Rattle.fare_side.specs.OpenDays.{is_closed}
 use Rattle.fare_world.specs.Headline.{numbered_by}
 use Rattle.fare_world.specs.Billing.{takes, retires, closes}
-use Rattle.fare_store.proofs.Entries.{if_all, is_one, other_way, put_here}
+use Rattle.fare_store.proofs.Entries.{is_one, other_way, put_here}
 use Rattle.fare_world.proofs.Lanes.{closed_put}
 
 -- QUIET ANSWERS

@@ -8,19 +8,16 @@ use fare_record::Item;
 pub(crate) fn drawn(item: &Item) -> Reply
     ensures { result ≡ drawn_item item.now }
 {
-    if let Some(row) = item.tap() {
-        return Reply::Drawn {
+    match item {
+        Item::Tap(row) => Reply::Drawn {
             device: row.device(),
             link: row.link(),
-        };
-    }
-    let Some(statement) = item.stated() else {
-        unreachable!()
-    };
-    Reply::DrawnDay {
-        device: statement.device(),
-        day: statement.day(),
-        owner: statement.owner(),
+        },
+        Item::Stated(statement) => Reply::DrawnDay {
+            device: statement.device(),
+            day: statement.day(),
+            owner: statement.owner(),
+        },
     }
 }
 
@@ -28,14 +25,11 @@ pub(crate) fn drawn(item: &Item) -> Reply
 pub(crate) fn forwarded(item: &Item) -> Reply
     ensures { result ≡ forwarded_item item.now }
 {
-    if let Some(row) = item.tap() {
-        return Reply::Forwarded { lane: row.lane() };
-    }
-    let Some(statement) = item.stated() else {
-        unreachable!()
-    };
-    Reply::ForwardedDay {
-        day: statement.day(),
+    match item {
+        Item::Tap(row) => Reply::Forwarded { lane: row.lane() },
+        Item::Stated(statement) => Reply::ForwardedDay {
+            day: statement.day(),
+        },
     }
 }
 
@@ -43,17 +37,14 @@ pub(crate) fn forwarded(item: &Item) -> Reply
 pub(crate) fn fetched(item: &Item) -> Reply
     ensures { result ≡ fetched_item item.now }
 {
-    if let Some(row) = item.tap() {
-        return Reply::Fetched {
+    match item {
+        Item::Tap(row) => Reply::Fetched {
             device: row.device(),
             lane: row.lane(),
-        };
-    }
-    let Some(statement) = item.stated() else {
-        unreachable!()
-    };
-    Reply::FetchedDay {
-        device: statement.device(),
-        day: statement.day(),
+        },
+        Item::Stated(statement) => Reply::FetchedDay {
+            device: statement.device(),
+            day: statement.day(),
+        },
     }
 }

@@ -126,13 +126,10 @@ impl<O: Outbox + Drop, L: Ledger + Drop> World<O, L> {
         let Some(item) = self.hand else {
             return Ok(Reply::Idle);
         };
-        if let Some(row) = item.tap() {
-            return self.store_tap(row);
+        match item {
+            Item::Tap(row) => self.store_tap(row),
+            Item::Stated(statement) => self.store_statement(statement),
         }
-        let Some(statement) = item.stated() else {
-            unreachable!()
-        };
-        self.store_statement(statement)
     }
 
     // The tap in the writer's hand goes to the outbox.

@@ -9,7 +9,7 @@ use crate::item_reply::{fetched, forwarded};
 use crate::world::World;
 use fare_event::{Refusal, Reply};
 use fare_owner::{CloseFault, RetireFault, StatementFault, TapFault};
-use fare_record::{Day, DeviceId, OwnerId, Record, Statement};
+use fare_record::{Day, DeviceId, Item, OwnerId, Record, Statement};
 use fare_store::{Fault, Ledger, Outbox, Refused};
 
 impl<O: Outbox + Drop, L: Ledger + Drop> World<O, L> {
@@ -70,13 +70,10 @@ impl<O: Outbox + Drop, L: Ledger + Drop> World<O, L> {
         let Some(item) = self.owners[at].hand else {
             return Ok(Reply::Idle);
         };
-        if let Some(row) = item.tap() {
-            return self.take_tap(owner, at, row);
+        match item {
+            Item::Tap(row) => self.take_tap(owner, at, row),
+            Item::Stated(statement) => self.take_statement(owner, at, statement),
         }
-        let Some(statement) = item.stated() else {
-            unreachable!()
-        };
-        self.take_statement(owner, at, statement)
     }
 
     // The tap in the hand of the owner at a place goes to its ledger.

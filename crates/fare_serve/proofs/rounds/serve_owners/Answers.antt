@@ -5,7 +5,7 @@ use Rattle.fare_scheme.specs.Values.{SchemeValue}
 use Rattle.fare_scheme.specs.Words.{id_at}
 use Rattle.fare_scheme.proofs.Slices.{entry_at}
 use Rattle.fare_serve.specs.Rounds.{HaveFailedOwners, HaveServedOwners}
-use Rattle.fare_serve.proofs.Counted.{entries_kept, id_within, owner_ledgers, owners_more, owners_none}
+use Rattle.fare_serve.proofs.Counted.{entries_kept, owner_ledgers, owners_more, owners_none}
 use Rattle.fare_serve.proofs.Coming.{are_serving}
 use Rattle.fare_serve.proofs.Failed.{first_owners, owners_failed, owners_of_scheme}
 use Rattle.fare_serve.proofs.rounds.serve_owners.Goals as goal

@@ -1,6 +1,5 @@
-use Rattle.std.proofs.Common.{ap, sym, ◌∙◌, Some, refl}
+use Rattle.std.proofs.Common.{ap, ◌∙◌, Some, refl}
 use Rattle.fare_world.specs.Whole.{seen, shape}
-use Rattle.fare_world.proofs.Items.{tap_item, stated_item, some_item}
 use Rattle.fare_world.proofs.ShowCollect.{shown_nothing}
 use Rattle.fare_world.proofs.Stores.{steps, same_stores}
 use Rattle.fare_world.proofs.world.World.store.Goals as goal
@@ -11,16 +10,13 @@ returns-in_default g c =
     steps g.O.Outbox.standing g.L.Ledger.standing c.args.self.now _ _ _ refl (same_stores _ _ refl refl) (λ s sh. shown_nothing w.scheme (shape w) s sh c.in_default.is)
 
 pub store_tap-requires : goal.store_tap-requires
-store_tap-requires g c = c.in-Some.is ∙ ap Some (tap_item c.in-Some.item c.in-Some-tap.row (sym c.tap.ensures ∙ c.in-Some-tap.is))
+store_tap-requires g c = c.in-Some.is ∙ ap Some c.in-Tap.is
 
-pub returns-in-Some-tap : goal.returns-in-Some-tap
-returns-in-Some-tap g c = c.store_tap.ensures
-
-pub unreachable-requires : goal.unreachable-requires
-unreachable-requires g c = some_item c.in-Some.item (sym c.tap.ensures ∙ c.in_default-tap.is) (sym c.stated.ensures ∙ c.in_default-stated.is)
+pub returns-in-Tap : goal.returns-in-Tap
+returns-in-Tap g c = c.store_tap.ensures
 
 pub store_statement-requires : goal.store_statement-requires
-store_statement-requires g c = c.in-Some.is ∙ ap Some (stated_item c.in-Some.item c.in-Some-stated.statement (sym c.stated.ensures ∙ c.in-Some-stated.is))
+store_statement-requires g c = c.in-Some.is ∙ ap Some c.in-Stated.is
 
-pub returns : goal.returns
-returns g c = c.store_statement.ensures
+pub returns-in-Stated : goal.returns-in-Stated
+returns-in-Stated g c = c.store_statement.ensures

@@ -7,7 +7,6 @@ use Rattle.fare_world.proofs.OwnersSeen.{owner_at, within_seen, owner_here}
 use Rattle.fare_world.proofs.Stores.{steps, same_stores}
 use Rattle.std.proofs.lemmas.Option.{same_Some}
 use Rattle.fare_world.proofs.ShowForward.{shown_take_idle, owner_read, shown_take_unknown}
-use Rattle.fare_world.proofs.Items.{tap_item, stated_item, some_item}
 use Rattle.fare_world.proofs.world.World.take.Goals as goal
 
 pub returns-in_default : goal.returns-in_default
@@ -29,26 +28,23 @@ take_tap-requires-clause-hand g c = λ x here.
     let xs = c.args.self.now.owners.items in
     let within : c.in-Some.at < length xs = omega (arith, c.in-Some.ensures.within, c.args.self.now.rooms.owner_count) in
     let one : c.index.result.now ≡ x = same_Some c.index.result.now x (sym (owner_here g.L.Ledger.standing xs c.in-Some.at c.index.result.now within c.index.ensures) ∙ here) in
-    subst (λ (z : Owner g.row.L.Denot). z.hand ≡ Some (item.Tap c.in-Some-tap.row)) one (c.in-Some-hand.is ∙ ap Some (tap_item c.in-Some-hand.item c.in-Some-tap.row (sym c.tap.ensures ∙ c.in-Some-tap.is)))
+    subst (λ (z : Owner g.row.L.Denot). z.hand ≡ Some (item.Tap c.in-Tap.row)) one (c.in-Some-hand.is ∙ ap Some c.in-Tap.is)
 
 pub take_tap-requires-clause-at : goal.take_tap-requires-clause-at
 take_tap-requires-clause-at g c = sym c.owner_position.ensures.value ∙ c.in-Some.is
 
-pub returns-in-Some-tap : goal.returns-in-Some-tap
-returns-in-Some-tap g c = c.take_tap.ensures
-
-pub unreachable-requires : goal.unreachable-requires
-unreachable-requires g c = some_item c.in-Some-hand.item (sym c.tap.ensures ∙ c.in_default-tap.is) (sym c.stated.ensures ∙ c.in_default-stated.is)
+pub returns-in-Tap : goal.returns-in-Tap
+returns-in-Tap g c = c.take_tap.ensures
 
 pub take_statement-requires-clause-hand : goal.take_statement-requires-clause-hand
 take_statement-requires-clause-hand g c = λ x here.
     let xs = c.args.self.now.owners.items in
     let within : c.in-Some.at < length xs = omega (arith, c.in-Some.ensures.within, c.args.self.now.rooms.owner_count) in
     let one : c.index.result.now ≡ x = same_Some c.index.result.now x (sym (owner_here g.L.Ledger.standing xs c.in-Some.at c.index.result.now within c.index.ensures) ∙ here) in
-    subst (λ (z : Owner g.row.L.Denot). z.hand ≡ Some (item.Stated c.in-Some-stated.statement)) one (c.in-Some-hand.is ∙ ap Some (stated_item c.in-Some-hand.item c.in-Some-stated.statement (sym c.stated.ensures ∙ c.in-Some-stated.is)))
+    subst (λ (z : Owner g.row.L.Denot). z.hand ≡ Some (item.Stated c.in-Stated.statement)) one (c.in-Some-hand.is ∙ ap Some c.in-Stated.is)
 
 pub take_statement-requires-clause-at : goal.take_statement-requires-clause-at
 take_statement-requires-clause-at g c = sym c.owner_position.ensures.value ∙ c.in-Some.is
 
-pub returns : goal.returns
-returns g c = c.take_statement.ensures
+pub returns-in-Stated : goal.returns-in-Stated
+returns-in-Stated g c = c.take_statement.ensures
