@@ -1,4 +1,4 @@
-ghost use Rattle.std.specs.Prelude.{◌≡◌, ◌<◌, false, length, IfOk};
+ghost use Rattle.std.specs.Prelude.{◌≡◌, false, length, IfOk};
 ghost use Rattle.sqlite_store.specs.FileStore.{view};
 ghost use Rattle.sqlite_wal.specs.Files.{image_at};
 ghost use Rattle.sqlite.specs.Files.{IsBlankAs, file_state};
@@ -8,6 +8,7 @@ ghost use Rattle.fare_databases.specs.Connected.{IsConnected, AreConnected};
 
 use crate::databases::{Databases, end, take_last};
 use fare_files::make_file;
+use fare_record::OwnerId;
 use fare_scheme::Scheme;
 use fare_store::Fault;
 use fare_tables::fault_of;
@@ -78,20 +79,15 @@ pub fn connect_file<S: Start>(
     }
 }
 
-// A connection to the database of the owner at a place of a scheme.
+// A connection to the database of an owner's ledger.
 fn connect_owner(
     rt: &HostRuntime,
-    scheme: &Scheme,
-    place: usize,
+    owner: OwnerId,
     path: &str,
     absent: Absent,
 ) -> Result<FileDatabase, Fault>
-    requires { place < length scheme.now.owners }
     ensures { IfOk result IsConnected }
 {
-    let Some(owner) = scheme.owner_at(place) else {
-        unreachable!()
-    };
     let number = owner.get();
     let path = format!(in rt.alloc(); "{path}.{number}")?;
     connect_file(rt, path.as_str(), absent, Unknown)
@@ -118,8 +114,8 @@ pub fn connect_files(
     ensures connected { IfOk result AreConnected }
 {
     let mut databases = Databases::first(rt.alloc(), connect_file(rt, path, absent, Unknown))?;
-    for place in 0..scheme.owner_count() {
-        databases = databases.and(connect_owner(rt, scheme, place, path, absent))?;
+    for owner in scheme.owners() {
+        databases = databases.and(connect_owner(rt, *owner, path, absent))?;
     }
     Ok(databases)
 }
