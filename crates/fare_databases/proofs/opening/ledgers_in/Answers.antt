@@ -29,8 +29,8 @@ loop-database-init g c =
       ap length gives ∙ sym many,
     )
 
-pub index-requires : goal.index-requires
-index-requires g c =
+pub index-owners-len-requires : goal.index-owners-len-requires
+index-owners-len-requires g c =
     let at : c.len.result ≡ length c.loop-database.ledgers.items = search rules in
     let fewer : into_iter_len c.next.new.self + 1 ≡ into_iter_len c.loop-database.waiting = c.in-Some.ensures.cases.1 in
     let count = c.loop-database.invariant.0 in
@@ -46,7 +46,7 @@ loop-database-preserved g c =
     let i = c.loop-database.invariant in
     let ledger = c.in-Ok.ledger in
     let at : c.len.result ≡ length xs = search rules in
-    let known : id_at sc.owners (length xs) ≡ Some c.index.result = ap (id_at sc.owners) (sym at) ∙ entry_at sc.owners c.owners.result.now c.len.result c.index.result c.owners.ensures.value (search rules) c.index.is in
+    let known : id_at sc.owners (length xs) ≡ Some c.index-owners-len.result = ap (id_at sc.owners) (sym at) ∙ entry_at sc.owners c.owners.result.now c.len.result c.index-owners-len.result c.owners.ensures.value (search rules) c.index-owners-len.is in
     let items = c.in-Some.ensures.items in
     let here : length xs + 0 ≡ length xs = omega arith in
     let there : slice_get ds (length xs) ≡ Some c.in-Some.database = ap (slice_get ds) (sym here) ∙ (sym (i.2 0) ∙ ap (λ l. slice_get l 0) items) in
@@ -57,7 +57,7 @@ loop-database-preserved g c =
     let long : length (into_iter_items c.loop-database.waiting) ≡ suc (length (into_iter_items c.next.new.self)) = ap length items in
     let same = i.5 in (
       omega (arith, grown, fewer, count),
-      λ k x owner d e known_k there_k. each_more sc.owners ds (λ o d y. IsOpenedLedger sc o (state g.S.Store d) (stands g.S.Store y)) xs ledger c.index.result c.in-Some.database i.1 known there c.in-Ok.ensures.opened k x owner d (ap (λ l. slice_get l k) (sym pushed) ∙ e) known_k there_k,
+      λ k x owner d e known_k there_k. each_more sc.owners ds (λ o d y. IsOpenedLedger sc o (state g.S.Store d) (stands g.S.Store y)) xs ledger c.index-owners-len.result c.in-Some.database i.1 known there c.in-Ok.ensures.opened k x owner d (ap (λ l. slice_get l k) (sym pushed) ∙ e) known_k there_k,
       λ k.
           let next : length xs + suc k ≡ length c.push_reserved.new.self.items + k = omega (arith, grown) in
           ap (λ l. slice_get l (suc k)) (sym items) ∙ (i.2 (suc k) ∙ ap (slice_get ds) next),
@@ -73,7 +73,7 @@ returns-in-Err-clause-stay g c =
     let xs = c.loop-database.ledgers.items in
     let i = c.loop-database.invariant in
     let at : c.len.result ≡ length xs = search rules in
-    let known : id_at sc.owners (length xs) ≡ Some c.index.result = ap (id_at sc.owners) (sym at) ∙ entry_at sc.owners c.owners.result.now c.len.result c.index.result c.owners.ensures.value (search rules) c.index.is in
+    let known : id_at sc.owners (length xs) ≡ Some c.index-owners-len.result = ap (id_at sc.owners) (sym at) ∙ entry_at sc.owners c.owners.result.now c.len.result c.index-owners-len.result c.owners.ensures.value (search rules) c.index-owners-len.is in
     let items = c.in-Some.ensures.items in
     let here : length xs + 0 ≡ length xs = omega arith in
     let there : slice_get ds (length xs) ≡ Some c.in-Some.database = ap (slice_get ds) (sym here) ∙ (sym (i.2 0) ∙ ap (λ l. slice_get l 0) items) in
@@ -88,7 +88,7 @@ returns-in-Err-clause-stay g c =
     let back = subst (λ before. AreHandedBack g.S.Store xs before after) empty c.hand_back.ensures.back in
     let whole = c.hand_on.ensures ∙ ap (λ l. l ++ rest) c.push_reserved-in-Err.ensures.items in
     subst (λ l. AreStaying (λ d. state g.S.Store d) sc ds l) (sym whole)
-    (back_again g.S.Store sc (record { settled = g.met.S.Store.settled; survives = g.met.S.Store.survives }) ds xs c.index.result c.in-Some.database c.in-Err.database rest after i.1 known there c.in-Err.ensures.stays (λ k. ap (λ l. slice_get l (suc k)) (sym items) ∙ i.2 (suc k)) many back)
+    (back_again g.S.Store sc (record { settled = g.met.S.Store.settled; survives = g.met.S.Store.survives }) ds xs c.index-owners-len.result c.in-Some.database c.in-Err.database rest after i.1 known there c.in-Err.ensures.stays (λ k. ap (λ l. slice_get l (suc k)) (sym items) ∙ i.2 (suc k)) many back)
 
 pub returns-clause-opened : goal.returns-clause-opened
 returns-clause-opened g c =
