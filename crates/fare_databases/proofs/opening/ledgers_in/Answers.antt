@@ -29,8 +29,8 @@ loop-database-init g c =
       ap length gives ∙ sym many,
     )
 
-pub index-owners-len-requires : goal.index-owners-len-requires
-index-owners-len-requires g c =
+pub bounds-owners-len : goal.bounds-owners-len
+bounds-owners-len g c =
     let at : c.len.result ≡ length c.loop-database.ledgers.items = search rules in
     let fewer : into_iter_len c.next.new.self + 1 ≡ into_iter_len c.loop-database.waiting = c.in-Some.ensures.cases.1 in
     let count = c.loop-database.invariant.0 in
@@ -46,7 +46,8 @@ loop-database-preserved g c =
     let i = c.loop-database.invariant in
     let ledger = c.in-Ok.ledger in
     let at : c.len.result ≡ length xs = search rules in
-    let known : id_at sc.owners (length xs) ≡ Some c.index-owners-len.result = ap (id_at sc.owners) (sym at) ∙ entry_at sc.owners c.owners.result.now c.len.result c.index-owners-len.result c.owners.ensures.value (search rules) c.index-owners-len.is in
+    let within : c.len.result < length c.owners.result.now = omega (arith, at, c.in-Some.ensures.cases.1, i.0, ap length c.owners.ensures.value, length-keys_of sc.owners) in
+    let known : id_at sc.owners (length xs) ≡ Some c.index-owners-len.result = ap (id_at sc.owners) (sym at) ∙ entry_at sc.owners c.owners.result.now c.len.result c.index-owners-len.result c.owners.ensures.value within c.index-owners-len.is in
     let items = c.in-Some.ensures.items in
     let here : length xs + 0 ≡ length xs = omega arith in
     let there : slice_get ds (length xs) ≡ Some c.in-Some.database = ap (slice_get ds) (sym here) ∙ (sym (i.2 0) ∙ ap (λ l. slice_get l 0) items) in
@@ -73,7 +74,8 @@ returns-in-Err-clause-stay g c =
     let xs = c.loop-database.ledgers.items in
     let i = c.loop-database.invariant in
     let at : c.len.result ≡ length xs = search rules in
-    let known : id_at sc.owners (length xs) ≡ Some c.index-owners-len.result = ap (id_at sc.owners) (sym at) ∙ entry_at sc.owners c.owners.result.now c.len.result c.index-owners-len.result c.owners.ensures.value (search rules) c.index-owners-len.is in
+    let within : c.len.result < length c.owners.result.now = omega (arith, at, c.in-Some.ensures.cases.1, i.0, ap length c.owners.ensures.value, length-keys_of sc.owners) in
+    let known : id_at sc.owners (length xs) ≡ Some c.index-owners-len.result = ap (id_at sc.owners) (sym at) ∙ entry_at sc.owners c.owners.result.now c.len.result c.index-owners-len.result c.owners.ensures.value within c.index-owners-len.is in
     let items = c.in-Some.ensures.items in
     let here : length xs + 0 ≡ length xs = omega arith in
     let there : slice_get ds (length xs) ≡ Some c.in-Some.database = ap (slice_get ds) (sym here) ∙ (sym (i.2 0) ∙ ap (λ l. slice_get l 0) items) in
