@@ -1,5 +1,5 @@
-use Rattle.std.proofs.Common.{◌≡◌, ◌+◌, ◌++◌, ◌∷◌, ℕ, zero, suc, [], Some, length, refl, sym, ap, ◌∙◌, subst, arith, rules, append_assoc, append-nil, inl, inr}
-use Rattle.std.specs.Prelude.{Option, slice_get}
+use Rattle.std.proofs.Common.{◌≡◌, ◌+◌, ◌++◌, ◌∷◌, suc, [], Some, length, refl, sym, ap, ◌∙◌, subst, arith, rules, append_assoc, append-nil, inl, inr}
+use Rattle.std.specs.Prelude.{slice_get}
 use Rattle.std.specs.Vec.Iter.{into_iter_len}
 use Rattle.std.proofs.lemmas.List.{length_push}
 use Rattle.fare_world.proofs.Places.{slice_get-push_cases}
