@@ -1,4 +1,5 @@
 pub mod Billing
+pub mod Causes
 pub mod Closing
 pub mod Faults
 pub mod Forgetting

@@ -1,7 +1,9 @@
 use Rattle.std.proofs.Common.{◌+◌, refl}
+use Rattle.fare_store.specs.Standing.{fault_of}
 use Rattle.fare_sessions.specs.declared.hub.Hub.{Hub}
 use Rattle.fare_desk.specs.Showing.{HasFrom}
 use Rattle.fare_desk.proofs.Asked.{asks_outbox, outbox_tells}
+use Rattle.fare_desk.proofs.Causes.{counted_outbox}
 use Rattle.fare_desk.proofs.standing.ask_rows.Goals as goal
 
 pub returns-clause-asks : goal.returns-clause-asks
@@ -9,6 +11,12 @@ returns-clause-asks g c =
     let old = c.args.hub.now in
     let new : Hub g.row.O.Denot g.row.L.Denot = record { scheme = old.scheme; outbox = c.rows_behind.new.outbox; ledgers = old.ledgers } in
     asks_outbox g.O.Outbox.standing g.L.Ledger.standing old new refl refl (g.met.O.Outbox.sound old.outbox) (λ x rows. HasFrom (x.rows c.args.owner c.args.device) (c.args.after + 1) rows) c.rows_behind.result c.rows_behind.ensures
+
+pub returns-clause-cause : goal.returns-clause-cause
+returns-clause-cause g c =
+    let old = c.args.hub.now in
+    let new : Hub g.row.O.Denot g.row.L.Denot = record { scheme = old.scheme; outbox = c.rows_behind.new.outbox; ledgers = old.ledgers } in
+    counted_outbox g.O.Outbox.standing g.L.Ledger.standing old new (fault_of c.rows_behind.result) refl c.rows_behind.ensures.cause
 
 pub returns-clause-tells : goal.returns-clause-tells
 returns-clause-tells g c =
