@@ -1,12 +1,14 @@
 -- What fails is a store that failed.
 use Rattle.std.proofs.Common.{◌≡◌, ◌≢◌, ◌≤◌, ◌+◌, ◌⊎◌, ℕ, zero, suc, List, [], ◌∷◌, Some, None, length, inl, inr, refl, sym, ap, ◌∙◌, subst, arith}
-use Rattle.std.specs.Prelude.{Option, Result, Ok, Err, IfErr, IsErrAnd, slice_get}
+use Rattle.std.specs.Prelude.{Option, Result, Ok, Err, IfErr, IfOk, IsErrAnd, slice_get}
 use Rattle.std.specs.List.{sum_by}
 use Rattle.std.proofs.lemmas.List.Sums.{sum_by-cons}
 use Rattle.fare_store.specs.declared.fault.Fault.{Fault}
 use Rattle.fare_store.specs.declared.fault.Fault.TheVariants as fault
 use Rattle.fare_store.specs.declared.fault.Refused.{Refused}
 use Rattle.fare_store.specs.declared.fault.Refused.TheVariants.{Because, Failed}
+use Rattle.fare_scheme.specs.Values.{SchemeValue}
+use Rattle.fare_scheme.specs.Words.{position_of_owner}
 use Rattle.fare_store.specs.Standing.{Standing, Counted, fault_of, fault_in}
 use Rattle.fare_store.specs.OutboxWords.{OutboxValue}
 use Rattle.fare_store.specs.LedgerWords.{LedgerValue}
@@ -14,8 +16,8 @@ use Rattle.fare_side.specs.declared.bill_fault.BillFault.TheVariants as bill
 use Rattle.fare_sessions.specs.declared.billing.BillingFault.{BillingFault}
 use Rattle.fare_sessions.specs.declared.billing.BillingFault.TheVariants as billing
 use Rattle.fare_sessions.specs.declared.hub.Hub.{Hub}
-use Rattle.fare_sessions.specs.Stores.{ReplacesLedger}
-use Rattle.fare_desk.specs.Causes.{failures_of, store_fault, store_named}
+use Rattle.fare_sessions.specs.Stores.{IsLedgerOf, ReplacesLedger}
+use Rattle.fare_desk.specs.Causes.{IsAtWork, IsCaused, failures_of, store_fault, store_named}
 use Rattle.fare_desk.specs.Faults.{of_bill, of_store}
 use Rattle.fare_desk.specs.declared.fault.DeskFault.{DeskFault}
 use Rattle.fare_desk.specs.declared.fault.DeskFault.TheVariants as desk
@@ -48,6 +50,21 @@ fault_named a b fault.Store q named is = subst (λ p. Counted a b (store_named p
 pub counted_fault : {A B : Type 0} (a b : ℕ) (r : Result A Fault) (s : Result B DeskFault) (f : Fault) → r ≡ Err f → IsErrAnd s (λ q. q ≡ of_store f) → Counted a b (fault_of r) → Counted a b (store_fault s)
 counted_fault a b r (Ok v) f was said is = absurd said
 counted_fault a b r (Err q) f was said is = fault_named a b f q said (subst (λ p. Counted a b (fault_of p)) was is)
+
+pub counted_handed : {A B : Type 0} (a b : ℕ) (r : Result A DeskFault) (s : Result B DeskFault) (f : DeskFault) → r ≡ Err f → IsErrAnd s (λ q. q ≡ f) → Counted a b (store_fault r) → Counted a b (store_fault s)
+counted_handed a b r (Ok v) f was said is = absurd said
+counted_handed a b r (Err q) f was said is = subst (λ p. Counted a b (store_named p)) (sym said) (subst (λ p. Counted a b (store_fault p)) was is)
+
+pub counted_done : {A : Type 0} (a b : ℕ) (r : Result A DeskFault) (v : A) → r ≡ Ok v → Counted a b (store_fault r) → b ≡ a
+counted_done a b r v was is = subst (λ q. Counted a b (store_fault q)) was is
+
+pub counted_memory : {A : Type 0} (a b : ℕ) (s : Result A DeskFault) → IsErrAnd s (λ q. q ≡ desk.Memory) → b ≡ a → Counted a b (store_fault s)
+counted_memory a b (Ok v) said is = absurd said
+counted_memory a b (Err q) said is = subst (λ p. Counted a b (store_named p)) (sym said) is
+
+pub counted_lost : {A : Type 0} (a b : ℕ) (s : Result A DeskFault) (f : DeskFault) → IsErrAnd s (λ q. q ≡ f) → f ≡ desk.Write → b ≡ a → Counted a b (store_fault s)
+counted_lost a b (Ok v) f said write is = absurd said
+counted_lost a b (Err q) f said write is = subst (λ p. Counted a b (store_named p)) (sym (said ∙ write)) is
 
 -- the writer failed, or there was no memory for what is written
 pub counted_write : {A : Type 0} (a b : ℕ) (s : Result A DeskFault) → IfErr s (λ q. q ≡ desk.Write) → b ≡ a → Counted a b (store_fault s)
@@ -121,6 +138,15 @@ module _ {L : Type 0} (each : L → ℕ) where
       (omega (arith, within, old), omega (arith, head, moved, old, new))
 
 -- A STORE OF A HUB
+-- an owner has one ledger
+own_is : {O L : Type 0} (old new : Hub O L) (owner : ℕ) (one : ReplacesLedger old new owner) (x : L) → IsLedgerOf new owner x → one.own_new ≡ x
+own_is {O} {L} old new owner one x of =
+    let at : position_of_owner new.scheme owner ≡ Some one.place = ap (λ (sc : SchemeValue). position_of_owner sc owner) one.scheme ∙ one.at in
+    let there : ◌≡◌ {A = Option ℕ} (Some one.place) (Some of.0) = sym at ∙ of.1 in
+    let place : one.place ≡ of.0 = cc in
+    let both : ◌≡◌ {A = Option L} (Some one.own_new) (Some x) = sym one.is ∙ (ap (slice_get new.ledgers.items) place ∙ of.2) in
+    cc
+
 module _ {O L : Type 0} (outbox : O → Standing OutboxValue) (ledger : L → Standing LedgerValue) where
   -- the outbox was asked
   pub counted_outbox : (old new : Hub O L) (f : Option Fault) → new.ledgers ≡ old.ledgers → Counted (outbox old.outbox).failures (outbox new.outbox).failures f → Counted (failures_of outbox ledger old) (failures_of outbox ledger new) f
@@ -136,3 +162,9 @@ module _ {O L : Type 0} (outbox : O → Standing OutboxValue) (ledger : L → St
       let sums = one_sum each old.ledgers.items new.ledgers.items one.place one.own_old one.own_new one.was one.is one.count one.others in
       counted_part (each one.own_old) (each one.own_new) (sum_by each old.ledgers.items) (sum_by each new.ledgers.items) (outbox old.outbox).failures (failures_of outbox ledger old) (failures_of outbox ledger new) f sums.0 sums.1 refl
       (ap (λ o. (outbox o).failures + sum_by each new.ledgers.items) same) is
+
+  -- and answered
+  pub at_work : {A : Type 0} (old new : Hub O L) (owner : ℕ) (one : ReplacesLedger old new owner) (r : Result A Fault)
+      → (fault_of r ≡ None → (ledger one.own_new).clean → (ledger one.own_new).live) → IfOk r (λ _. IsAtWork outbox ledger new owner)
+  at_work old new owner one (Err f) stays = tt
+  at_work old new owner one (Ok a) stays = λ clean x of. subst (λ y. (ledger y).live) (own_is old new owner one x of) (stays refl (clean.ledgers_are one.place one.own_new one.is))

@@ -188,6 +188,7 @@ module _ {O L : Type 0} (outbox : O → Standing OutboxValue) (ledger : L → St
     pub in_row : (day : ℕ) → IsDayBehind last day → (first : ℕ) × (text ≡ closed_lines owner device first n) × (day ≡ first + n)
     pub came : AreClean outbox ledger now → AreSound outbox ledger old → (k : StoresValue) → MayStandAs outbox ledger now k
         → (h : StoresValue) × MayStandAs outbox ledger old h × (k ≡ with_lane owner device n h) × ((j : ℕ) → j < n → IsMet (h.ledgers owner) device (unclosed_day (h.ledgers owner) device j)) × (text ≡ closed_lines owner device (first_unclosed (h.ledgers owner) device) n) × ((h.ledgers owner).retired device ≡ false)
+    pub behind : AreClean outbox ledger now → AreSound outbox ledger old → (k : StoresValue) → MayStandAs outbox ledger now k → IsDayBehind last (first_unclosed (k.ledgers owner) device)
 
   pub lane_begins : (old now : Hub O L) (before : Option (List ℕ)) → OnlyAsks outbox ledger old now → (AreClean outbox ledger now → AreSound outbox ledger old → (h : StoresValue) → MayStandAs outbox ledger old h → (h.ledgers owner).retired device ≡ false) → StandsLane old now before before None 0
   lane_begins old now before asks told = record {
@@ -199,6 +200,7 @@ module _ {O L : Type 0} (outbox : O → Standing OutboxValue) (ledger : L → St
     came = λ clean sound k may.
         let was = asks.same clean sound k may in
         (k, was, sym (lane_none owner device k), λ j lt. absurd (omega (arith, lt)), refl, told clean sound k was);
+    behind = λ clean sound k may. tt;
   }
 
   -- the lines of the days that were closed
@@ -220,6 +222,13 @@ module _ {O L : Type 0} (outbox : O → Standing OutboxValue) (ledger : L → St
     earlier clean sound m may =
         let there = r.same clean (s.goes.sound sound) m may in
         (there, s.came (clean_back outbox ledger now mid r.follow clean) sound m there)
+
+    -- the next day is the one behind the last that was closed, so that no close was lost
+    pub none_lost : (day : ℕ) → (AreClean outbox ledger mid → AreSound outbox ledger now → (h : StoresValue) → MayStandAs outbox ledger now h → IsToClose (h.ledgers owner) device (Some day))
+        → AreClean outbox ledger mid → AreSound outbox ledger old → (m : StoresValue) → MayStandAs outbox ledger mid m → IsDayBehind last day
+    none_lost day told clean sound m may =
+        let there = r.same clean (s.goes.sound sound) m may in
+        subst (IsDayBehind last) (sym (told clean (s.goes.sound sound) m there).0) (s.behind (clean_back outbox ledger now mid r.follow clean) sound m there)
 
     -- no statement of the next day is held
     pub lane_ends : (AreClean outbox ledger mid → AreSound outbox ledger now → (h : StoresValue) → MayStandAs outbox ledger now h → IsToClose (h.ledgers owner) device None) → HasClosedLanes outbox ledger ((owner, device) ∷ []) old mid before after
@@ -290,6 +299,10 @@ module _ {O L : Type 0} (outbox : O → Standing OutboxValue) (ledger : L → St
               ap (λ l. l ++ try_line owner device day (reply.Closed device day)) e.1.4 ∙ ap (λ d. closed_lines owner device (first_unclosed v device) n ++ try_line owner device d (reply.Closed device d)) here,
               e.1.5,
             );
+        behind = λ clean sound k may.
+            let c = a.came clean (sound_mid sound) k may in
+            let e = earlier (clean_mid clean) sound c.0 c.1 in
+            first_then owner device 1 c.0 k c.3 ∙ ap (λ d. d + 1) (sym (told (clean_mid clean) (s.goes.sound sound) c.0 e.0).0);
       }
         where
           last_or_less : (j n : ℕ) → j < suc n → (j ≡ n) ⊎ (j < n)

@@ -1,4 +1,5 @@
 pub mod Asked
+pub mod Caused
 pub mod Causes
 pub mod Failing
 pub mod Going

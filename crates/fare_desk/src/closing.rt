@@ -2,8 +2,10 @@
 ghost use Rattle.std.specs.Prelude.{◌≡◌, ◌≢◌, ◌↔◌, [], ◌∷◌, IsTrue, None, false, OnOk, IfErr, IfOk};
 ghost use Rattle.fare_record.specs.Limits.{IsDay};
 ghost use Rattle.fare_scheme.specs.Words.{position_of_owner};
-ghost use Rattle.fare_sessions.specs.Stores.{HasLedgers};
+ghost use Rattle.fare_store.specs.Standing.{fault_of};
+ghost use Rattle.fare_sessions.specs.Stores.{AreClean, AreSound, HasLedgers};
 ghost use Rattle.std.specs.Map.{keys_of};
+ghost use Rattle.fare_desk.specs.Causes.{IsCaused, store_fault};
 ghost use Rattle.fare_desk.specs.Faults.{is_refusal};
 ghost use Rattle.fare_desk.specs.Closing.{GoesOn, HasAnswered, HasClosedLanes, IsDayBehind, close_refusal, lanes_of, lanes_with, reply_of, try_line};
 
@@ -78,6 +80,7 @@ fn try_close<O: Outbox, L: Ledger>(
     requires ledgers { HasLedgers hub.old }
     requires known { position_of_owner hub.old.scheme owner ≢ None }
     ensures goes { GoesOn O.standing L.standing hub.old hub.new }
+    ensures cause { IsCaused O.standing L.standing hub.old hub.new (fault_of result) }
     ensures answered { IfOk result (HasAnswered O.standing L.standing owner device day hub.old hub.new) }
 {
     match hub.close(owner, device, day) {
@@ -111,6 +114,7 @@ fn close_lane<O: Outbox, L: Ledger, W: Write>(
     requires ledgers { HasLedgers hub.old }
     requires known { position_of_owner hub.old.scheme owner ≢ None }
     ensures goes { GoesOn O.standing L.standing hub.old hub.new }
+    ensures cause { AreClean O.standing L.standing hub.new → AreSound O.standing L.standing hub.old → IsCaused O.standing L.standing hub.old hub.new (store_fault result) }
     ensures closed { OnOk result (HasClosedLanes O.standing L.standing ((owner, device) ∷ []) hub.old hub.new (W.contents output.old) (W.contents output.new)) }
     ensures unnamed { IfErr result (λ fault. is_refusal fault ≡ false) }
 {
@@ -147,6 +151,7 @@ fn close_owner<O: Outbox, L: Ledger, W: Write>(
     requires ledgers { HasLedgers hub.old }
     requires known { position_of_owner hub.old.scheme owner ≢ None }
     ensures goes { GoesOn O.standing L.standing hub.old hub.new }
+    ensures cause { AreClean O.standing L.standing hub.new → AreSound O.standing L.standing hub.old → IsCaused O.standing L.standing hub.old hub.new (store_fault result) }
     ensures closed { OnOk result (HasClosedLanes O.standing L.standing (lanes_with owner (keys_of hub.old.scheme.devices)) hub.old hub.new (W.contents output.old) (W.contents output.new)) }
     ensures unnamed { IfErr result (λ fault. is_refusal fault ≡ false) }
 {
@@ -171,6 +176,7 @@ pub fn close_days<O: Outbox, L: Ledger, W: Write>(
 ) -> Result<(), DeskFault>
     requires ledgers { HasLedgers hub.old }
     ensures goes { GoesOn O.standing L.standing hub.old hub.new }
+    ensures cause { AreClean O.standing L.standing hub.new → AreSound O.standing L.standing hub.old → IsCaused O.standing L.standing hub.old hub.new (store_fault result) }
     ensures closed { OnOk result (HasClosedLanes O.standing L.standing (lanes_of hub.old.scheme) hub.old hub.new (W.contents output.old) (W.contents output.new)) }
     ensures unnamed { IfErr result (λ fault. is_refusal fault ≡ false) }
 {

@@ -2,7 +2,8 @@
 ghost use Rattle.std.specs.Prelude.{◌≡◌, ◌≢◌, ◌↔◌, None, Err, IfErr, OnOk};
 ghost use Rattle.std.specs.Io.KnownBytes.{Keeps};
 ghost use Rattle.fare_scheme.specs.Words.{position_of_device, position_of_owner};
-ghost use Rattle.fare_sessions.specs.Stores.{ComesOf, HasLedgers};
+ghost use Rattle.fare_sessions.specs.Stores.{AreClean, AreSound, ComesOf, HasLedgers};
+ghost use Rattle.fare_desk.specs.Causes.{IsCaused, store_fault};
 ghost use Rattle.fare_desk.specs.Closing.{GoesOn};
 ghost use Rattle.fare_desk.specs.Faults.{is_of_retire, is_refusal};
 ghost use Rattle.fare_desk.specs.Retiring.{LeavesLane, RetiresLane};
@@ -37,6 +38,7 @@ pub fn retire_lane<O: Outbox, L: Ledger, W: Write>(
     ensures unknown_device { (result ≡ Err DeskFault.UnknownDevice) ↔ ((position_of_owner hub.old.scheme owner ≢ None) × (position_of_device hub.old.scheme device ≡ None)) }
     ensures unasked { (position_of_owner hub.old.scheme owner ≡ None → hub.new ≡ hub.old) × (position_of_device hub.old.scheme device ≡ None → hub.new ≡ hub.old) }
     ensures goes { GoesOn O.standing L.standing hub.old hub.new }
+    ensures cause { AreClean O.standing L.standing hub.new → AreSound O.standing L.standing hub.old → IsCaused O.standing L.standing hub.old hub.new (store_fault result) }
     ensures retired { OnOk result (RetiresLane O.standing L.standing owner device hub.old hub.new (W.contents output.old) (W.contents output.new)) }
     ensures failed { IfErr result (λ fault. ComesOf O.standing L.standing hub.old hub.new (LeavesLane owner device fault)) }
     ensures named { IfErr result (λ fault. is_refusal fault ≡ is_of_retire fault) }

@@ -5,10 +5,10 @@ ghost use Rattle.std.specs.Map.{keys_of};
 ghost use Rattle.fare_history.specs.Stores.{StoresValue};
 ghost use Rattle.fare_scheme.specs.Words.{position_of_owner};
 ghost use Rattle.fare_store.specs.LedgerWords.{closed_through};
-ghost use Rattle.fare_store.specs.Standing.{Counted, Reads, fault_of};
+ghost use Rattle.fare_store.specs.Standing.{Reads, fault_of};
 ghost use Rattle.fare_sessions.specs.Billing.{day_behind};
 ghost use Rattle.fare_sessions.specs.Stores.{AreClean, AreSound, HasLedgers, MayStandAs};
-ghost use Rattle.fare_desk.specs.Causes.{failures_of, store_fault};
+ghost use Rattle.fare_desk.specs.Causes.{IsAtWork, IsCaused, store_fault};
 ghost use Rattle.fare_desk.specs.Closing.{lanes_of, lanes_with};
 ghost use Rattle.fare_desk.specs.Showing.{AddsLanes, AddsUptos, HasFrom, IsLane, OnlyAsks, WritesStanding, closed_word, held_word, lane_line, retired_word, stated_days, upto_line};
 ghost use Rattle.fare_desk.specs.Faults.{is_refusal};
@@ -103,7 +103,8 @@ pub(crate) fn ask_ledger<O: Outbox, L: Ledger>(
     requires ledgers { HasLedgers hub.old }
     requires known { position_of_owner hub.old.scheme owner ≢ None }
     ensures asks { OnlyAsks O.standing L.standing hub.old hub.new }
-    ensures cause { Counted (failures_of O.standing L.standing hub.old) (failures_of O.standing L.standing hub.new) (fault_of result) }
+    ensures cause { IsCaused O.standing L.standing hub.old hub.new (fault_of result) }
+    ensures works { IfOk result (λ _. IsAtWork O.standing L.standing hub.new owner) }
     ensures tells { AreClean O.standing L.standing hub.new → AreSound O.standing L.standing hub.old → IfOk result (λ told. (h : StoresValue) → MayStandAs O.standing L.standing hub.old h → ((h.ledgers owner).start ≡ hub.old.scheme.start) × ((told.0 ≡ length ((h.ledgers owner).taken device)) × (told.1 ≡ closed_through (h.ledgers owner) device))) }
 {
     let Some(at) = hub.scheme.owner_position(owner) else {
@@ -120,7 +121,7 @@ fn ask_rows<O: Outbox, L: Ledger>(
     after: u64,
 ) -> Result<u64, Fault>
     ensures asks { OnlyAsks O.standing L.standing hub.old hub.new }
-    ensures cause { Counted (failures_of O.standing L.standing hub.old) (failures_of O.standing L.standing hub.new) (fault_of result) }
+    ensures cause { IsCaused O.standing L.standing hub.old hub.new (fault_of result) }
     ensures tells { AreClean O.standing L.standing hub.new → AreSound O.standing L.standing hub.old → IfOk result (λ rows. (h : StoresValue) → MayStandAs O.standing L.standing hub.old h → HasFrom (h.outbox.rows owner device) (after + 1) rows) }
 {
     rows_behind(&mut hub.outbox, owner, device, after)
@@ -134,7 +135,7 @@ pub(crate) fn ask_statements<O: Outbox, L: Ledger>(
     closed: Option<Day>,
 ) -> Result<u64, Fault>
     ensures asks { OnlyAsks O.standing L.standing hub.old hub.new }
-    ensures cause { Counted (failures_of O.standing L.standing hub.old) (failures_of O.standing L.standing hub.new) (fault_of result) }
+    ensures cause { IsCaused O.standing L.standing hub.old hub.new (fault_of result) }
     ensures tells { AreClean O.standing L.standing hub.new → AreSound O.standing L.standing hub.old → IfOk result (λ statements. (h : StoresValue) → MayStandAs O.standing L.standing hub.old h → HasFrom (stated_days h.outbox owner device) (day_behind closed hub.old.scheme.start) statements) }
 {
     match day_after(closed, hub.scheme.start()) {
@@ -152,7 +153,8 @@ pub(crate) fn ask_retired<O: Outbox, L: Ledger>(
     requires ledgers { HasLedgers hub.old }
     requires known { position_of_owner hub.old.scheme owner ≢ None }
     ensures asks { OnlyAsks O.standing L.standing hub.old hub.new }
-    ensures cause { Counted (failures_of O.standing L.standing hub.old) (failures_of O.standing L.standing hub.new) (fault_of result) }
+    ensures cause { IsCaused O.standing L.standing hub.old hub.new (fault_of result) }
+    ensures works { IfOk result (λ _. IsAtWork O.standing L.standing hub.new owner) }
     ensures tells { AreClean O.standing L.standing hub.new → AreSound O.standing L.standing hub.old → IfOk result (λ retired. (h : StoresValue) → MayStandAs O.standing L.standing hub.old h → (h.ledgers owner).retired device ≡ retired) }
 {
     let Some(at) = hub.scheme.owner_position(owner) else {
@@ -170,7 +172,7 @@ pub(crate) fn ask_held_from<O: Outbox, L: Ledger>(
     requires ledgers { HasLedgers hub.old }
     requires known { position_of_owner hub.old.scheme owner ≢ None }
     ensures asks { OnlyAsks O.standing L.standing hub.old hub.new }
-    ensures cause { Counted (failures_of O.standing L.standing hub.old) (failures_of O.standing L.standing hub.new) (fault_of result) }
+    ensures cause { IsCaused O.standing L.standing hub.old hub.new (fault_of result) }
     ensures tells { AreClean O.standing L.standing hub.new → AreSound O.standing L.standing hub.old → IfOk result (λ from. (h : StoresValue) → MayStandAs O.standing L.standing hub.old h → from ≡ (h.ledgers owner).from device) }
 {
     let Some(at) = hub.scheme.owner_position(owner) else {
@@ -188,7 +190,7 @@ fn lane_of<O: Outbox, L: Ledger>(
     requires ledgers { HasLedgers hub.old }
     requires known { position_of_owner hub.old.scheme owner ≢ None }
     ensures asks { OnlyAsks O.standing L.standing hub.old hub.new }
-    ensures cause { Counted (failures_of O.standing L.standing hub.old) (failures_of O.standing L.standing hub.new) (fault_of result) }
+    ensures cause { IsCaused O.standing L.standing hub.old hub.new (fault_of result) }
     ensures tells { AreClean O.standing L.standing hub.new → AreSound O.standing L.standing hub.old → IfOk result (λ lane. (h : StoresValue) → MayStandAs O.standing L.standing hub.new h → IsLane h owner device lane) }
 {
     let told = ask_ledger(hub, owner, device)?;
@@ -278,7 +280,7 @@ fn add_owner<O: Outbox, L: Ledger>(
     requires ledgers { HasLedgers hub.old }
     requires known { position_of_owner hub.old.scheme owner ≢ None }
     ensures asks { OnlyAsks O.standing L.standing hub.old hub.new }
-    ensures cause { Counted (failures_of O.standing L.standing hub.old) (failures_of O.standing L.standing hub.new) (fault_of result) }
+    ensures cause { IsCaused O.standing L.standing hub.old hub.new (fault_of result) }
     ensures adds { OnOk result (AddsLanes O.standing L.standing (lanes_with owner (keys_of hub.old.scheme.devices)) hub.old hub.new (string_bytes text.old) (string_bytes text.new)) }
 {
     for place in 0..hub.scheme.devices().len() {
@@ -297,7 +299,7 @@ fn add_lanes<O: Outbox, L: Ledger>(
 ) -> Result<(), Fault>
     requires ledgers { HasLedgers hub.old }
     ensures asks { OnlyAsks O.standing L.standing hub.old hub.new }
-    ensures cause { Counted (failures_of O.standing L.standing hub.old) (failures_of O.standing L.standing hub.new) (fault_of result) }
+    ensures cause { IsCaused O.standing L.standing hub.old hub.new (fault_of result) }
     ensures adds { OnOk result (AddsLanes O.standing L.standing (lanes_of hub.old.scheme) hub.old hub.new (string_bytes text.old) (string_bytes text.new)) }
 {
     for place in 0..hub.scheme.owners().len() {
@@ -310,7 +312,7 @@ fn add_lanes<O: Outbox, L: Ledger>(
 // How far the outbox has had a device's taps.
 fn ask_upto<O: Outbox, L: Ledger>(hub: &mut Hub<O, L>, device: DeviceId) -> Result<u64, Fault>
     ensures asks { OnlyAsks O.standing L.standing hub.old hub.new }
-    ensures cause { Counted (failures_of O.standing L.standing hub.old) (failures_of O.standing L.standing hub.new) (fault_of result) }
+    ensures cause { IsCaused O.standing L.standing hub.old hub.new (fault_of result) }
     ensures tells { AreClean O.standing L.standing hub.new → AreSound O.standing L.standing hub.old → IfOk result (λ upto. (h : StoresValue) → MayStandAs O.standing L.standing hub.old h → upto ≡ h.outbox.upto device) }
 {
     hub.outbox.upto(device)
@@ -332,7 +334,7 @@ fn add_uptos<O: Outbox, L: Ledger>(
     text: &mut String,
 ) -> Result<(), Fault>
     ensures asks { OnlyAsks O.standing L.standing hub.old hub.new }
-    ensures cause { Counted (failures_of O.standing L.standing hub.old) (failures_of O.standing L.standing hub.new) (fault_of result) }
+    ensures cause { IsCaused O.standing L.standing hub.old hub.new (fault_of result) }
     ensures adds { OnOk result (AddsUptos O.standing L.standing (keys_of hub.old.scheme.devices) hub.old hub.new (string_bytes text.old) (string_bytes text.new)) }
 {
     for place in 0..hub.scheme.devices().len() {
@@ -359,7 +361,7 @@ pub fn write_standing<O: Outbox, L: Ledger, W: Write>(
 ) -> Result<(), DeskFault>
     requires ledgers { HasLedgers hub.old }
     ensures asks { OnlyAsks O.standing L.standing hub.old hub.new }
-    ensures cause { Counted (failures_of O.standing L.standing hub.old) (failures_of O.standing L.standing hub.new) (store_fault result) }
+    ensures cause { IsCaused O.standing L.standing hub.old hub.new (store_fault result) }
     ensures written { OnOk result (WritesStanding O.standing L.standing hub.old hub.new (W.contents output.old) (W.contents output.new)) }
     ensures unnamed { IfErr result (λ fault. is_refusal fault ≡ false) }
     ensures kept { IfErr result (λ fault. fault ≢ Write → Keeps (W.contents output.old) (W.contents output.new)) }

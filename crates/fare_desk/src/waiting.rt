@@ -3,9 +3,9 @@ ghost use Rattle.std.specs.Prelude.{◌≡◌, ◌≢◌, ◌↔◌, ◌⊎◌, 
 ghost use Rattle.fare_history.specs.Stores.{StoresValue};
 ghost use Rattle.std.specs.Map.{keys_of};
 ghost use Rattle.fare_scheme.specs.Words.{position_of_owner};
-ghost use Rattle.fare_store.specs.Standing.{Counted, Reads, fault_of};
+ghost use Rattle.fare_store.specs.Standing.{Reads, fault_of};
 ghost use Rattle.fare_sessions.specs.Stores.{AreClean, AreSound, HasLedgers, MayStandAs};
-ghost use Rattle.fare_desk.specs.Causes.{failures_of, store_fault};
+ghost use Rattle.fare_desk.specs.Causes.{IsCaused, store_fault};
 ghost use Rattle.fare_desk.specs.Showing.{OnlyAsks};
 ghost use Rattle.fare_desk.specs.Waiting.{IsAndLane, IsLast, IsOldest, TellsOwner, TellsOwners, WaitsBehind, WaitsInLane, earlier, nothing_waits};
 
@@ -141,7 +141,7 @@ fn ask_last<O: Outbox, L: Ledger>(
     after: u64,
 ) -> Result<u64, Fault>
     ensures asks { OnlyAsks O.standing L.standing hub.old hub.new }
-    ensures cause { Counted (failures_of O.standing L.standing hub.old) (failures_of O.standing L.standing hub.new) (fault_of result) }
+    ensures cause { IsCaused O.standing L.standing hub.old hub.new (fault_of result) }
     ensures tells { AreClean O.standing L.standing hub.new → AreSound O.standing L.standing hub.old → IfOk result (λ last. (h : StoresValue) → MayStandAs O.standing L.standing hub.old h → IsLast (h.outbox.rows owner device) after last) }
 {
     last_behind(&mut hub.outbox, owner, device, after)
@@ -155,7 +155,7 @@ fn ask_oldest<O: Outbox, L: Ledger>(
     after: u64,
 ) -> Result<Option<Moment>, Fault>
     ensures asks { OnlyAsks O.standing L.standing hub.old hub.new }
-    ensures cause { Counted (failures_of O.standing L.standing hub.old) (failures_of O.standing L.standing hub.new) (fault_of result) }
+    ensures cause { IsCaused O.standing L.standing hub.old hub.new (fault_of result) }
     ensures tells { AreClean O.standing L.standing hub.new → AreSound O.standing L.standing hub.old → IfOk result (λ oldest. (h : StoresValue) → MayStandAs O.standing L.standing hub.old h → IsOldest h.outbox.rows owner device after oldest) }
 {
     oldest_behind(&mut hub.outbox, owner, device, after)
@@ -170,7 +170,7 @@ fn waits_behind<O: Outbox, L: Ledger>(
     requires ledgers { HasLedgers hub.old }
     requires known { position_of_owner hub.old.scheme owner ≢ None }
     ensures asks { OnlyAsks O.standing L.standing hub.old hub.new }
-    ensures cause { Counted (failures_of O.standing L.standing hub.old) (failures_of O.standing L.standing hub.new) (fault_of result) }
+    ensures cause { IsCaused O.standing L.standing hub.old hub.new (fault_of result) }
     ensures tells { AreClean O.standing L.standing hub.new → AreSound O.standing L.standing hub.old → IfOk result (λ waiting. (h : StoresValue) → MayStandAs O.standing L.standing hub.new h → WaitsBehind h owner device (length ((h.ledgers owner).taken device)) waiting) }
 {
     let told = ask_ledger(hub, owner, device)?;
@@ -193,7 +193,7 @@ fn waits_in_lane<O: Outbox, L: Ledger>(
     requires ledgers { HasLedgers hub.old }
     requires known { position_of_owner hub.old.scheme owner ≢ None }
     ensures asks { OnlyAsks O.standing L.standing hub.old hub.new }
-    ensures cause { Counted (failures_of O.standing L.standing hub.old) (failures_of O.standing L.standing hub.new) (fault_of result) }
+    ensures cause { IsCaused O.standing L.standing hub.old hub.new (fault_of result) }
     ensures tells { AreClean O.standing L.standing hub.new → AreSound O.standing L.standing hub.old → IfOk result (λ waiting. (h : StoresValue) → MayStandAs O.standing L.standing hub.new h → WaitsInLane h owner device waiting) }
 {
     let retired = ask_retired(hub, owner, device)?;
@@ -209,7 +209,7 @@ fn waits_for<O: Outbox, L: Ledger>(hub: &mut Hub<O, L>, owner: OwnerId) -> Resul
     requires ledgers { HasLedgers hub.old }
     requires known { position_of_owner hub.old.scheme owner ≢ None }
     ensures asks { OnlyAsks O.standing L.standing hub.old hub.new }
-    ensures cause { Counted (failures_of O.standing L.standing hub.old) (failures_of O.standing L.standing hub.new) (fault_of result) }
+    ensures cause { IsCaused O.standing L.standing hub.old hub.new (fault_of result) }
     ensures tells { IfOk result (TellsOwner O.standing L.standing owner hub.old hub.new) }
 {
     let mut waiting = Waiting::none();
@@ -231,7 +231,7 @@ pub fn what_waits<O: Outbox, L: Ledger>(
 ) -> Result<Vec<OwnerWaits>, DeskFault>
     requires ledgers { HasLedgers hub.old }
     ensures asks { OnlyAsks O.standing L.standing hub.old hub.new }
-    ensures cause { Counted (failures_of O.standing L.standing hub.old) (failures_of O.standing L.standing hub.new) (store_fault result) }
+    ensures cause { IsCaused O.standing L.standing hub.old hub.new (store_fault result) }
     ensures tells { IfOk result (λ waits. TellsOwners O.standing L.standing (keys_of hub.old.scheme.owners) hub.old hub.new waits.items) }
     ensures fault { IfErr result (λ fault. (fault ≡ DeskFault.Memory) ⊎ (fault ≡ DeskFault.Store)) }
 {

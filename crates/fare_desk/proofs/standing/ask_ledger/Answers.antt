@@ -6,7 +6,7 @@ use Rattle.fare_sessions.specs.declared.hub.Hub.{Hub}
 use Rattle.fare_sessions.proofs.Going.{one_replaced}
 use Rattle.fare_sessions.proofs.NextClose.{read_reads, read_tells}
 use Rattle.fare_desk.proofs.Asked.{asks_read}
-use Rattle.fare_desk.proofs.Causes.{counted_owner}
+use Rattle.fare_desk.proofs.Causes.{at_work, counted_owner}
 use Rattle.fare_desk.proofs.standing.ask_ledger.Goals as goal
 
 pub returns-clause-asks : goal.returns-clause-asks
@@ -22,6 +22,13 @@ returns-clause-cause g c =
     let new : Hub g.row.O.Denot g.row.L.Denot = record { scheme = old.scheme; outbox = old.outbox; ledgers = with_item old.ledgers c.in-Some.at c.taken_by.new.ledger } in
     let r = one_replaced old new c.args.owner c.in-Some.at c.index_mut.result.now c.taken_by.new.ledger (sym c.in-Some.ensures.value) c.requires.ledgers c.index_mut.ensures.value refl refl in
     counted_owner g.O.Outbox.standing g.L.Ledger.standing old new c.args.owner (fault_of c.taken_by.result) r refl c.taken_by.ensures.cause
+
+pub returns-clause-works : goal.returns-clause-works
+returns-clause-works g c =
+    let old = c.args.hub.now in
+    let new : Hub g.row.O.Denot g.row.L.Denot = record { scheme = old.scheme; outbox = old.outbox; ledgers = with_item old.ledgers c.in-Some.at c.taken_by.new.ledger } in
+    let r = one_replaced old new c.args.owner c.in-Some.at c.index_mut.result.now c.taken_by.new.ledger (sym c.in-Some.ensures.value) c.requires.ledgers c.index_mut.ensures.value refl refl in
+    at_work g.O.Outbox.standing g.L.Ledger.standing old new c.args.owner r c.taken_by.result c.taken_by.ensures.stays
 
 pub returns-clause-tells : goal.returns-clause-tells
 returns-clause-tells g c =
