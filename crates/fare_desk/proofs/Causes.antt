@@ -42,6 +42,10 @@ counted_then a b c f same is = subst (λ n. Counted n c f) same is
 pub counted_ok : {A : Type 0} (a b : ℕ) (r : Result A Fault) (v : A) → r ≡ Ok v → Counted a b (fault_of r) → b ≡ a
 counted_ok a b r v was is = subst (λ q. Counted a b (fault_of q)) was is
 
+pub counted_passed : {A B : Type 0} (a b : ℕ) (r : Result A Fault) (s : Result B Fault) (f : Fault) → r ≡ Err f → IsErrAnd s (λ q. q ≡ f) → Counted a b (fault_of r) → Counted a b (fault_of s)
+counted_passed a b r (Ok v) f was said is = absurd said
+counted_passed a b r (Err q) f was said is = subst (λ p. Counted a b (Some p)) (sym said) (subst (λ p. Counted a b (fault_of p)) was is)
+
 -- A FAULT THAT IS HANDED ON
 pub fault_named : (a b : ℕ) (f : Fault) (q : DeskFault) → q ≡ of_store f → Counted a b (Some f) → Counted a b (store_named q)
 fault_named a b fault.Memory q named is = subst (λ p. Counted a b (store_named p)) (sym named) is
@@ -139,7 +143,7 @@ module _ {L : Type 0} (each : L → ℕ) where
 
 -- A STORE OF A HUB
 -- an owner has one ledger
-own_is : {O L : Type 0} (old new : Hub O L) (owner : ℕ) (one : ReplacesLedger old new owner) (x : L) → IsLedgerOf new owner x → one.own_new ≡ x
+pub own_is : {O L : Type 0} (old new : Hub O L) (owner : ℕ) (one : ReplacesLedger old new owner) (x : L) → IsLedgerOf new owner x → one.own_new ≡ x
 own_is {O} {L} old new owner one x of =
     let at : position_of_owner new.scheme owner ≡ Some one.place = ap (λ (sc : SchemeValue). position_of_owner sc owner) one.scheme ∙ one.at in
     let there : ◌≡◌ {A = Option ℕ} (Some one.place) (Some of.0) = sym at ∙ of.1 in

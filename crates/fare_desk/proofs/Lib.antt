@@ -5,6 +5,7 @@ pub mod Failing
 pub mod Going
 pub mod Held
 pub mod LetGo
+pub mod Letting
 pub mod Lane
 pub mod Lanes
 pub mod Retires

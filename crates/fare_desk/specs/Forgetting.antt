@@ -1,7 +1,8 @@
 -- Letting go what is of the days before one, lane by lane, and what is written of it.
-use Rattle.std.specs.Prelude.{◌≡◌, ◌⊎◌, ◌||◌, ◌-◌, ℕ, nat_le, Bool, true, false, List, [], ◌∷◌, ◌++◌, codes, Option, if◌then◌else◌}
+use Rattle.std.specs.Prelude.{◌≡◌, ◌⊎◌, ◌||◌, ◌-◌, ℕ, nat_le, Bool, true, false, List, [], ◌∷◌, ◌++◌, codes, Option, is_some, if◌then◌else◌}
 use Rattle.std.specs.Fmt.{decimal}
 use Rattle.std.specs.Io.KnownBytes.{Appends}
+use Rattle.fare_scheme.specs.Words.{position_of_device}
 use Rattle.fare_store.specs.Standing.{Standing}
 use Rattle.fare_store.specs.OutboxWords.{OutboxValue}
 use Rattle.fare_store.specs.LedgerWords.{LedgerValue, gone_of}
@@ -9,6 +10,7 @@ use Rattle.fare_history.specs.Stores.{StoresValue, Forgets, stores_after}
 use Rattle.fare_sessions.specs.declared.hub.Hub.{Hub}
 use Rattle.fare_sessions.specs.Billing.{first_unclosed}
 use Rattle.fare_sessions.specs.Stores.{AreClean, AreSound, MayStandAs, ComesOf}
+use Rattle.fare_desk.specs.Causes.{IsAtWork}
 use Rattle.fare_desk.specs.Closing.{GoesOnLettingGo}
 use Rattle.fare_desk.specs.declared.forgetting.LaneGone.{LaneGone}
 
@@ -78,6 +80,12 @@ module _ {O L : Type 0} (outbox : O → Standing OutboxValue) (ledger : L → St
   pub record LetsSomeGo (day owner device : ℕ) (old new : Hub O L) : Type 0 where
     pub goes : GoesOnLettingGo outbox ledger old new
     pub rest : ComesOf outbox ledger old new (HasRest day owner device)
+
+  -- what is of the days before one may go of an owner's lane: its device is one of the scheme's, no failure has shut the owner's ledger, and the days are over
+  pub record MayGo (day owner device : ℕ) (hub : Hub O L) : Type 0 where
+    pub known : is_some (position_of_device hub.scheme device) ≡ true
+    pub works : IsAtWork outbox ledger hub owner
+    pub over : AreClean outbox ledger hub → (h : StoresValue) → MayStandAs outbox ledger hub h → is_over (h.ledgers owner) device day ≡ true
 
   -- these lanes were let go, and the lines of it written
   pub record LetsGo (day : ℕ) (lanes : List (ℕ × ℕ)) (old new : Hub O L) (before after : Option (List ℕ)) : Type 0 where

@@ -1,16 +1,18 @@
 //! What is of days that are over goes from the owners' ledgers and the outbox, lane by lane.
-ghost use Rattle.std.specs.Prelude.{◌≡◌, ◌≢◌, ◌||◌, ◌-◌, [], ◌∷◌, ◌++◌, None, false, nat_le, string_bytes, OnOk, IfErr, IfOk};
+ghost use Rattle.std.specs.Prelude.{◌≡◌, ◌≢◌, ◌||◌, ◌-◌, [], ◌∷◌, ◌++◌, ℕ, None, false, true, is_some, nat_le, string_bytes, OnOk, IfErr, IfOk};
 ghost use Rattle.std.specs.Map.{keys_of};
 ghost use Rattle.fare_cap.specs.Fares.{week_start as start_of_week};
-ghost use Rattle.fare_scheme.specs.Words.{position_of_owner};
+ghost use Rattle.fare_scheme.specs.Words.{position_of_device, position_of_owner};
 ghost use Rattle.fare_store.specs.LedgerWords.{gone_of};
+ghost use Rattle.fare_store.specs.Standing.{fault_of};
 ghost use Rattle.fare_history.specs.Stores.{StoresValue, Forgets};
 ghost use Rattle.fare_agreement.specs.Stopping.{IsLeftBy};
 ghost use Rattle.fare_sessions.specs.Billing.{day_behind};
 ghost use Rattle.fare_sessions.specs.Stores.{AreClean, AreSound, ComesOf, HasLedgers, MayStandAs};
+ghost use Rattle.fare_desk.specs.Causes.{IsAtWork, IsCaused, store_fault};
 ghost use Rattle.fare_desk.specs.Closing.{GoesOnLettingGo, lanes_of, lanes_with};
 ghost use Rattle.fare_desk.specs.Faults.{is_refusal};
-ghost use Rattle.fare_desk.specs.Forgetting.{LeavesSome, LetsGo, LetsSomeGo, gone_line, is_over, lane_gone, let_lane_go, open_word, without};
+ghost use Rattle.fare_desk.specs.Forgetting.{LeavesSome, LetsGo, LetsSomeGo, MayGo, gone_line, is_over, lane_gone, let_lane_go, open_word, without};
 ghost use Rattle.fare_desk.specs.Showing.{OnlyAsks};
 
 use crate::fault::DeskFault;
@@ -56,6 +58,8 @@ fn ask_over<O: Outbox, L: Ledger>(
     requires ledgers { HasLedgers hub.old }
     requires known { position_of_owner hub.old.scheme owner ≢ None }
     ensures asks { OnlyAsks O.standing L.standing hub.old hub.new }
+    ensures cause { IsCaused O.standing L.standing hub.old hub.new (fault_of result) }
+    ensures works { IfOk result (λ _. IsAtWork O.standing L.standing hub.new owner) }
     ensures tells { AreClean O.standing L.standing hub.new → AreSound O.standing L.standing hub.old → IfOk result (λ over. (h : StoresValue) → MayStandAs O.standing L.standing hub.new h → over ≡ is_over (h.ledgers owner) device day) }
 {
     let told = ask_ledger(hub, owner, device)?;
@@ -72,6 +76,7 @@ fn ask_gone<O: Outbox, L: Ledger>(
     requires ledgers { HasLedgers hub.old }
     requires known { position_of_owner hub.old.scheme owner ≢ None }
     ensures asks { OnlyAsks O.standing L.standing hub.old hub.new }
+    ensures cause { IsCaused O.standing L.standing hub.old hub.new (fault_of result) }
     ensures tells { AreClean O.standing L.standing hub.new → AreSound O.standing L.standing hub.old → IfOk result (λ gone. (h : StoresValue) → MayStandAs O.standing L.standing hub.old h → gone ≡ gone_of ((h.ledgers owner).taken device)) }
 {
     let Some(at) = hub.scheme.owner_position(owner) else {
@@ -91,6 +96,8 @@ fn let_go_once<O: Outbox, L: Ledger>(
     requires ledgers { HasLedgers hub.old }
     requires known { position_of_owner hub.old.scheme owner ≢ None }
     ensures goes { GoesOnLettingGo O.standing L.standing hub.old hub.new }
+    ensures cause { AreClean O.standing L.standing hub.new → AreSound O.standing L.standing hub.old → MayGo O.standing L.standing day owner device hub.old → IsCaused O.standing L.standing hub.old hub.new (fault_of result) }
+    ensures still { OnOk result (AreSound O.standing L.standing hub.old → (later : ℕ) → MayGo O.standing L.standing later owner device hub.old → MayGo O.standing L.standing later owner device hub.new) }
     ensures left { ComesOf O.standing L.standing hub.old hub.new (λ h k. IsLeftBy h (Forgets owner device day) k) }
     ensures gone { OnOk result (ComesOf O.standing L.standing hub.old hub.new (λ h k. k ≡ without day owner device h)) }
 {
@@ -112,7 +119,9 @@ fn let_go_weeks<O: Outbox, L: Ledger>(
 ) -> Result<(), Fault>
     requires ledgers { HasLedgers hub.old }
     requires known { position_of_owner hub.old.scheme owner ≢ None }
-    ensures { LetsSomeGo O.standing L.standing day owner device hub.old hub.new }
+    ensures some { LetsSomeGo O.standing L.standing day owner device hub.old hub.new }
+    ensures cause { AreClean O.standing L.standing hub.new → AreSound O.standing L.standing hub.old → MayGo O.standing L.standing day owner device hub.old → IsCaused O.standing L.standing hub.old hub.new (fault_of result) }
+    ensures still { OnOk result (AreSound O.standing L.standing hub.old → MayGo O.standing L.standing day owner device hub.old → MayGo O.standing L.standing day owner device hub.new) }
 {
     let mut week = from.get() + WEEK;
     while week < day.get() {
@@ -135,6 +144,7 @@ fn let_go_days<O: Outbox, L: Ledger>(
     requires ledgers { HasLedgers hub.old }
     requires known { position_of_owner hub.old.scheme owner ≢ None }
     ensures some { LetsSomeGo O.standing L.standing day owner device hub.old hub.new }
+    ensures cause { AreClean O.standing L.standing hub.new → AreSound O.standing L.standing hub.old → MayGo O.standing L.standing day owner device hub.old → IsCaused O.standing L.standing hub.old hub.new (fault_of result) }
     ensures gone { OnOk result (ComesOf O.standing L.standing hub.old hub.new (λ h k. k ≡ without day owner device h)) }
 {
     let held = ask_held_from(hub, owner, device)?;
@@ -153,6 +163,7 @@ fn let_go_over<O: Outbox, L: Ledger>(
     requires ledgers { HasLedgers hub.old }
     requires known { position_of_owner hub.old.scheme owner ≢ None }
     ensures some { LetsSomeGo O.standing L.standing day owner device hub.old hub.new }
+    ensures cause { AreClean O.standing L.standing hub.new → AreSound O.standing L.standing hub.old → is_some (position_of_device hub.old.scheme device) ≡ true → IsCaused O.standing L.standing hub.old hub.new (fault_of result) }
     ensures gone { IfOk result (λ over. ComesOf O.standing L.standing hub.old hub.new (λ h k. (over ≡ is_over (h.ledgers owner) device day) × (k ≡ let_lane_go day owner device h))) }
 {
     let over = ask_over(hub, owner, device, day)?;
@@ -172,6 +183,7 @@ fn let_lane<O: Outbox, L: Ledger>(
     requires ledgers { HasLedgers hub.old }
     requires known { position_of_owner hub.old.scheme owner ≢ None }
     ensures some { LetsSomeGo O.standing L.standing day owner device hub.old hub.new }
+    ensures cause { AreClean O.standing L.standing hub.new → AreSound O.standing L.standing hub.old → is_some (position_of_device hub.old.scheme device) ≡ true → IsCaused O.standing L.standing hub.old hub.new (fault_of result) }
     ensures gone { IfOk result (λ lane. ComesOf O.standing L.standing hub.old hub.new (λ h k. (lane ≡ lane_gone day owner device h) × (k ≡ let_lane_go day owner device h))) }
 {
     let before = ask_gone(hub, owner, device)?;
@@ -224,6 +236,7 @@ fn forget_lane<O: Outbox, L: Ledger, W: Write>(
     requires ledgers { HasLedgers hub.old }
     requires known { position_of_owner hub.old.scheme owner ≢ None }
     ensures goes { GoesOnLettingGo O.standing L.standing hub.old hub.new }
+    ensures cause { AreClean O.standing L.standing hub.new → AreSound O.standing L.standing hub.old → is_some (position_of_device hub.old.scheme device) ≡ true → IsCaused O.standing L.standing hub.old hub.new (store_fault result) }
     ensures gone { OnOk result (LetsGo O.standing L.standing day ((owner, device) ∷ []) hub.old hub.new (W.contents output.old) (W.contents output.new)) }
     ensures rest { ComesOf O.standing L.standing hub.old hub.new (LeavesSome day ((owner, device) ∷ [])) }
     ensures unnamed { IfErr result (λ fault. is_refusal fault ≡ false) }
@@ -244,6 +257,7 @@ fn forget_owner<O: Outbox, L: Ledger, W: Write>(
     requires ledgers { HasLedgers hub.old }
     requires known { position_of_owner hub.old.scheme owner ≢ None }
     ensures goes { GoesOnLettingGo O.standing L.standing hub.old hub.new }
+    ensures cause { AreClean O.standing L.standing hub.new → AreSound O.standing L.standing hub.old → IsCaused O.standing L.standing hub.old hub.new (store_fault result) }
     ensures gone { OnOk result (LetsGo O.standing L.standing day (lanes_with owner (keys_of hub.old.scheme.devices)) hub.old hub.new (W.contents output.old) (W.contents output.new)) }
     ensures rest { IfErr result (λ _. ComesOf O.standing L.standing hub.old hub.new (LeavesSome day (lanes_with owner (keys_of hub.old.scheme.devices)))) }
     ensures unnamed { IfErr result (λ fault. is_refusal fault ≡ false) }
@@ -271,6 +285,7 @@ pub fn forget_days<O: Outbox, L: Ledger, W: Write>(
 ) -> Result<(), DeskFault>
     requires ledgers { HasLedgers hub.old }
     ensures goes { GoesOnLettingGo O.standing L.standing hub.old hub.new }
+    ensures cause { AreClean O.standing L.standing hub.new → AreSound O.standing L.standing hub.old → IsCaused O.standing L.standing hub.old hub.new (store_fault result) }
     ensures gone { OnOk result (LetsGo O.standing L.standing (start_of_week hub.old.scheme day) (lanes_of hub.old.scheme) hub.old hub.new (W.contents output.old) (W.contents output.new)) }
     ensures rest { IfErr result (λ _. ComesOf O.standing L.standing hub.old hub.new (LeavesSome (start_of_week hub.old.scheme day) (lanes_of hub.old.scheme))) }
     ensures unnamed { IfErr result (λ fault. is_refusal fault ≡ false) }

@@ -173,6 +173,7 @@ pub(crate) fn ask_held_from<O: Outbox, L: Ledger>(
     requires known { position_of_owner hub.old.scheme owner ≢ None }
     ensures asks { OnlyAsks O.standing L.standing hub.old hub.new }
     ensures cause { IsCaused O.standing L.standing hub.old hub.new (fault_of result) }
+    ensures works { IfOk result (λ _. IsAtWork O.standing L.standing hub.new owner) }
     ensures tells { AreClean O.standing L.standing hub.new → AreSound O.standing L.standing hub.old → IfOk result (λ from. (h : StoresValue) → MayStandAs O.standing L.standing hub.old h → from ≡ (h.ledgers owner).from device) }
 {
     let Some(at) = hub.scheme.owner_position(owner) else {
