@@ -8,7 +8,7 @@ use Rattle.fare_scheme.specs.Words.{position_of_device}
 use Rattle.fare_store.specs.declared.fault.Fault.{Fault}
 use Rattle.fare_store.specs.declared.fault.Refused.{Refused}
 use Rattle.fare_store.specs.declared.fault.Refused.TheVariants.{Because, Failed}
-use Rattle.fare_store.specs.Standing.{Standing, Counted, fault_in, fault_of}
+use Rattle.fare_store.specs.Standing.{Standing, Counted, fault_in}
 use Rattle.fare_store.specs.OutboxWords.{OutboxValue}
 use Rattle.fare_store.specs.LedgerWords.{LedgerValue}
 use Rattle.fare_sessions.specs.declared.closing.ClosingFault.{ClosingFault}

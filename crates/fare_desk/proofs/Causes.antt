@@ -17,7 +17,7 @@ use Rattle.fare_sessions.specs.declared.billing.BillingFault.{BillingFault}
 use Rattle.fare_sessions.specs.declared.billing.BillingFault.TheVariants as billing
 use Rattle.fare_sessions.specs.declared.hub.Hub.{Hub}
 use Rattle.fare_sessions.specs.Stores.{IsLedgerOf, ReplacesLedger}
-use Rattle.fare_desk.specs.Causes.{IsAtWork, IsCaused, failures_of, store_fault, store_named}
+use Rattle.fare_desk.specs.Causes.{IsAtWork, failures_of, store_fault, store_named}
 use Rattle.fare_desk.specs.Faults.{of_bill, of_store}
 use Rattle.fare_desk.specs.declared.fault.DeskFault.{DeskFault}
 use Rattle.fare_desk.specs.declared.fault.DeskFault.TheVariants as desk

@@ -1,5 +1,5 @@
 -- Letting go that fails where a store failed.
-use Rattle.std.proofs.Common.{◌≡◌, ℕ, ◌+◌, ◌≤◌, None, Some, Bool, true, false, refl, sym, ap, ◌∙◌, subst, inl, arith}
+use Rattle.std.proofs.Common.{◌≡◌, ℕ, ◌+◌, ◌≤◌, None, Bool, true, false, refl, sym, ap, ◌∙◌, subst, inl, arith}
 use Rattle.std.specs.Prelude.{◌||◌, ◌&&◌, not, if◌then◌else◌, nat_le, nat_lt, Option, Result, Ok, Err, is_some}
 use Rattle.std.proofs.Math.Logic.{∥∥₁_elim}
 use Rattle.std.proofs.lemmas.Bool.Decides.{nat_tests}
@@ -18,7 +18,7 @@ use Rattle.fare_history.specs.Stores.{StoresValue}
 use Rattle.fare_sessions.specs.declared.forgetting.ForgettingFault.{ForgettingFault}
 use Rattle.fare_sessions.specs.declared.hub.Hub.{Hub}
 use Rattle.fare_sessions.specs.Forgetting.{AsksOutbox, HasForgotten, as_forgetting, as_removed}
-use Rattle.fare_sessions.specs.Stores.{AreClean, AreSound, ComesOf, MayStandAs, ReplacesLedger}
+use Rattle.fare_sessions.specs.Stores.{AreClean, AreSound, ComesOf, ReplacesLedger}
 use Rattle.fare_sessions.proofs.Follow.{clean_back}
 use Rattle.fare_sessions.proofs.Somethings.{hub_holds_ledger}
 use Rattle.fare_desk.specs.Causes.{IsAtWork, IsCaused, failures_of}
@@ -151,9 +151,9 @@ module _ {O L : Type 0} (outbox : O → Standing OutboxValue) (ledger : L → St
           let judged = (writes.value live_new (sound.lawful.ledgers_are h.one.place h.one.own_old h.one.was live)).1.0 in
           ∥∥₁_elim (hub_holds_ledger outbox ledger outboxes_sound ledgers_sound old clean_old owner h.one.own_old (h.one.place, h.one.at, h.one.was) (ledger h.one.own_old).value (inl (live, refl))) (λ a b. absurd a)
           (λ s.
-              let over = subst (λ (l : LedgerValue). is_over l device day ≡ true) s.2 (m.over clean_old s.0 s.1) in
-              let both : ◌≡◌ {A = Result Unit ForgetFault} (Ok tt) (Err NotClosed) = sym (over_goes (ledger h.one.own_old).value device day knows over) ∙ judged in
-              absurd (cc))
+          let over = subst (λ (l : LedgerValue). is_over l device day ≡ true) s.2 (m.over clean_old s.0 s.1) in
+          let both : ◌≡◌ {A = Result Unit ForgetFault} (Ok tt) (Err NotClosed) = sym (over_goes (ledger h.one.own_old).value device day knows over) ∙ judged in
+          absurd (cc))
 
       pub never_refused : (why : ForgettingFault) → result ≡ Err (Because why) → ⊥
       never_refused why is = by h.did.answer refl h.did.in_outbox

@@ -33,9 +33,10 @@ loop-place-preserved g c =
     let os = old.scheme.owners in
     let ds = keys_of old.scheme.devices in
     let at : id_at os c.loop-place.place ≡ _ = ap (λ sc. id_at sc.owners c.loop-place.place) (sym s.goes.scheme) ∙ entry_at c.loop-place.hub.scheme.owners c.owners.result.now c.loop-place.place c.index-owners-place.result c.owners.ensures.value (search rules) c.index-owners-place.is in
-    let closed = subst (λ sc. HasClosedLanes g.O.Outbox.standing g.L.Ledger.standing (lanes_with c.index-owners-place.result (keys_of sc.devices)) c.loop-place.hub c.close_owner.new.hub (g.W.Write.contents c.loop-place.output) (g.W.Write.contents c.close_owner.new.output)) s.goes.scheme c.in_ok-close_owner.ensures.closed in
-    (over_more g.O.Outbox.standing g.L.Ledger.standing old c.loop-place.hub c.close_owner.new.hub (lanes_over (take c.loop-place.place (keys_of os)) ds) (lanes_with c.index-owners-place.result ds) _
-    (g.W.Write.contents c.args.output.now) (g.W.Write.contents c.loop-place.output) (g.W.Write.contents c.close_owner.new.output) s c.close_owner.ensures.goes closed (owners_more ds os c.loop-place.place c.index-owners-place.result at),
-    λ clean sound.
-        let before = clean_back g.O.Outbox.standing g.L.Ledger.standing c.loop-place.hub c.close_owner.new.hub c.close_owner.ensures.goes.follow clean in
-        counted_done _ _ c.close_owner.result tt c.in_ok-close_owner.was (c.close_owner.ensures.cause clean (c.loop-place.invariant.0.goes.sound sound)) ∙ c.loop-place.invariant.1 before sound)
+    let closed = subst (λ sc. HasClosedLanes g.O.Outbox.standing g.L.Ledger.standing (lanes_with c.index-owners-place.result (keys_of sc.devices)) c.loop-place.hub c.close_owner.new.hub (g.W.Write.contents c.loop-place.output) (g.W.Write.contents c.close_owner.new.output)) s.goes.scheme c.in_ok-close_owner.ensures.closed in (
+      over_more g.O.Outbox.standing g.L.Ledger.standing old c.loop-place.hub c.close_owner.new.hub (lanes_over (take c.loop-place.place (keys_of os)) ds) (lanes_with c.index-owners-place.result ds) _
+          (g.W.Write.contents c.args.output.now) (g.W.Write.contents c.loop-place.output) (g.W.Write.contents c.close_owner.new.output) s c.close_owner.ensures.goes closed (owners_more ds os c.loop-place.place c.index-owners-place.result at),
+      λ clean sound.
+          let before = clean_back g.O.Outbox.standing g.L.Ledger.standing c.loop-place.hub c.close_owner.new.hub c.close_owner.ensures.goes.follow clean in
+          counted_done _ _ c.close_owner.result tt c.in_ok-close_owner.was (c.close_owner.ensures.cause clean (c.loop-place.invariant.0.goes.sound sound)) ∙ c.loop-place.invariant.1 before sound,
+    )

@@ -180,12 +180,13 @@ loop-preserved g c =
     let written = subst (Appends (g.W.Write.contents c.loop.output) (g.W.Write.contents c.write_text.new.output)) (c.deref.ensures.value ∙ (c.in_ok-line.ensures.line ∙ ap (λ a. try_line c.args.owner c.args.device c.in-Some.day (reply_of c.args.device c.in-Some.day a)) c.in-Ok.is)) c.in_ok-write_text.ensures.written in
     let answered = subst (HasAnswered g.O.Outbox.standing g.L.Ledger.standing c.args.owner c.args.device c.in-Some.day c.next_close.new.self c.try_close.new.hub) c.in-Ok.is c.in_ok-answer.ensures.answered in
     let behind : IsDayBehind c.loop.last c.in-Some.day = c.is_behind.ensures.0 c.if-not-is_behind.false in
-    let more : suc c.loop.counter ≡ c.loop.counter + 1 = omega arith in
-    (subst (StandsLane g.O.Outbox.standing g.L.Ledger.standing c.args.owner c.args.device c.args.hub.now c.try_close.new.hub (g.W.Write.contents c.args.output.now) (g.W.Write.contents c.write_text.new.output) (Some c.in-Some.day)) more
-    (lane_closed g.O.Outbox.standing g.L.Ledger.standing c.args.owner c.args.device c.args.hub.now c.loop.hub c.next_close.new.self (g.W.Write.contents c.args.output.now) (g.W.Write.contents c.loop.output) c.loop.last c.loop.counter c.loop.invariant.0 c.next_close.ensures.reads c.try_close.new.hub c.in-Some.day behind c.in_ok-line.ensures.dated
-    (λ clean sound h may. subst (λ (o : Option ℕ). IsToClose (h.ledgers c.args.owner) c.args.device o) c.in-Some.is ((c.in_ok-day.ensures.answer clean sound known h may).1))
-    c.try_close.ensures.goes (g.W.Write.contents c.write_text.new.output) answered written),
-    tried)
+    let more : suc c.loop.counter ≡ c.loop.counter + 1 = omega arith in (
+      subst (StandsLane g.O.Outbox.standing g.L.Ledger.standing c.args.owner c.args.device c.args.hub.now c.try_close.new.hub (g.W.Write.contents c.args.output.now) (g.W.Write.contents c.write_text.new.output) (Some c.in-Some.day)) more
+          (lane_closed g.O.Outbox.standing g.L.Ledger.standing c.args.owner c.args.device c.args.hub.now c.loop.hub c.next_close.new.self (g.W.Write.contents c.args.output.now) (g.W.Write.contents c.loop.output) c.loop.last c.loop.counter c.loop.invariant.0 c.next_close.ensures.reads c.try_close.new.hub c.in-Some.day behind c.in_ok-line.ensures.dated
+          (λ clean sound h may. subst (λ (o : Option ℕ). IsToClose (h.ledgers c.args.owner) c.args.device o) c.in-Some.is ((c.in_ok-day.ensures.answer clean sound known h may).1))
+          c.try_close.ensures.goes (g.W.Write.contents c.write_text.new.output) answered written),
+      tried,
+    )
 
 pub returns-clause-goes : goal.returns-clause-goes
 returns-clause-goes g c = c.loop.invariant.0.goes

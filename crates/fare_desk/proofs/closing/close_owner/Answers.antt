@@ -27,9 +27,10 @@ loop-place-preserved g c =
     let s = c.loop-place.invariant.0 in
     let old = c.args.hub.now in
     let ds = old.scheme.devices in
-    let at : id_at ds c.loop-place.place ≡ _ = ap (λ sc. id_at sc.devices c.loop-place.place) (sym s.goes.scheme) ∙ entry_at c.loop-place.hub.scheme.devices c.devices.result.now c.loop-place.place c.index-devices-place.result c.devices.ensures.value (search rules) c.index-devices-place.is in
-    (over_more g.O.Outbox.standing g.L.Ledger.standing old c.loop-place.hub c.close_lane.new.hub (lanes_with c.args.owner (take c.loop-place.place (keys_of ds))) ((c.args.owner, c.index-devices-place.result) ∷ []) _
-    (g.W.Write.contents c.args.output.now) (g.W.Write.contents c.loop-place.output) (g.W.Write.contents c.close_lane.new.output) s c.close_lane.ensures.goes c.in_ok-close_lane.ensures.closed (devices_more c.args.owner ds c.loop-place.place c.index-devices-place.result at),
-    λ clean sound.
-        let before = clean_back g.O.Outbox.standing g.L.Ledger.standing c.loop-place.hub c.close_lane.new.hub c.close_lane.ensures.goes.follow clean in
-        counted_done _ _ c.close_lane.result tt c.in_ok-close_lane.was (c.close_lane.ensures.cause clean (c.loop-place.invariant.0.goes.sound sound)) ∙ c.loop-place.invariant.1 before sound)
+    let at : id_at ds c.loop-place.place ≡ _ = ap (λ sc. id_at sc.devices c.loop-place.place) (sym s.goes.scheme) ∙ entry_at c.loop-place.hub.scheme.devices c.devices.result.now c.loop-place.place c.index-devices-place.result c.devices.ensures.value (search rules) c.index-devices-place.is in (
+      over_more g.O.Outbox.standing g.L.Ledger.standing old c.loop-place.hub c.close_lane.new.hub (lanes_with c.args.owner (take c.loop-place.place (keys_of ds))) ((c.args.owner, c.index-devices-place.result) ∷ []) _
+          (g.W.Write.contents c.args.output.now) (g.W.Write.contents c.loop-place.output) (g.W.Write.contents c.close_lane.new.output) s c.close_lane.ensures.goes c.in_ok-close_lane.ensures.closed (devices_more c.args.owner ds c.loop-place.place c.index-devices-place.result at),
+      λ clean sound.
+          let before = clean_back g.O.Outbox.standing g.L.Ledger.standing c.loop-place.hub c.close_lane.new.hub c.close_lane.ensures.goes.follow clean in
+          counted_done _ _ c.close_lane.result tt c.in_ok-close_lane.was (c.close_lane.ensures.cause clean (c.loop-place.invariant.0.goes.sound sound)) ∙ c.loop-place.invariant.1 before sound,
+    )

@@ -25,9 +25,9 @@ returns-in_err-forget_owner-clause-goes g c = letting_join g.O.Outbox.standing g
 
 pub returns-in_err-forget_owner-clause-cause : goal.returns-in_err-forget_owner-clause-cause
 returns-in_err-forget_owner-clause-cause g c = λ clean sound.
-        let before = clean_back g.O.Outbox.standing g.L.Ledger.standing c.loop-place.hub c.forget_owner.new.hub c.forget_owner.ensures.goes.follow clean in
-        counted_then _ _ _ (store_fault c.from_residual.result) (c.loop-place.invariant.1 before sound)
-        (counted_handed _ _ c.forget_owner.result c.from_residual.result c.in_err-forget_owner.field-0.0 c.in_err-forget_owner.was c.from_residual.ensures.1 (c.forget_owner.ensures.cause clean (c.loop-place.invariant.0.goes.sound sound)))
+    let before = clean_back g.O.Outbox.standing g.L.Ledger.standing c.loop-place.hub c.forget_owner.new.hub c.forget_owner.ensures.goes.follow clean in
+    counted_then _ _ _ (store_fault c.from_residual.result) (c.loop-place.invariant.1 before sound)
+    (counted_handed _ _ c.forget_owner.result c.from_residual.result c.in_err-forget_owner.field-0.0 c.in_err-forget_owner.was c.from_residual.ensures.1 (c.forget_owner.ensures.cause clean (c.loop-place.invariant.0.goes.sound sound)))
 
 pub returns-in_err-forget_owner-clause-rest : goal.returns-in_err-forget_owner-clause-rest
 returns-in_err-forget_owner-clause-rest g c =
@@ -49,9 +49,10 @@ loop-place-preserved g c =
     let os = old.scheme.owners in
     let ds = keys_of old.scheme.devices in
     let at : id_at os c.loop-place.place ≡ _ = ap (λ sc. id_at sc.owners c.loop-place.place) (sym s.goes.scheme) ∙ entry_at c.loop-place.hub.scheme.owners c.owners.result.now c.loop-place.place c.index-owners-place.result c.owners.ensures.value (search rules) c.index-owners-place.is in
-    let gone = subst (λ sc. LetsGo g.O.Outbox.standing g.L.Ledger.standing c.week_start-first.result (lanes_with c.index-owners-place.result (keys_of sc.devices)) c.loop-place.hub c.forget_owner.new.hub (g.W.Write.contents c.loop-place.output) (g.W.Write.contents c.forget_owner.new.output)) s.goes.scheme c.in_ok-forget_owner.ensures.gone in
-    (over_more g.O.Outbox.standing g.L.Ledger.standing old c.loop-place.hub c.forget_owner.new.hub c.week_start-first.result (lanes_over (take c.loop-place.place (keys_of os)) ds) (lanes_with c.index-owners-place.result ds) _
-    (g.W.Write.contents c.args.output.now) (g.W.Write.contents c.loop-place.output) (g.W.Write.contents c.forget_owner.new.output) s c.forget_owner.ensures.goes gone (owners_more ds os c.loop-place.place c.index-owners-place.result at),
-    λ clean sound.
-        let before = clean_back g.O.Outbox.standing g.L.Ledger.standing c.loop-place.hub c.forget_owner.new.hub c.forget_owner.ensures.goes.follow clean in
-        counted_done _ _ c.forget_owner.result tt c.in_ok-forget_owner.was (c.forget_owner.ensures.cause clean (c.loop-place.invariant.0.goes.sound sound)) ∙ c.loop-place.invariant.1 before sound)
+    let gone = subst (λ sc. LetsGo g.O.Outbox.standing g.L.Ledger.standing c.week_start-first.result (lanes_with c.index-owners-place.result (keys_of sc.devices)) c.loop-place.hub c.forget_owner.new.hub (g.W.Write.contents c.loop-place.output) (g.W.Write.contents c.forget_owner.new.output)) s.goes.scheme c.in_ok-forget_owner.ensures.gone in (
+      over_more g.O.Outbox.standing g.L.Ledger.standing old c.loop-place.hub c.forget_owner.new.hub c.week_start-first.result (lanes_over (take c.loop-place.place (keys_of os)) ds) (lanes_with c.index-owners-place.result ds) _
+          (g.W.Write.contents c.args.output.now) (g.W.Write.contents c.loop-place.output) (g.W.Write.contents c.forget_owner.new.output) s c.forget_owner.ensures.goes gone (owners_more ds os c.loop-place.place c.index-owners-place.result at),
+      λ clean sound.
+          let before = clean_back g.O.Outbox.standing g.L.Ledger.standing c.loop-place.hub c.forget_owner.new.hub c.forget_owner.ensures.goes.follow clean in
+          counted_done _ _ c.forget_owner.result tt c.in_ok-forget_owner.was (c.forget_owner.ensures.cause clean (c.loop-place.invariant.0.goes.sound sound)) ∙ c.loop-place.invariant.1 before sound,
+    )

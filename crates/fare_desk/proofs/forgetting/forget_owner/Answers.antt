@@ -20,9 +20,9 @@ returns-in_err-forget_lane-clause-goes g c = letting_join g.O.Outbox.standing g.
 
 pub returns-in_err-forget_lane-clause-cause : goal.returns-in_err-forget_lane-clause-cause
 returns-in_err-forget_lane-clause-cause g c = λ clean sound.
-        let before = clean_back g.O.Outbox.standing g.L.Ledger.standing c.loop-place.hub c.forget_lane.new.hub c.forget_lane.ensures.goes.follow clean in
-        counted_then _ _ _ (store_fault c.from_residual.result) (c.loop-place.invariant.1 before sound)
-        (counted_handed _ _ c.forget_lane.result c.from_residual.result c.in_err-forget_lane.field-0.0 c.in_err-forget_lane.was c.from_residual.ensures.1 (c.forget_lane.ensures.cause clean (c.loop-place.invariant.0.goes.sound sound) (ap is_some (c.devices.ensures.placed c.loop-place.place c.index-devices-place.result (item_at c.devices.result.now c.loop-place.place c.index-devices-place.result (search rules) c.index-devices-place.is)))))
+    let before = clean_back g.O.Outbox.standing g.L.Ledger.standing c.loop-place.hub c.forget_lane.new.hub c.forget_lane.ensures.goes.follow clean in
+    counted_then _ _ _ (store_fault c.from_residual.result) (c.loop-place.invariant.1 before sound)
+    (counted_handed _ _ c.forget_lane.result c.from_residual.result c.in_err-forget_lane.field-0.0 c.in_err-forget_lane.was c.from_residual.ensures.1 (c.forget_lane.ensures.cause clean (c.loop-place.invariant.0.goes.sound sound) (ap is_some (c.devices.ensures.placed c.loop-place.place c.index-devices-place.result (item_at c.devices.result.now c.loop-place.place c.index-devices-place.result (search rules) c.index-devices-place.is)))))
 
 pub returns-in_err-forget_lane-clause-rest : goal.returns-in_err-forget_lane-clause-rest
 returns-in_err-forget_lane-clause-rest g c =
@@ -39,9 +39,10 @@ loop-place-preserved g c =
     let s = c.loop-place.invariant.0 in
     let old = c.args.hub.now in
     let ds = old.scheme.devices in
-    let at : id_at ds c.loop-place.place ≡ _ = ap (λ sc. id_at sc.devices c.loop-place.place) (sym s.goes.scheme) ∙ entry_at c.loop-place.hub.scheme.devices c.devices.result.now c.loop-place.place c.index-devices-place.result c.devices.ensures.value (search rules) c.index-devices-place.is in
-    (over_more g.O.Outbox.standing g.L.Ledger.standing old c.loop-place.hub c.forget_lane.new.hub c.args.day (lanes_with c.args.owner (take c.loop-place.place (keys_of ds))) ((c.args.owner, c.index-devices-place.result) ∷ []) _
-    (g.W.Write.contents c.args.output.now) (g.W.Write.contents c.loop-place.output) (g.W.Write.contents c.forget_lane.new.output) s c.forget_lane.ensures.goes c.in_ok-forget_lane.ensures.gone (devices_more c.args.owner ds c.loop-place.place c.index-devices-place.result at),
-    λ clean sound.
-        let before = clean_back g.O.Outbox.standing g.L.Ledger.standing c.loop-place.hub c.forget_lane.new.hub c.forget_lane.ensures.goes.follow clean in
-        counted_done _ _ c.forget_lane.result tt c.in_ok-forget_lane.was (c.forget_lane.ensures.cause clean (c.loop-place.invariant.0.goes.sound sound) (ap is_some (c.devices.ensures.placed c.loop-place.place c.index-devices-place.result (item_at c.devices.result.now c.loop-place.place c.index-devices-place.result (search rules) c.index-devices-place.is)))) ∙ c.loop-place.invariant.1 before sound)
+    let at : id_at ds c.loop-place.place ≡ _ = ap (λ sc. id_at sc.devices c.loop-place.place) (sym s.goes.scheme) ∙ entry_at c.loop-place.hub.scheme.devices c.devices.result.now c.loop-place.place c.index-devices-place.result c.devices.ensures.value (search rules) c.index-devices-place.is in (
+      over_more g.O.Outbox.standing g.L.Ledger.standing old c.loop-place.hub c.forget_lane.new.hub c.args.day (lanes_with c.args.owner (take c.loop-place.place (keys_of ds))) ((c.args.owner, c.index-devices-place.result) ∷ []) _
+          (g.W.Write.contents c.args.output.now) (g.W.Write.contents c.loop-place.output) (g.W.Write.contents c.forget_lane.new.output) s c.forget_lane.ensures.goes c.in_ok-forget_lane.ensures.gone (devices_more c.args.owner ds c.loop-place.place c.index-devices-place.result at),
+      λ clean sound.
+          let before = clean_back g.O.Outbox.standing g.L.Ledger.standing c.loop-place.hub c.forget_lane.new.hub c.forget_lane.ensures.goes.follow clean in
+          counted_done _ _ c.forget_lane.result tt c.in_ok-forget_lane.was (c.forget_lane.ensures.cause clean (c.loop-place.invariant.0.goes.sound sound) (ap is_some (c.devices.ensures.placed c.loop-place.place c.index-devices-place.result (item_at c.devices.result.now c.loop-place.place c.index-devices-place.result (search rules) c.index-devices-place.is)))) ∙ c.loop-place.invariant.1 before sound,
+    )

@@ -31,8 +31,8 @@ returns-in_err-let_go_once-clause-cause g c =
     let early = c.loop-week-test.true in
     let le : c.in-Some.next ≤ c.args.day = omega (arith, early, c.get.ensures.value, c.from.ensures, c.in-Some.ensures.value) in
     λ clean sound m.
-        counted_then _ _ _ (fault_of c.from_residual.result) (c.loop-week.invariant.2 (clean_back g.O.Outbox.standing g.L.Ledger.standing c.loop-week.hub c.let_go_once.new.hub c.let_go_once.ensures.goes.follow clean) sound m)
-        (counted_passed _ _ c.let_go_once.result c.from_residual.result c.in_err-let_go_once.field-0.0 c.in_err-let_go_once.was c.from_residual.ensures.1 (c.let_go_once.ensures.cause clean (c.loop-week.invariant.0.goes.sound sound) (may_earlier g.O.Outbox.standing g.L.Ledger.standing c.args.owner c.args.device c.loop-week.hub c.in-Some.next c.args.day le (c.loop-week.invariant.1 sound m))))
+    counted_then _ _ _ (fault_of c.from_residual.result) (c.loop-week.invariant.2 (clean_back g.O.Outbox.standing g.L.Ledger.standing c.loop-week.hub c.let_go_once.new.hub c.let_go_once.ensures.goes.follow clean) sound m)
+    (counted_passed _ _ c.let_go_once.result c.from_residual.result c.in_err-let_go_once.field-0.0 c.in_err-let_go_once.was c.from_residual.ensures.1 (c.let_go_once.ensures.cause clean (c.loop-week.invariant.0.goes.sound sound) (may_earlier g.O.Outbox.standing g.L.Ledger.standing c.args.owner c.args.device c.loop-week.hub c.in-Some.next c.args.day le (c.loop-week.invariant.1 sound m))))
 
 pub returns-in_err-let_go_once-clause-still : goal.returns-in_err-let_go_once-clause-still
 returns-in_err-let_go_once-clause-still g c = ok_of_none c.from_residual.result _ _ c.from_residual.ensures.1

@@ -79,8 +79,8 @@ returns-in-Ok-clause-cause g c =
     let known : is_some (position_of_owner c.args.hub.now.scheme c.args.owner) ≡ true = ap is_some (sym c.owner_position.ensures.value) ∙ c.if-is_none.ensures in
     let h = c.retire.ensures.retires (still_there g.O.Outbox.standing g.L.Ledger.standing c.args.hub.now c.ask_retired.new.hub c.args.owner c.ask_retired.ensures.asks known) in
     λ clean sound. counted_write _ _ c.write_text.result c.write_text.ensures.failed
-        (retire_counted g.O.Outbox.standing g.L.Ledger.standing c.ask_retired.new.hub c.retire.new.self c.args.owner c.args.device c.retire.result h None (ap (λ (r : Result Unit (Refused RetiringFault)). fault_in r) c.in-Ok.is)
-        ∙ counted_ok _ _ c.ask_retired.result c.in_ok-retired.retired c.in_ok-retired.was c.ask_retired.ensures.cause)
+    (retire_counted g.O.Outbox.standing g.L.Ledger.standing c.ask_retired.new.hub c.retire.new.self c.args.owner c.args.device c.retire.result h None (ap (λ (r : Result Unit (Refused RetiringFault)). fault_in r) c.in-Ok.is)
+    ∙ counted_ok _ _ c.ask_retired.result c.in_ok-retired.retired c.in_ok-retired.was c.ask_retired.ensures.cause)
 
 pub returns-in-Ok-clause-retired : goal.returns-in-Ok-clause-retired
 returns-in-Ok-clause-retired g c =
@@ -112,10 +112,10 @@ returns-clause-cause g c =
     let known : is_some (position_of_owner c.args.hub.now.scheme c.args.owner) ≡ true = ap is_some (sym c.owner_position.ensures.value) ∙ c.if-is_none.ensures in
     let h = c.retire.ensures.retires (still_there g.O.Outbox.standing g.L.Ledger.standing c.args.hub.now c.ask_retired.new.hub c.args.owner c.ask_retired.ensures.asks known) in
     λ clean sound.
-        let before = clean_back g.O.Outbox.standing g.L.Ledger.standing c.ask_retired.new.hub c.retire.new.self c.retire.ensures.follow clean in
-        let there : is_some (position_of_device c.ask_retired.new.hub.scheme c.args.device) ≡ true = ap (λ (sc : SchemeValue). is_some (position_of_device sc c.args.device)) c.ask_retired.ensures.asks.scheme ∙ (ap is_some (sym c.device_position.ensures.value) ∙ c.if-is_none-2.ensures) in
-        counted_then _ _ _ (store_named c.from.result) (counted_ok _ _ c.ask_retired.result c.in_ok-retired.retired c.in_ok-retired.was c.ask_retired.ensures.cause)
-        (retire_refused g.O.Outbox.standing g.L.Ledger.standing c.ask_retired.new.hub c.retire.new.self c.args.owner c.args.device c.retire.result h c.in_ok-retired.ensures.works before (c.ask_retired.ensures.asks.sound sound) there c.in-Err.refused c.from.result c.in-Err.is c.from.ensures)
+    let before = clean_back g.O.Outbox.standing g.L.Ledger.standing c.ask_retired.new.hub c.retire.new.self c.retire.ensures.follow clean in
+    let there : is_some (position_of_device c.ask_retired.new.hub.scheme c.args.device) ≡ true = ap (λ (sc : SchemeValue). is_some (position_of_device sc c.args.device)) c.ask_retired.ensures.asks.scheme ∙ (ap is_some (sym c.device_position.ensures.value) ∙ c.if-is_none-2.ensures) in
+    counted_then _ _ _ (store_named c.from.result) (counted_ok _ _ c.ask_retired.result c.in_ok-retired.retired c.in_ok-retired.was c.ask_retired.ensures.cause)
+    (retire_refused g.O.Outbox.standing g.L.Ledger.standing c.ask_retired.new.hub c.retire.new.self c.args.owner c.args.device c.retire.result h c.in_ok-retired.ensures.works before (c.ask_retired.ensures.asks.sound sound) there c.in-Err.refused c.from.result c.in-Err.is c.from.ensures)
 
 pub returns-clause-failed : goal.returns-clause-failed
 returns-clause-failed g c =
