@@ -1,4 +1,5 @@
 mod Asked
+mod Failed
 mod InDatabases
 mod Many
 mod Served

@@ -1,5 +1,5 @@
 -- What comes of a question of the stores, or an order.
-use Rattle.std.specs.Prelude.{◌≡◌, ◌≢◌, ◌↔◌, ℕ, false, List, ◌++◌, Option, None, Result, Ok, Err, is_some}
+use Rattle.std.specs.Prelude.{◌≡◌, ◌≢◌, ◌↔◌, ◌⊎◌, ◌<◌, ◌≤◌, ℕ, false, List, ◌++◌, Option, None, Result, Ok, Err, is_some}
 use Rattle.std.specs.Io.KnownBytes.{Appends, Keeps}
 use Rattle.std.specs.Map.{keys_of}
 use Rattle.fare_cap.specs.Bills.{BillValue}
@@ -16,6 +16,7 @@ use Rattle.fare_command.specs.declared.words.SchemeSource.{SchemeSource}
 use Rattle.fare_command.specs.declared.words.Question.{Question}
 use Rattle.fare_command.specs.declared.words.Question.TheVariants.{Close, Bill, Settle, Stand, Retire, Forget}
 use Rattle.fare_desk.specs.Billing.{WritesBill, WritesSettlement}
+use Rattle.fare_desk.specs.Causes.{failures_of}
 use Rattle.fare_desk.specs.Faults.{is_of_retire, is_refusal, name_of}
 use Rattle.fare_desk.specs.Retiring.{LeavesLane, RetiresLane}
 use Rattle.fare_desk.specs.Forgetting.{AreGoneLines, LeavesSome, LetsGo}
@@ -75,6 +76,10 @@ FailsOf outbox ledger (Settle owner day) old new fault = FailsBill outbox ledger
 FailsOf outbox ledger Stand old new fault = is_refusal fault ≡ false
 FailsOf outbox ledger (Retire owner device) old new fault = FailsRetire outbox ledger owner device old new fault
 FailsOf outbox ledger (Forget day) old new fault = (is_refusal fault ≡ false) × ComesOf outbox ledger old new (LeavesSome (week_start old.scheme day) (lanes_of old.scheme))
+
+-- a store failed: the stores' failures, counted together, rose or stood at the greatest count
+abbrev pub HasFailed : {O L : Type 0} → (O → Standing OutboxValue) → (L → Standing LedgerValue) → Hub O L → Hub O L → Type 0
+HasFailed outbox ledger old new = (failures_of outbox ledger old < failures_of outbox ledger new) ⊎ (18446744073709551615 ≤ failures_of outbox ledger old)
 
 -- What was written to it, by the scheme alone. To `close`, for each lane a line for each of some days in a row, all of
 -- which were closed but the last, which may have been refused; to `stand`, a line for each device and for each lane; to

@@ -1,8 +1,8 @@
 ghost use Rattle.std.specs.Prelude.{◌≡◌, ◌≢◌, OnOk, IfErr};
 ghost use Rattle.std.specs.Io.KnownBytes.{Keeps};
-ghost use Rattle.fare_sessions.specs.Stores.{HasLedgers};
-ghost use Rattle.fare_run.specs.Asking.{Answers, FailsOf, GoesOnAsked, IsAnsweredAtOnce};
-ghost use Rattle.fare_desk.specs.declared.fault.DeskFault.TheVariants.{Write};
+ghost use Rattle.fare_sessions.specs.Stores.{AreClean, AreSound, HasLedgers};
+ghost use Rattle.fare_run.specs.Asking.{Answers, FailsOf, GoesOnAsked, HasFailed, IsAnsweredAtOnce};
+ghost use Rattle.fare_desk.specs.declared.fault.DeskFault.TheVariants.{Store, Write};
 
 use fare_command::Question;
 use fare_desk::{
@@ -25,6 +25,7 @@ pub fn answer_over<Ob: Outbox, L: Ledger, O: Write>(
     ensures goes { GoesOnAsked Ob.standing L.standing question hub.old hub.new }
     ensures answers { OnOk result (Answers Ob.standing L.standing question hub.old hub.new (O.contents output.old) (O.contents output.new)) }
     ensures fails { IfErr result (FailsOf Ob.standing L.standing question hub.old hub.new) }
+    ensures cause { AreClean Ob.standing L.standing hub.new → AreSound Ob.standing L.standing hub.old → IfErr result (λ fault. fault ≡ Store → HasFailed Ob.standing L.standing hub.old hub.new) }
     ensures kept { IsAnsweredAtOnce question → IfErr result (λ fault. fault ≢ Write → Keeps (O.contents output.old) (O.contents output.new)) }
 {
     match question {

@@ -1,5 +1,6 @@
 use Rattle.fare_desk.proofs.Going.{goes_asks, goes_read}
 use Rattle.fare_run.proofs.Asked.{retire_fails}
+use Rattle.fare_run.proofs.Failed.{bill_has_failed, has_failed}
 use Rattle.fare_run.proofs.asking.answer_over.Goals as goal
 
 pub returns-in-Close-clause-goes : goal.returns-in-Close-clause-goes
@@ -24,3 +25,21 @@ returns-in-Retire-clause-fails g c =
 
 pub returns-in-Forget-clause-goes : goal.returns-in-Forget-clause-goes
 returns-in-Forget-clause-goes g c = rw c.in-Forget.is c.forget_days.ensures.goes
+
+pub returns-in-Close-clause-cause : goal.returns-in-Close-clause-cause
+returns-in-Close-clause-cause g c = λ clean sound. has_failed g.Ob.Outbox.standing g.L.Ledger.standing c.args.hub.now c.close_days.new.hub c.close_days.result (c.close_days.ensures.cause clean sound)
+
+pub returns-in-Stand-clause-cause : goal.returns-in-Stand-clause-cause
+returns-in-Stand-clause-cause g c = λ clean sound. has_failed g.Ob.Outbox.standing g.L.Ledger.standing c.args.hub.now c.write_standing.new.hub c.write_standing.result (c.write_standing.ensures.cause)
+
+pub returns-in-Retire-clause-cause : goal.returns-in-Retire-clause-cause
+returns-in-Retire-clause-cause g c = λ clean sound. has_failed g.Ob.Outbox.standing g.L.Ledger.standing c.args.hub.now c.retire_lane.new.hub c.retire_lane.result (c.retire_lane.ensures.cause clean sound)
+
+pub returns-in-Forget-clause-cause : goal.returns-in-Forget-clause-cause
+returns-in-Forget-clause-cause g c = λ clean sound. has_failed g.Ob.Outbox.standing g.L.Ledger.standing c.args.hub.now c.forget_days.new.hub c.forget_days.result (c.forget_days.ensures.cause clean sound)
+
+pub returns-in-Bill-clause-cause : goal.returns-in-Bill-clause-cause
+returns-in-Bill-clause-cause g c = λ clean sound. bill_has_failed g.Ob.Outbox.standing g.L.Ledger.standing c.args.hub.now c.write_bill.new.hub c.in-Bill.owner c.in-Bill.day c.write_bill.result c.write_bill.ensures.cause (c.write_bill.ensures.refused clean sound)
+
+pub returns-in-Settle-clause-cause : goal.returns-in-Settle-clause-cause
+returns-in-Settle-clause-cause g c = λ clean sound. bill_has_failed g.Ob.Outbox.standing g.L.Ledger.standing c.args.hub.now c.write_settlement.new.hub c.in-Settle.owner c.in-Settle.day c.write_settlement.result c.write_settlement.ensures.cause (c.write_settlement.ensures.refused clean sound)
