@@ -1,6 +1,6 @@
 -- What the call itself did after the joins, one step more.
 use Rattle.std.proofs.Common.{◌≡◌, ◌==◌, ℕ, ◌+◌, List, [], ◌∷◌, ◌++◌, Some, None, true, false, refl, sym, ap, ◌∙◌, subst, append_assoc, arith, inl, inr, length-append}
-use Rattle.std.specs.Prelude.{Option, ◌⊎◌}
+use Rattle.std.specs.Prelude.{Option, Ok, Err, ◌⊎◌}
 use Rattle.std.proofs.lemmas.List.{append-nil}
 use Rattle.std.proofs.lemmas.List.Elements.{filter-append}
 use Rattle.fare_frame.specs.declared.frame.Frame.{Frame}
@@ -27,6 +27,7 @@ use Rattle.fare_collect.specs.Stations.{held_list, AreExpected, EndUnexpected, S
 use Rattle.fare_collect.specs.Resting.{HasKeepingLeft, HasKeptLeft, HasNext, HasPassed, HasReadOn, HasRested, HasRestedBatch, IsGoing}
 use Rattle.fare_writer.specs.Keeping.{HasKept, HasKeptBatch}
 use Rattle.fare_writer.specs.Judging.{items_in, HasJudged}
+use Rattle.fare_writer.specs.declared.judging.UnexpectedFrame.{UnexpectedFrame}
 use Rattle.fare_writer.proofs.Written.{written_none, written_then}
 use Rattle.fare_collect.proofs.Read.{arrivals_append, next_append, expected_append}
 
@@ -127,8 +128,8 @@ passed_then sc talks id t0 t1 t2 xs ys was going next = record {
 
 -- a frame went to the collector, which said what it accepts of it
 pub passed_frame : {S : Type 0} (sc : SchemeValue) (talks : S → Talk) (id : ℕ) (t1 t2 : Station S) (k : Collector) (f : Frame) (accepted : Option Arrived)
-    → IsGoing t1.end → HasNext (talks t1.source) (talks t2.source) t1.end t2.end (Some f) → t2.collector ≡ t1.collector → HasJudged sc id f t2.collector k (Some accepted)
-    → HasPassed sc talks id t1 (record t2 { collector = k }) (items_in (Some accepted)) × IsGoing t2.end
+    → IsGoing t1.end → HasNext (talks t1.source) (talks t2.source) t1.end t2.end (Some f) → t2.collector ≡ t1.collector → HasJudged sc id f t2.collector k (Ok accepted)
+    → HasPassed sc talks id t1 (record t2 { collector = k }) (items_in (Ok accepted)) × IsGoing t2.end
 passed_frame sc talks id t1 t2 k f accepted going next coll judged =
     let goes = next.going going.0 f refl in (
       record {
@@ -143,18 +144,18 @@ passed_frame sc talks id t1 t2 k f accepted going next coll judged =
         named = judged.named ∙ ap (λ c. c.station) coll;
         at_end = λ e. absurd (let z : true ≡ false = sym e ∙ goes.1 ∙ going.1 in cc);
         unexpected = λ e. absurd (let z : ◌≡◌ {A = Option StationFault} None (Some Unexpected) = sym goes.0 ∙ e in cc);
-        expected = (λ wrong. let is = judged.expected wrong in absurd (cc is), tt);
+        expected = (λ wrong. absurd (let is : false ≡ true = judged.expected wrong in cc is), tt);
         cause = next.cause going.0;
       },
       (goes.0, goes.1 ∙ going.1),
     )
 
 -- a frame came that no device sends
-pub passed_unexpected : {S : Type 0} (sc : SchemeValue) (talks : S → Talk) (id : ℕ) (t1 t2 t3 : Station S) (k : Collector) (f : Frame)
-    → IsGoing t1.end → HasNext (talks t1.source) (talks t2.source) t1.end t2.end (Some f) → t2.collector ≡ t1.collector → HasJudged sc id f t2.collector k None
+pub passed_unexpected : {S : Type 0} (sc : SchemeValue) (talks : S → Talk) (id : ℕ) (t1 t2 t3 : Station S) (k : Collector) (f : Frame) (unexpected : UnexpectedFrame)
+    → IsGoing t1.end → HasNext (talks t1.source) (talks t2.source) t1.end t2.end (Some f) → t2.collector ≡ t1.collector → HasJudged sc id f t2.collector k (Err unexpected)
     → t3.source ≡ t2.source → t3.collector ≡ k → t3.end.held ≡ t2.end.held → t3.end.fault ≡ Some Unexpected → t3.end.ended ≡ t2.end.ended
     → HasPassed sc talks id t1 t3 []
-passed_unexpected sc talks id t1 t2 t3 k f going next coll judged source collector held fault ended =
+passed_unexpected sc talks id t1 t2 t3 k f unexpected going next coll judged source collector held fault ended =
     let goes = next.going going.0 f refl in
     let same : talks t3.source ≡ talks t2.source = ap talks source in
     record {

@@ -1,4 +1,4 @@
-ghost use Rattle.std.specs.Prelude.{◌≡◌, ◌++◌, ◌∷◌, [], true, false, None, IfSome, IfNone};
+ghost use Rattle.std.specs.Prelude.{◌≡◌, ◌++◌, ◌∷◌, [], true, false, IfErr, IfOk, is_err};
 ghost use Rattle.fare_inbox_queue.specs.Inbox.{station_in};
 ghost use Rattle.fare_inbox_queue.specs.InboxPasses.{station_of, sent_list, IsStationOf};
 ghost use Rattle.fare_collector.specs.Collecting.{next_in};
@@ -13,7 +13,7 @@ use fare_frame::Frame;
 use fare_inbox_queue::{Arrived, Inbox, StationPass};
 use fare_record::Record;
 use fare_session::{Gate, Point};
-use fare_writer::Floor;
+use fare_writer::{Floor, UnexpectedFrame};
 use std::sync::Wait;
 use std::time::Clock;
 
@@ -74,8 +74,8 @@ fn put_tap<G: Gate, R: Wait + Clock>(
     false
 }
 
-// Takes a frame to the collector and, where that accepts it, to the inbox. `None` where no device sends such a
-// frame; `Some(false)` where the inbox didn't take it, and then the collector is as it was.
+// Takes a frame to the collector and, where that accepts it, to the inbox. False where the inbox didn't take it, and
+// then the collector is as it was. Refused where no device sends such a frame.
 pub(crate) fn pass_on<G: Gate, R: Wait + Clock>(
     floor: &Floor<G, R>,
     inbox: &Inbox,
@@ -84,25 +84,25 @@ pub(crate) fn pass_on<G: Gate, R: Wait + Clock>(
     pacing: &mut Pacing,
     pass: &mut StationPass,
     collector: &mut Collector,
-) -> Option<bool>
+) -> Result<bool, UnexpectedFrame>
     requires queue { IsStationOf inbox.now pass.old }
     ensures queue { IsStationOf inbox.now pass.new }
-    ensures some { IfSome result (HasPassedOn floor.now.scheme.now (station_of pass.old) (next_in collector.old) (next_in collector.new) (sent_list pass.old) (sent_list pass.new) frame.now) }
-    ensures expected { IsUnexpected frame.now → result ≡ None }
-    ensures none { IfNone result (IsUnexpected frame.now × (next_in collector.new ≡ next_in collector.old) × (sent_list pass.new ≡ sent_list pass.old)) }
+    ensures passed { IfOk result (HasPassedOn floor.now.scheme.now (station_of pass.old) (next_in collector.old) (next_in collector.new) (sent_list pass.old) (sent_list pass.new) frame.now) }
+    ensures expected { IsUnexpected frame.now → is_err result ≡ true }
+    ensures refused { IfErr result (λ _. IsUnexpected frame.now × (next_in collector.new ≡ next_in collector.old) × (sent_list pass.new ≡ sent_list pass.old)) }
     ensures station { (station_of pass.new ≡ station_of pass.old) × (collector.new.station ≡ collector.old.station) }
 {
     floor.gate.pass(Point::StationRead(pass.station()));
     if let Some(tapped) = frame.tapped() {
-        return Some(put_tap(floor, inbox, ended, tapped, pacing, pass, collector));
+        return Ok(put_tap(floor, inbox, ended, tapped, pacing, pass, collector));
     }
-    let statement = frame.stated()?;
+    let statement = frame.stated().ok_or(UnexpectedFrame)?;
     if collector
         .accept_statement(floor.scheme, &statement)
         .is_err()
     {
-        return Some(true);
+        return Ok(true);
     }
     let item = Arrived::Stated(pass.station(), statement);
-    Some(put(floor, inbox, ended, &item, pacing, pass))
+    Ok(put(floor, inbox, ended, &item, pacing, pass))
 }

@@ -15,7 +15,7 @@ use fare_inbox_queue::{AckLine, HearPass, Inbox};
 use fare_record::AckItem;
 use fare_session::Gate;
 use fare_source::{Source, SourceFault};
-use fare_writer::Floor;
+use fare_writer::{Floor, UnexpectedFrame};
 use std::sync::Wait;
 use std::time::Clock;
 
@@ -91,9 +91,9 @@ fn read_next<S: Source, G: Gate, R: Wait + Clock>(
                 &mut post.pass,
                 collector,
             ) {
-                Some(true) => return !floor.gate.is_over(),
-                Some(false) => post.held = Some(frame),
-                None => post.fault = Some(StationFault::Unexpected),
+                Ok(true) => return !floor.gate.is_over(),
+                Ok(false) => post.held = Some(frame),
+                Err(UnexpectedFrame) => post.fault = Some(StationFault::Unexpected),
             }
         }
     }

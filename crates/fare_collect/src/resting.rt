@@ -13,7 +13,9 @@ use fare_record::StationId;
 use fare_scheme::Scheme;
 use fare_source::Source;
 use fare_store::Outbox;
-use fare_writer::{BATCH, Halt, Tally, batch_of, judge, keep, keep_all, keep_batch};
+use fare_writer::{
+    BATCH, Halt, Tally, UnexpectedFrame, batch_of, judge, keep, keep_all, keep_batch,
+};
 use std::sync::Wait;
 use std::time::Clock;
 
@@ -74,12 +76,12 @@ fn next_item<S: Source, R: Wait + Clock>(
     for _ in rt.forever() {
         let frame = next_frame(station)?;
         match judge(scheme, id, &frame, &mut station.collector) {
-            None => {
+            Err(UnexpectedFrame) => {
                 station.end.fault = Some(StationFault::Unexpected);
                 return None;
             }
-            Some(None) => {}
-            Some(Some(item)) => return Some(item),
+            Ok(None) => {}
+            Ok(Some(item)) => return Some(item),
         }
     }
     unreachable!()

@@ -23,7 +23,7 @@ pub use fault::WriterFault;
 pub use floor::Floor;
 pub use halt::Halt;
 pub use handling::handle;
-pub use judging::judge;
+pub use judging::{UnexpectedFrame, judge};
 pub use keeping::{keep, keep_all, keep_batch};
 pub use storing::writer_fault;
 pub use tally::Tally;

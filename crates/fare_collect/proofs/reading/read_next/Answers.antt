@@ -40,8 +40,8 @@ returns-in-Ok-None-clause-read g c =
     let gives : Gives a d (Ok None) = subst (λ (o : Option Frame). Gives a d (Ok o)) c.in-Ok-None.field-0-is c.in-Ok-None.ensures in
     read_at sc station a d n0 n0 s0 s0 h h None post.held true true None post.fault (sym fresh.0) refl (sym fresh.2) (read_end sc station a a d n0 n0 s0 s0 h h none gives)
 
-pub returns-in-Some-true-clause-read : goal.returns-in-Some-true-clause-read
-returns-in-Some-true-clause-read g c =
+pub returns-in-Ok-true-clause-read : goal.returns-in-Ok-true-clause-read
+returns-in-Ok-true-clause-read g c =
     let fresh = c.requires.fresh in
     let sc = c.args.floor.now.scheme.now in
     let post = c.args.post.now in
@@ -56,12 +56,12 @@ returns-in-Some-true-clause-read g c =
     let gives : Gives a d (Ok (Some frame)) = subst (λ (o : Option Frame). Gives a d (Ok o)) c.in-Ok-Some.field-0-is c.in-Ok-Some.ensures in
     let n2 = next_in c.pass_on.new.collector in
     let s2 = sent_list c.pass_on.new.pass in
-    let on : HasPassedOn sc station n0 n2 s0 s2 frame true = subst (λ (y : Bool). HasPassedOn sc station n0 n2 s0 s2 frame y) c.in-Some-true.field-0-test c.in-Some-true.ensures.some in
+    let on : HasPassedOn sc station n0 n2 s0 s2 frame true = subst (λ (y : Bool). HasPassedOn sc station n0 n2 s0 s2 frame y) c.in-Ok-true.field-0-test c.in-Ok-true.ensures.passed in
     read_at sc station a d n0 n2 s0 s2 h h None post.held false post.ended None post.fault (sym fresh.0) (sym fresh.1) (sym fresh.2)
-    (read_passed sc station a a d n0 n0 n2 s0 s0 s2 h h frame none gives on (λ wrong. absurd (let is = c.in-Some-true.ensures.expected wrong in cc is)))
+    (read_passed sc station a a d n0 n0 n2 s0 s0 s2 h h frame none gives on (λ wrong. absurd (let is = c.in-Ok-true.ensures.expected wrong in cc is)))
 
-pub returns-in-Some-false-clause-read : goal.returns-in-Some-false-clause-read
-returns-in-Some-false-clause-read g c =
+pub returns-in-Ok-false-clause-read : goal.returns-in-Ok-false-clause-read
+returns-in-Ok-false-clause-read g c =
     let fresh = c.requires.fresh in
     let sc = c.args.floor.now.scheme.now in
     let post = c.args.post.now in
@@ -76,12 +76,12 @@ returns-in-Some-false-clause-read g c =
     let gives : Gives a d (Ok (Some frame)) = subst (λ (o : Option Frame). Gives a d (Ok o)) c.in-Ok-Some.field-0-is c.in-Ok-Some.ensures in
     let n2 = next_in c.pass_on.new.collector in
     let s2 = sent_list c.pass_on.new.pass in
-    let on : HasPassedOn sc station n0 n2 s0 s2 frame false = subst (λ (y : Bool). HasPassedOn sc station n0 n2 s0 s2 frame y) c.in-Some-false.field-0-test c.in-Some-false.ensures.some in
+    let on : HasPassedOn sc station n0 n2 s0 s2 frame false = subst (λ (y : Bool). HasPassedOn sc station n0 n2 s0 s2 frame y) c.in-Ok-false.field-0-test c.in-Ok-false.ensures.passed in
     read_at sc station a d n0 n2 s0 s2 h h (Some frame) (Some frame) false post.ended None post.fault refl (sym fresh.1) (sym fresh.2)
-    (read_held sc station a a d n0 n0 n2 s0 s0 s2 h h frame none gives on (λ wrong. absurd (let is = c.in-Some-false.ensures.expected wrong in cc is)))
+    (read_held sc station a a d n0 n0 n2 s0 s0 s2 h h frame none gives on (λ wrong. absurd (let is = c.in-Ok-false.ensures.expected wrong in cc is)))
 
-pub returns-in-None-clause-read : goal.returns-in-None-clause-read
-returns-in-None-clause-read g c =
+pub returns-in-Err-pass_on-clause-read : goal.returns-in-Err-pass_on-clause-read
+returns-in-Err-pass_on-clause-read g c =
     let fresh = c.requires.fresh in
     let sc = c.args.floor.now.scheme.now in
     let post = c.args.post.now in
@@ -96,6 +96,6 @@ returns-in-None-clause-read g c =
     let gives : Gives a d (Ok (Some frame)) = subst (λ (o : Option Frame). Gives a d (Ok o)) c.in-Ok-Some.field-0-is c.in-Ok-Some.ensures in
     let n2 = next_in c.pass_on.new.collector in
     let s2 = sent_list c.pass_on.new.pass in
-    let is = c.in-None.ensures.none in
+    let is = c.in-Err-pass_on.ensures.refused in
     read_at sc station a d n0 n2 s0 s2 h h None post.held false post.ended (Some Unexpected) (Some Unexpected) (sym fresh.0) (sym fresh.1) refl
     (read_unexpected sc station a a d n0 n0 n2 s0 s0 s2 h h frame none gives is.0 is.1 is.2)
