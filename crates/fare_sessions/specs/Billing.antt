@@ -100,6 +100,10 @@ pub record HasClosed {O L : Type 0} (ledger : L → Standing LedgerValue) (old n
   pub writes : Writes (ledger one.own_old) (ledger one.own_new) (close_of (ledger one.own_old).value device day) (with_close device (ledger one.own_old).value) answer
   pub told : result ≡ as_hub answer
 
+-- it was refused by this name, and no store was asked
+abbrev pub IsRefusedAtOnce : {O L A : Type 0} → Hub O L → Hub O L → BillingFault → Result A (Refused BillingFault) → Type 0
+IsRefusedAtOnce old new why result = (new ≡ old) × (result ≡ Err (Because why))
+
 -- the owner's ledger was asked: Store is answered where its count of failures rose, and nowhere else
 pub record HasAsked {O L : Type 0} (ledger : L → Standing LedgerValue) (old new : Hub O L) (owner : ℕ) (faulted : Option Fault) : Type 0 where
   pub one : ReplacesLedger old new owner

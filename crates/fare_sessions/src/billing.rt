@@ -1,5 +1,5 @@
 //! What an owner is charged for a day, and what each operator gets of it, by the hub's ledgers.
-ghost use Rattle.std.specs.Prelude.{◌≡◌, ◌≢◌, ◌≤◌, ℕ, None, true, List, IfOk};
+ghost use Rattle.std.specs.Prelude.{◌≡◌, ◌≢◌, ◌≤◌, ◌<◌, ℕ, None, true, List, IfOk};
 ghost use Rattle.fare_cap.specs.Bills.{bill_of};
 ghost use Rattle.fare_cap.specs.Fares.{week_start};
 ghost use Rattle.fare_record.specs.Limits.{IsDay};
@@ -10,10 +10,12 @@ ghost use Rattle.fare_store.specs.Standing.{Calls, Reads, fault_in};
 ghost use Rattle.fare_store.specs.LedgerWords.{AreTapsBetween};
 ghost use Rattle.fare_world.specs.Knowing.{knows_owner};
 ghost use Rattle.fare_side.specs.Answering.{Answered};
+ghost use Rattle.fare_side.specs.declared.bill_fault.BillFault.TheVariants.{UnknownOwner, BeforeStart};
 ghost use Rattle.fare_history.specs.Stores.{StoresValue};
 ghost use Rattle.fare_agreement.specs.Agreeing.{AreNumberedLists, Agrees};
 ghost use Rattle.fare_agreement.specs.Parts.{parts_of, first_forgotten};
-ghost use Rattle.fare_sessions.specs.Billing.{refusal_of, gone_in, open_in, short_in, TellsWeek, HasAsked, HasBasis, OnlyReads, IsBillRefusal};
+ghost use Rattle.fare_sessions.specs.declared.billing.BillingFault.TheVariants.{Unbilled};
+ghost use Rattle.fare_sessions.specs.Billing.{refusal_of, gone_in, open_in, short_in, TellsWeek, HasAsked, HasBasis, OnlyReads, IsBillRefusal, IsRefusedAtOnce};
 ghost use Rattle.fare_sessions.specs.Stores.{HasLedgers, AreClean, AreSound, MayStandAs};
 
 use crate::hub::Hub;
@@ -84,8 +86,9 @@ impl<O: Outbox, L: Ledger> Hub<O, L> {
     /// closed the day of each device or retired its lane, and only as long as nothing of the week was let go. With it
     /// the devices of which it is short, in order of registration: their lanes are retired, and the day was not closed.
     ///
-    /// Refused by the first case of `BillingFault` that applies; then `Memory` where there was none for it, and
-    /// `Store` where the owner's ledger failed. The stores hold what they held.
+    /// Refused by the first case of `BillingFault` that applies, by `UnknownOwner` and `BeforeStart` before a store is
+    /// asked; then `Memory` where there was none for it, and `Store` where the owner's ledger failed. The stores hold what
+    /// they held.
     pub fn bill(
         &mut self,
         alloc: Global,
@@ -94,6 +97,8 @@ impl<O: Outbox, L: Ledger> Hub<O, L> {
     ) -> Result<(Bill, Vec<DeviceId>), Refused<BillingFault>>
         requires ledgers { HasLedgers self.old }
         ensures reads { OnlyReads O.standing L.standing self.old self.new }
+        ensures unknown { position_of_owner self.old.scheme owner ≡ None → IsRefusedAtOnce self.old self.new (Unbilled UnknownOwner) result }
+        ensures early { position_of_owner self.old.scheme owner ≢ None → day < self.old.scheme.start → IsRefusedAtOnce self.old self.new (Unbilled BeforeStart) result }
         ensures cause { position_of_owner self.old.scheme owner ≢ None → self.old.scheme.start ≤ day → HasAsked L.standing self.old self.new owner (fault_in result) }
         ensures refused { AreClean O.standing L.standing self.new → AreSound O.standing L.standing self.old → IsBillRefusal O.standing L.standing self.old owner day (refusal_of result) }
         ensures held { AreClean O.standing L.standing self.new → AreSound O.standing L.standing self.old → IfOk result (λ _. (h : StoresValue) → MayStandAs O.standing L.standing self.old h → gone_in self.old.scheme (h.ledgers owner) day ≡ None) }
@@ -119,6 +124,8 @@ impl<O: Outbox, L: Ledger> Hub<O, L> {
     ) -> Result<(Settlement, Vec<DeviceId>), Refused<BillingFault>>
         requires ledgers { HasLedgers self.old }
         ensures reads { OnlyReads O.standing L.standing self.old self.new }
+        ensures unknown { position_of_owner self.old.scheme owner ≡ None → IsRefusedAtOnce self.old self.new (Unbilled UnknownOwner) result }
+        ensures early { position_of_owner self.old.scheme owner ≢ None → day < self.old.scheme.start → IsRefusedAtOnce self.old self.new (Unbilled BeforeStart) result }
         ensures cause { position_of_owner self.old.scheme owner ≢ None → self.old.scheme.start ≤ day → HasAsked L.standing self.old self.new owner (fault_in result) }
         ensures refused { AreClean O.standing L.standing self.new → AreSound O.standing L.standing self.old → IsBillRefusal O.standing L.standing self.old owner day (refusal_of result) }
         ensures held { AreClean O.standing L.standing self.new → AreSound O.standing L.standing self.old → IfOk result (λ _. (h : StoresValue) → MayStandAs O.standing L.standing self.old h → gone_in self.old.scheme (h.ledgers owner) day ≡ None) }
@@ -142,6 +149,8 @@ impl<O: Outbox, L: Ledger> Hub<O, L> {
     ) -> Result<WeekTaps, Refused<BillingFault>>
         requires ledgers { HasLedgers self.old }
         ensures reads { OnlyReads O.standing L.standing self.old self.new }
+        ensures unknown { position_of_owner self.old.scheme owner ≡ None → IsRefusedAtOnce self.old self.new (Unbilled UnknownOwner) result }
+        ensures early { position_of_owner self.old.scheme owner ≢ None → day < self.old.scheme.start → IsRefusedAtOnce self.old self.new (Unbilled BeforeStart) result }
         ensures cause { position_of_owner self.old.scheme owner ≢ None → self.old.scheme.start ≤ day → HasAsked L.standing self.old self.new owner (fault_in result) }
         ensures refused { AreClean O.standing L.standing self.new → AreSound O.standing L.standing self.old → IsBillRefusal O.standing L.standing self.old owner day (refusal_of result) }
         ensures known { IfOk result (λ _. knows_owner self.old.scheme owner ≡ true) }
