@@ -1,7 +1,8 @@
 -- What fails is a store that failed.
-use Rattle.std.proofs.Common.{◌≡◌, ◌≢◌, ◌≤◌, ◌+◌, ◌⊎◌, ℕ, zero, suc, List, [], ◌∷◌, Some, None, length, inl, inr, refl, sym, ap, ◌∙◌, subst, arith}
+use Rattle.std.proofs.Common.{◌≡◌, ◌≢◌, ◌≤◌, ◌<◌, ◌+◌, ◌⊎◌, ℕ, zero, suc, List, [], ◌∷◌, Some, None, length, inl, inr, refl, sym, ap, ◌∙◌, subst, arith}
 use Rattle.std.specs.Prelude.{Option, Result, Ok, Err, IfErr, IfOk, IsErrAnd, slice_get}
 use Rattle.std.specs.List.{sum_by}
+use Rattle.std.proofs.lemmas.Bool.{cases_lt}
 use Rattle.std.proofs.lemmas.List.Sums.{sum_by-cons}
 use Rattle.fare_store.specs.declared.fault.Fault.{Fault}
 use Rattle.fare_store.specs.declared.fault.Fault.TheVariants as fault
@@ -16,6 +17,7 @@ use Rattle.fare_side.specs.declared.bill_fault.BillFault.TheVariants as bill
 use Rattle.fare_sessions.specs.declared.billing.BillingFault.{BillingFault}
 use Rattle.fare_sessions.specs.declared.billing.BillingFault.TheVariants as billing
 use Rattle.fare_sessions.specs.declared.hub.Hub.{Hub}
+use Rattle.fare_sessions.specs.Billing.{HasAsked, IsRefusedAtOnce}
 use Rattle.fare_sessions.specs.Stores.{IsLedgerOf, ReplacesLedger}
 use Rattle.fare_desk.specs.Causes.{IsAtWork, failures_of, store_fault, store_named}
 use Rattle.fare_desk.specs.Faults.{of_bill, of_store}
@@ -102,6 +104,17 @@ counted_bill a b r (Err q) (Failed f) was said is = refused_named a b (Failed f)
 pub billed_ok : {A : Type 0} (a b : ℕ) (r : Result A (Refused BillingFault)) (v : A) → r ≡ Ok v → Counted a b (fault_in r) → b ≡ a
 billed_ok a b r v was is = subst (λ q. Counted a b (fault_in q)) was is
 
+-- a bill that was refused by this name
+pub named_at_once : {A B : Type 0} (r : Result A (Refused BillingFault)) (s : Result B DeskFault) (why : Refused BillingFault) (name : BillingFault) → r ≡ Err why → IsErrAnd s (λ q. q ≡ of_bill why) → r ≡ Err (Because name) → s ≡ Err (of_bill (Because name))
+named_at_once r (Ok v) why name was said named = absurd said
+named_at_once {A} r (Err q) why name was said named =
+    let both : ◌≡◌ {A = Result A (Refused BillingFault)} (Err why) (Err (Because name)) = sym was ∙ named in
+    let same : why ≡ Because name = cc in
+    ap Err (said ∙ ap of_bill same)
+
+pub not_at_once : {A : Type 0} (r : Result A (Refused BillingFault)) (v : A) (name : BillingFault) → r ≡ Ok v → r ≡ Err (Because name) → ⊥
+not_at_once {A} r v name was named = let both : ◌≡◌ {A = Result A (Refused BillingFault)} (Ok v) (Err (Because name)) = sym was ∙ named in absurd (cc)
+
 -- ONE OF SEVERAL COUNTS
 module _ {L : Type 0} (each : L → ℕ) where
   same_sum : (xs ys : List L) → length ys ≡ length xs → ((place : ℕ) → slice_get ys place ≡ slice_get xs place) → sum_by each ys ≡ sum_by each xs
@@ -172,3 +185,20 @@ module _ {O L : Type 0} (outbox : O → Standing OutboxValue) (ledger : L → St
       → (fault_of r ≡ None → (ledger one.own_new).clean → (ledger one.own_new).live) → IfOk r (λ _. IsAtWork outbox ledger new owner)
   at_work old new owner one (Err f) stays = tt
   at_work old new owner one (Ok a) stays = λ clean x of. subst (λ y. (ledger y).live) (own_is old new owner one x of) (stays refl (clean.ledgers_are one.place one.own_new one.is))
+
+  -- a bill was refused before a store was asked
+  at_once : {A : Type 0} (old new : Hub O L) (why : BillingFault) (r : Result A (Refused BillingFault)) → IsRefusedAtOnce old new why r → Counted (failures_of outbox ledger old) (failures_of outbox ledger new) (fault_in r)
+  at_once old new why r refused = subst (λ q. Counted (failures_of outbox ledger old) (failures_of outbox ledger new) (fault_in q)) (sym refused.1) (ap (failures_of outbox ledger) refused.0)
+
+  -- or the owner's ledger was asked for it
+  pub counted_basis : {A : Type 0} (old new : Hub O L) (owner day : ℕ) (r : Result A (Refused BillingFault)) → new.outbox ≡ old.outbox
+      → (position_of_owner old.scheme owner ≡ None → IsRefusedAtOnce old new (billing.Unbilled bill.UnknownOwner) r)
+      → (position_of_owner old.scheme owner ≢ None → day < old.scheme.start → IsRefusedAtOnce old new (billing.Unbilled bill.BeforeStart) r)
+      → (position_of_owner old.scheme owner ≢ None → old.scheme.start ≤ day → HasAsked ledger old new owner (fault_in r))
+      → Counted (failures_of outbox ledger old) (failures_of outbox ledger new) (fault_in r)
+  counted_basis old new owner day r same unknown early asked = by (position_of_owner old.scheme owner) refl (cases_lt day old.scheme.start)
+    where
+      by : (at : Option ℕ) → position_of_owner old.scheme owner ≡ at → (day < old.scheme.start) ⊎ (old.scheme.start ≤ day) → Counted (failures_of outbox ledger old) (failures_of outbox ledger new) (fault_in r)
+      by None at days = at_once old new (billing.Unbilled bill.UnknownOwner) r (unknown at)
+      by (Some place) at (inl before) = at_once old new (billing.Unbilled bill.BeforeStart) r (early (λ none. absurd (let both : ◌≡◌ {A = Option ℕ} None (Some place) = sym none ∙ at in cc)) before)
+      by (Some place) at (inr from) = let did = asked (λ none. absurd (let both : ◌≡◌ {A = Option ℕ} None (Some place) = sym none ∙ at in cc)) from in counted_owner old new owner (fault_in r) did.one same did.cause

@@ -40,9 +40,9 @@ pub store_kept : {A : Type 0} (r : Result A DeskFault) (before : Option (List �
 store_kept (Ok a) before = tt
 store_kept (Err q) before = λ _. Keeps-refl before
 
-pub store_fault : (f : Fault) (q : DeskFault) → q ≡ of_store f → (q ≡ Memory) ⊎ (q ≡ Store)
-store_fault fault.Memory q is = inl is
-store_fault fault.Store q is = inr is
+pub memory_or_store : (f : Fault) (q : DeskFault) → q ≡ of_store f → (q ≡ Memory) ⊎ (q ≡ Store)
+memory_or_store fault.Memory q is = inl is
+memory_or_store fault.Store q is = inr is
 
 -- THE WRITER FAILED
 pub write_unnamed : {A : Type 0} (r : Result A DeskFault) → IfErr r (λ q. q ≡ Write) → IfErr r (λ q. is_refusal q ≡ false)

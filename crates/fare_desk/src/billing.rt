@@ -1,5 +1,5 @@
 //! Bills and settlements of a day, written as the replies to the same questions of a trace.
-ghost use Rattle.std.specs.Prelude.{◌≡◌, ◌≢◌, ◌≤◌, None, IfErr, OnOk, is_some};
+ghost use Rattle.std.specs.Prelude.{◌≡◌, ◌≢◌, ◌<◌, None, Err, IfErr, OnOk, is_some};
 ghost use Rattle.std.specs.Io.KnownBytes.{Keeps};
 ghost use Rattle.fare_scheme.specs.Words.{position_of_owner};
 ghost use Rattle.fare_sessions.specs.Billing.{IsBillRefusal, OnlyReads};
@@ -7,7 +7,7 @@ ghost use Rattle.fare_sessions.specs.Stores.{AreClean, AreSound, HasLedgers};
 ghost use Rattle.fare_desk.specs.Billing.{WritesBill, WritesSettlement};
 ghost use Rattle.fare_desk.specs.Causes.{IsCaused, store_fault};
 ghost use Rattle.fare_desk.specs.Faults.{is_refusal, name_of, refused_of};
-ghost use Rattle.fare_desk.specs.declared.fault.DeskFault.TheVariants.{Write};
+ghost use Rattle.fare_desk.specs.declared.fault.DeskFault.TheVariants.{BeforeStart, UnknownOwner, Write};
 
 use crate::fault::DeskFault;
 use crate::writing::write_reply;
@@ -33,7 +33,9 @@ pub fn write_bill<O: Outbox, L: Ledger, W: Write>(
 ) -> Result<(), DeskFault>
     requires ledgers { HasLedgers hub.old }
     ensures reads { OnlyReads O.standing L.standing hub.old hub.new }
-    ensures cause { position_of_owner hub.old.scheme owner ≢ None → hub.old.scheme.start ≤ day → IsCaused O.standing L.standing hub.old hub.new (store_fault result) }
+    ensures unknown { position_of_owner hub.old.scheme owner ≡ None → (hub.new ≡ hub.old) × (result ≡ Err UnknownOwner) }
+    ensures early { position_of_owner hub.old.scheme owner ≢ None → day < hub.old.scheme.start → (hub.new ≡ hub.old) × (result ≡ Err BeforeStart) }
+    ensures cause { IsCaused O.standing L.standing hub.old hub.new (store_fault result) }
     ensures written { OnOk result (WritesBill O.standing L.standing hub.old hub.new owner day (W.contents output.old) (W.contents output.new)) }
     ensures refused { AreClean O.standing L.standing hub.new → AreSound O.standing L.standing hub.old → IsBillRefusal O.standing L.standing hub.old owner day (refused_of result) }
     ensures named { IfErr result (λ fault. is_refusal fault ≡ is_some (name_of fault)) }
@@ -62,7 +64,9 @@ pub fn write_settlement<O: Outbox, L: Ledger, W: Write>(
 ) -> Result<(), DeskFault>
     requires ledgers { HasLedgers hub.old }
     ensures reads { OnlyReads O.standing L.standing hub.old hub.new }
-    ensures cause { position_of_owner hub.old.scheme owner ≢ None → hub.old.scheme.start ≤ day → IsCaused O.standing L.standing hub.old hub.new (store_fault result) }
+    ensures unknown { position_of_owner hub.old.scheme owner ≡ None → (hub.new ≡ hub.old) × (result ≡ Err UnknownOwner) }
+    ensures early { position_of_owner hub.old.scheme owner ≢ None → day < hub.old.scheme.start → (hub.new ≡ hub.old) × (result ≡ Err BeforeStart) }
+    ensures cause { IsCaused O.standing L.standing hub.old hub.new (store_fault result) }
     ensures written { OnOk result (WritesSettlement O.standing L.standing hub.old hub.new owner day (W.contents output.old) (W.contents output.new)) }
     ensures refused { AreClean O.standing L.standing hub.new → AreSound O.standing L.standing hub.old → IsBillRefusal O.standing L.standing hub.old owner day (refused_of result) }
     ensures named { IfErr result (λ fault. is_refusal fault ≡ is_some (name_of fault)) }

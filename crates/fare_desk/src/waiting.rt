@@ -235,19 +235,11 @@ pub fn what_waits<O: Outbox, L: Ledger>(
     ensures tells { IfOk result (λ waits. TellsOwners O.standing L.standing (keys_of hub.old.scheme.owners) hub.old hub.new waits.items) }
     ensures fault { IfErr result (λ fault. (fault ≡ DeskFault.Memory) ⊎ (fault ≡ DeskFault.Store)) }
 {
-    let Ok(mut waits) = Vec::with_capacity(alloc, hub.scheme.owner_count()) else {
-        return Err(DeskFault::Memory);
-    };
+    let mut waits = Vec::with_capacity(alloc, hub.scheme.owner_count())?;
     for place in 0..hub.scheme.owners().len() {
         let owner = hub.scheme.owners()[place];
-        let waiting = match waits_for(hub, owner) {
-            Ok(waiting) => waiting,
-            Err(fault) => return Err(DeskFault::from(fault)),
-        };
-        match waits.push(OwnerWaits { owner, waiting }) {
-            Ok(()) => {}
-            Err(_) => return Err(DeskFault::Memory),
-        }
+        let waiting = waits_for(hub, owner)?;
+        waits.push(OwnerWaits { owner, waiting })?;
     }
     Ok(waits)
 }

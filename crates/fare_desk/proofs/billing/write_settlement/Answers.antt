@@ -1,10 +1,11 @@
 use Rattle.std.proofs.Common.{◌≡◌, refl, sym, subst}
 use Rattle.std.specs.Prelude.{is_some}
 use Rattle.fare_settle.specs.Settling.{settlement_of}
-use Rattle.fare_store.specs.Standing.{fault_in}
+use Rattle.fare_side.specs.declared.bill_fault.BillFault.TheVariants as bill
+use Rattle.fare_sessions.specs.declared.billing.BillingFault.TheVariants as billing
 use Rattle.fare_sessions.specs.Billing.{IsBillRefusal}
 use Rattle.fare_desk.specs.Faults.{is_refusal, name_of, of_bill}
-use Rattle.fare_desk.proofs.Causes.{billed_ok, counted_bill, counted_owner, counted_reply}
+use Rattle.fare_desk.proofs.Causes.{billed_ok, counted_basis, counted_bill, counted_reply, named_at_once, not_at_once}
 use Rattle.fare_desk.proofs.Failing.{err_is, ok_of_none, refused_is, reply_named, reply_refused, store_kept}
 use Rattle.fare_desk.proofs.Written.{bill_named, fault_refused, made_of, settlement_written}
 use Rattle.fare_desk.proofs.billing.write_settlement.Goals as goal
@@ -16,10 +17,20 @@ pub returns-in_err-settlement-clause-written : goal.returns-in_err-settlement-cl
 returns-in_err-settlement-clause-written g c = ok_of_none c.from_residual.result _ _ c.from_residual.ensures.1
 
 pub returns-in_err-settlement-clause-cause : goal.returns-in_err-settlement-clause-cause
-returns-in_err-settlement-clause-cause g c = λ known from.
-    let asked = c.settlement.ensures.cause known from in
+returns-in_err-settlement-clause-cause g c =
+    let said = c.settlement.ensures in
     counted_bill _ _ c.settlement.result c.from_residual.result c.in_err-settlement.field-0.0 c.in_err-settlement.was c.from_residual.ensures.1
-    (counted_owner g.O.Outbox.standing g.L.Ledger.standing c.args.hub.now c.settlement.new.self c.args.owner (fault_in c.settlement.result) asked.one c.settlement.ensures.reads.outbox_same asked.cause)
+    (counted_basis g.O.Outbox.standing g.L.Ledger.standing c.args.hub.now c.settlement.new.self c.args.owner c.args.day c.settlement.result said.reads.outbox_same said.unknown said.early said.cause)
+
+pub returns-in_err-settlement-clause-unknown : goal.returns-in_err-settlement-clause-unknown
+returns-in_err-settlement-clause-unknown g c = λ none.
+    let at_once = c.settlement.ensures.unknown none in
+    (at_once.0, named_at_once c.settlement.result c.from_residual.result c.in_err-settlement.field-0.0 (billing.Unbilled bill.UnknownOwner) c.in_err-settlement.was c.from_residual.ensures.1 at_once.1)
+
+pub returns-in_err-settlement-clause-early : goal.returns-in_err-settlement-clause-early
+returns-in_err-settlement-clause-early g c = λ known before.
+    let at_once = c.settlement.ensures.early known before in
+    (at_once.0, named_at_once c.settlement.result c.from_residual.result c.in_err-settlement.field-0.0 (billing.Unbilled bill.BeforeStart) c.in_err-settlement.was c.from_residual.ensures.1 at_once.1)
 
 pub returns-in_err-settlement-clause-refused : goal.returns-in_err-settlement-clause-refused
 returns-in_err-settlement-clause-refused g c = λ clean sound.
@@ -45,10 +56,16 @@ returns-clause-written g c =
     settlement_written g.O.Outbox.standing g.L.Ledger.standing c.args.hub.now c.settlement.new.self c.args.owner c.args.day c.new.result (g.W.Write.contents c.args.output.now) (g.W.Write.contents c.write_reply.new.output) _ c.in_ok-settlement.settlement refl made c.write_reply.result c.write_reply.ensures.written
 
 pub returns-clause-cause : goal.returns-clause-cause
-returns-clause-cause g c = λ known from.
-    let asked = c.settlement.ensures.cause known from in
+returns-clause-cause g c =
+    let said = c.settlement.ensures in
     counted_reply _ _ c.write_reply.result c.write_reply.ensures.failed (billed_ok _ _ c.settlement.result _ c.in_ok-settlement.was
-    (counted_owner g.O.Outbox.standing g.L.Ledger.standing c.args.hub.now c.settlement.new.self c.args.owner (fault_in c.settlement.result) asked.one c.settlement.ensures.reads.outbox_same asked.cause))
+    (counted_basis g.O.Outbox.standing g.L.Ledger.standing c.args.hub.now c.settlement.new.self c.args.owner c.args.day c.settlement.result said.reads.outbox_same said.unknown said.early said.cause))
+
+pub returns-clause-unknown : goal.returns-clause-unknown
+returns-clause-unknown g c = λ none. absurd (not_at_once c.settlement.result _ (billing.Unbilled bill.UnknownOwner) c.in_ok-settlement.was (c.settlement.ensures.unknown none).1)
+
+pub returns-clause-early : goal.returns-clause-early
+returns-clause-early g c = λ known before. absurd (not_at_once c.settlement.result _ (billing.Unbilled bill.BeforeStart) c.in_ok-settlement.was (c.settlement.ensures.early known before).1)
 
 pub returns-clause-refused : goal.returns-clause-refused
 returns-clause-refused g c = λ clean sound. subst (IsBillRefusal g.O.Outbox.standing g.L.Ledger.standing c.args.hub.now c.args.owner c.args.day) (sym (reply_refused c.write_reply.result c.write_reply.ensures.failed)) (c.in_ok-settlement.ensures.refused clean sound)
