@@ -238,13 +238,13 @@ fn the_counts_are_no_json(rt: HostRuntime) {
     same(&rt, &answer, &wanted);
 }
 
-// A store that fails is told by the status alone.
+// That a store failed is told by the status and a line.
 #[test]
 fn a_ledger_that_fails_has_no_json(rt: HostRuntime) {
     const BILL: [Case; 1] = [(
         b"GET /bill?owner=1&day=19723 HTTP/1.1\r\nHost: localhost\r\nAccept: application/json\r\n\r\n",
-        b"503 ",
-        b"",
+        b"500 ",
+        b"store failed\n",
     )];
     let mut hub = failing_hub(rt.alloc(), 1).expect(&rt, "hub");
     same(&rt, &first_wrong(&rt, &mut hub, &BILL), &None);

@@ -425,19 +425,53 @@ fn a_question_is_answered_as_on_the_command_line(rt: HostRuntime) {
     same(&rt, &told, &Some(true));
 }
 
-// A ledger that fails is told by the status alone; asked again the lane is retired.
+// A ledger that fails is told by the status and a line, behind the lines of what was closed before; asked again the lane is
+// retired.
 #[test]
-fn a_ledger_that_fails_is_told_by_the_status(rt: HostRuntime) {
-    const BILL: [Case; 1] = [(
-        b"GET /bill?owner=1&day=19723 HTTP/1.1\r\nHost: localhost\r\n\r\n",
-        b"503 ",
-        b"",
-    )];
+fn a_ledger_that_fails_is_told_by_status_and_line(rt: HostRuntime) {
+    // The call of the ledger that fails, a request, and the body.
+    const WANTED: [(u64, &[u8], &[u8]); 6] = [
+        (
+            1,
+            b"GET /bill?owner=1&day=19723 HTTP/1.1\r\nHost: localhost\r\n\r\n",
+            b"store failed\n",
+        ),
+        (
+            1,
+            b"GET /settle?owner=1&day=19723 HTTP/1.1\r\nHost: localhost\r\n\r\n",
+            b"store failed\n",
+        ),
+        (
+            1,
+            b"GET /stand HTTP/1.1\r\nHost: localhost\r\n\r\n",
+            b"store failed\n",
+        ),
+        (
+            1,
+            b"GET /metrics HTTP/1.1\r\nHost: localhost\r\n\r\n",
+            b"store failed\n",
+        ),
+        (
+            1,
+            b"POST /close HTTP/1.1\r\nHost: localhost\r\nX-Fare-Hub: 1\r\n\r\n",
+            b"store failed\n",
+        ),
+        (
+            5,
+            b"POST /close HTTP/1.1\r\nHost: localhost\r\nX-Fare-Hub: 1\r\n\r\n",
+            b"close 1 1 19723: closed 1 19723\nstore failed\n",
+        ),
+    ];
+    for (call, request, body) in &WANTED {
+        let mut hub = failing_hub(rt.alloc(), *call).expect(&rt, "hub");
+        let answer = told(&rt, &mut hub, request).expect(&rt, "answer");
+        same(&rt, &is_answer(&answer, b"500 ", body), &true);
+    }
     const RETIRE: [Case; 2] = [
         (
             b"POST /retire?owner=1&device=2 HTTP/1.1\r\nHost: localhost\r\nX-Fare-Hub: 1\r\n\r\n",
-            b"503 ",
-            b"",
+            b"500 ",
+            b"store failed\n",
         ),
         (
             b"POST /retire?owner=1&device=2 HTTP/1.1\r\nHost: localhost\r\nX-Fare-Hub: 1\r\n\r\n",
@@ -445,8 +479,6 @@ fn a_ledger_that_fails_is_told_by_the_status(rt: HostRuntime) {
             b"retired 2\n",
         ),
     ];
-    let mut first = failing_hub(rt.alloc(), 1).expect(&rt, "hub");
-    same(&rt, &first_wrong(&rt, &mut first, &BILL), &None);
-    let mut second = failing_hub(rt.alloc(), 1).expect(&rt, "hub");
-    same(&rt, &first_wrong(&rt, &mut second, &RETIRE), &None);
+    let mut hub = failing_hub(rt.alloc(), 1).expect(&rt, "hub");
+    same(&rt, &first_wrong(&rt, &mut hub, &RETIRE), &None);
 }

@@ -1,9 +1,11 @@
 -- What a response tells, of how a question or an order ended.
-use Rattle.std.proofs.Common.{◌≡◌, ◌≢◌, ◌⊎◌, ℕ, List, [], ◌++◌, true, refl, sym, ap, ◌∙◌, subst, inl, inr}
+use Rattle.std.proofs.Common.{◌≡◌, ◌≢◌, ◌⊎◌, ℕ, List, [], ◌++◌, true, false, refl, sym, ap, ◌∙◌, subst, inl, inr, arith}
 use Rattle.std.specs.Prelude.{◌↔◌, Option, Some, None, Result, Ok, Err, OnOk, IfErr, is_some}
 use Rattle.std.specs.Io.KnownBytes.{Keeps}
 use Rattle.fare_desk.specs.Billing.{WritesBill, WritesSettlement}
+use Rattle.fare_desk.specs.Causes.{IsCaused, store_named}
 use Rattle.fare_desk.specs.Closing.{HasClosedLanes, lanes_of}
+use Rattle.fare_desk.specs.Showing.{WritesStanding}
 use Rattle.fare_desk.specs.Faults.{is_of_retire, is_refusal, name_of, refused_of}
 use Rattle.fare_desk.specs.Retiring.{LeavesLane, RetiresLane}
 use Rattle.fare_desk.specs.declared.fault.DeskFault.{DeskFault}
@@ -15,7 +17,10 @@ use Rattle.fare_event.specs.declared.reply.Refusal.TheVariants as refusal
 use Rattle.fare_history.specs.Stores.{StoresValue}
 use Rattle.fare_request.specs.declared.ask.Ask.{Ask}
 use Rattle.fare_request.specs.declared.ask.Ask.TheVariants as ask
+use Rattle.fare_request.specs.declared.ask.Mistake.{Mistake}
+use Rattle.fare_request.specs.declared.ask.Mistake.TheVariants as mistake
 use Rattle.fare_request.specs.declared.form.Form.{Form}
+use Rattle.fare_request.specs.declared.form.Form.TheVariants as form
 use Rattle.fare_scheme.specs.Words.{position_of_device, position_of_owner}
 use Rattle.fare_serve.specs.declared.progress.Progress.{Progress}
 use Rattle.fare_sessions.specs.Billing.{IsBillRefusal}
@@ -24,10 +29,12 @@ use Rattle.fare_sessions.specs.declared.hub.Hub.{Hub}
 use Rattle.fare_store.specs.LedgerWords.{LedgerValue}
 use Rattle.fare_store.specs.OutboxWords.{OutboxValue}
 use Rattle.fare_store.specs.Standing.{Standing}
+use Rattle.fare_store.specs.declared.fault.Fault.{Fault}
+use Rattle.fare_store.specs.declared.fault.Fault.TheVariants as fault
 use Rattle.fare_sessions.specs.declared.billing.BillingFault.{BillingFault}
 use Rattle.fare_sessions.specs.declared.billing.BillingFault.TheVariants as billing
 use Rattle.fare_side.specs.declared.bill_fault.BillFault.TheVariants as bill
-use Rattle.fare_page.specs.Answering.{IsBody, IsDone, IsFault, IsFilled, IsTold, IsToldFault, IsToldPlainly, MayRetireOne, Tells, TellsNotRetired, TellsRefusal, TellsRetireFault, TellsRetired, bill_refusal, form_for, in_form, refusal_in, refused_line}
+use Rattle.fare_page.specs.Answering.{EndsInFailed, IsBody, IsBroken, IsDone, IsFault, IsFilled, IsNamed, IsShort, IsTold, IsToldFault, IsToldOf, MayRetireOne, Tells, TellsNotRetired, TellsRefusal, TellsRetireFault, TellsRetired, TellsMistake, TellsPage, TellsStores, bill_refusal, form_for, in_form, mistake_status, refusal_in, refused_line}
 
 -- what a refusal of a retire leaves
 leaves_same : (owner device : ℕ) (fault : DeskFault) (h k : StoresValue) → is_of_retire fault ≡ true → LeavesLane owner device fault h k → k ≡ h
@@ -42,14 +49,32 @@ leaves_same owner device desk.Store h k is l = absurd (cc)
 leaves_same owner device desk.Write h k is l = absurd (cc)
 
 module _ {O L : Type 0} (outbox : O → Standing OutboxValue) (ledger : L → Standing LedgerValue) where
-  -- closes
-  pub tells_close : (progress : Progress) (a : Ask) (old new : Hub O L) (before after : List ℕ) (status : ℕ) (ended : Result (Unit {0}) DeskFault) → a ≡ ask.Close → before ≡ []
-      → OnOk ended (HasClosedLanes outbox ledger (lanes_of old.scheme) old new (Some before) (Some after)) → IsToldPlainly ended status → Tells outbox ledger progress a old new status after
-  tells_close progress a old new before after status ended is none closed told = subst (λ (x : Ask). Tells outbox ledger progress x old new status after) (sym is) (by ended closed told)
-    where
-      by : (e : Result (Unit {0}) DeskFault) → OnOk e (HasClosedLanes outbox ledger (lanes_of old.scheme) old new (Some before) (Some after)) → IsToldPlainly e status → Tells outbox ledger progress ask.Close old new status after
-      by (Ok u) c t = inl (t, subst (λ (l : List ℕ). HasClosedLanes outbox ledger (lanes_of old.scheme) old new (Some l) (Some after)) none c)
-      by (Err f) c t = inr t
+  -- of a question that is never refused by name
+  plain : (fault : DeskFault) → is_refusal fault ≡ false → (before after : List ℕ) (status : ℕ) → IsToldFault (refusal_in fault) before after status → IsFault status
+  plain desk.UnknownOwner is before after status told = absurd (cc)
+  plain desk.UnknownDevice is before after status told = absurd (cc)
+  plain desk.BeforeStart is before after status told = absurd (cc)
+  plain (desk.Forgotten device) is before after status told = absurd (cc)
+  plain (desk.NotClosed device) is before after status told = absurd (cc)
+  plain desk.Retired is before after status told = absurd (cc)
+  plain desk.Memory is before after status told = told
+  plain desk.Store is before after status told = told
+  plain desk.Write is before after status told = told
+
+  tells_plainly : (W : Option (List ℕ) → Option (List ℕ) → Type 0) (before middle after : List ℕ) (status : ℕ) (ended : Result (Unit {0}) DeskFault) → before ≡ []
+      → OnOk ended (W (Some before) (Some middle)) → IfErr ended (λ fault. is_refusal fault ≡ false) → IsTold ended middle after status → (IsDone status × W (Some []) (Some after)) ⊎ IsFault status
+  tells_plainly W before middle after status (Ok u) none written unnamed told = inl (told.0, subst (λ (l : List ℕ). W (Some []) (Some l)) (sym told.1) (subst (λ (l : List ℕ). W (Some l) (Some middle)) none written))
+  tells_plainly W before middle after status (Err fault) none written unnamed told = inr (plain fault unnamed middle after status told)
+
+  pub tells_close : (progress : Progress) (a : Ask) (old new : Hub O L) (before middle after : List ℕ) (status : ℕ) (ended : Result (Unit {0}) DeskFault) → a ≡ ask.Close → before ≡ []
+      → OnOk ended (HasClosedLanes outbox ledger (lanes_of old.scheme) old new (Some before) (Some middle)) → IfErr ended (λ fault. is_refusal fault ≡ false) → IsTold ended middle after status → Tells outbox ledger progress a old new status after
+  tells_close progress a old new before middle after status ended is none closed unnamed told =
+      subst (λ (x : Ask). Tells outbox ledger progress x old new status after) (sym is) (tells_plainly (HasClosedLanes outbox ledger (lanes_of old.scheme) old new) before middle after status ended none closed unnamed told)
+
+  pub tells_standing : (progress : Progress) (a : Ask) (old new : Hub O L) (before middle after : List ℕ) (status : ℕ) (ended : Result (Unit {0}) DeskFault) → a ≡ ask.Stand → before ≡ []
+      → OnOk ended (WritesStanding outbox ledger old new (Some before) (Some middle)) → IfErr ended (λ fault. is_refusal fault ≡ false) → IsTold ended middle after status → Tells outbox ledger progress a old new status after
+  tells_standing progress a old new before middle after status ended is none written unnamed told =
+      subst (λ (x : Ask). Tells outbox ledger progress x old new status after) (sym is) (tells_plainly (WritesStanding outbox ledger old new) before middle after status ended none written unnamed told)
 
   -- a bill or a settlement
   module _ (W : Option (List ℕ) → Option (List ℕ) → Type 0) (old new : Hub O L) (owner day : ℕ) (before middle after : List ℕ) (status : ℕ) (none : before ≡ []) where
@@ -136,15 +161,15 @@ module _ {O L : Type 0} (outbox : O → Standing OutboxValue) (ledger : L → St
   tells_retire progress a old new owner device before middle after status ended is none owner_is device_is retired failed named kept told =
       subst (λ (x : Ask). Tells outbox ledger progress x old new status after) (sym is) (tells_lane old new owner device before middle after status none ended owner_is device_is retired failed named kept told)
 
-  -- nothing was done, for want of memory or since a store failed
-  pub undone : (progress : Progress) (a : Ask) (hub : Hub O L) (status : ℕ) (body : List ℕ) → IsFault status → Tells outbox ledger progress a hub hub status body
+  -- nothing was done, for want of memory
+  pub undone : (progress : Progress) (a : Ask) (hub : Hub O L) (status : ℕ) (body : List ℕ) → IsShort status → Tells outbox ledger progress a hub hub status body
   undone progress ask.Page hub status body out = inr out
-  undone progress ask.Metrics hub status body out = inr out
-  undone progress ask.Stand hub status body out = inr out
-  undone progress (ask.Bill owner day) hub status body out = inr (inr out)
-  undone progress (ask.Settle owner day) hub status body out = inr (inr out)
-  undone progress ask.Close hub status body out = inr out
-  undone progress (ask.Retire owner device) hub status body out = inr (inr (out, comes_self outbox ledger hub (MayRetireOne owner device) (λ k. inl refl)))
+  undone progress ask.Metrics hub status body out = inr (inl out)
+  undone progress ask.Stand hub status body out = inr (inl out)
+  undone progress (ask.Bill owner day) hub status body out = inr (inr (inl out))
+  undone progress (ask.Settle owner day) hub status body out = inr (inr (inl out))
+  undone progress ask.Close hub status body out = inr (inl out)
+  undone progress (ask.Retire owner device) hub status body out = inr (inr (inl out, comes_self outbox ledger hub (MayRetireOne owner device) (λ k. inl refl)))
   undone progress (ask.Nothing why) hub status body out = inr out
 
   -- what was told of a lane tells what may have come of it
@@ -154,19 +179,98 @@ module _ {O L : Type 0} (outbox : O → Standing OutboxValue) (ledger : L → St
   may_retire old new owner device status body (inr (inr failed)) = failed.1
 
   -- that there was no memory may be told in place of anything
-  faulted : (progress : Progress) (a : Ask) (old new : Hub O L) (status : ℕ) (body : List ℕ) (is : ℕ) (content : List ℕ) → Tells outbox ledger progress a old new status body → IsFault is → Tells outbox ledger progress a old new is content
+  faulted : (progress : Progress) (a : Ask) (old new : Hub O L) (status : ℕ) (body : List ℕ) (is : ℕ) (content : List ℕ) → Tells outbox ledger progress a old new status body → IsShort is → Tells outbox ledger progress a old new is content
   faulted progress ask.Page old new status body is content tells out = inr out
-  faulted progress ask.Metrics old new status body is content tells out = inr out
-  faulted progress ask.Stand old new status body is content tells out = inr out
-  faulted progress (ask.Bill owner day) old new status body is content tells out = inr (inr out)
-  faulted progress (ask.Settle owner day) old new status body is content tells out = inr (inr out)
-  faulted progress ask.Close old new status body is content tells out = inr out
-  faulted progress (ask.Retire owner device) old new status body is content tells out = inr (inr (out, may_retire old new owner device status body tells))
+  faulted progress ask.Metrics old new status body is content tells out = inr (inl out)
+  faulted progress ask.Stand old new status body is content tells out = inr (inl out)
+  faulted progress (ask.Bill owner day) old new status body is content tells out = inr (inr (inl out))
+  faulted progress (ask.Settle owner day) old new status body is content tells out = inr (inr (inl out))
+  faulted progress ask.Close old new status body is content tells out = inr (inl out)
+  faulted progress (ask.Retire owner device) old new status body is content tells out = inr (inr (inl out, may_retire old new owner device status body tells))
   faulted progress (ask.Nothing why) old new status body is content tells out = inr out
 
   pub filled : (progress : Progress) (a : Ask) (old new : Hub O L) (status : ℕ) (body : List ℕ) (is : ℕ) (content : List ℕ) → Tells outbox ledger progress a old new status body → IsFilled status body is content → Tells outbox ledger progress a old new is content
   filled progress a old new status body is content tells (inl same) = subst (λ (s : ℕ). Tells outbox ledger progress a old new s content) (sym same.0) (subst (λ (l : List ℕ). Tells outbox ledger progress a old new status l) (sym same.1) tells)
   filled progress a old new status body is content tells (inr out) = faulted progress a old new status body is content tells out
+
+-- A REFUSAL
+module _ (fault : DeskFault) (why : Refusal) (before after : List ℕ) (status : ℕ) (is : refusal_in fault ≡ Some why) (told : IsShort status ⊎ IsNamed why before after status) where
+  pub refusal_told : IsToldFault (refusal_in fault) before after status
+  refusal_told = subst (λ o. IsToldFault o before after status) (sym is) (by told)
+    where
+      by : IsShort status ⊎ IsNamed why before after status → IsToldFault (Some why) before after status
+      by (inl short) = inl (inl short)
+      by (inr named) = inr named
+
+  pub refusal_stores : IsToldOf (store_named fault) before after status
+  refusal_stores = by fault is
+    where
+      not : IsShort status ⊎ IsNamed why before after status → status ≢ 500
+      not (inl short) broken = absurd (omega (arith, short, broken))
+      not (inr named) broken = let done = named.0 in absurd (omega (arith, done, broken))
+
+      by : (f : DeskFault) → refusal_in f ≡ Some why → IsToldOf (store_named f) before after status
+      by desk.UnknownOwner i = not told
+      by desk.UnknownDevice i = not told
+      by desk.BeforeStart i = not told
+      by (desk.Forgotten device) i = not told
+      by (desk.NotClosed device) i = not told
+      by desk.Retired i = not told
+      by desk.Memory i = absurd (cc)
+      by desk.Store i = absurd (cc)
+      by desk.Write i = absurd (cc)
+
+-- WHICH STORES FAILED
+not_broken : (status : ℕ) → IsShort status → status ≢ 500
+not_broken status short broken = absurd (omega (arith, short, broken))
+
+module _ {O L : Type 0} (outbox : O → Standing OutboxValue) (ledger : L → Standing LedgerValue) where
+  -- none did
+  pub none_failed : (old new : Hub O L) (status : ℕ) → status ≢ 500 → IsCaused outbox ledger old new None → TellsStores outbox ledger old new status
+  none_failed old new status not same = record { failed = λ broken. absurd (not broken); sound = λ _ _. same }
+
+  pub still_stores : (hub : Hub O L) (status : ℕ) → status ≢ 500 → TellsStores outbox ledger hub hub status
+  still_stores hub status not = none_failed hub hub status not refl
+
+  -- one may have, by how a question or an order ended
+  pub told_stores : (old new : Hub O L) (f : Option Fault) (before after : List ℕ) (status : ℕ) → IsToldOf f before after status → IsCaused outbox ledger old new f → TellsStores outbox ledger old new status
+  told_stores old new None before after status told cause = none_failed old new status told cause
+  told_stores old new (Some fault.Memory) before after status told cause = none_failed old new status told cause
+  told_stores old new (Some fault.Store) before after status (inl short) cause = record { failed = λ broken. absurd (not_broken status short broken); sound = λ _ not. absurd (not short) }
+  told_stores old new (Some fault.Store) before after status (inr out) cause = record { failed = λ _. cause; sound = λ not _. absurd (not out.0) }
+
+  pub filled_stores : (old new : Hub O L) (status : ℕ) (body : List ℕ) (is : ℕ) (content : List ℕ) → IsFilled status body is content → TellsStores outbox ledger old new status → TellsStores outbox ledger old new is
+  filled_stores old new status body is content (inl same) tells = subst (TellsStores outbox ledger old new) (sym same.0) tells
+  filled_stores old new status body is content (inr short) tells = record { failed = λ broken. absurd (not_broken is short broken); sound = λ _ not. absurd (not short) }
+
+pub told_line : (f : Option Fault) (before after : List ℕ) (status : ℕ) → IsToldOf f before after status → IsBroken status → EndsInFailed after
+told_line None before after status told broken = absurd (told broken)
+told_line (Some fault.Memory) before after status told broken = absurd (told broken)
+told_line (Some fault.Store) before after status (inl short) broken = absurd (not_broken status short broken)
+told_line (Some fault.Store) before after status (inr out) broken = (before, out.1)
+
+pub filled_line : (told : Form) (status : ℕ) (text : List ℕ) (is : ℕ) (content : List ℕ) → IsFilled status (in_form told text) is content → (IsBroken status → told ≡ form.Text) → (IsBroken status → EndsInFailed text) → IsBroken is → EndsInFailed content
+filled_line told status text is content (inr short) plain line broken = absurd (not_broken is short broken)
+filled_line told status text is content (inl same) plain line broken =
+    let was : IsBroken status = sym same.0 ∙ broken in
+    let ends = line was in
+    (ends.0, same.1 ∙ (ap (λ (f : Form). in_form f text) (plain was) ∙ ends.1))
+
+-- statuses of what asks no store
+pub page_not : (status : ℕ) → TellsPage status → status ≢ 500
+page_not status (inl done) broken = absurd (omega (arith, done, broken))
+page_not status (inr short) broken = absurd (omega (arith, short, broken))
+
+mistake_is : (why : Mistake) → mistake_status why ≢ 500
+mistake_is mistake.Foreign broken = absurd (omega (arith, broken))
+mistake_is mistake.Nowhere broken = absurd (omega (arith, broken))
+mistake_is mistake.WantsGet broken = absurd (omega (arith, broken))
+mistake_is mistake.WantsPost broken = absurd (omega (arith, broken))
+mistake_is mistake.Words broken = absurd (omega (arith, broken))
+
+pub mistake_not : (why : Mistake) (status : ℕ) (body : List ℕ) → TellsMistake why status body → status ≢ 500
+mistake_not why status body (inl told) broken = mistake_is why (sym told.0 ∙ broken)
+mistake_not why status body (inr short) broken = absurd (omega (arith, short, broken))
 
 -- what was filled in is the text, in its form
 module _ (wanted told : Form) (a : Ask) (status : ℕ) (text : List ℕ) (is : ℕ) (content : List ℕ) where
@@ -175,6 +279,6 @@ module _ (wanted told : Form) (a : Ask) (status : ℕ) (text : List ℕ) (is : �
   status_filled (inr out) = inr out
 
   pub body_filled : IsFault status ⊎ (told ≡ form_for wanted a) → IsFilled status (in_form told text) is content → IsBody is (form_for wanted a) text content
-  body_filled (inl out) (inl same) = inr (same.0 ∙ out)
+  body_filled (inl out) (inl same) = inr (subst IsFault (sym same.0) out)
   body_filled (inr chosen) (inl same) = inl (same.1 ∙ ap (λ (f : Form). in_form f text) chosen)
-  body_filled chosen (inr out) = inr out
+  body_filled chosen (inr out) = inr (inl out)

@@ -1,6 +1,7 @@
 -- What a hub at rest answers to a request, and what becomes of its stores.
 use Rattle.std.specs.Prelude.{◌≡◌, ◌≢◌, ◌↔◌, ◌⊎◌, ℕ, true, List, [], ◌∷◌, ◌++◌, codes, Option, Some, None, Result, Ok, Err}
 use Rattle.fare_desk.specs.Billing.{WritesBill, WritesSettlement}
+use Rattle.fare_desk.specs.Causes.{IsCaused}
 use Rattle.fare_desk.specs.Closing.{GoesOn, HasClosedLanes, lanes_of}
 use Rattle.fare_desk.specs.Faults.{is_of_retire}
 use Rattle.fare_desk.specs.Retiring.{LeavesLane, RetiresLane}
@@ -33,6 +34,8 @@ use Rattle.fare_sessions.specs.declared.hub.Hub.{Hub}
 use Rattle.fare_store.specs.LedgerWords.{LedgerValue}
 use Rattle.fare_store.specs.OutboxWords.{OutboxValue}
 use Rattle.fare_store.specs.Standing.{Standing}
+use Rattle.fare_store.specs.declared.fault.Fault.{Fault}
+use Rattle.fare_store.specs.declared.fault.Fault.TheVariants as fault
 use Rattle.fare_sessions.specs.declared.billing.BillingFault.{BillingFault}
 use Rattle.fare_sessions.specs.declared.billing.BillingFault.TheVariants as billing
 use Rattle.fare_side.specs.declared.bill_fault.BillFault.TheVariants as bill
@@ -86,9 +89,29 @@ mistake_line mistake.Words = codes "refused Words\n"
 abbrev pub IsDone : ℕ → Type 0
 IsDone status = status ≡ 200
 
--- it was not, for want of memory or since a store failed: nothing is said of the body
+-- there was no memory: nothing is said of the body
+abbrev pub IsShort : ℕ → Type 0
+IsShort status = status ≡ 503
+
+-- a store failed
+abbrev pub IsBroken : ℕ → Type 0
+IsBroken status = status ≡ 500
+
+-- it was not done, for one of these
 abbrev pub IsFault : ℕ → Type 0
-IsFault status = status ≡ 503
+IsFault status = IsShort status ⊎ IsBroken status
+
+-- the line that tells that a store failed
+abbrev pub failed_line : List ℕ
+failed_line = codes "store failed\n"
+
+abbrev pub EndsInFailed : List ℕ → Type 0
+EndsInFailed body = (front : List ℕ) × (body ≡ front ++ failed_line)
+
+-- that a store failed is told, its line behind what was there, and of no other fault
+abbrev pub IsToldOf : Option Fault → List ℕ → List ℕ → ℕ → Type 0
+IsToldOf (Some fault.Store) before after status = IsShort status ⊎ (IsBroken status × (after ≡ before ++ failed_line))
+IsToldOf _ before after status = status ≢ 500
 
 -- refused by name: its line stands behind what was there
 abbrev pub IsNamed : Refusal → List ℕ → List ℕ → ℕ → Type 0
@@ -103,14 +126,9 @@ abbrev pub IsTold : Result (Unit {0}) DeskFault → List ℕ → List ℕ → �
 IsTold (Ok _) before after status = IsDone status × (after ≡ before)
 IsTold (Err fault) before after status = IsToldFault (refusal_in fault) before after status
 
--- and of closes, or of a question that is never refused by name
-abbrev pub IsToldPlainly : Result (Unit {0}) DeskFault → ℕ → Type 0
-IsToldPlainly (Ok _) status = IsDone status
-IsToldPlainly (Err fault) status = IsFault status
-
 -- what the response is, of this status and body: they, or that there was no memory
 abbrev pub IsFilled : ℕ → List ℕ → ℕ → List ℕ → Type 0
-IsFilled status body is content = ((is ≡ status) × (content ≡ body)) ⊎ IsFault is
+IsFilled status body is content = ((is ≡ status) × (content ≡ body)) ⊎ IsShort is
 
 -- FORMS
 -- the form of an answer to this, where this one is wanted: the page and the counts have one
@@ -141,10 +159,10 @@ IsQuestion (ask.Retire owner device) = ⊥
 IsQuestion (ask.Nothing why) = Unit {0}
 
 abbrev pub TellsPage : ℕ → Type 0
-TellsPage status = IsDone status ⊎ IsFault status
+TellsPage status = IsDone status ⊎ IsShort status
 
 abbrev pub TellsMistake : Mistake → ℕ → List ℕ → Type 0
-TellsMistake why status body = ((status ≡ mistake_status why) × (body ≡ mistake_line why)) ⊎ IsFault status
+TellsMistake why status body = ((status ≡ mistake_status why) × (body ≡ mistake_line why)) ⊎ IsShort status
 
 -- the owner and the device are registered
 abbrev pub IsKnownLane : SchemeValue → ℕ → ℕ → Type 0
@@ -155,6 +173,11 @@ abbrev pub MayRetireOne : ℕ → ℕ → StoresValue → StoresValue → Type 0
 MayRetireOne owner device h k = IsLeftBy h (Retires_lane owner device) k
 
 module _ {O L : Type 0} (outbox : O → Standing OutboxValue) (ledger : L → Standing LedgerValue) where
+  -- what the status tells of the stores, over these: one failed, where it says so, and else none did, but where there was no memory
+  pub record TellsStores (old new : Hub O L) (status : ℕ) : Type 0 where
+    pub failed : IsBroken status → IsCaused outbox ledger old new (Some fault.Store)
+    pub sound : status ≢ 500 → status ≢ 503 → IsCaused outbox ledger old new None
+
   -- a bill or a settlement was refused by the first name that applies, whose line is told
   pub record TellsRefusal (old new : Hub O L) (owner day : ℕ) (status : ℕ) (body : List ℕ) : Type 0 where
     pub why : BillingFault
@@ -207,6 +230,8 @@ module _ {O L : Type 0} (outbox : O → Standing OutboxValue) (ledger : L → St
     pub text : List ℕ
     pub tells : Tells progress ask old new response.status text
     pub body : IsBody response.status (form_for (form_of request) ask) text response.body.items
+    pub cause : AreClean outbox ledger new → AreSound outbox ledger old → TellsStores old new response.status
+    pub line : IsBroken response.status → EndsInFailed response.body.items
 
   -- REQUESTS
   -- requests were answered one after the other, each over the stores that the one before it left

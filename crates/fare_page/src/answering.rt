@@ -2,8 +2,8 @@
 ghost use Rattle.std.specs.Prelude.{◌≡◌, ◌++◌, [], List, ℕ, IfOk, string_bytes};
 ghost use Rattle.fare_desk.specs.Closing.{GoesOn};
 ghost use Rattle.fare_desk.specs.Showing.{OnlyAsks};
-ghost use Rattle.fare_sessions.specs.Stores.{HasLedgers};
-ghost use Rattle.fare_page.specs.Answering.{IsQuestion, Tells, TellsMetrics, TellsMistake, TellsPage};
+ghost use Rattle.fare_sessions.specs.Stores.{AreClean, AreSound, HasLedgers};
+ghost use Rattle.fare_page.specs.Answering.{EndsInFailed, IsBroken, IsQuestion, Tells, TellsMetrics, TellsMistake, TellsPage, TellsStores};
 ghost use Rattle.fare_page.specs.Gauges.{gauges_text};
 ghost use Rattle.fare_page.specs.Metrics.{metrics_text};
 
@@ -11,7 +11,7 @@ use crate::gauges::add_gauges;
 use crate::metrics::metrics_of;
 use crate::mistakes::{line_of, status_of};
 use crate::page::page;
-use crate::told::{tell, tell_plainly};
+use crate::told::{tell, tell_failure};
 use fare_desk::{
     OwnerWaits, close_days, retire_lane, what_waits, write_bill, write_settlement, write_standing,
 };
@@ -58,9 +58,12 @@ fn tell_metrics<O: Outbox, L: Ledger>(
     requires empty { body.old.items ≡ [] }
     ensures asks { OnlyAsks O.standing L.standing hub.old hub.new }
     ensures tells { TellsMetrics O.standing L.standing progress.now hub.old hub.new result body.new.items }
+    ensures stores { TellsStores O.standing L.standing hub.old hub.new result }
+    ensures line { IsBroken result → EndsInFailed body.new.items }
 {
-    let Ok(waits) = what_waits(alloc, hub) else {
-        return StatusCode::SERVICE_UNAVAILABLE;
+    let waits = match what_waits(alloc, hub) {
+        Ok(waits) => waits,
+        Err(fault) => return tell_failure(fault, body),
     };
     let Ok(text) = gauged(alloc, &hub.scheme, &waits, progress) else {
         return StatusCode::SERVICE_UNAVAILABLE;
@@ -95,13 +98,15 @@ pub(crate) fn answer<O: Outbox, L: Ledger>(
     ensures goes { GoesOn O.standing L.standing hub.old hub.new }
     ensures reads { IsQuestion ask → OnlyAsks O.standing L.standing hub.old hub.new }
     ensures tells { Tells O.standing L.standing progress.now ask hub.old hub.new result body.new.items }
+    ensures stores { AreClean O.standing L.standing hub.new → AreSound O.standing L.standing hub.old → TellsStores O.standing L.standing hub.old hub.new result }
+    ensures line { IsBroken result → EndsInFailed body.new.items }
 {
     match ask {
         Ask::Page => tell_page(body),
         Ask::Metrics => tell_metrics(alloc, hub, progress, body),
         Ask::Stand => {
             let ended = write_standing(alloc, hub, body);
-            tell_plainly(ended)
+            tell(ended, body)
         }
         Ask::Bill { owner, day } => {
             let ended = write_bill(alloc, hub, owner, day, body);
@@ -113,7 +118,7 @@ pub(crate) fn answer<O: Outbox, L: Ledger>(
         }
         Ask::Close => {
             let ended = close_days(alloc, hub, body);
-            tell_plainly(ended)
+            tell(ended, body)
         }
         Ask::Retire { owner, device } => {
             let ended = retire_lane(alloc, hub, owner, device, body);

@@ -305,7 +305,10 @@ const refresh = async () => {
     if (stand.status === 200 && metrics.status === 200) {
       show(stand.lines, metrics.lines);
       tell("serving, as of " + new Date().toLocaleTimeString("en-GB"), false);
-    } else tell("a store or memory failed, the hub answers " + Math.max(stand.status, metrics.status) + "; what is shown may be old", true);
+    } else {
+      const codes = [stand.status, metrics.status];
+      tell((codes.includes(500) ? "a store failed" : "the hub answers " + Math.max(...codes)) + "; what is shown may be old", true);
+    }
   } catch (e) {
     tell("the hub does not answer; what is shown may be old", true);
   }
@@ -321,6 +324,7 @@ const panel = (id, bad, ...parts) => {
 };
 const why = line => {
   const w = (line || "").split(" ");
+  if (line === "store failed") return "A store failed.";
   if (w[1] === "NotClosed") return "Not closed yet: the day of device " + w[2] + ".";
   if (w[1] === "Forgotten") return "Taps of that week were let go, of device " + w[2] + " first: a copy of the files has them.";
   if (w[1] === "BeforeStart") return "The day is before the scheme's first one.";
@@ -376,7 +380,7 @@ at("close").addEventListener("submit", async event => {
       parts.push(make("p", "Not closed: device " + w[2] + " stated " + number(w[6]) + (w[6] === "1" ? " tap" : " taps") + " for " + dateOf(Number(w[3].slice(0, -1))) + ", and " + number(w[7]) + (w[7] === "1" ? " was" : " were") + " taken."));
     }
     if (a.status === 200) panel("closed", false, ...parts);
-    else panel("closed", true, "The hub could not close all.");
+    else panel("closed", true, a.status === 500 ? "A store failed before all were closed." : "The hub could not close all.");
   } catch (e) {
     panel("closed", true, "The hub does not answer.");
   }
