@@ -25,7 +25,8 @@ use Rattle.fare_desk.specs.declared.fault.DeskFault.{DeskFault}
 use Rattle.fare_desk.specs.declared.fault.DeskFault.TheVariants as desk
 use Rattle.fare_sessions.specs.declared.hub.Hub.{Hub}
 use Rattle.fare_sessions.specs.Stores.{ComesOf}
-use Rattle.fare_run.specs.Asking.{Answers, AskEnds, AskFails, FailsIn, FailsRetire, GoesOnAsked, IsAnswered, IsAskedOf, KeepsUnlessWrite}
+use Rattle.fare_run.proofs.Unasked.{asked_ok}
+use Rattle.fare_run.specs.Asking.{Answers, AskEnds, AskFails, FailsIn, FailsRetire, GoesOnAsked, IsAnswered, IsAskedOf, IsRefusedAs, KeepsUnlessWrite, NamesFirst, refused_unasked}
 use Rattle.fare_run.specs.Runs.{IsOfFiles}
 use Rattle.fare_run.specs.Scheming.{GaveNone, GivesNone, HasGiven, SpellsScheme, TakesScheme}
 use Rattle.fare_run.specs.Stores.{IsOfStores}
@@ -147,20 +148,26 @@ gave_none source input serve.Network given is = absurd is
 gave_none source input serve.Write given is = absurd is
 
 -- OVER DATABASES
-pub asked_done : (question : Question) (known : Option (List ℕ)) (sc : SchemeValue) (before after : Option (List ℕ)) (r : Result (Unit {0}) AskFailure) → IfSome known (SpellsScheme sc) → OnOk r (IsAnswered sc question before after) → OnOk r (IfSome known (AskEnds question before after))
-asked_done question None sc before after (Ok u) spelled is = tt
-asked_done question (Some input) sc before after (Ok u) spelled is = record { sc = sc; spelled = spelled; writes = is }
-asked_done question known sc before after (Err failure) spelled is = tt
+module _ (question : Question) (sc : SchemeValue) (before after : Option (List ℕ)) where
+  -- a scheme was known, of the lines that were given
+  named_known : (known : Option (List ℕ)) (fault : DeskFault) → IfSome known (SpellsScheme sc) → NamesFirst sc question fault → IfSome known (λ input. (x : SchemeValue) × SpellsScheme x input × NamesFirst x question fault)
+  named_known None fault spelled names = tt
+  named_known (Some input) fault spelled names = (sc, spelled, names)
 
-pub asked_failed : (question : Question) (known : Option (List ℕ)) (sc : SchemeValue) (before after : Option (List ℕ)) (r : Result (Unit {0}) AskFailure) → IfSome known (SpellsScheme sc) → IfErr r (FailsIn question before after) → IfErr r (AskFails question known before after)
-asked_failed question known sc before after (Ok u) spelled is = tt
-asked_failed question known sc before after (Err (Stores why)) spelled is = (is.0, of_stores known sc why spelled is.1)
-asked_failed question known sc before after (Err (Desk fault)) spelled is = (has_scheme known sc spelled, is)
+  pub asked_done : (known : Option (List ℕ)) (r : Result (Unit {0}) AskFailure) → IfSome known (SpellsScheme sc) → OnOk r (IsAnswered sc question before after) → ((why : DeskFault) → refused_unasked sc question ≡ Some why → IsErrAnd r (IsRefusedAs why)) → OnOk r (IfSome known (AskEnds question before after))
+  asked_done None (Ok u) spelled is unasked = tt
+  asked_done (Some input) (Ok u) spelled is unasked = record { sc = sc; spelled = spelled; asked = asked_ok sc question u unasked; writes = is }
+  asked_done known (Err failure) spelled is unasked = tt
 
-pub asked_of : (question : Question) (source : SchemeSource) (input : List ℕ) (sc : SchemeValue) (before after : Option (List ℕ)) (r : Result (Unit {0}) AskFailure) → TakesScheme source sc input → OnOk r (IsAnswered sc question before after) → IfErr r (FailsIn question before after) → IsAskedOf question before after source input r
-asked_of question source input sc before after (Ok u) takes done fails = (sc, takes, done)
-asked_of question source input sc before after (Err (Stores why)) takes done fails = (fails.0, gave_none source input why (has_given source input sc takes) fails.1)
-asked_of question source input sc before after (Err (Desk fault)) takes done fails = (has_given source input sc takes, fails)
+  pub asked_failed : (known : Option (List ℕ)) (r : Result (Unit {0}) AskFailure) → IfSome known (SpellsScheme sc) → IfErr r (FailsIn question before after) → ((why : DeskFault) → refused_unasked sc question ≡ Some why → IsErrAnd r (IsRefusedAs why)) → IfErr r (AskFails question known before after)
+  asked_failed known (Ok u) spelled is unasked = tt
+  asked_failed known (Err (Stores why)) spelled is unasked = (is.0, of_stores known sc why spelled is.1)
+  asked_failed known (Err (Desk fault)) spelled is unasked = (named_known known fault spelled unasked, is)
+
+  pub asked_of : (source : SchemeSource) (input : List ℕ) (r : Result (Unit {0}) AskFailure) → TakesScheme source sc input → OnOk r (IsAnswered sc question before after) → IfErr r (FailsIn question before after) → ((why : DeskFault) → refused_unasked sc question ≡ Some why → IsErrAnd r (IsRefusedAs why)) → IsAskedOf question before after source input r
+  asked_of source input (Ok u) takes done fails unasked = (sc, takes, asked_ok sc question u unasked, done)
+  asked_of source input (Err (Stores why)) takes done fails unasked = (fails.0, gave_none source input why (has_given source input sc takes) fails.1)
+  asked_of source input (Err (Desk fault)) takes done fails unasked = (sc, takes, unasked, fails)
 
 -- there is no scheme, or the stores were not opened
 pub err_asked : (question : Question) (source : SchemeSource) (input : List ℕ) (before after : Option (List ℕ)) (r : Result (Unit {0}) AskFailure) (why : ServeFailure) → IsErrAnd r (λ e. e ≡ Stores why) → Keeps before after → GaveNone source input why → IsAskedOf question before after source input r

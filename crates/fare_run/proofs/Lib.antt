@@ -4,3 +4,4 @@ mod InDatabases
 mod Many
 mod Served
 mod Taken
+mod Unasked

@@ -1,5 +1,5 @@
 -- What comes of a question of the stores, or an order.
-use Rattle.std.specs.Prelude.{◌≡◌, ◌≢◌, ◌↔◌, ◌⊎◌, ◌<◌, ◌≤◌, ℕ, false, List, ◌++◌, Option, None, Result, Ok, Err, is_some}
+use Rattle.std.specs.Prelude.{◌≡◌, ◌≢◌, ◌↔◌, ◌⊎◌, ◌<◌, ◌≤◌, ℕ, false, nat_lt, List, ◌++◌, Option, None, Some, Result, Ok, Err, IfSome, is_none, is_some, if◌then◌else◌}
 use Rattle.std.specs.Io.KnownBytes.{Appends, Keeps}
 use Rattle.std.specs.Map.{keys_of}
 use Rattle.fare_cap.specs.Bills.{BillValue}
@@ -27,7 +27,7 @@ use Rattle.fare_desk.specs.declared.fault.DeskFault.TheVariants as desk
 use Rattle.fare_sessions.specs.declared.hub.Hub.{Hub}
 use Rattle.fare_sessions.specs.Billing.{IsBillRefusal}
 use Rattle.fare_sessions.specs.Stores.{AreClean, AreSound, ComesOf}
-use Rattle.fare_run.specs.Scheming.{GaveNone, GivesNone, HasGiven, HasScheme, SpellsScheme, TakesScheme}
+use Rattle.fare_run.specs.Scheming.{GaveNone, GivesNone, SpellsScheme, TakesScheme}
 use Rattle.fare_run.specs.Stores.{IsOfStores}
 use Rattle.fare_run.specs.declared.ask_failure.AskFailure.{AskFailure}
 use Rattle.fare_run.specs.declared.ask_failure.AskFailure.TheVariants.{Stores, Desk}
@@ -67,6 +67,25 @@ FailsRetire outbox ledger owner device old new fault =
     × ((fault ≡ desk.UnknownDevice) ↔ ((position_of_owner old.scheme owner ≢ None) × (position_of_device old.scheme device ≡ None)))
     × ComesOf outbox ledger old new (LeavesLane owner device fault)
 
+-- The name by which a question is refused before a store is asked, if it is: to a bill or a settlement that the owner is not
+-- registered, or the day before the first one; to the end of a lane that the owner is not registered, or the device.
+abbrev pub refused_unasked : SchemeValue → Question → Option DeskFault
+refused_unasked sc Close = None
+refused_unasked sc (Bill owner day) = if is_none (position_of_owner sc owner) then Some desk.UnknownOwner else (if nat_lt day sc.start then Some desk.BeforeStart else None)
+refused_unasked sc (Settle owner day) = if is_none (position_of_owner sc owner) then Some desk.UnknownOwner else (if nat_lt day sc.start then Some desk.BeforeStart else None)
+refused_unasked sc Stand = None
+refused_unasked sc (Retire owner device) = if is_none (position_of_owner sc owner) then Some desk.UnknownOwner else (if is_none (position_of_device sc device) then Some desk.UnknownDevice else None)
+refused_unasked sc (Forget day) = None
+
+-- a fault is that name, where there is one
+abbrev pub NamesFirst : SchemeValue → Question → DeskFault → Type 0
+NamesFirst sc question fault = (why : DeskFault) → refused_unasked sc question ≡ Some why → fault ≡ why
+
+-- refused by this name, where the stores were opened
+abbrev pub IsRefusedAs : DeskFault → AskFailure → Type 0
+IsRefusedAs why (Stores failure) = Unit {0}
+IsRefusedAs why (Desk fault) = fault ≡ why
+
 -- What a fault says of the stores of a hub: to a bill, which refusal applies; to `retire` and `forget` also what the fault
 -- leaves. The other refusals never come.
 abbrev pub FailsOf : {O L : Type 0} → (O → Standing OutboxValue) → (L → Standing LedgerValue) → Question → Hub O L → Hub O L → DeskFault → Type 0
@@ -96,6 +115,7 @@ IsAnswered sc (Forget day) before after = (text : List ℕ) × AreGoneLines (lan
 pub record AskEnds (question : Question) (before after : Option (List ℕ)) (input : List ℕ) : Type 0 where
   pub sc : SchemeValue
   pub spelled : SpellsScheme sc input
+  pub asked : refused_unasked sc question ≡ None
   pub writes : IsAnswered sc question before after
 
 -- nothing was written, but where the writer failed
@@ -110,14 +130,14 @@ FailsIn question before after (Stores why) = Keeps before after × IsOfStores wh
 FailsIn question before after (Desk fault) = IsAnsweredAtOnce question → KeepsUnlessWrite fault before after
 
 -- What each failure says: one of the scheme, of what is kept or of opening the stores comes before anything is written, and one
--- of a question writes nothing, but where the writer failed.
+-- of a question is the name by which that is refused unasked, if it is, and writes nothing, but where the writer failed.
 abbrev pub AskFails : Question → Option (List ℕ) → Option (List ℕ) → Option (List ℕ) → AskFailure → Type 0
 AskFails question known before after (Stores why) = Keeps before after × GivesNone known why
-AskFails question known before after (Desk fault) = HasScheme known × (IsAnsweredAtOnce question → KeepsUnlessWrite fault before after)
+AskFails question known before after (Desk fault) = IfSome known (λ input. (sc : SchemeValue) × SpellsScheme sc input × NamesFirst sc question fault) × (IsAnsweredAtOnce question → KeepsUnlessWrite fault before after)
 
 -- So it ended for these bytes of a scheme's lines: well where it is taken from them and the answer for it was written, or by a
 -- failure that says this of them.
 abbrev pub IsAskedOf : Question → Option (List ℕ) → Option (List ℕ) → SchemeSource → List ℕ → Result (Unit {0}) AskFailure → Type 0
-IsAskedOf question before after source input (Ok _) = (sc : SchemeValue) × TakesScheme source sc input × IsAnswered sc question before after
+IsAskedOf question before after source input (Ok _) = (sc : SchemeValue) × TakesScheme source sc input × (refused_unasked sc question ≡ None) × IsAnswered sc question before after
 IsAskedOf question before after source input (Err (Stores why)) = Keeps before after × GaveNone source input why
-IsAskedOf question before after source input (Err (Desk fault)) = HasGiven source input × FailsIn question before after (Desk fault)
+IsAskedOf question before after source input (Err (Desk fault)) = (sc : SchemeValue) × TakesScheme source sc input × NamesFirst sc question fault × FailsIn question before after (Desk fault)

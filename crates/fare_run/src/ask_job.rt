@@ -1,5 +1,6 @@
-ghost use Rattle.std.specs.Prelude.{◌≡◌, ℕ, List, length, OnOk, IfErr, IfSome};
-ghost use Rattle.fare_run.specs.Asking.{AskEnds, AskFails, FailsIn, IsAnswered, IsAskedOf};
+ghost use Rattle.std.specs.Prelude.{◌≡◌, ℕ, List, Some, length, IfErr, IfSome, IsErrAnd, OnOk};
+ghost use Rattle.fare_desk.specs.declared.fault.DeskFault.{DeskFault};
+ghost use Rattle.fare_run.specs.Asking.{AskEnds, AskFails, FailsIn, IsAnswered, IsAskedOf, IsRefusedAs, refused_unasked};
 ghost use Rattle.fare_run.specs.Databases.{AnswersIn, KeepsIn, Refuses};
 ghost use Rattle.fare_run.specs.Scheming.{IsFile, given_by};
 
@@ -32,6 +33,7 @@ pub fn ask_databases<S: Alter + Drop, O: Write>(
     ensures done { OnOk result.1 (IsAnswered scheme question (O.contents output.old) (O.contents output.new)) }
     ensures fails { IfErr result.1 (FailsIn question (O.contents output.old) (O.contents output.new)) }
     ensures answers { OnOk result.1 (AnswersIn S.Store scheme question databases result.0 (O.contents output.old) (O.contents output.new)) }
+    ensures unasked { (why : DeskFault) → refused_unasked scheme question ≡ Some why → IsErrAnd result.1 (IsRefusedAs why) }
     ensures refuses { IfErr result.1 (Refuses S.Store scheme question databases result.0) }
     ensures keeps { KeepsIn S.Store scheme question databases result.0 }
 {

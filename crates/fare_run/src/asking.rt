@@ -1,7 +1,7 @@
-ghost use Rattle.std.specs.Prelude.{◌≡◌, ◌≢◌, OnOk, IfErr};
+ghost use Rattle.std.specs.Prelude.{◌≡◌, ◌≢◌, Some, Err, OnOk, IfErr};
 ghost use Rattle.std.specs.Io.KnownBytes.{Keeps};
 ghost use Rattle.fare_sessions.specs.Stores.{AreClean, AreSound, HasLedgers};
-ghost use Rattle.fare_run.specs.Asking.{Answers, FailsOf, GoesOnAsked, HasFailed, IsAnsweredAtOnce};
+ghost use Rattle.fare_run.specs.Asking.{Answers, FailsOf, GoesOnAsked, HasFailed, IsAnsweredAtOnce, refused_unasked};
 ghost use Rattle.fare_desk.specs.declared.fault.DeskFault.TheVariants.{Store, Write};
 
 use fare_command::Question;
@@ -14,7 +14,7 @@ use std::alloc::Global;
 use std::io::Write;
 
 /// Answers a question of these stores, closes their days, retires a lane or lets days go, and writes what comes of it, as
-/// `fare_desk` says. Each failure comes as its call says.
+/// `fare_desk` says. Each failure comes as its call says; what the scheme alone refuses asks no store.
 pub fn answer_over<Ob: Outbox, L: Ledger, O: Write>(
     alloc: Global,
     hub: &mut Hub<Ob, L>,
@@ -24,6 +24,7 @@ pub fn answer_over<Ob: Outbox, L: Ledger, O: Write>(
     requires ledgers { HasLedgers hub.old }
     ensures goes { GoesOnAsked Ob.standing L.standing question hub.old hub.new }
     ensures answers { OnOk result (Answers Ob.standing L.standing question hub.old hub.new (O.contents output.old) (O.contents output.new)) }
+    ensures unasked { (why : DeskFault) → refused_unasked hub.old.scheme question ≡ Some why → (hub.new ≡ hub.old) × (result ≡ Err why) }
     ensures fails { IfErr result (FailsOf Ob.standing L.standing question hub.old hub.new) }
     ensures cause { AreClean Ob.standing L.standing hub.new → AreSound Ob.standing L.standing hub.old → IfErr result (λ fault. fault ≡ Store → HasFailed Ob.standing L.standing hub.old hub.new) }
     ensures kept { IsAnsweredAtOnce question → IfErr result (λ fault. fault ≢ Write → Keeps (O.contents output.old) (O.contents output.new)) }

@@ -6,16 +6,16 @@ use Rattle.fare_run.proofs.ask_job.ask.Goals as goal
 
 pub returns-clause-done : goal.returns-clause-done
 returns-clause-done g c =
-    asked_done c.args.options.now.question (given_by c.args.options.now.scheme (g.I.Read.remaining c.args.input.now)) c.in_ok-scheme.scheme (g.O.Write.contents c.args.output.now) (g.O.Write.contents c.ask_databases-databases.new.output) c.ask_databases-databases.result.1 c.in_ok-scheme.ensures.made c.ask_databases-databases.ensures.done
+    asked_done c.args.options.now.question c.in_ok-scheme.scheme (g.O.Write.contents c.args.output.now) (g.O.Write.contents c.ask_databases-databases.new.output) (given_by c.args.options.now.scheme (g.I.Read.remaining c.args.input.now)) c.ask_databases-databases.result.1 c.in_ok-scheme.ensures.made c.ask_databases-databases.ensures.done c.ask_databases-databases.ensures.unasked
 
 pub returns-clause-fails : goal.returns-clause-fails
 returns-clause-fails g c =
-    asked_failed c.args.options.now.question (given_by c.args.options.now.scheme (g.I.Read.remaining c.args.input.now)) c.in_ok-scheme.scheme (g.O.Write.contents c.args.output.now) (g.O.Write.contents c.ask_databases-databases.new.output) c.ask_databases-databases.result.1 c.in_ok-scheme.ensures.made c.ask_databases-databases.ensures.fails
+    asked_failed c.args.options.now.question c.in_ok-scheme.scheme (g.O.Write.contents c.args.output.now) (g.O.Write.contents c.ask_databases-databases.new.output) (given_by c.args.options.now.scheme (g.I.Read.remaining c.args.input.now)) c.ask_databases-databases.result.1 c.in_ok-scheme.ensures.made c.ask_databases-databases.ensures.fails c.ask_databases-databases.ensures.unasked
 
 pub returns-clause-some : goal.returns-clause-some
 returns-clause-some g c =
     let some = c.in_ok-scheme.ensures.some in
-    (some.0, asked_of c.args.options.now.question c.args.options.now.scheme some.0 c.in_ok-scheme.scheme (g.O.Write.contents c.args.output.now) (g.O.Write.contents c.ask_databases-databases.new.output) c.ask_databases-databases.result.1 some.1 c.ask_databases-databases.ensures.done c.ask_databases-databases.ensures.fails)
+    (some.0, asked_of c.args.options.now.question c.in_ok-scheme.scheme (g.O.Write.contents c.args.output.now) (g.O.Write.contents c.ask_databases-databases.new.output) c.args.options.now.scheme some.0 c.ask_databases-databases.result.1 some.1 c.ask_databases-databases.ensures.done c.ask_databases-databases.ensures.fails c.ask_databases-databases.ensures.unasked)
 
 pub returns-in_err-databases-clause-some : goal.returns-in_err-databases-clause-some
 returns-in_err-databases-clause-some g c =

@@ -7,6 +7,7 @@ use Rattle.fare_run.specs.Stores.{IsOfStores}
 use Rattle.fare_run.proofs.Asked.{answered, asked_count, keeps_unless}
 use Rattle.fare_run.proofs.InDatabases.{answers_opened, keeps_asked, keeps_unopened, refuses_opened, stays_asked}
 use Rattle.fare_run.proofs.Served.{of_opening}
+use Rattle.fare_run.proofs.Unasked.{named_first, not_answered}
 use Rattle.fare_run.proofs.ask_job.ask_databases.Goals as goal
 
 pub returns-in-Ok-answered-clause-done : goal.returns-in-Ok-answered-clause-done
@@ -45,3 +46,12 @@ pub close_hub-databases-requires-clause-room : goal.close_hub-databases-requires
 close_hub-databases-requires-clause-room g c =
     let many = asked_count (outbox_words.stands g.S.Store) (ledger_words.stands g.S.Store) c.args.question c.in-Ok.opened.hub c.answer_over-answered.new.hub c.answer_over-answered.ensures.goes in
     omega (arith, many, c.in-Ok.ensures.room.1)
+
+pub returns-in-Ok-answered-clause-unasked : goal.returns-in-Ok-answered-clause-unasked
+returns-in-Ok-answered-clause-unasked g c = not_answered c.in-Ok.opened.hub c.answer_over-answered.new.hub c.args.scheme c.args.question c.in-Ok.ensures.scheme c.answer_over-answered.result c.answer_over-answered.ensures.unasked tt c.in-Ok-answered.is
+
+pub returns-in-Err-answered-clause-unasked : goal.returns-in-Err-answered-clause-unasked
+returns-in-Err-answered-clause-unasked g c = named_first c.in-Ok.opened.hub c.answer_over-answered.new.hub c.args.scheme c.args.question c.in-Ok.ensures.scheme c.answer_over-answered.result c.answer_over-answered.ensures.unasked c.in-Err-answered.fault c.in-Err-answered.is
+
+pub returns-in-Err-clause-unasked : goal.returns-in-Err-clause-unasked
+returns-in-Err-clause-unasked g c = λ why is. tt

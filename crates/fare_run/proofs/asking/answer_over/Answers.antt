@@ -1,6 +1,9 @@
+use Rattle.std.proofs.Common.{◌≡◌}
+use Rattle.std.specs.Prelude.{Err}
 use Rattle.fare_desk.proofs.Going.{goes_asks, goes_read}
 use Rattle.fare_run.proofs.Asked.{retire_fails}
-use Rattle.fare_run.proofs.Failed.{bill_has_failed, has_failed}
+use Rattle.fare_run.proofs.Failed.{has_failed}
+use Rattle.fare_run.proofs.Unasked.{unasked_bill, unasked_retire}
 use Rattle.fare_run.proofs.asking.answer_over.Goals as goal
 
 pub returns-in-Close-clause-goes : goal.returns-in-Close-clause-goes
@@ -39,7 +42,18 @@ pub returns-in-Forget-clause-cause : goal.returns-in-Forget-clause-cause
 returns-in-Forget-clause-cause g c = λ clean sound. has_failed g.Ob.Outbox.standing g.L.Ledger.standing c.args.hub.now c.forget_days.new.hub c.forget_days.result (c.forget_days.ensures.cause clean sound)
 
 pub returns-in-Bill-clause-cause : goal.returns-in-Bill-clause-cause
-returns-in-Bill-clause-cause g c = λ clean sound. bill_has_failed g.Ob.Outbox.standing g.L.Ledger.standing c.args.hub.now c.write_bill.new.hub c.in-Bill.owner c.in-Bill.day c.write_bill.result c.write_bill.ensures.cause (c.write_bill.ensures.refused clean sound)
+returns-in-Bill-clause-cause g c = λ clean sound. has_failed g.Ob.Outbox.standing g.L.Ledger.standing c.args.hub.now c.write_bill.new.hub c.write_bill.result c.write_bill.ensures.cause
 
 pub returns-in-Settle-clause-cause : goal.returns-in-Settle-clause-cause
-returns-in-Settle-clause-cause g c = λ clean sound. bill_has_failed g.Ob.Outbox.standing g.L.Ledger.standing c.args.hub.now c.write_settlement.new.hub c.in-Settle.owner c.in-Settle.day c.write_settlement.result c.write_settlement.ensures.cause (c.write_settlement.ensures.refused clean sound)
+returns-in-Settle-clause-cause g c = λ clean sound. has_failed g.Ob.Outbox.standing g.L.Ledger.standing c.args.hub.now c.write_settlement.new.hub c.write_settlement.result c.write_settlement.ensures.cause
+
+pub returns-in-Bill-clause-unasked : goal.returns-in-Bill-clause-unasked
+returns-in-Bill-clause-unasked g c = rw c.in-Bill.is (λ why is. unasked_bill c.args.hub.now.scheme c.in-Bill.owner c.in-Bill.day (λ f. (c.write_bill.new.hub ≡ c.args.hub.now) × (c.write_bill.result ≡ Err f)) why is c.write_bill.ensures.unknown c.write_bill.ensures.early)
+
+pub returns-in-Settle-clause-unasked : goal.returns-in-Settle-clause-unasked
+returns-in-Settle-clause-unasked g c = rw c.in-Settle.is (λ why is. unasked_bill c.args.hub.now.scheme c.in-Settle.owner c.in-Settle.day (λ f. (c.write_settlement.new.hub ≡ c.args.hub.now) × (c.write_settlement.result ≡ Err f)) why is c.write_settlement.ensures.unknown c.write_settlement.ensures.early)
+
+pub returns-in-Retire-clause-unasked : goal.returns-in-Retire-clause-unasked
+returns-in-Retire-clause-unasked g c =
+    let r = c.retire_lane.ensures in
+    rw c.in-Retire.is (λ why is. unasked_retire c.args.hub.now.scheme c.in-Retire.owner c.in-Retire.device (λ f. (c.retire_lane.new.hub ≡ c.args.hub.now) × (c.retire_lane.result ≡ Err f)) why is (λ none. (r.unasked.0 none, r.unknown_owner.1 none)) (λ known none. (r.unasked.1 none, r.unknown_device.1 (known, none))))
