@@ -1,5 +1,5 @@
 //! The last acknowledgements of a session.
-ghost use Rattle.std.specs.Prelude.{◌≡◌, ◌∷◌, [], is_some, true, Some};
+ghost use Rattle.std.specs.Prelude.{◌≡◌, ◌∷◌, [], is_some, true, IsSome};
 ghost use Rattle.fare_history.specs.Gathering.{device_answered};
 ghost use Rattle.fare_scheme.specs.Words.{station_of, position_of_device};
 ghost use Rattle.fare_collect.specs.Ending.{last_acks, last_answers, AreSent, HaveSent, HaveLast};
@@ -7,6 +7,7 @@ ghost use Rattle.fare_collect.specs.Noting.{day_acks, AreNoted};
 ghost use Rattle.fare_collect.specs.Resuming.{AreStations};
 
 use crate::ending::hand;
+use crate::placing::place_of_station;
 use crate::station::Station;
 use fare_record::{Ack, AckItem, Day, DayAck, DeviceId};
 use fare_route::are_stated;
@@ -15,26 +16,15 @@ use fare_source::Source;
 use fare_store::{Fault, Outbox};
 use std::collections::BTreeSet;
 
-// Hands an answer to the station of the device at a position, if the session has that station.
-fn send<S: Source>(
-    scheme: &Scheme,
-    position: usize,
-    device: DeviceId,
-    item: &AckItem,
-    stations: &mut [Station<S>],
-)
+// Hands an answer to the station of a registered device, if the session has that station.
+fn send<S: Source>(scheme: &Scheme, device: DeviceId, item: &AckItem, stations: &mut [Station<S>])
     requires order { AreStations scheme.now stations.old }
-    requires known { position_of_device scheme.now device ≡ Some position }
+    requires known { IsSome (position_of_device scheme.now device) }
     requires to { device_answered item.now ≡ device }
     ensures sent { AreSent scheme.now S.talk (item.now ∷ []) stations.old stations.new }
     ensures known { is_some (station_of scheme.now device) ≡ true }
 {
-    let Some(id) = scheme.station_of(device) else {
-        unreachable!()
-    };
-    let Some(place) = scheme.station_position(id) else {
-        unreachable!()
-    };
+    let place = place_of_station(scheme, device);
     if place < stations.len() {
         hand(item, &mut stations[place]);
     }
@@ -51,11 +41,11 @@ fn last_days<S: Source, O: Outbox>(
     requires noted { AreNoted scheme.now days.now.keys }
     ensures { HaveSent scheme.now S.talk (O.standing outbox.old) (O.standing outbox.new) stations.old stations.new (λ x. day_acks scheme.now x days.now.keys) result }
 {
-    for (position, device, day) in days {
+    for (_, device, day) in days {
         let held = are_stated(scheme, outbox, *device, *day)?;
         if held {
             let item = AckItem::Day(DayAck::new(*device, *day));
-            send(scheme, *position, *device, &item, stations);
+            send(scheme, *device, &item, stations);
         }
     }
     Ok(())
@@ -70,10 +60,10 @@ fn last_all<S: Source, O: Outbox>(
     requires { AreStations scheme.now stations.old }
     ensures { HaveLast scheme.now S.talk (O.standing outbox.old) (O.standing outbox.new) stations.old stations.new (last_acks scheme.now) result }
 {
-    for (position, device) in scheme.devices().iter().enumerate() {
+    for device in scheme.devices() {
         let upto = outbox.upto(*device)?;
         let item = AckItem::Upto(Ack::new(*device, upto));
-        send(scheme, position, *device, &item, stations);
+        send(scheme, *device, &item, stations);
     }
     Ok(())
 }

@@ -10,6 +10,7 @@ use crate::answering::answer_last;
 use crate::ending::hand_all;
 use crate::fault::StationFault;
 use crate::opening::{Lines, open_lines};
+use crate::placing::place_of_station;
 use crate::serving::{Intake, gather};
 use crate::station::{End, Station};
 use fare_inbox_queue::{Inbox, StationPass, WriterPass};
@@ -60,12 +61,7 @@ fn resume<S, O: Outbox>(
 {
     for device in scheme.devices() {
         let upto = outbox.upto(*device)?;
-        let Some(id) = scheme.station_of(*device) else {
-            unreachable!()
-        };
-        let Some(place) = scheme.station_position(id) else {
-            unreachable!()
-        };
+        let place = place_of_station(scheme, *device);
         if place < stations.len() {
             stations[place].collector.resume(*device, upto);
         }

@@ -11,6 +11,7 @@ mod fault;
 mod making;
 mod opening;
 mod pacing;
+mod placing;
 mod putting;
 mod reading;
 mod resting;

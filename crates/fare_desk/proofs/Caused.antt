@@ -48,24 +48,24 @@ module _ {O L : Type 0} (outbox : O → Standing OutboxValue) (ledger : L → St
   -- a close
   pub close_counted : (owner device day : ℕ) (result : Result Unit (Refused ClosingFault)) (f : Option Fault) → HasClosed ledger old new owner device day result → fault_in result ≡ f → IsCaused outbox ledger old new f
   close_counted owner device day result f h is =
-      subst (IsCaused outbox ledger old new) (sym (close_fault h.answer) ∙ (ap (λ (r : Result Unit (Refused ClosingFault)). fault_in r) (sym h.told) ∙ is))
-      (counted_owner outbox ledger old new owner (fault_in h.answer) h.one h.outbox_same h.writes.cause)
+      subst (IsCaused outbox ledger old new) (sym (close_fault h.did.answer) ∙ (ap (λ (r : Result Unit (Refused ClosingFault)). fault_in r) (sym h.did.told) ∙ is))
+      (counted_owner outbox ledger old new owner (fault_in h.did.answer) h.one h.outbox_same h.did.writes.cause)
 
   -- a retire
   module _ (owner device : ℕ) (result : Result Unit (Refused RetiringFault)) (h : HasRetired ledger old new owner device result) where
-    own_counted : Counted (ledger h.one.own_old).failures (ledger h.one.own_new).failures (fault_in h.answer)
+    own_counted : Counted (ledger h.one.own_old).failures (ledger h.one.own_new).failures (fault_in h.did.answer)
     own_counted = by ((ledger h.one.own_old).value.knows device) refl
       where
-        by : (b : Bool) → (ledger h.one.own_old).value.knows device ≡ b → Counted (ledger h.one.own_old).failures (ledger h.one.own_new).failures (fault_in h.answer)
-        by true e = (h.writes e).cause
+        by : (b : Bool) → (ledger h.one.own_old).value.knows device ≡ b → Counted (ledger h.one.own_old).failures (ledger h.one.own_new).failures (fault_in h.did.answer)
+        by true e = (h.did.writes e).cause
         by false e =
-            let other = h.not_mine.1 e in
-            subst (λ (a : Result Unit (Refused RetireFault)). Counted (ledger h.one.own_old).failures (ledger h.one.own_new).failures (fault_in a)) (sym other) (ap (λ x. (ledger x).failures) (h.unasked other))
+            let other = h.did.not_mine.1 e in
+            subst (λ (a : Result Unit (Refused RetireFault)). Counted (ledger h.one.own_old).failures (ledger h.one.own_new).failures (fault_in a)) (sym other) (ap (λ x. (ledger x).failures) (h.did.unasked other))
 
     pub retire_counted : (f : Option Fault) → fault_in result ≡ f → IsCaused outbox ledger old new f
     retire_counted f is =
-        subst (IsCaused outbox ledger old new) (sym (retire_fault h.answer) ∙ (ap (λ (r : Result Unit (Refused RetiringFault)). fault_in r) (sym h.told) ∙ is))
-        (counted_owner outbox ledger old new owner (fault_in h.answer) h.one h.outbox_same own_counted)
+        subst (IsCaused outbox ledger old new) (sym (retire_fault h.did.answer) ∙ (ap (λ (r : Result Unit (Refused RetiringFault)). fault_in r) (sym h.did.told) ∙ is))
+        (counted_owner outbox ledger old new owner (fault_in h.did.answer) h.one h.outbox_same own_counted)
 
     -- a ledger that is at work knows the scheme's devices
     module _ (works : IsAtWork outbox ledger old owner) (clean : AreClean outbox ledger old) (sound : AreSound outbox ledger old) (known : is_some (position_of_device old.scheme device) ≡ true) where
@@ -73,7 +73,7 @@ module _ {O L : Type 0} (outbox : O → Standing OutboxValue) (ledger : L → St
       knows = (sound.own owner h.one.own_old (h.one.place, h.one.at, h.one.was) (works clean h.one.own_old (h.one.place, h.one.at, h.one.was))).1.knows device ∙ known
 
       never_not_mine : result ≡ Err (Because (retiring.Ledger retire.NotMine)) → ⊥
-      never_not_mine is = let both : true ≡ false = sym knows ∙ h.not_mine.0 (is_not_mine h.answer (sym is ∙ h.told)) in absurd (cc)
+      never_not_mine is = let both : true ≡ false = sym knows ∙ h.did.not_mine.0 (is_not_mine h.did.answer (sym is ∙ h.did.told)) in absurd (cc)
 
       pub retire_refused : (why : Refused RetiringFault) (q : DeskFault) → result ≡ Err why → q ≡ of_retiring why → IsCaused outbox ledger old new (store_named q)
       retire_refused (Because retiring.UnknownOwner) q is named = subst (λ p. IsCaused outbox ledger old new (store_named p)) (sym named) (retire_counted None (ap (λ (r : Result Unit (Refused RetiringFault)). fault_in r) is))

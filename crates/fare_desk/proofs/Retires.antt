@@ -136,26 +136,26 @@ module _ {O L : Type 0} (outbox : O → Standing OutboxValue) (ledger : L → St
     own_clean clean = clean.ledgers_are h.one.place h.one.own_new h.one.is
 
     -- the ledger was asked, where it knows the device
-    asked : (a : Result Unit (Refused RetireFault)) → h.answer ≡ a → (a ≡ Err (Because retire.NotMine) → ⊥) → Writes (ledger h.one.own_old) (ledger h.one.own_new) (retire_of v device) (with_retired device v) a
-    asked a is other = subst (Writes (ledger h.one.own_old) (ledger h.one.own_new) (retire_of v device) (with_retired device v)) is (h.writes (known (v.knows device) refl))
+    asked : (a : Result Unit (Refused RetireFault)) → h.did.answer ≡ a → (a ≡ Err (Because retire.NotMine) → ⊥) → Writes (ledger h.one.own_old) (ledger h.one.own_new) (retire_of v device) (with_retired device v) a
+    asked a is other = subst (Writes (ledger h.one.own_old) (ledger h.one.own_new) (retire_of v device) (with_retired device v)) is (h.did.writes (known (v.knows device) refl))
       where
         known : (b : Bool) → v.knows device ≡ b → v.knows device ≡ true
         known true e = e
-        known false e = absurd (other (sym is ∙ h.not_mine.1 e))
+        known false e = absurd (other (sym is ∙ h.did.not_mine.1 e))
 
     pub comes_done : result ≡ Ok tt → ComesOf outbox ledger old new (RetiresOne owner device)
     comes_done ok =
         step (λ l m. (retire_of l device ≡ Ok tt) × (m ≡ with_retired device l)) (RetiresOne owner device)
-        (λ clean sound. done_leads (λ l. retire_of l device) (with_retired device) (ledger h.one.own_old) (ledger h.one.own_new) (asked (Ok tt) (answered_ok h.answer (sym ok ∙ h.told)) (λ e. absurd (cc))) (fit sound) sound_new (own_clean clean))
+        (λ clean sound. done_leads (λ l. retire_of l device) (with_retired device) (ledger h.one.own_old) (ledger h.one.own_new) (asked (Ok tt) (answered_ok h.did.answer (sym ok ∙ h.did.told)) (λ e. absurd (cc))) (fit sound) sound_new (own_clean clean))
         (λ k l is. one_retired owner device k l is)
 
-    failed_leads : (f : Fault) → h.answer ≡ Err (Failed f) → AreClean outbox ledger new → AreSound outbox ledger mid → Leads (IsRetiredFrom device) (ledger h.one.own_old) (ledger h.one.own_new)
+    failed_leads : (f : Fault) → h.did.answer ≡ Err (Failed f) → AreClean outbox ledger new → AreSound outbox ledger mid → Leads (IsRetiredFrom device) (ledger h.one.own_old) (ledger h.one.own_new)
     failed_leads f is clean sound = write_leads (λ l. retire_of l device) (with_retired device) (ledger h.one.own_old) (ledger h.one.own_new) (Err (Failed f)) (asked (Err (Failed f)) is (λ e. absurd (cc))) (fit sound) (own_clean clean)
 
-    not_mine_leads : h.answer ≡ Err (Because retire.NotMine) → Leads (λ l m. m ≡ l) (ledger h.one.own_old) (ledger h.one.own_new)
-    not_mine_leads is = subst (λ x. Leads (λ l m. m ≡ l) (ledger h.one.own_old) (ledger x)) (sym (h.unasked is)) (record { leads = λ l may. (l, may, refl) })
+    not_mine_leads : h.did.answer ≡ Err (Because retire.NotMine) → Leads (λ l m. m ≡ l) (ledger h.one.own_old) (ledger h.one.own_new)
+    not_mine_leads is = subst (λ x. Leads (λ l m. m ≡ l) (ledger h.one.own_old) (ledger x)) (sym (h.did.unasked is)) (record { leads = λ l may. (l, may, refl) })
 
-    by_answer : (a : Result Unit (Refused RetireFault)) → h.answer ≡ a → (e : Refused RetiringFault) → Err e ≡ retire_as_hub a → ComesOf outbox ledger old new (LeavesLane owner device (of_retiring e))
+    by_answer : (a : Result Unit (Refused RetireFault)) → h.did.answer ≡ a → (e : Refused RetiringFault) → Err e ≡ retire_as_hub a → ComesOf outbox ledger old new (LeavesLane owner device (of_retiring e))
     by_answer (Ok u) is e told = absurd (cc)
     by_answer (Err (Because retire.NotMine)) is e told =
         let named : e ≡ Because (retiring.Ledger retire.NotMine) = cc in
@@ -177,7 +177,7 @@ module _ {O L : Type 0} (outbox : O → Standing OutboxValue) (ledger : L → St
         (step (IsRetiredFrom device) (LeavesLane owner device desk.Store) (failed_leads fault.Store is) (λ k l may. may_be_retired owner device k l may))
 
     pub comes_refused : (e : Refused RetiringFault) → result ≡ Err e → ComesOf outbox ledger old new (LeavesLane owner device (of_retiring e))
-    comes_refused e is = by_answer h.answer refl e (sym is ∙ h.told)
+    comes_refused e is = by_answer h.did.answer refl e (sym is ∙ h.did.told)
 
   -- and then its line was written, or not
   pub lane_retired : (owner device : ℕ) (old new : Hub O L) (before after : Option (List ℕ)) (text : List ℕ) → text ≡ reply_text (reply.Retired device) → ComesOf outbox ledger old new (RetiresOne owner device)

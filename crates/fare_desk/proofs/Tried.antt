@@ -39,8 +39,8 @@ no_fault : (answer : Result Unit CloseFault) → fault_in (as_refused answer) �
 no_fault (Ok u) = refl
 no_fault (Err why) = refl
 
-module _ {O L : Type 0} (outbox : O → Standing OutboxValue) (ledger : L → Standing LedgerValue) (old new : Hub O L) (owner device day : ℕ) (result : Result Unit (Refused ClosingFault)) (h : HasClosed ledger old new owner device day result) (sound_new : IsSound (ledger h.one.own_new)) (answer : Result Unit CloseFault) (is : h.answer ≡ as_refused answer) where
-  none : fault_in h.answer ≡ None
+module _ {O L : Type 0} (outbox : O → Standing OutboxValue) (ledger : L → Standing LedgerValue) (old new : Hub O L) (owner device day : ℕ) (result : Result Unit (Refused ClosingFault)) (h : HasClosed ledger old new owner device day result) (sound_new : IsSound (ledger h.one.own_new)) (answer : Result Unit CloseFault) (is : h.did.answer ≡ as_refused answer) where
+  none : fault_in h.did.answer ≡ None
   none = ap (λ (a : Result Unit (Refused CloseFault)). fault_in a) is ∙ no_fault answer
 
   module _ (clean : AreClean outbox ledger new) (sound : AreSound outbox ledger old) (k : StoresValue) (may : MayStandAs outbox ledger new k) where
@@ -48,10 +48,10 @@ module _ {O L : Type 0} (outbox : O → Standing OutboxValue) (ledger : L → St
     v = (ledger h.one.own_old).value
 
     live : (ledger h.one.own_new).live
-    live = h.writes.stays none (clean.ledgers_are h.one.place h.one.own_new h.one.is)
+    live = h.did.writes.stays none (clean.ledgers_are h.one.place h.one.own_new h.one.is)
 
-    does : (ledger h.one.own_new).lawful × Does v (ledger h.one.own_new).value (close_of v device day) (with_close device v) h.answer
-    does = h.writes.value live (sound.lawful.ledgers_are h.one.place h.one.own_old h.one.was (h.writes.live live))
+    does : (ledger h.one.own_new).lawful × Does v (ledger h.one.own_new).value (close_of v device day) (with_close device v) h.did.answer
+    does = h.did.writes.value live (sound.lawful.ledgers_are h.one.place h.one.own_old h.one.was (h.did.writes.live live))
 
     now : k.ledgers owner ≡ (ledger h.one.own_new).value
     now = holds_value (ledger h.one.own_new) sound_new live does.0 (k.ledgers owner) (own_stands outbox ledger old new owner h.one k may)
@@ -60,7 +60,7 @@ module _ {O L : Type 0} (outbox : O → Standing OutboxValue) (ledger : L → St
     m = record { outbox = k.outbox; ledgers = put k.ledgers owner v }
 
     stood : MayStandAs outbox ledger old m
-    stood = stood_before outbox ledger old new owner h.one k may k.outbox (subst (λ z. MayHold (outbox z) k.outbox) h.outbox_same may.outbox_may) v (inl (h.writes.live live, refl))
+    stood = stood_before outbox ledger old new owner h.one k may k.outbox (subst (λ z. MayHold (outbox z) k.outbox) h.outbox_same may.outbox_may) v (inl (h.did.writes.live live, refl))
 
     here : put k.ledgers owner v owner ≡ v
     here = put_here k.ledgers owner v

@@ -3,7 +3,7 @@ use Rattle.std.proofs.Common.{◌≡◌, ◌≢◌, ◌⊎◌, ℕ, List, [], �
 use Rattle.std.specs.Prelude.{◌↔◌, Option, Some, None, Result, Ok, Err, OnOk, IfErr, is_some}
 use Rattle.std.specs.Io.KnownBytes.{Keeps}
 use Rattle.fare_desk.specs.Billing.{WritesBill, WritesSettlement}
-use Rattle.fare_desk.specs.Causes.{IsCaused, store_named}
+use Rattle.fare_desk.specs.Causes.{IsCaused, store_fault, store_named}
 use Rattle.fare_desk.specs.Closing.{HasClosedLanes, lanes_of}
 use Rattle.fare_desk.specs.Showing.{WritesStanding}
 use Rattle.fare_desk.specs.Faults.{is_of_retire, is_refusal, name_of, refused_of}
@@ -34,7 +34,7 @@ use Rattle.fare_store.specs.declared.fault.Fault.TheVariants as fault
 use Rattle.fare_sessions.specs.declared.billing.BillingFault.{BillingFault}
 use Rattle.fare_sessions.specs.declared.billing.BillingFault.TheVariants as billing
 use Rattle.fare_side.specs.declared.bill_fault.BillFault.TheVariants as bill
-use Rattle.fare_page.specs.Answering.{EndsInFailed, IsBody, IsBroken, IsDone, IsFault, IsFilled, IsNamed, IsShort, IsTold, IsToldFault, IsToldOf, MayRetireOne, Tells, TellsNotRetired, TellsRefusal, TellsRetireFault, TellsRetired, TellsMistake, TellsPage, TellsStores, bill_refusal, form_for, in_form, mistake_status, refusal_in, refused_line}
+use Rattle.fare_page.specs.Answering.{AreTrusted, IsBody, IsDone, IsFault, IsFilled, IsNamed, IsOutOfMemory, IsQuestion, IsStoreFailure, IsTold, IsToldFault, IsToldOf, MayRetireOne, Tells, TellsFailure, TellsMistake, TellsNotRetired, TellsPage, TellsRefusal, TellsRetireFault, TellsRetired, TellsStores, bill_refusal, failed_line, form_for, in_form, mistake_status, refusal_in, refused_line}
 
 -- what a refusal of a retire leaves
 leaves_same : (owner device : ℕ) (fault : DeskFault) (h k : StoresValue) → is_of_retire fault ≡ true → LeavesLane owner device fault h k → k ≡ h
@@ -162,7 +162,7 @@ module _ {O L : Type 0} (outbox : O → Standing OutboxValue) (ledger : L → St
       subst (λ (x : Ask). Tells outbox ledger progress x old new status after) (sym is) (tells_lane old new owner device before middle after status none ended owner_is device_is retired failed named kept told)
 
   -- nothing was done, for want of memory
-  pub undone : (progress : Progress) (a : Ask) (hub : Hub O L) (status : ℕ) (body : List ℕ) → IsShort status → Tells outbox ledger progress a hub hub status body
+  pub undone : (progress : Progress) (a : Ask) (hub : Hub O L) (status : ℕ) (body : List ℕ) → IsOutOfMemory status → Tells outbox ledger progress a hub hub status body
   undone progress ask.Page hub status body out = inr out
   undone progress ask.Metrics hub status body out = inr (inl out)
   undone progress ask.Stand hub status body out = inr (inl out)
@@ -179,7 +179,7 @@ module _ {O L : Type 0} (outbox : O → Standing OutboxValue) (ledger : L → St
   may_retire old new owner device status body (inr (inr failed)) = failed.1
 
   -- that there was no memory may be told in place of anything
-  faulted : (progress : Progress) (a : Ask) (old new : Hub O L) (status : ℕ) (body : List ℕ) (is : ℕ) (content : List ℕ) → Tells outbox ledger progress a old new status body → IsShort is → Tells outbox ledger progress a old new is content
+  faulted : (progress : Progress) (a : Ask) (old new : Hub O L) (status : ℕ) (body : List ℕ) (is : ℕ) (content : List ℕ) → Tells outbox ledger progress a old new status body → IsOutOfMemory is → Tells outbox ledger progress a old new is content
   faulted progress ask.Page old new status body is content tells out = inr out
   faulted progress ask.Metrics old new status body is content tells out = inr (inl out)
   faulted progress ask.Stand old new status body is content tells out = inr (inl out)
@@ -194,18 +194,18 @@ module _ {O L : Type 0} (outbox : O → Standing OutboxValue) (ledger : L → St
   filled progress a old new status body is content tells (inr out) = faulted progress a old new status body is content tells out
 
 -- A REFUSAL
-module _ (fault : DeskFault) (why : Refusal) (before after : List ℕ) (status : ℕ) (is : refusal_in fault ≡ Some why) (told : IsShort status ⊎ IsNamed why before after status) where
+module _ (fault : DeskFault) (why : Refusal) (before after : List ℕ) (status : ℕ) (is : refusal_in fault ≡ Some why) (told : IsOutOfMemory status ⊎ IsNamed why before after status) where
   pub refusal_told : IsToldFault (refusal_in fault) before after status
   refusal_told = subst (λ o. IsToldFault o before after status) (sym is) (by told)
     where
-      by : IsShort status ⊎ IsNamed why before after status → IsToldFault (Some why) before after status
+      by : IsOutOfMemory status ⊎ IsNamed why before after status → IsToldFault (Some why) before after status
       by (inl short) = inl (inl short)
       by (inr named) = inr named
 
   pub refusal_stores : IsToldOf (store_named fault) before after status
   refusal_stores = by fault is
     where
-      not : IsShort status ⊎ IsNamed why before after status → status ≢ 500
+      not : IsOutOfMemory status ⊎ IsNamed why before after status → status ≢ 500
       not (inl short) broken = absurd (omega (arith, short, broken))
       not (inr named) broken = let done = named.0 in absurd (omega (arith, done, broken))
 
@@ -221,7 +221,7 @@ module _ (fault : DeskFault) (why : Refusal) (before after : List ℕ) (status :
       by desk.Write i = absurd (cc)
 
 -- WHICH STORES FAILED
-not_broken : (status : ℕ) → IsShort status → status ≢ 500
+not_broken : (status : ℕ) → IsOutOfMemory status → status ≢ 500
 not_broken status short broken = absurd (omega (arith, short, broken))
 
 module _ {O L : Type 0} (outbox : O → Standing OutboxValue) (ledger : L → Standing LedgerValue) where
@@ -243,18 +243,58 @@ module _ {O L : Type 0} (outbox : O → Standing OutboxValue) (ledger : L → St
   filled_stores old new status body is content (inl same) tells = subst (TellsStores outbox ledger old new) (sym same.0) tells
   filled_stores old new status body is content (inr short) tells = record { failed = λ broken. absurd (not_broken is short broken); sound = λ _ not. absurd (not short) }
 
-pub told_line : (f : Option Fault) (before after : List ℕ) (status : ℕ) → IsToldOf f before after status → IsBroken status → EndsInFailed after
-told_line None before after status told broken = absurd (told broken)
-told_line (Some fault.Memory) before after status told broken = absurd (told broken)
-told_line (Some fault.Store) before after status (inl short) broken = absurd (not_broken status short broken)
-told_line (Some fault.Store) before after status (inr out) broken = (before, out.1)
+-- WHICH LINE TELLS THAT A STORE FAILED
+-- it stands behind what was written before
+told_behind : (f : Option Fault) (before after : List ℕ) (status : ℕ) → IsToldOf f before after status → IsStoreFailure status → after ≡ before ++ failed_line
+told_behind None before after status told broken = absurd (told broken)
+told_behind (Some fault.Memory) before after status told broken = absurd (told broken)
+told_behind (Some fault.Store) before after status (inl short) broken = absurd (not_broken status short broken)
+told_behind (Some fault.Store) before after status (inr out) broken = out.1
 
-pub filled_line : (told : Form) (status : ℕ) (text : List ℕ) (is : ℕ) (content : List ℕ) → IsFilled status (in_form told text) is content → (IsBroken status → told ≡ form.Text) → (IsBroken status → EndsInFailed text) → IsBroken is → EndsInFailed content
-filled_line told status text is content (inr short) plain line broken = absurd (not_broken is short broken)
-filled_line told status text is content (inl same) plain line broken =
-    let was : IsBroken status = sym same.0 ∙ broken in
-    let ends = line was in
-    (ends.0, same.1 ∙ (ap (λ (f : Form). in_form f text) (plain was) ∙ ends.1))
+-- of what writes nothing where it fails it is all that is told
+pub told_alone : (ended : Result (Unit {0}) DeskFault) (before middle after : List ℕ) (status : ℕ) → before ≡ [] → IfErr ended (λ fault. fault ≢ desk.Write → Keeps (Some before) (Some middle)) → IsToldOf (store_fault ended) middle after status → IsStoreFailure status → after ≡ failed_line
+told_alone (Ok u) before middle after status none kept told broken = absurd (told broken)
+told_alone (Err desk.Write) before middle after status none kept told broken = absurd (told broken)
+told_alone (Err fault) before middle after status none kept told broken =
+    told_behind (store_named fault) middle after status told broken ∙ ap (λ (l : List ℕ). l ++ failed_line) (kept (λ w. absurd (cc)) ∙ none)
+
+-- of what was asked
+module _ (a : Ask) (after : List ℕ) where
+  pub line_stand : a ≡ ask.Stand → after ≡ failed_line → TellsFailure a after
+  line_stand is line = subst (λ (x : Ask). TellsFailure x after) (sym is) line
+
+  pub line_bill : (owner day : ℕ) → a ≡ ask.Bill owner day → after ≡ failed_line → TellsFailure a after
+  line_bill owner day is line = subst (λ (x : Ask). TellsFailure x after) (sym is) line
+
+  pub line_settlement : (owner day : ℕ) → a ≡ ask.Settle owner day → after ≡ failed_line → TellsFailure a after
+  line_settlement owner day is line = subst (λ (x : Ask). TellsFailure x after) (sym is) line
+
+  pub line_retire : (owner device : ℕ) → a ≡ ask.Retire owner device → after ≡ failed_line → TellsFailure a after
+  line_retire owner device is line = subst (λ (x : Ask). TellsFailure x after) (sym is) line
+
+  pub line_metrics : a ≡ ask.Metrics → after ≡ failed_line → TellsFailure a after
+  line_metrics is line = subst (λ (x : Ask). TellsFailure x after) (sym is) line
+
+  pub line_close : (f : Option Fault) (before : List ℕ) (status : ℕ) → a ≡ ask.Close → IsToldOf f before after status → IsStoreFailure status → TellsFailure a after
+  line_close f before status is told broken = subst (λ (x : Ask). TellsFailure x after) (sym is) (before, told_behind f before after status told broken)
+
+pub filled_line : (a : Ask) (told : Form) (status : ℕ) (text : List ℕ) (is : ℕ) (content : List ℕ) → IsFilled status (in_form told text) is content → (IsStoreFailure status → told ≡ form.Text) → (IsStoreFailure status → TellsFailure a text) → IsStoreFailure is → TellsFailure a content
+filled_line a told status text is content (inr short) plain line broken = absurd (not_broken is short broken)
+filled_line a told status text is content (inl same) plain line broken =
+    let was : IsStoreFailure status = sym same.0 ∙ broken in
+    subst (TellsFailure a) (sym (same.1 ∙ ap (λ (f : Form). in_form f text) (plain was))) (line was)
+
+-- OF WHICH STORES IT IS SAID
+module _ {O L : Type 0} (outbox : O → Standing OutboxValue) (ledger : L → Standing LedgerValue) (a : Ask) (old new : Hub O L) where
+  ordered : (IsQuestion a → ⊥) → AreTrusted outbox ledger a old new → AreClean outbox ledger new × AreSound outbox ledger old
+  ordered not (inl question) = absurd (not question)
+  ordered not (inr kept) = kept
+
+  pub trusted_close : a ≡ ask.Close → AreTrusted outbox ledger a old new → AreClean outbox ledger new × AreSound outbox ledger old
+  trusted_close is = ordered (λ question. subst IsQuestion is question)
+
+  pub trusted_retire : (owner device : ℕ) → a ≡ ask.Retire owner device → AreTrusted outbox ledger a old new → AreClean outbox ledger new × AreSound outbox ledger old
+  trusted_retire owner device is = ordered (λ question. subst IsQuestion is question)
 
 -- statuses of what asks no store
 pub page_not : (status : ℕ) → TellsPage status → status ≢ 500

@@ -90,27 +90,29 @@ abbrev pub IsDone : ℕ → Type 0
 IsDone status = status ≡ 200
 
 -- there was no memory: nothing is said of the body
-abbrev pub IsShort : ℕ → Type 0
-IsShort status = status ≡ 503
+abbrev pub IsOutOfMemory : ℕ → Type 0
+IsOutOfMemory status = status ≡ 503
 
 -- a store failed
-abbrev pub IsBroken : ℕ → Type 0
-IsBroken status = status ≡ 500
+abbrev pub IsStoreFailure : ℕ → Type 0
+IsStoreFailure status = status ≡ 500
 
 -- it was not done, for one of these
 abbrev pub IsFault : ℕ → Type 0
-IsFault status = IsShort status ⊎ IsBroken status
+IsFault status = IsOutOfMemory status ⊎ IsStoreFailure status
 
 -- the line that tells that a store failed
 abbrev pub failed_line : List ℕ
 failed_line = codes "store failed\n"
 
-abbrev pub EndsInFailed : List ℕ → Type 0
-EndsInFailed body = (front : List ℕ) × (body ≡ front ++ failed_line)
+-- what a store that failed is told by: this line, and of closes that it ended behind what was told of those before it
+abbrev pub TellsFailure : Ask → List ℕ → Type 0
+TellsFailure ask.Close body = (front : List ℕ) × (body ≡ front ++ failed_line)
+TellsFailure _ body = body ≡ failed_line
 
 -- that a store failed is told, its line behind what was there, and of no other fault
 abbrev pub IsToldOf : Option Fault → List ℕ → List ℕ → ℕ → Type 0
-IsToldOf (Some fault.Store) before after status = IsShort status ⊎ (IsBroken status × (after ≡ before ++ failed_line))
+IsToldOf (Some fault.Store) before after status = IsOutOfMemory status ⊎ (IsStoreFailure status × (after ≡ before ++ failed_line))
 IsToldOf _ before after status = status ≢ 500
 
 -- refused by name: its line stands behind what was there
@@ -128,7 +130,7 @@ IsTold (Err fault) before after status = IsToldFault (refusal_in fault) before a
 
 -- what the response is, of this status and body: they, or that there was no memory
 abbrev pub IsFilled : ℕ → List ℕ → ℕ → List ℕ → Type 0
-IsFilled status body is content = ((is ≡ status) × (content ≡ body)) ⊎ IsShort is
+IsFilled status body is content = ((is ≡ status) × (content ≡ body)) ⊎ IsOutOfMemory is
 
 -- FORMS
 -- the form of an answer to this, where this one is wanted: the page and the counts have one
@@ -159,10 +161,10 @@ IsQuestion (ask.Retire owner device) = ⊥
 IsQuestion (ask.Nothing why) = Unit {0}
 
 abbrev pub TellsPage : ℕ → Type 0
-TellsPage status = IsDone status ⊎ IsShort status
+TellsPage status = IsDone status ⊎ IsOutOfMemory status
 
 abbrev pub TellsMistake : Mistake → ℕ → List ℕ → Type 0
-TellsMistake why status body = ((status ≡ mistake_status why) × (body ≡ mistake_line why)) ⊎ IsShort status
+TellsMistake why status body = ((status ≡ mistake_status why) × (body ≡ mistake_line why)) ⊎ IsOutOfMemory status
 
 -- the owner and the device are registered
 abbrev pub IsKnownLane : SchemeValue → ℕ → ℕ → Type 0
@@ -173,9 +175,13 @@ abbrev pub MayRetireOne : ℕ → ℕ → StoresValue → StoresValue → Type 0
 MayRetireOne owner device h k = IsLeftBy h (Retires_lane owner device) k
 
 module _ {O L : Type 0} (outbox : O → Standing OutboxValue) (ledger : L → Standing LedgerValue) where
+  -- of an order, each store has kept what was committed, and what they hold fitted together; of a question, whatever they keep
+  abbrev pub AreTrusted : Ask → Hub O L → Hub O L → Type 0
+  AreTrusted a old new = IsQuestion a ⊎ (AreClean outbox ledger new × AreSound outbox ledger old)
+
   -- what the status tells of the stores, over these: one failed, where it says so, and else none did, but where there was no memory
   pub record TellsStores (old new : Hub O L) (status : ℕ) : Type 0 where
-    pub failed : IsBroken status → IsCaused outbox ledger old new (Some fault.Store)
+    pub failed : IsStoreFailure status → IsCaused outbox ledger old new (Some fault.Store)
     pub sound : status ≢ 500 → status ≢ 503 → IsCaused outbox ledger old new None
 
   -- a bill or a settlement was refused by the first name that applies, whose line is told
@@ -230,8 +236,8 @@ module _ {O L : Type 0} (outbox : O → Standing OutboxValue) (ledger : L → St
     pub text : List ℕ
     pub tells : Tells progress ask old new response.status text
     pub body : IsBody response.status (form_for (form_of request) ask) text response.body.items
-    pub cause : AreClean outbox ledger new → AreSound outbox ledger old → TellsStores old new response.status
-    pub line : IsBroken response.status → EndsInFailed response.body.items
+    pub cause : AreTrusted ask old new → TellsStores old new response.status
+    pub line : IsStoreFailure response.status → TellsFailure ask response.body.items
 
   -- REQUESTS
   -- requests were answered one after the other, each over the stores that the one before it left

@@ -2,8 +2,8 @@
 ghost use Rattle.std.specs.Prelude.{◌≡◌, ◌++◌, [], List, ℕ, IfOk, string_bytes};
 ghost use Rattle.fare_desk.specs.Closing.{GoesOn};
 ghost use Rattle.fare_desk.specs.Showing.{OnlyAsks};
-ghost use Rattle.fare_sessions.specs.Stores.{AreClean, AreSound, HasLedgers};
-ghost use Rattle.fare_page.specs.Answering.{EndsInFailed, IsBroken, IsQuestion, Tells, TellsMetrics, TellsMistake, TellsPage, TellsStores};
+ghost use Rattle.fare_sessions.specs.Stores.{HasLedgers};
+ghost use Rattle.fare_page.specs.Answering.{AreTrusted, IsQuestion, IsStoreFailure, Tells, TellsFailure, TellsMetrics, TellsMistake, TellsPage, TellsStores, failed_line};
 ghost use Rattle.fare_page.specs.Gauges.{gauges_text};
 ghost use Rattle.fare_page.specs.Metrics.{metrics_text};
 
@@ -59,7 +59,7 @@ fn tell_metrics<O: Outbox, L: Ledger>(
     ensures asks { OnlyAsks O.standing L.standing hub.old hub.new }
     ensures tells { TellsMetrics O.standing L.standing progress.now hub.old hub.new result body.new.items }
     ensures stores { TellsStores O.standing L.standing hub.old hub.new result }
-    ensures line { IsBroken result → EndsInFailed body.new.items }
+    ensures line { IsStoreFailure result → body.new.items ≡ failed_line }
 {
     let waits = match what_waits(alloc, hub) {
         Ok(waits) => waits,
@@ -98,8 +98,8 @@ pub(crate) fn answer<O: Outbox, L: Ledger>(
     ensures goes { GoesOn O.standing L.standing hub.old hub.new }
     ensures reads { IsQuestion ask → OnlyAsks O.standing L.standing hub.old hub.new }
     ensures tells { Tells O.standing L.standing progress.now ask hub.old hub.new result body.new.items }
-    ensures stores { AreClean O.standing L.standing hub.new → AreSound O.standing L.standing hub.old → TellsStores O.standing L.standing hub.old hub.new result }
-    ensures line { IsBroken result → EndsInFailed body.new.items }
+    ensures stores { AreTrusted O.standing L.standing ask hub.old hub.new → TellsStores O.standing L.standing hub.old hub.new result }
+    ensures line { IsStoreFailure result → TellsFailure ask body.new.items }
 {
     match ask {
         Ask::Page => tell_page(body),

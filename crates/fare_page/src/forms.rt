@@ -2,7 +2,7 @@
 ghost use Rattle.std.specs.Prelude.{◌≡◌, ◌⊎◌};
 ghost use Rattle.http_server.specs.Response.{IsBlank};
 ghost use Rattle.fare_request.specs.declared.form.Form.TheVariants as form;
-ghost use Rattle.fare_page.specs.Answering.{IsBroken, IsFault, IsFilled, form_for, in_form};
+ghost use Rattle.fare_page.specs.Answering.{IsStoreFailure, IsFault, IsFilled, form_for, in_form};
 
 use crate::filling::fill;
 use fare_json::json_of;
@@ -32,7 +32,7 @@ fn form_for(wanted: Form, ask: Ask) -> Form
 // The same of an answer of this status. That there was no memory, or that a store failed, is no JSON.
 pub(crate) fn form_told(wanted: Form, ask: Ask, status: StatusCode) -> Form
     ensures told { IsFault status ⊎ (result ≡ form_for wanted ask) }
-    ensures plain { IsBroken status → result ≡ form.Text }
+    ensures plain { IsStoreFailure status → result ≡ form.Text }
 {
     match status.as_u16() {
         500 | 503 => Form::Text,

@@ -1,7 +1,7 @@
 //! What is told of how a question ended.
 ghost use Rattle.std.specs.Prelude.{◌≡◌, ◌⊎◌};
 ghost use Rattle.fare_desk.specs.Causes.{store_fault, store_named};
-ghost use Rattle.fare_page.specs.Answering.{IsFault, IsNamed, IsShort, IsTold, IsToldFault, IsToldOf, refusal_in};
+ghost use Rattle.fare_page.specs.Answering.{IsFault, IsNamed, IsOutOfMemory, IsTold, IsToldFault, IsToldOf, refusal_in};
 
 use fare_desk::DeskFault;
 use fare_event::{Refusal, Reply};
@@ -39,7 +39,7 @@ pub(crate) fn tell_failure(fault: DeskFault, body: &mut Vec<u8>) -> StatusCode
 
 // The status of a refusal, and its line.
 fn tell_refusal(why: Refusal, body: &mut Vec<u8>) -> StatusCode
-    ensures { IsShort result ⊎ IsNamed why body.old.items body.new.items result }
+    ensures { IsOutOfMemory result ⊎ IsNamed why body.old.items body.new.items result }
 {
     match print_reply(&Reply::Refused(why), body) {
         Ok(()) => StatusCode::CONFLICT,

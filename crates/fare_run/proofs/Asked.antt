@@ -1,5 +1,5 @@
 -- How a question ends, by how its parts do.
-use Rattle.std.proofs.Common.{◌≡◌, ◌≢◌, ℕ, List, Option, Some, None, IfSome, sym, ap, ◌∙◌, subst, codes, slice_index_or, arith}
+use Rattle.std.proofs.Common.{◌≡◌, ◌≢◌, ◌⊎◌, ℕ, List, Option, Some, None, IfSome, inl, inr, sym, ap, ◌∙◌, subst, codes, slice_index_or, arith}
 use Rattle.std.specs.Prelude.{◌↔◌, Result, Ok, Err, OnOk, IfErr, length}
 use Rattle.std.specs.Result.{IsErrAnd}
 use Rattle.std.specs.Io.KnownBytes.{Keeps}
@@ -35,6 +35,12 @@ use Rattle.fare_run.specs.declared.serve_failure.ServeFailure.TheVariants as ser
 use Rattle.fare_run.specs.declared.ask_failure.AskFailure.{AskFailure}
 use Rattle.fare_run.specs.declared.ask_failure.AskFailure.TheVariants.{Stores, Desk}
 use Rattle.fare_run.proofs.Served.{has_given, has_scheme}
+
+-- AN ORDER
+-- it is said of stores that keep what was committed
+pub ordered : {Q : Type 0} → ⊥ ⊎ Q → Q
+ordered (inl none) = absurd none
+ordered (inr kept) = kept
 
 -- A RETIRE
 -- what it says of its result it says of its fault

@@ -1,5 +1,4 @@
 mod Asked
-mod Failed
 mod InDatabases
 mod Many
 mod Served

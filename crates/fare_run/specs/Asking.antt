@@ -16,7 +16,6 @@ use Rattle.fare_command.specs.declared.words.SchemeSource.{SchemeSource}
 use Rattle.fare_command.specs.declared.words.Question.{Question}
 use Rattle.fare_command.specs.declared.words.Question.TheVariants.{Close, Bill, Settle, Stand, Retire, Forget}
 use Rattle.fare_desk.specs.Billing.{WritesBill, WritesSettlement}
-use Rattle.fare_desk.specs.Causes.{failures_of}
 use Rattle.fare_desk.specs.Faults.{is_of_retire, is_refusal, name_of}
 use Rattle.fare_desk.specs.Retiring.{LeavesLane, RetiresLane}
 use Rattle.fare_desk.specs.Forgetting.{AreGoneLines, LeavesSome, LetsGo}
@@ -96,9 +95,18 @@ FailsOf outbox ledger Stand old new fault = is_refusal fault ≡ false
 FailsOf outbox ledger (Retire owner device) old new fault = FailsRetire outbox ledger owner device old new fault
 FailsOf outbox ledger (Forget day) old new fault = (is_refusal fault ≡ false) × ComesOf outbox ledger old new (LeavesSome (week_start old.scheme day) (lanes_of old.scheme))
 
--- a store failed: the stores' failures, counted together, rose or stood at the greatest count
-abbrev pub HasFailed : {O L : Type 0} → (O → Standing OutboxValue) → (L → Standing LedgerValue) → Hub O L → Hub O L → Type 0
-HasFailed outbox ledger old new = (failures_of outbox ledger old < failures_of outbox ledger new) ⊎ (18446744073709551615 ≤ failures_of outbox ledger old)
+-- it leaves what the stores hold as it was
+abbrev pub IsReadOnly : Question → Type 0
+IsReadOnly Close = ⊥
+IsReadOnly (Bill owner day) = Unit {0}
+IsReadOnly (Settle owner day) = Unit {0}
+IsReadOnly Stand = Unit {0}
+IsReadOnly (Retire owner device) = ⊥
+IsReadOnly (Forget day) = ⊥
+
+-- of an order, each store has kept what was committed, and what they hold fitted together; of a question, whatever they keep
+abbrev pub AreTrusted : {O L : Type 0} → (O → Standing OutboxValue) → (L → Standing LedgerValue) → Question → Hub O L → Hub O L → Type 0
+AreTrusted outbox ledger question old new = IsReadOnly question ⊎ (AreClean outbox ledger new × AreSound outbox ledger old)
 
 -- What was written to it, by the scheme alone. To `close`, for each lane a line for each of some days in a row, all of
 -- which were closed but the last, which may have been refused; to `stand`, a line for each device and for each lane; to

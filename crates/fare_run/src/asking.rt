@@ -1,8 +1,9 @@
 ghost use Rattle.std.specs.Prelude.{◌≡◌, ◌≢◌, Some, Err, OnOk, IfErr};
 ghost use Rattle.std.specs.Io.KnownBytes.{Keeps};
-ghost use Rattle.fare_sessions.specs.Stores.{AreClean, AreSound, HasLedgers};
-ghost use Rattle.fare_run.specs.Asking.{Answers, FailsOf, GoesOnAsked, HasFailed, IsAnsweredAtOnce, refused_unasked};
-ghost use Rattle.fare_desk.specs.declared.fault.DeskFault.TheVariants.{Store, Write};
+ghost use Rattle.fare_sessions.specs.Stores.{HasLedgers};
+ghost use Rattle.fare_run.specs.Asking.{Answers, AreTrusted, FailsOf, GoesOnAsked, IsAnsweredAtOnce, refused_unasked};
+ghost use Rattle.fare_desk.specs.Causes.{IsCaused, store_fault};
+ghost use Rattle.fare_desk.specs.declared.fault.DeskFault.TheVariants.{Write};
 
 use fare_command::Question;
 use fare_desk::{
@@ -26,7 +27,7 @@ pub fn answer_over<Ob: Outbox, L: Ledger, O: Write>(
     ensures answers { OnOk result (Answers Ob.standing L.standing question hub.old hub.new (O.contents output.old) (O.contents output.new)) }
     ensures unasked { (why : DeskFault) → refused_unasked hub.old.scheme question ≡ Some why → (hub.new ≡ hub.old) × (result ≡ Err why) }
     ensures fails { IfErr result (FailsOf Ob.standing L.standing question hub.old hub.new) }
-    ensures cause { AreClean Ob.standing L.standing hub.new → AreSound Ob.standing L.standing hub.old → IfErr result (λ fault. fault ≡ Store → HasFailed Ob.standing L.standing hub.old hub.new) }
+    ensures cause { AreTrusted Ob.standing L.standing question hub.old hub.new → IsCaused Ob.standing L.standing hub.old hub.new (store_fault result) }
     ensures kept { IsAnsweredAtOnce question → IfErr result (λ fault. fault ≢ Write → Keeps (O.contents output.old) (O.contents output.new)) }
 {
     match question {

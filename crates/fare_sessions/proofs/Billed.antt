@@ -1,6 +1,6 @@
 -- What is asked of one ledger, and what a bill and a settlement are of.
 use Rattle.std.proofs.Common.{◌≡◌, ℕ, ◌<◌, ◌≤◌, List, [], ◌∷◌, ◌++◌, Some, None, Bool, true, false, refl, sym, ap, ◌∙◌, subst, arith, inl, inr}
-use Rattle.std.specs.Prelude.{◌==◌, ◌&&◌, nat_le, max, Option, Result, Ok, Err, MatchResult, IfOk, IsErrAnd, if◌then◌else◌, filter, map}
+use Rattle.std.specs.Prelude.{◌==◌, ◌&&◌, nat_le, max, Option, Result, Ok, Err, IfOk, IsErrAnd, if◌then◌else◌, filter, map}
 use Rattle.std.specs.List.{flat_map}
 use Rattle.std.specs.Ordering.{nat_cmp, is_lt}
 use Rattle.std.proofs.lemmas.Bool.{and_from}
@@ -24,11 +24,11 @@ use Rattle.fare_store.specs.declared.fault.Refused.TheVariants.{Because, Failed}
 use Rattle.fare_store.specs.Standing.{Standing, Calls, IsSound, fault_in}
 use Rattle.fare_store.specs.Tables.{put}
 use Rattle.fare_store.specs.OutboxWords.{OutboxValue}
-use Rattle.fare_store.specs.LedgerWords.{LedgerValue, AreTapsBetween}
+use Rattle.fare_store.specs.LedgerWords.{LedgerValue}
 use Rattle.fare_side.specs.declared.bill_fault.BillFault.{BillFault}
 use Rattle.fare_side.specs.declared.bill_fault.BillFault.TheVariants.{UnknownOwner, BeforeStart, NotClosed}
 use Rattle.fare_side.specs.OpenDays.{first_open, short_devices, where_open}
-use Rattle.fare_side.specs.Weeks.{open_of, IsWeekOf}
+use Rattle.fare_side.specs.Weeks.{open_of}
 use Rattle.fare_side.specs.declared.week_taps.WeekTaps.{WeekTaps}
 use Rattle.fare_sessions.specs.declared.billing.BillingFault.{BillingFault}
 use Rattle.fare_sessions.specs.declared.billing.BillingFault.TheVariants.{Unbilled, Forgotten}

@@ -30,13 +30,13 @@ use Rattle.fare_sessions.proofs.Billed.{put_self}
 
 module _ {O L : Type 0} (outbox : O → Standing OutboxValue) (ledger : L → Standing LedgerValue) (old new : Hub O L) (owner device day : ℕ) (result : Result Unit (Refused ClosingFault)) (h : HasClosed ledger old new owner device day result) where
   pub closed_follow : StoresFollow outbox ledger old new
-  closed_follow = replaced_follow outbox ledger old new owner h.one (subst (λ x. Follows (outbox old.outbox) (outbox x)) (sym h.outbox_same) same) (record { clean = h.writes.clean; live = h.writes.live; lawful = λ live lawful. (h.writes.value live lawful).0; lasts = h.writes.lasts })
+  closed_follow = replaced_follow outbox ledger old new owner h.one (subst (λ x. Follows (outbox old.outbox) (outbox x)) (sym h.outbox_same) same) (record { clean = h.did.writes.clean; live = h.did.writes.live; lawful = λ live lawful. (h.did.writes.value live lawful).0; lasts = h.did.writes.lasts })
     where
       same : Follows (outbox old.outbox) (outbox old.outbox)
       same = record { clean = λ c. c; live = λ l. l; lawful = λ l is. is; lasts = λ clean lawful lasting. lasting }
 
   pub closed_sound : AreSound outbox ledger old → AreSound outbox ledger new
-  closed_sound sound = replaced_sound outbox ledger old new owner h.one closed_follow sound (λ other live was. by other was h.answer (h.writes.value live (sound.lawful.ledgers_are h.one.place h.one.own_old h.one.was (h.writes.live live))).1)
+  closed_sound sound = replaced_sound outbox ledger old new owner h.one closed_follow sound (λ other live was. by other was h.did.answer (h.did.writes.value live (sound.lawful.ledgers_are h.one.place h.one.own_old h.one.was (h.did.writes.live live))).1)
     where
       v : LedgerValue
       v = (ledger h.one.own_old).value
@@ -51,7 +51,7 @@ module _ {O L : Type 0} (outbox : O → Standing OutboxValue) (ledger : L → St
 
   module _ (dated : IsDay day) (sound_ledger : IsSound (ledger h.one.own_old)) (clean : AreClean outbox ledger new) (sound : AreSound outbox ledger old) (lists : ℕ → List RecordValue) (numbered : AreNumberedLists lists) (is : IsAgreed outbox ledger lists old) where
     leads : Leads (IsClosedFrom device day) (ledger h.one.own_old) (ledger h.one.own_new)
-    leads = write_leads (λ l. close_of l device day) (with_close device) (ledger h.one.own_old) (ledger h.one.own_new) h.answer h.writes (record { sound = sound_ledger; lawful = sound.lawful.ledgers_are h.one.place h.one.own_old h.one.was }) (clean.ledgers_are h.one.place h.one.own_new h.one.is)
+    leads = write_leads (λ l. close_of l device day) (with_close device) (ledger h.one.own_old) (ledger h.one.own_new) h.did.answer h.did.writes (record { sound = sound_ledger; lawful = sound.lawful.ledgers_are h.one.place h.one.own_old h.one.was }) (clean.ledgers_are h.one.place h.one.own_new h.one.is)
 
     -- the stores before, and what the close made of them
     step : (k : StoresValue) → MayStandAs outbox ledger new k → (m : StoresValue) × MayStandAs outbox ledger old m × IsSafe old.scheme lists numbered m k (history.Closes_day owner device day)

@@ -37,11 +37,11 @@ module _ {O L : Type 0} (outbox : O → Standing OutboxValue) (ledger : L → St
     where
       by : (b : Bool) → v.knows device ≡ b → Does_it
       by true is = mine is
-      by false is = other (h.unasked (h.not_mine.1 is))
+      by false is = other (h.did.unasked (h.did.not_mine.1 is))
 
   own_follows : Follows (ledger h.one.own_old) (ledger h.one.own_new)
   own_follows = asked (Follows (ledger h.one.own_old) (ledger h.one.own_new))
-      (λ mine. let w = h.writes mine in record { clean = w.clean; live = w.live; lawful = λ live lawful. (w.value live lawful).0; lasts = w.lasts })
+      (λ mine. let w = h.did.writes mine in record { clean = w.clean; live = w.live; lawful = λ live lawful. (w.value live lawful).0; lasts = w.lasts })
       (λ same. subst (λ x. Follows (ledger h.one.own_old) (ledger x)) (sym same) (record { clean = λ c. c; live = λ l. l; lawful = λ l is. is; lasts = λ clean lawful lasting. lasting }))
 
   pub retired_follow : StoresFollow outbox ledger old new
@@ -60,13 +60,13 @@ module _ {O L : Type 0} (outbox : O → Standing OutboxValue) (ledger : L → St
 
   pub retired_sound : AreSound outbox ledger old → AreSound outbox ledger new
   retired_sound sound = replaced_sound outbox ledger old new owner h.one retired_follow sound (λ other live was. asked (IsOwn old.scheme other (ledger h.one.own_new).value)
-      (λ mine. let w = h.writes mine in done_own other was h.answer (w.value live (sound.lawful.ledgers_are h.one.place h.one.own_old h.one.was (w.live live))).1)
+      (λ mine. let w = h.did.writes mine in done_own other was h.did.answer (w.value live (sound.lawful.ledgers_are h.one.place h.one.own_old h.one.was (w.live live))).1)
       (λ same. subst (λ x. IsOwn old.scheme other (ledger x).value) (sym same) was))
 
   module _ (sound_ledger : IsSound (ledger h.one.own_old)) (clean : AreClean outbox ledger new) (sound : AreSound outbox ledger old) (lists : ℕ → List RecordValue) (numbered : AreNumberedLists lists) (is : IsAgreed outbox ledger lists old) where
     leads : Leads (IsRetiredFrom device) (ledger h.one.own_old) (ledger h.one.own_new)
     leads = asked (Leads (IsRetiredFrom device) (ledger h.one.own_old) (ledger h.one.own_new))
-        (λ mine. write_leads (λ l. retire_of l device) (with_retired device) (ledger h.one.own_old) (ledger h.one.own_new) h.answer (h.writes mine) (record { sound = sound_ledger; lawful = sound.lawful.ledgers_are h.one.place h.one.own_old h.one.was }) (clean.ledgers_are h.one.place h.one.own_new h.one.is))
+        (λ mine. write_leads (λ l. retire_of l device) (with_retired device) (ledger h.one.own_old) (ledger h.one.own_new) h.did.answer (h.did.writes mine) (record { sound = sound_ledger; lawful = sound.lawful.ledgers_are h.one.place h.one.own_old h.one.was }) (clean.ledgers_are h.one.place h.one.own_new h.one.is))
         (λ same. subst (λ x. Leads (IsRetiredFrom device) (ledger h.one.own_old) (ledger x)) (sym same) (record { leads = λ l may. (l, may, inl refl) }))
 
     -- the stores before, and what the retire made of them

@@ -92,13 +92,17 @@ as_hub (Ok _) = Ok tt
 as_hub (Err (Because why)) = Err (Because (closing.Ledger why))
 as_hub (Err (Failed f)) = Err (Failed f)
 
--- the owner's ledger was asked to close a day of a device
+-- a ledger was asked to close a day of a device
+pub record ClosesDay {L : Type 0} (ledger : L → Standing LedgerValue) (old new : L) (device day : ℕ) (result : Result Unit (Refused ClosingFault)) : Type 0 where
+  pub answer : Result Unit (Refused CloseFault)
+  pub writes : Writes (ledger old) (ledger new) (close_of (ledger old).value device day) (with_close device (ledger old).value) answer
+  pub told : result ≡ as_hub answer
+
+-- the owner's ledger of a hub was
 pub record HasClosed {O L : Type 0} (ledger : L → Standing LedgerValue) (old new : Hub O L) (owner device day : ℕ) (result : Result Unit (Refused ClosingFault)) : Type 0 where
   pub one : ReplacesLedger old new owner
   pub outbox_same : new.outbox ≡ old.outbox
-  pub answer : Result Unit (Refused CloseFault)
-  pub writes : Writes (ledger one.own_old) (ledger one.own_new) (close_of (ledger one.own_old).value device day) (with_close device (ledger one.own_old).value) answer
-  pub told : result ≡ as_hub answer
+  pub did : ClosesDay ledger one.own_old one.own_new device day result
 
 -- it was refused by this name, and no store was asked
 abbrev pub IsRefusedAtOnce : {O L A : Type 0} → Hub O L → Hub O L → BillingFault → Result A (Refused BillingFault) → Type 0

@@ -17,12 +17,16 @@ retire_as_hub (Ok _) = Ok tt
 retire_as_hub (Err (Because why)) = Err (Because (retiring.Ledger why))
 retire_as_hub (Err (Failed f)) = Err (Failed f)
 
--- the owner's ledger was asked to retire its lane of a device; it is asked nothing of one that it doesn't know
+-- a ledger was asked to retire its lane of a device; it is asked nothing of one that it doesn't know
+pub record EndsLane {L : Type 0} (ledger : L → Standing LedgerValue) (old new : L) (device : ℕ) (result : Result Unit (Refused RetiringFault)) : Type 0 where
+  pub answer : Result Unit (Refused RetireFault)
+  pub not_mine : (answer ≡ Err (Because NotMine)) ↔ ((ledger old).value.knows device ≡ false)
+  pub unasked : answer ≡ Err (Because NotMine) → new ≡ old
+  pub writes : (ledger old).value.knows device ≡ true → Writes (ledger old) (ledger new) (retire_of (ledger old).value device) (with_retired device (ledger old).value) answer
+  pub told : result ≡ retire_as_hub answer
+
+-- the owner's ledger of a hub was
 pub record HasRetired {O L : Type 0} (ledger : L → Standing LedgerValue) (old new : Hub O L) (owner device : ℕ) (result : Result Unit (Refused RetiringFault)) : Type 0 where
   pub one : ReplacesLedger old new owner
   pub outbox_same : new.outbox ≡ old.outbox
-  pub answer : Result Unit (Refused RetireFault)
-  pub not_mine : (answer ≡ Err (Because NotMine)) ↔ ((ledger one.own_old).value.knows device ≡ false)
-  pub unasked : answer ≡ Err (Because NotMine) → one.own_new ≡ one.own_old
-  pub writes : (ledger one.own_old).value.knows device ≡ true → Writes (ledger one.own_old) (ledger one.own_new) (retire_of (ledger one.own_old).value device) (with_retired device (ledger one.own_old).value) answer
-  pub told : result ≡ retire_as_hub answer
+  pub did : EndsLane ledger one.own_old one.own_new device result

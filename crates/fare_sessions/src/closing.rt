@@ -6,7 +6,7 @@ ghost use Rattle.fare_store.specs.declared.fault.Refused.TheVariants.{Because};
 ghost use Rattle.fare_store.specs.Standing.{Reads, fault_of};
 ghost use Rattle.fare_history.specs.Stores.{StoresValue};
 ghost use Rattle.fare_agreement.specs.Agreeing.{AreNumberedLists};
-ghost use Rattle.fare_sessions.specs.Billing.{HasAsked, HasClosed, IsToClose, OnlyReads, day_behind};
+ghost use Rattle.fare_sessions.specs.Billing.{ClosesDay, HasAsked, HasClosed, IsToClose, OnlyReads, day_behind};
 ghost use Rattle.fare_sessions.specs.Stores.{HasLedgers, AreClean, AreSound, StoresFollow, MayStandAs, IsAgreed, HasGrown};
 
 use crate::hub::Hub;
@@ -101,10 +101,21 @@ impl<O: Outbox, L: Ledger> Hub<O, L> {
             return Err(Refused::Because(ClosingFault::UnknownOwner));
         };
         prove!(day.get() <= 100_000);
-        match self.ledgers[at].close(device, day) {
-            Ok(()) => Ok(()),
-            Err(Refused::Because(why)) => Err(Refused::Because(ClosingFault::Ledger(why))),
-            Err(Refused::Failed(fault)) => Err(Refused::Failed(fault)),
-        }
+        close_day(&mut self.ledgers[at], device, day)
+    }
+}
+
+// Asks a ledger to close a day of a device.
+fn close_day<L: Ledger>(
+    ledger: &mut L,
+    device: DeviceId,
+    day: Day,
+) -> Result<(), Refused<ClosingFault>>
+    ensures { ClosesDay L.standing ledger.old ledger.new device day result }
+{
+    match ledger.close(device, day) {
+        Ok(()) => Ok(()),
+        Err(Refused::Because(why)) => Err(Refused::Because(ClosingFault::Ledger(why))),
+        Err(Refused::Failed(fault)) => Err(Refused::Failed(fault)),
     }
 }

@@ -4,7 +4,7 @@ ghost use Rattle.fare_record.specs.Values.{RecordValue};
 ghost use Rattle.fare_scheme.specs.Words.{position_of_owner};
 ghost use Rattle.fare_store.specs.declared.fault.Refused.TheVariants.{Because};
 ghost use Rattle.fare_agreement.specs.Agreeing.{AreNumberedLists};
-ghost use Rattle.fare_sessions.specs.Retiring.{HasRetired};
+ghost use Rattle.fare_sessions.specs.Retiring.{EndsLane, HasRetired};
 ghost use Rattle.fare_sessions.specs.Stores.{HasLedgers, AreClean, AreSound, StoresFollow, IsAgreed, HasGrown};
 
 use crate::hub::Hub;
@@ -43,10 +43,17 @@ impl<O: Outbox, L: Ledger> Hub<O, L> {
         let Some(at) = self.scheme.owner_position(owner) else {
             return Err(Refused::Because(RetiringFault::UnknownOwner));
         };
-        match self.ledgers[at].retire(device) {
-            Ok(()) => Ok(()),
-            Err(Refused::Because(why)) => Err(Refused::Because(RetiringFault::Ledger(why))),
-            Err(Refused::Failed(fault)) => Err(Refused::Failed(fault)),
-        }
+        end_lane(&mut self.ledgers[at], device)
+    }
+}
+
+// Asks a ledger to retire its lane of a device.
+fn end_lane<L: Ledger>(ledger: &mut L, device: DeviceId) -> Result<(), Refused<RetiringFault>>
+    ensures { EndsLane L.standing ledger.old ledger.new device result }
+{
+    match ledger.retire(device) {
+        Ok(()) => Ok(()),
+        Err(Refused::Because(why)) => Err(Refused::Because(RetiringFault::Ledger(why))),
+        Err(Refused::Failed(fault)) => Err(Refused::Failed(fault)),
     }
 }

@@ -1,8 +1,9 @@
 use Rattle.std.proofs.Common.{◌≡◌, ◌+◌, List, Some, refl, ap, sym, subst, ◌∙◌, slice_index_or, arith, Err}
+use Rattle.std.specs.Prelude.{is_some}
 use Rattle.std.proofs.lemmas.Result.{err_from_is_err_and}
 use Rattle.fare_scheme.proofs.Slices.{item_at, none_left}
 use Rattle.fare_collect.specs.Resuming.{HaveResumed}
-use Rattle.fare_scheme.specs.Words.{station_of, position_of_device, position_of_station}
+use Rattle.fare_scheme.specs.Words.{position_of_device}
 use Rattle.fare_collect.specs.declared.station.Station.{Station}
 use Rattle.fare_collect.proofs.Resumed.{AreResuming, resuming_none, resuming_failed, resuming_past, resuming_more, resumed_all}
 use Rattle.fare_collect.proofs.collecting.resume.Goals.{then-place-stations, else-place-stations}
@@ -18,6 +19,9 @@ returns-in_err-upto g c =
     (resuming_failed c.args.scheme.now (g.O.Outbox.standing c.args.outbox.now) (g.O.Outbox.standing c.loop-device.outbox) (g.O.Outbox.standing c.upto.new.self) c.args.stations.now c.loop-device.stations c.loop-device.device-index c.device-item.result c.in_err-upto.field-0.0
     (g.met.O.Outbox.sound c.loop-device.outbox) c.loop-device.invariant c.in_err-upto.ensures.read)
 
+pub place_of_station-place-requires : goal.place_of_station-place-requires
+place_of_station-place-requires g c = ap is_some (c.devices-device-items.ensures.placed c.loop-device.device-index c.device-item.result (item_at c.devices-device-items.result.now c.loop-device.device-index c.device-item.result c.loop-device-test.true c.device-item.is))
+
 pub loop-device-preserved : goal.loop-device-preserved
 loop-device-preserved g c =
     let inv = c.loop-device.invariant in
@@ -29,20 +33,19 @@ loop-device-preserved g c =
     let all = c.loop-device.stations in
     let position = c.loop-device.device-index in
     let device = c.device-item.result in
-    let id = c.in-Some.id in
-    let place = c.in-Some-station_position.place in
+    let stands = c.place_of_station-place.ensures in
+    let id = stands.0 in
+    let place = c.place_of_station-place.result in
     let sound = g.met.O.Outbox.sound c.loop-device.outbox in
     let read = c.in_ok-upto.ensures.read in
     let at : position_of_device sc device ≡ Some position = (c.devices-device-items.ensures.placed c.loop-device.device-index c.device-item.result (item_at c.devices-device-items.result.now c.loop-device.device-index c.device-item.result c.loop-device-test.true c.device-item.is)) in
-    let of : station_of sc device ≡ Some id = sym c.station_of.ensures.value ∙ c.in-Some.is in
-    let stands : position_of_station sc id ≡ Some place = sym c.station_position.ensures.value ∙ c.in-Some-station_position.is in
     let Q : List (Station g.row.S.Denot) → Type 0 = λ l. AreResuming sc a d first l (position + 1) in
     elim c.if-place-stations.branch [
       | then-place-stations w ↦
           let x = slice_index_or all place w.index-stations-place.result in
-          subst Q (sym w.stations-is) (resuming_more sc a b d first all position device c.in_ok-upto.upto id place x _ sound c.requires inv read at of stands w.if-place-stations.true (ap (slice_index_or all place) w.index-stations-place.is) refl refl w.resume.ensures.station w.resume.ensures.next)
+          subst Q (sym w.stations-is) (resuming_more sc a b d first all position device c.in_ok-upto.upto id place x _ sound c.requires inv read at stands.1 stands.2 w.if-place-stations.true (ap (slice_index_or all place) w.index-stations-place.is) refl refl w.resume.ensures.station w.resume.ensures.next)
       | else-place-stations w ↦
-          subst Q (sym w.stations-is) (resuming_past sc a b d first all position device c.in_ok-upto.upto id place sound c.requires inv read at of stands (let n = w.if-place-stations.false in omega (arith, n)))
+          subst Q (sym w.stations-is) (resuming_past sc a b d first all position device c.in_ok-upto.upto id place sound c.requires inv read at stands.1 stands.2 (let n = w.if-place-stations.false in omega (arith, n)))
     ]
 
 pub returns : goal.returns

@@ -15,7 +15,7 @@ returns-in-Ok-clause-cause g c =
 pub returns-in-Ok-clause-answered : goal.returns-in-Ok-clause-answered
 returns-in-Ok-clause-answered g c =
     let h = c.close.ensures.closes c.requires.known in
-    answered g.O.Outbox.standing g.L.Ledger.standing c.args.hub.now c.close.new.self c.args.owner c.args.device c.args.day c.close.result h (g.met.L.Ledger.sound h.one.own_new) (Ok tt) (was_ok h.answer (sym c.in-Ok.is ∙ h.told))
+    answered g.O.Outbox.standing g.L.Ledger.standing c.args.hub.now c.close.new.self c.args.owner c.args.device c.args.day c.close.result h (g.met.L.Ledger.sound h.one.own_new) (Ok tt) (was_ok h.did.answer (sym c.in-Ok.is ∙ h.did.told))
 
 pub returns-in-Err-Because-Ledger-clause-cause : goal.returns-in-Err-Because-Ledger-clause-cause
 returns-in-Err-Because-Ledger-clause-cause g c =
@@ -26,7 +26,7 @@ pub returns-in-Err-Because-Ledger-clause-answered : goal.returns-in-Err-Because-
 returns-in-Err-Because-Ledger-clause-answered g c =
     let h = c.close.ensures.closes c.requires.known in
     let why = c.in-Err-Because-Ledger.why in
-    answered g.O.Outbox.standing g.L.Ledger.standing c.args.hub.now c.close.new.self c.args.owner c.args.device c.args.day c.close.result h (g.met.L.Ledger.sound h.one.own_new) (Err why) (was_refused h.answer why (sym (c.in-Err-Because-Ledger.is ∙ (ap Err c.in-Err-Because-Ledger.field-0-is ∙ ap (λ (w : ClosingFault). Err (Because w)) c.in-Err-Because-Ledger.field-0-0-is)) ∙ h.told))
+    answered g.O.Outbox.standing g.L.Ledger.standing c.args.hub.now c.close.new.self c.args.owner c.args.device c.args.day c.close.result h (g.met.L.Ledger.sound h.one.own_new) (Err why) (was_refused h.did.answer why (sym (c.in-Err-Because-Ledger.is ∙ (ap Err c.in-Err-Because-Ledger.field-0-is ∙ ap (λ (w : ClosingFault). Err (Because w)) c.in-Err-Because-Ledger.field-0-0-is)) ∙ h.did.told))
 
 pub returns-in-Err-Failed-clause-cause : goal.returns-in-Err-Failed-clause-cause
 returns-in-Err-Failed-clause-cause g c =

@@ -15,7 +15,7 @@ returns-then-len-owner_count g c = record {
   text = [];
   tells = undone g.O.Outbox.standing g.L.Ledger.standing c.args.progress.now c.asked-ask.result c.args.hub.now 503 [] refl;
   body = inr (inl refl);
-  cause = λ clean sound. still_stores g.O.Outbox.standing g.L.Ledger.standing c.args.hub.now 503 (λ broken. absurd (omega (arith, broken)));
+  cause = λ trusted. still_stores g.O.Outbox.standing g.L.Ledger.standing c.args.hub.now 503 (λ broken. absurd (omega (arith, broken)));
   line = λ broken. absurd (omega (arith, broken));
 }
 
@@ -31,6 +31,6 @@ returns g c =
       text = text;
       tells = filled g.O.Outbox.standing g.L.Ledger.standing c.args.progress.now c.asked-ask.result c.args.hub.now c.answer-status.new.hub c.answer-status.result text c.fill_in.new.response.status text c.answer-status.ensures.tells (status_filled c.form_of-wanted.result c.form_told-form.result c.asked-ask.result c.answer-status.result text c.fill_in.new.response.status c.fill_in.new.response.body.items is_filled);
       body = subst (λ (f : Form). IsBody c.fill_in.new.response.status (form_for f c.asked-ask.result) text c.fill_in.new.response.body.items) c.form_of-wanted.ensures (body_filled c.form_of-wanted.result c.form_told-form.result c.asked-ask.result c.answer-status.result text c.fill_in.new.response.status c.fill_in.new.response.body.items c.form_told-form.ensures.told is_filled);
-      cause = λ clean sound. filled_stores g.O.Outbox.standing g.L.Ledger.standing c.args.hub.now c.answer-status.new.hub c.answer-status.result (in_form c.form_told-form.result text) c.fill_in.new.response.status c.fill_in.new.response.body.items is_filled (c.answer-status.ensures.stores clean sound);
-      line = filled_line c.form_told-form.result c.answer-status.result text c.fill_in.new.response.status c.fill_in.new.response.body.items is_filled c.form_told-form.ensures.plain c.answer-status.ensures.line;
+      cause = λ trusted. filled_stores g.O.Outbox.standing g.L.Ledger.standing c.args.hub.now c.answer-status.new.hub c.answer-status.result (in_form c.form_told-form.result text) c.fill_in.new.response.status c.fill_in.new.response.body.items is_filled (c.answer-status.ensures.stores trusted);
+      line = filled_line c.asked-ask.result c.form_told-form.result c.answer-status.result text c.fill_in.new.response.status c.fill_in.new.response.body.items is_filled c.form_told-form.ensures.plain c.answer-status.ensures.line;
     }

@@ -1,8 +1,7 @@
 use Rattle.std.proofs.Common.{◌≡◌}
 use Rattle.std.specs.Prelude.{Err}
 use Rattle.fare_desk.proofs.Going.{goes_asks, goes_read}
-use Rattle.fare_run.proofs.Asked.{retire_fails}
-use Rattle.fare_run.proofs.Failed.{has_failed}
+use Rattle.fare_run.proofs.Asked.{ordered, retire_fails}
 use Rattle.fare_run.proofs.Unasked.{unasked_bill, unasked_retire}
 use Rattle.fare_run.proofs.asking.answer_over.Goals as goal
 
@@ -30,22 +29,22 @@ pub returns-in-Forget-clause-goes : goal.returns-in-Forget-clause-goes
 returns-in-Forget-clause-goes g c = rw c.in-Forget.is c.forget_days.ensures.goes
 
 pub returns-in-Close-clause-cause : goal.returns-in-Close-clause-cause
-returns-in-Close-clause-cause g c = λ clean sound. has_failed g.Ob.Outbox.standing g.L.Ledger.standing c.args.hub.now c.close_days.new.hub c.close_days.result (c.close_days.ensures.cause clean sound)
+returns-in-Close-clause-cause g c = rw c.in-Close.is (λ trusted. let kept = ordered trusted in c.close_days.ensures.cause kept.0 kept.1)
 
 pub returns-in-Stand-clause-cause : goal.returns-in-Stand-clause-cause
-returns-in-Stand-clause-cause g c = λ clean sound. has_failed g.Ob.Outbox.standing g.L.Ledger.standing c.args.hub.now c.write_standing.new.hub c.write_standing.result (c.write_standing.ensures.cause)
+returns-in-Stand-clause-cause g c = λ trusted. c.write_standing.ensures.cause
 
 pub returns-in-Retire-clause-cause : goal.returns-in-Retire-clause-cause
-returns-in-Retire-clause-cause g c = λ clean sound. has_failed g.Ob.Outbox.standing g.L.Ledger.standing c.args.hub.now c.retire_lane.new.hub c.retire_lane.result (c.retire_lane.ensures.cause clean sound)
+returns-in-Retire-clause-cause g c = rw c.in-Retire.is (λ trusted. let kept = ordered trusted in c.retire_lane.ensures.cause kept.0 kept.1)
 
 pub returns-in-Forget-clause-cause : goal.returns-in-Forget-clause-cause
-returns-in-Forget-clause-cause g c = λ clean sound. has_failed g.Ob.Outbox.standing g.L.Ledger.standing c.args.hub.now c.forget_days.new.hub c.forget_days.result (c.forget_days.ensures.cause clean sound)
+returns-in-Forget-clause-cause g c = rw c.in-Forget.is (λ trusted. let kept = ordered trusted in c.forget_days.ensures.cause kept.0 kept.1)
 
 pub returns-in-Bill-clause-cause : goal.returns-in-Bill-clause-cause
-returns-in-Bill-clause-cause g c = λ clean sound. has_failed g.Ob.Outbox.standing g.L.Ledger.standing c.args.hub.now c.write_bill.new.hub c.write_bill.result c.write_bill.ensures.cause
+returns-in-Bill-clause-cause g c = λ trusted. c.write_bill.ensures.cause
 
 pub returns-in-Settle-clause-cause : goal.returns-in-Settle-clause-cause
-returns-in-Settle-clause-cause g c = λ clean sound. has_failed g.Ob.Outbox.standing g.L.Ledger.standing c.args.hub.now c.write_settlement.new.hub c.write_settlement.result c.write_settlement.ensures.cause
+returns-in-Settle-clause-cause g c = λ trusted. c.write_settlement.ensures.cause
 
 pub returns-in-Bill-clause-unasked : goal.returns-in-Bill-clause-unasked
 returns-in-Bill-clause-unasked g c = rw c.in-Bill.is (λ why is. unasked_bill c.args.hub.now.scheme c.in-Bill.owner c.in-Bill.day (λ f. (c.write_bill.new.hub ≡ c.args.hub.now) × (c.write_bill.result ≡ Err f)) why is c.write_bill.ensures.unknown c.write_bill.ensures.early)
