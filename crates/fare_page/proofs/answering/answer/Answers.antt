@@ -1,4 +1,3 @@
-use Rattle.std.proofs.Common.{subst, sym}
 use Rattle.fare_desk.specs.Causes.{store_fault}
 use Rattle.fare_desk.proofs.Going.{goes_asks, goes_read}
 use Rattle.fare_page.proofs.Tells.{line_bill, line_close, line_metrics, line_retire, line_settlement, line_stand, mistake_not, page_not, still_stores, tells_bill, tells_close, tells_retire, tells_settlement, tells_standing, told_alone, told_stores, trusted_close, trusted_retire}
