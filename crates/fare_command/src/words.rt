@@ -244,12 +244,7 @@ fn given_of(
 fn owner_in(matches: &ArgMatches<'_>) -> Option<OwnerId>
     ensures { MatchOption result ((n : ℕ) → IsOwnerIn (rows_of (found_of matches.now)) n → ⊥) (IsOwnerIn (rows_of (found_of matches.now))) }
 {
-    let Some(owner) = text_of(matches, "owner") else {
-        return None;
-    };
-    let Ok(number) = owner.parse::<u16>() else {
-        return None;
-    };
+    let number = text_of(matches, "owner")?.parse::<u16>().ok()?;
     OwnerId::new(u64::from(number))
 }
 
@@ -271,12 +266,7 @@ fn owner_of(alloc: Global, matches: &ArgMatches<'_>) -> Result<OwnerId, WordsFau
 fn day_in(matches: &ArgMatches<'_>, option: &str) -> Option<Day>
     ensures { MatchOption result ((n : ℕ) → IsDayIn option.now (rows_of (found_of matches.now)) n → ⊥) (IsDayIn option.now (rows_of (found_of matches.now))) }
 {
-    let Some(day) = text_of(matches, option) else {
-        return None;
-    };
-    let Ok(number) = day.parse::<u32>() else {
-        return None;
-    };
+    let number = text_of(matches, option)?.parse::<u32>().ok()?;
     Day::new(u64::from(number))
 }
 
@@ -298,12 +288,7 @@ fn day_of(alloc: Global, matches: &ArgMatches<'_>, option: &str) -> Result<Day, 
 fn device_in(matches: &ArgMatches<'_>) -> Option<DeviceId>
     ensures { MatchOption result ((n : ℕ) → IsDeviceIn (rows_of (found_of matches.now)) n → ⊥) (IsDeviceIn (rows_of (found_of matches.now))) }
 {
-    let Some(device) = text_of(matches, "device") else {
-        return None;
-    };
-    let Ok(number) = device.parse::<u32>() else {
-        return None;
-    };
+    let number = text_of(matches, "device")?.parse::<u32>().ok()?;
     DeviceId::new(u64::from(number))
 }
 
@@ -512,13 +497,9 @@ fn job_of<'a>(
 fn subcommand_in<'m, 'a>(matches: &'m ArgMatches<'a>) -> Option<(Subcommand, &'m ArgMatches<'a>)>
     ensures { MatchOption result ((job : Job) → JobOf (subcommand_rows_of matches.now) job → ⊥) (λ said. subcommand_rows_of matches.now ≡ Some (name_of said.0, rows_of (found_of said.1.now))) }
 {
-    let Some((name, inner)) = matches.subcommand() else {
-        return None;
-    };
-    match subcommand_named(name) {
-        Some(subcommand) => Some((subcommand, inner)),
-        None => None,
-    }
+    let (name, inner) = matches.subcommand()?;
+    let subcommand = subcommand_named(name)?;
+    Some((subcommand, inner))
 }
 
 /// The job that clap's matches ask for.

@@ -41,10 +41,7 @@ fn put_member(part: Part, word: Option<&[u8]>, writer: &mut Writer) -> Result<()
 fn word_at<'a>(words: &[&'a [u8]], place: usize) -> Option<&'a [u8]>
     ensures { option_map (λ w. w.now) result ≡ slice_get (map (λ w. w.now) words.now) place }
 {
-    match words.get(place) {
-        Some(word) => Some(*word),
-        None => None,
-    }
+    words.get(place).copied()
 }
 
 // Writes the members that parts are, by the words at their places, and closes the object.

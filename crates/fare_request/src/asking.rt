@@ -32,36 +32,25 @@ fn place_at(path: &str) -> Option<Place>
 fn named_in(request: &Request<Bytes>, key: &str) -> Option<(OwnerId, u64)>
     ensures { MatchOption result ((owner number : ℕ) → ¬ (Names key.now (head_of request.now) owner number)) (λ said. Names key.now (head_of request.now) said.0 said.1) }
 {
-    match request.uri().query() {
-        Some(query) => owner_with(query, key),
-        None => None,
-    }
+    owner_with(request.uri().query()?, key)
 }
 
 // The owner and the day that it names.
 fn day_in(request: &Request<Bytes>) -> Option<(OwnerId, Day)>
     ensures { MatchOption result ((owner day : ℕ) → ¬ (NamesDay (head_of request.now) owner day)) (λ said. NamesDay (head_of request.now) said.0 said.1) }
 {
-    let Some((owner, number)) = named_in(request, "day=") else {
-        return None;
-    };
-    match Day::new(number) {
-        Some(day) => Some((owner, day)),
-        None => None,
-    }
+    let (owner, number) = named_in(request, "day=")?;
+    let day = Day::new(number)?;
+    Some((owner, day))
 }
 
 // The owner and the device that it names.
 fn lane_in(request: &Request<Bytes>) -> Option<(OwnerId, DeviceId)>
     ensures { MatchOption result ((owner device : ℕ) → ¬ (NamesLane (head_of request.now) owner device)) (λ said. NamesLane (head_of request.now) said.0 said.1) }
 {
-    let Some((owner, number)) = named_in(request, "device=") else {
-        return None;
-    };
-    match DeviceId::new(number) {
-        Some(device) => Some((owner, device)),
-        None => None,
-    }
+    let (owner, number) = named_in(request, "device=")?;
+    let device = DeviceId::new(number)?;
+    Some((owner, device))
 }
 
 // Whether what is at a place is ordered, and not only asked for.

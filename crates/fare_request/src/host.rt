@@ -36,10 +36,8 @@ fn is_here(host: &[u8]) -> bool
 pub(crate) fn field<'a>(request: &'a Request<Bytes>, name: &str) -> Option<&'a [u8]>
     ensures { option_copied result ≡ field_at (head_of request.now) (lowercase name.now) }
 {
-    match request.headers().get(name) {
-        Some(value) => Some(value.as_bytes()),
-        None => None,
-    }
+    let value = request.headers().get(name)?;
+    Some(value.as_bytes())
 }
 
 // Whether the browser, if it is one and says so, sent it for a page of this very hub, or for its user.

@@ -19,40 +19,25 @@ fn number(text: &str) -> Option<u64>
 fn texts<'a>(query: &'a str, key: &str) -> Option<(&'a str, &'a str)>
     ensures { MatchOption result ((first second : List ℕ) → HasNoAnd first → ¬ (SaysBoth key.now query.now first second)) (λ said. HasNoAnd said.0.now × SaysBoth key.now query.now said.0.now said.1.now) }
 {
-    let Some(rest) = query.strip_prefix("owner=") else {
-        return None;
-    };
-    let Some((first, behind)) = rest.split_once('&') else {
-        return None;
-    };
-    match behind.strip_prefix(key) {
-        Some(second) => Some((first, second)),
-        None => None,
-    }
+    let rest = query.strip_prefix("owner=")?;
+    let (first, behind) = rest.split_once('&')?;
+    let second = behind.strip_prefix(key)?;
+    Some((first, second))
 }
 
 // The owner that a text says.
 fn owner_of(text: &str) -> Option<OwnerId>
     ensures { MatchOption result ((n : ℕ) → ¬ (IsNumber text.now n × IsOwnerId n)) (λ owner. IsNumber text.now owner × IsOwnerId owner) }
 {
-    match number(text) {
-        Some(number) => OwnerId::new(number),
-        None => None,
-    }
+    OwnerId::new(number(text)?)
 }
 
 // The owner of a query `owner=O&KEYN`, and the number behind this key.
 pub(crate) fn owner_with(query: &str, key: &str) -> Option<(OwnerId, u64)>
     ensures { MatchOption result ((owner n : ℕ) → ¬ (IsOwnerWith key.now query.now owner n)) (λ said. IsOwnerWith key.now query.now said.0 said.1) }
 {
-    let Some((first, second)) = texts(query, key) else {
-        return None;
-    };
-    let Some(owner) = owner_of(first) else {
-        return None;
-    };
-    match number(second) {
-        Some(number) => Some((owner, number)),
-        None => None,
-    }
+    let (first, second) = texts(query, key)?;
+    let owner = owner_of(first)?;
+    let number = number(second)?;
+    Some((owner, number))
 }

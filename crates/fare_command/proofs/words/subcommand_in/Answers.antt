@@ -28,5 +28,5 @@ no_job found name rows is none job job_is =
     let said = named name rows job (subst (λ (f : Option (Text × List Row)). JobOf f job) is job_is) in
     none said.0 said.1
 
-pub returns-in-None : goal.returns-in-None
-returns-in-None c = no_job (subcommand_rows_of c.args.matches.now) c.in-Some.name.now (rows_of (found_of c.in-Some.inner.now)) (search rules) c.in-None.ensures
+pub returns-in_err-subcommand : goal.returns-in_err-subcommand
+returns-in_err-subcommand c = rw c.from_residual-in_err-subcommand.ensures (no_job (subcommand_rows_of c.args.matches.now) c.in_ok-name.name.now (rows_of (found_of c.in_ok-name.inner.now)) (search rules) c.in_err-subcommand.ensures)

@@ -4,11 +4,11 @@ use Rattle.fare_record.specs.Limits.{IsDeviceId}
 use Rattle.fare_request.proofs.Named.{one_named}
 use Rattle.fare_request.proofs.asking.lane_in.Goals as goal
 
-pub returns-in_default : goal.returns-in_default
-returns-in_default c = λ owner n w. c.in_default.ensures owner n w.0
+pub returns-in_err-owner : goal.returns-in_err-owner
+returns-in_err-owner c = rw c.from_residual.ensures (λ owner n w. c.in_err-owner.ensures owner n w.0)
 
-pub returns-in-None : goal.returns-in-None
-returns-in-None c = λ owner n w.
-    let same = one_named (codes "device=") (head_of c.args.request.now) owner n c.in-Some.owner c.in-Some.number w.0 c.in-Some.ensures' in
-    let valid : IsDeviceId c.in-Some.number = subst IsDeviceId same.1 w.1 in
-    absurd (search (rules, valid, c.in-None.ensures.valid))
+pub returns-in_err-device : goal.returns-in_err-device
+returns-in_err-device c = rw c.from_residual-in_err-device.ensures (λ owner n w.
+    let same = one_named (codes "device=") (head_of c.args.request.now) owner n c.in_ok-owner.owner c.in_ok-owner.number w.0 c.in_ok-owner.ensures in
+    let valid : IsDeviceId c.in_ok-owner.number = subst IsDeviceId same.1 w.1 in
+    absurd (search (rules, valid, c.in_err-device.ensures.valid)))
