@@ -87,7 +87,7 @@ fn statements_from<O: Outbox>(
             return Ok(statements);
         }
         statements += 1;
-        let Some(next) = Day::new(u64::from(day.get()) + 1) else {
+        let Some(next) = day.next_day() else {
             return Ok(statements);
         };
         from = next;

@@ -330,7 +330,7 @@ impl Device {
         ensures err { OnErr result (self.new ≡ self.old) }
         ensures lanes { length self.new.lanes ≡ length self.old.lanes }
     {
-        let Some(next) = Day::new(u64::from(self.day.get()) + 1) else {
+        let Some(next) = self.day.next_day() else {
             return Err(TurnRefusal::LastDay);
         };
         if self.days.is_full() {

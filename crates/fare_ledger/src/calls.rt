@@ -10,7 +10,6 @@ use crate::SqlLedger;
 use crate::batching::run_of;
 use crate::finding::are_nothing;
 use crate::lane::count_before;
-use crate::reading::first_day;
 use fare_owner::{CloseFault, RetireFault, StatementFault, TapFault};
 use fare_record::{Day, DeviceId, OwnerId, Record, Statement};
 use fare_store::{Fault, ForgetFault, Ledger, Refused};
@@ -134,7 +133,7 @@ impl<S: Alter> Ledger for SqlLedger<S> {
     fn gone(&mut self, device: DeviceId) -> Result<u64, Fault> {
         self.begin()?;
         let lane = self.numbers_of(device)?;
-        let kept = self.first_kept(device, first_day())?;
+        let kept = self.first_kept(device, Day::FIRST)?;
         Ok(count_before(kept, lane.taken))
     }
 

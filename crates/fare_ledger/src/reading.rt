@@ -122,16 +122,6 @@ pub(crate) fn read_stated<S: Alter>(
     }
 }
 
-// The day before all others.
-pub(crate) fn first_day() -> Day
-    ensures { result ≡ 0 }
-{
-    let Some(day) = Day::new(0) else {
-        unreachable!()
-    };
-    day
-}
-
 // The day from which on all of a device is held.
 pub(crate) fn read_since<S: Alter>(
     conn: &mut Connection<S>,
@@ -152,7 +142,7 @@ pub(crate) fn read_since<S: Alter>(
         &[parameter(u64::from(device.get()))],
     )? {
         Some(row) => cell_day(&row, 0),
-        None => Ok(first_day()),
+        None => Ok(Day::FIRST),
     }
 }
 

@@ -1,4 +1,4 @@
-ghost use Rattle.std.specs.Prelude.{◌≡◌, ◌↔◌, ℕ, IsSome, IfSome};
+ghost use Rattle.std.specs.Prelude.{◌≡◌, ◌↔◌, ◌+◌, ℕ, IsSome, IfSome};
 ghost use Rattle.fare_record.specs.Limits.{IsDay};
 
 use std::marker::Model;
@@ -22,6 +22,9 @@ impl Model for Day {
 impl Day {
     const LAST: u64 = 100_000;
 
+    /// The first day there is, 1970-01-01.
+    pub const FIRST: Self = Self { number: 0 };
+
     /// The value of this number, if it is within the limits.
     pub fn new(number: u64) -> Option<Self>
         ensures valid { IsSome result ↔ IsDay number }
@@ -33,6 +36,14 @@ impl Day {
         Some(Day {
             number: number as u32,
         })
+    }
+
+    /// The day after it; None after the last day there is.
+    pub fn next_day(self) -> Option<Self>
+        ensures valid { IsSome result ↔ IsDay (self + 1) }
+        ensures value { IfSome result (λ next. next ≡ self + 1) }
+    {
+        Day::new(u64::from(self.number) + 1)
     }
 
     /// Its number.

@@ -33,7 +33,7 @@ pub fn day_after(last: Option<Day>, start: Day) -> Option<Day>
     ensures none { IfNone result (100000 < day_behind last start) }
 {
     match last {
-        Some(last) => Day::new(u64::from(last.get()) + 1),
+        Some(last) => last.next_day(),
         None => Some(start),
     }
 }

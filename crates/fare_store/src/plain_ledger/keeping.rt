@@ -89,12 +89,10 @@ impl PlainLedger {
     {
         match self.gone.get(&device) {
             Some(gone) => *gone,
-            None => {
-                let Some(from) = Day::new(0) else {
-                    unreachable!()
-                };
-                Gone { count: 0, from }
-            }
+            None => Gone {
+                count: 0,
+                from: Day::FIRST,
+            },
         }
     }
 

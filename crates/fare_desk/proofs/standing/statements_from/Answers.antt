@@ -1,5 +1,5 @@
-use Rattle.std.proofs.Common.{◌≡◌, ◌≤◌, ◌<◌, ◌+◌, Some, None, sym, ◌∙◌, subst, arith}
-use Rattle.std.specs.Prelude.{Option, Ok}
+use Rattle.std.proofs.Common.{◌≡◌, ◌≤◌, ◌<◌, ◌+◌, Some, None, refl, sym, ◌∙◌, subst, arith}
+use Rattle.std.specs.Prelude.{Option, IsSome, Ok}
 use Rattle.fare_record.specs.Values.{StatementValue}
 use Rattle.fare_store.specs.OutboxWords.{OutboxValue, IsNextStatement}
 use Rattle.fare_store.specs.Standing.{Reads}
@@ -32,15 +32,13 @@ loop-statement-preserved g c =
     let now = g.O.Outbox.standing c.next_statement.new.self in
     let s = c.in-Some.statement in
     let so = Found (stated_days first.value c.args.owner c.args.device) c.args.first c.loop-statement.statements c.loop-statement.from in
-    let more = Found (stated_days first.value c.args.owner c.args.device) c.args.first (c.loop-statement.statements + 1) c.in-Some-new.next in
+    let more = Found (stated_days first.value c.args.owner c.args.device) c.args.first (c.loop-statement.statements + 1) c.in-Some-next_day.next in
     let told : Reads before now (IsNextStatement before.value.stated c.args.owner c.args.device c.loop-statement.from) (Ok (Some s)) = subst (λ (o : Option StatementValue). Reads before now (IsNextStatement before.value.stated c.args.owner c.args.device c.loop-statement.from) (Ok o)) c.in-Some.is c.in_ok-statement.ensures in
     let day = c.day-day.ensures in
-    let got = c.get.ensures.value in
-    let wide = c.from.ensures in
-    let made = c.in-Some-new.ensures.value in
-    let valid = c.get.ensures.valid in
-    let next : s.day + 1 ≡ c.in-Some-new.next = omega (arith, day, got, wide, made) in
-    let few : s.day ≤ 100000 = omega (arith, day, got, valid) in
+    let made = c.in-Some-next_day.ensures.value in
+    let valid = (c.next_day.ensures.valid).0 (subst IsSome (sym c.in-Some-next_day.is) refl) in
+    let next : s.day + 1 ≡ c.in-Some-next_day.next = omega (arith, day, made) in
+    let few : s.day ≤ 100000 = omega (arith, day, valid) in
     let not : c.loop-statement.from ≤ c.day-day.result = from_not_less c.day-day.result c.loop-statement.from (sym c.lt.ensures ∙ c.if-lt.false) in
     let all = c.loop-statement.invariant.1 in (
       since_calls first now (0 < c.loop-statement.statements + 1) more (reads_say first now ((before.value ≡ first.value) × so × IsNextStatement before.value.stated c.args.owner c.args.device c.loop-statement.from (Some s)) more None

@@ -1,4 +1,4 @@
-use Rattle.std.proofs.Common.{[], ◌∷◌, Ok, sym, ap, ◌∙◌}
+use Rattle.std.proofs.Common.{[], ◌∷◌, Ok, sym, ap}
 use Rattle.sqlite.specs.Held.{state}
 use Rattle.sqlite.specs.State.{QueriesRow, Shown}
 use Rattle.fare_tables.specs.Cells.{int}
@@ -23,4 +23,4 @@ returns-in-None-clause-value g c live ready =
     let old = state g.S.Store c.args.conn.now in
     let new = state g.S.Store c.ask.new.conn in
     let h : Shown since_text (int c.args.device ∷ []) old new [] = rw (c.parameter.ensures, c.from.ensures, c.get.ensures.value, c.in-None.is) at (c.in_ok-row.ensures.row live.0 ready.rest) in
-    c.first_day.ensures ∙ sym (ap since_of (since_none c.args.layout.now old new c.args.device ready.rest.schema_is ready.fits.since h))
+    sym (ap since_of (since_none c.args.layout.now old new c.args.device ready.rest.schema_is ready.fits.since h))

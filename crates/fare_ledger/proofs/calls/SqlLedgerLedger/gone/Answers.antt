@@ -18,7 +18,7 @@ returns g c =
     let device = c.args.device in
     let first : Calls a b None ((b.value ≡ a.value) × Unit {0}) (λ v. ⊥) = c.in_ok-begin.ensures.does in
     let second : Calls b d None ((d.value ≡ b.value) × HasNumbers b.value device lane) (λ v. ⊥) = c.in_ok-lane.ensures.does in
-    let third : Calls d e None ((e.value ≡ d.value) × IsFront d.value device 0 kept) (λ v. ⊥) = rw c.first_day.ensures at c.in_ok-kept.ensures.does in
+    let third : Calls d e None ((e.value ≡ d.value) × IsFront d.value device 0 kept) (λ v. ⊥) = c.in_ok-kept.ensures.does in
     let one = read_next a b d (λ (v : LedgerValue). HasNumbers v device lane) first second in
     let two = read_more a d e (λ (v : LedgerValue). HasNumbers v device lane) (λ (v : LedgerValue). IsFront v device 0 kept) one third in
     says a e None _ _ (λ v. ⊥) (λ v. ⊥) (λ lawful p. (p.0, upto_front a.value device 0 lane kept c.count_before.result c.count_before.ensures.value p.1.0 p.1.1)) (λ v none. none) two
