@@ -45,8 +45,8 @@ fn have_law<O: Outbox>(_outbox: &O)
 fn begin<S>(stations: &mut [Station<S>])
     ensures { HaveBegun stations.old stations.new }
 {
-    for place in 0..stations.len() {
-        stations[place].end = End::new();
+    for station in stations.iter_mut() {
+        station.end = End::new();
     }
 }
 

@@ -113,8 +113,8 @@ pub(crate) fn relieve_all<S>(
     requires room { (length stations.old ≤ vec_capacity passes.old) × (length stations.old ≤ vec_capacity hears.old) }
     ensures { AreRelieved stations.old passes.new.items hears.new.items stations.new }
 {
-    for index in 0..stations.len() {
-        let (pass, hear) = relieve(&mut stations[index]);
+    for station in stations.iter_mut() {
+        let (pass, hear) = relieve(station);
         passes.push_reserved(pass);
         hears.push_reserved(hear);
     }

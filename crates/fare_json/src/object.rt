@@ -49,8 +49,8 @@ fn put_members(parts: &[Part], words: &[&[u8]], writer: &mut Writer) -> Result<(
     ensures kept { writer.new.before ≡ writer.old.before }
     ensures written { OnOk result (writer.new.tokens ≡ writer.old.tokens ++ members_tokens (members_of parts.now (map (λ w. w.now) words.now))) }
 {
-    for place in 0..parts.len() {
-        put_member(parts[place], word_at(words, place), writer)?;
+    for (place, part) in parts.iter().enumerate() {
+        put_member(*part, word_at(words, place), writer)?;
     }
     writer.end_object()
 }

@@ -62,8 +62,8 @@ pub(crate) fn lend_all(
     ensures lent { IfOk result (λ shifts. AreLent whole seats.old seats.new shifts.items) }
 {
     let mut shifts = Vec::with_capacity(alloc, seats.len())?;
-    for place in 0..seats.len() {
-        let source = lend(alloc, &mut seats[place])?;
+    for seat in seats.iter_mut() {
+        let source = lend(alloc, seat)?;
         shifts.push_reserved(shift_of(source, whole));
     }
     Ok(shifts)

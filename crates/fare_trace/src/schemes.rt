@@ -129,8 +129,5 @@ pub fn scheme_of(alloc: Global, lines: &[Line]) -> Result<Scheme, SchemeFault>
     ensures made { IfOk result (Makes lines.now) }
     ensures fails { IfErr result (MakesNone lines.now) }
 {
-    match zoned_scheme_of(alloc, lines) {
-        Ok(made) => Ok(made.scheme),
-        Err(fault) => Err(fault),
-    }
+    Ok(zoned_scheme_of(alloc, lines)?.scheme)
 }

@@ -3,16 +3,16 @@ use Rattle.fare_collect.specs.declared.station.End.{End}
 use Rattle.fare_collect.proofs.Begins.{beginning_none, beginning_more, beginning_all}
 use Rattle.fare_collect.proofs.collecting.begin.Goals as goal
 
-pub loop-place-init : goal.loop-place-init
-loop-place-init g c = beginning_none c.args.stations.now
+pub loop-station-init : goal.loop-station-init
+loop-station-init g c = beginning_none c.args.stations.now
 
-pub loop-place-preserved : goal.loop-place-preserved
-loop-place-preserved g c =
-    let all = c.loop-place.stations in
-    let x = slice_index_or all c.loop-place.place c.index-stations-place.result in
-    let lt = c.loop-place-test.true in
-    let l = c.loop-place.auto.stations in
-    beginning_more c.args.stations.now all c.loop-place.place x _ c.loop-place.invariant (omega (arith, lt, l)) (ap (slice_index_or all c.loop-place.place) c.index-stations-place.is) (ap (λ (e : End). record x { end = e }) c.new.ensures)
+pub loop-station-preserved : goal.loop-station-preserved
+loop-station-preserved g c =
+    let all = c.loop-station.stations in
+    let x = slice_index_or all c.loop-station.station-index c.station-item.result in
+    let lt = c.loop-station-test.true in
+    let l = c.loop-station.invariant.len in
+    beginning_more c.args.stations.now all c.loop-station.station-index x _ c.loop-station.invariant (omega (arith, lt, l)) (ap (slice_index_or all c.loop-station.station-index) c.station-item.is) (ap (λ (e : End). record x { end = e }) c.new-station.ensures)
 
 pub returns : goal.returns
-returns g c = let n = c.loop-place-test.false in beginning_all c.args.stations.now c.loop-place.stations c.loop-place.place (omega (arith, n)) c.loop-place.invariant
+returns g c = let n = c.loop-station-test.false in beginning_all c.args.stations.now c.loop-station.stations c.loop-station.station-index (omega (arith, n)) c.loop-station.invariant

@@ -9,16 +9,16 @@ use Rattle.fare_serve.proofs.Lent.{AreLending, lending_all, lending_more}
 use Rattle.fare_serve.proofs.Seated.{length-seats}
 use Rattle.fare_serve.proofs.lending.lend_all.Goals as goal
 
-pub loop-place-preserved : goal.loop-place-preserved
-loop-place-preserved c =
-    let inv = c.loop-place.invariant in
-    let lt = c.loop-place-test.true in
+pub loop-seat-preserved : goal.loop-seat-preserved
+loop-seat-preserved c =
+    let inv = c.loop-seat.invariant in
+    let lt = c.loop-seat-test.true in
     let same = inv.seats in
-    let seats = c.loop-place.seats in
-    let place = c.loop-place.place in
-    let d = c.index-seats-place.result in
+    let seats = c.loop-seat.seats in
+    let place = c.loop-seat.seat-index in
+    let d = c.seat-item.result in
     let new = c.lend.new.seat in
-    let shifts = c.loop-place.shifts.items in
+    let shifts = c.loop-seat.shifts.items in
     let shift = c.shift_of.result in
     let lent : HasLent (slice_index_or seats place d) new shift.source = subst (HasLent (slice_index_or seats place d) new) (sym c.shift_of.ensures.source) c.in_ok-source.ensures in
     record {
@@ -32,7 +32,6 @@ loop-place-preserved c =
 
 pub returns-clause-lent : goal.returns-clause-lent
 returns-clause-lent c =
-    let past = c.loop-place-test.false in
-    let within = c.loop-place.auto.place-end in
-    let same = c.loop-place.invariant.seats in
-    lending_all c.args.whole c.args.seats.now c.loop-place.seats c.loop-place.shifts.items c.loop-place.place c.loop-place.invariant.lent (omega (arith, past, within, same))
+    let past = c.loop-seat-test.false in
+    let same = c.loop-seat.invariant.seats in
+    lending_all c.args.whole c.args.seats.now c.loop-seat.seats c.loop-seat.shifts.items c.loop-seat.seat-index c.loop-seat.invariant.lent (omega (arith, past, same))
