@@ -33,13 +33,15 @@ pub(crate) struct Dialler<'a, R> {
     rt: &'a R,
     frames: &'a [&'a [u8]],
     said: Vec<u8>,
+    port: Option<u16>,
     line: Option<TcpStream>,
 }
 
-// The port of a line `listening PORT`.
-fn port_in(line: &[u8]) -> Option<u16> {
-    let digits = line.strip_prefix(b"listening ")?.strip_suffix(b"\n")?;
-    std::str::from_utf8(digits).ok()?.parse::<u16>().ok()
+// The port of a line `listening PORT`, and what stands behind it.
+fn port_in(text: &[u8]) -> Option<(u16, &[u8])> {
+    let text = std::str::from_utf8(text).ok()?;
+    let (digits, behind) = text.strip_prefix("listening ")?.split_once('\n')?;
+    Some((digits.parse::<u16>().ok()?, behind.as_bytes()))
 }
 
 impl<'a, R: Net<Listener = TcpListener, Stream = TcpStream>> Dialler<'a, R> {
@@ -49,6 +51,7 @@ impl<'a, R: Net<Listener = TcpListener, Stream = TcpStream>> Dialler<'a, R> {
             rt,
             frames,
             said: Vec::new(alloc),
+            port: None,
             line: None,
         }
     }
@@ -58,6 +61,11 @@ impl<'a, R: Net<Listener = TcpListener, Stream = TcpStream>> Dialler<'a, R> {
         let Dialler { said, line, .. } = self;
         drop(line);
         said
+    }
+
+    // The port that it learned.
+    fn port(&self) -> Option<u16> {
+        self.port
     }
 
     // A line on which these frames were sent.
@@ -73,11 +81,13 @@ impl<'a, R: Net<Listener = TcpListener, Stream = TcpStream>> Dialler<'a, R> {
 
 impl<'a, R: Net<Listener = TcpListener, Stream = TcpStream>> Write for Dialler<'a, R> {
     fn write(&mut self, bytes: &[u8]) -> io::Result<usize> {
-        if let Some(port) = port_in(bytes) {
+        let mut rest = bytes;
+        if let Some((port, behind)) = port_in(bytes) {
             self.line = Some(self.dial(port)?);
-            return Ok(bytes.len());
+            self.port = Some(port);
+            rest = behind;
         }
-        match self.said.extend_from_slice(bytes) {
+        match self.said.extend_from_slice(rest) {
             Ok(()) => Ok(bytes.len()),
             Err(_) => Err(ErrorKind::OutOfMemory.into()),
         }
@@ -113,6 +123,59 @@ pub(crate) fn served_by<
     };
     let ended = serve(rt, handles, &options, &mut input, &mut output);
     (ended, output.into_said())
+}
+
+// Two ports at which nobody listens: the system chose them, and both were let go again.
+fn free_ports<R: Net<Listener = TcpListener, Stream = TcpStream>>(
+    handles: &R,
+) -> Option<(u16, u16)> {
+    let one = TcpListener::bind(handles, (Ipv4Addr::LOCALHOST, 0)).ok()?;
+    let other = TcpListener::bind(handles, (Ipv4Addr::LOCALHOST, 0)).ok()?;
+    let ports = (
+        one.local_addr().ok()?.port(),
+        other.local_addr().ok()?.port(),
+    );
+    Some(ports)
+}
+
+// How serving with these two ports named ended, with a tap at the door, which port it told as its own, and what was written
+// behind it.
+fn served_at<
+    R: Net<Listener = TcpListener, Stream = TcpStream> + Threads + Wait + Clock + Eprint + Sync,
+>(
+    rt: &HostRuntime,
+    handles: &R,
+    port: u16,
+    ask: u16,
+) -> (Result<(), ServeFailure>, Option<u16>, Vec<u8>) {
+    let mut input = DEMO;
+    let mut output = Dialler::new(rt.alloc(), handles, &[&GREETED, &TAPPED]);
+    let options = ServeOptions {
+        port,
+        path: "named.db",
+        scheme: SchemeSource::Input,
+        limits: LIMITS,
+        until: None,
+        ask: Some(ask),
+    };
+    let ended = serve(rt, handles, &options, &mut input, &mut output);
+    let told = output.port();
+    (ended, told, output.into_said())
+}
+
+// A station is served at the port that is named for it, and an operator at the other.
+#[test]
+fn it_listens_at_the_ports_that_are_named(rt: HostRuntime) {
+    let (port, ask) = free_ports(&rt).expect(&rt, "ports");
+    let (ended, told, said) = served_at(&rt, &rt, port, ask);
+    let lines = format!(in rt.alloc(); "answering {ask}\nstored 1\ntaken 1 1\nleft 0\n").expect(
+        &rt, "lines",
+    );
+    same(
+        &rt,
+        &(ended, told, said.as_slice()),
+        &(Ok(()), Some(port), lines.as_bytes()),
+    );
 }
 
 // The same of a scheme on the input.
