@@ -258,25 +258,9 @@ told_alone (Err desk.Write) before middle after status none kept told broken = a
 told_alone (Err fault) before middle after status none kept told broken =
     told_behind (store_named fault) middle after status told broken ∙ ap (λ (l : List ℕ). l ++ failed_line) (kept (λ w. absurd (cc)) ∙ none)
 
--- of what was asked
-module _ (a : Ask) (after : List ℕ) where
-  pub line_stand : a ≡ ask.Stand → after ≡ failed_line → TellsFailure a after
-  line_stand is line = subst (λ (x : Ask). TellsFailure x after) (sym is) line
-
-  pub line_bill : (owner day : ℕ) → a ≡ ask.Bill owner day → after ≡ failed_line → TellsFailure a after
-  line_bill owner day is line = subst (λ (x : Ask). TellsFailure x after) (sym is) line
-
-  pub line_settlement : (owner day : ℕ) → a ≡ ask.Settle owner day → after ≡ failed_line → TellsFailure a after
-  line_settlement owner day is line = subst (λ (x : Ask). TellsFailure x after) (sym is) line
-
-  pub line_retire : (owner device : ℕ) → a ≡ ask.Retire owner device → after ≡ failed_line → TellsFailure a after
-  line_retire owner device is line = subst (λ (x : Ask). TellsFailure x after) (sym is) line
-
-  pub line_metrics : a ≡ ask.Metrics → after ≡ failed_line → TellsFailure a after
-  line_metrics is line = subst (λ (x : Ask). TellsFailure x after) (sym is) line
-
-  pub line_close : (f : Option Fault) (before : List ℕ) (status : ℕ) → a ≡ ask.Close → IsToldOf f before after status → IsStoreFailure status → TellsFailure a after
-  line_close f before status is told broken = subst (λ (x : Ask). TellsFailure x after) (sym is) (before, told_behind f before after status told broken)
+-- of a close it stands behind what closed
+pub line_close : (f : Option Fault) (before after : List ℕ) (status : ℕ) → IsToldOf f before after status → IsStoreFailure status → TellsFailure ask.Close after
+line_close f before after status told broken = (before, told_behind f before after status told broken)
 
 pub filled_line : (a : Ask) (told : Form) (status : ℕ) (text : List ℕ) (is : ℕ) (content : List ℕ) → IsFilled status (in_form told text) is content → (IsStoreFailure status → told ≡ form.Text) → (IsStoreFailure status → TellsFailure a text) → IsStoreFailure is → TellsFailure a content
 filled_line a told status text is content (inr short) plain line broken = absurd (not_broken is short broken)
@@ -286,15 +270,10 @@ filled_line a told status text is content (inl same) plain line broken =
 
 -- OF WHICH STORES IT IS SAID
 module _ {O L : Type 0} (outbox : O → Standing OutboxValue) (ledger : L → Standing LedgerValue) (a : Ask) (old new : Hub O L) where
-  ordered : (IsQuestion a → ⊥) → AreTrusted outbox ledger a old new → AreClean outbox ledger new × AreSound outbox ledger old
+  -- what orders is said to fail only over these
+  pub ordered : (IsQuestion a → ⊥) → AreTrusted outbox ledger a old new → AreClean outbox ledger new × AreSound outbox ledger old
   ordered not (inl question) = absurd (not question)
   ordered not (inr kept) = kept
-
-  pub trusted_close : a ≡ ask.Close → AreTrusted outbox ledger a old new → AreClean outbox ledger new × AreSound outbox ledger old
-  trusted_close is = ordered (λ question. subst IsQuestion is question)
-
-  pub trusted_retire : (owner device : ℕ) → a ≡ ask.Retire owner device → AreTrusted outbox ledger a old new → AreClean outbox ledger new × AreSound outbox ledger old
-  trusted_retire owner device is = ordered (λ question. subst IsQuestion is question)
 
 -- statuses of what asks no store
 pub page_not : (status : ℕ) → TellsPage status → status ≢ 500

@@ -1,6 +1,8 @@
+use Rattle.std.proofs.Common.{subst}
 use Rattle.fare_desk.specs.Causes.{store_fault}
 use Rattle.fare_desk.proofs.Going.{goes_asks, goes_read}
-use Rattle.fare_page.proofs.Tells.{line_bill, line_close, line_metrics, line_retire, line_settlement, line_stand, mistake_not, page_not, still_stores, tells_bill, tells_close, tells_retire, tells_settlement, tells_standing, told_alone, told_stores, trusted_close, trusted_retire}
+use Rattle.fare_page.specs.Answering.{IsQuestion}
+use Rattle.fare_page.proofs.Tells.{line_close, mistake_not, ordered, page_not, still_stores, tells_bill, tells_close, tells_retire, tells_settlement, tells_standing, told_alone, told_stores}
 use Rattle.fare_page.proofs.answering.answer.Goals as goal
 
 pub returns-in-Metrics-clause-goes : goal.returns-in-Metrics-clause-goes
@@ -45,39 +47,35 @@ returns-in-Stand-clause-stores g c = λ trusted.
     told_stores g.O.Outbox.standing g.L.Ledger.standing c.args.hub.now c.write_standing-ended.new.hub (store_fault c.write_standing-ended.result) c.write_standing-ended.new.output.items c.tell.new.body.items c.tell.result c.tell.ensures.stores c.write_standing-ended.ensures.cause
 
 pub returns-in-Stand-clause-line : goal.returns-in-Stand-clause-line
-returns-in-Stand-clause-line g c = λ broken.
-    line_stand c.args.ask c.tell.new.body.items c.in-Stand.is (told_alone c.write_standing-ended.result c.args.body.now.items c.write_standing-ended.new.output.items c.tell.new.body.items c.tell.result c.requires.empty c.write_standing-ended.ensures.kept c.tell.ensures.stores broken)
+returns-in-Stand-clause-line g c = rw c.in-Stand.is (told_alone c.write_standing-ended.result c.args.body.now.items c.write_standing-ended.new.output.items c.tell.new.body.items c.tell.result c.requires.empty c.write_standing-ended.ensures.kept c.tell.ensures.stores)
 
 pub returns-in-Bill-clause-stores : goal.returns-in-Bill-clause-stores
 returns-in-Bill-clause-stores g c = λ trusted.
     told_stores g.O.Outbox.standing g.L.Ledger.standing c.args.hub.now c.write_bill-ended.new.hub (store_fault c.write_bill-ended.result) c.write_bill-ended.new.output.items c.tell-in-Bill.new.body.items c.tell-in-Bill.result c.tell-in-Bill.ensures.stores c.write_bill-ended.ensures.cause
 
 pub returns-in-Bill-clause-line : goal.returns-in-Bill-clause-line
-returns-in-Bill-clause-line g c = λ broken.
-    line_bill c.args.ask c.tell-in-Bill.new.body.items c.in-Bill.owner c.in-Bill.day c.in-Bill.is (told_alone c.write_bill-ended.result c.args.body.now.items c.write_bill-ended.new.output.items c.tell-in-Bill.new.body.items c.tell-in-Bill.result c.requires.empty c.write_bill-ended.ensures.kept c.tell-in-Bill.ensures.stores broken)
+returns-in-Bill-clause-line g c = rw c.in-Bill.is (told_alone c.write_bill-ended.result c.args.body.now.items c.write_bill-ended.new.output.items c.tell-in-Bill.new.body.items c.tell-in-Bill.result c.requires.empty c.write_bill-ended.ensures.kept c.tell-in-Bill.ensures.stores)
 
 pub returns-in-Settle-clause-stores : goal.returns-in-Settle-clause-stores
 returns-in-Settle-clause-stores g c = λ trusted.
     told_stores g.O.Outbox.standing g.L.Ledger.standing c.args.hub.now c.write_settlement-ended.new.hub (store_fault c.write_settlement-ended.result) c.write_settlement-ended.new.output.items c.tell-in-Settle.new.body.items c.tell-in-Settle.result c.tell-in-Settle.ensures.stores c.write_settlement-ended.ensures.cause
 
 pub returns-in-Settle-clause-line : goal.returns-in-Settle-clause-line
-returns-in-Settle-clause-line g c = λ broken.
-    line_settlement c.args.ask c.tell-in-Settle.new.body.items c.in-Settle.owner c.in-Settle.day c.in-Settle.is (told_alone c.write_settlement-ended.result c.args.body.now.items c.write_settlement-ended.new.output.items c.tell-in-Settle.new.body.items c.tell-in-Settle.result c.requires.empty c.write_settlement-ended.ensures.kept c.tell-in-Settle.ensures.stores broken)
+returns-in-Settle-clause-line g c = rw c.in-Settle.is (told_alone c.write_settlement-ended.result c.args.body.now.items c.write_settlement-ended.new.output.items c.tell-in-Settle.new.body.items c.tell-in-Settle.result c.requires.empty c.write_settlement-ended.ensures.kept c.tell-in-Settle.ensures.stores)
 
 pub returns-in-Close-clause-stores : goal.returns-in-Close-clause-stores
 returns-in-Close-clause-stores g c = λ trusted.
-    told_stores g.O.Outbox.standing g.L.Ledger.standing c.args.hub.now c.close_days-ended.new.hub (store_fault c.close_days-ended.result) c.close_days-ended.new.output.items c.tell-in-Close.new.body.items c.tell-in-Close.result c.tell-in-Close.ensures.stores (let kept = trusted_close g.O.Outbox.standing g.L.Ledger.standing c.args.ask c.args.hub.now c.close_days-ended.new.hub c.in-Close.is trusted in c.close_days-ended.ensures.cause kept.0 kept.1)
+    told_stores g.O.Outbox.standing g.L.Ledger.standing c.args.hub.now c.close_days-ended.new.hub (store_fault c.close_days-ended.result) c.close_days-ended.new.output.items c.tell-in-Close.new.body.items c.tell-in-Close.result c.tell-in-Close.ensures.stores (let kept = ordered g.O.Outbox.standing g.L.Ledger.standing c.args.ask c.args.hub.now c.close_days-ended.new.hub (λ question. subst IsQuestion c.in-Close.is question) trusted in c.close_days-ended.ensures.cause kept.0 kept.1)
 
 pub returns-in-Close-clause-line : goal.returns-in-Close-clause-line
-returns-in-Close-clause-line g c = line_close c.args.ask c.tell-in-Close.new.body.items (store_fault c.close_days-ended.result) c.close_days-ended.new.output.items c.tell-in-Close.result c.in-Close.is c.tell-in-Close.ensures.stores
+returns-in-Close-clause-line g c = rw c.in-Close.is (line_close (store_fault c.close_days-ended.result) c.close_days-ended.new.output.items c.tell-in-Close.new.body.items c.tell-in-Close.result c.tell-in-Close.ensures.stores)
 
 pub returns-in-Retire-clause-stores : goal.returns-in-Retire-clause-stores
 returns-in-Retire-clause-stores g c = λ trusted.
-    told_stores g.O.Outbox.standing g.L.Ledger.standing c.args.hub.now c.retire_lane-ended.new.hub (store_fault c.retire_lane-ended.result) c.retire_lane-ended.new.output.items c.tell-in-Retire.new.body.items c.tell-in-Retire.result c.tell-in-Retire.ensures.stores (let kept = trusted_retire g.O.Outbox.standing g.L.Ledger.standing c.args.ask c.args.hub.now c.retire_lane-ended.new.hub c.in-Retire.owner c.in-Retire.device c.in-Retire.is trusted in c.retire_lane-ended.ensures.cause kept.0 kept.1)
+    told_stores g.O.Outbox.standing g.L.Ledger.standing c.args.hub.now c.retire_lane-ended.new.hub (store_fault c.retire_lane-ended.result) c.retire_lane-ended.new.output.items c.tell-in-Retire.new.body.items c.tell-in-Retire.result c.tell-in-Retire.ensures.stores (let kept = ordered g.O.Outbox.standing g.L.Ledger.standing c.args.ask c.args.hub.now c.retire_lane-ended.new.hub (λ question. subst IsQuestion c.in-Retire.is question) trusted in c.retire_lane-ended.ensures.cause kept.0 kept.1)
 
 pub returns-in-Retire-clause-line : goal.returns-in-Retire-clause-line
-returns-in-Retire-clause-line g c = λ broken.
-    line_retire c.args.ask c.tell-in-Retire.new.body.items c.in-Retire.owner c.in-Retire.device c.in-Retire.is (told_alone c.retire_lane-ended.result c.args.body.now.items c.retire_lane-ended.new.output.items c.tell-in-Retire.new.body.items c.tell-in-Retire.result c.requires.empty c.retire_lane-ended.ensures.kept c.tell-in-Retire.ensures.stores broken)
+returns-in-Retire-clause-line g c = rw c.in-Retire.is (told_alone c.retire_lane-ended.result c.args.body.now.items c.retire_lane-ended.new.output.items c.tell-in-Retire.new.body.items c.tell-in-Retire.result c.requires.empty c.retire_lane-ended.ensures.kept c.tell-in-Retire.ensures.stores)
 
 pub returns-in-Metrics-clause-stores : goal.returns-in-Metrics-clause-stores
 returns-in-Metrics-clause-stores g c = λ trusted. c.tell_metrics.ensures.stores
@@ -95,4 +93,4 @@ pub returns-in-Nothing-clause-line : goal.returns-in-Nothing-clause-line
 returns-in-Nothing-clause-line g c = λ broken. absurd (mistake_not c.in-Nothing.why c.tell_mistake.result c.tell_mistake.new.body.items c.tell_mistake.ensures broken)
 
 pub returns-in-Metrics-clause-line : goal.returns-in-Metrics-clause-line
-returns-in-Metrics-clause-line g c = λ broken. line_metrics c.args.ask c.tell_metrics.new.body.items c.in-Metrics.is (c.tell_metrics.ensures.line broken)
+returns-in-Metrics-clause-line g c = rw c.in-Metrics.is c.tell_metrics.ensures.line
