@@ -27,11 +27,13 @@ const LIMITS: Limits = Limits {
 // A scheme of one device.
 const DEMO: &[u8] = b"demo 1 4 4 4\n";
 
-/// Takes what is written, and once it learns the port connects to it, sends a validator's frames, and ends that side.
+/// Takes what is written, and once it learns the port connects to it, sends a validator's frames, and ends that side. Where
+/// an operator is answered at a port too, it connects to that as well, and asks nothing.
 #[derive(Drop)]
 pub(crate) struct Dialler<'a, R> {
     rt: &'a R,
     frames: &'a [&'a [u8]],
+    ask: Option<u16>,
     said: Vec<u8>,
     port: Option<u16>,
     line: Option<TcpStream>,
@@ -50,6 +52,7 @@ impl<'a, R: Net<Listener = TcpListener, Stream = TcpStream>> Dialler<'a, R> {
         Dialler {
             rt,
             frames,
+            ask: None,
             said: Vec::new(alloc),
             port: None,
             line: None,
@@ -77,6 +80,14 @@ impl<'a, R: Net<Listener = TcpListener, Stream = TcpStream>> Dialler<'a, R> {
         stream.shutdown(Shutdown::Write)?;
         Ok(stream)
     }
+
+    // Whether somebody listens at the operator's port, where there is one.
+    fn ring(&self) -> io::Result<()> {
+        if let Some(port) = self.ask {
+            TcpStream::connect(self.rt, (Ipv4Addr::LOCALHOST, port))?;
+        }
+        Ok(())
+    }
 }
 
 impl<'a, R: Net<Listener = TcpListener, Stream = TcpStream>> Write for Dialler<'a, R> {
@@ -84,6 +95,7 @@ impl<'a, R: Net<Listener = TcpListener, Stream = TcpStream>> Write for Dialler<'
         let mut rest = bytes;
         if let Some((port, behind)) = port_in(bytes) {
             self.line = Some(self.dial(port)?);
+            self.ring()?;
             self.port = Some(port);
             rest = behind;
         }
@@ -150,6 +162,7 @@ fn served_at<
 ) -> (Result<(), ServeFailure>, Option<u16>, Vec<u8>) {
     let mut input = DEMO;
     let mut output = Dialler::new(rt.alloc(), handles, &[&GREETED, &TAPPED]);
+    output.ask = Some(ask);
     let options = ServeOptions {
         port,
         path: "named.db",
