@@ -5,7 +5,7 @@ ghost use Rattle.fare_cap.specs.RidesWords.{paid_by};
 
 use crate::{Account, Rides};
 use fare_day::monday_of;
-use fare_record::{Day, Pence};
+use fare_record::{Day, Days, Pence};
 use fare_scheme::{Scheme, Tariff};
 
 /// The fare of a day with so many paid taps: the flat fare of each, at most the daily cap.
@@ -52,8 +52,7 @@ pub fn fares_before(
     ensures small { result ≤ 100000000000 }
 {
     let mut fares: u64 = 0;
-    for number in week_start(scheme, day).get()..day.get() {
-        let earlier = Day::new(number as u64).unwrap();
+    for earlier in Days::until(week_start(scheme, day), day) {
         fares += day_fare(tariff, rides.get(account, earlier).paid).get();
     }
     Pence::new(fares)

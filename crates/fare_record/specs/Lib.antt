@@ -6,3 +6,4 @@ pub mod Bodies
 pub mod Wide
 pub mod Fields
 pub mod Items
+pub mod Counting

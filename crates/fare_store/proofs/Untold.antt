@@ -11,7 +11,7 @@ use Rattle.fare_store.specs.OutboxWords.{stated_before, without_statements}
 use Rattle.fare_store.specs.PlainOutboxWords.{stated_in, held_in}
 use Rattle.fare_store.proofs.Tables.{same_number}
 use Rattle.fare_store.proofs.Entries.{put2_here}
-use Rattle.fare_store.proofs.Lanes.{Rows, put_same}
+use Rattle.fare_store.proofs.Lanes.{Rows}
 use Rattle.fare_store.proofs.Keys.{same_key}
 
 abbrev Stated : Type 0
@@ -21,16 +21,6 @@ Stated = ℕ → ℕ → ℕ → Option ℕ
 pub record AreWithout (owner device number : ℕ) (was is : Stated) (before len : ℕ) : Type 0 where
   pub left : (o d e : ℕ) → is o d e ≡ put2 was owner device (stated_from number (was owner device)) o d e
   pub count : len + stated_before number (was owner device) ≡ before
-
--- no day yet
-all_from_0 : (stated : ℕ → Option ℕ) (e : ℕ) → stated_from 0 stated e ≡ stated e
-all_from_0 stated e = ap (λ b. if◌then◌else◌ {A = Option ℕ} b None (stated e)) {x = nat_lt e 0} {y = false} (grind (arith, nat_tests))
-
-pub none_without : (owner device : ℕ) (was : Stated) (len : ℕ) → AreWithout owner device 0 was was len len
-none_without owner device was len = record {
-  left = λ o d e. ap (λ f. f e) (sym (put_same was owner device o d)) ∙ (λ i. put2 was owner device (λ k. sym (all_from_0 (was owner device) k) i) o d e);
-  count = omega arith;
-}
 
 -- one day more, whose statement goes
 pub one_without : (owner device n before : ℕ) (was : Stated) (old new : tree.BTreeMap Key ℕ) (gone : Option ℕ) → AreWithout owner device n was (stated_in old) before (tree.btree_map_len old) → gone ≡ stated_in old owner device n

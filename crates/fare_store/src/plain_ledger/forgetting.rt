@@ -7,7 +7,7 @@ ghost use Rattle.fare_store.specs.LedgerWords.{is_past, front, stated_from, forg
 ghost use Rattle.fare_store.specs.PlainLedgerWords.{plain_ledger};
 
 use super::{Gone, PlainLedger};
-use fare_record::{Day, DeviceId, Record};
+use fare_record::{Day, Days, DeviceId, Record};
 use std::alloc::AllocError;
 use std::collections::HashMap;
 
@@ -122,10 +122,7 @@ fn cut_rows(rows: &mut Vec<Record>, count: usize)
 fn remove_before(stated: &mut HashMap<(DeviceId, Day), u64>, device: DeviceId, day: Day)
     ensures { (d e : ℕ) → get same_day stated.new (d, e) ≡ put (λ x y. get same_day stated.old (x, y)) device (stated_from day (λ y. get same_day stated.old (device, y))) d e }
 {
-    for number in 0..day.get() {
-        let Some(earlier) = Day::new(u64::from(number)) else {
-            unreachable!()
-        };
+    for earlier in Days::until(Day::FIRST, day) {
         stated.remove(&(device, earlier));
     }
 }

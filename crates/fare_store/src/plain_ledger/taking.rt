@@ -9,7 +9,7 @@ ghost use Rattle.fare_store.specs.PlainLedgerWords.{plain_ledger};
 
 use super::{Mark, PlainLedger};
 use fare_owner::{TapFault, judge_tap};
-use fare_record::{Day, DeviceId, Record};
+use fare_record::{Day, Days, DeviceId, Record};
 use std::alloc::{AllocError, Global};
 use std::collections::HashMap;
 
@@ -70,10 +70,7 @@ impl PlainLedger {
         ensures { IfOk result (λ taps. AreTapsBetween (plain_ledger self.now) from to taps.items) }
     {
         let mut taps = Vec::new(self.alloc);
-        for number in from.get()..=to.get() {
-            let Some(day) = Day::new(u64::from(number)) else {
-                unreachable!()
-            };
+        for day in Days::through(from, to) {
             self.add_taps_of(day, &mut taps)?;
         }
         taps.sort_by_key(|r| (r.tap().day(), r.tap().moment(), r.device(), r.lane()))?;

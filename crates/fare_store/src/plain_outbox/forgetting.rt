@@ -7,7 +7,7 @@ ghost use Rattle.fare_store.specs.OutboxWords.{stated_before, without_statements
 ghost use Rattle.fare_store.specs.PlainOutboxWords.{stated_in, plain_outbox};
 
 use super::PlainOutbox;
-use fare_record::{Day, DeviceId, OwnerId};
+use fare_record::{Day, Days, DeviceId, OwnerId};
 use std::collections::BTreeMap;
 
 impl PlainOutbox {
@@ -32,10 +32,7 @@ fn remove_before(
     ensures left { (o d e : ℕ) → stated_in statements.new o d e ≡ put2 (stated_in statements.old) owner device (stated_from day (stated_in statements.old owner device)) o d e }
     ensures count { tree.btree_map_len statements.new + stated_before day (stated_in statements.old owner device) ≡ tree.btree_map_len statements.old }
 {
-    for number in 0..day.get() {
-        let Some(earlier) = Day::new(u64::from(number)) else {
-            unreachable!()
-        };
+    for earlier in Days::until(Day::FIRST, day) {
         statements.remove(&(owner, device, earlier));
     }
 }

@@ -1,8 +1,6 @@
-use Rattle.std.proofs.Common.{◌≡◌, ◌+◌, nat_eq, arith}
-use Rattle.std.specs.BTreeMap as tree
+use Rattle.std.proofs.Common.{nat_eq, arith}
 use Rattle.std.specs.HashMap as hash
 use Rattle.fare_store.specs.Keys.{same_lane}
-use Rattle.fare_store.specs.OutboxWords.{stated_before}
 use Rattle.fare_store.specs.PlacedRows.{rows_in}
 use Rattle.fare_store.specs.PlainOutboxWords.{stated_in}
 use Rattle.fare_store.proofs.Untold.{without_among, with_fewer}
