@@ -16,7 +16,7 @@ use crate::station::{End, Station};
 use fare_inbox_queue::{Inbox, StationPass, WriterPass};
 use fare_record::StationId;
 use fare_scheme::Scheme;
-use fare_session::{Gate, SessionFault};
+use fare_session::{Gate, Pace, SessionFault};
 use fare_source::Source;
 use fare_store::{Fault, Outbox};
 use fare_writer::{Floor, Halt, Tally, WriterFault, batch_of, writer_fault};
@@ -148,11 +148,9 @@ fn not_handled(halt: &Halt) -> u64
 
 // All of a session behind its opening: how many items are left, and what ended the writer.
 fn run<S: Source + Send, O: Outbox + Send, G: Gate + Sync, R: Threads + Wait + Clock + Sync>(
-    rt: &R,
+    pace: &Pace<G, R>,
     scheme: &Scheme,
     queues: Queues,
-    gate: &G,
-    turns: u64,
     tally: &mut Tally,
     outbox: &mut O,
     stations: &mut [Station<S>],
@@ -164,12 +162,7 @@ fn run<S: Source + Send, O: Outbox + Send, G: Gate + Sync, R: Threads + Wait + C
 {
     let (inbox, passes, writer, lines) = queues.into_parts();
     let (lines, mut tellers, mut hears) = lines.into_parts();
-    let floor = Floor {
-        rt,
-        scheme,
-        gate,
-        turns,
-    };
+    let floor = Floor { pace, scheme };
     let intake = Intake {
         inbox,
         passes,
@@ -187,7 +180,7 @@ fn run<S: Source + Send, O: Outbox + Send, G: Gate + Sync, R: Threads + Wait + C
     );
     let left = ended.left;
     drop(ended);
-    hand_all(rt, lines, tellers, hears, stations);
+    hand_all(pace.rt, lines, tellers, hears, stations);
     if let Some(halt) = halt {
         return (left.saturating_add(not_handled(&halt)), Some(halt));
     }
@@ -236,11 +229,9 @@ fn fault_in(halt: Option<Halt>) -> Option<WriterFault>
 
 // All of a session, but for its list of faults: how many items are left, and what ended the writer.
 fn session<S: Source + Send, O: Outbox + Send, G: Gate + Sync, R: Threads + Wait + Clock + Sync>(
-    rt: &R,
+    pace: &Pace<G, R>,
     alloc: Global,
     scheme: &Scheme,
-    gate: &G,
-    turns: u64,
     tally: &mut Tally,
     outbox: &mut O,
     stations: &mut [Station<S>],
@@ -259,7 +250,7 @@ fn session<S: Source + Send, O: Outbox + Send, G: Gate + Sync, R: Threads + Wait
     match open(alloc, scheme, stations) {
         Err(_) => (0, Some(WriterFault::Memory)),
         Ok(queues) => {
-            let (left, halt) = run(rt, scheme, queues, gate, turns, tally, outbox, stations);
+            let (left, halt) = run(pace, scheme, queues, tally, outbox, stations);
             (left, fault_in(halt))
         }
     }
@@ -301,13 +292,11 @@ pub fn collect<
     G: Gate + Sync,
     R: Threads + Wait + Clock + Sync,
 >(
-    rt: &R,
+    pace: &Pace<G, R>,
     alloc: Global,
     scheme: &Scheme,
     stations: &mut [Station<S>],
     outbox: &mut O,
-    gate: &G,
-    turns: u64,
 ) -> Result<CollectReport, AllocError>
     requires few { length stations.old ≤ 16 }
     requires order { AreStations scheme.now stations.old }
@@ -317,7 +306,7 @@ pub fn collect<
 {
     let mut faults = Vec::with_capacity(alloc, stations.len() + 1)?;
     let mut tally = Tally::new(alloc);
-    let (left, fault) = session(rt, alloc, scheme, gate, turns, &mut tally, outbox, stations);
+    let (left, fault) = session(pace, alloc, scheme, &mut tally, outbox, stations);
     if let Some(fault) = fault {
         faults.push_reserved(of_writer(fault));
     }

@@ -32,13 +32,13 @@ pub(crate) fn put<G: Gate, R: Wait + Clock>(
     ensures put { result ≡ true → sent_list pass.new ≡ sent_list pass.old ++ item.now ∷ [] }
     ensures not_put { result ≡ false → sent_list pass.new ≡ sent_list pass.old }
 {
-    for _ in floor.rt.forever() {
-        if inbox.put(floor.rt, pass, *item).is_ok() {
-            floor.gate.pass(Point::StationPut);
+    for _ in floor.pace.rt.forever() {
+        if inbox.put(floor.pace.rt, pass, *item).is_ok() {
+            floor.pace.gate.pass(Point::StationPut);
             pacing.put();
             return true;
         }
-        pacing.spend(floor.rt, floor.gate);
+        pacing.spend(floor.pace.rt, floor.pace.gate);
         if pacing.are_used_up() || ended.has_writer_ended() {
             return false;
         }
@@ -92,7 +92,7 @@ pub(crate) fn pass_on<G: Gate, R: Wait + Clock>(
     ensures refused { IfErr result (λ _. IsUnexpected frame.now × (next_in collector.new ≡ next_in collector.old) × (sent_list pass.new ≡ sent_list pass.old)) }
     ensures station { (station_of pass.new ≡ station_of pass.old) × (collector.new.station ≡ collector.old.station) }
 {
-    floor.gate.pass(Point::StationRead(pass.station()));
+    floor.pace.gate.pass(Point::StationRead(pass.station()));
     if let Some(tapped) = frame.tapped() {
         return Ok(put_tap(floor, inbox, ended, tapped, pacing, pass, collector));
     }

@@ -91,7 +91,7 @@ fn read_next<S: Source, G: Gate, R: Wait + Clock>(
                 &mut post.pass,
                 collector,
             ) {
-                Ok(true) => return !floor.gate.is_over(),
+                Ok(true) => return !floor.pace.gate.is_over(),
                 Ok(false) => post.held = Some(frame),
                 Err(UnexpectedFrame) => post.fault = Some(StationFault::Unexpected),
             }
@@ -117,9 +117,9 @@ pub(crate) fn read_all<S: Source, G: Gate, R: Wait + Clock>(
     ensures station { (station_of post.new.pass ≡ station_of post.old.pass) × (collector.new.station ≡ collector.old.station) }
     ensures read { HasRead floor.now.scheme.now (station_of post.old.pass) (S.talk source.old) (S.talk source.new) (next_in collector.old) (next_in collector.new) (sent_list post.old.pass) (sent_list post.new.pass) (heard_list post.old.hear) (heard_list post.new.hear) post.new.held post.new.ended post.new.fault }
 {
-    let mut pacing = Pacing::new(floor.turns);
-    for _ in floor.rt.forever() {
-        if let Some(fault) = answer_all(floor.rt, line, &mut post.hear, source, &mut pacing) {
+    let mut pacing = Pacing::new(floor.pace.turns);
+    for _ in floor.pace.rt.forever() {
+        if let Some(fault) = answer_all(floor.pace.rt, line, &mut post.hear, source, &mut pacing) {
             post.fault = Some(fault);
             break;
         }
@@ -127,12 +127,12 @@ pub(crate) fn read_all<S: Source, G: Gate, R: Wait + Clock>(
             break;
         }
         if pacing.holds(source.has_next()) {
-            pacing.wait(floor.rt, floor.gate);
+            pacing.wait(floor.pace.rt, floor.pace.gate);
             continue;
         }
         if !source.is_ready() {
-            pacing.spend(floor.rt, floor.gate);
-            if pacing.is_over(floor.gate) {
+            pacing.spend(floor.pace.rt, floor.pace.gate);
+            if pacing.is_over(floor.pace.gate) {
                 break;
             }
             continue;

@@ -110,11 +110,11 @@ pub(crate) fn serve<
         passes,
         writer,
     } = intake;
-    let mut ended = inbox.finish(floor.rt, passes, writer);
+    let mut ended = inbox.finish(floor.pace.rt, passes, writer);
     if let Some(halt) = halt {
         return (Some(halt), ended);
     }
-    let halt = keep_left(floor.rt, floor.scheme, &mut ended, tally, outbox);
+    let halt = keep_left(floor.pace.rt, floor.scheme, &mut ended, tally, outbox);
     (halt, ended)
 }
 
@@ -151,6 +151,6 @@ pub(crate) fn gather<
     if let Some(halt) = halt {
         return (Some(halt), ended);
     }
-    let halt = rest_all(floor.rt, floor.scheme, tally, outbox, stations);
+    let halt = rest_all(floor.pace.rt, floor.scheme, tally, outbox, stations);
     (halt, ended)
 }

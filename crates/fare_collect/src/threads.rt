@@ -58,7 +58,7 @@ fn run_stations<S: Source + Send, G: Gate + Sync, R: Threads + Wait + Clock + Sy
 {
     let count = stations.len();
     thread::for_each_mut(
-        floor.rt,
+        floor.pace.rt,
         stations,
         count,
         &|place: usize, station: &mut Station<S>|
@@ -96,7 +96,7 @@ pub(crate) fn run_threads<
     let ended = Ended::new();
     let ended = &ended;
     let (_, halt) = join_mut(
-        floor.rt,
+        floor.pace.rt,
         &mut ||
             requires { (0 < length stations.now) × ArePosted inbox.now lines.now stations.now }
             ensures { HaveRun floor.entry.now.scheme.now S.talk inbox.entry.now lines.entry.now stations.entry.now stations.exit.now }

@@ -27,10 +27,10 @@ pub(crate) fn write_all<O: Outbox, G: Gate, R: Wait + Clock>(
     ensures ready { AreTellers lines.now tellers.new }
     ensures written { HasWritten floor.now.scheme.now (O.standing outbox.old) (O.standing outbox.new) (taken_list writer.new) tellers.old tellers.new tally.old tally.new result }
 {
-    let mut turns = Turns::new(floor.turns);
-    for _ in floor.rt.forever() {
+    let mut turns = Turns::new(floor.pace.turns);
+    for _ in floor.pace.rt.forever() {
         let all_ended = ended.stations() >= lines.len() as u64;
-        match inbox.take(floor.rt, writer) {
+        match inbox.take(floor.pace.rt, writer) {
             Some(item) => {
                 turns.found();
                 if let Some(halt) = handle_batch(
@@ -41,7 +41,7 @@ pub(crate) fn write_all<O: Outbox, G: Gate, R: Wait + Clock>(
                 }
             }
             None => {
-                turns.spend(floor.rt, floor.gate);
+                turns.spend(floor.pace.rt, floor.pace.gate);
                 if all_ended || turns.are_used_up() {
                     break;
                 }

@@ -7,7 +7,7 @@ use fare_record::{DeviceId, OwnerId, Record};
 use fare_samples::{FIRST, Numbers, record, statement};
 use fare_scheme::{DemoSize, Scheme};
 use fare_scripts::{Script, source_of, sources_of};
-use fare_session::{Gate, OwnerReport, Point, SessionFault, serve_owner};
+use fare_session::{Gate, OwnerReport, Pace, Point, SessionFault, serve_owner};
 use fare_source::Shift;
 use fare_store::{FailingLedger, FailingOutbox, Ledger, Outbox, PlainLedger, PlainOutbox};
 use std::alloc::Global;
@@ -96,7 +96,12 @@ fn gathered_in<O: Outbox + Send, R: Threads + Wait + Clock + Sync>(
     if stations.len() > 16 {
         return None;
     }
-    let report = collect(rt, alloc, scheme, &mut stations, outbox, &Free, turns).ok()?;
+    let pace = Pace {
+        rt,
+        gate: &Free,
+        turns,
+    };
+    let report = collect(&pace, alloc, scheme, &mut stations, outbox).ok()?;
     let mut sources = sources_of(alloc, stations)?;
     Some((report, sources.pop()?))
 }
@@ -201,7 +206,12 @@ fn gathered_up_to<R: Threads + Wait + Clock + Sync>(
     if stations.len() > 16 {
         return None;
     }
-    let report = collect(rt, alloc, scheme, &mut stations, outbox, &gate, TURNS).ok()?;
+    let pace = Pace {
+        rt,
+        gate: &gate,
+        turns: TURNS,
+    };
+    let report = collect(&pace, alloc, scheme, &mut stations, outbox).ok()?;
     let (_, shift) = stations.pop()?.into_parts();
     Some((report, shift.into_source()))
 }
@@ -371,7 +381,12 @@ fn served<O: Outbox + Send, L: Ledger + Send, R: Threads + Wait + Clock + Sync>(
     if scheme.lane_capacity(owner).is_none() {
         return None;
     }
-    let report = serve_owner(rt, alloc, &scheme, outbox, ledger, owner, &Free, TURNS);
+    let pace = Pace {
+        rt,
+        gate: &Free,
+        turns: TURNS,
+    };
+    let report = serve_owner(&pace, alloc, &scheme, outbox, ledger, owner);
     let next = outbox.next_row(owner, device, 0).ok()?;
     Some((report, ledger.count(device).ok()?, next.map(Record::lane)))
 }

@@ -12,7 +12,7 @@ use fare_scripts::{
     Open, Placed, Script, Seen, collected_and_served, hub_of, narrow, scripts_of, seen_in,
     sources_in, sources_of, whole,
 };
-use fare_session::SessionFault;
+use fare_session::{Pace, SessionFault};
 use fare_sessions::{BillingFault, ClosingFault, Hub, Session};
 use fare_settle::Settlement;
 use fare_store::{
@@ -289,9 +289,12 @@ fn four_sessions<O: Outbox + Send, L: Ledger + Send, R: Threads + Wait + Clock +
         Session::Serve(owner),
     ];
     let supervisor = Supervisor::new(limit);
-    let report = hub
-        .sessions(rt, alloc, &mut sessions, supervisor, &Open, 1_000_000)
-        .ok()?;
+    let pace = Pace {
+        rt,
+        gate: &Open,
+        turns: 1_000_000,
+    };
+    let report = hub.sessions(&pace, alloc, &mut sessions, supervisor).ok()?;
     let [first, second, third, fourth] = sessions;
     drop(first);
     drop(second);

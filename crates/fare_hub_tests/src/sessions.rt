@@ -2,7 +2,7 @@ use crate::checking::same;
 use fare_record::{Day, DeviceId, OwnerId, Record};
 use fare_samples::{FIRST, Numbers, record, statement};
 use fare_scheme::{DemoSize, Scheme};
-use fare_session::{Gate, OwnerReport, Point, SessionFault, serve_owner};
+use fare_session::{Gate, OwnerReport, Pace, Point, SessionFault, serve_owner};
 use fare_store::{FailingLedger, FailingOutbox, Ledger, Outbox, PlainLedger, PlainOutbox};
 use std::alloc::Global;
 use std::sync::Wait;
@@ -174,7 +174,8 @@ fn served<O: Outbox + Send, L: Ledger + Send, R: Threads + Wait + Clock + Sync>(
     if scheme.lane_capacity(owner).is_none() {
         return None;
     }
-    let report = serve_owner(rt, alloc, &scheme, outbox, ledger, owner, gate, turns);
+    let pace = Pace { rt, gate, turns };
+    let report = serve_owner(&pace, alloc, &scheme, outbox, ledger, owner);
     Some(Seen {
         report,
         count: ledger.count(device).ok()?,

@@ -6,7 +6,7 @@ use fare_record::{DeviceId, Hello, LAST_NUMBER, StationId};
 use fare_samples::{FIRST, Numbers, record, statement};
 use fare_scheme::{DemoSize, Scheme};
 use fare_scripts::{Script, narrow, scripts_of, source_of, sources_of, tapped};
-use fare_session::{Gate, Point, SessionFault};
+use fare_session::{Gate, Pace, Point, SessionFault};
 use fare_store::{FailingOutbox, Outbox, PlainOutbox};
 use std::alloc::Global;
 use std::sync::Wait;
@@ -93,7 +93,8 @@ fn gathered<O: Outbox + Send, R: Threads + Wait + Clock + Sync>(
     if stations.len() > 16 {
         return None;
     }
-    let report = collect(rt, alloc, scheme, &mut stations, outbox, gate, turns).ok()?;
+    let pace = Pace { rt, gate, turns };
+    let report = collect(&pace, alloc, scheme, &mut stations, outbox).ok()?;
     let seen = Seen {
         stored: report.stored,
         left: report.left,

@@ -9,7 +9,7 @@ use crate::scripts::{Script, sources_of};
 use fare_collect::stations_of;
 use fare_record::OwnerId;
 use fare_scheme::Scheme;
-use fare_session::{Gate, Point, SessionFault};
+use fare_session::{Gate, Pace, Point, SessionFault};
 use fare_sessions::{Hub, Session, SessionsReport};
 use fare_store::{Ledger, Outbox};
 use fare_supervisor::Supervisor;
@@ -105,9 +105,12 @@ pub fn collected_and_served<O: Outbox + Send, L: Ledger + Send, R: Threads + Wai
     }
     let mut sessions = [Session::Collect(stations), Session::Serve(owner)];
     let supervisor = Supervisor::new(limit);
-    let report = hub
-        .sessions(rt, alloc, &mut sessions, supervisor, &Open, 1_000_000)
-        .ok()?;
+    let pace = Pace {
+        rt,
+        gate: &Open,
+        turns: 1_000_000,
+    };
+    let report = hub.sessions(&pace, alloc, &mut sessions, supervisor).ok()?;
     let [first, second] = sessions;
     drop(second);
     Some((seen_in(&report), sources_in(alloc, first)?))

@@ -8,7 +8,7 @@ use crate::counts::Counts;
 use crate::fault::ServeFault;
 use crate::sessions::{collect_once, serve_once};
 use fare_collect::Station;
-use fare_session::Gate;
+use fare_session::{Gate, Pace};
 use fare_sessions::{Hub, SessionsReport};
 use fare_source::Source;
 use fare_store::{Ledger, Outbox};
@@ -25,10 +25,8 @@ fn serve_owners<
     G: Gate + Sync,
     R: Threads + Wait + Clock + Sync,
 >(
-    rt: &R,
+    pace: &Pace<G, R>,
     alloc: Global,
-    gate: &G,
-    turns: u64,
     hub: &mut Hub<O, L>,
     counts: &mut Counts,
 ) -> Result<(), ServeFault>
@@ -40,7 +38,7 @@ fn serve_owners<
 {
     for place in 0..hub.scheme.owners().len() {
         let owner = hub.scheme.owners()[place];
-        let report = serve_once::<S, O, L, G, R>(rt, alloc, gate, turns, hub, place, owner)?;
+        let report = serve_once::<S, O, L, G, R>(pace, alloc, hub, place, owner)?;
         counts.add_owner(place, &report);
     }
     Ok(())
@@ -60,10 +58,8 @@ pub fn serve_round<
     G: Gate + Sync,
     R: Threads + Wait + Clock + Sync,
 >(
-    rt: &R,
+    pace: &Pace<G, R>,
     alloc: Global,
-    gate: &G,
-    turns: u64,
     hub: &mut Hub<O, L>,
     stations: Vec<Station<S>>,
     counts: &mut Counts,
@@ -78,8 +74,8 @@ pub fn serve_round<
     ensures failed { IfErr result (HasFailedRound S.talk O.standing L.standing hub.old hub.new stations.items) }
     ensures fault { IfErr result (λ fault. fault ≢ ServeFault.Write) }
 {
-    let (report, stations) = collect_once(rt, alloc, gate, turns, hub, stations)?;
+    let (report, stations) = collect_once(pace, alloc, hub, stations)?;
     counts.add_stations(&report);
-    serve_owners::<S, O, L, G, R>(rt, alloc, gate, turns, hub, counts)?;
+    serve_owners::<S, O, L, G, R>(pace, alloc, hub, counts)?;
     Ok((report, stations))
 }

@@ -15,6 +15,7 @@ use crate::progress::Progress;
 use crate::rounds::serve_round;
 use crate::seats::Rule;
 use fare_collect::{StationsFault, stations_of};
+use fare_session::Pace;
 use fare_sessions::Hub;
 use fare_store::{Ledger, Outbox};
 use std::alloc::Global;
@@ -84,9 +85,13 @@ fn hold_round<O: Outbox + Send, L: Ledger + Send, R: Threads + Wait + Clock + Ep
         Err(StationsFault::Memory) => return Err(ServeFault::Memory),
         Err(StationsFault::Range) => unreachable!(),
     };
-    let turns = u64::from(limits.turns);
+    let pace = Pace {
+        rt,
+        gate: &gate,
+        turns: u64::from(limits.turns),
+    };
     let counts = &mut progress.counts;
-    let (report, stations) = serve_round(rt, alloc, &gate, turns, hub, stations, counts)?;
+    let (report, stations) = serve_round(&pace, alloc, hub, stations, counts)?;
     let seen = &mut progress.seen;
     seen.note_round(rt, gate.marks(), gate.passed());
     take_all_back(rt, whole, stations, &report.faults, &mut lines.seats, seen);

@@ -12,7 +12,7 @@ ghost use Rattle.fare_serve.specs.Rounds.{HasFailedRound};
 use crate::fault::ServeFault;
 use fare_collect::Station;
 use fare_record::OwnerId;
-use fare_session::{Gate, SessionFault};
+use fare_session::{Gate, Pace, SessionFault};
 use fare_sessions::{Hub, Session, SessionsReport};
 use fare_source::Source;
 use fare_store::{Ledger, Outbox};
@@ -57,10 +57,8 @@ fn hold<
     G: Gate + Sync,
     R: Threads + Wait + Clock + Sync,
 >(
-    rt: &R,
+    pace: &Pace<G, R>,
     alloc: Global,
-    gate: &G,
-    turns: u64,
     hub: &mut Hub<O, L>,
     sessions: &mut [Session<S>],
 ) -> Result<SessionsReport, ServeFault>
@@ -72,7 +70,7 @@ fn hold<
     ensures fault { IfErr result (λ fault. fault ≢ ServeFault.Write) }
 {
     let supervisor = Supervisor::new(u32::MAX);
-    let report = hub.sessions(rt, alloc, sessions, supervisor, gate, turns)?;
+    let report = hub.sessions(pace, alloc, sessions, supervisor)?;
     match first_ending_of(&report.faults) {
         Some(fault) => Err(fault),
         None => Ok(report),
@@ -97,10 +95,8 @@ pub(crate) fn collect_once<
     G: Gate + Sync,
     R: Threads + Wait + Clock + Sync,
 >(
-    rt: &R,
+    pace: &Pace<G, R>,
     alloc: Global,
-    gate: &G,
-    turns: u64,
     hub: &mut Hub<O, L>,
     stations: Vec<Station<S>>,
 ) -> Result<(SessionsReport, Vec<Station<S>>), ServeFault>
@@ -114,7 +110,7 @@ pub(crate) fn collect_once<
     ensures fault { IfErr result (λ fault. fault ≢ ServeFault.Write) }
 {
     let mut session = Session::Collect(stations);
-    let report = hold(rt, alloc, gate, turns, hub, slice::from_mut(&mut session))?;
+    let report = hold(pace, alloc, hub, slice::from_mut(&mut session))?;
     Ok((report, stations_in(alloc, session)))
 }
 
@@ -126,10 +122,8 @@ pub(crate) fn serve_once<
     G: Gate + Sync,
     R: Threads + Wait + Clock + Sync,
 >(
-    rt: &R,
+    pace: &Pace<G, R>,
     alloc: Global,
-    gate: &G,
-    turns: u64,
     hub: &mut Hub<O, L>,
     place: usize,
     owner: OwnerId,
@@ -141,5 +135,5 @@ pub(crate) fn serve_once<
     ensures fault { IfErr result (λ fault. fault ≢ ServeFault.Write) }
 {
     let mut sessions: [Session<S>; 1] = [Session::Serve(owner)];
-    hold(rt, alloc, gate, turns, hub, &mut sessions)
+    hold(pace, alloc, hub, &mut sessions)
 }

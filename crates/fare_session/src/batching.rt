@@ -57,24 +57,25 @@ pub(crate) fn take_one<G: Gate, R: Wait>(
 fn take_more<G: Gate, R: Wait>(
     pace: &Pace<G, R>,
     line: &LaneQueue,
+    batch: usize,
     pass: &mut OwnerPass,
     items: &mut [Item],
     count: usize,
 ) -> usize
     requires queue { IsOwnerOf line.now pass.old }
-    requires few { count ≤ pace.now.batch }
-    requires room { pace.now.batch ≤ length items.old }
+    requires few { count ≤ batch }
+    requires room { batch ≤ length items.old }
     ensures queue { IsOwnerOf line.now pass.new }
     ensures taken { HasTakenMore (CameWith pass.old pass.new) (take count items.old) (take result items.new) }
-    ensures few { result ≤ pace.now.batch }
+    ensures few { result ≤ batch }
 {
-    for place in count..pace.batch {
+    for place in count..batch {
         let Some(item) = take_one(pace, line, pass) else {
             return place;
         };
         items[place] = item;
     }
-    pace.batch
+    batch
 }
 
 // The rows of the taps before the first statement, and how many these are.
@@ -180,21 +181,22 @@ fn keep_one<L: Ledger>(ledger: &mut L, item: &Item, taken: &mut u64) -> Option<H
 pub(crate) fn keep_batch<L: Ledger, G: Gate, R: Wait>(
     pace: &Pace<G, R>,
     line: &LaneQueue,
+    batch: usize,
     item: &Item,
     ledger: &mut L,
     taken: &mut u64,
     pass: &mut OwnerPass,
 ) -> Option<Halt>
     requires queue { IsOwnerOf line.now pass.old }
-    requires batch { IsBatch pace.now.batch }
+    requires batch { IsBatch batch }
     ensures queue { IsOwnerOf line.now pass.new }
     ensures taken { IsBatchTaken (L.standing ledger.old) (L.standing ledger.new) item.now (CameWith pass.old pass.new) result taken.old taken.new }
-    ensures few { IfSome result (λ halt. halt.behind < pace.now.batch) }
+    ensures few { IfSome result (λ halt. halt.behind < batch) }
 {
     let Some(row) = item.tap() else {
         return keep_one(ledger, item, taken);
     };
-    if pace.batch == 1 {
+    if batch == 1 {
         return keep_one(ledger, item, taken);
     }
     let Some(next) = take_one(pace, line, pass) else {
@@ -202,7 +204,7 @@ pub(crate) fn keep_batch<L: Ledger, G: Gate, R: Wait>(
     };
     let mut items = [*item; BATCH];
     items[1] = next;
-    let count = take_more(pace, line, pass, &mut items, 2);
+    let count = take_more(pace, line, batch, pass, &mut items, 2);
     let mut rows = [row; BATCH];
     keep_all(ledger, &items[..count], &mut rows, taken)
 }

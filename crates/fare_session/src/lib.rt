@@ -26,6 +26,7 @@ mod working;
 pub use fault::SessionFault;
 pub use gate::{Gate, Point};
 pub use laws::a_session_says_plainly;
+pub use pace::Pace;
 pub use report::OwnerReport;
 pub use serving::serve_owner;
 pub use turns::Turns;

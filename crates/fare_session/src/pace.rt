@@ -1,11 +1,10 @@
-// What goes with every call in the threads of a session.
+/// What the threads of a session run on, and how long one waits for another.
 #[derive(Drop)]
-pub(crate) struct Pace<'a, G, R> {
-    pub(crate) rt: &'a R,
-    // what the threads pass
-    pub(crate) gate: &'a G,
-    // how often in a row each may find nothing to do
-    pub(crate) turns: u64,
-    // how many items the owner takes at once, at most
-    pub(crate) batch: usize,
+pub struct Pace<'a, G, R> {
+    /// The threads, and their clock.
+    pub rt: &'a R,
+    /// What they pass.
+    pub gate: &'a G,
+    /// How often in a row each may find nothing to do.
+    pub turns: u64,
 }

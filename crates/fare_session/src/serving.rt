@@ -32,11 +32,12 @@ use std::sync::Wait;
 use std::thread::{Threads, join_mut};
 use std::time::Clock;
 
-// The lane queue of a session, with the passes of its two threads.
+// The lane queue of a session, the passes of its two threads, and how many items the owner takes at once, at most.
 struct Passage {
     queue: LaneQueue,
     forward: ForwardPass,
     mine: OwnerPass,
+    batch: usize,
 }
 
 // The two threads.
@@ -54,7 +55,7 @@ fn run_threads<
     taken: &mut u64,
     passage: &mut Passage,
 ) -> (Option<SessionFault>, Option<Halt>)
-    requires batch { IsBatch pace.now.batch }
+    requires batch { IsBatch passage.old.batch }
     requires forward { IsForwardOf passage.old.queue passage.old.forward × (sent_list passage.old.forward ≡ []) × (forward_bases passage.old.forward ≡ bases.now) }
     requires owner { IsOwnerOf passage.old.queue passage.old.mine × (taken_list passage.old.mine ≡ []) }
     requires apart { AreApart bases.now }
@@ -63,7 +64,7 @@ fn run_threads<
     ensures queue { IsForwardOf passage.old.queue passage.new.forward × IsOwnerOf passage.old.queue passage.new.mine }
     ensures forwarded { Forwarded bases.now (O.standing outbox.old) (O.standing outbox.new) forwarder.old forwarder.new (sent_list passage.new.forward) result.0 }
     ensures taken { IsTaking (L.standing ledger.old) (L.standing ledger.new) (taken_list passage.new.mine) result.1 taken.old taken.new }
-    ensures few { IfSome result.1 (λ halt. halt.behind < pace.now.batch) }
+    ensures few { IfSome result.1 (λ halt. halt.behind < passage.old.batch) }
 {
     let ending = Ending::new();
     let ending = &ending;
@@ -71,8 +72,9 @@ fn run_threads<
         queue,
         forward,
         mine,
+        batch,
     } = passage;
-    let line = &*queue;
+    let (line, batch) = (&*queue, *batch);
     join_mut(
         pace.rt,
         &mut || -> Option<SessionFault>
@@ -81,11 +83,11 @@ fn run_threads<
             ensures forwarded { Forwarded bases.entry.now (O.standing outbox.entry.now) (O.standing outbox.exit.now) forwarder.entry.now forwarder.exit.now (sent_list forward.exit.now) result }
         { forward_all(pace, line, ending, bases, forwarder, outbox, forward) },
         &mut || -> Option<Halt>
-            requires { IsOwnerOf line.now mine.now × (taken_list mine.now ≡ []) × IsBatch pace.now.batch }
+            requires { IsOwnerOf line.now mine.now × (taken_list mine.now ≡ []) × IsBatch batch }
             ensures queue { IsOwnerOf line.entry.now mine.exit.now }
             ensures taken { IsTaking (L.standing ledger.entry.now) (L.standing ledger.exit.now) (taken_list mine.exit.now) result taken.entry.now taken.exit.now }
-            ensures few { IfSome result (λ halt. halt.behind < pace.entry.now.batch) }
-        { take_all(pace, line, ending, ledger, taken, mine) },
+            ensures few { IfSome result (λ halt. halt.behind < batch) }
+        { take_all(pace, line, ending, batch, ledger, taken, mine) },
     )
 }
 
@@ -104,15 +106,16 @@ fn run_lanes<O: Outbox + Send, L: Ledger + Send, G: Gate + Sync, R: Threads + Wa
     requires owner { IsOwnerOf passage.queue passage.mine × (taken_list passage.mine ≡ []) }
     requires apart { AreApart bases.now }
     requires cursors { HasCursors bases.now forwarder.old }
-    requires batch { IsBatch pace.now.batch }
-    requires room { capacity_of passage.queue + (pace.now.batch - 1) ≤ 1024 }
-    ensures { IsThreaded bases.now (capacity_of passage.queue + (pace.now.batch - 1)) (O.standing outbox.old) (O.standing outbox.new) (L.standing ledger.old) (L.standing ledger.new) forwarder.old forwarder.new result.0 result.1 taken.old taken.new result.2 }
+    requires batch { IsBatch passage.batch }
+    requires room { capacity_of passage.queue + (passage.batch - 1) ≤ 1024 }
+    ensures { IsThreaded bases.now (capacity_of passage.queue + (passage.batch - 1)) (O.standing outbox.old) (O.standing outbox.new) (L.standing ledger.old) (L.standing ledger.new) forwarder.old forwarder.new result.0 result.1 taken.old taken.new result.2 }
 {
     let (put, took) = run_threads(pace, bases, forwarder, outbox, ledger, taken, &mut passage);
     let Passage {
         queue,
         forward,
         mine,
+        batch: _,
     } = passage;
     let mut ended = queue.finish(pace.rt, forward, mine);
     if let Some(halt) = took {
@@ -144,11 +147,11 @@ fn serve_lanes<
     requires owner { IsOwnerOf passage.queue passage.mine × (taken_list passage.mine ≡ []) }
     requires apart { AreApart bases.now }
     requires cursors { HasCursors bases.now forwarder.old }
-    requires batch { IsBatch pace.now.batch }
-    requires room { capacity_of passage.queue + (pace.now.batch - 1) ≤ 1024 }
+    requires batch { IsBatch passage.batch }
+    requires room { capacity_of passage.queue + (passage.batch - 1) ≤ 1024 }
     requires mine { forwarder.old.owner ≡ owner }
     requires all { AreApart lanes.old }
-    ensures { IsSession bases.now lanes.old (capacity_of passage.queue + (pace.now.batch - 1)) (O.standing outbox.old) (O.standing outbox.new) (L.standing ledger.old) (L.standing ledger.new) forwarder.old result }
+    ensures { IsSession bases.now lanes.old (capacity_of passage.queue + (passage.batch - 1)) (O.standing outbox.old) (O.standing outbox.new) (L.standing ledger.old) (L.standing ledger.new) forwarder.old result }
 {
     let mut taken = 0;
     let (put, fault, left) = run_lanes(pace, bases, forwarder, outbox, ledger, &mut taken, passage);
@@ -202,25 +205,21 @@ fn not_begun(fault: SessionFault) -> OwnerReport
 }
 
 // The lane queue of an owner. With what a batch leaves behind its item in the hand it holds the capacity at most.
-fn open(
-    alloc: Global,
-    capacity: u32,
-    batch: usize,
-    bases: &[(DeviceId, u64)],
-) -> Result<Passage, AllocError>
+fn open(alloc: Global, capacity: u32, bases: &[(DeviceId, u64)]) -> Result<Passage, AllocError>
     requires room { IsRoom capacity bases.now }
-    requires some { 1 ≤ batch }
-    requires few { batch ≤ capacity }
     ensures forward { IfOk result (λ p. IsForwardOf p.queue p.forward × (sent_list p.forward ≡ []) × (forward_bases p.forward ≡ bases.now)) }
     ensures owner { IfOk result (λ p. IsOwnerOf p.queue p.mine × (taken_list p.mine ≡ [])) }
-    ensures room { IfOk result (λ p. capacity_of p.queue + (batch - 1) ≡ capacity) }
+    ensures batch { IfOk result (λ p. IsBatch p.batch) }
+    ensures room { IfOk result (λ p. capacity_of p.queue + (p.batch - 1) ≡ capacity) }
 {
+    let batch = batch_of(capacity);
     let behind = (batch - 1) as u32;
     match LaneQueue::new(alloc, capacity - behind, bases) {
         Ok((queue, forward, mine)) => Ok(Passage {
             queue,
             forward,
             mine,
+            batch,
         }),
         Err(LaneQueueFault::Memory) => Err(AllocError),
         Err(LaneQueueFault::Range) => unreachable!(),
@@ -230,21 +229,19 @@ fn open(
 /// Serves an owner: one thread hands on what comes next in the outbox of the owner's lanes, over one lane queue,
 /// and one takes it into the ledger. What is left once both have ended this call takes, and it prunes the lanes
 /// to the ledger's counts. A lane that the ledger has retired is left out, but pruned as the others. A thread that found
-/// the queue full or empty `turns` times in a row ends.
+/// the queue full or empty as often in a row as it may ends.
 pub fn serve_owner<
     O: Outbox + Send,
     L: Ledger + Send,
     G: Gate + Sync,
     R: Threads + Wait + Clock + Sync,
 >(
-    rt: &R,
+    pace: &Pace<G, R>,
     alloc: Global,
     scheme: &Scheme,
     outbox: &mut O,
     ledger: &mut L,
     owner: OwnerId,
-    gate: &G,
-    turns: u64,
 ) -> OwnerReport
     requires owner { IsSome (position_of_owner scheme.now owner) }
     ensures { IsServed scheme.now owner (O.standing outbox.old) (O.standing outbox.new) (L.standing ledger.old) (L.standing ledger.new) result }
@@ -267,18 +264,11 @@ pub fn serve_owner<
     let Ok(mut forwarder) = Forwarder::start(alloc, scheme, owner, &asked.standings) else {
         return not_begun(SessionFault::Memory);
     };
-    let batch = batch_of(capacity);
-    let Ok(passage) = open(alloc, capacity, batch, &working) else {
+    let Ok(passage) = open(alloc, capacity, &working) else {
         return not_begun(SessionFault::Memory);
     };
-    let pace = Pace {
-        rt,
-        gate,
-        turns,
-        batch,
-    };
     serve_lanes(
-        &pace,
+        pace,
         owner,
         &working,
         &mut asked.bases,

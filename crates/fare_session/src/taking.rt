@@ -75,21 +75,22 @@ pub(crate) fn keep_item<L: Ledger>(
     }
 }
 
-/// The owner's thread. It ends at a fault, where its turns are used up, and where the queue is empty once the
+/// The owner's thread, which takes at most so many items at once. It ends at a fault, where its turns are used up, and where the queue is empty once the
 /// forwarder has ended.
 pub(crate) fn take_all<L: Ledger, G: Gate, R: Wait + Clock>(
     pace: &Pace<G, R>,
     line: &LaneQueue,
     ending: &Ending,
+    batch: usize,
     ledger: &mut L,
     taken: &mut u64,
     pass: &mut OwnerPass,
 ) -> Option<Halt>
     requires queue { IsOwnerOf line.now pass.old × (taken_list pass.old ≡ []) }
-    requires batch { IsBatch pace.now.batch }
+    requires batch { IsBatch batch }
     ensures queue { IsOwnerOf line.now pass.new }
     ensures taken { IsTaking (L.standing ledger.old) (L.standing ledger.new) (taken_list pass.new) result taken.old taken.new }
-    ensures few { IfSome result (λ halt. halt.behind < pace.now.batch) }
+    ensures few { IfSome result (λ halt. halt.behind < batch) }
 {
     let mut turns = Turns::new(pace.turns);
     for _ in pace.rt.forever() {
@@ -97,7 +98,7 @@ pub(crate) fn take_all<L: Ledger, G: Gate, R: Wait + Clock>(
         match take_one(pace, line, pass) {
             Some(item) => {
                 turns.found();
-                if let Some(halt) = keep_batch(pace, line, &item, ledger, taken, pass) {
+                if let Some(halt) = keep_batch(pace, line, batch, &item, ledger, taken, pass) {
                     ending.owner_ends();
                     return Some(halt);
                 }

@@ -14,7 +14,7 @@ use crate::course::Course;
 use crate::report::SessionsReport;
 use crate::session::Session;
 use fare_scheme::Scheme;
-use fare_session::Gate;
+use fare_session::{Gate, Pace};
 use fare_source::Source;
 use fare_store::{Ledger, Outbox};
 use fare_supervisor::Supervisor;
@@ -51,12 +51,10 @@ impl<O: Outbox + Send, L: Ledger + Send> Hub<O, L> {
     /// read; want of memory later is a fault of the report.
     pub fn sessions<S: Source + Send, G: Gate + Sync, R: Threads + Wait + Clock + Sync>(
         &mut self,
-        rt: &R,
+        pace: &Pace<G, R>,
         alloc: Global,
         sessions: &mut [Session<S>],
         supervisor: Supervisor,
-        gate: &G,
-        turns: u64,
     ) -> Result<SessionsReport, AllocError>
         requires ledgers { HasLedgers self.old }
         requires can { AreRunnable self.old.scheme sessions.old }
@@ -87,18 +85,16 @@ impl<O: Outbox + Send, L: Ledger + Send> Hub<O, L> {
         };
         let faults = Vec::with_capacity(alloc, room)?;
         let mut course = Course::new(faults, supervisor);
-        self.run_all(rt, alloc, sessions, gate, turns, &mut course);
+        self.run_all(pace, alloc, sessions, &mut course);
         Ok(course.into_report())
     }
 
     // Runs the sessions, until the last one or until the supervisor gives up.
     fn run_all<S: Source + Send, G: Gate + Sync, R: Threads + Wait + Clock + Sync>(
         &mut self,
-        rt: &R,
+        pace: &Pace<G, R>,
         alloc: Global,
         sessions: &mut [Session<S>],
-        gate: &G,
-        turns: u64,
         course: &mut Course,
     )
         requires ledgers { HasLedgers self.old }
@@ -107,7 +103,7 @@ impl<O: Outbox + Send, L: Ledger + Send> Hub<O, L> {
         ensures { (limit : ℕ) → Shows limit no_tally course.old → HaveAllRun S.talk O.standing L.standing limit self.old self.new sessions.old sessions.new course.new.report }
     {
         for place in 0..sessions.len() {
-            self.run(rt, alloc, place, &mut sessions[place], gate, turns, course);
+            self.run(pace, alloc, place, &mut sessions[place], course);
             if course.report.gave_up {
                 return;
             }

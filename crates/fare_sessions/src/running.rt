@@ -11,7 +11,7 @@ use crate::hub::Hub;
 use crate::session::Session;
 use fare_collect::{Station, collect};
 use fare_record::OwnerId;
-use fare_session::{Gate, SessionFault, serve_owner};
+use fare_session::{Gate, Pace, SessionFault, serve_owner};
 use fare_source::Source;
 use fare_store::{Ledger, Outbox};
 use fare_supervisor::Fault;
@@ -24,12 +24,10 @@ impl<O: Outbox + Send, L: Ledger + Send> Hub<O, L> {
     // A session of the stations and the writer. Where there is no memory for its list of faults, that is its fault.
     fn collect_from<S: Source + Send, G: Gate + Sync, R: Threads + Wait + Clock + Sync>(
         &mut self,
-        rt: &R,
+        pace: &Pace<G, R>,
         alloc: Global,
         place: usize,
         stations: &mut Vec<Station<S>>,
-        gate: &G,
-        turns: u64,
         course: &mut Course,
     )
         requires can { IsRunnable self.old.scheme (Collect stations.old) }
@@ -38,15 +36,7 @@ impl<O: Outbox + Send, L: Ledger + Send> Hub<O, L> {
         ensures few { vec_len course.new.report.faults ≤ vec_len course.old.report.faults + 17 }
         ensures capacity { vec_capacity course.new.report.faults ≡ vec_capacity course.old.report.faults }
     {
-        match collect(
-            rt,
-            alloc,
-            &self.scheme,
-            stations,
-            &mut self.outbox,
-            gate,
-            turns,
-        ) {
+        match collect(pace, alloc, &self.scheme, stations, &mut self.outbox) {
             Ok(report) => {
                 course.count(report.stored, 0, report.left);
                 course.note_all(place, &report.faults);
@@ -58,12 +48,10 @@ impl<O: Outbox + Send, L: Ledger + Send> Hub<O, L> {
     // A session of an owner.
     fn serve<G: Gate + Sync, R: Threads + Wait + Clock + Sync>(
         &mut self,
-        rt: &R,
+        pace: &Pace<G, R>,
         alloc: Global,
         place: usize,
         owner: OwnerId,
-        gate: &G,
-        turns: u64,
         course: &mut Course,
     )
         requires can { (at : ℕ) × (position_of_owner self.old.scheme owner ≡ Some at) }
@@ -77,14 +65,12 @@ impl<O: Outbox + Send, L: Ledger + Send> Hub<O, L> {
             unreachable!()
         };
         let report = serve_owner(
-            rt,
+            pace,
             alloc,
             &self.scheme,
             &mut self.outbox,
             &mut self.ledgers[at],
             owner,
-            gate,
-            turns,
         );
         course.count(0, report.taken, report.left);
         course.note_owner(place, owner, report.fault);
@@ -93,12 +79,10 @@ impl<O: Outbox + Send, L: Ledger + Send> Hub<O, L> {
     // Runs the session at a place.
     pub(crate) fn run<S: Source + Send, G: Gate + Sync, R: Threads + Wait + Clock + Sync>(
         &mut self,
-        rt: &R,
+        pace: &Pace<G, R>,
         alloc: Global,
         place: usize,
         session: &mut Session<S>,
-        gate: &G,
-        turns: u64,
         course: &mut Course,
     )
         requires can { IsRunnable self.old.scheme session.old }
@@ -109,10 +93,8 @@ impl<O: Outbox + Send, L: Ledger + Send> Hub<O, L> {
         ensures capacity { vec_capacity course.new.report.faults ≡ vec_capacity course.old.report.faults }
     {
         match session {
-            Session::Collect(stations) => {
-                self.collect_from(rt, alloc, place, stations, gate, turns, course)
-            }
-            Session::Serve(owner) => self.serve(rt, alloc, place, *owner, gate, turns, course),
+            Session::Collect(stations) => self.collect_from(pace, alloc, place, stations, course),
+            Session::Serve(owner) => self.serve(pace, alloc, place, *owner, course),
         }
     }
 }

@@ -71,7 +71,7 @@ fn tell_one<G, R: Wait + Clock>(
     if let Arrived::Tap(station, row) = item {
         let ack = AckItem::Upto(Ack::new(row.device(), row.link()));
         let place = floor.scheme.station_position(station);
-        tell(floor.rt, lines, place, ack, row.link(), tellers);
+        tell(floor.pace.rt, lines, place, ack, row.link(), tellers);
     }
 }
 
@@ -91,7 +91,7 @@ fn tell_all<G: Gate, R: Wait + Clock>(
 {
     for place in 0..items.len() {
         tally.count();
-        floor.gate.pass(Point::WriterStored);
+        floor.pace.gate.pass(Point::WriterStored);
         tell_one(floor, lines, items[place], tellers);
     }
 }
@@ -118,7 +118,7 @@ fn handle_some<O: Outbox, G: Gate, R: Wait + Clock>(
 {
     let stored = store_lead(outbox, items, rows)?;
     if stored > 0 {
-        floor.gate.pass(Point::WriterCommitted);
+        floor.pace.gate.pass(Point::WriterCommitted);
         tell_all(floor, lines, &items[..stored], tally, tellers);
         return Ok(stored);
     }
@@ -180,7 +180,7 @@ pub fn handle_batch<O: Outbox, G: Gate, R: Wait + Clock>(
     };
     let mut items = [item; BATCH];
     let most = batch_of(floor.scheme);
-    let count = take_more(floor.rt, inbox, writer, &mut items, most);
+    let count = take_more(floor.pace.rt, inbox, writer, &mut items, most);
     let mut rows = [row; BATCH];
     handle_all(
         floor,

@@ -1,14 +1,11 @@
 use fare_scheme::Scheme;
+use fare_session::Pace;
 
-/// What goes with every call in the threads of a session.
+/// What goes with every call in the threads of a session of the stations.
 #[derive(Drop)]
 pub struct Floor<'a, G, R> {
-    /// The threads and the clock that they run on.
-    pub rt: &'a R,
+    /// What the threads run on.
+    pub pace: &'a Pace<'a, G, R>,
     /// The scheme.
     pub scheme: &'a Scheme,
-    /// What the threads pass.
-    pub gate: &'a G,
-    /// How often in a row each may find nothing to do.
-    pub turns: u64,
 }

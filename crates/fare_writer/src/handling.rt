@@ -71,15 +71,15 @@ pub fn handle<O: Outbox, G: Gate, R: Wait + Clock>(
         Err(halt) => return Some(halt),
     };
     if new {
-        floor.gate.pass(Point::WriterCommitted);
-        floor.gate.pass(Point::WriterStored);
+        floor.pace.gate.pass(Point::WriterCommitted);
+        floor.pace.gate.pass(Point::WriterStored);
     }
     match item {
         Arrived::Tap(station, row) => {
             if new {
                 let ack = AckItem::Upto(Ack::new(row.device(), row.link()));
                 let place = floor.scheme.station_position(station);
-                tell(floor.rt, lines, place, ack, row.link(), tellers);
+                tell(floor.pace.rt, lines, place, ack, row.link(), tellers);
             }
             None
         }
@@ -96,7 +96,7 @@ pub fn handle<O: Outbox, G: Gate, R: Wait + Clock>(
                     if held {
                         let ack = AckItem::Day(DayAck::new(device, day));
                         let place = floor.scheme.station_position(station);
-                        tell(floor.rt, lines, place, ack, 0, tellers);
+                        tell(floor.pace.rt, lines, place, ack, 0, tellers);
                     }
                     None
                 }

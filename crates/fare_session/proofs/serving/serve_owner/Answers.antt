@@ -93,13 +93,13 @@ returns-in_default-open g c =
     subst (λ (z : OwnerReport). IsServed sc c.args.owner x x lo lz z) (sym c.not_begun-in_default-open.ensures)
     (served_memory sc c.args.owner x lo lz both)
 
-pub open-requires-clause-room : goal.open-requires-clause-room
-open-requires-clause-room g c =
+pub open-requires : goal.open-requires
+open-requires g c =
     let lm = g.L.Ledger.standing c.ask.new.ledger in
     let lz = g.L.Ledger.standing c.sift.new.ledger in
     let bases = c.deref.result.now in
     let sifted : AreSifted lm lz bases c.sift.new.working.items (Ok c.in_default-sift.field-0) = c.in_default-sift.ensures in
-    record { size = c.in-Some.ensures.valid; devices = subst AreApart (sym c.deref-3.ensures.value) sifted.told.apart }
+    record { room = record { size = c.in-Some.ensures.valid; devices = subst AreApart (sym c.deref-3.ensures.value) sifted.told.apart } }
 
 pub serve_lanes-requires-clause-cursors : goal.serve_lanes-requires-clause-cursors
 serve_lanes-requires-clause-cursors g c κs within =
@@ -151,7 +151,7 @@ returns g c =
     let fourth : c.deref-4.result.now ≡ working = c.deref-4.ensures.value in
     let fifth : c.deref_mut.result.now ≡ bases = c.deref_mut.ensures.value in
     let f = c.in-Ok.forwarder in
-    let room = capacity_of c.in-Ok-open.passage.queue + (c.batch_of-batch.result - 1) in
+    let room = capacity_of c.in-Ok-open.passage.queue + (c.in-Ok-open.passage.batch - 1) in
     let few : room ≡ lane_room sc c.args.owner = c.in-Ok-open.ensures.room ∙ ap (λ (o : Option ℕ). unwrap_or o 0) c.in-Some.ensures.value in
     let session : IsSession working bases room x xn lz ln f c.serve_lanes.result = subst (λ (z : List (ℕ × ℕ) × List (ℕ × ℕ)). IsSession z.0 z.1 room x xn lz ln f c.serve_lanes.result) (λ i. (fourth i, fifth i)) c.serve_lanes.ensures in
     served_from sc c.args.owner room x xn lo lz ln standings bases working f c.serve_lanes.result (working_since sc lo lm lz told after bases working sifted.told) (told_then sc lo lm lz told after standings bases asked.told) asked.count (bases_apart sc lo lm standings bases asked.told)
