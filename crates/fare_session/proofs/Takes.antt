@@ -1,6 +1,6 @@
 -- What an owner did, item by item.
 use Rattle.std.proofs.Common.{◌≡◌, ◌≢◌, ℕ, zero, suc, ◌+◌, ◌≤◌, Some, None, Bool, true, false, List, [], ◌∷◌, ◌++◌, length, take, refl, sym, ap, ◌∙◌, subst, inl, inr, arith, append_assoc}
-use Rattle.std.specs.Prelude.{◌⊎◌, ◌==◌, if◌then◌else◌, min, is_none, Option, Result, Ok, Err}
+use Rattle.std.specs.Prelude.{◌⊎◌, ◌==◌, if◌then◌else◌, min, is_none, Option, Result, Ok, Err, IsErrAnd}
 use Rattle.std.proofs.lemmas.List.{append-nil}
 use Rattle.std.proofs.lemmas.Option.{same_Some}
 use Rattle.fare_record.specs.Items.{tap_of, statement_of}
@@ -54,6 +54,11 @@ failed_owners fault.Store s e = subst (λ z. IsOwners (Some z)) (sym e) tt
 pub not_refused : (f : Fault) (s : SessionFault) → s ≡ session_fault f → s ≡ Refused → ⊥
 not_refused fault.Memory s e r = let x : Memory ≡ Refused = sym e ∙ r in cc
 not_refused fault.Store s e r = let x : Store ≡ Refused = sym e ∙ r in cc
+
+-- a fault that is handed on
+pub handed : {A E : Type 0} (P : Result A E → Type 0) (r : Result A E) (f : E) → IsErrAnd r (λ e. e ≡ f) → P (Err f) → P r
+handed P (Ok u) f is done = absurd is
+handed P (Err e) f is done = subst (λ z. P (Err z)) (sym is) done
 
 -- A STATEMENT THAT IS HELD
 held_by_judge : (mine : Bool) (held : Option ℕ) (count : ℕ) (retired : Bool) → statement_judged mine held count retired ≡ Err Repeated → is_none held ≡ false

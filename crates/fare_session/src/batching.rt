@@ -1,11 +1,12 @@
 //! A batch: what the owner's thread finds in its queue at once. The taps in it that stand together go to the ledger in
 //! one commit.
-ghost use Rattle.std.specs.Prelude.{◌≡◌, ◌<◌, ◌≤◌, ◌++◌, ◌∷◌, [], length, take, IfOk, IfSome, IfNone};
+ghost use Rattle.std.specs.Prelude.{◌≡◌, ◌<◌, ◌≤◌, ◌++◌, ◌∷◌, [], length, take, IfOk, IfErr, IfSome, IfNone};
+ghost use Rattle.std.specs.Result.{result_err};
 ghost use Rattle.fare_lane_queue.specs.Passes.{taken_list, IsOwnerOf, IsEnded};
 ghost use Rattle.fare_session.specs.Batching.{IsBatch, CameWith, CameFrom, HasTakenMore, AreTaps, TakesFirst, IsBatchTaken};
 ghost use Rattle.fare_session.specs.Taking.{IsTaking};
 
-use crate::fault::{SessionFault, failed};
+use crate::fault::SessionFault;
 use crate::gate::{Gate, Point};
 use crate::pace::Pace;
 use crate::taking::keep_item;
@@ -108,13 +109,9 @@ fn keep_lead<L: Ledger>(
     if count < 2 {
         return Ok(0);
     }
-    match ledger.take_all(&rows[..count]) {
-        Ok(kept) => {
-            *taken = taken.saturating_add(kept as u64);
-            Ok(kept)
-        }
-        Err(fault) => Err(failed(fault)),
-    }
+    let kept = ledger.take_all(&rows[..count])?;
+    *taken = taken.saturating_add(kept as u64);
+    Ok(kept)
 }
 
 // The first taps go to the ledger in one commit, or else the first item alone. Answers how many it took.
@@ -133,10 +130,8 @@ fn keep_some<L: Ledger>(
     if kept > 0 {
         return Ok(kept);
     }
-    match keep_item(ledger, &items[0], taken) {
-        None => Ok(1),
-        Some(fault) => Err(fault),
-    }
+    keep_item(ledger, &items[0], taken)?;
+    Ok(1)
 }
 
 // Items go to the ledger, in order.
@@ -145,10 +140,10 @@ fn keep_all<L: Ledger>(
     items: &[Item],
     rows: &mut [Record],
     taken: &mut u64,
-) -> Option<Halt>
+) -> Result<(), Halt>
     requires room { length items.now ≤ length rows.old }
-    ensures taken { IsTaking (L.standing ledger.old) (L.standing ledger.new) items.now result taken.old taken.new }
-    ensures few { IfSome result (λ halt. halt.behind < length items.now) }
+    ensures taken { IsTaking (L.standing ledger.old) (L.standing ledger.new) items.now (result_err result) taken.old taken.new }
+    ensures few { IfErr result (λ halt. halt.behind < length items.now) }
 {
     let mut place = 0;
     while place < items.len() {
@@ -156,24 +151,24 @@ fn keep_all<L: Ledger>(
             Ok(kept) => place += kept,
             Err(fault) => {
                 let behind = items.len() - place - 1;
-                return Some(Halt {
+                return Err(Halt {
                     fault,
                     behind: behind as u64,
                 });
             }
         }
     }
-    None
+    Ok(())
 }
 
 // An item goes to the ledger alone.
-fn keep_one<L: Ledger>(ledger: &mut L, item: &Item, taken: &mut u64) -> Option<Halt>
-    ensures taken { IsTaking (L.standing ledger.old) (L.standing ledger.new) (item.now ∷ []) result taken.old taken.new }
-    ensures alone { IfSome result (λ halt. halt.behind ≡ 0) }
+fn keep_one<L: Ledger>(ledger: &mut L, item: &Item, taken: &mut u64) -> Result<(), Halt>
+    ensures taken { IsTaking (L.standing ledger.old) (L.standing ledger.new) (item.now ∷ []) (result_err result) taken.old taken.new }
+    ensures alone { IfErr result (λ halt. halt.behind ≡ 0) }
 {
     match keep_item(ledger, item, taken) {
-        None => None,
-        Some(fault) => Some(Halt { fault, behind: 0 }),
+        Ok(()) => Ok(()),
+        Err(fault) => Err(Halt { fault, behind: 0 }),
     }
 }
 
@@ -186,12 +181,12 @@ pub(crate) fn keep_batch<L: Ledger, G: Gate, R: Wait>(
     ledger: &mut L,
     taken: &mut u64,
     pass: &mut OwnerPass,
-) -> Option<Halt>
+) -> Result<(), Halt>
     requires queue { IsOwnerOf line.now pass.old }
     requires batch { IsBatch batch }
     ensures queue { IsOwnerOf line.now pass.new }
-    ensures taken { IsBatchTaken (L.standing ledger.old) (L.standing ledger.new) item.now (CameWith pass.old pass.new) result taken.old taken.new }
-    ensures few { IfSome result (λ halt. halt.behind < batch) }
+    ensures taken { IsBatchTaken (L.standing ledger.old) (L.standing ledger.new) item.now (CameWith pass.old pass.new) (result_err result) taken.old taken.new }
+    ensures few { IfErr result (λ halt. halt.behind < batch) }
 {
     let Some(row) = item.tap() else {
         return keep_one(ledger, item, taken);
@@ -235,10 +230,10 @@ pub(crate) fn keep_batch_left<L: Ledger, R: Wait>(
     item: &Item,
     ledger: &mut L,
     taken: &mut u64,
-) -> Option<Halt>
+) -> Result<(), Halt>
     requires { IsEnded ended.old }
     ensures ended { IsEnded ended.new }
-    ensures taken { IsBatchTaken (L.standing ledger.old) (L.standing ledger.new) item.now (CameFrom ended.old ended.new) result taken.old taken.new }
+    ensures taken { IsBatchTaken (L.standing ledger.old) (L.standing ledger.new) item.now (CameFrom ended.old ended.new) (result_err result) taken.old taken.new }
 {
     let Some(row) = item.tap() else {
         return keep_one(ledger, item, taken);

@@ -1,6 +1,3 @@
-ghost use Rattle.std.specs.Prelude.{◌≡◌};
-ghost use Rattle.fare_session.specs.Stores.{session_fault};
-
 use fare_record::StationId;
 use fare_store::Fault;
 use thiserror::Error;
@@ -26,11 +23,16 @@ pub enum SessionFault {
 }
 
 // The fault of a session in which a call of a store answers this one.
-pub(crate) fn failed(fault: Fault) -> SessionFault
-    ensures { result ≡ session_fault fault }
-{
-    match fault {
-        Fault::Memory => SessionFault::Memory,
-        Fault::Store => SessionFault::Store,
+impl From<Fault> for SessionFault {
+    ghost use Rattle.std.specs.Prelude.{◌≡◌};
+    ghost use Rattle.fare_session.specs.Stores.{session_fault};
+
+    ghost from_gives = { λ fault e. e ≡ session_fault fault };
+
+    fn from(fault: Fault) -> SessionFault {
+        match fault {
+            Fault::Memory => SessionFault::Memory,
+            Fault::Store => SessionFault::Store,
+        }
     }
 }

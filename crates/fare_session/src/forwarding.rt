@@ -1,11 +1,12 @@
 //! The forwarder's thread: it reads the outbox, and puts what comes next of each device into the lane queue.
 ghost use Rattle.std.specs.Prelude.{◌≡◌, ◌+◌, ◌++◌, ◌∷◌, [], length, true, false};
+ghost use Rattle.std.specs.Result.{result_err};
 ghost use Rattle.fare_lane_queue.specs.Lane.{IsNext, base_of, lanes_of};
 ghost use Rattle.fare_lane_queue.specs.Passes.{sent_list, forward_bases, IsForwardOf};
 ghost use Rattle.fare_session.specs.Forwarding.{is_due, lane_after, IsNextDue, AreApart, Forwarded, IsDeviceForwarded, HasCursor, HasCursors};
 
 use crate::ending::Ending;
-use crate::fault::{SessionFault, failed};
+use crate::fault::SessionFault;
 use crate::gate::{Gate, Point};
 use crate::pace::Pace;
 use crate::turns::Turns;
@@ -84,7 +85,7 @@ pub(crate) fn next_due<O: Outbox>(
             }
         }
         Ok(None) => Ok(None),
-        Err(Refused::Failed(fault)) => Err(failed(fault)),
+        Err(Refused::Failed(fault)) => Err(SessionFault::from(fault)),
         Err(Refused::Because(_)) => unreachable!(),
     }
 }
@@ -129,22 +130,20 @@ fn forward_devices<O: Outbox, G: Gate, R: Wait + Clock>(
     forwarder: &mut Forwarder,
     outbox: &mut O,
     pass: &mut ForwardPass,
-) -> Option<SessionFault>
+) -> Result<(), SessionFault>
     requires queue { IsForwardOf line.now pass.old }
     requires fresh { (sent_list pass.old ≡ []) × (forward_bases pass.old ≡ bases.now) }
     requires apart { AreApart bases.now }
     requires cursors { HasCursors bases.now forwarder.old }
     ensures queue { IsForwardOf line.now pass.new }
-    ensures forwarded { Forwarded bases.now (O.standing outbox.old) (O.standing outbox.new) forwarder.old forwarder.new (sent_list pass.new) result }
+    ensures forwarded { Forwarded bases.now (O.standing outbox.old) (O.standing outbox.new) forwarder.old forwarder.new (sent_list pass.new) (result_err result) }
 {
     for base in bases {
-        match forward_device(pace, line, ending, *base, forwarder, outbox, pass) {
-            Ok(true) => {}
-            Ok(false) => return None,
-            Err(fault) => return Some(fault),
+        if !forward_device(pace, line, ending, *base, forwarder, outbox, pass)? {
+            return Ok(());
         }
     }
-    None
+    Ok(())
 }
 
 /// The forwarder's thread. It ends at a fault, where nothing comes next any more, where its turns are used up, and
@@ -157,15 +156,15 @@ pub(crate) fn forward_all<O: Outbox, G: Gate, R: Wait + Clock>(
     forwarder: &mut Forwarder,
     outbox: &mut O,
     pass: &mut ForwardPass,
-) -> Option<SessionFault>
+) -> Result<(), SessionFault>
     requires queue { IsForwardOf line.now pass.old }
     requires fresh { (sent_list pass.old ≡ []) × (forward_bases pass.old ≡ bases.now) }
     requires apart { AreApart bases.now }
     requires cursors { HasCursors bases.now forwarder.old }
     ensures queue { IsForwardOf line.now pass.new }
-    ensures forwarded { Forwarded bases.now (O.standing outbox.old) (O.standing outbox.new) forwarder.old forwarder.new (sent_list pass.new) result }
+    ensures forwarded { Forwarded bases.now (O.standing outbox.old) (O.standing outbox.new) forwarder.old forwarder.new (sent_list pass.new) (result_err result) }
 {
-    let fault = forward_devices(pace, line, ending, bases, forwarder, outbox, pass);
+    let done = forward_devices(pace, line, ending, bases, forwarder, outbox, pass);
     ending.forwarder_ends();
-    fault
+    done
 }

@@ -1,5 +1,6 @@
 //! The session.
-ghost use Rattle.std.specs.Prelude.{◌≡◌, ◌+◌, ◌-◌, ◌<◌, ◌≤◌, [], None, Some, IsSome, IfSome, IfOk};
+ghost use Rattle.std.specs.Prelude.{◌≡◌, ◌+◌, ◌-◌, ◌<◌, ◌≤◌, [], None, Some, IsSome, IfOk, IfErr};
+ghost use Rattle.std.specs.Result.{result_err};
 ghost use Rattle.fare_scheme.specs.Words.{position_of_owner};
 ghost use Rattle.fare_lane_queue.specs.Passes.{capacity_of, sent_list, taken_list, forward_bases, IsForwardOf, IsOwnerOf};
 ghost use Rattle.fare_store.specs.Standing.{IsSound};
@@ -13,7 +14,7 @@ ghost use Rattle.fare_session.specs.Served.{IsServed, report_of};
 use crate::asking::{Asked, ask};
 use crate::batching::{Halt, batch_of};
 use crate::ending::Ending;
-use crate::fault::{SessionFault, failed};
+use crate::fault::SessionFault;
 use crate::forwarding::forward_all;
 use crate::gate::Gate;
 use crate::pace::Pace;
@@ -54,7 +55,7 @@ fn run_threads<
     ledger: &mut L,
     taken: &mut u64,
     passage: &mut Passage,
-) -> (Option<SessionFault>, Option<Halt>)
+) -> (Result<(), SessionFault>, Result<(), Halt>)
     requires batch { IsBatch passage.old.batch }
     requires forward { IsForwardOf passage.old.queue passage.old.forward × (sent_list passage.old.forward ≡ []) × (forward_bases passage.old.forward ≡ bases.now) }
     requires owner { IsOwnerOf passage.old.queue passage.old.mine × (taken_list passage.old.mine ≡ []) }
@@ -62,9 +63,9 @@ fn run_threads<
     requires cursors { HasCursors bases.now forwarder.old }
     ensures same { passage.new.queue ≡ passage.old.queue }
     ensures queue { IsForwardOf passage.old.queue passage.new.forward × IsOwnerOf passage.old.queue passage.new.mine }
-    ensures forwarded { Forwarded bases.now (O.standing outbox.old) (O.standing outbox.new) forwarder.old forwarder.new (sent_list passage.new.forward) result.0 }
-    ensures taken { IsTaking (L.standing ledger.old) (L.standing ledger.new) (taken_list passage.new.mine) result.1 taken.old taken.new }
-    ensures few { IfSome result.1 (λ halt. halt.behind < passage.old.batch) }
+    ensures forwarded { Forwarded bases.now (O.standing outbox.old) (O.standing outbox.new) forwarder.old forwarder.new (sent_list passage.new.forward) (result_err result.0) }
+    ensures taken { IsTaking (L.standing ledger.old) (L.standing ledger.new) (taken_list passage.new.mine) (result_err result.1) taken.old taken.new }
+    ensures few { IfErr result.1 (λ halt. halt.behind < passage.old.batch) }
 {
     let ending = Ending::new();
     let ending = &ending;
@@ -77,21 +78,21 @@ fn run_threads<
     let (line, batch) = (&*queue, *batch);
     join_mut(
         pace.rt,
-        &mut || -> Option<SessionFault>
+        &mut || -> Result<(), SessionFault>
             requires { IsForwardOf line.now forward.now × (sent_list forward.now ≡ []) × (forward_bases forward.now ≡ bases.now) × AreApart bases.now × HasCursors bases.now forwarder.now }
             ensures queue { IsForwardOf line.entry.now forward.exit.now }
-            ensures forwarded { Forwarded bases.entry.now (O.standing outbox.entry.now) (O.standing outbox.exit.now) forwarder.entry.now forwarder.exit.now (sent_list forward.exit.now) result }
+            ensures forwarded { Forwarded bases.entry.now (O.standing outbox.entry.now) (O.standing outbox.exit.now) forwarder.entry.now forwarder.exit.now (sent_list forward.exit.now) (result_err result) }
         { forward_all(pace, line, ending, bases, forwarder, outbox, forward) },
-        &mut || -> Option<Halt>
+        &mut || -> Result<(), Halt>
             requires { IsOwnerOf line.now mine.now × (taken_list mine.now ≡ []) × IsBatch batch }
             ensures queue { IsOwnerOf line.entry.now mine.exit.now }
-            ensures taken { IsTaking (L.standing ledger.entry.now) (L.standing ledger.exit.now) (taken_list mine.exit.now) result taken.entry.now taken.exit.now }
-            ensures few { IfSome result (λ halt. halt.behind < batch) }
+            ensures taken { IsTaking (L.standing ledger.entry.now) (L.standing ledger.exit.now) (taken_list mine.exit.now) (result_err result) taken.entry.now taken.exit.now }
+            ensures few { IfErr result (λ halt. halt.behind < batch) }
         { take_all(pace, line, ending, batch, ledger, taken, mine) },
     )
 }
 
-// The threads over a new queue, and then what is left in it. Answers the forwarder's fault, the owner's, and how
+// The threads over a new queue, and then what is left in it. Answers how the forwarder ended, how the owner, and how
 // many items are in the owner's hand and in the queue.
 fn run_lanes<O: Outbox + Send, L: Ledger + Send, G: Gate + Sync, R: Threads + Wait + Clock + Sync>(
     pace: &Pace<G, R>,
@@ -101,14 +102,14 @@ fn run_lanes<O: Outbox + Send, L: Ledger + Send, G: Gate + Sync, R: Threads + Wa
     ledger: &mut L,
     taken: &mut u64,
     mut passage: Passage,
-) -> (Option<SessionFault>, Option<SessionFault>, u64)
+) -> (Result<(), SessionFault>, Result<(), SessionFault>, u64)
     requires forward { IsForwardOf passage.queue passage.forward × (sent_list passage.forward ≡ []) × (forward_bases passage.forward ≡ bases.now) }
     requires owner { IsOwnerOf passage.queue passage.mine × (taken_list passage.mine ≡ []) }
     requires apart { AreApart bases.now }
     requires cursors { HasCursors bases.now forwarder.old }
     requires batch { IsBatch passage.batch }
     requires room { capacity_of passage.queue + (passage.batch - 1) ≤ 1024 }
-    ensures { IsThreaded bases.now (capacity_of passage.queue + (passage.batch - 1)) (O.standing outbox.old) (O.standing outbox.new) (L.standing ledger.old) (L.standing ledger.new) forwarder.old forwarder.new result.0 result.1 taken.old taken.new result.2 }
+    ensures { IsThreaded bases.now (capacity_of passage.queue + (passage.batch - 1)) (O.standing outbox.old) (O.standing outbox.new) (L.standing ledger.old) (L.standing ledger.new) forwarder.old forwarder.new (result_err result.0) (result_err result.1) taken.old taken.new result.2 }
 {
     let (put, took) = run_threads(pace, bases, forwarder, outbox, ledger, taken, &mut passage);
     let Passage {
@@ -118,12 +119,12 @@ fn run_lanes<O: Outbox + Send, L: Ledger + Send, G: Gate + Sync, R: Threads + Wa
         batch: _,
     } = passage;
     let mut ended = queue.finish(pace.rt, forward, mine);
-    if let Some(halt) = took {
-        return (put, Some(halt.fault), ended.left + halt.behind + 1);
+    if let Err(halt) = took {
+        return (put, Err(halt.fault), ended.left + halt.behind + 1);
     }
     match take_left(pace.rt, &mut ended, ledger, taken) {
-        Some(halt) => (put, Some(halt.fault), ended.left + halt.behind + 1),
-        None => (put, None, 0),
+        Err(halt) => (put, Err(halt.fault), ended.left + halt.behind + 1),
+        Ok(()) => (put, Ok(()), 0),
     }
 }
 
@@ -154,15 +155,15 @@ fn serve_lanes<
     ensures { IsSession bases.now lanes.old (capacity_of passage.queue + (passage.batch - 1)) (O.standing outbox.old) (O.standing outbox.new) (L.standing ledger.old) (L.standing ledger.new) forwarder.old result }
 {
     let mut taken = 0;
-    let (put, fault, left) = run_lanes(pace, bases, forwarder, outbox, ledger, &mut taken, passage);
-    if let Some(fault) = fault {
+    let (put, took, left) = run_lanes(pace, bases, forwarder, outbox, ledger, &mut taken, passage);
+    if let Err(fault) = took {
         return OwnerReport {
             taken,
             left,
             fault: Some(fault),
         };
     }
-    if let Some(fault) = put {
+    if let Err(fault) = put {
         return OwnerReport {
             taken,
             left: 0,
@@ -170,7 +171,7 @@ fn serve_lanes<
         };
     }
     let mut hand = 0;
-    if let Some(fault) = take_rest(
+    if let Err(fault) = take_rest(
         pace.rt, bases, forwarder, outbox, ledger, &mut taken, &mut hand,
     ) {
         return OwnerReport {
@@ -179,11 +180,11 @@ fn serve_lanes<
             fault: Some(fault),
         };
     }
-    let fault = prune_all(owner, lanes, outbox, ledger);
+    let pruned = prune_all(owner, lanes, outbox, ledger);
     OwnerReport {
         taken,
         left: 0,
-        fault,
+        fault: pruned.err(),
     }
 }
 
@@ -255,11 +256,11 @@ pub fn serve_owner<
         bases: Vec::new(alloc),
     };
     if let Err(fault) = ask(scheme, ledger, &mut asked) {
-        return not_begun(failed(fault));
+        return not_begun(SessionFault::from(fault));
     }
     let mut working = Vec::new(alloc);
     if let Err(fault) = sift(ledger, &asked.bases, &mut working) {
-        return not_begun(failed(fault));
+        return not_begun(SessionFault::from(fault));
     }
     let Ok(mut forwarder) = Forwarder::start(alloc, scheme, owner, &asked.standings) else {
         return not_begun(SessionFault::Memory);

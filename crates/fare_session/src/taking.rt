@@ -1,5 +1,6 @@
 //! The owner's thread: it takes from the lane queue, and alone writes the ledger.
-ghost use Rattle.std.specs.Prelude.{◌≡◌, ◌<◌, [], IfSome};
+ghost use Rattle.std.specs.Prelude.{◌≡◌, ◌<◌, [], IfErr};
+ghost use Rattle.std.specs.Result.{result_err};
 ghost use Rattle.fare_record.specs.Limits.{IsDay};
 ghost use Rattle.fare_record.specs.declared.item.Item.TheVariants.{Tap, Stated};
 ghost use Rattle.fare_lane_queue.specs.Passes.{taken_list, IsOwnerOf, left_list, IsEnded};
@@ -9,7 +10,7 @@ ghost use Rattle.fare_session.specs.Taking.{IsKept, IsTaken, IsTaking, IsLeftTak
 
 use crate::batching::{Halt, keep_batch, keep_batch_left, take_one};
 use crate::ending::Ending;
-use crate::fault::{SessionFault, failed};
+use crate::fault::SessionFault;
 use crate::gate::{Gate, Point};
 use crate::pace::Pace;
 use crate::turns::Turns;
@@ -26,7 +27,7 @@ fn keep_tap<L: Ledger>(ledger: &mut L, row: &Record) -> Result<bool, SessionFaul
 {
     match ledger.take(row) {
         Ok(()) => Ok(true),
-        Err(Refused::Failed(fault)) => Err(failed(fault)),
+        Err(Refused::Failed(fault)) => Err(SessionFault::from(fault)),
         Err(Refused::Because(_)) => Err(SessionFault::Refused),
     }
 }
@@ -39,7 +40,7 @@ fn keep_statement<L: Ledger>(ledger: &mut L, statement: &Statement) -> Result<bo
     prove!(statement.day().get() <= 100_000);
     match ledger.state(statement) {
         Ok(()) => Ok(true),
-        Err(Refused::Failed(fault)) => Err(failed(fault)),
+        Err(Refused::Failed(fault)) => Err(SessionFault::from(fault)),
         Err(Refused::Because(StatementFault::Repeated)) => Ok(false),
         Err(Refused::Because(_)) => Err(SessionFault::Refused),
     }
@@ -61,18 +62,13 @@ pub(crate) fn keep_item<L: Ledger>(
     ledger: &mut L,
     item: &Item,
     taken: &mut u64,
-) -> Option<SessionFault>
-    ensures { IsTaken (L.standing ledger.old) (L.standing ledger.new) (done_by item.now result) (held_by item.now result) [] result taken.old taken.new }
+) -> Result<(), SessionFault>
+    ensures { IsTaken (L.standing ledger.old) (L.standing ledger.new) (done_by item.now (result_err result)) (held_by item.now (result_err result)) [] (result_err result) taken.old taken.new }
 {
-    let count = *taken;
-    match keep(ledger, item) {
-        Ok(true) => {
-            *taken = count.saturating_add(1);
-            None
-        }
-        Ok(false) => None,
-        Err(fault) => Some(fault),
+    if keep(ledger, item)? {
+        *taken = taken.saturating_add(1);
     }
+    Ok(())
 }
 
 /// The owner's thread, which takes at most so many items at once. It ends at a fault, where its turns are used up, and where the queue is empty once the
@@ -85,12 +81,12 @@ pub(crate) fn take_all<L: Ledger, G: Gate, R: Wait + Clock>(
     ledger: &mut L,
     taken: &mut u64,
     pass: &mut OwnerPass,
-) -> Option<Halt>
+) -> Result<(), Halt>
     requires queue { IsOwnerOf line.now pass.old × (taken_list pass.old ≡ []) }
     requires batch { IsBatch batch }
     ensures queue { IsOwnerOf line.now pass.new }
-    ensures taken { IsTaking (L.standing ledger.old) (L.standing ledger.new) (taken_list pass.new) result taken.old taken.new }
-    ensures few { IfSome result (λ halt. halt.behind < batch) }
+    ensures taken { IsTaking (L.standing ledger.old) (L.standing ledger.new) (taken_list pass.new) (result_err result) taken.old taken.new }
+    ensures few { IfErr result (λ halt. halt.behind < batch) }
 {
     let mut turns = Turns::new(pace.turns);
     for _ in pace.rt.forever() {
@@ -98,9 +94,9 @@ pub(crate) fn take_all<L: Ledger, G: Gate, R: Wait + Clock>(
         match take_one(pace, line, pass) {
             Some(item) => {
                 turns.found();
-                if let Some(halt) = keep_batch(pace, line, batch, &item, ledger, taken, pass) {
+                if let Err(halt) = keep_batch(pace, line, batch, &item, ledger, taken, pass) {
                     ending.owner_ends();
-                    return Some(halt);
+                    return Err(halt);
                 }
                 pace.gate.pass(Point::OwnerCommitted);
             }
@@ -113,7 +109,7 @@ pub(crate) fn take_all<L: Ledger, G: Gate, R: Wait + Clock>(
         }
     }
     ending.owner_ends();
-    None
+    Ok(())
 }
 
 /// Takes what the threads left in the queue.
@@ -122,18 +118,16 @@ pub(crate) fn take_left<L: Ledger, R: Wait>(
     ended: &mut Ended,
     ledger: &mut L,
     taken: &mut u64,
-) -> Option<Halt>
+) -> Result<(), Halt>
     requires { IsEnded ended.old }
     ensures ended { IsEnded ended.new }
-    ensures taken { IsLeftTaken (L.standing ledger.old) (L.standing ledger.new) (left_list ended.old) (left_list ended.new) result taken.old taken.new }
+    ensures taken { IsLeftTaken (L.standing ledger.old) (L.standing ledger.new) (left_list ended.old) (left_list ended.new) (result_err result) taken.old taken.new }
 {
     for _ in rt.forever() {
         let Some(item) = ended.next(rt) else {
-            return None;
+            return Ok(());
         };
-        if let Some(halt) = keep_batch_left(rt, ended, &item, ledger, taken) {
-            return Some(halt);
-        }
+        keep_batch_left(rt, ended, &item, ledger, taken)?;
     }
     unreachable!()
 }

@@ -1,8 +1,11 @@
 use Rattle.std.proofs.Common.{◌≡◌, ◌≢◌, ◌++◌, [], ℕ, refl, None, Some, sym, ap, ◌∙◌, arith}
 use Rattle.std.specs.Prelude.{slice_get}
+use Rattle.std.specs.Result.{result_err}
 use Rattle.std.proofs.lemmas.Option.{same_Some}
 use Rattle.fare_scheme.proofs.Slices.{item_at}
 use Rattle.fare_session.proofs.Forwards.{based_at, apart_at}
+use Rattle.fare_session.specs.Resting.{IsRest}
+use Rattle.fare_session.proofs.Takes.{handed}
 use Rattle.fare_session.proofs.Devices.{knows}
 use Rattle.fare_session.proofs.Rests.{rest_none, rest_stops, rest_held, rest_goes, rest_ended}
 use Rattle.fare_session.proofs.rest.take_rest.Goals as goal
@@ -22,15 +25,21 @@ take_device-requires-clause-cursors g c =
     let at : slice_get bases k ≡ Some p = item_at bases k p c.loop-base-test.true c.base-item.is in
     knows bases (p.0, 0) c.loop-base.forwarder (based_at bases k p c.requires.apart at) c.loop-base.invariant.now.forwarded.cursors
 
-pub returns-in-Some : goal.returns-in-Some
-returns-in-Some g c =
+pub returns-in_err-take_device : goal.returns-in_err-take_device
+returns-in_err-take_device g c =
     let i = c.loop-base.invariant in
     let bases = c.args.bases.now in
     let k = c.loop-base.base-index in
     let p : ℕ × ℕ = c.base-item.result in
     let at : slice_get bases k ≡ Some p = item_at bases k p c.loop-base-test.true c.base-item.is in
-    let some : Some c.in-Some.fault ≢ None = λ e. absurd (cc) in
-    rest_stops bases (g.O.Outbox.standing c.args.outbox.now) (g.O.Outbox.standing c.loop-base.outbox) (g.O.Outbox.standing c.take_device.new.outbox) (g.L.Ledger.standing c.args.ledger.now) (g.L.Ledger.standing c.loop-base.ledger) (g.L.Ledger.standing c.take_device.new.ledger) c.args.forwarder.now c.loop-base.forwarder c.take_device.new.forwarder c.args.taken.now c.loop-base.taken c.take_device.new.taken k c.take_device.new.hand i.done p.0 (Some c.in-Some.fault) (based_at bases k p c.requires.apart at) i.now c.in-Some.ensures some
+    let xo = g.O.Outbox.standing c.args.outbox.now in
+    let xn = g.O.Outbox.standing c.take_device.new.outbox in
+    let lo = g.L.Ledger.standing c.args.ledger.now in
+    let ln = g.L.Ledger.standing c.take_device.new.ledger in
+    let f = c.in_err-take_device.field-0.0 in
+    let some : Some f ≢ None = λ e. absurd (cc) in
+    handed (λ z. IsRest bases xo xn lo ln c.args.forwarder.now c.take_device.new.forwarder (result_err z) c.args.taken.now c.take_device.new.taken c.take_device.new.hand) c.from_residual.result f c.from_residual.ensures.1
+    (rest_stops bases xo (g.O.Outbox.standing c.loop-base.outbox) xn lo (g.L.Ledger.standing c.loop-base.ledger) ln c.args.forwarder.now c.loop-base.forwarder c.take_device.new.forwarder c.args.taken.now c.loop-base.taken c.take_device.new.taken k c.take_device.new.hand i.done p.0 (Some f) (based_at bases k p c.requires.apart at) i.now c.in_err-take_device.ensures some)
 
 pub loop-base-preserved : goal.loop-base-preserved
 loop-base-preserved g c =
@@ -46,7 +55,7 @@ loop-base-preserved g c =
     let lm = g.L.Ledger.standing c.loop-base.ledger in
     let ln = g.L.Ledger.standing c.take_device.new.ledger in
     let f = c.args.forwarder.now in
-    let of = c.in_default.ensures in
+    let of = c.in_ok-take_device.ensures in
     record {
       done = i.done ++ of.rest.done;
       hand = rest_held bases xo xm xn lo lm ln f c.loop-base.forwarder c.take_device.new.forwarder c.args.taken.now c.loop-base.taken c.take_device.new.taken k c.take_device.new.hand i.done p.0 None (based_at bases k p c.requires.apart at) i.now of refl;

@@ -24,11 +24,11 @@ returns-in-Err g c =
     let lo = g.L.Ledger.standing c.args.ledger.now in
     let ln = g.L.Ledger.standing c.ask.new.ledger in
     let f = c.in-Err.fault in
-    let s = c.failed.result in
+    let s = c.from.result in
     let asked : IsAsked sc lo ln c.ask.new.asked.standings.items c.ask.new.asked.bases.items (Err f) = c.in-Err.ensures in
     subst (λ (z : OwnerReport). IsServed sc c.args.owner x x lo ln z) (sym c.not_begun.ensures)
     (served_none sc c.args.owner x lo ln asked.faulted s asked.stays
-    (λ e. asked_store sc lo ln c.ask.new.asked.standings.items c.ask.new.asked.bases.items f asked (store_failed f s c.failed.ensures e)) (λ e. not_refused f s c.failed.ensures e) (failed_owners f s c.failed.ensures))
+    (λ e. asked_store sc lo ln c.ask.new.asked.standings.items c.ask.new.asked.bases.items f asked (store_failed f s c.from.ensures e)) (λ e. not_refused f s c.from.ensures e) (failed_owners f s c.from.ensures))
 
 pub sift-requires-clause-apart : goal.sift-requires-clause-apart
 sift-requires-clause-apart g c =
@@ -53,11 +53,11 @@ returns-in-Err-sift g c =
     let asked : IsAsked sc lo lm standings bases (Ok c.in_default-ask.field-0) = c.in_default-ask.ensures in
     let told : Stays lo lm None = subst (λ (z : Option Fault). Stays lo lm z) asked.none asked.stays in
     let f = c.in-Err-sift.fault in
-    let s = c.failed-in-Err-sift.result in
+    let s = c.from-in-Err-sift.result in
     let sifted : AreSifted lm lz bases working (Err f) = subst (λ (b : List (ℕ × ℕ)). AreSifted lm lz b working (Err f)) c.deref.ensures.value c.in-Err-sift.ensures in
     subst (λ (z : OwnerReport). IsServed sc c.args.owner x x lo lz z) (sym c.not_begun-in-Err-sift.ensures)
     (served_none sc c.args.owner x lo lz sifted.faulted s (stays_then lo lm lz sifted.faulted told sifted.stays)
-    (λ e. sifted_store lm lz bases working f sifted (store_failed f s c.failed-in-Err-sift.ensures e)) (λ e. not_refused f s c.failed-in-Err-sift.ensures e) (failed_owners f s c.failed-in-Err-sift.ensures))
+    (λ e. sifted_store lm lz bases working f sifted (store_failed f s c.from-in-Err-sift.ensures e)) (λ e. not_refused f s c.from-in-Err-sift.ensures e) (failed_owners f s c.from-in-Err-sift.ensures))
 
 pub returns-in_default-start : goal.returns-in_default-start
 returns-in_default-start g c =
