@@ -1,4 +1,5 @@
 ghost use Rattle.fare_writer.specs.declared.fault.WriterFault.{WriterFault};
+ghost use Rattle.std.specs.Result.{result_err};
 ghost use Rattle.std.specs.Prelude.{◌≡◌, ◌+◌, ◌≤◌, ◌++◌, [], min, length, map, IfOk, IsErr, Option, vec_len, vec_capacity};
 ghost use Rattle.fare_collect.specs.Collected.{as_session, fault_at, faults_at, fault_of_halt, writer_faults, station_faults, HaveDevices, IsCollected};
 ghost use Rattle.fare_store.specs.Standing.{IsSound};
@@ -19,7 +20,7 @@ use fare_scheme::Scheme;
 use fare_session::{Gate, Pace, SessionFault};
 use fare_source::Source;
 use fare_store::{Fault, Outbox};
-use fare_writer::{Floor, Halt, Tally, WriterFault, batch_of, writer_fault};
+use fare_writer::{Floor, Halt, Tally, WriterFault, batch_of};
 use std::alloc::{AllocError, Global};
 use std::sync::Wait;
 use std::thread::Threads;
@@ -154,11 +155,11 @@ fn run<S: Source + Send, O: Outbox + Send, G: Gate + Sync, R: Threads + Wait + C
     tally: &mut Tally,
     outbox: &mut O,
     stations: &mut [Station<S>],
-) -> (u64, Option<Halt>)
+) -> (u64, Result<(), Halt>)
     requires open { IsOpen scheme.now stations.old queues.inbox queues.passes.items queues.writer queues.lines.lines.items queues.lines.tellers.items queues.lines.hears.items }
     requires order { AreStations scheme.now stations.old }
     requires unnoted { tally.old.days.keys ≡ [] }
-    ensures { HasSession scheme.now S.talk (O.standing outbox.old) (O.standing outbox.new) tally.old tally.new stations.old stations.new result.0 result.1 }
+    ensures { HasSession scheme.now S.talk (O.standing outbox.old) (O.standing outbox.new) tally.old tally.new stations.old stations.new result.0 (result_err result.1) }
 {
     let (inbox, passes, writer, lines) = queues.into_parts();
     let (lines, mut tellers, mut hears) = lines.into_parts();
@@ -168,7 +169,7 @@ fn run<S: Source + Send, O: Outbox + Send, G: Gate + Sync, R: Threads + Wait + C
         passes,
         writer,
     };
-    let (halt, ended) = gather(
+    let (gathered, ended) = gather(
         &floor,
         intake,
         &lines,
@@ -181,19 +182,12 @@ fn run<S: Source + Send, O: Outbox + Send, G: Gate + Sync, R: Threads + Wait + C
     let left = ended.left;
     drop(ended);
     hand_all(pace.rt, lines, tellers, hears, stations);
-    if let Some(halt) = halt {
-        return (left.saturating_add(not_handled(&halt)), Some(halt));
+    if let Err(halt) = gathered {
+        return (left.saturating_add(not_handled(&halt)), Err(halt));
     }
     match answer_last(scheme, &tally.days, outbox, stations) {
-        Ok(()) => (left, None),
-        Err(fault) => (
-            left,
-            Some(Halt {
-                hand: None,
-                behind: 0,
-                fault: writer_fault(fault),
-            }),
-        ),
+        Ok(()) => (left, Ok(())),
+        Err(fault) => (left, Err(Halt::from(fault))),
     }
 }
 
@@ -218,12 +212,12 @@ fn of_station(fault: StationFault, station: StationId) -> SessionFault
 }
 
 // What ended the writer, if it halted.
-fn fault_in(halt: Option<Halt>) -> Option<WriterFault>
-    ensures { result ≡ fault_of_halt halt }
+fn fault_in(done: Result<(), Halt>) -> Result<(), WriterFault>
+    ensures { result_err result ≡ fault_of_halt (result_err done) }
 {
-    match halt {
-        Some(halt) => Some(halt.fault),
-        None => None,
+    match done {
+        Ok(()) => Ok(()),
+        Err(halt) => Err(halt.fault),
     }
 }
 
@@ -235,23 +229,23 @@ fn session<S: Source + Send, O: Outbox + Send, G: Gate + Sync, R: Threads + Wait
     tally: &mut Tally,
     outbox: &mut O,
     stations: &mut [Station<S>],
-) -> (u64, Option<WriterFault>)
+) -> (u64, Result<(), WriterFault>)
     requires order { AreStations scheme.now stations.old }
     requires devices { HaveDevices scheme.now stations.old }
     requires none { tally.old.stored ≡ 0 }
     requires unnoted { tally.old.days.keys ≡ [] }
-    ensures { IsCollected scheme.now S.talk (O.standing outbox.old) (O.standing outbox.new) stations.old stations.new tally.new.stored result.0 result.1 }
+    ensures { IsCollected scheme.now S.talk (O.standing outbox.old) (O.standing outbox.new) stations.old stations.new tally.new.stored result.0 (result_err result.1) }
 {
     have_law(outbox);
     begin(stations);
     if let Err(fault) = resume(scheme, outbox, stations) {
-        return (0, Some(writer_fault(fault)));
+        return (0, Err(WriterFault::from(fault)));
     }
     match open(alloc, scheme, stations) {
-        Err(_) => (0, Some(WriterFault::Memory)),
+        Err(_) => (0, Err(WriterFault::Memory)),
         Ok(queues) => {
-            let (left, halt) = run(pace, scheme, queues, tally, outbox, stations);
-            (left, fault_in(halt))
+            let (left, done) = run(pace, scheme, queues, tally, outbox, stations);
+            (left, fault_in(done))
         }
     }
 }
@@ -306,8 +300,8 @@ pub fn collect<
 {
     let mut faults = Vec::with_capacity(alloc, stations.len() + 1)?;
     let mut tally = Tally::new(alloc);
-    let (left, fault) = session(pace, alloc, scheme, &mut tally, outbox, stations);
-    if let Some(fault) = fault {
+    let (left, done) = session(pace, alloc, scheme, &mut tally, outbox, stations);
+    if let Err(fault) = done {
         faults.push_reserved(of_writer(fault));
     }
     list_faults(stations, &mut faults);

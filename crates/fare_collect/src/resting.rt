@@ -1,5 +1,6 @@
 //! What the call itself stores after the joins.
 ghost use Rattle.std.specs.Prelude.{◌≡◌, ◌≤◌, length, take, None, true, false, IfSome};
+ghost use Rattle.std.specs.Result.{result_err};
 ghost use Rattle.fare_inbox_queue.specs.InboxPasses.{IsInboxEnded};
 ghost use Rattle.fare_writer.specs.Entries.{in_hand};
 ghost use Rattle.fare_collect.specs.Resting.{AreApart, HasKeptLeft, HasNext, HasPassed, HasReadOn, HasRested, HasRestedBatch, HaveRested, IsGoing};
@@ -26,16 +27,16 @@ pub(crate) fn keep_left<O: Outbox, R: Wait + Clock>(
     ended: &mut InboxEnded,
     tally: &mut Tally,
     outbox: &mut O,
-) -> Option<Halt>
+) -> Result<(), Halt>
     requires { IsInboxEnded ended.old }
     ensures ended { IsInboxEnded ended.new }
-    ensures kept { HasKeptLeft scheme.now (O.standing outbox.old) (O.standing outbox.new) ended.old ended.new tally.old tally.new result }
+    ensures kept { HasKeptLeft scheme.now (O.standing outbox.old) (O.standing outbox.new) ended.old ended.new tally.old tally.new (result_err result) }
 {
     for _ in rt.forever() {
-        let item = ended.next(rt)?;
-        if let Some(halt) = keep_batch(rt, scheme, ended, item, tally, outbox) {
-            return Some(halt);
-        }
+        let Some(item) = ended.next(rt) else {
+            return Ok(());
+        };
+        keep_batch(rt, scheme, ended, item, tally, outbox)?;
     }
     unreachable!()
 }
@@ -124,10 +125,10 @@ fn rest_batch<S: Source, O: Outbox, R: Wait + Clock>(
     tally: &mut Tally,
     outbox: &mut O,
     station: &mut Station<S>,
-) -> Option<Halt>
+) -> Result<(), Halt>
     requires going { IsGoing station.old.end }
     requires held { station.old.end.held ≡ None }
-    ensures rested { HasRestedBatch scheme.now S.talk id (O.standing outbox.old) (O.standing outbox.new) item tally.old tally.new station.old station.new result }
+    ensures rested { HasRestedBatch scheme.now S.talk id (O.standing outbox.old) (O.standing outbox.new) item tally.old tally.new station.old station.new (result_err result) }
     ensures held { station.new.end.held ≡ None }
 {
     let Arrived::Tap(_, row) = item else {
@@ -148,19 +149,19 @@ pub(crate) fn rest<S: Source, O: Outbox, R: Wait + Clock>(
     tally: &mut Tally,
     outbox: &mut O,
     station: &mut Station<S>,
-) -> Option<Halt>
+) -> Result<(), Halt>
     requires { (station.old.end.fault ≡ None) × (station.old.end.ended ≡ false) }
-    ensures { HasRested scheme.now S.talk id (O.standing outbox.old) (O.standing outbox.new) tally.old tally.new station.old station.new result }
+    ensures { HasRested scheme.now S.talk id (O.standing outbox.old) (O.standing outbox.new) tally.old tally.new station.old station.new (result_err result) }
 {
     station.source.finish();
     for _ in rt.forever() {
         if station.end.is_over() {
-            return None;
+            return Ok(());
         }
-        let item = next_item(rt, scheme, id, station)?;
-        if let Some(halt) = rest_batch(rt, scheme, id, item, tally, outbox, station) {
-            return Some(halt);
-        }
+        let Some(item) = next_item(rt, scheme, id, station) else {
+            return Ok(());
+        };
+        rest_batch(rt, scheme, id, item, tally, outbox, station)?;
     }
     unreachable!()
 }
@@ -172,18 +173,16 @@ pub(crate) fn rest_all<S: Source, O: Outbox, R: Wait + Clock>(
     tally: &mut Tally,
     outbox: &mut O,
     stations: &mut [Station<S>],
-) -> Option<Halt>
+) -> Result<(), Halt>
     requires { AreApart stations.old }
-    ensures { HaveRested scheme.now S.talk (O.standing outbox.old) (O.standing outbox.new) tally.old tally.new stations.old stations.new (length stations.old) result }
+    ensures { HaveRested scheme.now S.talk (O.standing outbox.old) (O.standing outbox.new) tally.old tally.new stations.old stations.new (length stations.old) (result_err result) }
 {
     for place in 0..stations.len() {
         if stations[place].end.fault.is_some() || stations[place].end.ended {
             continue;
         }
         let id = stations[place].collector.station();
-        if let Some(halt) = rest(rt, scheme, id, tally, outbox, &mut stations[place]) {
-            return Some(halt);
-        }
+        rest(rt, scheme, id, tally, outbox, &mut stations[place])?;
     }
-    None
+    Ok(())
 }

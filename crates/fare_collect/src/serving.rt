@@ -1,4 +1,5 @@
 //! The stations take their posts with their passes, all threads run, and what is left in the inbox is stored.
+ghost use Rattle.std.specs.Result.{result_err};
 ghost use Rattle.std.specs.Prelude.{◌≡◌, ◌<◌, ◌≤◌, [], ℕ, length, map, None};
 ghost use Rattle.fare_inbox_queue.specs.InboxPasses.{station_of, taken_list, stations_of, left_of, capacity_of, IsWriterOf, IsInboxEnded};
 ghost use Rattle.fare_collect.specs.Opening.{AreHears, AreNew};
@@ -41,7 +42,7 @@ fn serve_stations<
     hears: &mut Vec<HearPass>,
     tellers: &mut [Teller],
     stations: &mut [Station<S>],
-) -> Option<Halt>
+) -> Result<(), Halt>
     requires some { 0 < length stations.old }
     requires passes { AreReady intake.old.inbox stations.old intake.old.passes.items }
     requires lines { AreNew (length stations.old) lines.now tellers.old hears.old.items }
@@ -51,7 +52,7 @@ fn serve_stations<
     ensures queue { IsWriterOf intake.old.inbox intake.new.writer × (stations_of intake.new.writer ≡ stations_of intake.old.writer) }
     ensures tellers { AreTellers lines.now tellers.new }
     ensures hears { AreHears lines.now hears.new.items }
-    ensures written { HasWritten floor.now.scheme.now (O.standing outbox.old) (O.standing outbox.new) (taken_list intake.new.writer) tellers.old tellers.new tally.old tally.new result }
+    ensures written { HasWritten floor.now.scheme.now (O.standing outbox.old) (O.standing outbox.new) (taken_list intake.new.writer) tellers.old tellers.new tally.old tally.new (result_err result) }
 {
     let Intake {
         inbox,
@@ -59,11 +60,11 @@ fn serve_stations<
         writer,
     } = intake;
     post_all(stations, passes, hears);
-    let halt = run_threads(
+    let wrote = run_threads(
         floor, inbox, lines, tally, outbox, writer, tellers, stations,
     );
     relieve_all(stations, passes, hears);
-    halt
+    wrote
 }
 
 // The same, and then what is left in the inbox is stored.
@@ -81,7 +82,7 @@ pub(crate) fn serve<
     hears: &mut Vec<HearPass>,
     tellers: &mut [Teller],
     stations: &mut [Station<S>],
-) -> (Option<Halt>, InboxEnded)
+) -> (Result<(), Halt>, InboxEnded)
     requires some { 0 < length stations.old }
     requires passes { AreReady intake.inbox stations.old intake.passes.items }
     requires all { map station_of intake.passes.items ≡ stations_of intake.writer }
@@ -90,12 +91,12 @@ pub(crate) fn serve<
     ensures ended { IsInboxEnded result.1 }
     ensures tellers { AreTellers lines.now tellers.new }
     ensures hears { AreHears lines.now hears.new.items }
-    ensures gathered { HaveGathered floor.now.scheme.now S.talk (O.standing outbox.old) (O.standing outbox.new) tellers.old tellers.new tally.old tally.new stations.old stations.new hears.new.items (capacity_of intake.inbox) result.1.left result.0 }
+    ensures gathered { HaveGathered floor.now.scheme.now S.talk (O.standing outbox.old) (O.standing outbox.new) tellers.old tellers.new tally.old tally.new stations.old stations.new hears.new.items (capacity_of intake.inbox) result.1.left (result_err result.0) }
 
     // Where the writer met no fault nothing is left.
-    ensures whole { result.0 ≡ None → ((station : ℕ) → left_of result.1 station ≡ []) × (result.1.left ≡ 0) }
+    ensures whole { result_err result.0 ≡ None → ((station : ℕ) → left_of result.1 station ≡ []) × (result.1.left ≡ 0) }
 {
-    let halt = serve_stations(
+    let wrote = serve_stations(
         floor,
         &mut intake,
         lines,
@@ -111,11 +112,11 @@ pub(crate) fn serve<
         writer,
     } = intake;
     let mut ended = inbox.finish(floor.pace.rt, passes, writer);
-    if let Some(halt) = halt {
-        return (Some(halt), ended);
+    if let Err(halt) = wrote {
+        return (Err(halt), ended);
     }
-    let halt = keep_left(floor.pace.rt, floor.scheme, &mut ended, tally, outbox);
-    (halt, ended)
+    let kept = keep_left(floor.pace.rt, floor.scheme, &mut ended, tally, outbox);
+    (kept, ended)
 }
 
 // The same, and then the rest of each source is stored whose station met no fault.
@@ -133,7 +134,7 @@ pub(crate) fn gather<
     hears: &mut Vec<HearPass>,
     tellers: &mut [Teller],
     stations: &mut [Station<S>],
-) -> (Option<Halt>, InboxEnded)
+) -> (Result<(), Halt>, InboxEnded)
     requires some { 0 < length stations.old }
     requires apart { AreApart stations.old }
     requires passes { AreReady intake.inbox stations.old intake.passes.items }
@@ -142,15 +143,15 @@ pub(crate) fn gather<
     requires queue { IsWriterOf intake.inbox intake.writer × (taken_list intake.writer ≡ []) }
     ensures tellers { AreTellers lines.now tellers.new }
     ensures hears { AreHears lines.now hears.new.items }
-    ensures gathered { HaveGathered floor.now.scheme.now S.talk (O.standing outbox.old) (O.standing outbox.new) tellers.old tellers.new tally.old tally.new stations.old stations.new hears.new.items (capacity_of intake.inbox) result.1.left result.0 }
-    ensures whole { result.0 ≡ None → (result.1.left ≡ 0) × AreRead stations.new (length stations.old) }
+    ensures gathered { HaveGathered floor.now.scheme.now S.talk (O.standing outbox.old) (O.standing outbox.new) tellers.old tellers.new tally.old tally.new stations.old stations.new hears.new.items (capacity_of intake.inbox) result.1.left (result_err result.0) }
+    ensures whole { result_err result.0 ≡ None → (result.1.left ≡ 0) × AreRead stations.new (length stations.old) }
 {
-    let (halt, ended) = serve(
+    let (wrote, ended) = serve(
         floor, intake, lines, tally, outbox, hears, tellers, stations,
     );
-    if let Some(halt) = halt {
-        return (Some(halt), ended);
+    if let Err(halt) = wrote {
+        return (Err(halt), ended);
     }
-    let halt = rest_all(floor.pace.rt, floor.scheme, tally, outbox, stations);
-    (halt, ended)
+    let rested = rest_all(floor.pace.rt, floor.scheme, tally, outbox, stations);
+    (rested, ended)
 }

@@ -1,4 +1,5 @@
 //! All stations' threads, and the writer's.
+ghost use Rattle.std.specs.Result.{result_err};
 ghost use Rattle.std.specs.Prelude.{◌≡◌, ◌<◌, [], ℕ, length};
 ghost use Rattle.fare_inbox_queue.specs.InboxPasses.{taken_list, stations_of, IsWriterOf};
 ghost use Rattle.fare_collect.specs.Stations.{IsPostedAt, ArePosted, HasRunStation, HaveRun};
@@ -83,7 +84,7 @@ pub(crate) fn run_threads<
     writer: &mut WriterPass,
     tellers: &mut [Teller],
     stations: &mut [Station<S>],
-) -> Option<Halt>
+) -> Result<(), Halt>
     requires some { 0 < length stations.old }
     requires ready { ArePosted inbox.now lines.now stations.old }
     requires queue { IsWriterOf inbox.now writer.old × (taken_list writer.old ≡ []) }
@@ -91,22 +92,22 @@ pub(crate) fn run_threads<
     ensures ran { HaveRun floor.now.scheme.now S.talk inbox.now lines.now stations.old stations.new }
     ensures queue { IsWriterOf inbox.now writer.new × (stations_of writer.new ≡ stations_of writer.old) }
     ensures tellers { AreTellers lines.now tellers.new }
-    ensures written { HasWritten floor.now.scheme.now (O.standing outbox.old) (O.standing outbox.new) (taken_list writer.new) tellers.old tellers.new tally.old tally.new result }
+    ensures written { HasWritten floor.now.scheme.now (O.standing outbox.old) (O.standing outbox.new) (taken_list writer.new) tellers.old tellers.new tally.old tally.new (result_err result) }
 {
     let ended = Ended::new();
     let ended = &ended;
-    let (_, halt) = join_mut(
+    let (_, wrote) = join_mut(
         floor.pace.rt,
         &mut ||
             requires { (0 < length stations.now) × ArePosted inbox.now lines.now stations.now }
             ensures { HaveRun floor.entry.now.scheme.now S.talk inbox.entry.now lines.entry.now stations.entry.now stations.exit.now }
         { run_stations(floor, inbox, lines, ended, stations) },
-        &mut || -> Option<Halt>
+        &mut || -> Result<(), Halt>
             requires { IsWriterOf inbox.now writer.now × (taken_list writer.now ≡ []) × AreTellers lines.now tellers.now }
             ensures queue { IsWriterOf inbox.entry.now writer.exit.now × (stations_of writer.exit.now ≡ stations_of writer.entry.now) }
             ensures tellers { AreTellers lines.entry.now tellers.exit.now }
-            ensures written { HasWritten floor.entry.now.scheme.now (O.standing outbox.entry.now) (O.standing outbox.exit.now) (taken_list writer.exit.now) tellers.entry.now tellers.exit.now tally.entry.now tally.exit.now result }
+            ensures written { HasWritten floor.entry.now.scheme.now (O.standing outbox.entry.now) (O.standing outbox.exit.now) (taken_list writer.exit.now) tellers.entry.now tellers.exit.now tally.entry.now tally.exit.now (result_err result) }
         { write_all(floor, inbox, lines, ended, tally, outbox, writer, tellers) },
     );
-    halt
+    wrote
 }

@@ -1,4 +1,5 @@
 ghost use Rattle.std.specs.Prelude.{◌≡◌, []};
+ghost use Rattle.std.specs.Result.{result_err};
 ghost use Rattle.fare_inbox_queue.specs.InboxPasses.{taken_list, stations_of, IsWriterOf};
 ghost use Rattle.fare_writer.specs.Handling.{AreTellers, HasWritten};
 
@@ -20,12 +21,12 @@ pub(crate) fn write_all<O: Outbox, G: Gate, R: Wait + Clock>(
     outbox: &mut O,
     writer: &mut WriterPass,
     tellers: &mut [Teller],
-) -> Option<Halt>
+) -> Result<(), Halt>
     requires queue { IsWriterOf inbox.now writer.old × (taken_list writer.old ≡ []) }
     requires ready { AreTellers lines.now tellers.old }
     ensures queue { IsWriterOf inbox.now writer.new × (stations_of writer.new ≡ stations_of writer.old) }
     ensures ready { AreTellers lines.now tellers.new }
-    ensures written { HasWritten floor.now.scheme.now (O.standing outbox.old) (O.standing outbox.new) (taken_list writer.new) tellers.old tellers.new tally.old tally.new result }
+    ensures written { HasWritten floor.now.scheme.now (O.standing outbox.old) (O.standing outbox.new) (taken_list writer.new) tellers.old tellers.new tally.old tally.new (result_err result) }
 {
     let mut turns = Turns::new(floor.pace.turns);
     for _ in floor.pace.rt.forever() {
@@ -33,11 +34,11 @@ pub(crate) fn write_all<O: Outbox, G: Gate, R: Wait + Clock>(
         match inbox.take(floor.pace.rt, writer) {
             Some(item) => {
                 turns.found();
-                if let Some(halt) = handle_batch(
+                if let Err(halt) = handle_batch(
                     floor, inbox, lines, item, tally, outbox, writer, tellers,
                 ) {
                     ended.writer_ends();
-                    return Some(halt);
+                    return Err(halt);
                 }
             }
             None => {
@@ -49,5 +50,5 @@ pub(crate) fn write_all<O: Outbox, G: Gate, R: Wait + Clock>(
         }
     }
     ended.writer_ends();
-    None
+    Ok(())
 }

@@ -1,5 +1,6 @@
 //! Several items in one commit.
 ghost use Rattle.std.specs.Prelude.{◌≡◌, ◌+◌, ◌≤◌, ◌∷◌, [], Some, None, min, length, take, IfOk, IfErr};
+ghost use Rattle.std.specs.Result.{result_err};
 ghost use Rattle.fare_inbox_queue.specs.InboxPasses.{stations_of, IsWriterOf};
 ghost use Rattle.fare_writer.specs.Batches.{HasTakenMore, HaveTold, HasWrittenBatch};
 ghost use Rattle.fare_writer.specs.Handling.{AreTellers, HasWritten, batch_of};
@@ -123,8 +124,8 @@ fn handle_some<O: Outbox, G: Gate, R: Wait + Clock>(
         return Ok(stored);
     }
     match handle(floor, lines, items[0], tally, outbox, tellers) {
-        None => Ok(1),
-        Some(halt) => Err(halted(halt, &items[1..])),
+        Ok(()) => Ok(1),
+        Err(halt) => Err(halted(halt, &items[1..])),
     }
 }
 
@@ -137,27 +138,24 @@ fn handle_all<O: Outbox, G: Gate, R: Wait + Clock>(
     tally: &mut Tally,
     outbox: &mut O,
     tellers: &mut [Teller],
-) -> Option<Halt>
+) -> Result<(), Halt>
     requires ready { AreTellers lines.now tellers.old }
     requires few { length items.now ≤ batch_of floor.now.scheme.now }
     requires room { length items.now ≤ length rows.old }
     ensures ready { AreTellers lines.now tellers.new }
-    ensures written { HasWritten floor.now.scheme.now (O.standing outbox.old) (O.standing outbox.new) items.now tellers.old tellers.new tally.old tally.new result }
+    ensures written { HasWritten floor.now.scheme.now (O.standing outbox.old) (O.standing outbox.new) items.now tellers.old tellers.new tally.old tally.new (result_err result) }
 {
     let mut place = 0;
     while place < items.len() {
-        match handle_some(floor, lines, &items[place..], rows, tally, outbox, tellers) {
-            Ok(stored) => place += stored,
-            Err(halt) => return Some(halt),
-        }
+        place += handle_some(floor, lines, &items[place..], rows, tally, outbox, tellers)?;
     }
-    None
+    Ok(())
 }
 
 /// Stores an item and those that the inbox has behind it, as many as are a batch: taps that stand together in one
 /// commit. Each is told to its station's line once the commit that holds it is done. A full line drops that.
 ///
-/// What it returns ended the writer, as for one item; then those of the batch that are neither stored nor in the hand
+/// An error ends the writer, as for one item; then those of the batch that are neither stored nor in the hand
 /// stand behind that one.
 pub fn handle_batch<O: Outbox, G: Gate, R: Wait + Clock>(
     floor: &Floor<G, R>,
@@ -168,12 +166,12 @@ pub fn handle_batch<O: Outbox, G: Gate, R: Wait + Clock>(
     outbox: &mut O,
     writer: &mut WriterPass,
     tellers: &mut [Teller],
-) -> Option<Halt>
+) -> Result<(), Halt>
     requires queue { IsWriterOf inbox.now writer.old }
     requires ready { AreTellers lines.now tellers.old }
     ensures queue { IsWriterOf inbox.now writer.new × (stations_of writer.new ≡ stations_of writer.old) }
     ensures ready { AreTellers lines.now tellers.new }
-    ensures written { HasWrittenBatch floor.now.scheme.now (O.standing outbox.old) (O.standing outbox.new) item writer.old writer.new tellers.old tellers.new tally.old tally.new result }
+    ensures written { HasWrittenBatch floor.now.scheme.now (O.standing outbox.old) (O.standing outbox.new) item writer.old writer.new tellers.old tellers.new tally.old tally.new (result_err result) }
 {
     let Arrived::Tap(_, row) = item else {
         return handle(floor, lines, item, tally, outbox, tellers);

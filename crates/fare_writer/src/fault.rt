@@ -1,3 +1,5 @@
+use fare_store::Fault;
+
 /// What ended the writer.
 #[derive(Clone, Copy)]
 pub enum WriterFault {
@@ -7,4 +9,19 @@ pub enum WriterFault {
     Memory,
     /// The outbox failed.
     Store,
+}
+
+// The writer's fault of a store's.
+impl From<Fault> for WriterFault {
+    ghost use Rattle.std.specs.Prelude.{◌≡◌};
+    ghost use Rattle.fare_writer.specs.Writing.{as_writer};
+
+    ghost from_gives = { λ fault e. e ≡ as_writer fault };
+
+    fn from(fault: Fault) -> WriterFault {
+        match fault {
+            Fault::Memory => WriterFault::Memory,
+            Fault::Store => WriterFault::Store,
+        }
+    }
 }

@@ -1,10 +1,11 @@
-ghost use Rattle.std.specs.Prelude.{◌≡◌, ◌∷◌, [], IfSome};
+ghost use Rattle.std.specs.Prelude.{◌≡◌, ◌∷◌, [], IfErr};
+ghost use Rattle.std.specs.Result.{result_err};
 ghost use Rattle.fare_inbox_queue.specs.Line.{IsUpTo};
 ghost use Rattle.fare_writer.specs.Handling.{AreTellers, HasTold, HasWritten};
 
 use crate::floor::Floor;
 use crate::halt::Halt;
-use crate::storing::{store, writer_fault};
+use crate::storing::store;
 use crate::tally::Tally;
 use crate::teller::Teller;
 use fare_inbox_queue::{AckLine, Arrived};
@@ -49,7 +50,7 @@ pub(crate) fn tell<R: Wait + Clock>(
 /// Stores an item, and only then tells its station's line what may be acknowledged: of a tap that is new its link, of a
 /// statement its day, if the outbox then holds those of all owners. A full line drops that.
 ///
-/// What it returns ended the writer. With the item in its hand: `Memory` where none is left to note a statement's day,
+/// An error ends the writer. With the item in its hand: `Memory` where none is left to note a statement's day,
 /// before the outbox is called, or for the outbox itself, `Refused` where the outbox refuses the item, and `Store` where
 /// it fails. With an empty hand, once the item was stored or had been before: `Memory` or `Store` where the outbox can't
 /// say which statements it holds.
@@ -60,16 +61,13 @@ pub fn handle<O: Outbox, G: Gate, R: Wait + Clock>(
     tally: &mut Tally,
     outbox: &mut O,
     tellers: &mut [Teller],
-) -> Option<Halt>
+) -> Result<(), Halt>
     requires ready { AreTellers lines.now tellers.old }
     ensures ready { AreTellers lines.now tellers.new }
-    ensures written { HasWritten floor.now.scheme.now (O.standing outbox.old) (O.standing outbox.new) (item ∷ []) tellers.old tellers.new tally.old tally.new result }
-    ensures alone { IfSome result (λ halt. halt.behind ≡ 0) }
+    ensures written { HasWritten floor.now.scheme.now (O.standing outbox.old) (O.standing outbox.new) (item ∷ []) tellers.old tellers.new tally.old tally.new (result_err result) }
+    ensures alone { IfErr result (λ halt. halt.behind ≡ 0) }
 {
-    let new = match store(floor.scheme, &item, tally, outbox) {
-        Ok(new) => new,
-        Err(halt) => return Some(halt),
-    };
+    let new = store(floor.scheme, &item, tally, outbox)?;
     if new {
         floor.pace.gate.pass(Point::WriterCommitted);
         floor.pace.gate.pass(Point::WriterStored);
@@ -81,26 +79,18 @@ pub fn handle<O: Outbox, G: Gate, R: Wait + Clock>(
                 let place = floor.scheme.station_position(station);
                 tell(floor.pace.rt, lines, place, ack, row.link(), tellers);
             }
-            None
+            Ok(())
         }
         Arrived::Stated(station, statement) => {
             let device = statement.device();
             let day = statement.day();
-            match are_stated(floor.scheme, outbox, device, day) {
-                Err(fault) => Some(Halt {
-                    hand: None,
-                    behind: 0,
-                    fault: writer_fault(fault),
-                }),
-                Ok(held) => {
-                    if held {
-                        let ack = AckItem::Day(DayAck::new(device, day));
-                        let place = floor.scheme.station_position(station);
-                        tell(floor.pace.rt, lines, place, ack, 0, tellers);
-                    }
-                    None
-                }
+            let held = are_stated(floor.scheme, outbox, device, day)?;
+            if held {
+                let ack = AckItem::Day(DayAck::new(device, day));
+                let place = floor.scheme.station_position(station);
+                tell(floor.pace.rt, lines, place, ack, 0, tellers);
             }
+            Ok(())
         }
     }
 }

@@ -1,5 +1,6 @@
 //! Items that are stored once the threads have joined, when no line is told.
-ghost use Rattle.std.specs.Prelude.{◌≡◌, ◌≤◌, ◌∷◌, [], Some, None, length, take, IfOk, IfErr, IfSome};
+ghost use Rattle.std.specs.Prelude.{◌≡◌, ◌≤◌, ◌∷◌, [], Some, None, length, take, IfOk, IfErr};
+ghost use Rattle.std.specs.Result.{result_err};
 ghost use Rattle.fare_writer.specs.Handling.{batch_of};
 ghost use Rattle.fare_inbox_queue.specs.InboxPasses.{IsInboxEnded};
 ghost use Rattle.fare_writer.specs.Keeping.{HasKept, HasTakenLeft, HasKeptBatch};
@@ -17,7 +18,7 @@ use std::sync::Wait;
 
 /// Stores an item, and tells no line.
 ///
-/// What it returns ended the writer, with the item in its hand: `Memory` where none is left to note a statement's day,
+/// An error ends the writer, with the item in its hand: `Memory` where none is left to note a statement's day,
 /// before the outbox is called, or for the outbox itself, `Refused` where the outbox refuses the item, and `Store` where
 /// it fails.
 pub fn keep<O: Outbox>(
@@ -25,14 +26,12 @@ pub fn keep<O: Outbox>(
     item: Arrived,
     tally: &mut Tally,
     outbox: &mut O,
-) -> Option<Halt>
-    ensures kept { HasKept scheme.now (O.standing outbox.old) (O.standing outbox.new) (item ∷ []) tally.old tally.new result }
-    ensures alone { IfSome result (λ halt. halt.behind ≡ 0) }
+) -> Result<(), Halt>
+    ensures kept { HasKept scheme.now (O.standing outbox.old) (O.standing outbox.new) (item ∷ []) tally.old tally.new (result_err result) }
+    ensures alone { IfErr result (λ halt. halt.behind ≡ 0) }
 {
-    match store(scheme, &item, tally, outbox) {
-        Ok(_) => None,
-        Err(halt) => Some(halt),
-    }
+    store(scheme, &item, tally, outbox)?;
+    Ok(())
 }
 
 // Stores the first taps all at once, or else the first item alone. Answers how many it stored.
@@ -56,15 +55,15 @@ fn keep_some<O: Outbox>(
         return Ok(stored);
     }
     match keep(scheme, items[0], tally, outbox) {
-        None => Ok(1),
-        Some(halt) => Err(halted(halt, &items[1..])),
+        Ok(()) => Ok(1),
+        Err(halt) => Err(halted(halt, &items[1..])),
     }
 }
 
 /// Stores items of a batch, in order, and tells no line: taps that stand together in one commit. Their rows go into a
 /// place of the caller's.
 ///
-/// What it returns ended the writer, as for one item; then those that are neither stored nor in the hand stand behind
+/// An error ends the writer, as for one item; then those that are neither stored nor in the hand stand behind
 /// that one.
 pub fn keep_all<O: Outbox>(
     scheme: &Scheme,
@@ -72,19 +71,16 @@ pub fn keep_all<O: Outbox>(
     rows: &mut [Record],
     tally: &mut Tally,
     outbox: &mut O,
-) -> Option<Halt>
+) -> Result<(), Halt>
     requires few { length items.now ≤ batch_of scheme.now }
     requires room { length items.now ≤ length rows.old }
-    ensures { HasKept scheme.now (O.standing outbox.old) (O.standing outbox.new) items.now tally.old tally.new result }
+    ensures { HasKept scheme.now (O.standing outbox.old) (O.standing outbox.new) items.now tally.old tally.new (result_err result) }
 {
     let mut place = 0;
     while place < items.len() {
-        match keep_some(scheme, &items[place..], rows, tally, outbox) {
-            Ok(stored) => place += stored,
-            Err(halt) => return Some(halt),
-        }
+        place += keep_some(scheme, &items[place..], rows, tally, outbox)?;
     }
-    None
+    Ok(())
 }
 
 // Takes what is left in the inbox behind the first item, as long as there is room, and answers how many items there are
@@ -110,7 +106,7 @@ fn take_left<R: Wait>(rt: &R, ended: &mut InboxEnded, items: &mut [Arrived], mos
 /// Stores an item and those that are left in the inbox behind it, as many as are a batch, and tells no line: taps that
 /// stand together in one commit.
 ///
-/// What it returns ended the writer, as for one item; then those of the batch that are neither stored nor in the hand
+/// An error ends the writer, as for one item; then those of the batch that are neither stored nor in the hand
 /// stand behind that one.
 pub fn keep_batch<O: Outbox, R: Wait>(
     rt: &R,
@@ -119,10 +115,10 @@ pub fn keep_batch<O: Outbox, R: Wait>(
     item: Arrived,
     tally: &mut Tally,
     outbox: &mut O,
-) -> Option<Halt>
+) -> Result<(), Halt>
     requires { IsInboxEnded ended.old }
     ensures ended { IsInboxEnded ended.new }
-    ensures kept { HasKeptBatch scheme.now (O.standing outbox.old) (O.standing outbox.new) item ended.old ended.new tally.old tally.new result }
+    ensures kept { HasKeptBatch scheme.now (O.standing outbox.old) (O.standing outbox.new) item ended.old ended.new tally.old tally.new (result_err result) }
 {
     let Arrived::Tap(_, row) = item else {
         return keep(scheme, item, tally, outbox);

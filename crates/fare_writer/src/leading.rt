@@ -6,8 +6,8 @@ ghost use Rattle.fare_writer.specs.Handling.{batch_of};
 ghost use Rattle.fare_writer.specs.Keeping.{HasKept};
 ghost use Rattle.fare_writer.specs.declared.tally.Tally.{Tally};
 
+use crate::fault::WriterFault;
 use crate::halt::Halt;
-use crate::storing::writer_fault;
 use fare_inbox_queue::Arrived;
 use fare_record::Record;
 use fare_store::Outbox;
@@ -45,7 +45,7 @@ pub(crate) fn store_lead<O: Outbox>(
         Err(fault) => Err(Halt {
             hand: Some(items[0]),
             behind: (items.len() - 1) as u64,
-            fault: writer_fault(fault),
+            fault: WriterFault::from(fault),
         }),
     }
 }

@@ -25,6 +25,5 @@ pub use halt::Halt;
 pub use handling::handle;
 pub use judging::{UnexpectedFrame, judge};
 pub use keeping::{keep, keep_all, keep_batch};
-pub use storing::writer_fault;
 pub use tally::Tally;
 pub use teller::Teller;

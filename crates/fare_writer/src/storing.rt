@@ -1,7 +1,7 @@
 ghost use Rattle.std.specs.Prelude.{◌≡◌, ◌∷◌, [], Ok, Some, IfOk, IfErr};
 ghost use Rattle.fare_writer.specs.Counting.{Counts};
 ghost use Rattle.fare_writer.specs.Keeping.{HasKept};
-ghost use Rattle.fare_writer.specs.Writing.{Puts, as_writer};
+ghost use Rattle.fare_writer.specs.Writing.{Puts};
 ghost use Rattle.fare_inbox_queue.specs.declared.arrived.Arrived.TheVariants.{Tap, Stated};
 
 use crate::fault::WriterFault;
@@ -10,17 +10,7 @@ use crate::tally::Tally;
 use fare_inbox_queue::Arrived;
 use fare_record::{Record, Statement};
 use fare_scheme::Scheme;
-use fare_store::{Fault, Outbox, Refused, StatedFault, StoreFault};
-
-/// The writer's fault of a store's.
-pub fn writer_fault(fault: Fault) -> WriterFault
-    ensures { result ≡ as_writer fault }
-{
-    match fault {
-        Fault::Memory => WriterFault::Memory,
-        Fault::Store => WriterFault::Store,
-    }
-}
+use fare_store::{Outbox, Refused, StatedFault, StoreFault};
 
 // Notes a statement's day, stores an item, and counts it if it is new: whether it is. A fault has the item in its hand.
 pub(crate) fn store<O: Outbox>(
@@ -77,7 +67,7 @@ fn put_row<O: Outbox>(outbox: &mut O, row: &Record) -> Result<bool, WriterFault>
             StoreFault::Conflict => Err(WriterFault::Refused),
             StoreFault::OutboxFull => Err(WriterFault::Refused),
         },
-        Err(Refused::Failed(fault)) => Err(writer_fault(fault)),
+        Err(Refused::Failed(fault)) => Err(WriterFault::from(fault)),
     }
 }
 
@@ -92,6 +82,6 @@ fn put_statement<O: Outbox>(outbox: &mut O, statement: &Statement) -> Result<boo
             StatedFault::Conflict => Err(WriterFault::Refused),
             StatedFault::OutboxFull => Err(WriterFault::Refused),
         },
-        Err(Refused::Failed(fault)) => Err(writer_fault(fault)),
+        Err(Refused::Failed(fault)) => Err(WriterFault::from(fault)),
     }
 }

@@ -1,5 +1,6 @@
 use Rattle.std.proofs.Common.{ℕ, Some, sym, subst}
 use Rattle.std.specs.Prelude.{Option, Ok}
+use Rattle.std.specs.Result.{result_err}
 use Rattle.fare_writer.specs.declared.fault.WriterFault.{WriterFault}
 use Rattle.fare_writer.specs.declared.fault.WriterFault.TheVariants.{Memory}
 use Rattle.fare_collect.specs.Collected.{IsCollected}
@@ -17,7 +18,7 @@ returns-in-Err g c =
     let a = g.O.Outbox.standing c.args.outbox.now in
     let b = g.O.Outbox.standing c.resume.new.outbox in
     let P : ℕ × WriterFault → Type 0 = λ q. IsCollected sc talks a b c.args.stations.now c.resume.new.stations q.0 0 (Some q.1) in
-    subst P (λ i. (sym c.requires.none i, sym c.writer_fault.ensures i)) (unread sc talks a b c.args.stations.now c.begin.new.stations c.resume.new.stations c.in-Err.fault c.begin.ensures c.in-Err.ensures)
+    subst P (λ i. (sym c.requires.none i, sym c.from.ensures i)) (unread sc talks a b c.args.stations.now c.begin.new.stations c.resume.new.stations c.in-Err.fault c.begin.ensures c.in-Err.ensures)
 
 pub returns-in-Err-open : goal.returns-in-Err-open
 returns-in-Err-open g c =
@@ -36,7 +37,7 @@ returns-in-Ok g c =
     let d = g.O.Outbox.standing c.run-left.new.outbox in
     let r = c.run-left in
     subst (λ (w : Option WriterFault). IsCollected sc talks a d c.args.stations.now r.new.stations r.new.tally.stored r.result.0 w) (sym c.fault_in.ensures)
-    (ran sc talks a b d c.args.tally.now r.new.tally c.requires.none c.requires.unnoted c.args.stations.now c.begin.new.stations c.resume.new.stations r.new.stations r.result.0 r.result.1 c.have_law.ensures c.requires.order c.requires.devices c.begin.ensures c.in_default.ensures
+    (ran sc talks a b d c.args.tally.now r.new.tally c.requires.none c.requires.unnoted c.args.stations.now c.begin.new.stations c.resume.new.stations r.new.stations r.result.0 (result_err r.result.1) c.have_law.ensures c.requires.order c.requires.devices c.begin.ensures c.in_default.ensures
     r.ensures)
 
 pub run-left-requires-clause-order : goal.run-left-requires-clause-order

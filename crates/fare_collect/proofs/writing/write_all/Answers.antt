@@ -1,5 +1,6 @@
 use Rattle.std.proofs.Common.{◌∷◌, Some, None, List, refl, sym, subst, ◌∙◌}
-use Rattle.std.specs.Prelude.{Option}
+use Rattle.std.specs.Prelude.{Result}
+use Rattle.std.specs.Result.{result_err}
 use Rattle.fare_inbox_queue.specs.declared.arrived.Arrived.{Arrived}
 use Rattle.fare_inbox_queue.specs.InboxPasses.{taken_list}
 use Rattle.fare_writer.specs.declared.halt.Halt.{Halt}
@@ -17,8 +18,8 @@ loop-init g c = (
       (written_none _ _ _ _ (g.met.O.Outbox.sound c.args.outbox.now)),
 )
 
-pub returns-in-Some-handle_batch-clause-written : goal.returns-in-Some-handle_batch-clause-written
-returns-in-Some-handle_batch-clause-written g c =
+pub returns-in-Err-clause-written : goal.returns-in-Err-clause-written
+returns-in-Err-clause-written g c =
     let inv = c.loop.invariant in
     let item = c.in-Some-take.item in
     let batch = c.handle_batch.ensures.written in
@@ -26,9 +27,9 @@ returns-in-Some-handle_batch-clause-written g c =
     let a = g.O.Outbox.standing c.args.outbox.now in
     let b = g.O.Outbox.standing c.loop.outbox in
     let d = g.O.Outbox.standing c.handle_batch.new.outbox in
-    subst (λ (l : List Arrived). HasWritten c.args.floor.now.scheme.now a d l c.args.tellers.now c.handle_batch.new.tellers c.args.tally.now c.handle_batch.new.tally (Some c.in-Some-handle_batch.halt)) (sym took)
-    (written_then c.args.floor.now.scheme.now a b d (taken_list c.loop.writer) (item ∷ batch.more) c.args.tellers.now c.loop.tellers c.handle_batch.new.tellers c.args.tally.now c.loop.tally c.handle_batch.new.tally (Some c.in-Some-handle_batch.halt) inv.3
-    (subst (λ (h : Option Halt). HasWritten c.args.floor.now.scheme.now b d (item ∷ batch.more) c.loop.tellers c.handle_batch.new.tellers c.loop.tally c.handle_batch.new.tally h) c.in-Some-handle_batch.is batch.written))
+    subst (λ (l : List Arrived). HasWritten c.args.floor.now.scheme.now a d l c.args.tellers.now c.handle_batch.new.tellers c.args.tally.now c.handle_batch.new.tally (Some c.in-Err.halt)) (sym took)
+    (written_then c.args.floor.now.scheme.now a b d (taken_list c.loop.writer) (item ∷ batch.more) c.args.tellers.now c.loop.tellers c.handle_batch.new.tellers c.args.tally.now c.loop.tally c.handle_batch.new.tally (Some c.in-Err.halt) inv.3
+    (subst (λ (h : Result (Unit {0}) Halt). HasWritten c.args.floor.now.scheme.now b d (item ∷ batch.more) c.loop.tellers c.handle_batch.new.tellers c.loop.tally c.handle_batch.new.tally (result_err h)) c.in-Err.is batch.written))
 
 pub loop-preserved-in_default : goal.loop-preserved-in_default
 loop-preserved-in_default g c =
@@ -44,5 +45,5 @@ loop-preserved-in_default g c =
       c.handle_batch.ensures.ready,
       subst (λ (l : List Arrived). HasWritten c.args.floor.now.scheme.now a d l c.args.tellers.now c.handle_batch.new.tellers c.args.tally.now c.handle_batch.new.tally None) (sym took)
           (written_then c.args.floor.now.scheme.now a b d (taken_list c.loop.writer) (item ∷ batch.more) c.args.tellers.now c.loop.tellers c.handle_batch.new.tellers c.args.tally.now c.loop.tally c.handle_batch.new.tally None inv.3
-          (subst (λ (h : Option Halt). HasWritten c.args.floor.now.scheme.now b d (item ∷ batch.more) c.loop.tellers c.handle_batch.new.tellers c.loop.tally c.handle_batch.new.tally h) c.in_default.is batch.written)),
+          (subst (λ (h : Result (Unit {0}) Halt). HasWritten c.args.floor.now.scheme.now b d (item ∷ batch.more) c.loop.tellers c.handle_batch.new.tellers c.loop.tally c.handle_batch.new.tally (result_err h)) c.in_default.is batch.written)),
     )

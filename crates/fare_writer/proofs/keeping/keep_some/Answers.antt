@@ -25,26 +25,26 @@ returns-then-stored-gt0-clause-kept g c =
     let l = length-take-le n items few in
     record { each = λ t. written_first c.args.scheme.now (g.O.Outbox.standing c.args.outbox.now) (g.O.Outbox.standing c.store_lead.new.outbox) items n t t c.args.tally.now c.count_all.new.self (g.met.O.Outbox.sound c.store_lead.new.outbox) call.0 call.1 (told_silently c.args.scheme.now (take n items) t) (omega (arith, up, l)) c.count_all.ensures.days }
 
-pub returns-in-None-clause-kept : goal.returns-in-None-clause-kept
-returns-in-None-clause-kept g c =
+pub returns-in-Ok-clause-kept : goal.returns-in-Ok-clause-kept
+returns-in-Ok-clause-kept g c =
     let items = c.args.items.now in
     let item = c.index-items-0.result in
     let call = c.in_ok-stored.ensures.stored in
-    let one = c.in-None.ensures.kept in
+    let one = c.in-Ok.ensures.kept in
     let first : take 1 items ≡ item ∷ [] = take_more items 0 item (omega arith) ∙ ap (λ x. x ∷ []) (sym c.index-items-0.is) in
     record { each = λ t. alone_first c.args.scheme.now (g.O.Outbox.standing c.args.outbox.now) (g.O.Outbox.standing c.store_lead.new.outbox) (g.O.Outbox.standing c.keep.new.outbox) items item c.in_ok-stored.stored t t c.args.tally.now c.keep.new.tally (omega arith) (g.met.O.Outbox.sound c.store_lead.new.outbox) call.0 call.1 first (one.each t) }
 
-pub returns-in-Some-clause-halted : goal.returns-in-Some-clause-halted
-returns-in-Some-clause-halted g c =
+pub returns-in-Err-clause-halted : goal.returns-in-Err-clause-halted
+returns-in-Err-clause-halted g c =
     let items = c.args.items.now in
     let item = c.index-items-0.result in
     let call = c.in_ok-stored.ensures.stored in
-    let one = c.in-Some.ensures.kept in
+    let one = c.in-Err.ensures.kept in
     let rest = drop 1 items in
     let at : items ≡ item ∷ rest = drop_more items 0 item (omega arith) ∙ ap (λ x. x ∷ rest) (sym c.index-items-0.is) in
     let l = length-drop 1 items in
     let same : take (length items - 1) rest ≡ rest = take_all (length items - 1) rest (omega (arith, l)) in
     record {
-      each = λ t. alone_halted c.args.scheme.now (g.O.Outbox.standing c.args.outbox.now) (g.O.Outbox.standing c.store_lead.new.outbox) (g.O.Outbox.standing c.keep.new.outbox) items item rest c.in_ok-stored.stored t t c.args.tally.now c.keep.new.tally c.in-Some.halt c.halted.result (omega arith) (g.met.O.Outbox.sound c.store_lead.new.outbox) call.0 call.1
-          at c.in-Some.ensures.alone c.requires.few (subst (λ (xs : List Arrived). HaltsBefore c.in-Some.halt xs c.halted.result) same c.halted.ensures) (one.each t);
+      each = λ t. alone_halted c.args.scheme.now (g.O.Outbox.standing c.args.outbox.now) (g.O.Outbox.standing c.store_lead.new.outbox) (g.O.Outbox.standing c.keep.new.outbox) items item rest c.in_ok-stored.stored t t c.args.tally.now c.keep.new.tally c.in-Err.halt c.halted.result (omega arith) (g.met.O.Outbox.sound c.store_lead.new.outbox) call.0 call.1
+          at c.in-Err.ensures.alone c.requires.few (subst (λ (xs : List Arrived). HaltsBefore c.in-Err.halt xs c.halted.result) same c.halted.ensures) (one.each t);
     }

@@ -23,8 +23,8 @@ returns-in-Err-clause-halted g c = λ sc n few.
     let l = length-drop 1 items in
     let some = c.requires.some in
     let call : StoresFirst a b items (Err c.in-Err.fault) = stores_first a b items c.lead-count.new.rows c.lead-count.result (Err c.in-Err.fault) c.lead-count.ensures.taps (omega arith) c.in-Err.ensures.does in
-    subst (λ (xs : List Arrived). HasKept sc a b xs n n (Some (record { hand = Some first; behind = length items - 1; fault = c.writer_fault.result }))) (sym at)
+    subst (λ (xs : List Arrived). HasKept sc a b xs n n (Some (record { hand = Some first; behind = length items - 1; fault = c.from.result }))) (sym at)
     (record {
-      each = λ t. written_unstored sc a b first (drop 1 items) (length items - 1) t n c.in-Err.fault c.writer_fault.result c.writer_fault.ensures (sym l) (omega (arith, l, few)) (g.met.O.Outbox.sound c.args.outbox.now)
+      each = λ t. written_unstored sc a b first (drop 1 items) (length items - 1) t n c.in-Err.fault c.from.result c.from.ensures (sym l) (omega (arith, l, few)) (g.met.O.Outbox.sound c.args.outbox.now)
           (subst (λ (xs : List Arrived). StoresFirst a b xs (Err c.in-Err.fault)) at call);
     })

@@ -14,5 +14,5 @@ pub returns-in-Err-Failed : goal.returns-in-Err-Failed
 returns-in-Err-Failed g c =
     let a = g.O.Outbox.standing c.args.outbox.now in
     let b = g.O.Outbox.standing c.store.new.self in
-    row_failed a b c.args.row.now c.in-Err-Failed.fault c.writer_fault.result c.writer_fault.ensures
+    row_failed a b c.args.row.now c.in-Err-Failed.fault c.from.result c.from.ensures
     (subst (λ (z : Refused StoreFault). Writes a b (store_judged a.value c.args.row.now) (stored c.args.row.now a.value) (Err z)) c.in-Err-Failed.field-0-is c.in-Err-Failed.ensures)
