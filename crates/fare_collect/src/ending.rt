@@ -6,7 +6,7 @@ ghost use Rattle.fare_collect.specs.Opening.{AreHears};
 ghost use Rattle.fare_writer.specs.Handling.{AreTellers};
 
 use crate::fault::StationFault;
-use crate::reading::{fault_of, frame_of};
+use crate::reading::frame_of;
 use crate::station::Station;
 use fare_inbox_queue::{AckLine, HearPass};
 use fare_record::AckItem;
@@ -21,7 +21,7 @@ pub(crate) fn hand<S: Source>(item: &AckItem, station: &mut Station<S>)
 {
     if let Err(fault) = station.source.answer(&frame_of(item)) {
         if station.end.fault.is_none() {
-            station.end.fault = Some(fault_of(fault));
+            station.end.fault = Some(StationFault::from(fault));
         }
     }
 }

@@ -1,8 +1,9 @@
 ghost use Rattle.std.specs.Prelude.{◌≡◌, ◌++◌, ◌∷◌, [], true, false, Some, None};
+ghost use Rattle.std.specs.Result.{result_err};
 ghost use Rattle.fare_inbox_queue.specs.InboxPasses.{station_of, sent_list, IsStationOf};
 ghost use Rattle.fare_inbox_queue.specs.LinePasses.{heard_list, IsHearOf};
 ghost use Rattle.fare_collector.specs.Collecting.{next_in};
-ghost use Rattle.fare_collect.specs.Stations.{HasAnswered, HasRead, IsFresh, frame_for, as_station};
+ghost use Rattle.fare_collect.specs.Stations.{HasAnswered, HasRead, IsFresh, frame_for};
 
 use crate::ended::Ended;
 use crate::fault::StationFault;
@@ -14,7 +15,7 @@ use fare_frame::Frame;
 use fare_inbox_queue::{AckLine, HearPass, Inbox};
 use fare_record::AckItem;
 use fare_session::Gate;
-use fare_source::{Source, SourceFault};
+use fare_source::Source;
 use fare_writer::{Floor, UnexpectedFrame};
 use std::sync::Wait;
 use std::time::Clock;
@@ -29,16 +30,6 @@ pub(crate) fn frame_of(item: &AckItem) -> Frame
     }
 }
 
-// The station's fault of a source's.
-pub(crate) fn fault_of(fault: SourceFault) -> StationFault
-    ensures { result ≡ as_station fault }
-{
-    match fault {
-        SourceFault::Failed => StationFault::Source,
-        SourceFault::Memory => StationFault::Memory,
-    }
-}
-
 // Hands the source what its line has.
 fn answer_all<S: Source, R: Wait + Clock>(
     rt: &R,
@@ -46,17 +37,17 @@ fn answer_all<S: Source, R: Wait + Clock>(
     hear: &mut HearPass,
     source: &mut S,
     pacing: &mut Pacing,
-) -> Option<StationFault>
+) -> Result<(), StationFault>
     requires { IsHearOf line.now hear.old }
     ensures queue { IsHearOf line.now hear.new }
-    ensures answered { HasAnswered (S.talk source.old) (S.talk source.new) (heard_list hear.old) (heard_list hear.new) result }
+    ensures answered { HasAnswered (S.talk source.old) (S.talk source.new) (heard_list hear.old) (heard_list hear.new) (result_err result) }
 {
     for _ in rt.forever() {
-        let item = line.take(rt, hear)?;
+        let Some(item) = line.take(rt, hear) else {
+            return Ok(());
+        };
         pacing.answered();
-        if let Err(fault) = source.answer(&frame_of(&item)) {
-            return Some(fault_of(fault));
-        }
+        source.answer(&frame_of(&item))?;
     }
     unreachable!()
 }
@@ -79,7 +70,7 @@ fn read_next<S: Source, G: Gate, R: Wait + Clock>(
     ensures fresh { result ≡ true → IsFresh post.new }
 {
     match source.next() {
-        Err(fault) => post.fault = Some(fault_of(fault)),
+        Err(fault) => post.fault = Some(StationFault::from(fault)),
         Ok(None) => post.ended = true,
         Ok(Some(frame)) => {
             match pass_on(
@@ -119,7 +110,7 @@ pub(crate) fn read_all<S: Source, G: Gate, R: Wait + Clock>(
 {
     let mut pacing = Pacing::new(floor.pace.turns);
     for _ in floor.pace.rt.forever() {
-        if let Some(fault) = answer_all(floor.pace.rt, line, &mut post.hear, source, &mut pacing) {
+        if let Err(fault) = answer_all(floor.pace.rt, line, &mut post.hear, source, &mut pacing) {
             post.fault = Some(fault);
             break;
         }

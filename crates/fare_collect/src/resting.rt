@@ -6,7 +6,6 @@ ghost use Rattle.fare_writer.specs.Entries.{in_hand};
 ghost use Rattle.fare_collect.specs.Resting.{AreApart, HasKeptLeft, HasNext, HasPassed, HasReadOn, HasRested, HasRestedBatch, HaveRested, IsGoing};
 
 use crate::fault::StationFault;
-use crate::reading::fault_of;
 use crate::station::Station;
 use fare_frame::Frame;
 use fare_inbox_queue::{Arrived, InboxEnded};
@@ -50,7 +49,7 @@ fn next_frame<S: Source>(station: &mut Station<S>) -> Option<Frame>
     }
     match station.source.next() {
         Err(fault) => {
-            station.end.fault = Some(fault_of(fault));
+            station.end.fault = Some(StationFault::from(fault));
             None
         }
         Ok(None) => {

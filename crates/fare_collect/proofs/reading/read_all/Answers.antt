@@ -1,5 +1,6 @@
 use Rattle.std.proofs.Common.{Some, None, false, refl, sym, subst, ◌∙◌}
-use Rattle.std.specs.Prelude.{Option}
+use Rattle.std.specs.Prelude.{Result}
+use Rattle.std.specs.Result.{result_err}
 use Rattle.fare_collector.specs.Collecting.{next_in}
 use Rattle.fare_collector.specs.declared.collector.Collector.{Collector}
 use Rattle.fare_inbox_queue.specs.InboxPasses.{station_of, sent_list, IsStationOf}
@@ -8,7 +9,7 @@ use Rattle.fare_collect.specs.declared.fault.StationFault.{StationFault}
 use Rattle.fare_collect.specs.declared.station.Post.{Post}
 use Rattle.fare_collect.specs.Stations.{HasAnswered, HasRead}
 use Rattle.fare_collect.proofs.Read.{read_none, read_heard, read_waited, read_then, read_at}
-use Rattle.fare_collect.proofs.reading.read_all.Goals.{in-None, in-Some+in-Some-answer_all, in-Some+in_default+then-has_writer_ended, in-Some+in_default+else-has_writer_ended+else-holds+then-not-is_ready+then-is_over, in-Some+in_default+else-has_writer_ended+else-holds+else-not-is_ready+then-not-read_next}
+use Rattle.fare_collect.proofs.reading.read_all.Goals.{in-None, in-Some+in-Err, in-Some+in_default+then-has_writer_ended, in-Some+in_default+else-has_writer_ended+else-holds+then-not-is_ready+then-is_over, in-Some+in_default+else-has_writer_ended+else-holds+else-not-is_ready+then-not-read_next}
 use Rattle.fare_collect.proofs.reading.read_all.Goals as goal
 
 pub loop-init : goal.loop-init
@@ -29,7 +30,7 @@ loop-preserved g c =
     let h1 = heard_list c.loop.post.hear in
     let m = g.S.Source.talk c.answer_all.new.source in
     let h2 = heard_list c.answer_all.new.hear in
-    let none : HasAnswered b m h1 h2 None = subst (λ (f : Option StationFault). HasAnswered b m h1 h2 f) c.in_default.is c.answer_all.ensures.answered in
+    let none : HasAnswered b m h1 h2 None = subst (λ (f : Result (Unit {0}) StationFault). HasAnswered b m h1 h2 (result_err f)) c.in_default.is c.answer_all.ensures.answered in
     let heard : HasRead sc station a m n0 n1 s0 s1 h0 h2 None false None = read_heard sc station a b m n0 n1 s0 s1 h0 h1 h2 None inv.3 none in
     let m2 = g.S.Source.talk c.is_ready.new.self in
     let ready : HasRead sc station a m2 n0 n1 s0 s1 h0 h2 None false None = read_waited sc station a m m2 n0 n1 s0 s1 h0 h2 heard c.is_ready.ensures in
@@ -61,7 +62,7 @@ loop-preserved-then-not-is_ready g c =
     let h1 = heard_list c.loop.post.hear in
     let m = g.S.Source.talk c.answer_all.new.source in
     let h2 = heard_list c.answer_all.new.hear in
-    let none : HasAnswered b m h1 h2 None = subst (λ (f : Option StationFault). HasAnswered b m h1 h2 f) c.in_default.is c.answer_all.ensures.answered in
+    let none : HasAnswered b m h1 h2 None = subst (λ (f : Result (Unit {0}) StationFault). HasAnswered b m h1 h2 (result_err f)) c.in_default.is c.answer_all.ensures.answered in
     let heard : HasRead sc station a m n0 n1 s0 s1 h0 h2 None false None = read_heard sc station a b m n0 n1 s0 s1 h0 h1 h2 None inv.3 none in
     ((inv.0.0, c.answer_all.ensures.queue), inv.1, inv.2, read_waited sc station a m (g.S.Source.talk c.is_ready.new.self) n0 n1 s0 s1 h0 h2 heard c.is_ready.ensures)
 
@@ -80,7 +81,7 @@ loop-preserved-then-holds g c =
     let h1 = heard_list c.loop.post.hear in
     let m = g.S.Source.talk c.answer_all.new.source in
     let h2 = heard_list c.answer_all.new.hear in
-    let none : HasAnswered b m h1 h2 None = subst (λ (f : Option StationFault). HasAnswered b m h1 h2 f) c.in_default.is c.answer_all.ensures.answered in
+    let none : HasAnswered b m h1 h2 None = subst (λ (f : Result (Unit {0}) StationFault). HasAnswered b m h1 h2 (result_err f)) c.in_default.is c.answer_all.ensures.answered in
     let heard : HasRead sc station a m n0 n1 s0 s1 h0 h2 None false None = read_heard sc station a b m n0 n1 s0 s1 h0 h1 h2 None inv.3 none in
     ((inv.0.0, c.answer_all.ensures.queue), inv.1, inv.2, heard)
 
@@ -90,7 +91,7 @@ returns-clause-queue g c =
     let Q : Post → Type 0 = λ p. IsStationOf c.args.inbox.now p.pass × IsHearOf c.args.line.now p.hear in
     elim c.match-next.branch [
       | in-None w ↦ subst Q (sym w.post-is) inv.0
-      | in-Some+in-Some-answer_all w ↦ subst Q (sym w.post-is) (inv.0.0, w.answer_all.ensures.queue)
+      | in-Some+in-Err w ↦ subst Q (sym w.post-is) (inv.0.0, w.answer_all.ensures.queue)
       | in-Some+in_default+then-has_writer_ended w ↦ subst Q (sym w.post-is) (inv.0.0, w.answer_all.ensures.queue)
       | in-Some+in_default+else-has_writer_ended+else-holds+then-not-is_ready+then-is_over w ↦ subst Q (sym w.post-is) (inv.0.0, w.answer_all.ensures.queue)
       | in-Some+in_default+else-has_writer_ended+else-holds+else-not-is_ready+then-not-read_next w ↦
@@ -116,25 +117,25 @@ returns-clause-read g c =
       | in-None w ↦
           subst Q (λ i. (sym w.post-is i, (sym w.collector-is i, sym w.source-is i)))
           (read_at sc station a b n0 n1 s0 s1 h0 h1 None c.loop.post.held false c.loop.post.ended None c.loop.post.fault (sym inv.1.0) (sym inv.1.1) (sym inv.1.2) inv.3)
-      | in-Some+in-Some-answer_all w ↦
+      | in-Some+in-Err w ↦
           let m = g.S.Source.talk w.answer_all.new.source in
           let h2 = heard_list w.answer_all.new.hear in
-          let fault = w.in-Some-answer_all.fault in
-          let some : HasAnswered b m h1 h2 (Some fault) = subst (λ (f : Option StationFault). HasAnswered b m h1 h2 f) w.in-Some-answer_all.is w.answer_all.ensures.answered in
+          let fault = w.in-Err.fault in
+          let some : HasAnswered b m h1 h2 (Some fault) = subst (λ (f : Result (Unit {0}) StationFault). HasAnswered b m h1 h2 (result_err f)) w.in-Err.is w.answer_all.ensures.answered in
           subst Q (λ i. (sym w.post-is i, (sym w.collector-is i, sym w.source-is i)))
           (read_at sc station a m n0 n1 s0 s1 h0 h2 None c.loop.post.held false c.loop.post.ended (Some fault) (Some fault) (sym inv.1.0) (sym inv.1.1) refl
           (read_heard sc station a b m n0 n1 s0 s1 h0 h1 h2 (Some fault) inv.3 some))
       | in-Some+in_default+then-has_writer_ended w ↦
           let m = g.S.Source.talk w.answer_all.new.source in
           let h2 = heard_list w.answer_all.new.hear in
-          let none : HasAnswered b m h1 h2 None = subst (λ (f : Option StationFault). HasAnswered b m h1 h2 f) w.in_default.is w.answer_all.ensures.answered in
+          let none : HasAnswered b m h1 h2 None = subst (λ (f : Result (Unit {0}) StationFault). HasAnswered b m h1 h2 (result_err f)) w.in_default.is w.answer_all.ensures.answered in
           let heard : HasRead sc station a m n0 n1 s0 s1 h0 h2 None false None = read_heard sc station a b m n0 n1 s0 s1 h0 h1 h2 None inv.3 none in
           subst Q (λ i. (sym w.post-is i, (sym w.collector-is i, sym w.source-is i)))
           (read_at sc station a m n0 n1 s0 s1 h0 h2 None c.loop.post.held false c.loop.post.ended None c.loop.post.fault (sym inv.1.0) (sym inv.1.1) (sym inv.1.2) heard)
       | in-Some+in_default+else-has_writer_ended+else-holds+then-not-is_ready+then-is_over w ↦
           let m = g.S.Source.talk w.answer_all.new.source in
           let h2 = heard_list w.answer_all.new.hear in
-          let none : HasAnswered b m h1 h2 None = subst (λ (f : Option StationFault). HasAnswered b m h1 h2 f) w.in_default.is w.answer_all.ensures.answered in
+          let none : HasAnswered b m h1 h2 None = subst (λ (f : Result (Unit {0}) StationFault). HasAnswered b m h1 h2 (result_err f)) w.in_default.is w.answer_all.ensures.answered in
           let heard : HasRead sc station a m n0 n1 s0 s1 h0 h2 None false None = read_heard sc station a b m n0 n1 s0 s1 h0 h1 h2 None inv.3 none in
           let m2 = g.S.Source.talk w.is_ready.new.self in
           let ready : HasRead sc station a m2 n0 n1 s0 s1 h0 h2 None false None = read_waited sc station a m m2 n0 n1 s0 s1 h0 h2 heard w.is_ready.ensures in
@@ -143,7 +144,7 @@ returns-clause-read g c =
       | in-Some+in_default+else-has_writer_ended+else-holds+else-not-is_ready+then-not-read_next w ↦
           let m = g.S.Source.talk w.answer_all.new.source in
           let h2 = heard_list w.answer_all.new.hear in
-          let none : HasAnswered b m h1 h2 None = subst (λ (f : Option StationFault). HasAnswered b m h1 h2 f) w.in_default.is w.answer_all.ensures.answered in
+          let none : HasAnswered b m h1 h2 None = subst (λ (f : Result (Unit {0}) StationFault). HasAnswered b m h1 h2 (result_err f)) w.in_default.is w.answer_all.ensures.answered in
           let heard : HasRead sc station a m n0 n1 s0 s1 h0 h2 None false None = read_heard sc station a b m n0 n1 s0 s1 h0 h1 h2 None inv.3 none in
           let m2 = g.S.Source.talk w.is_ready.new.self in
           let ready : HasRead sc station a m2 n0 n1 s0 s1 h0 h2 None false None = read_waited sc station a m m2 n0 n1 s0 s1 h0 h2 heard w.is_ready.ensures in

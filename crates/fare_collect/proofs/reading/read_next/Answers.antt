@@ -22,7 +22,7 @@ returns-in-Err-clause-read g c =
     let s0 = sent_list post.pass in
     let h = heard_list post.hear in
     let none = read_none sc station a n0 s0 h in
-    read_at sc station a d n0 n0 s0 s0 h h None post.held false post.ended _ _ (sym fresh.0) (sym fresh.1) (ap Some (sym c.fault_of.ensures))
+    read_at sc station a d n0 n0 s0 s0 h h None post.held false post.ended _ _ (sym fresh.0) (sym fresh.1) (ap Some (sym c.from.ensures))
     (read_failed sc station a a d n0 n0 s0 s0 h h c.in-Err.fault none c.in-Err.ensures)
 
 pub returns-in-Ok-None-clause-read : goal.returns-in-Ok-None-clause-read

@@ -1,4 +1,4 @@
-use Rattle.std.proofs.Common.{◌∷◌, [], Some, None, refl, sym, subst, inl, inr}
+use Rattle.std.proofs.Common.{◌∷◌, [], Some, None, refl, subst, inl, inr}
 use Rattle.std.specs.Prelude.{Option}
 use Rattle.std.proofs.lemmas.List.{append-nil}
 use Rattle.fare_inbox_queue.specs.declared.arrived.Arrived.{Arrived}
