@@ -66,11 +66,6 @@ impl<'a, R: Net<Listener = TcpListener, Stream = TcpStream>> Dialler<'a, R> {
         said
     }
 
-    // The port that it learned.
-    fn port(&self) -> Option<u16> {
-        self.port
-    }
-
     // A line on which these frames were sent.
     fn dial(&self, port: u16) -> io::Result<TcpStream> {
         let mut stream = TcpStream::connect(self.rt, (Ipv4Addr::LOCALHOST, port))?;
@@ -110,6 +105,20 @@ impl<'a, R: Net<Listener = TcpListener, Stream = TcpStream>> Write for Dialler<'
     }
 }
 
+// How serving by these options ends. Its kind of database, a file, is so named in one place of these tests.
+fn serve_with<
+    O: Write,
+    R: Net<Listener = TcpListener, Stream = TcpStream> + Threads + Wait + Clock + Eprint + Sync,
+>(
+    rt: &HostRuntime,
+    handles: &R,
+    options: &ServeOptions<'_>,
+    input: &mut &[u8],
+    output: &mut O,
+) -> Result<(), ServeFailure> {
+    serve(rt, handles, options, input, output)
+}
+
 /// How serving a scheme from a source, by this input and with these frames at the door, ended, and what was written behind the
 /// port.
 pub(crate) fn served_by<
@@ -133,7 +142,7 @@ pub(crate) fn served_by<
         until: None,
         ask: None,
     };
-    let ended = serve(rt, handles, &options, &mut input, &mut output);
+    let ended = serve_with(rt, handles, &options, &mut input, &mut output);
     (ended, output.into_said())
 }
 
@@ -171,8 +180,8 @@ fn served_at<
         until: None,
         ask: Some(ask),
     };
-    let ended = serve(rt, handles, &options, &mut input, &mut output);
-    let told = output.port();
+    let ended = serve_with(rt, handles, &options, &mut input, &mut output);
+    let told = output.port;
     (ended, told, output.into_said())
 }
 
@@ -256,7 +265,7 @@ fn served_from<
         until: None,
         ask: None,
     };
-    let ended = serve(rt, handles, &options, &mut input, &mut output);
+    let ended = serve_with(rt, handles, &options, &mut input, &mut output);
     (ended, output.into_said(), input.len())
 }
 
@@ -525,7 +534,7 @@ fn asked_while_served<
         until: None,
         ask: None,
     };
-    let ended = serve(rt, handles, &options, &mut input, &mut output);
+    let ended = serve_with(rt, handles, &options, &mut input, &mut output);
     let Asker { shown, closed, .. } = output;
     if ended.is_err() {
         return (Ok(()), Ok(()));
